@@ -1,0 +1,45 @@
+-- Escapes of a value, byte after byte.
+use Rattle.std.proofs.Common.{◌≡◌, ℕ, ◌+◌, ◌<◌, ◌≤◌, List, [], ◌∷◌, ◌++◌, length, take, drop, get_or, ap, sym, ◌∙◌, add-one, append_assoc, append-nil, length-append, arith, refl}
+use Rattle.std.proofs.Math.Seq.{take-suc}
+use Rattle.std.proofs.lemmas.List.{take-append-drop}
+use Rattle.pgn_layout.specs.TagLine.{escape_of, escaped}
+
+escaped-append : (xs ys : List ℕ) → escaped (xs ++ ys) ≡ escaped xs ++ escaped ys
+escaped-append [] ys = refl
+escaped-append (x ∷ xs) ys = ap (λ l. escape_of x ++ l) (escaped-append xs ys) ∙ sym (append_assoc (escape_of x) (escaped xs) (escaped ys))
+
+-- one byte more
+escaped-take : (value : List ℕ) (i : ℕ) → i < length value → escaped (take (i + 1) value) ≡ escaped (take i value) ++ escape_of (get_or value i 0)
+escaped-take value i h =
+    ap (λ n. escaped (take n value)) (add-one i) ∙ ap escaped (take-suc value i 0 h)
+    ∙ escaped-append (take i value) (get_or value i 0 ∷ []) ∙ ap (λ l. escaped (take i value) ++ l) (append-nil (escape_of (get_or value i 0)))
+
+-- a line that ends with the escapes of the first bytes, and those of one byte more
+pub line_grows : (front value line : List ℕ) (i : ℕ) → i < length value → line ≡ front ++ escaped (take i value) → line ++ escape_of (get_or value i 0) ≡ front ++ escaped (take (i + 1) value)
+line_grows front value line i h e =
+    ap (λ l. l ++ escape_of (get_or value i 0)) e ∙ append_assoc front (escaped (take i value)) (escape_of (get_or value i 0))
+    ∙ ap (λ l. front ++ l) (sym (escaped-take value i h))
+
+-- the lengths, byte after byte
+pub length_escaped-take : (value : List ℕ) (i : ℕ) → i < length value → length (escaped (take (i + 1) value)) ≡ length (escaped (take i value)) + length (escape_of (get_or value i 0))
+length_escaped-take value i h = ap length (escaped-take value i h) ∙ length-append (escaped (take i value)) (escape_of (get_or value i 0))
+
+-- the first bytes have no longer text than all
+pub length_escaped-front : (value : List ℕ) (i : ℕ) → length (escaped (take i value)) ≤ length (escaped value)
+length_escaped-front value i =
+    omega (
+      arith,
+      ap length (ap escaped (sym (take-append-drop i value)) ∙ escaped-append (take i value) (drop i value)),
+      length-append (escaped (take i value)) (escaped (drop i value)),
+    )
+
+-- that byte's text is part of all
+pub line_fits : (front value line : List ℕ) (i : ℕ) → i < length value → line ≡ front ++ escaped (take i value) → length line + length (escape_of (get_or value i 0)) ≤ length front + length (escaped value)
+line_fits front value line i h e =
+    omega (
+      arith,
+      ap length e,
+      length-append front (escaped (take i value)),
+      length_escaped-take value i h,
+      length_escaped-front value (i + 1),
+    )

@@ -1,0 +1,4 @@
+mod Escaping
+mod LinesHold
+mod Putting
+mod Writing

@@ -1,0 +1,5 @@
+use Rattle.pgn_layout.proofs.LinesHold.{tokens_determine_lines}
+use Rattle.pgn_layout.proofs.laws.tokens_determine_lines.Goals as goal
+
+pub returns : goal.returns
+returns c = tokens_determine_lines

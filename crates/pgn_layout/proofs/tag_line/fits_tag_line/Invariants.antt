@@ -1,0 +1,6 @@
+use Rattle.std.proofs.Common.{◌≡◌, ◌+◌, take, length}
+use Rattle.pgn_layout.specs.TagLine.{escaped}
+use Rattle.pgn_layout.proofs.tag_line.fits_tag_line.Given as goal
+
+abbrev pub invariant-loop-byte : goal.invariant-loop-byte
+invariant-loop-byte l = l.room + length l.name + length (escaped (take l.byte-index l.value)) ≡ 249

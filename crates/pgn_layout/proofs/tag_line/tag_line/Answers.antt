@@ -1,0 +1,19 @@
+use Rattle.std.proofs.Common.{ℕ, List, [], ◌∷◌, ◌++◌, ◌∙◌, arith, length-append}
+use Rattle.pgn_layout.proofs.Escaping.{line_grows, line_fits}
+use Rattle.pgn_layout.proofs.tag_line.tag_line.Goals as goal
+
+-- the line up to the value
+abbrev front : List ℕ → List ℕ
+front name = (91 ∷ name) ++ 32 ∷ 34 ∷ []
+
+pub push_escaped-requires : goal.push_escaped-requires
+push_escaped-requires c =
+    omega (
+      arith,
+      line_fits (front c.args.name.now) c.args.value.now _ _ c.loop-byte-test.true c.loop-byte.invariant,
+      length-append (91 ∷ c.args.name.now) (32 ∷ 34 ∷ []),
+    )
+
+pub loop-byte-preserved : goal.loop-byte-preserved
+loop-byte-preserved c =
+    c.push_escaped.ensures ∙ line_grows (front c.args.name.now) c.args.value.now _ _ c.loop-byte-test.true c.loop-byte.invariant

@@ -1,0 +1,6 @@
+use Rattle.std.proofs.Common.{◌≡◌, [], ◌∷◌, ◌++◌, take}
+use Rattle.pgn_layout.specs.TagLine.{escaped}
+use Rattle.pgn_layout.proofs.tag_line.tag_line.Given as goal
+
+abbrev pub invariant-loop-byte : goal.invariant-loop-byte
+invariant-loop-byte l = l.line.items ≡ (91 ∷ l.name) ++ 32 ∷ 34 ∷ [] ++ escaped (take l.byte-index l.value)

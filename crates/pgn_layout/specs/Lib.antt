@@ -1,0 +1,6 @@
+pub mod Device
+pub mod TagLine
+pub mod Lines
+pub mod Layout
+pub mod Outlet
+pub mod Laws

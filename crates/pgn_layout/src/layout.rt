@@ -1,0 +1,152 @@
+//! Tag pairs and movetext tokens on lines.
+ghost use Rattle.std.specs.Prelude.{◌≡◌, ◌+◌, ◌≤◌, [], ◌∷◌, ◌++◌, length, OnOk, OnErr};
+ghost use Rattle.pgn_layout.specs.Device.{Writes};
+ghost use Rattle.pgn_layout.specs.TagLine.{escaped};
+ghost use Rattle.pgn_layout.specs.Lines.{IsToken};
+ghost use Rattle.pgn_layout.specs.Layout.{holding, Fails, Tag, EndTags, Put, EndGame, DropLine, text_at, line_at, ended};
+
+use crate::tag_line::tag_line;
+use crate::{Sink, WriteFault, write_all};
+use arrayvec::ArrayVec;
+use std::marker::Model;
+
+/// The longest line of movetext, without its LF (PGN 8.2.1).
+const LINE_LENGTH: usize = 79;
+
+/// Writes tag pairs, and sets movetext tokens on lines. It holds the line that is not full yet.
+///
+/// After a call answered [`WriteFault`], a front of its text was written, and each later call that takes a sink answers
+/// `WriteFault` again and leaves the sink as it is.
+#[derive(Drop)]
+pub struct Layout {
+    line: ArrayVec<u8, LINE_LENGTH>,
+    has_failed: bool,
+}
+
+impl Model for Layout {
+    ghost use Rattle.std.specs.Prelude.{◌≤◌, length};
+    ghost use Rattle.pgn_layout.specs.Layout.{Layout as Seen};
+
+    ghost Value = { Seen };
+
+    ghost view = { λ l. record { line = l.line.items; has_failed = l.has_failed } };
+
+    ghost invariant = { λ l. length l.line.items ≤ 79 };
+}
+
+impl Layout {
+    /// An empty line, and no failure yet.
+    pub fn new() -> Self
+        ensures { result ≡ holding [] }
+    {
+        Layout {
+            line: ArrayVec::new(),
+            has_failed: false,
+        }
+    }
+
+    /// Writes a tag pair, `[name "value"]` and LF, with a backslash before each quote and each backslash of the value
+    /// (PGN 7, 8.1). The line has at most 255 bytes. The line of movetext stays as it is.
+    pub fn tag<W: Sink>(&mut self, name: &[u8], value: &[u8], out: &mut W) -> Result<(), WriteFault>
+        requires { length name.now + length (escaped value.now) ≤ 249 }
+        ensures text { Writes (W.taken out.old) (W.taken out.new) result (text_at self.old.line (Tag name.now value.now)) }
+        ensures line { OnOk result (self.new ≡ holding (line_at self.old.line (Tag name.now value.now))) }
+        ensures faults { Fails W.failures self.old.has_failed self.new.has_failed out.old out.new result }
+    {
+        let line = tag_line(name, value);
+        write(&mut self.has_failed, line.as_slice(), out)
+    }
+
+    /// Ends the tag section with an empty line (PGN 8.1). The line of movetext stays as it is.
+    pub fn end_tags<W: Sink>(&mut self, out: &mut W) -> Result<(), WriteFault>
+        ensures text { Writes (W.taken out.old) (W.taken out.new) result (text_at self.old.line EndTags) }
+        ensures line { OnOk result (self.new ≡ holding (line_at self.old.line EndTags)) }
+        ensures faults { Fails W.failures self.old.has_failed self.new.has_failed out.old out.new result }
+    {
+        let empty_line = b"\n";
+        write(&mut self.has_failed, empty_line, out)
+    }
+
+    /// Sets a movetext token of 1 to 79 bytes on the line, after a space if it is not the first. Where there is no room,
+    /// the line is written with LF and the token begins the next one (PGN 8.2.1).
+    pub fn put<W: Sink>(&mut self, token: &[u8], out: &mut W) -> Result<(), WriteFault>
+        requires { IsToken token.now }
+        ensures text { Writes (W.taken out.old) (W.taken out.new) result (text_at self.old.line (Put token.now)) }
+        ensures line { OnOk result (self.new ≡ holding (line_at self.old.line (Put token.now))) }
+        ensures faults { Fails W.failures self.old.has_failed self.new.has_failed out.old out.new result }
+    {
+        if self.has_failed {
+            return Err(WriteFault);
+        }
+        if self.line.is_empty() {
+            append(&mut self.line, token);
+            return Ok(());
+        }
+        if self.line.len() + 1 + token.len() <= LINE_LENGTH {
+            self.line.push(b' ');
+            append(&mut self.line, token);
+            return Ok(());
+        }
+        write_line(&mut self.has_failed, &mut self.line, out)?;
+        append(&mut self.line, token);
+        Ok(())
+    }
+
+    /// Ends the game: writes the line with LF, if it holds a token, and an empty line (PGN 8.2.6). The line is then empty.
+    pub fn end_game<W: Sink>(&mut self, out: &mut W) -> Result<(), WriteFault>
+        ensures text { Writes (W.taken out.old) (W.taken out.new) result (text_at self.old.line EndGame) }
+        ensures line { OnOk result (self.new ≡ holding (line_at self.old.line EndGame)) }
+        ensures faults { Fails W.failures self.old.has_failed self.new.has_failed out.old out.new result }
+    {
+        if self.line.is_empty() {
+            return write(&mut self.has_failed, b"\n", out);
+        }
+        write_line(&mut self.has_failed, &mut self.line, out)?;
+        write(&mut self.has_failed, b"\n", out)
+    }
+
+    /// Forgets the line, and writes nothing.
+    pub fn drop_line(&mut self)
+        ensures { self.new ≡ record self.old { line = line_at self.old.line DropLine } }
+    {
+        self.line.clear();
+    }
+}
+
+// Sets the bytes at the line's end.
+fn append(line: &mut ArrayVec<u8, LINE_LENGTH>, token: &[u8])
+    requires { length line.old.items + length token.now ≤ 79 }
+    ensures { line.new.items ≡ line.old.items ++ token.now }
+{
+    let _ = line.try_extend_from_slice(token);
+}
+
+// Writes the text, unless a write has failed.
+fn write<W: Sink>(has_failed: &mut bool, text: &[u8], out: &mut W) -> Result<(), WriteFault>
+    ensures text { Writes (W.taken out.old) (W.taken out.new) result text.now }
+    ensures faults { Fails W.failures has_failed.old has_failed.new out.old out.new result }
+{
+    if *has_failed {
+        return Err(WriteFault);
+    }
+    let written = write_all(out, text);
+    *has_failed = written.is_err();
+    written
+}
+
+// Writes the line with LF, and makes it empty.
+fn write_line<W: Sink>(
+    has_failed: &mut bool,
+    line: &mut ArrayVec<u8, LINE_LENGTH>,
+    out: &mut W,
+) -> Result<(), WriteFault>
+    ensures text { Writes (W.taken out.old) (W.taken out.new) result (line.old.items ++ 10 ∷ []) }
+    ensures faults { Fails W.failures has_failed.old has_failed.new out.old out.new result }
+    ensures empty { OnOk result (line.new.items ≡ []) }
+    ensures kept { OnErr result (line.new ≡ line.old) }
+{
+    write(has_failed, line.as_slice(), out)?;
+    write(has_failed, b"\n", out)?;
+    line.clear();
+    Ok(())
+}

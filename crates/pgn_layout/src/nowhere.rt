@@ -1,0 +1,28 @@
+//! The sink that keeps nothing.
+ghost use Rattle.std.specs.Prelude.{◌≡◌, ℕ, ◌<◌, ◌≤◌, None, length, IfOk};
+ghost use Rattle.std.specs.Io.KnownBytes.{Keeps, WriteAppends};
+ghost use Rattle.pgn_layout.specs.Device.{Counts};
+
+use crate::{Sink, WriteFault};
+
+/// The sink that takes every byte, keeps none and never fails.
+#[derive(Clone, Copy, Debug)]
+pub struct Nowhere;
+
+impl Sink for Nowhere {
+    ghost taken = { λ _. None };
+
+    ghost failures = { λ _. 0 };
+
+    fn write_some(&mut self, bytes: &[u8]) -> Result<usize, WriteFault>
+        ensures all { result ≡ Ok (length bytes.now) }
+    {
+        Ok(bytes.len())
+    }
+
+    fn flush(&mut self) -> Result<(), WriteFault>
+        ensures done { result ≡ Ok tt }
+    {
+        Ok(())
+    }
+}

@@ -1,0 +1,73 @@
+//! A tag pair on a line of its own.
+ghost use Rattle.std.specs.Prelude.{◌≡◌, ◌+◌, ◌≤◌, ◌↔◌, ◌++◌, IsTrue, length};
+ghost use Rattle.pgn_layout.specs.TagLine.{needs_escape, escape_of, escaped, tag_line as line_of_tag};
+
+use arrayvec::ArrayVec;
+
+/// The longest line of a tag pair, its LF included (PGN 4.3).
+const TAG_LINE_LENGTH: usize = 255;
+
+/// What is left of it for the name and the escaped value, beside `[`, ` "`, `"]` and LF.
+const NAME_AND_VALUE_LENGTH: usize = 249;
+
+/// Whether a tag pair fits on a line of at most 255 bytes, its LF included (PGN 4.3): the name and the value, with a
+/// backslash before each quote and each backslash of the value, have at most 249 bytes together.
+pub fn fits_tag_line(name: &[u8], value: &[u8]) -> bool
+    ensures { IsTrue result ↔ (length name.now + length (escaped value.now) ≤ 249) }
+{
+    if name.len() > NAME_AND_VALUE_LENGTH {
+        return false;
+    }
+    let mut room = NAME_AND_VALUE_LENGTH - name.len();
+    for &byte in value {
+        let length = written_length(byte);
+        if room < length {
+            return false;
+        }
+        room -= length;
+    }
+    true
+}
+
+// `[name "value"]` and LF, with a backslash before each quote and backslash of the value (PGN 7, 8.1).
+pub fn tag_line(name: &[u8], value: &[u8]) -> ArrayVec<u8, TAG_LINE_LENGTH>
+    requires { length name.now + length (escaped value.now) ≤ 249 }
+    ensures { result.items ≡ line_of_tag name.now value.now }
+{
+    let mut line = ArrayVec::new();
+    line.push(b'[');
+    let _ = line.try_extend_from_slice(name);
+    let _ = line.try_extend_from_slice(b" \"");
+    for &byte in value {
+        push_escaped(&mut line, byte);
+    }
+    let _ = line.try_extend_from_slice(b"\"]\n");
+    line
+}
+
+// Sets the byte at the line's end, after a backslash if it is a quote or a backslash.
+fn push_escaped(line: &mut ArrayVec<u8, TAG_LINE_LENGTH>, byte: u8)
+    requires { length line.old.items + length (escape_of byte) ≤ 255 }
+    ensures { line.new.items ≡ line.old.items ++ escape_of byte }
+{
+    if is_escaped(byte) {
+        line.push(b'\\');
+        line.push(byte);
+        return;
+    }
+    line.push(byte);
+}
+
+// Whether a backslash stands before the byte (PGN 7).
+fn is_escaped(byte: u8) -> bool
+    ensures { result ≡ needs_escape byte }
+{
+    byte == b'"' || byte == b'\\'
+}
+
+// How many bytes stand for the byte in a string.
+fn written_length(byte: u8) -> usize
+    ensures { result ≡ length (escape_of byte) }
+{
+    if is_escaped(byte) { 2 } else { 1 }
+}
