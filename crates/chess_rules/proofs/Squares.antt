@@ -1,0 +1,140 @@
+-- What a test of all 64 squares says of each square.
+use Rattle.std.proofs.Common.{◌≡◌, ℕ, zero, suc, ◌+◌, ◌<◌, ◌≤◌, Bool, true, false, ◌&&◌, ◌||◌, ◌⊎◌, inl, inr, List, [], ◌∷◌, map, refl, sym, ◌∙◌, ap, subst, arith}
+use Rattle.std.specs.List.{list_all, range_with_len, list_any, flat_map}
+use Rattle.std.proofs.lemmas.List.Folds.{list_all-append, list_all-map, list_any-append}
+use Rattle.chess_rules.specs.Square.{Square, square, squares, lines}
+
+pub split_or : (x y : Bool) → (x || y) ≡ true → (x ≡ true) ⊎ (y ≡ true)
+split_or true y h = inl refl
+split_or false y h = inr h
+
+pub or_first : (x y : Bool) → x ≡ true → (x || y) ≡ true
+or_first true y h = refl
+or_first false y h = cc
+
+pub or_second : (x y : Bool) → y ≡ true → (x || y) ≡ true
+or_second true y h = refl
+or_second false y h = h
+
+-- a test in two parts, as it is run
+pub true_or : (x y r : Bool) → r ≡ x → r ≡ true → (x || y) ≡ r
+true_or true y r e h = sym h
+true_or false y r e h = cc
+
+pub false_or : (x y r q : Bool) → r ≡ x → r ≡ false → q ≡ y → (x || y) ≡ q
+false_or true y r q e h g = cc
+false_or false y r q e h g = sym g
+
+-- two tests that imply one another
+pub same_tests : (x y : Bool) → (x ≡ true → y ≡ true) → (y ≡ true → x ≡ true) → x ≡ y
+same_tests true y h g = sym (h refl)
+same_tests false true h g = g refl
+same_tests false false h g = refl
+
+pub both_true : (x y : Bool) → x ≡ true → y ≡ true → (x && y) ≡ true
+both_true true y a b = b
+both_true false y a b = a
+
+pub first_true : (x y : Bool) → (x && y) ≡ true → x ≡ true
+first_true true y h = refl
+first_true false y h = h
+
+pub second_true : (x y : Bool) → (x && y) ≡ true → y ≡ true
+second_true true y h = h
+second_true false y h = cc
+
+equal_or_above : (a k : ℕ) → a ≤ k → (k ≡ a) ⊎ (a + 1 ≤ k)
+equal_or_above a k h = grind arith
+
+pub each_of_range : (test : ℕ → Bool) (a n k : ℕ) → list_all test (range_with_len a n) ≡ true → a ≤ k → k < a + n → test k ≡ true
+each_of_range test a zero k h low high = absurd (omega arith)
+each_of_range test a (suc n) k h low high =
+    elim (equal_or_above a k low) [
+      | inl e ↦ rw e (first_true _ _ h)
+      | inr above ↦ each_of_range test (a + 1) n k (second_true _ _ h) above (omega arith)
+    ]
+
+pub range_of_each : (test : ℕ → Bool) (a n : ℕ) → ((k : ℕ) → a ≤ k → k < a + n → test k ≡ true) → list_all test (range_with_len a n) ≡ true
+range_of_each test a zero h = refl
+range_of_each test a (suc n) h =
+    both_true _ _ (h a (omega arith) (omega arith)) (range_of_each test (a + 1) n (λ k low high. h k (omega arith) (omega arith)))
+
+list_all-flat_map : {X Y : Type 0} (test : Y → Bool) (f : X → List Y) (xs : List X) → list_all test (flat_map f xs) ≡ list_all (λ x. list_all test (f x)) xs
+list_all-flat_map test f [] = refl
+list_all-flat_map test f (x ∷ xs) =
+    list_all-append test (f x) (flat_map f xs) ∙ ap (λ v. list_all test (f x) && v) (list_all-flat_map test f xs)
+
+-- rank by rank
+by_ranks : (test : Square → Bool) → list_all test squares ≡ list_all (λ rank. list_all test (map (λ file. square file rank) lines)) lines
+unfolding squares
+by_ranks test = list_all-flat_map test (λ rank. map (λ file. square file rank) lines) lines
+
+by_files : (test : Square → Bool) (rank : ℕ) → list_all test (map (λ file. square file rank) lines) ≡ list_all (λ file. test (square file rank)) lines
+by_files test rank = list_all-map test (λ file. square file rank) lines
+
+-- what passes on all squares passes on each square of the board
+pub each_square : (test : Square → Bool) (u : Square) → list_all test squares ≡ true → u.file < 8 → u.rank < 8 → test u ≡ true
+each_square test u h file rank =
+    let of_rank : list_all test (map (λ file. square file u.rank) lines) ≡ true =
+    each_of_range (λ rank. list_all test (map (λ file. square file rank) lines)) 0 8 u.rank (sym (by_ranks test) ∙ h) (omega arith) (omega arith) in
+    each_of_range (λ file. test (square file u.rank)) 0 8 u.file (sym (by_files test u.rank) ∙ of_rank) (omega arith) (omega arith)
+
+pub all_squares : (test : Square → Bool) → ((u : Square) → u.file < 8 → u.rank < 8 → test u ≡ true) → list_all test squares ≡ true
+all_squares test h =
+    by_ranks test ∙ range_of_each (λ rank. list_all test (map (λ file. square file rank) lines)) 0 8
+    (λ rank _ high. by_files test rank ∙ range_of_each (λ file. test (square file rank)) 0 8 (λ file _ wide. h (square file rank) (omega arith) (omega arith)))
+
+-- An element that passes.
+
+pub any_of_range : (test : ℕ → Bool) (a n : ℕ) → list_any test (range_with_len a n) ≡ true → (k : ℕ) × (a ≤ k) × (k < a + n) × (test k ≡ true)
+any_of_range test a zero h = cc
+any_of_range test a (suc n) h =
+    elim (split_or (test a) (list_any test (range_with_len (a + 1) n)) h) [
+      | inl here ↦ (a, omega arith, omega arith, here)
+      | inr later ↦ later_of n (any_of_range test (a + 1) n later)
+    ]
+  where
+    later_of : (m : ℕ) → ((k : ℕ) × (a + 1 ≤ k) × (k < a + 1 + m) × (test k ≡ true)) → (k : ℕ) × (a ≤ k) × (k < a + suc m) × (test k ≡ true)
+    later_of m (k, low, high, passes) = (k, omega arith, omega arith, passes)
+
+pub range_of_any : (test : ℕ → Bool) (a n k : ℕ) → a ≤ k → k < a + n → test k ≡ true → list_any test (range_with_len a n) ≡ true
+range_of_any test a zero k low high h = absurd (omega arith)
+range_of_any test a (suc n) k low high h =
+    elim (equal_or_above a k low) [
+      | inl e ↦ or_first _ _ (subst (λ (j : ℕ). test j ≡ true) e h)
+      | inr above ↦ or_second _ _ (range_of_any test (a + 1) n k above (omega arith) h)
+    ]
+
+list_any-map : {X Y : Type 0} (test : Y → Bool) (f : X → Y) (xs : List X) → list_any test (map f xs) ≡ list_any (λ x. test (f x)) xs
+list_any-map test f [] = refl
+list_any-map test f (x ∷ xs) = ap (λ v. test (f x) || v) (list_any-map test f xs)
+
+list_any-flat_map : {X Y : Type 0} (test : Y → Bool) (f : X → List Y) (xs : List X) → list_any test (flat_map f xs) ≡ list_any (λ x. list_any test (f x)) xs
+list_any-flat_map test f [] = refl
+list_any-flat_map test f (x ∷ xs) =
+    list_any-append test (f x) (flat_map f xs) ∙ ap (λ v. list_any test (f x) || v) (list_any-flat_map test f xs)
+
+any_by_ranks : (test : Square → Bool) → list_any test squares ≡ list_any (λ rank. list_any test (map (λ file. square file rank) lines)) lines
+unfolding squares
+any_by_ranks test = list_any-flat_map test (λ rank. map (λ file. square file rank) lines) lines
+
+any_by_files : (test : Square → Bool) (rank : ℕ) → list_any test (map (λ file. square file rank) lines) ≡ list_any (λ file. test (square file rank)) lines
+any_by_files test rank = list_any-map test (λ file. square file rank) lines
+
+-- some square of the board passes
+pub record Passes (test : Square → Bool) : Type 0 where
+  pub on : Square
+  pub file : on.file < 8
+  pub rank : on.rank < 8
+  pub holds : test on ≡ true
+
+pub some_square : (test : Square → Bool) → list_any test squares ≡ true → Passes test
+some_square test h =
+    let (rank, _, high, of_rank) = any_of_range (λ rank. list_any test (map (λ file. square file rank) lines)) 0 8 (sym (any_by_ranks test) ∙ h) in
+    let (file, _, wide, passes) = any_of_range (λ file. test (square file rank)) 0 8 (sym (any_by_files test rank) ∙ of_rank) in
+    record { on = square file rank; file = omega arith; rank = omega arith; holds = passes }
+
+pub any_square : (test : Square → Bool) (u : Square) → u.file < 8 → u.rank < 8 → test u ≡ true → list_any test squares ≡ true
+any_square test u file rank h =
+    any_by_ranks test ∙ range_of_any (λ rank. list_any test (map (λ file. square file rank) lines)) 0 8 u.rank (omega arith) (omega arith)
+    (any_by_files test u.rank ∙ range_of_any (λ file. test (square file u.rank)) 0 8 u.file (omega arith) (omega arith) h)

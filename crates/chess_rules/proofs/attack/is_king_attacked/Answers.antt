@@ -1,0 +1,11 @@
+use Rattle.std.proofs.Common.{sym, ◌∙◌, ap₂}
+use Rattle.chess_rules.specs.Attacks.{is_attacked}
+use Rattle.chess_rules.proofs.Between.{equal_from}
+use Rattle.chess_rules.proofs.Kings.{king_attacked_there}
+use Rattle.chess_rules.proofs.attack.is_king_attacked.Goals as goal
+
+pub returns : goal.returns
+returns c =
+    c.is_attacked.ensures
+    ∙ (ap₂ (λ d k. is_attacked c.args.board.now d k) c.other.ensures c.king_square.ensures
+    ∙ sym (king_attacked_there c.args.colour c.args.board.now c.has_all_cells.ensures (equal_from _ 1 c.requires)))

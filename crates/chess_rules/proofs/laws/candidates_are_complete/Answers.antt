@@ -1,0 +1,5 @@
+use Rattle.chess_rules.proofs.Complete.{candidates_complete}
+use Rattle.chess_rules.proofs.laws.candidates_are_complete.Goals as goal
+
+pub returns : goal.returns
+returns c = candidates_complete

@@ -1,0 +1,5 @@
+use Rattle.chess_rules.proofs.Leaves.{one_after}
+use Rattle.chess_rules.proofs.laws.one_position_after.Goals as goal
+
+pub returns : goal.returns
+returns c = one_after

@@ -1,0 +1,22 @@
+-- The squares from which a piece may reach a square, seen from that square. No standard has this: it is our own way to
+-- find moves, and a law says that it misses none.
+use Rattle.std.specs.Prelude.{Bool, ◌&&◌, ◌||◌, List, filter}
+use Rattle.chess_rules.specs.declared.piece.Kind.{Kind}
+use Rattle.chess_rules.specs.declared.piece.Kind.TheVariants.{Knight}
+use Rattle.chess_rules.specs.declared.position.Parts.{Parts}
+use Rattle.chess_rules.specs.Square.{Square, squares, is_jump, in_line, on_diagonal}
+use Rattle.chess_rules.specs.Attacks.{is_clear}
+use Rattle.chess_rules.specs.Step.{own}
+
+-- a knight is a jump away; another piece is on a rank, a file or a diagonal with t, and all between is empty
+abbrev pub sees : Kind → Parts → Square → Square → Bool
+sees Knight p s t = is_jump s t
+sees _ p s t = (in_line s t || on_diagonal s t) && is_clear p.board s t
+
+-- a piece of the kind, of the side to move, stands on s and sees t
+abbrev pub is_candidate : Parts → Kind → Square → Square → Bool
+is_candidate p k t s = own p k s && sees k p s t
+
+-- all of them
+abbrev pub candidates : Parts → Kind → Square → List Square
+candidates p k t = filter (is_candidate p k t) squares

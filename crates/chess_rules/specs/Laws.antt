@@ -1,0 +1,33 @@
+-- What the definitions of play promise.
+use Rattle.std.specs.Prelude.{◌≡◌, ◌≤◌, Some, length, count_by, IsTrue}
+use Rattle.chess_rules.specs.declared.piece.Kind.{Kind}
+use Rattle.chess_rules.specs.declared.position.Move.{Move}
+use Rattle.chess_rules.specs.declared.position.Parts.{Parts}
+use Rattle.chess_rules.specs.Square.{Square, on_board}
+use Rattle.chess_rules.specs.Position.{is_position}
+use Rattle.chess_rules.specs.Step.{own, cases}
+use Rattle.chess_rules.specs.Legal.{legal}
+use Rattle.chess_rules.specs.Candidate.{is_candidate, candidates}
+
+-- no move is a step in two ways
+abbrev pub CasesApart : Type 0
+CasesApart = (p : Parts) (m : Move) → count_by (λ holds. holds) (cases p m) ≤ 1
+
+-- What comes after a legal move is determined: `legal` is a function. That it could be one, whatever the order of its cases,
+-- is what CasesApart says.
+abbrev pub OneAfter : Type 0
+OneAfter = (p q r : Parts) (m : Move) → legal p m ≡ Some q → legal p m ≡ Some r → q ≡ r
+
+-- a legal move leaves a position
+abbrev pub LeavesPosition : Type 0
+LeavesPosition = (p q : Parts) (m : Move) → IsTrue (is_position p) → legal p m ≡ Some q → IsTrue (is_position q)
+
+-- the origin of each legal move is a candidate of its kind for its target
+abbrev pub CandidatesComplete : Type 0
+CandidatesComplete =
+    (p q : Parts) (m : Move) (k : Kind)
+    → IsTrue (is_position p) → legal p m ≡ Some q → IsTrue (own p k m.from) → IsTrue (is_candidate p k m.to m.from)
+
+-- no square has more than 8 candidates of one kind
+abbrev pub FewCandidates : Type 0
+FewCandidates = (p : Parts) (k : Kind) (t : Square) → IsTrue (on_board t) → length (candidates p k t) ≤ 8

@@ -1,0 +1,13 @@
+pub mod Square
+pub mod Cell
+pub mod Board
+pub mod Index
+pub mod Again
+pub mod Attacks
+pub mod Position
+pub mod Step
+pub mod Legal
+pub mod Candidate
+pub mod Laws
+pub mod Walk
+pub mod Kept

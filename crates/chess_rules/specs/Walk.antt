@@ -1,0 +1,119 @@
+-- Walking over the board from square to square: what the code does, and no definition of the rules.
+use Rattle.std.specs.Prelude.{ℕ, zero, suc, ◌+◌, ◌-◌, ◌/◌, ◌%◌, max, Bool, true, false, ◌&&◌, ◌||◌, Option, None, Some, position, unwrap_or, ◌==◌, nat_lt, nat_le, if◌then◌else◌}
+use Rattle.chess_rules.specs.declared.direction.Shift.{Shift}
+use Rattle.chess_rules.specs.declared.direction.Shift.TheVariants.{Down, Stay, Up}
+use Rattle.chess_rules.specs.declared.direction.Direction.{Direction}
+use Rattle.chess_rules.specs.declared.direction.Jump.{Jump}
+use Rattle.chess_rules.specs.declared.piece.Colour.{Colour}
+use Rattle.chess_rules.specs.declared.piece.Kind.{Kind}
+use Rattle.chess_rules.specs.declared.piece.Kind.TheVariants.{King, Queen, Rook, Bishop, Knight, Pawn}
+use Rattle.chess_rules.specs.declared.piece.Piece.{Piece}
+use Rattle.chess_rules.specs.declared.position.Move.{Move}
+use Rattle.chess_rules.specs.Square.{Square, square, same_square, gap, is_adjacent, is_jump, in_line, on_diagonal}
+use Rattle.chess_rules.specs.Board.{Board, at, is_empty, same_colour, has_piece}
+use Rattle.chess_rules.specs.Attacks.{is_ahead}
+
+-- k steps from a towards b, or a itself where they are one
+abbrev pub toward : ℕ → ℕ → ℕ → ℕ
+toward a b k = if nat_lt a b then a + k else if nat_lt b a then a - k else a
+
+-- k king's steps from s towards t
+abbrev pub along : Square → Square → ℕ → Square
+along s t k = square (toward s.file t.file k) (toward s.rank t.rank k)
+
+-- how many king's steps lead from s to t
+abbrev pub distance : Square → Square → ℕ
+distance s t = max (gap s.file t.file) (gap s.rank t.rank)
+
+-- s and t are two squares of one rank, file or diagonal
+abbrev pub is_aligned : Square → Square → Bool
+is_aligned s t = in_line s t || on_diagonal s t
+
+-- Outward from a square.
+
+-- the file or rank k further
+abbrev pub gone : Shift → ℕ → ℕ → ℕ
+gone Down a k = a - k
+gone Stay a k = a
+gone Up a k = a + k
+
+-- the board has it
+abbrev pub has_room : Shift → ℕ → ℕ → Bool
+has_room Down a k = nat_le k a
+has_room Stay a k = true
+has_room Up a k = nat_lt (a + k) 8
+
+abbrev pub shifted : Shift → ℕ → ℕ → Option ℕ
+shifted w a k = if has_room w a k then Some (gone w a k) else None
+
+abbrev pub shift_between : ℕ → ℕ → Shift
+shift_between a b = if nat_lt a b then Up else if nat_lt b a then Down else Stay
+
+abbrev pub direction_between : Square → Square → Direction
+direction_between s t = record { files = shift_between s.file t.file; ranks = shift_between s.rank t.rank }
+
+-- the square so many files and ranks further
+abbrev pub further : Direction → Square → ℕ → ℕ → Square
+further d s i j = square (gone d.files s.file i) (gone d.ranks s.rank j)
+
+abbrev pub fits : Direction → Square → ℕ → ℕ → Bool
+fits d s i j = has_room d.files s.file i && has_room d.ranks s.rank j
+
+abbrev pub stepped : Direction → Square → ℕ → ℕ → Option Square
+stepped d s i j = if fits d s i j then Some (further d s i j) else None
+
+-- stop where there is no square, or at an occupied one
+abbrev pub go_on : Board → Option Square → (Square → Option Square) → Option Square
+go_on b None more = None
+go_on b (Some t) more = if is_empty b t then more t else Some t
+
+-- the first occupied one of the next n squares
+abbrev pub first_within : Board → Direction → Square → ℕ → Option Square
+first_within b d s zero = None
+first_within b d s (suc n) = go_on b (stepped d s 1 1) (λ t. first_within b d t n)
+
+-- the first occupied square on the way from s
+abbrev pub first_on : Board → Direction → Square → Option Square
+first_on b d s = first_within b d s 7
+
+-- the piece would attack t from s, were all squares between empty
+abbrev pub reaches : Kind → Colour → Square → Square → Bool
+reaches King c s t = is_adjacent s t
+reaches Queen c s t = is_aligned s t
+reaches Rook c s t = in_line s t
+reaches Bishop c s t = on_diagonal s t
+reaches Knight c s t = is_jump s t
+reaches Pawn c s t = (gap s.file t.file == 1) && is_ahead c s.rank t.rank
+
+abbrev pub reaches_with : Colour → Option Piece → Square → Square → Bool
+reaches_with c None s t = false
+reaches_with c (Some x) s t = same_colour c x.colour && reaches x.kind x.colour s t
+
+-- the piece there, if there is one, is of the colour and attacks t
+abbrev pub attacked_from : Board → Colour → Square → Option Square → Bool
+attacked_from b c t None = false
+attacked_from b c t (Some s) = reaches_with c (at b s) s t
+
+-- the first piece on that way from t is of the colour and attacks t
+abbrev pub attacked_along : Board → Colour → Square → Direction → Bool
+attacked_along b c t d = attacked_from b c t (first_on b d t)
+
+abbrev pub knight_on : Board → Colour → Option Square → Bool
+knight_on b c None = false
+knight_on b c (Some s) = has_piece c Knight (at b s)
+
+-- a knight of the colour is that jump away from t
+abbrev pub attacked_by_jump : Board → Colour → Square → Jump → Bool
+attacked_by_jump b c t j = knight_on b c (stepped j.way t j.files j.ranks)
+
+-- The king's square, as kept.
+
+abbrev pub square_at : ℕ → Square
+square_at i = square (i % 8) (i / 8)
+
+abbrev pub king_square : Colour → Board → Square
+king_square c b = square_at (unwrap_or (position (has_piece c King) b) 0)
+
+-- where a king stands after a move that may be its own
+abbrev pub king_after : Square → Move → Square
+king_after k m = if same_square m.from k then m.to else k

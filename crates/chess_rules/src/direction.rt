@@ -1,0 +1,188 @@
+//! Ways over the board, outward from a square.
+
+ghost use Rattle.std.specs.Prelude.{◌≡◌, ◌<◌, ◌≤◌};
+ghost use Rattle.chess_rules.specs.Walk as walk;
+
+use crate::square::Square;
+
+// How a file or a rank changes on a way.
+#[derive(Clone, Copy)]
+pub(crate) enum Shift {
+    Down,
+    Stay,
+    Up,
+}
+
+impl Shift {
+    // The file or rank that is so many further, if the board has it.
+    fn of(self, line: u8, steps: u8) -> Option<u8>
+        requires { line < 8 }
+        ensures { result ≡ walk.shifted self line steps }
+    {
+        match self {
+            Shift::Down if steps <= line => Some(line - steps),
+            Shift::Down => None,
+            Shift::Stay => Some(line),
+            Shift::Up if steps <= 7 - line => Some(line + steps),
+            Shift::Up => None,
+        }
+    }
+
+    // The shift that leads from one file or rank to another.
+    fn between(from: u8, to: u8) -> Shift
+        ensures { result ≡ walk.shift_between from to }
+    {
+        if from < to {
+            Shift::Up
+        } else if to < from {
+            Shift::Down
+        } else {
+            Shift::Stay
+        }
+    }
+}
+
+// One of the eight ways: along a rank, a file or a diagonal.
+#[derive(Clone, Copy)]
+pub(crate) struct Direction {
+    pub(crate) files: Shift,
+    pub(crate) ranks: Shift,
+}
+
+impl Direction {
+    // The way from one square to another on its rank, file or diagonal.
+    pub(crate) fn between(from: Square, to: Square) -> Direction
+        ensures { result ≡ walk.direction_between from to }
+    {
+        Direction {
+            files: Shift::between(from.file(), to.file()),
+            ranks: Shift::between(from.rank(), to.rank()),
+        }
+    }
+
+    // The square that is so many files and ranks further on this way, if the board has it.
+    pub(crate) fn stepped(self, from: Square, files: u8, ranks: u8) -> Option<Square>
+        ensures { result ≡ walk.stepped self from files ranks }
+    {
+        let file = self.files.of(from.file(), files)?;
+        let rank = self.ranks.of(from.rank(), ranks)?;
+        Square::new(file, rank)
+    }
+
+    // The next square on this way.
+    pub(crate) fn next(self, from: Square) -> Option<Square>
+        ensures { result ≡ walk.stepped self from 1 1 }
+    {
+        self.stepped(from, 1, 1)
+    }
+}
+
+pub(crate) const DIRECTIONS: [Direction; 8] = [
+    Direction {
+        files: Shift::Stay,
+        ranks: Shift::Up,
+    },
+    Direction {
+        files: Shift::Up,
+        ranks: Shift::Up,
+    },
+    Direction {
+        files: Shift::Up,
+        ranks: Shift::Stay,
+    },
+    Direction {
+        files: Shift::Up,
+        ranks: Shift::Down,
+    },
+    Direction {
+        files: Shift::Stay,
+        ranks: Shift::Down,
+    },
+    Direction {
+        files: Shift::Down,
+        ranks: Shift::Down,
+    },
+    Direction {
+        files: Shift::Down,
+        ranks: Shift::Stay,
+    },
+    Direction {
+        files: Shift::Down,
+        ranks: Shift::Up,
+    },
+];
+
+// A knight's jump: one file and two ranks along a diagonal way, or two files and one rank.
+#[derive(Clone, Copy)]
+pub(crate) struct Jump {
+    pub(crate) way: Direction,
+    pub(crate) files: u8,
+    pub(crate) ranks: u8,
+}
+
+pub(crate) const JUMPS: [Jump; 8] = [
+    Jump {
+        way: Direction {
+            files: Shift::Up,
+            ranks: Shift::Up,
+        },
+        files: 1,
+        ranks: 2,
+    },
+    Jump {
+        way: Direction {
+            files: Shift::Up,
+            ranks: Shift::Up,
+        },
+        files: 2,
+        ranks: 1,
+    },
+    Jump {
+        way: Direction {
+            files: Shift::Up,
+            ranks: Shift::Down,
+        },
+        files: 2,
+        ranks: 1,
+    },
+    Jump {
+        way: Direction {
+            files: Shift::Up,
+            ranks: Shift::Down,
+        },
+        files: 1,
+        ranks: 2,
+    },
+    Jump {
+        way: Direction {
+            files: Shift::Down,
+            ranks: Shift::Down,
+        },
+        files: 1,
+        ranks: 2,
+    },
+    Jump {
+        way: Direction {
+            files: Shift::Down,
+            ranks: Shift::Down,
+        },
+        files: 2,
+        ranks: 1,
+    },
+    Jump {
+        way: Direction {
+            files: Shift::Down,
+            ranks: Shift::Up,
+        },
+        files: 2,
+        ranks: 1,
+    },
+    Jump {
+        way: Direction {
+            files: Shift::Down,
+            ranks: Shift::Up,
+        },
+        files: 1,
+        ranks: 2,
+    },
+];

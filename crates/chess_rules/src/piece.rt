@@ -1,0 +1,51 @@
+//! Colours, kinds of pieces, and pieces.
+
+ghost use Rattle.std.specs.Prelude.{◌≡◌};
+
+/// The two sides. (FIDE Laws 2.2)
+#[derive(Clone, Copy, PartialEq, Eq, Debug)]
+pub enum Colour {
+    White,
+    Black,
+}
+
+impl Colour {
+    ghost use Rattle.chess_rules.specs.Board.{other};
+
+    // The other side.
+    pub(crate) fn other(self) -> Colour
+        ensures { result ≡ other self }
+    {
+        match self {
+            Colour::White => Colour::Black,
+            Colour::Black => Colour::White,
+        }
+    }
+}
+
+/// The six kinds of pieces. (FIDE Laws 2.2)
+#[derive(Clone, Copy, PartialEq, Eq, Debug)]
+pub enum Kind {
+    King,
+    Queen,
+    Rook,
+    Bishop,
+    Knight,
+    Pawn,
+}
+
+/// A piece of one side.
+#[derive(Clone, Copy, PartialEq, Eq, Debug)]
+pub struct Piece {
+    pub colour: Colour,
+    pub kind: Kind,
+}
+
+/// What a pawn becomes on the last rank. (FIDE Laws 3.7.3.3)
+#[derive(Clone, Copy, PartialEq, Eq, Debug)]
+pub enum Promotion {
+    Queen,
+    Rook,
+    Bishop,
+    Knight,
+}

@@ -1,0 +1,322 @@
+//! Moves and positions.
+
+ghost use Rattle.std.specs.Prelude.{◌≡◌, ◌<◌, IsTrue};
+ghost use Rattle.chess_rules.specs.Board.{at};
+ghost use Rattle.chess_rules.specs.Position as spec;
+ghost use Rattle.chess_rules.specs.Step as step;
+ghost use Rattle.chess_rules.specs.Legal.{legal};
+ghost use Rattle.chess_rules.specs.Walk.{king_square};
+ghost use Rattle.chess_rules.specs.Walk as walk;
+
+use crate::attack::{is_attacked, is_king_attacked};
+use crate::board::Board;
+use crate::piece::{Colour, Kind, Piece, Promotion};
+use crate::square::Square;
+use crate::step::{crossed, is_double_step};
+use std::marker::Model;
+
+/// A move by its origin, its target and what a pawn becomes. Castling is the king's move.
+#[derive(Clone, Copy, PartialEq, Eq, Debug)]
+pub struct Move {
+    pub from: Square,
+    pub to: Square,
+    pub promotion: Option<Promotion>,
+}
+
+/// The four castling rights. (FIDE Laws 3.8.2.1)
+#[derive(Clone, Copy, PartialEq, Eq, Debug)]
+pub struct Rights {
+    pub white_short: bool,
+    pub white_long: bool,
+    pub black_short: bool,
+    pub black_long: bool,
+}
+
+/// The parts of a position. What stands on a square is at `8 * rank + file` of the board. (PGN 16.1.3)
+#[derive(Clone, Copy, PartialEq, Eq, Debug)]
+pub struct Parts {
+    pub board: [Option<Piece>; 64],
+    pub side: Colour,
+    pub rights: Rights,
+    pub target: Option<Square>,
+    pub half: u32,
+    pub full: u32,
+}
+
+/// The first rule of a position that parts break.
+#[derive(Clone, Copy, PartialEq, Eq, Debug)]
+pub enum PositionFault {
+    /// A side has no king, or more than one.
+    Kings,
+    /// A pawn stands on rank 1 or 8.
+    PawnOnEdge,
+    /// The side to move attacks the other king.
+    KingCapturable,
+    /// The target is not on rank 6 with White to move, or rank 3 with Black to move.
+    TargetRank,
+    /// The halfmove clock or the fullmove number is above 99,999.
+    NumberRange,
+}
+
+/// A position: parts that keep the rules of a position. (FIDE Laws 2, 3.9; PGN 16.1.3)
+#[derive(Clone, Copy)]
+pub struct Position {
+    board: Board,
+    side: Colour,
+    rights: Rights,
+    target: Option<Square>,
+    half: u32,
+    full: u32,
+    white_king: Square,
+    black_king: Square,
+}
+
+impl Model for Position {
+    ghost use Rattle.chess_rules.specs.declared.position.Parts.{Parts};
+
+    ghost Value = { Parts };
+
+    ghost use Rattle.chess_rules.specs.Kept.{IsKept, parts_of, kept};
+
+    ghost view = { parts_of };
+
+    ghost invariant = { IsKept };
+
+    ghost inverse = { kept };
+
+    ghost use Rattle.chess_rules.specs.Kept.{kept_again};
+
+    ghost inverse_ok = { kept_again };
+}
+
+impl Position {
+    /// The usual first position. (FIDE Laws 2.3)
+    pub fn initial() -> Position
+        ensures { result ≡ spec.initial }
+    {
+        Position {
+            board: Board::initial(),
+            side: Colour::White,
+            rights: Rights {
+                white_short: true,
+                white_long: true,
+                black_short: true,
+                black_long: true,
+            },
+            target: None,
+            half: 0,
+            full: 1,
+            white_king: Square::nth(4),
+            black_king: Square::nth(60),
+        }
+    }
+
+    /// The position of the parts.
+    ///
+    /// Otherwise the first rule that they break, in the order of `PositionFault`.
+    pub fn build(parts: &Parts) -> Result<Position, PositionFault>
+        ensures { result ≡ spec.built parts.now }
+    {
+        let board = Board::of(&parts.board);
+        if board.kings(Colour::White) != 1 || board.kings(Colour::Black) != 1 {
+            return Err(PositionFault::Kings);
+        }
+        if board.has_pawn_on_edge() {
+            return Err(PositionFault::PawnOnEdge);
+        }
+        if is_king_attacked(&board, parts.side.other()) {
+            return Err(PositionFault::KingCapturable);
+        }
+        if !target_fits(parts.side, parts.target) {
+            return Err(PositionFault::TargetRank);
+        }
+        if parts.half > 99_999 || parts.full > 99_999 {
+            return Err(PositionFault::NumberRange);
+        }
+        Ok(Position {
+            board,
+            side: parts.side,
+            rights: parts.rights,
+            target: parts.target,
+            half: parts.half,
+            full: parts.full,
+            white_king: board.king_square(Colour::White),
+            black_king: board.king_square(Colour::Black),
+        })
+    }
+
+    // The board alone.
+    pub(crate) fn board(&self) -> &Board
+        ensures { result.now ≡ self.now.board }
+    {
+        &self.board
+    }
+
+    // What every position keeps; it does nothing.
+    pub(crate) fn keeps_rules(&self)
+        ensures { IsTrue (spec.is_position self.now) }
+    {
+        let _ = &self.board;
+    }
+
+    // The square of the king of the side to move.
+    pub(crate) fn king(&self) -> Square
+        ensures { result ≡ king_square self.now.side self.now.board }
+    {
+        match self.side {
+            Colour::White => self.white_king,
+            Colour::Black => self.black_king,
+        }
+    }
+
+    // The position after a step of the side to move that leaves that board, if its king is then safe.
+    pub(crate) fn after(&self, mv: &Move, board: Board) -> Option<Position>
+        requires on_board { IsTrue (step.is_on_board mv.now) }
+        requires step { step.board_after self.now mv.now ≡ Some board }
+        ensures { result ≡ legal self.now mv.now }
+    {
+        if is_attacked(&board, self.side.other(), king_after(self.king(), mv)) {
+            return None;
+        }
+        Some(Position {
+            board,
+            side: self.side.other(),
+            rights: rights_after(mv, self.rights),
+            target: self.target_after(mv),
+            half: self.half_after(mv),
+            full: full_after(self.side, self.full),
+            white_king: king_after(self.white_king, mv),
+            black_king: king_after(self.black_king, mv),
+        })
+    }
+
+    // The square crossed by a pawn that goes two squares. (PGN 16.1.3.4)
+    fn target_after(&self, mv: &Move) -> Option<Square>
+        ensures { result ≡ step.target_after self.now mv.now }
+    {
+        if self.board.has_piece(mv.from, self.side, Kind::Pawn) && is_double_step(self, mv) {
+            Some(crossed(mv))
+        } else {
+            None
+        }
+    }
+
+    // The halfmove clock after the move. (PGN 16.1.3.5)
+    fn half_after(&self, mv: &Move) -> u32
+        ensures { result ≡ step.half_after self.now mv.now }
+    {
+        if !self.board.is_empty(mv.to) || self.board.has_piece(mv.from, self.side, Kind::Pawn) {
+            0
+        } else {
+            counted(self.half)
+        }
+    }
+
+    /// What stands on the square.
+    pub fn at(&self, square: Square) -> Option<Piece>
+        ensures { result ≡ at self.now.board square }
+    {
+        self.board.at(square)
+    }
+
+    /// Whose move it is.
+    pub fn side(&self) -> Colour
+        ensures { result ≡ self.now.side }
+    {
+        self.side
+    }
+
+    /// The castling rights.
+    pub fn rights(&self) -> Rights
+        ensures { result ≡ self.now.rights }
+    {
+        self.rights
+    }
+
+    /// The en passant target: after a pawn's double step the square that it crossed.
+    pub fn target(&self) -> Option<Square>
+        ensures { result ≡ self.now.target }
+    {
+        self.target
+    }
+
+    /// The halfmove clock: half moves since the last pawn move or capture, up to 99,999.
+    pub fn half(&self) -> u32
+        ensures { result ≡ self.now.half }
+    {
+        self.half
+    }
+
+    /// The fullmove number, up to 99,999.
+    pub fn full(&self) -> u32
+        ensures { result ≡ self.now.full }
+    {
+        self.full
+    }
+}
+
+// Whether the target is on the rank that a pawn of the other side crosses by its double step.
+fn target_fits(side: Colour, target: Option<Square>) -> bool
+    ensures { result ≡ spec.target_fits side target }
+{
+    match (side, target) {
+        (_, None) => true,
+        (Colour::White, Some(square)) => square.rank() == 5,
+        (Colour::Black, Some(square)) => square.rank() == 2,
+    }
+}
+
+// Where a king stands after the move: the move may be its own.
+fn king_after(king: Square, mv: &Move) -> Square
+    ensures { result ≡ walk.king_after king mv.now }
+{
+    if mv.from.is(king) { mv.to } else { king }
+}
+
+// One more, up to 99,999.
+fn counted(number: u32) -> u32
+    ensures { result ≡ step.counted number }
+{
+    if number < 99_999 { number + 1 } else { 99_999 }
+}
+
+// The fullmove number after a move of that side. (PGN 16.1.3.6)
+fn full_after(side: Colour, full: u32) -> u32
+    ensures { result ≡ step.full_after side full }
+{
+    match side {
+        Colour::White => full,
+        Colour::Black => counted(full),
+    }
+}
+
+// Whether the move begins or ends on the square.
+fn touches(mv: &Move, file: u8, rank: u8) -> bool
+    requires file { file < 8 }
+    requires rank { rank < 8 }
+    ensures { result ≡ step.touches mv.now file rank }
+{
+    let square = Square::nth(8 * rank as usize + file as usize);
+    mv.from.is(square) || mv.to.is(square)
+}
+
+// Whether the move lets stand a right of the king of that rank and the rook of that file.
+fn keeps(mv: &Move, file: u8, rank: u8) -> bool
+    requires file { file < 8 }
+    requires rank { rank < 8 }
+    ensures { result ≡ step.keeps mv.now file rank }
+{
+    !(touches(mv, 4, rank) || touches(mv, file, rank))
+}
+
+// The castling rights after the move. (FIDE Laws 3.8.2.1; PGN 16.1.3.3)
+fn rights_after(mv: &Move, rights: Rights) -> Rights
+    ensures { result ≡ step.rights_after mv.now rights }
+{
+    Rights {
+        white_short: rights.white_short && keeps(mv, 7, 0),
+        white_long: rights.white_long && keeps(mv, 0, 0),
+        black_short: rights.black_short && keeps(mv, 7, 7),
+        black_long: rights.black_long && keeps(mv, 0, 7),
+    }
+}

@@ -1,0 +1,45 @@
+//! How many pairs were tried.
+
+ghost use Rattle.std.specs.Prelude.{◌≡◌, ◌+◌, ◌<◌, ◌^◌};
+
+use std::marker::Model;
+
+/// Counts the pairs of an origin and a target that were tried for legality.
+#[derive(Clone, Copy, PartialEq, Eq, Debug)]
+pub struct Probes {
+    count: u32,
+}
+
+impl Model for Probes {
+    ghost use Rattle.std.specs.Prelude.{ℕ};
+
+    ghost Value = { ℕ };
+
+    ghost view = { λ p. p.count };
+
+    ghost inverse = { λ n. record { count = n } };
+}
+
+impl Probes {
+    /// None tried so far.
+    pub fn new() -> Probes
+        ensures { result ≡ 0 }
+    {
+        Probes { count: 0 }
+    }
+
+    /// How many were tried so far.
+    pub fn count(&self) -> u32
+        ensures { result ≡ self.now }
+    {
+        self.count
+    }
+
+    // One more pair was tried.
+    pub(crate) fn add_one(&mut self)
+        requires { self.old + 1 < 2 ^ 32 }
+        ensures { self.new ≡ self.old + 1 }
+    {
+        self.count += 1;
+    }
+}

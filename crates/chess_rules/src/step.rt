@@ -1,0 +1,313 @@
+//! One step of the side to move: which pairs are one, and the board after it.
+
+ghost use Rattle.std.specs.Prelude.{◌≡◌, ◌<◌};
+ghost use Rattle.chess_rules.specs.Step as spec;
+
+use crate::attack::{attacks, is_ahead, is_attacked, is_clear};
+use crate::board::Board;
+use crate::piece::{Colour, Kind, Piece, Promotion};
+use crate::position::{Move, Position};
+use crate::square::Square;
+
+fn home_rank(colour: Colour) -> u8
+    ensures value { result ≡ spec.home_rank colour }
+    ensures below { result < 8 }
+{
+    match colour {
+        Colour::White => 0,
+        Colour::Black => 7,
+    }
+}
+
+// Whether a king, queen, rook, bishop or knight may go so. (FIDE Laws 3.1)
+fn is_piece_step(position: &Position, mv: &Move) -> bool
+    ensures { result ≡ spec.is_piece_step position.now mv.now }
+{
+    let board = position.board();
+    let side = position.side();
+    board.has_colour(mv.from, side)
+        && !board.has_piece(mv.from, side, Kind::Pawn)
+        && mv.promotion.is_none()
+        && !board.has_colour(mv.to, side)
+        && attacks(board, mv.from, mv.to)
+}
+
+// Whether a pawn of the side to move may go one square forward. (FIDE Laws 3.7.1)
+fn is_advance(position: &Position, mv: &Move) -> bool
+    ensures { result ≡ spec.is_advance position.now mv.now }
+{
+    mv.from.file() == mv.to.file()
+        && is_ahead(position.side(), mv.from.rank(), mv.to.rank())
+        && position.board().is_empty(mv.to)
+}
+
+// The square between the two ranks of a double step.
+pub(crate) fn crossed(mv: &Move) -> Square
+    ensures { result ≡ spec.crossed mv.now }
+{
+    let place = 8 * ((mv.from.rank() + mv.to.rank()) / 2) + mv.from.file();
+    Square::nth(place as usize)
+}
+
+// The rank on which the colour's pawns begin.
+fn pawn_rank(colour: Colour) -> u8
+    ensures { result ≡ spec.pawn_rank colour }
+{
+    match colour {
+        Colour::White => 1,
+        Colour::Black => 6,
+    }
+}
+
+// The rank that the colour's pawns reach by a double step.
+fn double_rank(colour: Colour) -> u8
+    ensures { result ≡ spec.double_rank colour }
+{
+    match colour {
+        Colour::White => 3,
+        Colour::Black => 4,
+    }
+}
+
+// Whether a pawn of the side to move may go two squares forward. (FIDE Laws 3.7.2)
+pub(crate) fn is_double_step(position: &Position, mv: &Move) -> bool
+    ensures { result ≡ spec.is_double_step position.now mv.now }
+{
+    let board = position.board();
+    let side = position.side();
+    mv.from.file() == mv.to.file()
+        && mv.from.rank() == pawn_rank(side)
+        && mv.to.rank() == double_rank(side)
+        && board.is_empty(crossed(mv))
+        && board.is_empty(mv.to)
+}
+
+// Whether a piece takes one of the other side. (FIDE Laws 3.7.3)
+fn is_pawn_capture(position: &Position, mv: &Move) -> bool
+    ensures { result ≡ spec.is_pawn_capture position.now mv.now }
+{
+    let board = position.board();
+    board.has_colour(mv.to, position.side().other()) && attacks(board, mv.from, mv.to)
+}
+
+// Whether a promotion is named exactly where there is one. (FIDE Laws 3.7.3.3)
+fn promotion_fits(position: &Position, mv: &Move) -> bool
+    ensures { result ≡ spec.promotion_fits position.now mv.now }
+{
+    let last = home_rank(position.side().other());
+    (mv.to.rank() == last) == mv.promotion.is_some()
+}
+
+// Whether a pawn of the side to move may go so, but for the promotion.
+fn is_pawn_way(position: &Position, mv: &Move) -> bool
+    ensures { result ≡ spec.is_pawn_way position.now mv.now }
+{
+    is_advance(position, mv) || is_double_step(position, mv) || is_pawn_capture(position, mv)
+}
+
+// Whether a pawn may go so, en passant apart. (FIDE Laws 3.7)
+fn is_pawn_step(position: &Position, mv: &Move) -> bool
+    ensures { result ≡ spec.is_pawn_step position.now mv.now }
+{
+    let board = position.board();
+    board.has_piece(mv.from, position.side(), Kind::Pawn)
+        && promotion_fits(position, mv)
+        && is_pawn_way(position, mv)
+}
+
+// Where the pawn stands that is taken in passing.
+fn captured_pawn(mv: &Move) -> Square
+    ensures { result ≡ spec.captured_pawn mv.now }
+{
+    Square::nth(8 * mv.from.rank() as usize + mv.to.file() as usize)
+}
+
+fn is_target(target: Option<Square>, square: Square) -> bool
+    ensures { result ≡ spec.is_target target square }
+{
+    match target {
+        None => false,
+        Some(target) => target.is(square),
+    }
+}
+
+// Whether a pawn of the side to move may take in passing. (FIDE Laws 3.7.3.1)
+fn is_en_passant(position: &Position, mv: &Move) -> bool
+    ensures { result ≡ spec.is_en_passant position.now mv.now }
+{
+    let board = position.board();
+    is_target(position.target(), mv.to)
+        && board.has_piece(mv.from, position.side(), Kind::Pawn)
+        && promotion_fits(position, mv)
+        && board.is_empty(mv.to)
+        && attacks(board, mv.from, mv.to)
+        && board.has_piece(captured_pawn(mv), position.side().other(), Kind::Pawn)
+}
+
+// The square of that file on the side's home rank.
+fn home(position: &Position, file: u8) -> Square
+    requires { file < 8 }
+    ensures { result ≡ spec.home position.now file }
+{
+    Square::nth(8 * home_rank(position.side()) as usize + file as usize)
+}
+
+fn short_right(position: &Position) -> bool
+    ensures { result ≡ spec.short_right position.now.side position.now.rights }
+{
+    match position.side() {
+        Colour::White => position.rights().white_short,
+        Colour::Black => position.rights().black_short,
+    }
+}
+
+fn long_right(position: &Position) -> bool
+    ensures { result ≡ spec.long_right position.now.side position.now.rights }
+{
+    match position.side() {
+        Colour::White => position.rights().white_long,
+        Colour::Black => position.rights().black_long,
+    }
+}
+
+// Whether the move leads from the king's square to that file of its rank.
+fn is_king_move(position: &Position, mv: &Move, end: u8) -> bool
+    requires { end < 8 }
+    ensures { result ≡ spec.is_king_move position.now mv.now end }
+{
+    mv.from.is(home(position, 4)) && mv.to.is(home(position, end))
+}
+
+// Whether king and rook stand on their squares, and those between are empty.
+fn stand_ready(position: &Position, rook: u8) -> bool
+    requires below { rook < 8 }
+    requires apart { ¬ (rook ≡ 4) }
+    ensures { result ≡ spec.stand_ready position.now rook }
+{
+    let board = position.board();
+    let side = position.side();
+    let king_square = home(position, 4);
+    let rook_square = home(position, rook);
+    board.has_piece(king_square, side, Kind::King)
+        && board.has_piece(rook_square, side, Kind::Rook)
+        && is_clear(board, king_square, rook_square)
+}
+
+// Whether the square on that file of the home rank is not attacked.
+fn is_unattacked(position: &Position, file: u8) -> bool
+    requires { file < 8 }
+    ensures { result ≡ spec.is_unattacked position.now file }
+{
+    !is_attacked(
+        position.board(),
+        position.side().other(),
+        home(position, file),
+    )
+}
+
+// Whether the side to move castles with its h rook. (FIDE Laws 3.8.2)
+fn castles_short(position: &Position, mv: &Move) -> bool
+    ensures { result ≡ spec.castles_short position.now mv.now }
+{
+    is_king_move(position, mv, 6)
+        && mv.promotion.is_none()
+        && short_right(position)
+        && stand_ready(position, 7)
+        && is_unattacked(position, 4)
+        && is_unattacked(position, 5)
+        && is_unattacked(position, 6)
+}
+
+// Whether the side to move castles with its a rook. (FIDE Laws 3.8.2)
+fn castles_long(position: &Position, mv: &Move) -> bool
+    ensures { result ≡ spec.castles_long position.now mv.now }
+{
+    is_king_move(position, mv, 2)
+        && mv.promotion.is_none()
+        && long_right(position)
+        && stand_ready(position, 0)
+        && is_unattacked(position, 4)
+        && is_unattacked(position, 3)
+        && is_unattacked(position, 2)
+}
+
+fn kind_of(promotion: Promotion) -> Kind
+    ensures { result ≡ spec.kind_of promotion }
+{
+    match promotion {
+        Promotion::Queen => Kind::Queen,
+        Promotion::Rook => Kind::Rook,
+        Promotion::Bishop => Kind::Bishop,
+        Promotion::Knight => Kind::Knight,
+    }
+}
+
+// The piece that arrives. (FIDE Laws 3.7.3.3)
+fn promoted(colour: Colour, promotion: Option<Promotion>, content: Option<Piece>) -> Option<Piece>
+    ensures { result ≡ spec.promoted colour promotion content }
+{
+    match promotion {
+        None => content,
+        Some(promotion) => Some(Piece {
+            colour,
+            kind: kind_of(promotion),
+        }),
+    }
+}
+
+// The board with the piece carried from the origin to the target.
+fn carried(position: &Position, mv: &Move) -> Board
+    ensures { result ≡ spec.carried position.now mv.now }
+{
+    let mut board = *position.board();
+    let arriving = promoted(position.side(), mv.promotion, board.at(mv.from));
+    board.put(mv.from, None);
+    board.put(mv.to, arriving);
+    board
+}
+
+// The board after a pawn was taken in passing.
+fn en_passant_board(position: &Position, mv: &Move) -> Board
+    ensures { result ≡ spec.en_passant_board position.now mv.now }
+{
+    let mut board = carried(position, mv);
+    board.put(captured_pawn(mv), None);
+    board
+}
+
+// The board after castling: the rook goes to the square that the king crossed.
+fn castled(position: &Position, mv: &Move, rook: u8, crossing: u8) -> Board
+    requires rook { rook < 8 }
+    requires crossing { crossing < 8 }
+    ensures { result ≡ spec.castled position.now mv.now rook crossing }
+{
+    let mut board = carried(position, mv);
+    board.put(home(position, rook), None);
+    board.put(
+        home(position, crossing),
+        Some(Piece {
+            colour: position.side(),
+            kind: Kind::Rook,
+        }),
+    );
+    board
+}
+
+// The board after the move, if it is a step of the side to move.
+pub(crate) fn board_after(position: &Position, mv: &Move) -> Option<Board>
+    ensures { result ≡ spec.board_after position.now mv.now }
+{
+    if is_piece_step(position, mv) || is_pawn_step(position, mv) {
+        return Some(carried(position, mv));
+    }
+    if is_en_passant(position, mv) {
+        return Some(en_passant_board(position, mv));
+    }
+    if castles_short(position, mv) {
+        return Some(castled(position, mv, 7, 5));
+    }
+    if castles_long(position, mv) {
+        return Some(castled(position, mv, 0, 3));
+    }
+    None
+}
