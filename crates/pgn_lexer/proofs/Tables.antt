@@ -1,0 +1,30 @@
+-- The tables of bytes hold what is said of each byte.
+use Rattle.std.proofs.Common.{◌≡◌, ℕ, zero, suc, ◌+◌, ◌<◌, Bool, false, List, [], ◌∷◌, ap, ◌∙◌, arith, get_or}
+use Rattle.std.specs.Prelude.{map}
+use Rattle.pgn_lexer.specs.declared.class.Class.{Class}
+use Rattle.pgn_lexer.specs.declared.class.Class.TheVariants.{LineEnd}
+use Rattle.pgn_lexer.specs.Bytes.{continues_symbol}
+use Rattle.pgn_lexer.specs.Spelling.{class}
+
+-- n numbers from k on
+abbrev pub numbers : ℕ → ℕ → List ℕ
+numbers zero k = []
+numbers (suc n) k = k ∷ numbers n (k + 1)
+
+-- a table of a function over them holds its values
+at_number : {A : Type 0} (f : ℕ → A) (n k i : ℕ) (d : A) → i < n → get_or (map f (numbers n k)) i d ≡ f (k + i)
+at_number f zero k i d less = absurd (omega arith)
+at_number f (suc n) k zero d less = let same : k ≡ k + 0 = omega arith in ap f same
+at_number f (suc n) k (suc i) d less =
+    let same : k + 1 + i ≡ k + suc i = omega arith in
+    at_number f n (k + 1) i d (omega arith) ∙ ap f same
+
+pub class_at : (table : List Class) (b : ℕ) → table ≡ map class (numbers 256 0) → b < 256 → get_or table b LineEnd ≡ class b
+class_at table b are less =
+    let same : 0 + b ≡ b = omega arith in
+    ap (λ l. get_or l b LineEnd) are ∙ at_number class 256 0 b LineEnd less ∙ ap class same
+
+pub continues_at : (table : List Bool) (b : ℕ) → table ≡ map continues_symbol (numbers 256 0) → b < 256 → get_or table b false ≡ continues_symbol b
+continues_at table b are less =
+    let same : 0 + b ≡ b = omega arith in
+    ap (λ l. get_or l b false) are ∙ at_number continues_symbol 256 0 b false less ∙ ap continues_symbol same

@@ -1,0 +1,5 @@
+use Rattle.pgn_lexer.proofs.Reaching as reaching
+use Rattle.pgn_lexer.proofs.laws.decided_is_prefix.Goals as goal
+
+pub returns : goal.returns
+returns c = reaching.decided_is_prefix

@@ -1,0 +1,5 @@
+use Rattle.pgn_lexer.proofs.Placing as placing
+use Rattle.pgn_lexer.proofs.laws.tokens_rise.Goals as goal
+
+pub returns : goal.returns
+returns c = placing.tokens_rise

@@ -1,0 +1,18 @@
+use Rattle.std.proofs.Common.{refl, arith}
+use Rattle.pgn_lexer.proofs.Carrying.{scans_nothing, scans_fault, scans_form, scans_of}
+use Rattle.pgn_lexer.proofs.lexer.Lexer.next.Goals as goal
+
+pub returns-in-Nothing : goal.returns-in-Nothing
+returns-in-Nothing c =
+    let ran = rw c.in-Nothing.is at c.run-used.ensures in
+    ((refl, λ _. tt, scans_of _ _ _ _ _ _ c.self.view_is (scans_nothing _ _ _ _ _ ran)), record { used = omega (arith, ran.all); after = tt })
+
+pub returns-in-Token : goal.returns-in-Token
+returns-in-Token c =
+    let ran = rw c.in-Token.is at c.run-used.ensures in
+    ((refl, λ _. tt, scans_of _ _ _ _ _ _ c.self.view_is (scans_form _ _ _ _ _ c.in-Token.form _ c.token.ensures.at c.token.ensures.kind ran)), record { used = ran.within; after = tt })
+
+pub returns-in-Fault : goal.returns-in-Fault
+returns-in-Fault c =
+    let ran = rw c.in-Fault.is at c.run-used.ensures in
+    ((refl, λ _. tt, scans_of _ _ _ _ _ _ c.self.view_is (scans_fault _ _ _ _ _ _ ran)), record { used = ran.within; after = tt })

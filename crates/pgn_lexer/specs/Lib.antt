@@ -1,0 +1,13 @@
+pub mod Bytes
+pub mod Decided
+pub mod Held
+pub mod Laws
+pub mod Lexes
+pub mod Running
+pub mod Scanned
+pub mod Spelling
+pub mod Standing
+pub mod Stands
+pub mod Taking
+pub mod Tokens
+pub mod TokensOf

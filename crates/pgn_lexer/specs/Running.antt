@@ -1,0 +1,71 @@
+-- What a run over a piece comes to.
+use Rattle.std.specs.Prelude.{◌≡◌, true, false, ℕ, ◌+◌, ◌*◌, ◌<◌, ◌≤◌, ◌⊎◌, List, [], ◌∷◌, ◌++◌, length, take, drop}
+use Rattle.pgn_lexer.specs.declared.token.LexFault.{LexFault}
+use Rattle.pgn_lexer.specs.declared.hand.Mode.TheVariants.{Failed}
+use Rattle.pgn_lexer.specs.declared.hand.Found.{Found}
+use Rattle.pgn_lexer.specs.declared.hand.Found.TheVariants as found
+use Rattle.pgn_lexer.specs.Tokens.{Token, HasLength, EndsAt, is_run}
+use Rattle.pgn_lexer.specs.TokensOf.{Within, tokens_from}
+use Rattle.pgn_lexer.specs.Held.{Held, to_come, token_of, refusal, IsSound, IsGoing, pending}
+
+-- the whole piece was used, and no token ends in it
+pub record RunsOut (place : ℕ) (old : Held) (piece : List ℕ) (new : Held) (used : ℕ) : Type 0 where
+  pub all : used ≡ length piece
+  pub fresh : IsGoing old.mode
+  pub empty : length piece ≡ 0 → new ≡ old
+  pub sound : IsSound (place + used) new
+  pub going : IsGoing new.mode
+  pub comes : (s : List ℕ) → to_come place old (piece ++ s) ≡ to_come (place + used) new s
+
+-- so many bytes of the piece were used, and no token ended in them
+pub record StoodAt (place : ℕ) (old : Held) (piece : List ℕ) (used : ℕ) : Type 0 where
+  pub held : Held
+  pub sound : IsSound (place + used) held
+  pub going : IsGoing held.mode
+  pub comes : (s : List ℕ) → to_come place old (take used piece ++ s) ≡ to_come (place + used) held s
+
+-- a token that is no run ends with the last byte used
+pub record EndsWithByte (place : ℕ) (old : Held) (piece bytes : List ℕ) (t : Token) (new : Held) (used : ℕ) : Type 0 where
+  pub some : 0 < used
+  pub closed : is_run t.kind ≡ false
+  pub last : ℕ
+  pub is_last : used ≡ last + 1
+  pub stood : StoodAt place old piece last
+  pub comes : (s : List ℕ) → to_come place old (bytes ++ s) ≡ t ∷ to_come (place + used) new s
+
+-- a run ends before a byte that was not used, and the lexer then stands between tokens
+pub record EndsBeforeByte (place : ℕ) (old : Held) (piece bytes rest : List ℕ) (t : Token) (new : Held) (used : ℕ) : Type 0 where
+  pub runs : is_run t.kind ≡ true
+  pub stood : StoodAt place old piece used
+  pub byte : ℕ
+  pub more : List ℕ
+  pub next : rest ≡ byte ∷ more
+  pub within : Within
+  pub settled : (s : List ℕ) → to_come (place + used) new s ≡ tokens_from (place + used) within s
+  pub comes : (s : List ℕ) → to_come place old (bytes ++ byte ∷ s) ≡ t ∷ to_come (place + used) new (byte ∷ s)
+  pub at_end : to_come place old (bytes ++ []) ≡ t ∷ to_come (place + used) new []
+
+pub record RunsToToken (place : ℕ) (old : Held) (piece : List ℕ) (t : Token) (new : Held) (used : ℕ) : Type 0 where
+  pub within : used ≤ length piece
+  pub some : 0 < length piece
+  pub fresh : IsGoing old.mode
+  pub sound : IsSound (place + used) new
+  pub going : IsGoing new.mode
+  pub lengths : HasLength t.kind
+  pub ends_at : EndsAt t.kind t.at (place + used)
+  pub before : t.at < place + used
+  pub advances : pending new < 2 * used + pending old
+  pub ends : EndsWithByte place old piece (take used piece) t new used ⊎ EndsBeforeByte place old piece (take used piece) (drop used piece) t new used
+
+pub record RunsToFault (place : ℕ) (old : Held) (piece : List ℕ) (f : LexFault) (new : Held) (used : ℕ) : Type 0 where
+  pub within : used ≤ length piece
+  pub sound : IsSound (place + used) new
+  pub fails : new.mode ≡ Failed f
+  pub stays : (g : LexFault) → old.mode ≡ Failed g → (used ≡ 0) × (f ≡ g) × (new ≡ old)
+  pub some : IsGoing old.mode → 0 < length piece
+  pub comes : (s : List ℕ) → to_come place old (take used piece ++ s) ≡ refusal f ∷ []
+
+abbrev pub RunGives : ℕ → Held → List ℕ → Held → ℕ → Found → Type 0
+RunGives place old piece new used found.Nothing = RunsOut place old piece new used
+RunGives place old piece new used (found.Token form) = RunsToToken place old piece (token_of form new) new used
+RunGives place old piece new used (found.Fault f) = RunsToFault place old piece f new used

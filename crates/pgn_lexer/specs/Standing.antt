@@ -1,0 +1,28 @@
+-- What a contract sees of a lexer.
+use Rattle.std.specs.Prelude.{ℕ, List, Option, None, Some}
+use Rattle.pgn_lexer.specs.declared.token.LexFault.{LexFault}
+use Rattle.pgn_lexer.specs.declared.hand.Mode.{Mode}
+use Rattle.pgn_lexer.specs.declared.hand.Mode.TheVariants.{Failed}
+use Rattle.pgn_lexer.specs.Tokens.{Token}
+use Rattle.pgn_lexer.specs.Held.{Held, to_come, pending}
+
+-- how many bytes were used, and what it holds of the token in hand
+pub record Standing : Type 0 where
+  pub count : ℕ
+  pub held : Held
+
+-- the tokens that it still gives, if the bytes not used yet are s
+abbrev pub coming : Standing → List ℕ → List Token
+coming l s = to_come l.count l.held s
+
+-- how many tokens at most it gives before it uses another byte
+abbrev pub waiting : Standing → ℕ
+waiting l = pending l.held
+
+abbrev pub fault_in_mode : Mode → Option LexFault
+fault_in_mode (Failed f) = Some f
+fault_in_mode _ = None
+
+-- the refusal that it met
+abbrev pub fault_of : Standing → Option LexFault
+fault_of l = fault_in_mode l.held.mode

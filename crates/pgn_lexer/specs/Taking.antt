@@ -1,0 +1,210 @@
+-- What one byte does to what a lexer holds.
+use Rattle.std.specs.Prelude.{◌≡◌, ℕ, ◌+◌, ◌-◌, ◌*◌, List, [], ◌∷◌, ◌++◌, length, nat_lt, nat_le, ◌==◌, if◌then◌else◌}
+use Rattle.pgn_lexer.specs.declared.token.LexReason.{LexReason}
+use Rattle.pgn_lexer.specs.declared.token.LexReason.TheVariants.{StrayByte, ControlByte, SymbolTooLong, StringTooLong, WordTooLong, LoneDollar, GlyphRange, BadSuffix, BraceInLineComment, UnclosedString, UnclosedComment}
+use Rattle.pgn_lexer.specs.declared.class.Class.{Class}
+use Rattle.pgn_lexer.specs.declared.class.Class.TheVariants as classes
+use Rattle.pgn_lexer.specs.declared.class.CommentClass.{CommentClass}
+use Rattle.pgn_lexer.specs.declared.class.CommentClass.TheVariants as comments
+use Rattle.pgn_lexer.specs.declared.class.StringClass.{StringClass}
+use Rattle.pgn_lexer.specs.declared.class.StringClass.TheVariants as strings
+use Rattle.pgn_lexer.specs.declared.hand.Mode.{Mode}
+use Rattle.pgn_lexer.specs.declared.hand.Mode.TheVariants.{Start, AfterEf, AfterEfBb, Column, Outside, Escape, Symbol, Str, AfterBackslash, Dollar, Glyph, Suffix, Brace, BraceWord, Line, LineWord, Failed}
+use Rattle.pgn_lexer.specs.declared.hand.SuffixRun.{SuffixRun}
+use Rattle.pgn_lexer.specs.declared.hand.SuffixRun.TheVariants as runs
+use Rattle.pgn_lexer.specs.declared.hand.Form.{Form}
+use Rattle.pgn_lexer.specs.declared.hand.Form.TheVariants as forms
+use Rattle.pgn_lexer.specs.declared.hand.Step.{Step}
+use Rattle.pgn_lexer.specs.declared.hand.Step.TheVariants.{Used, Ends, EndsBefore, Fault}
+use Rattle.pgn_lexer.specs.declared.hand.Last.{Last}
+use Rattle.pgn_lexer.specs.declared.hand.Last.TheVariants as lasts
+use Rattle.pgn_lexer.specs.Bytes.{is_line_end, is_digit, continues_symbol, is_suffix}
+use Rattle.pgn_lexer.specs.Spelling.{class, comment_class, string_class}
+use Rattle.pgn_lexer.specs.Held.{Held}
+
+pub record Taken : Type 0 where
+  pub held : Held
+  pub step : Step
+
+-- the mode alone changes
+abbrev pub into : Held → Mode → Step → Taken
+into h mode step = record { held = record { mode = mode; at = h.at; text = h.text }; step = step }
+
+-- a token begins at the place, with this text
+abbrev pub begun : Mode → ℕ → List ℕ → Step → Taken
+begun mode place text step = record { held = record { mode = mode; at = place; text = text }; step = step }
+
+-- one byte more of the token
+abbrev pub grown : Held → Mode → ℕ → Taken
+grown h mode b = record { held = record { mode = mode; at = h.at; text = h.text ++ b ∷ [] }; step = Used }
+
+abbrev pub fails : Held → ℕ → LexReason → Taken
+fails h at reason = begun (Failed (record { at = at; reason = reason })) at h.text (Fault (record { at = at; reason = reason }))
+
+-- outside strings and comments
+abbrev pub begin : ℕ → Held → ℕ → Class → Taken
+begin place h b classes.LineEnd = begun Column place h.text Used
+begin place h b classes.Space = begun Outside place h.text Used
+begin place h b classes.Percent = fails h place StrayByte
+begin place h b classes.SymbolStart = begun Symbol place (b ∷ []) Used
+begin place h b classes.Quote = begun Str place [] Used
+begin place h b classes.Dollar = begun Dollar place h.text Used
+begin place h b classes.Suffix = begun (Suffix (if b == 33 then runs.Good else runs.Poor)) place h.text Used
+begin place h b classes.OpenBrace = begun Brace place h.text (Ends forms.CommentOpen)
+begin place h b classes.Semicolon = begun Line place h.text (Ends forms.CommentOpen)
+begin place h b (classes.Alone s) = begun Outside place h.text (Ends (forms.Single s))
+begin place h b (classes.Refused r) = fails h place r
+
+-- in the first column
+abbrev pub begin_line : ℕ → Held → ℕ → Class → Taken
+begin_line place h b classes.Percent = into h Escape Used
+begin_line place h b c = begin place h b c
+
+abbrev pub start : ℕ → Held → ℕ → Taken
+start place h b = if b == 239 then into h AfterEf Used else begin_line place h b (class b)
+
+abbrev pub after_ef : Held → ℕ → Taken
+after_ef h b = if b == 187 then into h AfterEfBb Used else fails h 0 StrayByte
+
+abbrev pub after_ef_bb : Held → ℕ → Taken
+after_ef_bb h b = if b == 191 then into h Column Used else fails h 0 StrayByte
+
+abbrev pub escape : Held → ℕ → Taken
+escape h b = if is_line_end b then into h Column Used else into h Escape Used
+
+abbrev pub symbol : Held → ℕ → Taken
+symbol h b =
+    if continues_symbol b then (if nat_lt (length h.text) 255 then grown h Symbol b else fails h h.at SymbolTooLong)
+    else into h Outside (EndsBefore forms.Symbol)
+
+abbrev pub dollar : Held → ℕ → Taken
+dollar h b = if is_digit b then into h (Glyph (b - 48)) Used else fails h h.at LoneDollar
+
+abbrev pub glyph : Held → ℕ → ℕ → Taken
+glyph h n b =
+    if is_digit b then (if nat_le (10 * n + (b - 48)) 255 then into h (Glyph (10 * n + (b - 48))) Used else fails h h.at GlyphRange)
+    else into h Outside (EndsBefore (forms.Glyph n))
+
+-- the glyph that a suffix stands for
+abbrev pub glyph_of : SuffixRun → ℕ
+glyph_of runs.Good = 1
+glyph_of runs.Poor = 2
+glyph_of runs.VeryGood = 3
+glyph_of runs.VeryPoor = 4
+glyph_of runs.Speculative = 5
+glyph_of runs.Questionable = 6
+
+abbrev pub second_suffix : Held → SuffixRun → ℕ → Taken
+second_suffix h runs.Good b = into h (Suffix (if b == 33 then runs.VeryGood else runs.Speculative)) Used
+second_suffix h runs.Poor b = into h (Suffix (if b == 33 then runs.Questionable else runs.VeryPoor)) Used
+second_suffix h _ b = fails h h.at BadSuffix
+
+abbrev pub suffix : Held → SuffixRun → ℕ → Taken
+suffix h run b = if is_suffix b then second_suffix h run b else into h Outside (EndsBefore (forms.Glyph (glyph_of run)))
+
+abbrev pub string : ℕ → Held → ℕ → StringClass → Taken
+string place h b strings.Quote = into h Outside (Ends forms.Str)
+string place h b strings.LineEnd = fails h h.at UnclosedString
+string place h b strings.Control = fails h place ControlByte
+string place h b strings.Backslash = if nat_lt (length h.text) 255 then into h AfterBackslash Used else fails h h.at StringTooLong
+string place h b strings.Plain = if nat_lt (length h.text) 255 then grown h Str b else fails h h.at StringTooLong
+
+abbrev pub escaped : ℕ → Held → ℕ → StringClass → Taken
+escaped place h b strings.Quote = grown h Str b
+escaped place h b strings.LineEnd = fails h h.at UnclosedString
+escaped place h b strings.Control = fails h place ControlByte
+escaped place h b strings.Backslash = grown h Str b
+escaped place h b strings.Plain =
+    if nat_lt (length h.text) 254 then record { held = record { mode = Str; at = h.at; text = (h.text ++ 92 ∷ []) ++ b ∷ [] }; step = Used }
+    else fails h h.at StringTooLong
+
+abbrev pub word : Held → Mode → ℕ → Taken
+word h mode b = if nat_lt (length h.text) 79 then grown h mode b else fails h h.at WordTooLong
+
+abbrev pub brace : ℕ → Held → ℕ → CommentClass → Taken
+brace place h b comments.LineEnd = begun Brace place h.text Used
+brace place h b comments.Space = begun Brace place h.text Used
+brace place h b comments.CloseBrace = begun Outside place h.text (Ends forms.CommentClose)
+brace place h b comments.Letter = begun BraceWord place (b ∷ []) Used
+brace place h b comments.Control = fails h place ControlByte
+
+abbrev pub brace_word : Held → ℕ → CommentClass → Taken
+brace_word h b comments.Letter = word h BraceWord b
+brace_word h b _ = into h Brace (EndsBefore forms.Word)
+
+abbrev pub line : ℕ → Held → ℕ → CommentClass → Taken
+line place h b comments.LineEnd = begun Column place h.text (Ends forms.CommentClose)
+line place h b comments.Space = begun Line place h.text Used
+line place h b comments.CloseBrace = fails h place BraceInLineComment
+line place h b comments.Letter = begun LineWord place (b ∷ []) Used
+line place h b comments.Control = fails h place ControlByte
+
+abbrev pub line_word : Held → ℕ → CommentClass → Taken
+line_word h b comments.Letter = word h LineWord b
+line_word h b _ = into h Line (EndsBefore forms.Word)
+
+abbrev pub taken_in : Mode → ℕ → Held → ℕ → Taken
+taken_in Start place h b = start place h b
+taken_in AfterEf place h b = after_ef h b
+taken_in AfterEfBb place h b = after_ef_bb h b
+taken_in Column place h b = begin_line place h b (class b)
+taken_in Outside place h b = begin place h b (class b)
+taken_in Escape place h b = escape h b
+taken_in Symbol place h b = symbol h b
+taken_in Str place h b = string place h b (string_class b)
+taken_in AfterBackslash place h b = escaped place h b (string_class b)
+taken_in Dollar place h b = dollar h b
+taken_in (Glyph n) place h b = glyph h n b
+taken_in (Suffix run) place h b = suffix h run b
+taken_in Brace place h b = brace place h b (comment_class b)
+taken_in BraceWord place h b = brace_word h b (comment_class b)
+taken_in Line place h b = line place h b (comment_class b)
+taken_in LineWord place h b = line_word h b (comment_class b)
+taken_in (Failed f) place h b = record { held = h; step = Fault f }
+
+-- the byte b at the place
+unfoldable pub taken : ℕ → Held → ℕ → Taken
+taken place h b = taken_in h.mode place h b
+
+-- the end of the text
+
+pub record Closed : Type 0 where
+  pub held : Held
+  pub last : Last
+
+abbrev pub gives : Held → Mode → ℕ → Form → Closed
+gives h mode at form = record { held = record { mode = mode; at = at; text = h.text }; last = lasts.Token form }
+
+abbrev pub stops : Held → ℕ → LexReason → Closed
+stops h at reason = record { held = record { mode = Failed (record { at = at; reason = reason }); at = at; text = h.text }; last = lasts.Fault (record { at = at; reason = reason }) }
+
+abbrev pub ends : Held → Closed
+ends h = record { held = h; last = lasts.End }
+
+abbrev pub closed_in : Mode → ℕ → Held → Closed
+closed_in AfterEf place h = stops h 0 StrayByte
+closed_in AfterEfBb place h = stops h 0 StrayByte
+closed_in Symbol place h = gives h Outside h.at forms.Symbol
+closed_in Str place h = stops h h.at UnclosedString
+closed_in AfterBackslash place h = stops h h.at UnclosedString
+closed_in Dollar place h = stops h h.at LoneDollar
+closed_in (Glyph n) place h = gives h Outside h.at (forms.Glyph n)
+closed_in (Suffix run) place h = gives h Outside h.at (forms.Glyph (glyph_of run))
+closed_in Brace place h = stops h place UnclosedComment
+closed_in BraceWord place h = gives h Brace h.at forms.Word
+closed_in Line place h = gives h Outside place forms.CommentClose
+closed_in LineWord place h = gives h Line h.at forms.Word
+closed_in (Failed f) place h = record { held = h; last = lasts.Fault f }
+closed_in _ place h = ends h
+
+unfoldable pub closed : ℕ → Held → Closed
+closed place h = closed_in h.mode place h
+
+-- what was to be taken, was
+pub record Takes (t : Taken) (new : Held) (answer : Step) : Type 0 where
+  pub held : new ≡ t.held
+  pub step : answer ≡ t.step
+
+pub record Closes (t : Closed) (new : Held) (answer : Last) : Type 0 where
+  pub held : new ≡ t.held
+  pub last : answer ≡ t.last

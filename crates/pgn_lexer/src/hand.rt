@@ -1,0 +1,560 @@
+//! The token in hand, and what one byte does to it.
+
+ghost use Rattle.std.specs.Prelude.{◌≡◌, ℕ, ◌+◌, ◌<◌, ◌≤◌, ◌^◌, [], ◌∷◌, length};
+ghost use Rattle.pgn_lexer.specs.Taking as taking;
+
+use crate::buffer::Buffer;
+use crate::class::{
+    Class, CommentClass, Single, StringClass, class_of, comment_class_of, continues_symbol,
+    is_digit, is_line_end, is_suffix, string_class_of,
+};
+use crate::token::{LexFault, LexReason, Token, TokenKind};
+use std::marker::Model;
+
+/// A run of at most two of `!` and `?`, by what it says of a move.
+#[derive(Clone, Copy)]
+pub(crate) enum SuffixRun {
+    Good,
+    Poor,
+    VeryGood,
+    VeryPoor,
+    Speculative,
+    Questionable,
+}
+
+/// What the next byte stands within.
+#[derive(Clone, Copy)]
+pub(crate) enum Mode {
+    /// Before the first byte of the text.
+    Start,
+    /// After EF, and after EF BB, at the very start.
+    AfterEf,
+    AfterEfBb,
+    /// Outside all tokens, in the first column.
+    Column,
+    /// Outside all tokens.
+    Outside,
+    Escape,
+    Symbol,
+    Str,
+    /// In a string, after a backslash that is not in the buffer yet.
+    AfterBackslash,
+    /// After a dollar sign.
+    Dollar,
+    /// After digits, of this value, after a dollar sign.
+    Glyph(u8),
+    Suffix(SuffixRun),
+    /// Between the words of a comment in braces.
+    Brace,
+    BraceWord,
+    /// Between the words of a comment that goes to the end of its line.
+    Line,
+    LineWord,
+    Failed(LexFault),
+}
+
+/// What a token is, whose place and text stand in the hand.
+#[derive(Clone, Copy)]
+pub(crate) enum Form {
+    Single(Single),
+    Symbol,
+    Str,
+    Glyph(u8),
+    CommentOpen,
+    Word,
+    CommentClose,
+}
+
+/// What one byte came to.
+#[derive(Clone, Copy)]
+pub(crate) enum Step {
+    /// It was used, and no token ends.
+    Used,
+    /// It was used, and a token ends with it.
+    Ends(Form),
+    /// It was not used: a token ends before it.
+    EndsBefore(Form),
+    /// The text is refused.
+    Fault(LexFault),
+}
+
+/// What the end of the text came to.
+#[derive(Clone, Copy)]
+pub(crate) enum Last {
+    End,
+    Token(Form),
+    Fault(LexFault),
+}
+
+/// What a run over a piece came to.
+#[derive(Clone, Copy)]
+pub(crate) enum Found {
+    /// The whole piece was used.
+    Nothing,
+    Token(Form),
+    Fault(LexFault),
+}
+
+/// The token in hand: where it began, and what was read of it.
+#[derive(Drop)]
+pub(crate) struct Hand {
+    buffer: Buffer,
+    mode: Mode,
+    at: u64,
+}
+
+impl Model for Hand {
+    ghost use Rattle.pgn_lexer.specs.Held.{Held, HasRoom};
+
+    ghost Value = { Held };
+
+    ghost view = { λ h. record { mode = h.mode; at = h.at; text = h.buffer } };
+
+    ghost invariant = { λ h. HasRoom h.mode h.buffer };
+}
+
+impl Hand {
+    ghost use Rattle.pgn_lexer.specs.Spelling as spelling;
+    ghost use Rattle.pgn_lexer.specs.Taking.{Takes, Closes};
+    ghost use Rattle.pgn_lexer.specs.Held.{HasMore, IsSound, kind_in};
+    ghost use Rattle.pgn_lexer.specs.Scanned.{kind_of};
+    ghost use Rattle.pgn_lexer.specs.Running.{RunGives};
+
+    pub(crate) fn new() -> Hand
+        ensures { result ≡ record { mode = Mode.Start; at = 0; text = [] } }
+    {
+        Hand {
+            buffer: Buffer::new(),
+            mode: Mode::Start,
+            at: 0,
+        }
+    }
+
+    /// Uses the piece, which begins at the place, up to the end of the first token. A refused byte is used too.
+    pub(crate) fn run(&mut self, piece: &[u8], place: u64) -> (usize, Found)
+        requires room { place + length piece.now ≤ 2 ^ 62 }
+        requires sound { IsSound place self.old }
+        ensures { RunGives place self.old piece.now self.new result.0 result.1 }
+    {
+        if let Mode::Failed(fault) = self.mode {
+            return (0, Found::Fault(fault));
+        }
+        let mut used = 0;
+        for byte in piece {
+            match self.take(*byte, place + used as u64) {
+                Step::Used => used += 1,
+                Step::Ends(form) => return (used + 1, Found::Token(form)),
+                Step::EndsBefore(form) => return (used, Found::Token(form)),
+                Step::Fault(fault) => return (used + 1, Found::Fault(fault)),
+            }
+        }
+        (used, Found::Nothing)
+    }
+
+    /// The token of this form, whose place and text stand in the hand.
+    pub(crate) fn token(&self, form: Form) -> Token<'_>
+        ensures at { result.at ≡ self.now.at }
+        ensures kind { kind_of result.kind ≡ kind_in form self.now.text }
+    {
+        let text = self.buffer.as_slice();
+        let kind = match form {
+            Form::Single(Single::LeftBracket) => TokenKind::LeftBracket,
+            Form::Single(Single::RightBracket) => TokenKind::RightBracket,
+            Form::Single(Single::LeftParen) => TokenKind::LeftParen,
+            Form::Single(Single::RightParen) => TokenKind::RightParen,
+            Form::Single(Single::Period) => TokenKind::Period,
+            Form::Single(Single::Asterisk) => TokenKind::Asterisk,
+            Form::Symbol => TokenKind::Symbol(text),
+            Form::Str => TokenKind::Str(text),
+            Form::Glyph(number) => TokenKind::Glyph(number),
+            Form::CommentOpen => TokenKind::CommentOpen,
+            Form::Word => TokenKind::Word(text),
+            Form::CommentClose => TokenKind::CommentClose,
+        };
+        Token { at: self.at, kind }
+    }
+
+    /// Takes the byte at the place.
+    #[tactic(auto, unfolding(crate::specs::Taking::taken))]
+    pub(crate) fn take(&mut self, byte: u8, place: u64) -> Step
+        ensures { Takes (taking.taken place self.old byte) self.new result }
+    {
+        match self.mode {
+            Mode::Start => self.start(byte, place),
+            Mode::AfterEf => self.after_ef(byte),
+            Mode::AfterEfBb => self.after_ef_bb(byte),
+            Mode::Column => self.begin_line(byte, place),
+            Mode::Outside => self.begin(class_of(byte), byte, place),
+            Mode::Escape => self.escape(byte),
+            Mode::Symbol => self.symbol(byte),
+            Mode::Str => self.string(byte, place),
+            Mode::AfterBackslash => self.escaped(byte, place),
+            Mode::Dollar => self.dollar(byte),
+            Mode::Glyph(number) => self.glyph(number, byte),
+            Mode::Suffix(run) => self.suffix(run, byte),
+            Mode::Brace => self.brace(byte, place),
+            Mode::BraceWord => self.brace_word(byte),
+            Mode::Line => self.line(byte, place),
+            Mode::LineWord => self.line_word(byte),
+            Mode::Failed(fault) => Step::Fault(fault),
+        }
+    }
+
+    /// Gives what the end of the text, at the place, leaves to give; after a token there may be more.
+    #[tactic(auto, unfolding(crate::specs::Taking::closed))]
+    pub(crate) fn close(&mut self, place: u64) -> Last
+        ensures { Closes (taking.closed place self.old) self.new result }
+    {
+        match self.mode {
+            Mode::Start | Mode::Column | Mode::Outside | Mode::Escape => Last::End,
+            Mode::AfterEf | Mode::AfterEfBb => self.stop(0, LexReason::StrayByte),
+            Mode::Symbol => self.give(Mode::Outside, Form::Symbol),
+            Mode::Str | Mode::AfterBackslash => self.stop(self.at, LexReason::UnclosedString),
+            Mode::Dollar => self.stop(self.at, LexReason::LoneDollar),
+            Mode::Glyph(number) => self.give(Mode::Outside, Form::Glyph(number)),
+            Mode::Suffix(run) => self.give(Mode::Outside, Form::Glyph(glyph_of(run))),
+            Mode::Brace => self.stop(place, LexReason::UnclosedComment),
+            Mode::BraceWord => self.give(Mode::Brace, Form::Word),
+            Mode::Line => {
+                self.at = place;
+                self.give(Mode::Outside, Form::CommentClose)
+            }
+            Mode::LineWord => self.give(Mode::Line, Form::Word),
+            Mode::Failed(fault) => Last::Fault(fault),
+        }
+    }
+
+    fn stop(&mut self, at: u64, reason: LexReason) -> Last
+        ensures { Closes (taking.stops self.old at reason) self.new result }
+    {
+        let fault = LexFault { at, reason };
+        self.at = at;
+        self.mode = Mode::Failed(fault);
+        Last::Fault(fault)
+    }
+
+    fn give(&mut self, mode: Mode, form: Form) -> Last
+        requires { HasMore mode self.old.text }
+        ensures { Closes (taking.gives self.old mode self.old.at form) self.new result }
+    {
+        self.mode = mode;
+        Last::Token(form)
+    }
+
+    fn fail(&mut self, at: u64, reason: LexReason) -> Step
+        ensures { Takes (taking.fails self.old at reason) self.new result }
+    {
+        let fault = LexFault { at, reason };
+        self.at = at;
+        self.mode = Mode::Failed(fault);
+        Step::Fault(fault)
+    }
+
+    fn start(&mut self, byte: u8, place: u64) -> Step
+        ensures { Takes (taking.start place self.old byte) self.new result }
+    {
+        if byte == 0xEF {
+            self.mode = Mode::AfterEf;
+            return Step::Used;
+        }
+        self.begin_line(byte, place)
+    }
+
+    fn after_ef(&mut self, byte: u8) -> Step
+        ensures { Takes (taking.after_ef self.old byte) self.new result }
+    {
+        if byte == 0xBB {
+            self.mode = Mode::AfterEfBb;
+            return Step::Used;
+        }
+        self.fail(0, LexReason::StrayByte)
+    }
+
+    fn after_ef_bb(&mut self, byte: u8) -> Step
+        ensures { Takes (taking.after_ef_bb self.old byte) self.new result }
+    {
+        if byte == 0xBF {
+            self.mode = Mode::Column;
+            return Step::Used;
+        }
+        self.fail(0, LexReason::StrayByte)
+    }
+
+    fn begin_line(&mut self, byte: u8, place: u64) -> Step
+        ensures { Takes (taking.begin_line place self.old byte (spelling.class byte)) self.new result }
+    {
+        match class_of(byte) {
+            Class::Percent => {
+                self.mode = Mode::Escape;
+                Step::Used
+            }
+            class => self.begin(class, byte, place),
+        }
+    }
+
+    fn begin(&mut self, class: Class, byte: u8, place: u64) -> Step
+        ensures { Takes (taking.begin place self.old byte class) self.new result }
+    {
+        self.at = place;
+        match class {
+            Class::LineEnd => self.go(Mode::Column),
+            Class::Space => self.go(Mode::Outside),
+            Class::Percent => self.fail(place, LexReason::StrayByte),
+            Class::SymbolStart => self.begin_text(Mode::Symbol, byte),
+            Class::Quote => self.begin_string(),
+            Class::Dollar => self.go(Mode::Dollar),
+            Class::Suffix => {
+                let run = if byte == b'!' {
+                    SuffixRun::Good
+                } else {
+                    SuffixRun::Poor
+                };
+                self.go(Mode::Suffix(run))
+            }
+            Class::OpenBrace => self.end(Mode::Brace, Form::CommentOpen),
+            Class::Semicolon => self.end(Mode::Line, Form::CommentOpen),
+            Class::Alone(single) => self.end(Mode::Outside, Form::Single(single)),
+            Class::Refused(reason) => self.fail(place, reason),
+        }
+    }
+
+    fn escape(&mut self, byte: u8) -> Step
+        requires { self.old.mode ≡ Mode.Escape }
+        ensures { Takes (taking.escape self.old byte) self.new result }
+    {
+        if is_line_end(byte) {
+            self.mode = Mode::Column;
+        }
+        Step::Used
+    }
+
+    fn symbol(&mut self, byte: u8) -> Step
+        requires { self.old.mode ≡ Mode.Symbol }
+        ensures { Takes (taking.symbol self.old byte) self.new result }
+    {
+        if !continues_symbol(byte) {
+            self.mode = Mode::Outside;
+            return Step::EndsBefore(Form::Symbol);
+        }
+        if self.buffer.len() == 255 {
+            return self.fail(self.at, LexReason::SymbolTooLong);
+        }
+        self.buffer.push(byte);
+        Step::Used
+    }
+
+    fn dollar(&mut self, byte: u8) -> Step
+        ensures { Takes (taking.dollar self.old byte) self.new result }
+    {
+        if !is_digit(byte) {
+            return self.fail(self.at, LexReason::LoneDollar);
+        }
+        self.mode = Mode::Glyph(byte - b'0');
+        Step::Used
+    }
+
+    fn glyph(&mut self, number: u8, byte: u8) -> Step
+        ensures { Takes (taking.glyph self.old number byte) self.new result }
+    {
+        if !is_digit(byte) {
+            self.mode = Mode::Outside;
+            return Step::EndsBefore(Form::Glyph(number));
+        }
+        let longer = 10 * u16::from(number) + u16::from(byte - b'0');
+        if longer > 255 {
+            return self.fail(self.at, LexReason::GlyphRange);
+        }
+        self.mode = Mode::Glyph(longer as u8);
+        Step::Used
+    }
+
+    fn suffix(&mut self, run: SuffixRun, byte: u8) -> Step
+        ensures { Takes (taking.suffix self.old run byte) self.new result }
+    {
+        if !is_suffix(byte) {
+            self.mode = Mode::Outside;
+            return Step::EndsBefore(Form::Glyph(glyph_of(run)));
+        }
+        match run {
+            SuffixRun::Good => {
+                self.mode = Mode::Suffix(if byte == b'!' {
+                    SuffixRun::VeryGood
+                } else {
+                    SuffixRun::Speculative
+                });
+                Step::Used
+            }
+            SuffixRun::Poor => {
+                self.mode = Mode::Suffix(if byte == b'!' {
+                    SuffixRun::Questionable
+                } else {
+                    SuffixRun::VeryPoor
+                });
+                Step::Used
+            }
+            _ => self.fail(self.at, LexReason::BadSuffix),
+        }
+    }
+
+    fn string(&mut self, byte: u8, place: u64) -> Step
+        requires { self.old.mode ≡ Mode.Str }
+        ensures { Takes (taking.string place self.old byte (spelling.string_class byte)) self.new result }
+    {
+        match string_class_of(byte) {
+            StringClass::Quote => {
+                self.mode = Mode::Outside;
+                Step::Ends(Form::Str)
+            }
+            StringClass::LineEnd => self.fail(self.at, LexReason::UnclosedString),
+            StringClass::Control => self.fail(place, LexReason::ControlByte),
+            StringClass::Backslash => {
+                if self.buffer.len() == 255 {
+                    return self.fail(self.at, LexReason::StringTooLong);
+                }
+                self.mode = Mode::AfterBackslash;
+                Step::Used
+            }
+            StringClass::Plain => {
+                if self.buffer.len() == 255 {
+                    return self.fail(self.at, LexReason::StringTooLong);
+                }
+                self.buffer.push(byte);
+                Step::Used
+            }
+        }
+    }
+
+    fn escaped(&mut self, byte: u8, place: u64) -> Step
+        requires { self.old.mode ≡ Mode.AfterBackslash }
+        ensures { Takes (taking.escaped place self.old byte (spelling.string_class byte)) self.new result }
+    {
+        match string_class_of(byte) {
+            StringClass::Quote | StringClass::Backslash => {
+                self.buffer.push(byte);
+                self.mode = Mode::Str;
+                Step::Used
+            }
+            StringClass::LineEnd => self.fail(self.at, LexReason::UnclosedString),
+            StringClass::Control => self.fail(place, LexReason::ControlByte),
+            StringClass::Plain => {
+                if self.buffer.len() == 254 {
+                    return self.fail(self.at, LexReason::StringTooLong);
+                }
+                self.buffer.push(b'\\');
+                self.buffer.push(byte);
+                self.mode = Mode::Str;
+                Step::Used
+            }
+        }
+    }
+
+    fn brace(&mut self, byte: u8, place: u64) -> Step
+        ensures { Takes (taking.brace place self.old byte (spelling.comment_class byte)) self.new result }
+    {
+        self.at = place;
+        match comment_class_of(byte) {
+            CommentClass::LineEnd | CommentClass::Space => self.go(Mode::Brace),
+            CommentClass::CloseBrace => self.end(Mode::Outside, Form::CommentClose),
+            CommentClass::Letter => self.begin_text(Mode::BraceWord, byte),
+            CommentClass::Control => self.fail(place, LexReason::ControlByte),
+        }
+    }
+
+    fn brace_word(&mut self, byte: u8) -> Step
+        requires { self.old.mode ≡ Mode.BraceWord }
+        ensures { Takes (taking.brace_word self.old byte (spelling.comment_class byte)) self.new result }
+    {
+        match comment_class_of(byte) {
+            CommentClass::Letter => self.word(byte),
+            _ => {
+                self.mode = Mode::Brace;
+                Step::EndsBefore(Form::Word)
+            }
+        }
+    }
+
+    fn line(&mut self, byte: u8, place: u64) -> Step
+        ensures { Takes (taking.line place self.old byte (spelling.comment_class byte)) self.new result }
+    {
+        self.at = place;
+        match comment_class_of(byte) {
+            CommentClass::LineEnd => self.end(Mode::Column, Form::CommentClose),
+            CommentClass::Space => self.go(Mode::Line),
+            CommentClass::CloseBrace => self.fail(place, LexReason::BraceInLineComment),
+            CommentClass::Letter => self.begin_text(Mode::LineWord, byte),
+            CommentClass::Control => self.fail(place, LexReason::ControlByte),
+        }
+    }
+
+    fn line_word(&mut self, byte: u8) -> Step
+        requires { self.old.mode ≡ Mode.LineWord }
+        ensures { Takes (taking.line_word self.old byte (spelling.comment_class byte)) self.new result }
+    {
+        match comment_class_of(byte) {
+            CommentClass::Letter => self.word(byte),
+            _ => {
+                self.mode = Mode::Line;
+                Step::EndsBefore(Form::Word)
+            }
+        }
+    }
+
+    /// One byte more of a word.
+    fn word(&mut self, byte: u8) -> Step
+        ensures { Takes (taking.word self.old self.old.mode byte) self.new result }
+    {
+        if self.buffer.len() >= 79 {
+            return self.fail(self.at, LexReason::WordTooLong);
+        }
+        self.buffer.push(byte);
+        Step::Used
+    }
+
+    fn go(&mut self, mode: Mode) -> Step
+        requires { HasMore mode self.old.text }
+        ensures { Takes (taking.into self.old mode Step.Used) self.new result }
+    {
+        self.mode = mode;
+        Step::Used
+    }
+
+    fn end(&mut self, mode: Mode, form: Form) -> Step
+        requires { HasMore mode self.old.text }
+        ensures { Takes (taking.into self.old mode (Step.Ends form)) self.new result }
+    {
+        self.mode = mode;
+        Step::Ends(form)
+    }
+
+    fn begin_text(&mut self, mode: Mode, byte: u8) -> Step
+        requires { HasMore mode (byte ∷ []) }
+        ensures { Takes (taking.begun mode self.old.at (byte ∷ []) Step.Used) self.new result }
+    {
+        self.buffer.clear();
+        self.buffer.push(byte);
+        self.mode = mode;
+        Step::Used
+    }
+
+    fn begin_string(&mut self) -> Step
+        ensures { Takes (taking.begun Mode.Str self.old.at [] Step.Used) self.new result }
+    {
+        self.buffer.clear();
+        self.mode = Mode::Str;
+        Step::Used
+    }
+}
+
+/// The glyph that a suffix stands for (PGN 8.2.3.8, 10).
+fn glyph_of(run: SuffixRun) -> u8
+    ensures { result ≡ taking.glyph_of run }
+{
+    match run {
+        SuffixRun::Good => 1,
+        SuffixRun::Poor => 2,
+        SuffixRun::VeryGood => 3,
+        SuffixRun::VeryPoor => 4,
+        SuffixRun::Speculative => 5,
+        SuffixRun::Questionable => 6,
+    }
+}

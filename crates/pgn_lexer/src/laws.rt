@@ -1,0 +1,22 @@
+//! Laws of the definitions that the contracts cite. The functions do nothing.
+ghost use Rattle.pgn_lexer.specs.Laws as laws;
+
+/// No byte after a text changes the tokens that it decides.
+pub fn decided_is_prefix()
+    ensures { laws.DecidedIsPrefix }
+{}
+
+/// The tokens that are known with one byte more are those of each text that goes on with it.
+pub fn known_is_prefix()
+    ensures { laws.KnownIsPrefix }
+{}
+
+/// Each list of tokens ends with the end of the text or with one refusal, and its places rise.
+pub fn tokens_rise()
+    ensures { laws.TokensRise }
+{}
+
+/// Each text is cut into tokens in exactly one way.
+pub fn lexes_once()
+    ensures { laws.LexesOnce }
+{}

@@ -1,0 +1,20 @@
+//! The tokens of a Portable Game Notation text (PGN 7) that comes in any pieces.
+//!
+//! A [`Lexer`] takes byte after byte. A token's text is borrowed from the lexer's one buffer of 255 bytes, and
+//! no call takes memory. White space (PGN 7), escapes (PGN 6) and comments (PGN 5) are understood; what the
+//! tokens mean is left to the caller.
+#![tactic(auto)]
+
+mod buffer;
+mod class;
+mod hand;
+mod laws;
+mod lexer;
+mod token;
+
+pub use laws::{decided_is_prefix, known_is_prefix, lexes_once, tokens_rise};
+pub use lexer::Lexer;
+pub use token::{LexFault, LexReason, Outcome, Scan, Token, TokenKind};
+
+#[cfg(test)]
+mod tests;
