@@ -1,0 +1,14 @@
+-- Escapes make a value no shorter.
+use Rattle.std.proofs.Common.{◌≡◌, ℕ, ◌+◌, ◌≤◌, Bool, true, false, List, [], ◌∷◌, ◌++◌, length, arith, length-append}
+use Rattle.std.specs.Prelude.{if◌then◌else◌}
+use Rattle.pgn_layout.specs.TagLine.{needs_escape, escape_of, escaped}
+
+some_byte : (e : Bool) (b : ℕ) → 1 ≤ length (if e then 92 ∷ b ∷ [] else b ∷ [])
+some_byte true b = omega arith
+some_byte false b = omega arith
+
+pub length-le-escaped : (value : List ℕ) → length value ≤ length (escaped value)
+length-le-escaped [] = omega arith
+length-le-escaped (b ∷ bs) =
+    let rest = length-le-escaped bs in
+    omega (arith, some_byte (needs_escape b) b, length-append (escape_of b) (escaped bs))

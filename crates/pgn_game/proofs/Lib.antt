@@ -1,0 +1,5 @@
+mod Appending
+mod Escapes
+mod Ordering
+mod Rows
+mod Sections

@@ -1,0 +1,79 @@
+-- The order of names, and places in it.
+use Rattle.std.proofs.Common.{◌≡◌, ℕ, suc, ◌+◌, ◌-◌, ◌<◌, ◌≤◌, Bool, true, false, List, [], ◌∷◌, ◌++◌, length, take, drop, refl, sym, ap, subst, ◌∙◌, arith, add-one, Option, None, Some}
+use Rattle.std.specs.Prelude.{insert, bytes_eq, IsTrue, IfSome, IsSomeAnd}
+use Rattle.std.specs.Ordering.{nat_cmp, is_lt, is_some_and}
+use Rattle.std.specs.Cmp.Lexicographic.{slice_partial_cmp}
+use Rattle.std.proofs.lemmas.Cmp.{same_from_slice_cmp_tested}
+use Rattle.std.proofs.lemmas.Bool.Decides.{nat_tests}
+use Rattle.pgn_game.specs.Pairs.{Pair, comes_before, insert_pair}
+use Rattle.pgn_game.specs.Holding.{TagPairs, place_of, last_name, but_last, pairs_seen}
+
+pub is_comes_before : (xs ys : List ℕ) (r : Bool) → r ≡ is_some_and is_lt (slice_partial_cmp (λ x y. Some (nat_cmp x y)) xs ys) → r ≡ comes_before xs ys
+is_comes_before = same_from_slice_cmp_tested nat_cmp is_lt comes_before refl (λ _ _. refl) (λ _ _. refl) (λ x y xs ys o h. grind (arith, nat_tests))
+
+-- the pair goes to its place
+pub insert-place : (p : Pair) (qs : List Pair) → insert qs (place_of p.name qs) p ≡ insert_pair p qs
+insert-place p [] = refl
+insert-place p (q ∷ qs) =
+    elim (comes_before p.name q.name)
+    as (λ b. insert (q ∷ qs) (elim b [ true ↦ 0 | false ↦ 1 + place_of p.name qs ]) p ≡ elim b [ true ↦ p ∷ q ∷ qs | false ↦ q ∷ insert_pair p qs ]) [
+      | true ↦ refl
+      | false ↦
+          let next : 1 + place_of p.name qs ≡ suc (place_of p.name qs) = omega arith in
+          ap (λ n. insert (q ∷ qs) n p) next ∙ ap (λ l. q ∷ l) (insert-place p qs)
+    ]
+
+pub place_of-le : (name : List ℕ) (qs : List Pair) → place_of name qs ≤ length qs
+place_of-le name [] = omega arith
+place_of-le name (q ∷ qs) =
+    let more = place_of-le name qs in
+    elim (comes_before name q.name) as (λ b. elim b [ true ↦ 0 | false ↦ 1 + place_of name qs ] ≤ length (q ∷ qs)) [ true ↦ omega arith | false ↦ omega arith ]
+
+last_name-snoc : (ps : List Pair) (p : Pair) → last_name (ps ++ p ∷ []) ≡ Some p.name
+last_name-snoc [] p = refl
+last_name-snoc (q ∷ []) p = refl
+last_name-snoc (q ∷ r ∷ ps) p = last_name-snoc (r ∷ ps) p
+
+but_last-snoc : (ps : List Pair) (p : Pair) → but_last (ps ++ p ∷ []) ≡ ps
+but_last-snoc [] p = refl
+but_last-snoc (q ∷ []) p = refl
+but_last-snoc (q ∷ r ∷ ps) p = ap (λ l. q ∷ l) (but_last-snoc (r ∷ ps) p)
+
+abbrev seen : List Pair → Option (List ℕ) → TagPairs
+seen held begun = record { held = held; begun = begun }
+
+-- a pair that has begun
+pub pairs_seen-snoc : (ps : List Pair) (p : Pair) → pairs_seen (ps ++ p ∷ []) true ≡ seen ps (Some p.name)
+pairs_seen-snoc ps p = ap (λ h. seen h (last_name (ps ++ p ∷ []))) (but_last-snoc ps p) ∙ ap (seen ps) (last_name-snoc ps p)
+
+some_last : (p : Pair) (ps : List Pair) → last_name (p ∷ ps) ≡ None → ⊥
+some_last p [] e = cc
+some_last p (q ∷ ps) e = some_last q ps e
+
+-- with no pair begun, all are whole
+pub whole-flag : (ps : List Pair) (b : Bool) (t : TagPairs) → pairs_seen ps b ≡ t → t.begun ≡ None → (IsTrue b → 0 < length ps) → b ≡ false
+whole-flag ps false t e none some = refl
+whole-flag [] true t e none some = absurd (omega (arith, some refl))
+whole-flag (p ∷ ps) true t e none some = absurd (some_last p ps (ap (λ s. s.begun) e ∙ none))
+
+pub whole-held : (ps : List Pair) (b : Bool) (t : TagPairs) → pairs_seen ps b ≡ t → t.begun ≡ None → (IsTrue b → 0 < length ps) → ps ≡ t.held
+whole-held ps false t e none some = ap (λ s. s.held) e
+whole-held [] true t e none some = absurd (omega (arith, some refl))
+whole-held (p ∷ ps) true t e none some = absurd (some_last p ps (ap (λ s. s.begun) e ∙ none))
+
+-- the last pair is the one that has begun
+pub named-last : (front : List Pair) (p : Pair) (b : Bool) (t : TagPairs) (P : List ℕ → Type 0) → pairs_seen (front ++ p ∷ []) b ≡ t → IsSomeAnd t.begun P → P p.name
+named-last front p true t P e h =
+    let Q : TagPairs → Type 0 = λ u. IsSomeAnd u.begun P in subst Q (sym (sym (pairs_seen-snoc front p) ∙ e)) h
+named-last front p false t P e h = let Q : TagPairs → Type 0 = λ u. IsSomeAnd u.begun P in absurd (subst Q (sym e) h)
+
+-- its value comes, and it goes to its place
+pub completed : (front : List Pair) (p : Pair) (b : Bool) (t : TagPairs) (value : List ℕ) (more : List Pair) → pairs_seen (front ++ p ∷ []) b ≡ t
+    → more ≡ insert_pair (record { name = p.name; value = value }) front
+    → IfSome t.begun (λ name. seen more None ≡ seen (insert_pair (record { name = name; value = value }) t.held) None)
+completed front p true t value more e h =
+    let Q : TagPairs → Type 0 = λ u. IfSome u.begun (λ name. seen more None ≡ seen (insert_pair (record { name = name; value = value }) u.held) None) in
+    subst Q (sym (pairs_seen-snoc front p) ∙ e) (ap (λ ps. seen ps None) h)
+completed front p false t value more e h =
+    let Q : TagPairs → Type 0 = λ u. IfSome u.begun (λ name. seen more None ≡ seen (insert_pair (record { name = name; value = value }) u.held) None) in
+    subst Q e tt

@@ -1,0 +1,102 @@
+-- Tokens read into games, and what is due for them.
+use Rattle.std.specs.Prelude.{ℕ, List, [], ◌∷◌, ◌++◌, length, Option, None, Some}
+use Rattle.pgn_lexer.specs.Tokens as tokens
+use Rattle.pgn_lexer.specs.Tokens.{Kind, Token}
+use Rattle.pgn_lexer.specs.TokensOf.{tokens_of}
+use Rattle.pgn_game.specs.declared.reason.Fault.{Fault}
+use Rattle.pgn_game.specs.Profile.{Profile}
+use Rattle.pgn_game.specs.Pairs.{insert_pair}
+use Rattle.pgn_game.specs.Game.{Game, Part, Stage, between, after_bracket, after_name, after_value, after_tags, no_part}
+use Rattle.pgn_game.specs.FaultTable.{refusal, marker_of}
+use Rattle.pgn_game.specs.Text.{text_of, torn}
+
+-- the part that a token leaves, or the game that it finishes
+pub data Next : Type 0 where
+  going : Part → Next
+  whole : Game → Next
+
+abbrev pub at_stage : Stage → Part → Part
+at_stage stage part = record { stage = stage; pairs = part.pairs; name = part.name }
+
+-- a token of movetext: a marker finishes the game
+abbrev pub in_text : Part → Kind → Next
+in_text part k = elim (marker_of k) [ Some marker ↦ whole (record { pairs = part.pairs; marker = marker }) | None ↦ going part ]
+
+-- What a token that is not refused leads to, stage by stage. Comments before a game and in a pair are dropped.
+abbrev pub next_in : Stage → Part → Kind → Next
+next_in between part tokens.left_bracket = going (at_stage after_bracket part)
+next_in between part k = in_text part k
+next_in after_bracket part (tokens.symbol name) = going (record { stage = after_name; pairs = part.pairs; name = name })
+next_in after_bracket part k = going part
+next_in after_name part (tokens.str value) =
+    going (record { stage = after_value; pairs = insert_pair (record { name = part.name; value = value }) part.pairs; name = [] })
+next_in after_name part k = going part
+next_in after_value part tokens.right_bracket = going (at_stage after_tags part)
+next_in after_value part k = going part
+next_in after_tags part tokens.left_bracket = going (at_stage after_bracket part)
+next_in after_tags part k = in_text part k
+
+-- what a token leads to
+abbrev pub next : Part → Kind → Next
+next part k = next_in part.stage part k
+
+-- the games that are whole, and the part after them
+pub record Begun : Type 0 where
+  pub games : List Game
+  pub part : Part
+
+abbrev pub nothing_begun : Begun
+nothing_begun = record { games = []; part = no_part }
+
+abbrev pub begun_with : List Game → Next → Begun
+begun_with games (going part) = record { games = games; part = part }
+begun_with games (whole g) = record { games = games ++ g ∷ []; part = no_part }
+
+abbrev pub begun_after : Begun → Token → Begun
+begun_after b t = begun_with b.games (next b.part t.kind)
+
+-- how far a list of tokens was read, and the first that is refused
+pub record Read : Type 0 where
+  pub begun : Begun
+  pub fault : Option Fault
+
+abbrev pub read_from : Profile → Begun → List Token → Read
+read_from p b [] = record { begun = b; fault = None }
+read_from p b (t ∷ ts) =
+    elim (refusal p b.part t.kind) [
+      | Some reason ↦ record { begun = b; fault = Some (record { at = t.at; reason = reason }) }
+      | None ↦ read_from p (begun_after b t) ts
+    ]
+
+-- a list of tokens from the start on
+abbrev pub read : Profile → List Token → Read
+read p ts = read_from p nothing_begun ts
+
+-- what is written once this much was read
+abbrev pub written : Profile → Begun → List ℕ
+written p b = text_of p b.games ++ torn p b.part
+
+-- what is written for the tokens before the first that is refused
+abbrev pub due : Profile → List Token → List ℕ
+due p ts = written p (read p ts).begun
+
+-- what is written for a text
+abbrev pub output : Profile → List ℕ → List ℕ
+output p s = due p (tokens_of s)
+
+-- how many games, and how many moves outside variations they have together
+pub record Counted : Type 0 where
+  pub games : ℕ
+  pub plies : ℕ
+
+-- the fault, or the numbers
+pub data Verdict : Type 0 where
+  refused : Fault → Verdict
+  totals : Counted → Verdict
+
+abbrev pub verdict_of : Read → Verdict
+verdict_of r = elim r.fault [ Some f ↦ refused f | None ↦ totals (record { games = length r.begun.games; plies = 0 }) ]
+
+-- how a text ends
+abbrev pub verdict : Profile → List ℕ → Verdict
+verdict p s = verdict_of (read p (tokens_of s))

@@ -1,0 +1,139 @@
+-- The fault table: which token is refused after which part of a game, and why.
+use Rattle.std.specs.Prelude.{ℕ, ◌+◌, Bool, true, false, ◌||◌, ◌&&◌, not, List, [], ◌∷◌, length, nat_lt, nat_le, ◌==◌, Option, None, Some, bytes_eq, unwrap_or, is_some, codes}
+use Rattle.std.specs.List.{list_all}
+use Rattle.pgn_layout.specs.TagLine.{escaped}
+use Rattle.pgn_lexer.specs.Tokens as tokens
+use Rattle.pgn_lexer.specs.Tokens.{Kind}
+use Rattle.pgn_lexer.specs.Bytes.{starts_symbol}
+use Rattle.pgn_game.specs.declared.reason.Reason.{Reason}
+use Rattle.pgn_game.specs.declared.reason.Reason.TheVariants.{Lexical, ExpectedName, BadTagName, DuplicateTag, TooManyTags, ExpectedValue, BadResult, TagLineTooLong, ExpectedBracket, ReducedFen, NotAMove, ResultDiffers, UnexpectedEnd}
+use Rattle.pgn_game.specs.declared.mode.Mode.{Mode}
+use Rattle.pgn_game.specs.declared.mode.Mode.TheVariants.{Full, Reduced}
+use Rattle.pgn_game.specs.Profile.{Profile, Missing, counts_as_unknown, takes_the_marker}
+use Rattle.pgn_game.specs.Pairs.{value_of, has_pair}
+use Rattle.pgn_game.specs.Game.{Part, Stage, between, after_bracket, after_name, after_value, after_tags}
+
+-- Tests of a token.
+abbrev pub is_comment : Kind → Bool
+is_comment tokens.comment_open = true
+is_comment (tokens.word text) = true
+is_comment tokens.comment_close = true
+is_comment _ = false
+
+abbrev pub is_left_bracket : Kind → Bool
+is_left_bracket tokens.left_bracket = true
+is_left_bracket _ = false
+
+abbrev pub is_right_bracket : Kind → Bool
+is_right_bracket tokens.right_bracket = true
+is_right_bracket _ = false
+
+abbrev pub is_end : Kind → Bool
+is_end tokens.end = true
+is_end _ = false
+
+-- a symbol whose text passes, a string whose data pass
+abbrev pub is_symbol_with : (List ℕ → Bool) → Kind → Bool
+is_symbol_with p (tokens.symbol text) = p text
+is_symbol_with p _ = false
+
+abbrev pub is_string_with : (List ℕ → Bool) → Kind → Bool
+is_string_with p (tokens.str text) = p text
+is_string_with p _ = false
+
+abbrev pub is_symbol : Kind → Bool
+is_symbol = is_symbol_with (λ text. true)
+
+abbrev pub is_string : Kind → Bool
+is_string = is_string_with (λ text. true)
+
+-- Tests of a stage.
+-- stages are told apart by number
+abbrev pub stage_number : Stage → ℕ
+stage_number between = 0
+stage_number after_bracket = 1
+stage_number after_name = 2
+stage_number after_value = 3
+stage_number after_tags = 4
+
+-- the part is at the stage
+abbrev pub is_at : Stage → Part → Bool
+is_at stage part = stage_number stage == stage_number part.stage
+
+-- the stages at which a pair or the movetext can begin
+abbrev pub is_before_movetext : Part → Bool
+is_before_movetext part = is_at between part || is_at after_tags part
+
+-- letters, digits and _ (PGN 8.1)
+abbrev pub in_name : ℕ → Bool
+in_name b = starts_symbol b || (b == 95)
+
+-- The markers (PGN 8.2.6): three symbols, and the asterisk.
+abbrev pub is_score : List ℕ → Bool
+is_score s = bytes_eq s (codes "1-0") || bytes_eq s (codes "0-1") || bytes_eq s (codes "1/2-1/2")
+
+abbrev pub is_result : List ℕ → Bool
+is_result s = is_score s || bytes_eq s (codes "*")
+
+abbrev pub marker_of : Kind → Option (List ℕ)
+marker_of tokens.asterisk = Some (codes "*")
+marker_of (tokens.symbol s) = elim (is_score s) [ true ↦ Some s | false ↦ None ]
+marker_of _ = None
+
+-- a token of movetext that is no marker: none but a `[`, the end and a comment between games
+abbrev pub is_other_movetext : Part → Kind → Bool
+is_other_movetext part k = not (is_left_bracket k || is_end k || is_some (marker_of k) || (is_at between part && is_comment k))
+
+-- the reduced format is written
+abbrev pub is_reduced : Mode → Bool
+is_reduced Full = false
+is_reduced Reduced = true
+
+-- what stands for a missing Result
+abbrev pub result_for : Missing → List ℕ → List ℕ
+result_for counts_as_unknown marker = codes "*"
+result_for takes_the_marker marker = marker
+
+-- A marker that is not the Result. One that stands for a missing Result meets itself.
+abbrev pub has_other_result : Missing → Part → Kind → Bool
+has_other_result missing part k =
+    elim (marker_of k) [
+      | None ↦ false
+      | Some marker ↦ not (bytes_eq marker (unwrap_or (value_of part.pairs (codes "Result")) (result_for missing marker)))
+    ]
+
+-- a row of the table
+pub record Row : Type 0 where
+  pub holds : Bool
+  pub reason : Reason
+
+abbrev pub row : Reason → Bool → Row
+row reason holds = record { holds = holds; reason = reason }
+
+-- The table, lowest number first. That a name is given twice (22), how many pairs a game has (23), how long a line is (27) and
+-- the reduced format without FEN (31) are bounds of our own.
+abbrev pub rows : Profile → Part → Kind → List Row
+rows p part k =
+    row ExpectedName (is_at after_bracket part && not (is_symbol k || is_comment k))
+    ∷ row BadTagName (is_at after_bracket part && is_symbol_with (λ name. not (list_all in_name name)) k)
+    ∷ row DuplicateTag (is_at after_bracket part && is_symbol_with (has_pair part.pairs) k)
+    ∷ row TooManyTags (is_before_movetext part && is_left_bracket k && nat_le p.tags (length part.pairs))
+    ∷ row ExpectedValue (is_at after_name part && not (is_string k || is_comment k))
+    ∷ row BadResult (is_at after_name part && bytes_eq part.name (codes "Result") && is_string_with (λ value. not (is_result value)) k)
+    ∷ row TagLineTooLong (is_at after_bracket part && is_symbol_with (λ name. nat_lt 249 (length name)) k)
+    ∷ row TagLineTooLong (is_at after_name part && is_string_with (λ value. nat_lt 249 (length part.name + length (escaped value))) k)
+    ∷ row ExpectedBracket (is_at after_value part && not (is_right_bracket k || is_comment k))
+    ∷ row ReducedFen (is_at after_bracket part && is_reduced p.mode && is_symbol_with (λ name. bytes_eq name (codes "FEN")) k)
+    ∷ row NotAMove (is_before_movetext part && is_other_movetext part k)
+    ∷ row ResultDiffers (is_before_movetext part && has_other_result p.missing_result part k)
+    ∷ row UnexpectedEnd (is_at after_tags part && is_end k)
+    ∷ []
+
+abbrev pub first_holding : List Row → Option Reason
+first_holding [] = None
+first_holding (r ∷ rs) = elim r.holds [ true ↦ Some r.reason | false ↦ first_holding rs ]
+
+-- Why a token is refused after this part, if it is. It is `unfoldable`, so that goals show it by its name.
+unfoldable pub refusal : Profile → Part → Kind → Option Reason
+refusal p part (tokens.refused r) = Some (Lexical r)
+refusal p part k = first_holding (rows p part k)

@@ -1,0 +1,35 @@
+-- How tag pairs are held: those that are whole, in order, and last the one whose value is still to come.
+use Rattle.std.specs.Prelude.{ℕ, ◌+◌, ◌≤◌, ◌<◌, IsTrue, Bool, true, false, List, [], ◌∷◌, length, Option, None, Some}
+use Rattle.pgn_game.specs.Pairs.{Pair, comes_before}
+
+-- what a contract sees: the pairs that are whole, and the name whose value is still to come
+pub record TagPairs : Type 0 where
+  pub held : List Pair
+  pub begun : Option (List ℕ)
+
+-- the name of the last pair
+abbrev pub last_name : List Pair → Option (List ℕ)
+last_name [] = None
+last_name (p ∷ []) = Some p.name
+last_name (p ∷ q ∷ ps) = last_name (q ∷ ps)
+
+-- all but the last
+abbrev pub but_last : List Pair → List Pair
+but_last [] = []
+but_last (p ∷ []) = []
+but_last (p ∷ q ∷ ps) = p ∷ but_last (q ∷ ps)
+
+-- with a flag whether the last one has only begun
+abbrev pub pairs_seen : List Pair → Bool → TagPairs
+pairs_seen ps true = record { held = but_last ps; begun = last_name ps }
+pairs_seen ps false = record { held = ps; begun = None }
+
+-- how many pairs stand before the place of a name
+abbrev pub place_of : List ℕ → List Pair → ℕ
+place_of name [] = 0
+place_of name (p ∷ ps) = elim (comes_before name p.name) [ true ↦ 0 | false ↦ 1 + place_of name ps ]
+
+-- how the pairs are held: at most so many, and one if a name has begun
+pub record AreHeld (most : ℕ) (ps : List Pair) (has_begun : Bool) : Type 0 where
+  pub room : length ps ≤ most
+  pub some : IsTrue has_begun → 0 < length ps

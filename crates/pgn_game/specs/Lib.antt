@@ -1,0 +1,11 @@
+pub mod Inlet
+pub mod Reason
+pub mod Pairs
+pub mod Holding
+pub mod Profile
+pub mod Game
+pub mod TagSection
+pub mod SectionLines
+pub mod FaultTable
+pub mod Text
+pub mod Begun

@@ -1,0 +1,15 @@
+-- What a run is asked for.
+use Rattle.std.specs.Prelude.{ℕ}
+use Rattle.pgn_game.specs.declared.mode.Mode.{Mode}
+
+-- what a game without a Result pair has in its place: `*`, or the marker that ends the game
+pub data Missing : Type 0 where
+  counts_as_unknown : Missing
+  takes_the_marker : Missing
+
+-- the most tag pairs of a game, the greatest depth of variations, which parts are written, and what a missing Result is
+pub record Profile : Type 0 where
+  pub tags : ℕ
+  pub depth : ℕ
+  pub mode : Mode
+  pub missing_result : Missing

@@ -1,0 +1,18 @@
+-- The lines of a tag section one by one, as they are written.
+use Rattle.std.specs.Prelude.{ℕ, true, false, List, [], ◌∷◌, ◌++◌, unwrap_or}
+use Rattle.pgn_layout.specs.TagLine.{tag_line}
+use Rattle.pgn_game.specs.Pairs.{Pair, value_of}
+use Rattle.pgn_game.specs.TagSection.{in_roster}
+
+-- the texts of the elements in order
+abbrev pub text_by : {A : Type 0} → (A → List ℕ) → List A → List ℕ
+text_by f [] = []
+text_by f (x ∷ xs) = f x ++ text_by f xs
+
+-- the line of a roster pair, of a game with these pairs
+abbrev pub roster_line : List Pair → Pair → List ℕ
+roster_line ps d = tag_line d.name (unwrap_or (value_of ps d.name) d.value)
+
+-- the line of another pair, and none for one of the roster
+abbrev pub other_line : Pair → List ℕ
+other_line p = elim (in_roster p.name) [ true ↦ [] | false ↦ tag_line p.name p.value ]

@@ -1,0 +1,77 @@
+//! Where text comes from.
+ghost use Rattle.std.specs.Prelude.{◌≡◌, ℕ, List, Option};
+ghost use Rattle.std.specs.Io.{ReadsAtMost};
+ghost use Rattle.std.specs.Io.KnownBytes.{ReadConsumes};
+ghost use Rattle.pgn_layout.specs.Device.{Counts};
+
+use std::io::Read;
+use std::marker::Model;
+
+/// A read that failed.
+#[derive(Clone, Copy, Debug, PartialEq, Eq)]
+pub struct ReadFailed;
+
+/// What gives the bytes that are read, in order.
+///
+/// A call either does its work, or fails, gives no byte and is counted. Nothing is tried again.
+pub trait Source {
+    // The bytes that are left, where the source tells them.
+    ghost left: { Self → Option (List ℕ) };
+
+    // How many calls have failed; the count stays at the last number of 64 bits.
+    ghost failures: { Self → ℕ };
+
+    /// Gives bytes at the buffer's front and tells how many, none only at the end or where there is no room; or fails
+    /// and gives none.
+    fn read_some(&mut self, buffer: &mut [u8]) -> Result<usize, ReadFailed>
+        ensures bound { ReadsAtMost result buffer.new }
+        ensures bytes { ReadConsumes (left self.old) (left self.new) result buffer.new }
+        ensures failures { Counts result (failures self.old) (failures self.new) };
+}
+
+/// The source over any `std::io::Read`.
+///
+/// A read that was interrupted fails like any other: nothing is tried again.
+#[derive(Drop)]
+pub struct Inlet<R> {
+    reader: R,
+    failures: u64,
+}
+
+impl<R> Model for Inlet<R> {
+    ghost use Rattle.pgn_game.specs.Inlet.{Inlet as Seen, inlet_code};
+
+    ghost Value = { Seen R };
+
+    ghost coded = { inlet_code R.code };
+
+    ghost view = { λ i. record { reader = i.reader; failures = i.failures } };
+}
+
+impl<R> Inlet<R> {
+    /// The source over this reader, with no failure counted.
+    pub fn new(reader: R) -> Inlet<R>
+        ensures { result ≡ record { reader = reader; failures = 0 } }
+    {
+        Inlet {
+            reader,
+            failures: 0,
+        }
+    }
+}
+
+impl<R: Read> Source for Inlet<R> {
+    ghost left = { λ i. R.remaining i.reader };
+
+    ghost failures = { λ i. i.failures };
+
+    fn read_some(&mut self, buffer: &mut [u8]) -> Result<usize, ReadFailed> {
+        match self.reader.read(buffer) {
+            Ok(n) => Ok(n),
+            Err(_) => {
+                self.failures = self.failures.saturating_add(1);
+                Err(ReadFailed)
+            }
+        }
+    }
+}

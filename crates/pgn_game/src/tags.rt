@@ -1,0 +1,122 @@
+//! The tag pairs of one game, in the order of their names.
+ghost use Rattle.std.specs.Prelude.{◌≡◌, ◌+◌, ◌<◌, ◌≤◌, ◌↔◌, ℕ, Bool, [], ◌∷◌, List, IsTrue, IfSome, IsSomeAnd, Some, None, length};
+ghost use Rattle.pgn_layout.specs.TagLine.{escaped};
+ghost use Rattle.pgn_game.specs.Pairs.{value_of, comes_before, insert_pair};
+ghost use Rattle.pgn_game.specs.Holding.{place_of as place_before};
+ghost use Rattle.std.specs.Option.{option_copied};
+
+use crate::pair::TagPair;
+use arrayvec::ArrayVec;
+use std::marker::Model;
+
+/// At most `T` pairs. A name whose value is still to come is the last of them.
+#[derive(Drop)]
+pub struct TagPairs<const T: usize> {
+    pairs: ArrayVec<TagPair, T>,
+    has_begun: bool,
+}
+
+impl<const T: usize> Model for TagPairs<T> {
+    ghost use Rattle.pgn_game.specs.Holding.{TagPairs as Seen};
+    ghost use Rattle.pgn_game.specs.Holding.{pairs_seen, AreHeld};
+
+    ghost Value = { Seen };
+
+    ghost view = { λ t. pairs_seen (t.pairs.items) t.has_begun };
+
+    ghost invariant = { λ t. AreHeld T t.pairs.items t.has_begun };
+}
+
+impl<const T: usize> TagPairs<T> {
+    /// No pair.
+    pub fn new() -> Self
+        ensures { result ≡ record { held = []; begun = None } }
+    {
+        TagPairs {
+            pairs: ArrayVec::new(),
+            has_begun: false,
+        }
+    }
+
+    /// Whether there are `T` pairs.
+    pub fn is_full(&self) -> bool
+        requires { self.now.begun ≡ None }
+        ensures { IsTrue result ↔ (length self.now.held ≡ T) }
+    {
+        self.pairs.is_full()
+    }
+
+    /// The value of a name.
+    pub fn value(&self, name: &[u8]) -> Option<&[u8]>
+        requires { self.now.begun ≡ None }
+        ensures value { option_copied result ≡ value_of self.now.held name.now }
+        ensures fits { IfSome result (λ value. length name.now + length (escaped value.now) ≤ 249) }
+    {
+        for pair in self.pairs.as_slice() {
+            if pair.name() == name {
+                return Some(pair.value());
+            }
+        }
+        None
+    }
+
+    /// The pairs, in the order of their names.
+    pub fn pairs(&self) -> &[TagPair]
+        requires { self.now.begun ≡ None }
+        ensures { result.now ≡ self.now.held }
+    {
+        self.pairs.as_slice()
+    }
+
+    /// Holds a name whose value is still to come.
+    pub fn begin(&mut self, name: &[u8])
+        requires whole { self.old.begun ≡ None }
+        requires room { length self.old.held < T }
+        requires fits { length name.now ≤ 249 }
+        ensures { self.new ≡ record { held = self.old.held; begun = Some name.now } }
+    {
+        self.pairs.push(TagPair::new(name, b""));
+        self.has_begun = true;
+    }
+
+    /// Gives the name that has begun its value.
+    pub fn complete(&mut self, value: &[u8])
+        requires { IsSomeAnd self.old.begun (λ name. length name + length (escaped value.now) ≤ 249) }
+        ensures { IfSome self.old.begun (λ name. self.new
+            ≡ record { held = insert_pair (record { name = name; value = value.now }) self.old.held; begun = None }) }
+    {
+        if let Some(begun) = self.pairs.pop() {
+            let pair = TagPair::new(begun.name(), value);
+            let place = place_of(self.pairs.as_slice(), pair.name());
+            self.pairs.insert(place, pair);
+            self.has_begun = false;
+        }
+    }
+
+    /// Forgets all pairs.
+    pub fn clear(&mut self)
+        ensures { self.new ≡ record { held = []; begun = None } }
+    {
+        self.pairs.clear();
+        self.has_begun = false;
+    }
+}
+
+// How many pairs stand before the place of a name.
+fn place_of(pairs: &[TagPair], name: &[u8]) -> usize
+    ensures { result ≡ place_before name.now (pairs.now) }
+{
+    for (i, pair) in pairs.iter().enumerate() {
+        if is_before(name, pair.name()) {
+            return i;
+        }
+    }
+    pairs.len()
+}
+
+// Whether a name comes before another in the order of ASCII.
+fn is_before(name: &[u8], other: &[u8]) -> bool
+    ensures { result ≡ comes_before name.now other.now }
+{
+    name < other
+}
