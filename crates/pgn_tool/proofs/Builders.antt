@@ -1,0 +1,60 @@
+-- What each step of a builder does to what a parse reads.
+use Rattle.std.proofs.Common.{◌≡◌, ◌∙◌, ap, Bool, true, false, ◌&&◌, not, true≢false, refl, sym, Some}
+use Rattle.std.specs.Borrow.{Bor}
+use Rattle.std.specs.Prelude.{ℕ, List}
+use Rattle.clap.specs.Words.{App, app_of, rule_of}
+use Rattle.clap.specs.Simple.{app_of_fields, on_top}
+use Rattle.clap.specs.declared.builder.texts.Texts.TheVariants.{One}
+use Rattle.clap.specs.declared.builder.action.ArgAction.{ArgAction}
+use Rattle.clap.specs.declared.builder.arg.Arg.{Arg}
+use Rattle.clap.specs.declared.builder.command.Command.{Command}
+use Rattle.clap.specs.declared.builder.command.Command.TheViews.{out-Command}
+
+-- ---- arguments
+
+pub rule_help : (a b : Arg) (text : Bor (List ℕ)) → b ≡ record a { help = Some text } → rule_of b ≡ rule_of a
+rule_help a b text e = ap rule_of e
+
+pub rule_value_name : (a b : Arg) (name : Bor (List ℕ)) → b ≡ record a { val_names = One name } → rule_of b ≡ record (rule_of a) { value_names = 1 }
+rule_value_name a b name e = ap rule_of e
+
+pub rule_long : (a b : Arg) (name : Bor (List ℕ)) → b ≡ record a { long = Some name } → rule_of b ≡ record (rule_of a) { long = Some name.now }
+rule_long a b name e = ap rule_of e
+
+pub rule_action : (a b : Arg) (action : ArgAction) → b ≡ record a { action = Some action } → rule_of b ≡ record (rule_of a) { action = Some action }
+rule_action a b action e = ap rule_of e
+
+-- ---- commands
+
+pub app_about : (c d : Command) (text : Bor (List ℕ)) → out-Command d ≡ record (out-Command c) { about = Some text } → app_of d ≡ app_of c
+app_about c d text e = ap app_of_fields e
+
+pub app_version : (c d : Command) (text : Bor (List ℕ)) → out-Command d ≡ record (out-Command c) { version = Some text }
+    → app_of d ≡ on_top (λ s. record s { has_version = true }) (app_of c)
+app_version c d text e = ap app_of_fields e
+
+pub app_help_subcommand : (c d : Command) (b : Bool) → out-Command d ≡ record (out-Command c) { disable_help_subcommand = b }
+    → app_of d ≡ on_top (λ s. record s { disable_help_subcommand = b }) (app_of c)
+app_help_subcommand c d b e = ap app_of_fields e
+
+pub app_required : (c d : Command) (b : Bool) → out-Command d ≡ record (out-Command c) { subcommand_required = b }
+    → app_of d ≡ on_top (λ s. record s { subcommand_required = b }) (app_of c)
+app_required c d b e = ap app_of_fields e
+
+-- ---- a plain command has no global argument
+
+and_left : (a b : Bool) → (a && b) ≡ true → a ≡ true
+and_left true b e = refl
+and_left false b e = e
+
+and_right : (a b : Bool) → (a && b) ≡ true → b ≡ true
+and_right true b e = e
+and_right false b e = absurd (true≢false (sym e))
+
+not_true : (b : Bool) → not b ≡ true → b ≡ false
+not_true true e = absurd (true≢false (sym e))
+not_true false e = refl
+
+pub is_local : (c : Command) (a : App) → app_of c ≡ a → a.top.is_plain ≡ true → (out-Command c).has_globals ≡ false
+is_local c a e plain =
+    not_true _ (and_left _ _ (and_right _ _ (and_right _ _ (ap (λ (x : App). x.top.is_plain) e ∙ plain))))

@@ -1,0 +1,102 @@
+-- The definitions at words that are written out.
+use Rattle.std.proofs.Common.{◌≡◌, refl, codes, true, false, [], ◌∷◌, Some, None}
+use Rattle.clap.proofs.OnLiterals.{clap_on_literals}
+use Rattle.clap.specs.declared.error.kind.ErrorKind.TheVariants.{ArgumentConflict, DisplayHelp, DisplayVersion, InvalidSubcommand, MissingSubcommand, UnknownArgument}
+use Rattle.pgn_tool.specs.CommandLine.{bare_program, check_command, command_line, export_command, file_rule, reduced_rule}
+use Rattle.pgn_tool.specs.Requests.{check, export, refusals, request_from, request_in}
+
+unfoldable line_on_words : Unit {0}
+unfolding clap_on_literals command_line bare_program export_command check_command reduced_rule file_rule refusals request_from request_in
+line_on_words = tt
+
+export-asks : request_in (codes "pgn_tool" ∷ codes "export" ∷ []) ≡ Some (export false None)
+unfolding line_on_words
+export-asks = refl
+
+export-refused : refusals (codes "pgn_tool" ∷ codes "export" ∷ []) ≡ []
+unfolding line_on_words
+export-refused = refl
+
+export_file-asks : request_in (codes "pgn_tool" ∷ codes "export" ∷ codes "a.pgn" ∷ []) ≡ Some (export false (Some (codes "a.pgn")))
+unfolding line_on_words
+export_file-asks = refl
+
+export_file-refused : refusals (codes "pgn_tool" ∷ codes "export" ∷ codes "a.pgn" ∷ []) ≡ []
+unfolding line_on_words
+export_file-refused = refl
+
+export_reduced-asks : request_in (codes "pgn_tool" ∷ codes "export" ∷ codes "--reduced" ∷ codes "a.pgn" ∷ []) ≡ Some (export true (Some (codes "a.pgn")))
+unfolding line_on_words
+export_reduced-asks = refl
+
+export_reduced-refused : refusals (codes "pgn_tool" ∷ codes "export" ∷ codes "--reduced" ∷ codes "a.pgn" ∷ []) ≡ []
+unfolding line_on_words
+export_reduced-refused = refl
+
+export_reduced_last-asks : request_in (codes "pgn_tool" ∷ codes "export" ∷ codes "a.pgn" ∷ codes "--reduced" ∷ []) ≡ Some (export true (Some (codes "a.pgn")))
+unfolding line_on_words
+export_reduced_last-asks = refl
+
+export_reduced_last-refused : refusals (codes "pgn_tool" ∷ codes "export" ∷ codes "a.pgn" ∷ codes "--reduced" ∷ []) ≡ []
+unfolding line_on_words
+export_reduced_last-refused = refl
+
+export_named_as_flag-asks : request_in (codes "pgn_tool" ∷ codes "export" ∷ codes "--" ∷ codes "--reduced" ∷ []) ≡ Some (export false (Some (codes "--reduced")))
+unfolding line_on_words
+export_named_as_flag-asks = refl
+
+export_named_as_flag-refused : refusals (codes "pgn_tool" ∷ codes "export" ∷ codes "--" ∷ codes "--reduced" ∷ []) ≡ []
+unfolding line_on_words
+export_named_as_flag-refused = refl
+
+check-asks : request_in (codes "pgn_tool" ∷ codes "check" ∷ []) ≡ Some (check None)
+unfolding line_on_words
+check-asks = refl
+
+check-refused : refusals (codes "pgn_tool" ∷ codes "check" ∷ []) ≡ []
+unfolding line_on_words
+check-refused = refl
+
+check_file-asks : request_in (codes "pgn_tool" ∷ codes "check" ∷ codes "a.pgn" ∷ []) ≡ Some (check (Some (codes "a.pgn")))
+unfolding line_on_words
+check_file-asks = refl
+
+check_file-refused : refusals (codes "pgn_tool" ∷ codes "check" ∷ codes "a.pgn" ∷ []) ≡ []
+unfolding line_on_words
+check_file-refused = refl
+
+alone-asks : request_in (codes "pgn_tool" ∷ []) ≡ None
+unfolding line_on_words
+alone-asks = refl
+
+alone-refused : refusals (codes "pgn_tool" ∷ []) ≡ MissingSubcommand ∷ []
+unfolding line_on_words
+alone-refused = refl
+
+two_files-refused : refusals (codes "pgn_tool" ∷ codes "export" ∷ codes "a" ∷ codes "b" ∷ []) ≡ UnknownArgument ∷ []
+unfolding line_on_words
+two_files-refused = refl
+
+reduced_twice-refused : refusals (codes "pgn_tool" ∷ codes "export" ∷ codes "--reduced" ∷ codes "--reduced" ∷ []) ≡ ArgumentConflict ∷ []
+unfolding line_on_words
+reduced_twice-refused = refl
+
+reduced_check-refused : refusals (codes "pgn_tool" ∷ codes "check" ∷ codes "--reduced" ∷ []) ≡ UnknownArgument ∷ []
+unfolding line_on_words
+reduced_check-refused = refl
+
+help-refused : refusals (codes "pgn_tool" ∷ codes "--help" ∷ []) ≡ DisplayHelp ∷ []
+unfolding line_on_words
+help-refused = refl
+
+export_help-refused : refusals (codes "pgn_tool" ∷ codes "export" ∷ codes "--help" ∷ []) ≡ DisplayHelp ∷ []
+unfolding line_on_words
+export_help-refused = refl
+
+version-refused : refusals (codes "pgn_tool" ∷ codes "--version" ∷ []) ≡ DisplayVersion ∷ []
+unfolding line_on_words
+version-refused = refl
+
+other-refused : refusals (codes "pgn_tool" ∷ codes "convert" ∷ []) ≡ UnknownArgument ∷ InvalidSubcommand ∷ []
+unfolding line_on_words
+other-refused = refl

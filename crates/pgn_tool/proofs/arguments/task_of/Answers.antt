@@ -1,0 +1,26 @@
+use Rattle.std.proofs.Common.{◌∙◌, ap, ap₂, sym, subst, Some, IsSome}
+use Rattle.clap.specs.Words.{found_of, rows_of}
+use Rattle.pgn_tool.specs.Requests.{check, export, request_named}
+use Rattle.pgn_tool.proofs.Subcommands.{no_other, none_met, request_met}
+use Rattle.pgn_tool.proofs.arguments.task_of.Goals as goal
+
+pub unreachable-requires : goal.unreachable-requires
+unreachable-requires c = none_met c.args.matches.now c.in_default.ensures.name c.requires
+
+pub unreachable-requires-in_default-name : goal.unreachable-requires-in_default-name
+unreachable-requires-in_default-name c =
+    let rows = rows_of (found_of c.in-Some.inner.now) in
+    let met = request_met c.args.matches.now c.in-Some.name.now rows c.in-Some.ensures.name c.in-Some.ensures.rows in
+    no_other c.in-Some.name.now rows c.in_default-name.not-export c.in_default-name.not-check (subst (λ o. IsSome o) met c.requires)
+
+pub returns-in-export : goal.returns-in-export
+returns-in-export c =
+    let rows = rows_of (found_of c.in-Some.inner.now) in
+    request_met c.args.matches.now c.in-Some.name.now rows c.in-Some.ensures.name c.in-Some.ensures.rows
+    ∙ ap (λ n. request_named n rows) c.in-export.is ∙ ap₂ (λ r f. Some (export r f)) (sym c.is_given.ensures) (sym c.in_ok-file.ensures)
+
+pub returns-in-check : goal.returns-in-check
+returns-in-check c =
+    let rows = rows_of (found_of c.in-Some.inner.now) in
+    request_met c.args.matches.now c.in-Some.name.now rows c.in-Some.ensures.name c.in-Some.ensures.rows
+    ∙ ap (λ n. request_named n rows) c.in-check.is ∙ ap (λ f. Some (check f)) (sym c.in_ok-file.ensures)

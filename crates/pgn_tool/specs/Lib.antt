@@ -1,0 +1,3 @@
+-- Definitions that the contracts of pgn_tool cite.
+pub mod CommandLine
+pub mod Requests

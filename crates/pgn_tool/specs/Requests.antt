@@ -1,0 +1,68 @@
+-- What the words on a command line ask for, and how an answer tells it.
+use Rattle.std.specs.Prelude.{◌≡◌, ◌≢◌, Bool, true, false, not, List, [], Option, Some, None, Result, Ok, Err}
+use Rattle.std.specs.Prelude.{codes, if◌then◌else◌, option_map, option_and_then, string_bytes}
+use Rattle.std.specs.List.{list_any}
+use Rattle.std.specs.Option.{option_map_or}
+use Rattle.std.specs.Str.{bytes_eq}
+use Rattle.clap.specs.Words.{Kinds, Row, Text, fault_of, first_of, one_of, subcommand_of}
+use Rattle.clap.specs.declared.error.kind.ErrorKind.{ErrorKind}
+use Rattle.clap.specs.declared.error.kind.ErrorKind.TheVariants.{DisplayHelp, DisplayVersion, OutOfMemory}
+use Rattle.pgn_tool.specs.CommandLine.{command_line}
+use Rattle.pgn_tool.specs.declared.arguments.Task.{Task}
+use Rattle.pgn_tool.specs.declared.arguments.Task.TheVariants.{Export, Check}
+use Rattle.pgn_tool.specs.declared.arguments.ParseFault.{ParseFault}
+use Rattle.pgn_tool.specs.declared.arguments.ParseFault.TheVariants.{Help, Bad, NoMemory}
+
+-- a task, with its file's name as bytes
+pub data Request : Type 0 where
+  export : Bool → Option Text → Request
+  check : Option Text → Request
+
+abbrev pub request_of : Task → Request
+request_of (Export reduced file) = export reduced (option_map string_bytes file)
+request_of (Check file) = check (option_map string_bytes file)
+
+-- the flag of this id was given
+abbrev pub is_given : Text → List Row → Bool
+is_given id rows = option_map_or (λ text. bytes_eq text (codes "true")) (one_of id rows) false
+
+-- the request that a subcommand of this name makes by its flags and values
+abbrev pub request_named : Text → List Row → Option Request
+request_named name rows =
+    if bytes_eq name (codes "export")
+    then Some (export (is_given (codes "reduced") rows) (first_of (codes "file") rows))
+    else (if bytes_eq name (codes "check") then Some (check (first_of (codes "file") rows))
+    else None)
+
+-- the request of a subcommand that was met, if any
+unfoldable pub request_from : Option (Text × List Row) → Option Request
+request_from = option_and_then (λ (p : Text × List Row). request_named p.0 p.1)
+
+-- the request of the subcommand that `clap` finds in the words, the first of which is the
+-- program's name
+unfoldable pub request_in : List Text → Option Request
+request_in words = request_from (subcommand_of command_line words)
+
+-- what the words are refused for, as `clap` defines it: nothing, where they are a task
+unfoldable pub refusals : List Text → Kinds
+refusals words = fault_of command_line words
+
+-- help or the version was asked for
+abbrev pub is_shown : ErrorKind → Bool
+is_shown DisplayHelp = true
+is_shown DisplayVersion = true
+is_shown _ = false
+
+-- the answer is a task only where nothing is refused, help only where help or the version is asked
+-- for, and a refusal only where the words have a mistake
+abbrev pub AnswersBy : Kinds → Result Task ParseFault → Type 0
+AnswersBy kinds (Ok task) = kinds ≡ []
+AnswersBy kinds (Err (Help text)) = list_any is_shown kinds ≡ true
+AnswersBy kinds (Err (Bad text)) = list_any (λ k. not (is_shown k)) kinds ≡ true
+AnswersBy kinds (Err NoMemory) = Unit {0}
+
+-- the answer to an error of this kind
+abbrev pub AnswersError : ErrorKind → ParseFault → Type 0
+AnswersError kind (Help text) = is_shown kind ≡ true
+AnswersError kind (Bad text) = (is_shown kind ≡ false) × (kind ≢ OutOfMemory)
+AnswersError kind NoMemory = Unit {0}

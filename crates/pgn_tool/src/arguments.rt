@@ -1,0 +1,162 @@
+//! The command line: which task the words of a call ask for.
+ghost use Rattle.std.specs.Prelude.{◌≡◌, IfOk, IsSome, false, codes, map, option_map, string_bytes};
+ghost use Rattle.clap.specs.Words.{app_of, first_of, found_of, kind_of, rows_of, rule_of, subcommand_rows_of};
+ghost use Rattle.pgn_tool.specs.CommandLine.{check_command, command_line, export_command, file_rule};
+ghost use Rattle.pgn_tool.specs.Requests.{AnswersBy, AnswersError, is_given, refusals, request_from, request_in, request_of};
+ghost use Rattle.pgn_tool.specs.declared.arguments.ParseFault.TheVariants.{NoMemory};
+
+use clap::error::ErrorKind;
+use clap::{Arg, ArgAction, ArgMatches, Command, Error};
+use std::alloc::{AllocError, Global};
+use std::convert::AsStr;
+
+const VERSION: &str = "0.1.0";
+
+/// What a call of the program asks for.
+#[derive(Debug, PartialEq, Eq, Drop)]
+pub enum Task {
+    /// Write the games in export format.
+    Export {
+        /// Write the roster and the moves outside variations alone (PGN 3.2.4).
+        reduced: bool,
+        /// The file to read; with none, standard input.
+        file: Option<String>,
+    },
+    /// Count the games and their moves.
+    Check {
+        /// The file to read; with none, standard input.
+        file: Option<String>,
+    },
+}
+
+/// Why the words of a call are no task.
+#[derive(Debug, PartialEq, Eq, Drop)]
+pub enum ParseFault {
+    /// They ask for help or the version: the text to show.
+    Help(String),
+    /// They have a mistake: the text that tells it.
+    Bad(String),
+    /// Memory was refused before the words were read.
+    NoMemory,
+}
+
+impl From<AllocError> for ParseFault {
+    ghost from_gives = { λ _ fault. fault ≡ NoMemory };
+
+    fn from(_error: AllocError) -> ParseFault {
+        ParseFault::NoMemory
+    }
+}
+
+/// Reads the words of a call, of which the first is the program's name.
+///
+/// `Help` answers `--help` and `--version`, `Bad` words that are no task. `NoMemory` is answered
+/// only where an allocation failed.
+pub fn parse<S: AsStr>(alloc: Global, words: &[S]) -> Result<Task, ParseFault>
+    ensures task { IfOk result (λ task. request_in (map S.text words.now)
+        ≡ Some (request_of task)) }
+    ensures refusal { AnswersBy (refusals (map S.text words.now)) result }
+{
+    let command = command_line(alloc)?;
+    match command.try_get_matches_from(words) {
+        Ok(matches) => Ok(task_of(alloc, &matches)?),
+        Err(error) => Err(fault_of(alloc, &error)),
+    }
+}
+
+// The program's command line, as `specs/CommandLine.antt` has it.
+fn command_line<'a>(alloc: Global) -> Result<Command<'a>, AllocError>
+    ensures { IfOk result (λ c. app_of c ≡ command_line) }
+{
+    Command::new(alloc, "pgn_tool")
+        .version(VERSION)
+        .about("Converts chess games in Portable Game Notation to export format")
+        .disable_help_subcommand(true)
+        .subcommand_required(true)
+        .subcommand(export_command(alloc)?)?
+        .subcommand(check_command(alloc)?)
+}
+
+fn export_command<'a>(alloc: Global) -> Result<Command<'a>, AllocError>
+    ensures { IfOk result (λ c. app_of c ≡ export_command) }
+{
+    let reduced = Arg::new(alloc, "reduced")
+        .long("reduced")
+        .action(ArgAction::SetTrue)
+        .help("Write the roster of seven tags and the moves outside variations alone");
+    Command::new(alloc, "export")
+        .about("Write the games in export format to standard output")
+        .arg(reduced)?
+        .arg(file_argument(alloc))
+}
+
+fn check_command<'a>(alloc: Global) -> Result<Command<'a>, AllocError>
+    ensures { IfOk result (λ c. app_of c ≡ check_command) }
+{
+    Command::new(alloc, "check")
+        .about("Check the games and count them and their moves")
+        .arg(file_argument(alloc))
+}
+
+// The file to read, which each subcommand takes.
+fn file_argument<'a>(alloc: Global) -> Arg<'a>
+    ensures rule { rule_of result ≡ file_rule }
+    ensures local { result.global ≡ false }
+{
+    Arg::new(alloc, "file")
+        .value_name("FILE")
+        .help("The file to read [default: standard input]")
+}
+
+// The task of the subcommand that was met.
+fn task_of(alloc: Global, matches: &ArgMatches<'_>) -> Result<Task, AllocError>
+    requires { IsSome (request_from (subcommand_rows_of matches.now)) }
+    ensures { IfOk result (λ task. request_from (subcommand_rows_of matches.now)
+        ≡ Some (request_of task)) }
+{
+    let Some((name, inner)) = matches.subcommand() else {
+        unreachable!()
+    };
+    let file = file_of(alloc, inner)?;
+    match name {
+        "export" => Ok(Task::Export {
+            reduced: is_given(inner, "reduced"),
+            file,
+        }),
+        "check" => Ok(Task::Check { file }),
+        _ => unreachable!(),
+    }
+}
+
+fn is_given(matches: &ArgMatches<'_>, id: &str) -> bool
+    ensures { result ≡ is_given id.now (rows_of (found_of matches.now)) }
+{
+    matches.get_one::<bool>(id).unwrap_or(false)
+}
+
+fn file_of(alloc: Global, matches: &ArgMatches<'_>) -> Result<Option<String>, AllocError>
+    ensures { IfOk result (λ file. option_map string_bytes file
+        ≡ first_of (codes "file") (rows_of (found_of matches.now))) }
+{
+    match matches.get_str("file") {
+        Some(name) => Ok(Some(String::from_str(alloc, name)?)),
+        None => Ok(None),
+    }
+}
+
+// What `clap` answers in place of matches.
+fn fault_of(alloc: Global, error: &Error) -> ParseFault
+    ensures { AnswersError (kind_of error.now) result }
+{
+    if error.kind() == ErrorKind::OutOfMemory {
+        return ParseFault::NoMemory;
+    }
+    let Ok(text) = error.to_string(alloc) else {
+        return ParseFault::NoMemory;
+    };
+    if error.use_stderr() {
+        ParseFault::Bad(text)
+    } else {
+        ParseFault::Help(text)
+    }
+}
