@@ -142,4 +142,4 @@ step_seen p q m k h l =
     ]
 
 pub candidates_complete : CandidatesComplete
-candidates_complete p q m k position h own = both_true _ _ own (step_seen p q m k own (legal_means p m q h))
+candidates_complete p q m k h own = both_true _ _ own (step_seen p q m k own (legal_means p m q h))

@@ -15,3 +15,10 @@ pub mod Apart
 pub mod Complete
 mod Drawn
 mod Rows
+pub mod Lists
+pub mod Found
+pub mod Counting
+pub mod Promotions
+pub mod Totals
+pub mod Trying
+pub mod Places

@@ -14,7 +14,7 @@ use Rattle.chess_rules.specs.declared.piece.Colour.TheVariants.{White, Black}
 use Rattle.chess_rules.specs.declared.piece.Kind.{Kind}
 use Rattle.chess_rules.specs.declared.piece.Kind.TheVariants.{King, Queen, Rook, Bishop, Knight, Pawn}
 use Rattle.chess_rules.specs.declared.piece.Piece.{Piece}
-use Rattle.chess_rules.specs.Square.{Square, square, gap, same_square, in_line, on_diagonal}
+use Rattle.chess_rules.specs.Square.{Square, square, gap, same_square, in_line, is_jump, on_diagonal}
 use Rattle.chess_rules.specs.Board.{Board, at, is_empty, has_colour, has_piece, same_colour, same_kind, kind_number}
 use Rattle.chess_rules.specs.Attacks.{is_clear, is_ahead, kind_attacks, cell_attacks, attacks, is_attacked}
 use Rattle.chess_rules.specs.Walk.{along, is_aligned, gone, has_room, further, fits, stepped, first_on, shift_between, direction_between, reaches, reaches_with, attacked_from, attacked_along, knight_on, attacked_by_jump}
@@ -177,24 +177,28 @@ shift_moves a b h = by_tests (nat_lt a b) refl (nat_lt b a) refl
         level : nat_lt a b ≡ false → nat_lt b a ≡ false → 0 < gap a b → ⊥
         level g i started = grind (arith, nat_tests)
 
-jump_found : (b : Board) (c : Colour) (s t : Square) → s.file < 8 → s.rank < 8 → has_piece c Knight (at b s) ≡ true → reaches Knight c s t ≡ true → list_any (attacked_by_jump b c t) JUMPS ≡ true
-jump_found b c s t file rank stands h =
+-- a test that passes a jump which leads from t to s
+pub jump_there : (test : Jump → Bool) (s t : Square) → s.file < 8 → s.rank < 8 → is_jump s t ≡ true → ((j : Jump) → stepped j.way t j.files j.ranks ≡ Some s → test j ≡ true) → list_any test JUMPS ≡ true
+jump_there test s t file rank h passes =
     elim (split_or ((gap s.file t.file == 1) && (gap s.rank t.rank == 2)) ((gap s.file t.file == 2) && (gap s.rank t.rank == 1)) h) [
       | inl steep ↦ by_steep (gap_back t.file s.file ∙ equal_from _ _ (first_true (gap s.file t.file == 1) _ steep)) (gap_back t.rank s.rank ∙ equal_from _ _ (second_true (gap s.file t.file == 1) _ steep))
       | inr flat ↦ by_flat (gap_back t.file s.file ∙ equal_from _ _ (first_true (gap s.file t.file == 2) _ flat)) (gap_back t.rank s.rank ∙ equal_from _ _ (second_true (gap s.file t.file == 2) _ flat))
     ]
   where
-    by_steep : gap t.file s.file ≡ 1 → gap t.rank s.rank ≡ 2 → list_any (attacked_by_jump b c t) JUMPS ≡ true
+    by_steep : gap t.file s.file ≡ 1 → gap t.rank s.rank ≡ 2 → list_any test JUMPS ≡ true
     by_steep files ranks =
-        in_jumps_steep (attacked_by_jump b c t) (shift_between t.file s.file) (shift_between t.rank s.rank)
+        in_jumps_steep test (shift_between t.file s.file) (shift_between t.rank s.rank)
         (shift_moves t.file s.file (omega arith)) (shift_moves t.rank s.rank (omega arith))
-        (ap (knight_on b c) (stepped_to t s 1 2 file rank files ranks) ∙ stands)
+        (passes (record { way = direction_between t s; files = 1; ranks = 2 }) (stepped_to t s 1 2 file rank files ranks))
 
-    by_flat : gap t.file s.file ≡ 2 → gap t.rank s.rank ≡ 1 → list_any (attacked_by_jump b c t) JUMPS ≡ true
+    by_flat : gap t.file s.file ≡ 2 → gap t.rank s.rank ≡ 1 → list_any test JUMPS ≡ true
     by_flat files ranks =
-        in_jumps_flat (attacked_by_jump b c t) (shift_between t.file s.file) (shift_between t.rank s.rank)
+        in_jumps_flat test (shift_between t.file s.file) (shift_between t.rank s.rank)
         (shift_moves t.file s.file (omega arith)) (shift_moves t.rank s.rank (omega arith))
-        (ap (knight_on b c) (stepped_to t s 2 1 file rank files ranks) ∙ stands)
+        (passes (record { way = direction_between t s; files = 2; ranks = 1 }) (stepped_to t s 2 1 file rank files ranks))
+
+jump_found : (b : Board) (c : Colour) (s t : Square) → s.file < 8 → s.rank < 8 → has_piece c Knight (at b s) ≡ true → reaches Knight c s t ≡ true → list_any (attacked_by_jump b c t) JUMPS ≡ true
+jump_found b c s t file rank stands h = jump_there (attacked_by_jump b c t) s t file rank h (λ j there. ap (knight_on b c) there ∙ stands)
 
 -- as all eight are
 abbrev pub is_leap : Jump → Bool
@@ -202,12 +206,12 @@ is_leap j =
     (not (stays j.way.files) && not (stays j.way.ranks))
     && (((j.files == 1) && (j.ranks == 2)) || ((j.files == 2) && (j.ranks == 1)))
 
-gap_moved : (w : Shift) (a k : ℕ) → not (stays w) ≡ true → has_room w a k ≡ true → gap (gone w a k) a ≡ k
+pub gap_moved : (w : Shift) (a k : ℕ) → not (stays w) ≡ true → has_room w a k ≡ true → gap (gone w a k) a ≡ k
 gap_moved Stay a k moves room = cc
 gap_moved Down a k moves room = grind (arith, nat_tests)
 gap_moved Up a k moves room = omega arith
 
-leap_reaches : (c : Colour) (j : Jump) (t : Square) → is_leap j ≡ true → fits j.way t j.files j.ranks ≡ true → reaches Knight c (further j.way t j.files j.ranks) t ≡ true
+pub leap_reaches : (c : Colour) (j : Jump) (t : Square) → is_leap j ≡ true → fits j.way t j.files j.ranks ≡ true → reaches Knight c (further j.way t j.files j.ranks) t ≡ true
 leap_reaches c j t h room =
     let moves : (not (stays j.way.files) && not (stays j.way.ranks)) ≡ true = first_true _ _ h in
     let sizes : (((j.files == 1) && (j.ranks == 2)) || ((j.files == 2) && (j.ranks == 1))) ≡ true = second_true (not (stays j.way.files) && not (stays j.way.ranks)) _ h in
@@ -270,16 +274,20 @@ moving s t h =
             level : nat_lt w.file v.file ≡ false → nat_lt v.file w.file ≡ false → nat_lt w.rank v.rank ≡ false → nat_lt v.rank w.rank ≡ false → ⊥
             level a b d e = grind (arith, nat_tests)
 
-sight_found : (b : Board) (c : Colour) (s t : Square) → s.file < 8 → s.rank < 8 → t.file < 8 → t.rank < 8 → (is_aligned s t && is_clear b s t) ≡ true → is_empty b s ≡ false → reaches_with c (at b s) s t ≡ true → list_any (attacked_along b c t) DIRECTIONS ≡ true
-sight_found b c s t sf sr tf tr sees occupied h =
-    in_directions (attacked_along b c t) (shift_between t.file s.file) (shift_between t.rank s.rank) (moving s t aligned)
-    (ap (attacked_from b c t) (first_from_seen b (direction_between t s) t 7 s (seen_from_clear b s t sf sr tf tr aligned occupied clear)) ∙ h)
+-- a test that passes a way on which s is the first piece from t
+pub way_there : (test : Direction → Bool) (b : Board) (s t : Square) → s.file < 8 → s.rank < 8 → t.file < 8 → t.rank < 8 → (is_aligned s t && is_clear b s t) ≡ true → is_empty b s ≡ false → ((d : Direction) → first_on b d t ≡ Some s → test d ≡ true) → list_any test DIRECTIONS ≡ true
+way_there test b s t sf sr tf tr sees occupied passes =
+    in_directions test (shift_between t.file s.file) (shift_between t.rank s.rank) (moving s t aligned)
+    (passes (direction_between t s) (first_from_seen b (direction_between t s) t 7 s (seen_from_clear b s t sf sr tf tr aligned occupied clear)))
   where
     aligned : is_aligned s t ≡ true
     aligned = first_true _ _ sees
 
     clear : is_clear b s t ≡ true
     clear = second_true (is_aligned s t) _ sees
+
+sight_found : (b : Board) (c : Colour) (s t : Square) → s.file < 8 → s.rank < 8 → t.file < 8 → t.rank < 8 → (is_aligned s t && is_clear b s t) ≡ true → is_empty b s ≡ false → reaches_with c (at b s) s t ≡ true → list_any (attacked_along b c t) DIRECTIONS ≡ true
+sight_found b c s t sf sr tf tr sees occupied h = way_there (attacked_along b c t) b s t sf sr tf tr sees occupied (λ d there. ap (attacked_from b c t) there ∙ h)
 
 found_from_attacked : (b : Board) (c : Colour) (t : Square) → t.file < 8 → t.rank < 8 → is_attacked b c t ≡ true → found_attacker b c t ≡ true
 found_from_attacked b c t file rank h = by_attacker (some_square (λ s. has_colour c (at b s) && attacks b s t) h)

@@ -1,8 +1,8 @@
 -- The squares from which a piece may reach a square, seen from that square. No standard has this: it is our own way to
 -- find moves, and a law says that it misses none.
-use Rattle.std.specs.Prelude.{Bool, ◌&&◌, ◌||◌, List, filter}
+use Rattle.std.specs.Prelude.{ℕ, Bool, ◌&&◌, ◌||◌, List, [], ◌∷◌, filter, length, sum_by}
 use Rattle.chess_rules.specs.declared.piece.Kind.{Kind}
-use Rattle.chess_rules.specs.declared.piece.Kind.TheVariants.{Knight}
+use Rattle.chess_rules.specs.declared.piece.Kind.TheVariants.{King, Queen, Rook, Bishop, Knight, Pawn}
 use Rattle.chess_rules.specs.declared.position.Parts.{Parts}
 use Rattle.chess_rules.specs.Square.{Square, squares, is_jump, in_line, on_diagonal}
 use Rattle.chess_rules.specs.Attacks.{is_clear}
@@ -20,3 +20,10 @@ is_candidate p k t s = own p k s && sees k p s t
 -- all of them
 abbrev pub candidates : Parts → Kind → Square → List Square
 candidates p k t = filter (is_candidate p k t) squares
+
+abbrev pub kinds : List Kind
+kinds = King ∷ Queen ∷ Rook ∷ Bishop ∷ Knight ∷ Pawn ∷ []
+
+-- how many candidates there are for all kinds and all targets together
+unfoldable pub pair_count : Parts → ℕ
+pair_count p = sum_by (λ t. sum_by (λ k. length (candidates p k t)) kinds) squares

@@ -1,12 +1,16 @@
 -- What the definitions of play promise.
 use Rattle.std.specs.Prelude.{◌≡◌, ◌≤◌, Some, length, count_by, IsTrue}
+use Rattle.chess_rules.specs.declared.piece.Colour.{Colour}
 use Rattle.chess_rules.specs.declared.piece.Kind.{Kind}
+use Rattle.chess_rules.specs.declared.piece.Kind.TheVariants.{King}
+use Rattle.chess_rules.specs.declared.piece.Promotion.{Promotion}
 use Rattle.chess_rules.specs.declared.position.Move.{Move}
 use Rattle.chess_rules.specs.declared.position.Parts.{Parts}
 use Rattle.chess_rules.specs.Square.{Square, on_board}
+use Rattle.chess_rules.specs.Board.{at, has_piece}
 use Rattle.chess_rules.specs.Position.{is_position}
 use Rattle.chess_rules.specs.Step.{own, cases}
-use Rattle.chess_rules.specs.Legal.{legal}
+use Rattle.chess_rules.specs.Legal.{legal, is_legal}
 use Rattle.chess_rules.specs.Candidate.{is_candidate, candidates}
 
 -- no move is a step in two ways
@@ -26,8 +30,20 @@ LeavesPosition = (p q : Parts) (m : Move) → IsTrue (is_position p) → legal p
 abbrev pub CandidatesComplete : Type 0
 CandidatesComplete =
     (p q : Parts) (m : Move) (k : Kind)
-    → IsTrue (is_position p) → legal p m ≡ Some q → IsTrue (own p k m.from) → IsTrue (is_candidate p k m.to m.from)
+    → legal p m ≡ Some q → IsTrue (own p k m.from) → IsTrue (is_candidate p k m.to m.from)
 
 -- no square has more than 8 candidates of one kind
 abbrev pub FewCandidates : Type 0
 FewCandidates = (p : Parts) (k : Kind) (t : Square) → IsTrue (on_board t) → length (candidates p k t) ≤ 8
+
+-- in a position a pair is legal with each promotion or with none
+abbrev pub PromotionsAlike : Type 0
+PromotionsAlike =
+    (p : Parts) (s t : Square) (x y : Promotion)
+    → IsTrue (is_position p) → is_legal p (record { from = s; to = t; promotion = Some x }) ≡ is_legal p (record { from = s; to = t; promotion = Some y })
+
+-- in a position a king of one colour stands on one square alone
+abbrev pub OneKing : Type 0
+OneKing =
+    (p : Parts) (c : Colour) (s t : Square)
+    → IsTrue (is_position p) → IsTrue (on_board s) → IsTrue (on_board t) → IsTrue (has_piece c King (at p.board s)) → IsTrue (has_piece c King (at p.board t)) → s ≡ t

@@ -11,3 +11,4 @@ pub mod Candidate
 pub mod Laws
 pub mod Walk
 pub mod Kept
+pub mod Pairs

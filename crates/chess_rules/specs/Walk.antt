@@ -1,5 +1,6 @@
 -- Walking over the board from square to square: what the code does, and no definition of the rules.
-use Rattle.std.specs.Prelude.{ℕ, zero, suc, ◌+◌, ◌-◌, ◌/◌, ◌%◌, max, Bool, true, false, ◌&&◌, ◌||◌, Option, None, Some, position, unwrap_or, ◌==◌, nat_lt, nat_le, if◌then◌else◌}
+use Rattle.std.specs.Prelude.{ℕ, zero, suc, ◌+◌, ◌-◌, ◌*◌, ◌/◌, ◌%◌, max, Bool, true, false, ◌&&◌, ◌||◌, Option, None, Some, position, unwrap_or, slice_index_or, ◌==◌, nat_lt, nat_le, if◌then◌else◌}
+use Rattle.chess_rules.specs.declared.direction.TheConstants.{JUMPS}
 use Rattle.chess_rules.specs.declared.direction.Shift.{Shift}
 use Rattle.chess_rules.specs.declared.direction.Shift.TheVariants.{Down, Stay, Up}
 use Rattle.chess_rules.specs.declared.direction.Direction.{Direction}
@@ -10,8 +11,16 @@ use Rattle.chess_rules.specs.declared.piece.Kind.TheVariants.{King, Queen, Rook,
 use Rattle.chess_rules.specs.declared.piece.Piece.{Piece}
 use Rattle.chess_rules.specs.declared.position.Move.{Move}
 use Rattle.chess_rules.specs.Square.{Square, square, same_square, gap, is_adjacent, is_jump, in_line, on_diagonal}
-use Rattle.chess_rules.specs.Board.{Board, at, is_empty, same_colour, has_piece}
+use Rattle.chess_rules.specs.Board.{Board, at, cell_of, is_empty, same_colour, has_piece}
 use Rattle.chess_rules.specs.Attacks.{is_ahead}
+
+-- the square with that place among all, rank by rank from a1
+abbrev pub square_at : ℕ → Square
+square_at i = square (i % 8) (i / 8)
+
+-- the square with that place, if there is one
+abbrev pub square_there : ℕ → Option Square
+square_there i = if nat_lt i 64 then Some (square_at i) else None
 
 -- k steps from a towards b, or a itself where they are one
 abbrev pub toward : ℕ → ℕ → ℕ → ℕ
@@ -62,6 +71,44 @@ fits d s i j = has_room d.files s.file i && has_room d.ranks s.rank j
 abbrev pub stepped : Direction → Square → ℕ → ℕ → Option Square
 stepped d s i j = if fits d s i j then Some (further d s i j) else None
 
+-- The table of next squares: for each way, for each square.
+
+abbrev pub shift_number : Shift → ℕ
+shift_number Down = 0
+shift_number Stay = 1
+shift_number Up = 2
+
+abbrev pub direction_number : Direction → ℕ
+direction_number d = 3 * shift_number d.files + shift_number d.ranks
+
+abbrev pub shift_numbered : ℕ → Shift
+shift_numbered zero = Down
+shift_numbered (suc zero) = Stay
+shift_numbered (suc (suc n)) = Up
+
+abbrev pub direction_numbered : ℕ → Direction
+direction_numbered n = record { files = shift_numbered (n / 3); ranks = shift_numbered (n % 3) }
+
+-- the place of a square, or 64
+abbrev pub place_or_none : Option Square → ℕ
+place_or_none None = 64
+place_or_none (Some s) = cell_of s
+
+abbrev pub next_place : ℕ → ℕ
+next_place n = place_or_none (stepped (direction_numbered (n / 64)) (square_at (n % 64)) 1 1)
+
+-- The table of jumps: for each square, for each jump.
+
+-- the jump of that number
+abbrev pub jump_numbered : ℕ → Jump
+jump_numbered n = slice_index_or JUMPS n (record { way = record { files = Up; ranks = Up }; files = 1; ranks = 2 })
+
+abbrev pub landing : Square → ℕ → Option Square
+landing s n = stepped (jump_numbered n).way s (jump_numbered n).files (jump_numbered n).ranks
+
+abbrev pub landing_place : ℕ → ℕ
+landing_place n = place_or_none (landing (square_at (n / 8)) (n % 8))
+
 -- stop where there is no square, or at an occupied one
 abbrev pub go_on : Board → Option Square → (Square → Option Square) → Option Square
 go_on b None more = None
@@ -107,9 +154,6 @@ abbrev pub attacked_by_jump : Board → Colour → Square → Jump → Bool
 attacked_by_jump b c t j = knight_on b c (stepped j.way t j.files j.ranks)
 
 -- The king's square, as kept.
-
-abbrev pub square_at : ℕ → Square
-square_at i = square (i % 8) (i / 8)
 
 abbrev pub king_square : Colour → Board → Square
 king_square c b = square_at (unwrap_or (position (has_piece c King) b) 0)

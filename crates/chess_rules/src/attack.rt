@@ -1,7 +1,7 @@
 //! Which squares are attacked, seen from them outward.
 
 ghost use Rattle.std.specs.Prelude.{◌≡◌, ◌<◌, IsTrue, is_some};
-ghost use Rattle.std.specs.List.{list_any};
+ghost use Rattle.std.specs.List.{list_any, range_with_len};
 ghost use Rattle.chess_rules.specs.Square as square;
 ghost use Rattle.chess_rules.specs.Board.{at};
 ghost use Rattle.chess_rules.specs.Position.{one_king};
@@ -9,7 +9,7 @@ ghost use Rattle.chess_rules.specs.Attacks as spec;
 ghost use Rattle.chess_rules.specs.Walk as walk;
 
 use crate::board::Board;
-use crate::direction::{DIRECTIONS, Direction, JUMPS, Jump};
+use crate::direction::{DIRECTIONS, Direction, landing};
 use crate::piece::{Colour, Kind};
 use crate::square::Square;
 
@@ -46,6 +46,15 @@ fn on_diagonal(from: Square, to: Square) -> bool
     files == difference(from.rank(), to.rank()) && files != 0
 }
 
+// Whether the two are side by side, on a rank, a file or a diagonal.
+pub(crate) fn is_adjacent(from: Square, to: Square) -> bool
+    ensures { result ≡ square.is_adjacent from to }
+{
+    let files = difference(from.file(), to.file());
+    let ranks = difference(from.rank(), to.rank());
+    files <= 1 && ranks <= 1 && (files != 0 || ranks != 0)
+}
+
 // Whether a pawn of the colour goes from the first rank to the second one.
 pub(crate) fn is_ahead(colour: Colour, rank: u8, ahead: u8) -> bool
     requires low { rank < 8 }
@@ -65,7 +74,7 @@ fn reaches(kind: Kind, colour: Colour, from: Square, to: Square) -> bool
     let files = difference(from.file(), to.file());
     let ranks = difference(from.rank(), to.rank());
     match kind {
-        Kind::King => files <= 1 && ranks <= 1 && (files != 0 || ranks != 0),
+        Kind::King => is_adjacent(from, to),
         Kind::Queen => in_line(from, to) || on_diagonal(from, to),
         Kind::Rook => in_line(from, to),
         Kind::Bishop => on_diagonal(from, to),
@@ -119,10 +128,11 @@ fn is_attacked_along(board: &Board, by: Colour, target: Square, direction: Direc
 }
 
 // Whether a knight of the colour is that jump away.
-fn is_attacked_by_jump(board: &Board, by: Colour, target: Square, jump: Jump) -> bool
-    ensures { result ≡ walk.attacked_by_jump board.now by target jump }
+fn is_attacked_by_jump(board: &Board, by: Colour, target: Square, jump: usize) -> bool
+    requires { jump < 8 }
+    ensures { result ≡ walk.attacked_by_jump board.now by target (walk.jump_numbered jump) }
 {
-    match jump.way.stepped(target, jump.files, jump.ranks) {
+    match landing(target, jump) {
         None => false,
         Some(origin) => board.has_piece(origin, by, Kind::Knight),
     }
@@ -143,11 +153,9 @@ fn is_attacked_on_a_way(board: &Board, by: Colour, target: Square) -> bool
 }
 
 fn is_attacked_by_a_knight(board: &Board, by: Colour, target: Square) -> bool
-    ensures { result ≡ list_any (walk.attacked_by_jump board.now by target) JUMPS }
+    ensures { result ≡ list_any (λ jump. walk.attacked_by_jump board.now by target (walk.jump_numbered jump)) (range_with_len 0 8) }
 {
-    JUMPS
-        .iter()
-        .any(|jump| is_attacked_by_jump(board, by, target, *jump))
+    (0..8).any(|jump| is_attacked_by_jump(board, by, target, jump))
 }
 
 // Whether the colour's one king is attacked.

@@ -4,6 +4,7 @@ ghost use Rattle.std.specs.Prelude.{◌≡◌, ◌<◌, ◌≤◌};
 ghost use Rattle.chess_rules.specs.Walk as walk;
 
 use crate::square::Square;
+use crate::tables::{LANDINGS, NEXT};
 
 // How a file or a rank changes on a way.
 #[derive(Clone, Copy)]
@@ -14,6 +15,17 @@ pub(crate) enum Shift {
 }
 
 impl Shift {
+    fn number(self) -> usize
+        ensures value { result ≡ walk.shift_number self }
+        ensures below { result < 3 }
+    {
+        match self {
+            Shift::Down => 0,
+            Shift::Stay => 1,
+            Shift::Up => 2,
+        }
+    }
+
     // The file or rank that is so many further, if the board has it.
     fn of(self, line: u8, steps: u8) -> Option<u8>
         requires { line < 8 }
@@ -73,7 +85,15 @@ impl Direction {
     pub(crate) fn next(self, from: Square) -> Option<Square>
         ensures { result ≡ walk.stepped self from 1 1 }
     {
-        self.stepped(from, 1, 1)
+        from.lies_on_board();
+        Square::at_place(NEXT[64 * self.number() + from.index()])
+    }
+
+    fn number(self) -> usize
+        ensures value { result ≡ walk.direction_number self }
+        ensures below { result < 9 }
+    {
+        3 * self.files.number() + self.ranks.number()
     }
 }
 
@@ -186,3 +206,12 @@ pub(crate) const JUMPS: [Jump; 8] = [
         ranks: 2,
     },
 ];
+
+// The square to which the jump of that number leads.
+pub(crate) fn landing(from: Square, jump: usize) -> Option<Square>
+    requires { jump < 8 }
+    ensures { result ≡ walk.landing from jump }
+{
+    from.lies_on_board();
+    Square::at_place(LANDINGS[8 * from.index() + jump])
+}

@@ -1,6 +1,6 @@
 //! Laws of the definitions of play: what the rules promise, whatever the position.
 
-ghost use Rattle.chess_rules.specs.Laws.{CandidatesComplete, CasesApart, LeavesPosition, OneAfter};
+ghost use Rattle.chess_rules.specs.Laws.{CandidatesComplete, CasesApart, FewCandidates, LeavesPosition, OneAfter, OneKing, PromotionsAlike};
 
 /// No move is a step in two ways: as a piece's, as a pawn's, en passant, or castling on either wing.
 pub fn cases_are_apart()
@@ -21,4 +21,19 @@ pub fn a_legal_move_leaves_a_position()
 /// for its target.
 pub fn candidates_are_complete()
     ensures { CandidatesComplete }
+{}
+
+/// No square has more than eight candidates of one kind.
+pub fn candidates_are_few()
+    ensures { FewCandidates }
+{}
+
+/// A pair is legal with one promotion exactly if it is legal with each other one.
+pub fn promotions_are_alike()
+    ensures { PromotionsAlike }
+{}
+
+/// A king of one colour stands on one square alone.
+pub fn one_king_a_side()
+    ensures { OneKing }
 {}

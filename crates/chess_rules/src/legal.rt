@@ -1,9 +1,11 @@
 //! Which moves are legal, and check.
 
-ghost use Rattle.std.specs.Prelude.{◌≡◌, ◌+◌, ◌<◌, ◌^◌};
+ghost use Rattle.std.specs.Prelude.{◌≡◌, ◌+◌, ◌<◌, ◌≤◌, ◌^◌, true, false};
+ghost use Rattle.chess_rules.specs.Candidate.{pair_count};
 ghost use Rattle.chess_rules.specs.Legal as spec;
 
 use crate::attack::is_attacked;
+use crate::pairs::{any_king_step, any_other};
 use crate::position::{Move, Position};
 use crate::probes::Probes;
 use crate::step::board_after;
@@ -31,4 +33,20 @@ pub fn in_check(position: &Position) -> bool
 {
     position.keeps_rules();
     is_attacked(position.board(), position.side().other(), position.king())
+}
+
+/// Whether the side to move has a legal move; without one it is mated or stalemated. (FIDE Laws 1.4, 5.1.1, 5.2.1)
+///
+/// It counts the pairs that it tries: at most 1,024, and where no move is legal one for each kind, target and
+/// member of `origins`.
+pub fn has_legal_move(position: &Position, probes: &mut Probes) -> bool
+    requires { probes.old + 1024 < 2 ^ 32 }
+    ensures found { result ≡ spec.has_legal_move position.now }
+    ensures most { probes.new ≤ probes.old + 1024 }
+    ensures rises { probes.old ≤ probes.new }
+    ensures some { result ≡ true → probes.old < probes.new }
+    ensures all { result ≡ false → probes.new ≡ probes.old + pair_count position.now }
+{
+    position.keeps_rules();
+    any_king_step(position, probes) || any_other(position, probes)
 }

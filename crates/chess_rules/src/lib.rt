@@ -5,14 +5,17 @@
 
 mod attack;
 mod board;
+pub mod candidates;
 mod cell;
 mod direction;
 pub mod laws;
 pub mod legal;
+mod pairs;
 pub mod piece;
 pub mod position;
 pub mod probes;
 pub mod square;
 mod step;
+mod tables;
 #[cfg(test)]
 mod tests;

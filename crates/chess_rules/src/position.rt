@@ -1,6 +1,6 @@
 //! Moves and positions.
 
-ghost use Rattle.std.specs.Prelude.{◌≡◌, ◌<◌, IsTrue};
+ghost use Rattle.std.specs.Prelude.{◌≡◌, ◌<◌, ◌≤◌, IsTrue};
 ghost use Rattle.chess_rules.specs.Board.{at};
 ghost use Rattle.chess_rules.specs.Position as spec;
 ghost use Rattle.chess_rules.specs.Step as step;
@@ -242,14 +242,16 @@ impl Position {
 
     /// The halfmove clock: half moves since the last pawn move or capture, up to 99,999.
     pub fn half(&self) -> u32
-        ensures { result ≡ self.now.half }
+        ensures value { result ≡ self.now.half }
+        ensures limit { result ≤ 99999 }
     {
         self.half
     }
 
     /// The fullmove number, up to 99,999.
     pub fn full(&self) -> u32
-        ensures { result ≡ self.now.full }
+        ensures value { result ≡ self.now.full }
+        ensures limit { result ≤ 99999 }
     {
         self.full
     }

@@ -2,7 +2,7 @@
 
 ghost use Rattle.std.specs.Prelude.{◌≡◌, ◌<◌, ◌&&◌, nat_lt, Some, None, if◌then◌else◌};
 ghost use Rattle.chess_rules.specs.Board.{cell_of};
-ghost use Rattle.chess_rules.specs.Walk.{square_at};
+ghost use Rattle.chess_rules.specs.Walk.{square_at, square_there};
 ghost use Rattle.chess_rules.specs.Square as spec;
 
 use std::marker::Model;
@@ -28,6 +28,15 @@ impl Model for Square {
     ghost use Rattle.chess_rules.specs.Index.{index_again};
 
     ghost inverse_ok = { λ a h. index_again a };
+}
+
+impl Default for Square {
+    /// The square a1, the blank of a vector of squares.
+    fn default() -> Square
+        ensures { result ≡ spec.square 0 0 }
+    {
+        Square { index: 0 }
+    }
 }
 
 impl Square {
@@ -73,6 +82,17 @@ impl Square {
         ensures { result ≡ square_at index }
     {
         Square { index: index as u8 }
+    }
+
+    // The square with that place, if there is one.
+    pub(crate) fn at_place(place: u8) -> Option<Square>
+        ensures { result ≡ square_there place }
+    {
+        if place < 64 {
+            Some(Square { index: place })
+        } else {
+            None
+        }
     }
 
     // What every square keeps; it does nothing.

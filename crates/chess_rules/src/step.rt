@@ -19,6 +19,16 @@ fn home_rank(colour: Colour) -> u8
     }
 }
 
+// The rank on which the colour's pawns are promoted.
+pub(crate) fn last_rank(colour: Colour) -> u8
+    ensures { result ≡ spec.last_rank colour }
+{
+    match colour {
+        Colour::White => 7,
+        Colour::Black => 0,
+    }
+}
+
 // Whether a king, queen, rook, bishop or knight may go so. (FIDE Laws 3.1)
 fn is_piece_step(position: &Position, mv: &Move) -> bool
     ensures { result ≡ spec.is_piece_step position.now mv.now }
@@ -94,8 +104,7 @@ fn is_pawn_capture(position: &Position, mv: &Move) -> bool
 fn promotion_fits(position: &Position, mv: &Move) -> bool
     ensures { result ≡ spec.promotion_fits position.now mv.now }
 {
-    let last = home_rank(position.side().other());
-    (mv.to.rank() == last) == mv.promotion.is_some()
+    (mv.to.rank() == last_rank(position.side())) == mv.promotion.is_some()
 }
 
 // Whether a pawn of the side to move may go so, but for the promotion.

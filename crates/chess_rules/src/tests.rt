@@ -1,5 +1,7 @@
 //! Outside values: well-known move counts, and worked positions of castling, en passant, promotion and check.
 
+mod candidates;
+
 use crate::legal::{in_check, try_pair};
 use crate::piece::{Colour, Kind, Piece, Promotion};
 use crate::position::{Move, Parts, Position, PositionFault, Rights};

@@ -1,0 +1,5 @@
+use Rattle.chess_rules.proofs.Found.{few_candidates}
+use Rattle.chess_rules.proofs.laws.candidates_are_few.Goals as goal
+
+pub returns : goal.returns
+returns c = few_candidates

@@ -1,0 +1,7 @@
+use Rattle.chess_rules.specs.declared.direction.TheConstants.{DIRECTIONS}
+use Rattle.chess_rules.specs.Pairs as spec
+use Rattle.chess_rules.proofs.Counting.{Stands}
+use Rattle.chess_rules.proofs.pairs.any_on_ways.Given as goal
+
+abbrev pub invariant-loop-way : goal.invariant-loop-way
+invariant-loop-way l = Stands (spec.hits_on l.position l.near l.target) (spec.tried_on l.position l.near l.target) DIRECTIONS l.way-index l.fn.probes l.probes

@@ -1,0 +1,6 @@
+use Rattle.chess_rules.specs.Pairs as spec
+use Rattle.chess_rules.proofs.Counting.{Stands}
+use Rattle.chess_rules.proofs.pairs.any_other.Given as goal
+
+abbrev pub invariant-loop-index : goal.invariant-loop-index
+invariant-loop-index l = Stands (spec.any_left_at l.position) (spec.count_left_at l.position) spec.indexes l.index l.fn.probes l.probes

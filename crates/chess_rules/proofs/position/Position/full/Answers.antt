@@ -1,0 +1,6 @@
+use Rattle.chess_rules.proofs.Sound.{sound_from_position}
+use Rattle.chess_rules.specs.Kept.{parts_of}
+use Rattle.chess_rules.proofs.position.Position.full.Goals as goal
+
+pub returns-clause-limit : goal.returns-clause-limit
+returns-clause-limit c = (sound_from_position (parts_of c.self.inside) c.self.invariant.position).full

@@ -1,0 +1,159 @@
+//! Trying all pairs of an origin and a target, until one is legal.
+
+ghost use Rattle.std.specs.Prelude.{◌≡◌, ◌+◌, ◌<◌, ◌^◌};
+ghost use Rattle.chess_rules.specs.Pairs as spec;
+ghost use Rattle.chess_rules.specs.Pairs.{Counts};
+
+use crate::attack::{first_on, is_adjacent};
+use crate::candidates::origin_by;
+use crate::direction::{DIRECTIONS, Direction, JUMPS};
+use crate::legal::try_pair;
+use crate::piece::{Kind, Promotion};
+use crate::position::{Move, Position};
+use crate::probes::Probes;
+use crate::square::Square;
+use crate::step::last_rank;
+
+// What a pawn becomes where the pair is tried: all four promotions are legal, or none.
+fn one_promotion(position: &Position, from: Square, to: Square) -> Option<Promotion>
+    ensures { result ≡ spec.one_promotion position.now from to }
+{
+    let side = position.side();
+    if to.rank() == last_rank(side) && position.board().has_piece(from, side, Kind::Pawn) {
+        Some(Promotion::Queen)
+    } else {
+        None
+    }
+}
+
+// Tries the pair.
+fn is_legal_pair(position: &Position, from: Square, to: Square, probes: &mut Probes) -> bool
+    requires { probes.old + 1 < 2 ^ 32 }
+    ensures found { result ≡ spec.is_legal_pair position.now from to }
+    ensures count { probes.new ≡ probes.old + 1 }
+{
+    let promotion = one_promotion(position, from, to);
+    let mv = Move {
+        from,
+        to,
+        promotion,
+    };
+    try_pair(position, mv, probes).is_some()
+}
+
+// Tries the pair, if there is an origin.
+fn hits(position: &Position, origin: Option<Square>, target: Square, probes: &mut Probes) -> bool
+    requires { probes.old + spec.tried origin < 2 ^ 32 }
+    ensures found { result ≡ spec.hits position.now target origin }
+    ensures count { probes.new ≡ probes.old + spec.tried origin }
+{
+    match origin {
+        None => false,
+        Some(origin) => is_legal_pair(position, origin, target, probes),
+    }
+}
+
+// The king of the side to move, if it stands side by side with the target.
+fn king_step(position: &Position, target: Square) -> Option<Square>
+    ensures { result ≡ spec.king_step position.now target }
+{
+    let king = position.king();
+    if is_adjacent(king, target) {
+        Some(king)
+    } else {
+        None
+    }
+}
+
+// Whether a piece of the side to move stands there that is no knight, and no king whose step was tried.
+fn is_left(position: &Position, near: bool, origin: Square) -> bool
+    ensures { result ≡ spec.is_left position.now near origin }
+{
+    match position.board().at(origin) {
+        None => false,
+        Some(piece) => {
+            piece.colour == position.side()
+                && piece.kind != Kind::Knight
+                && !(near && piece.kind == Kind::King)
+        }
+    }
+}
+
+// The first piece on that way from the target, if it is left.
+fn left_on(position: &Position, near: bool, target: Square, way: Direction) -> Option<Square>
+    ensures { result ≡ spec.left_on position.now near target way }
+{
+    let origin = first_on(position.board(), way, target)?;
+    if is_left(position, near, origin) {
+        Some(origin)
+    } else {
+        None
+    }
+}
+
+// Whether a single step of the king is legal.
+pub(crate) fn any_king_step(position: &Position, probes: &mut Probes) -> bool
+    requires { probes.old + spec.count_king_steps position.now < 2 ^ 32 }
+    ensures found { result ≡ spec.any_king_step position.now }
+    ensures count { Counts result probes.old probes.new (spec.count_king_steps position.now) }
+{
+    for index in 0..64 {
+        let target = Square::nth(index);
+        if hits(position, king_step(position, target), target, probes) {
+            return true;
+        }
+    }
+    false
+}
+
+// Whether another pair is legal.
+pub(crate) fn any_other(position: &Position, probes: &mut Probes) -> bool
+    requires { probes.old + spec.count_others position.now < 2 ^ 32 }
+    ensures found { result ≡ spec.any_other position.now }
+    ensures count { Counts result probes.old probes.new (spec.count_others position.now) }
+{
+    for index in 0..64 {
+        if any_left(position, Square::nth(index), probes) {
+            return true;
+        }
+    }
+    false
+}
+
+// Whether a pair that is left for the target is legal.
+fn any_left(position: &Position, target: Square, probes: &mut Probes) -> bool
+    requires { probes.old + spec.count_left position.now target < 2 ^ 32 }
+    ensures found { result ≡ spec.any_left position.now target }
+    ensures count { Counts result probes.old probes.new (spec.count_left position.now target) }
+{
+    let near = is_adjacent(position.king(), target);
+    any_on_ways(position, near, target, probes) || any_by_jumps(position, target, probes)
+}
+
+fn any_on_ways(position: &Position, near: bool, target: Square, probes: &mut Probes) -> bool
+    requires { probes.old + spec.count_on_ways position.now near target < 2 ^ 32 }
+    ensures found { result ≡ spec.any_on_ways position.now near target }
+    ensures count { Counts result probes.old probes.new (spec.count_on_ways position.now near target) }
+{
+    for way in DIRECTIONS.iter() {
+        let origin = left_on(position, near, target, *way);
+        if hits(position, origin, target, probes) {
+            return true;
+        }
+    }
+    false
+}
+
+fn any_by_jumps(position: &Position, target: Square, probes: &mut Probes) -> bool
+    requires { probes.old + spec.count_by_jumps position.now target < 2 ^ 32 }
+    ensures found { result ≡ spec.any_by_jumps position.now target }
+    ensures count { Counts result probes.old probes.new (spec.count_by_jumps position.now target) }
+{
+    for jump in JUMPS.iter() {
+        let origin = origin_by(position, target, *jump);
+        if hits(position, origin, target, probes) {
+            return true;
+        }
+    }
+    false
+}
