@@ -1,5 +1,5 @@
 -- Texts written in turn.
-use Rattle.std.proofs.Common.{◌≡◌, ℕ, suc, ◌+◌, ◌<◌, ◌≤◌, List, [], ◌∷◌, ◌++◌, length, take, drop, get_or, Option, ap, sym, subst, ◌∙◌, refl, add-one, append-nil, append_assoc, length-append, arith}
+use Rattle.std.proofs.Common.{◌≡◌, ℕ, ◌+◌, ◌<◌, List, [], ◌∷◌, ◌++◌, length, take, drop, get_or, Option, ap, sym, subst, ◌∙◌, refl, add-one, append-nil, append_assoc, length-append, arith}
 use Rattle.std.specs.Prelude.{Some, slice_get, Result, Ok, Err}
 use Rattle.std.proofs.Math.Seq.{take-suc, take-append-add}
 use Rattle.std.proofs.lemmas.List.{take-append-drop, take-append-le}
@@ -12,7 +12,7 @@ use Rattle.pgn_game.specs.SectionLines.{text_by}
 -- a front of a text is one of a longer text
 pub front_of_more : (a b : Option (List ℕ)) (text more : List ℕ) → AppendsFront a b text → AppendsFront a b (text ++ more)
 front_of_more a b text more (n, within, front) =
-    (n, omega (arith, length-append text more), subst (Appends a b) (sym (take-append-le n text more within)) front)
+    (n, omega (arith, length-append text more), subst (Appends a b) (sym (take-append-le n text more (omega (arith, within)))) front)
 
 -- the whole of one text, and then a front of the next
 pub front_after : (a b c : Option (List ℕ)) (text more : List ℕ) → Appends a b text → AppendsFront b c more → AppendsFront a c (text ++ more)

@@ -1,5 +1,16 @@
 mod Appending
+mod Growing
+mod OneToken
+mod InPiece
+mod AtEnd
+mod WholePiece
+mod WholeInput
+mod Devices
 mod Escapes
+mod Exporting
+mod Finishing
+mod Moves
 mod Ordering
+mod Refusing
 mod Rows
 mod Sections

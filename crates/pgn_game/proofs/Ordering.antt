@@ -1,6 +1,6 @@
 -- The order of names, and places in it.
-use Rattle.std.proofs.Common.{◌≡◌, ℕ, suc, ◌+◌, ◌-◌, ◌<◌, ◌≤◌, Bool, true, false, List, [], ◌∷◌, ◌++◌, length, take, drop, refl, sym, ap, subst, ◌∙◌, arith, add-one, Option, None, Some}
-use Rattle.std.specs.Prelude.{insert, bytes_eq, IsTrue, IfSome, IsSomeAnd}
+use Rattle.std.proofs.Common.{◌≡◌, ℕ, zero, suc, ◌+◌, ◌-◌, ◌<◌, ◌≤◌, Bool, true, false, List, [], ◌∷◌, ◌++◌, length, refl, sym, ap, subst, ◌∙◌, arith, Option, None, Some}
+use Rattle.std.specs.Prelude.{insert, IsTrue, IsSome, is_some, IfSome, IsSomeAnd, slice_get}
 use Rattle.std.specs.Ordering.{nat_cmp, is_lt, is_some_and}
 use Rattle.std.specs.Cmp.Lexicographic.{slice_partial_cmp}
 use Rattle.std.proofs.lemmas.Cmp.{same_from_slice_cmp_tested}
@@ -77,3 +77,19 @@ completed front p true t value more e h =
 completed front p false t value more e h =
     let Q : TagPairs → Type 0 = λ u. IfSome u.begun (λ name. seen more None ≡ seen (insert_pair (record { name = name; value = value }) u.held) None) in
     subst Q e tt
+
+last_name-at : (ps : List Pair) (n : ℕ) (p : Pair) → suc n ≡ length ps → slice_get ps n ≡ Some p → last_name ps ≡ Some p.name
+last_name-at [] n p most e = absurd (omega (arith, most))
+last_name-at (q ∷ []) zero p most e = ap (λ (o : Option Pair). elim o [ Some r ↦ Some r.name | None ↦ None ]) e
+last_name-at (q ∷ []) (suc n) p most e = absurd (omega (arith, most))
+last_name-at (q ∷ r ∷ ps) zero p most e = absurd (omega (arith, most))
+last_name-at (q ∷ r ∷ ps) (suc n) p most e = last_name-at (r ∷ ps) n p (omega (arith, most)) e
+
+-- the name that has begun is the last pair's
+pub begun-last : (ps : List Pair) (b : Bool) (t : TagPairs) (p : Pair) → pairs_seen ps b ≡ t → (IsTrue b → 0 < length ps)
+    → slice_get ps (length ps - 1) ≡ Some p → IsSome t.begun → t.begun ≡ Some p.name
+begun-last ps true t p e some at begun = ap (λ s. s.begun) (sym e) ∙ last_name-at ps (length ps - 1) p (omega (arith, some refl)) at
+begun-last ps false t p e some at begun =
+    let Q : TagPairs → Type 0 = λ u. IsSome u.begun in
+    let none : is_some (pairs_seen ps false).begun ≡ true = subst Q (sym e) begun in
+    absurd (cc)

@@ -6,7 +6,9 @@ use Rattle.pgn_lexer.specs.TokensOf.{tokens_of}
 use Rattle.pgn_game.specs.declared.reason.Fault.{Fault}
 use Rattle.pgn_game.specs.Profile.{Profile}
 use Rattle.pgn_game.specs.Pairs.{insert_pair}
-use Rattle.pgn_game.specs.Game.{Game, Part, Stage, between, after_bracket, after_name, after_value, after_tags, no_part}
+use Rattle.pgn_game.specs.declared.stage.Stage.{Stage}
+use Rattle.pgn_game.specs.declared.stage.Stage.TheVariants.{Between, AfterBracket, AfterName, AfterValue, AfterTags}
+use Rattle.pgn_game.specs.Game.{Game, Part, no_part}
 use Rattle.pgn_game.specs.FaultTable.{refusal, marker_of}
 use Rattle.pgn_game.specs.Text.{text_of, torn}
 
@@ -24,17 +26,17 @@ in_text part k = elim (marker_of k) [ Some marker ↦ whole (record { pairs = pa
 
 -- What a token that is not refused leads to, stage by stage. Comments before a game and in a pair are dropped.
 abbrev pub next_in : Stage → Part → Kind → Next
-next_in between part tokens.left_bracket = going (at_stage after_bracket part)
-next_in between part k = in_text part k
-next_in after_bracket part (tokens.symbol name) = going (record { stage = after_name; pairs = part.pairs; name = name })
-next_in after_bracket part k = going part
-next_in after_name part (tokens.str value) =
-    going (record { stage = after_value; pairs = insert_pair (record { name = part.name; value = value }) part.pairs; name = [] })
-next_in after_name part k = going part
-next_in after_value part tokens.right_bracket = going (at_stage after_tags part)
-next_in after_value part k = going part
-next_in after_tags part tokens.left_bracket = going (at_stage after_bracket part)
-next_in after_tags part k = in_text part k
+next_in Between part tokens.left_bracket = going (at_stage AfterBracket part)
+next_in Between part k = in_text part k
+next_in AfterBracket part (tokens.symbol name) = going (record { stage = AfterName; pairs = part.pairs; name = name })
+next_in AfterBracket part k = going part
+next_in AfterName part (tokens.str value) =
+    going (record { stage = AfterValue; pairs = insert_pair (record { name = part.name; value = value }) part.pairs; name = [] })
+next_in AfterName part k = going part
+next_in AfterValue part tokens.right_bracket = going (at_stage AfterTags part)
+next_in AfterValue part k = going part
+next_in AfterTags part tokens.left_bracket = going (at_stage AfterBracket part)
+next_in AfterTags part k = in_text part k
 
 -- what a token leads to
 abbrev pub next : Part → Kind → Next

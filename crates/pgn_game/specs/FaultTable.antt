@@ -11,7 +11,9 @@ use Rattle.pgn_game.specs.declared.mode.Mode.{Mode}
 use Rattle.pgn_game.specs.declared.mode.Mode.TheVariants.{Full, Reduced}
 use Rattle.pgn_game.specs.Profile.{Profile, Missing, counts_as_unknown, takes_the_marker}
 use Rattle.pgn_game.specs.Pairs.{value_of, has_pair}
-use Rattle.pgn_game.specs.Game.{Part, Stage, between, after_bracket, after_name, after_value, after_tags}
+use Rattle.pgn_game.specs.declared.stage.Stage.{Stage}
+use Rattle.pgn_game.specs.declared.stage.Stage.TheVariants.{Between, AfterBracket, AfterName, AfterValue, AfterTags}
+use Rattle.pgn_game.specs.Game.{Part}
 
 -- Tests of a token.
 abbrev pub is_comment : Kind → Bool
@@ -50,11 +52,11 @@ is_string = is_string_with (λ text. true)
 -- Tests of a stage.
 -- stages are told apart by number
 abbrev pub stage_number : Stage → ℕ
-stage_number between = 0
-stage_number after_bracket = 1
-stage_number after_name = 2
-stage_number after_value = 3
-stage_number after_tags = 4
+stage_number Between = 0
+stage_number AfterBracket = 1
+stage_number AfterName = 2
+stage_number AfterValue = 3
+stage_number AfterTags = 4
 
 -- the part is at the stage
 abbrev pub is_at : Stage → Part → Bool
@@ -62,7 +64,7 @@ is_at stage part = stage_number stage == stage_number part.stage
 
 -- the stages at which a pair or the movetext can begin
 abbrev pub is_before_movetext : Part → Bool
-is_before_movetext part = is_at between part || is_at after_tags part
+is_before_movetext part = is_at Between part || is_at AfterTags part
 
 -- letters, digits and _ (PGN 8.1)
 abbrev pub in_name : ℕ → Bool
@@ -80,9 +82,9 @@ marker_of tokens.asterisk = Some (codes "*")
 marker_of (tokens.symbol s) = elim (is_score s) [ true ↦ Some s | false ↦ None ]
 marker_of _ = None
 
--- a token of movetext that is no marker: none but a `[`, the end and a comment between games
+-- a token of movetext that is no marker: any but a `[`, the end, and a comment between games
 abbrev pub is_other_movetext : Part → Kind → Bool
-is_other_movetext part k = not (is_left_bracket k || is_end k || is_some (marker_of k) || (is_at between part && is_comment k))
+is_other_movetext part k = not (is_left_bracket k || is_end k || is_some (marker_of k) || (is_at Between part && is_comment k))
 
 -- the reduced format is written
 abbrev pub is_reduced : Mode → Bool
@@ -110,23 +112,23 @@ pub record Row : Type 0 where
 abbrev pub row : Reason → Bool → Row
 row reason holds = record { holds = holds; reason = reason }
 
--- The table, lowest number first. That a name is given twice (22), how many pairs a game has (23), how long a line is (27) and
--- the reduced format without FEN (31) are bounds of our own.
+-- The table, lowest number first. Of our own are the rules that a name is given once (22), that a game has so many pairs (23), that the
+-- reduced format has no FEN (31), and that a missing Result counts as `*` (41).
 abbrev pub rows : Profile → Part → Kind → List Row
 rows p part k =
-    row ExpectedName (is_at after_bracket part && not (is_symbol k || is_comment k))
-    ∷ row BadTagName (is_at after_bracket part && is_symbol_with (λ name. not (list_all in_name name)) k)
-    ∷ row DuplicateTag (is_at after_bracket part && is_symbol_with (has_pair part.pairs) k)
+    row ExpectedName (is_at AfterBracket part && not (is_symbol k || is_comment k))
+    ∷ row BadTagName (is_at AfterBracket part && is_symbol_with (λ name. not (list_all in_name name)) k)
+    ∷ row DuplicateTag (is_at AfterBracket part && is_symbol_with (has_pair part.pairs) k)
     ∷ row TooManyTags (is_before_movetext part && is_left_bracket k && nat_le p.tags (length part.pairs))
-    ∷ row ExpectedValue (is_at after_name part && not (is_string k || is_comment k))
-    ∷ row BadResult (is_at after_name part && bytes_eq part.name (codes "Result") && is_string_with (λ value. not (is_result value)) k)
-    ∷ row TagLineTooLong (is_at after_bracket part && is_symbol_with (λ name. nat_lt 249 (length name)) k)
-    ∷ row TagLineTooLong (is_at after_name part && is_string_with (λ value. nat_lt 249 (length part.name + length (escaped value))) k)
-    ∷ row ExpectedBracket (is_at after_value part && not (is_right_bracket k || is_comment k))
-    ∷ row ReducedFen (is_at after_bracket part && is_reduced p.mode && is_symbol_with (λ name. bytes_eq name (codes "FEN")) k)
+    ∷ row ExpectedValue (is_at AfterName part && not (is_string k || is_comment k))
+    ∷ row BadResult (is_at AfterName part && bytes_eq part.name (codes "Result") && is_string_with (λ value. not (is_result value)) k)
+    ∷ row TagLineTooLong (is_at AfterBracket part && is_symbol_with (λ name. nat_lt 249 (length name)) k)
+    ∷ row TagLineTooLong (is_at AfterName part && is_string_with (λ value. nat_lt 249 (length part.name + length (escaped value))) k)
+    ∷ row ExpectedBracket (is_at AfterValue part && not (is_right_bracket k || is_comment k))
+    ∷ row ReducedFen (is_at AfterBracket part && is_reduced p.mode && is_symbol_with (λ name. bytes_eq name (codes "FEN")) k)
     ∷ row NotAMove (is_before_movetext part && is_other_movetext part k)
     ∷ row ResultDiffers (is_before_movetext part && has_other_result p.missing_result part k)
-    ∷ row UnexpectedEnd (is_at after_tags part && is_end k)
+    ∷ row UnexpectedEnd (is_at AfterTags part && is_end k)
     ∷ []
 
 abbrev pub first_holding : List Row → Option Reason

@@ -1,6 +1,7 @@
 pub mod Inlet
 pub mod Reason
 pub mod Pairs
+pub mod Handling
 pub mod Holding
 pub mod Profile
 pub mod Game
@@ -9,3 +10,10 @@ pub mod SectionLines
 pub mod FaultTable
 pub mod Text
 pub mod Begun
+pub mod Due
+pub mod Reading
+pub mod Feeding
+pub mod Stepping
+pub mod Size
+pub mod Converting
+pub mod Laws

@@ -19,6 +19,6 @@ abbrev pub text_of : Profile → List Game → List ℕ
 text_of p [] = []
 text_of p (g ∷ gs) = game_text p g ++ text_of p gs
 
--- What is written of a game that is not whole: nothing before its movetext.
+-- What stands written of a game that is not whole: nothing while it has no movetext, and no part has any yet.
 abbrev pub torn : Profile → Part → List ℕ
 torn p part = []

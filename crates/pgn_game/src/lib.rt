@@ -1,17 +1,28 @@
 //! Games of Portable Game Notation, from bytes to bytes.
 #![tactic(auto)]
 
+mod accept;
+#[cfg(test)]
+mod conversions;
+mod converter;
+mod kinds;
+pub mod laws;
 mod mode;
 mod pair;
+mod reader;
 mod reason;
 mod section;
 mod source;
+mod stage;
 mod tags;
 #[cfg(test)]
 mod tests;
+mod whole;
 
+pub use converter::{Converter, Fed};
 pub use mode::Mode;
 pub use pgn_layout::{Nowhere, Outlet, Sink, WriteFault};
 pub use pgn_lexer::LexReason;
 pub use reason::{Fault, Reason};
 pub use source::{Inlet, ReadFailed, Source};
+pub use whole::{Totals, convert, convert_slice};

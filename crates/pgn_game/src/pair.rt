@@ -6,7 +6,7 @@ use arrayvec::ArrayVec;
 use std::marker::Model;
 
 /// The most bytes of a name, and of a value: their line has no room for more (PGN 4.3).
-const TEXT_LENGTH: usize = 249;
+pub const TEXT_LENGTH: usize = 249;
 
 /// A tag pair whose line fits.
 #[derive(Drop)]

@@ -1,10 +1,11 @@
 //! The tag section of a game.
-ghost use Rattle.std.specs.Prelude.{◌≡◌, ◌+◌, ◌<◌, ◌≤◌, [], ◌∷◌, false, Some, None, IsTrue, OnOk, OnErr, length, slice_get, unwrap_or};
+ghost use Rattle.std.specs.Prelude.{◌≡◌, ◌+◌, ◌<◌, ◌≤◌, [], ◌∷◌, false, Some, None, IsTrue, IfSome, OnOk, OnErr, length, slice_get, unwrap_or};
+ghost use Rattle.std.specs.Option.{option_copied};
 ghost use Rattle.pgn_layout.specs.Device.{Counts, Writes};
 ghost use Rattle.pgn_layout.specs.TagLine.{escaped};
 ghost use Rattle.pgn_game.specs.Pairs.{value_of};
 ghost use Rattle.pgn_game.specs.SectionLines.{text_by, roster_line, other_line};
-ghost use Rattle.pgn_game.specs.TagSection.{roster, in_roster, tag_section};
+ghost use Rattle.pgn_game.specs.TagSection.{roster, in_roster, exported, tag_section};
 
 use crate::mode::Mode;
 use crate::pair::TagPair;
@@ -34,6 +35,39 @@ pub fn write_section<const T: usize, W: Sink>(
             layout.end_tags(out)
         }
     }
+}
+
+/// The value that the tag section has under this name, if any.
+pub fn exported_value<'a, const T: usize>(
+    mode: Mode,
+    tags: &'a TagPairs<T>,
+    name: &[u8],
+) -> Option<&'a [u8]>
+    requires whole { tags.now.begun ≡ None }
+    ensures { option_copied result ≡ value_of (exported mode (42 ∷ []) tags.now.held) name.now }
+{
+    let unknown = unknown_value(name);
+    if unknown.is_none() && mode == Mode::Reduced {
+        return None;
+    }
+    match tags.value(name) {
+        Some(value) => Some(value),
+        None => unknown,
+    }
+}
+
+// What stands for a missing value of the roster (PGN 8.1.1).
+fn unknown_value(name: &[u8]) -> Option<&'static [u8]>
+    ensures value { option_copied result ≡ value_of (roster (42 ∷ [])) name.now }
+    ensures fits { IfSome result (λ unknown. length name.now + length (escaped unknown.now) ≤ 249) }
+{
+    for index in 0..7 {
+        let (known, unknown) = roster_pair(index);
+        if name == known {
+            return Some(unknown);
+        }
+    }
+    None
 }
 
 // Writes the pairs of the roster.

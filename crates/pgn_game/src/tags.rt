@@ -1,5 +1,5 @@
 //! The tag pairs of one game, in the order of their names.
-ghost use Rattle.std.specs.Prelude.{◌≡◌, ◌+◌, ◌<◌, ◌≤◌, ◌↔◌, ℕ, Bool, [], ◌∷◌, List, IsTrue, IfSome, IsSomeAnd, Some, None, length};
+ghost use Rattle.std.specs.Prelude.{◌≡◌, ◌+◌, ◌<◌, ◌≤◌, ◌↔◌, ℕ, Bool, [], ◌∷◌, List, IsTrue, IfSome, IsSome, IsSomeAnd, Some, None, length};
 ghost use Rattle.pgn_layout.specs.TagLine.{escaped};
 ghost use Rattle.pgn_game.specs.Pairs.{value_of, comes_before, insert_pair};
 ghost use Rattle.pgn_game.specs.Holding.{place_of as place_before};
@@ -41,7 +41,8 @@ impl<const T: usize> TagPairs<T> {
     /// Whether there are `T` pairs.
     pub fn is_full(&self) -> bool
         requires { self.now.begun ≡ None }
-        ensures { IsTrue result ↔ (length self.now.held ≡ T) }
+        ensures full { IsTrue result ↔ (length self.now.held ≡ T) }
+        ensures room { length self.now.held ≤ T }
     {
         self.pairs.is_full()
     }
@@ -77,6 +78,17 @@ impl<const T: usize> TagPairs<T> {
     {
         self.pairs.push(TagPair::new(name, b""));
         self.has_begun = true;
+    }
+
+    /// The name that has begun.
+    pub fn begun(&self) -> &[u8]
+        requires { IsSome self.now.begun }
+        ensures { self.now.begun ≡ Some result.now }
+    {
+        match self.pairs.last() {
+            Some(pair) => pair.name(),
+            None => b"",
+        }
     }
 
     /// Gives the name that has begun its value.

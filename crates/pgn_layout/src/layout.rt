@@ -1,5 +1,5 @@
 //! Tag pairs and movetext tokens on lines.
-ghost use Rattle.std.specs.Prelude.{◌≡◌, ◌+◌, ◌≤◌, [], ◌∷◌, ◌++◌, length, OnOk, OnErr};
+ghost use Rattle.std.specs.Prelude.{◌≡◌, ◌+◌, ◌≤◌, [], ◌∷◌, ◌++◌, length, false, OnOk, OnErr};
 ghost use Rattle.pgn_layout.specs.Device.{Writes};
 ghost use Rattle.pgn_layout.specs.TagLine.{escaped};
 ghost use Rattle.pgn_layout.specs.Lines.{IsToken};
@@ -15,7 +15,7 @@ const LINE_LENGTH: usize = 79;
 
 /// Writes tag pairs, and sets movetext tokens on lines. It holds the line that is not full yet.
 ///
-/// After a call answered [`WriteFault`], a front of its text was written, and each later call that takes a sink answers
+/// After a call answered [`WriteFault`], a front of its text was written and not all of it, and each later call that takes a sink answers
 /// `WriteFault` again and leaves the sink as it is.
 #[derive(Drop)]
 pub struct Layout {
@@ -49,7 +49,7 @@ impl Layout {
     /// (PGN 7, 8.1). The line has at most 255 bytes. The line of movetext stays as it is.
     pub fn tag<W: Sink>(&mut self, name: &[u8], value: &[u8], out: &mut W) -> Result<(), WriteFault>
         requires { length name.now + length (escaped value.now) ≤ 249 }
-        ensures text { Writes (W.taken out.old) (W.taken out.new) result (text_at self.old.line (Tag name.now value.now)) }
+        ensures text { self.old.has_failed ≡ false → Writes (W.taken out.old) (W.taken out.new) result (text_at self.old.line (Tag name.now value.now)) }
         ensures line { OnOk result (self.new ≡ holding (line_at self.old.line (Tag name.now value.now))) }
         ensures faults { Fails W.failures self.old.has_failed self.new.has_failed out.old out.new result }
     {
@@ -59,7 +59,7 @@ impl Layout {
 
     /// Ends the tag section with an empty line (PGN 8.1). The line of movetext stays as it is.
     pub fn end_tags<W: Sink>(&mut self, out: &mut W) -> Result<(), WriteFault>
-        ensures text { Writes (W.taken out.old) (W.taken out.new) result (text_at self.old.line EndTags) }
+        ensures text { self.old.has_failed ≡ false → Writes (W.taken out.old) (W.taken out.new) result (text_at self.old.line EndTags) }
         ensures line { OnOk result (self.new ≡ holding (line_at self.old.line EndTags)) }
         ensures faults { Fails W.failures self.old.has_failed self.new.has_failed out.old out.new result }
     {
@@ -71,7 +71,7 @@ impl Layout {
     /// the line is written with LF and the token begins the next one (PGN 8.2.1).
     pub fn put<W: Sink>(&mut self, token: &[u8], out: &mut W) -> Result<(), WriteFault>
         requires { IsToken token.now }
-        ensures text { Writes (W.taken out.old) (W.taken out.new) result (text_at self.old.line (Put token.now)) }
+        ensures text { self.old.has_failed ≡ false → Writes (W.taken out.old) (W.taken out.new) result (text_at self.old.line (Put token.now)) }
         ensures line { OnOk result (self.new ≡ holding (line_at self.old.line (Put token.now))) }
         ensures faults { Fails W.failures self.old.has_failed self.new.has_failed out.old out.new result }
     {
@@ -94,7 +94,7 @@ impl Layout {
 
     /// Ends the game: writes the line with LF, if it holds a token, and an empty line (PGN 8.2.6). The line is then empty.
     pub fn end_game<W: Sink>(&mut self, out: &mut W) -> Result<(), WriteFault>
-        ensures text { Writes (W.taken out.old) (W.taken out.new) result (text_at self.old.line EndGame) }
+        ensures text { self.old.has_failed ≡ false → Writes (W.taken out.old) (W.taken out.new) result (text_at self.old.line EndGame) }
         ensures line { OnOk result (self.new ≡ holding (line_at self.old.line EndGame)) }
         ensures faults { Fails W.failures self.old.has_failed self.new.has_failed out.old out.new result }
     {
@@ -123,7 +123,7 @@ fn append(line: &mut ArrayVec<u8, LINE_LENGTH>, token: &[u8])
 
 // Writes the text, unless a write has failed.
 fn write<W: Sink>(has_failed: &mut bool, text: &[u8], out: &mut W) -> Result<(), WriteFault>
-    ensures text { Writes (W.taken out.old) (W.taken out.new) result text.now }
+    ensures text { has_failed.old ≡ false → Writes (W.taken out.old) (W.taken out.new) result text.now }
     ensures faults { Fails W.failures has_failed.old has_failed.new out.old out.new result }
 {
     if *has_failed {
@@ -140,7 +140,7 @@ fn write_line<W: Sink>(
     line: &mut ArrayVec<u8, LINE_LENGTH>,
     out: &mut W,
 ) -> Result<(), WriteFault>
-    ensures text { Writes (W.taken out.old) (W.taken out.new) result (line.old.items ++ 10 ∷ []) }
+    ensures text { has_failed.old ≡ false → Writes (W.taken out.old) (W.taken out.new) result (line.old.items ++ 10 ∷ []) }
     ensures faults { Fails W.failures has_failed.old has_failed.new out.old out.new result }
     ensures empty { OnOk result (line.new.items ≡ []) }
     ensures kept { OnErr result (line.new ≡ line.old) }

@@ -1,4 +1,4 @@
-use Rattle.std.proofs.Common.{◌≡◌, ℕ, ◌≤◌, Bool, ◌+◌, ◌<◌, List, [], ◌∷◌, ◌∙◌, length, take, drop, get_or, ap, sym, subst, arith, refl}
+use Rattle.std.proofs.Common.{◌≡◌, ℕ, Bool, ◌+◌, List, [], ◌∷◌, ◌∙◌, length, take, ap, sym, subst, arith, refl}
 use Rattle.std.specs.Prelude.{Option, Some, slice_get, unwrap_or}
 use Rattle.std.proofs.lemmas.Result.{err_from_is_err_and}
 use Rattle.std.proofs.lemmas.List.{take_all}
@@ -36,14 +36,14 @@ returns-in_err-tag-clause-text g c =
     let p = err_from_is_err_and c.from_residual.result c.from_residual.ensures.1 in
     rw p.1
     (front_of_line c.args.tags.now.held c.loop-index.index c.roster_pair.result.0.now c.roster_pair.result.1.now c.value_or-value.result.now _ _ _
-    c.roster_pair.ensures.pair c.value_or-value.ensures.value c.loop-index.invariant.2 c.in_err-tag.ensures.text)
+    c.roster_pair.ensures.pair c.value_or-value.ensures.value c.loop-index.invariant.2 (c.in_err-tag.ensures.text (ap (λ (l : Layout). l.has_failed) c.loop-index.invariant.0 ∙ c.requires.going)))
 
 pub loop-index-preserved : goal.loop-index-preserved
 loop-index-preserved g c = (
   c.in_ok-tag.ensures.line ∙ ap (λ (b : Bool). record { line = c.loop-index.layout.line; has_failed = b }) (sym (ap (λ (l : Layout). l.has_failed) c.loop-index.invariant.0 ∙ c.requires.going)) ∙ c.loop-index.invariant.0,
   c.in_ok-tag.ensures.faults.counted (ap (λ (l : Layout). l.has_failed) c.loop-index.invariant.0 ∙ c.requires.going) ∙ c.loop-index.invariant.1,
   next_line c.args.tags.now.held c.loop-index.index c.roster_pair.result.0.now c.roster_pair.result.1.now c.value_or-value.result.now _ _ _
-      c.roster_pair.ensures.pair c.value_or-value.ensures.value c.loop-index.invariant.2 c.in_ok-tag.ensures.text,
+      c.roster_pair.ensures.pair c.value_or-value.ensures.value c.loop-index.invariant.2 (c.in_ok-tag.ensures.text (ap (λ (l : Layout). l.has_failed) c.loop-index.invariant.0 ∙ c.requires.going)),
 )
 
 pub returns-clause-text : goal.returns-clause-text

@@ -1,4 +1,5 @@
-use Rattle.std.proofs.Common.{sym, subst}
+use Rattle.std.proofs.Common.{ap, ◌∙◌}
+use Rattle.pgn_layout.specs.Layout.{Layout}
 use Rattle.std.proofs.lemmas.Result.{err_from_is_err_and}
 use Rattle.std.proofs.KnownBytes.{Appends-trans}
 use Rattle.pgn_game.proofs.Appending.{front_of_more, front_after, Writes-append}
@@ -7,7 +8,7 @@ use Rattle.pgn_game.proofs.section.write_section.Goals as goal
 
 pub returns-in-Reduced-clause-text : goal.returns-in-Reduced-clause-text
 returns-in-Reduced-clause-text g c =
-    rw (c.in-Reduced.is, ← reduced_section c.args.tags.now.held) (Writes-append _ _ _ _ _ _ c.in_ok-write_roster.ensures.text c.end_tags.ensures.text)
+    rw (c.in-Reduced.is, ← reduced_section c.args.tags.now.held) (Writes-append _ _ _ _ _ _ c.in_ok-write_roster.ensures.text (c.end_tags.ensures.text (ap (λ (l : Layout). l.has_failed) c.in_ok-write_roster.ensures.line ∙ c.requires.going)))
 
 pub returns-in_err-write_roster-clause-text : goal.returns-in_err-write_roster-clause-text
 returns-in_err-write_roster-clause-text g c =
@@ -24,4 +25,5 @@ returns-in_err-write_others-in-Full-clause-text g c =
 pub returns-in_ok-write_others-in-Full-clause-text : goal.returns-in_ok-write_others-in-Full-clause-text
 returns-in_ok-write_others-in-Full-clause-text g c =
     rw (c.in-Full.is, ← full_section c.args.tags.now.held)
-    (Writes-append _ _ _ _ _ _ (Appends-trans _ _ _ _ _ c.in_ok-write_roster.ensures.text c.in_ok-write_others-in-Full.ensures.text) c.end_tags-in-Full.ensures.text)
+    (Writes-append _ _ _ _ _ _ (Appends-trans _ _ _ _ _ c.in_ok-write_roster.ensures.text c.in_ok-write_others-in-Full.ensures.text)
+    (c.end_tags-in-Full.ensures.text (ap (λ (l : Layout). l.has_failed) (c.in_ok-write_others-in-Full.ensures.line ∙ c.in_ok-write_roster.ensures.line) ∙ c.requires.going)))

@@ -1,4 +1,4 @@
-use Rattle.std.proofs.Common.{◌≡◌, ◌<◌, List, ◌++◌, ◌∷◌, [], length, arith, rules, ap, sym, ◌∙◌, subst}
+use Rattle.std.proofs.Common.{[], length, arith, rules, ap}
 use Rattle.pgn_game.specs.Pairs.{Pair}
 use Rattle.pgn_game.proofs.Ordering.{whole-held, pairs_seen-snoc}
 use Rattle.pgn_game.proofs.tags.TagPairs.begin.Goals as goal

@@ -1,4 +1,4 @@
-use Rattle.std.proofs.Common.{◌≡◌, ℕ, ◌+◌, ◌≤◌, ◌<◌, List, ◌++◌, ◌∷◌, [], length, arith, rules, ap, sym, ◌∙◌, subst}
+use Rattle.std.proofs.Common.{◌≡◌, ℕ, ◌+◌, ◌≤◌, List, length, arith, rules, ap, sym, ◌∙◌}
 use Rattle.pgn_layout.specs.TagLine.{escaped}
 use Rattle.std.specs.Prelude.{insert}
 use Rattle.pgn_game.specs.Pairs.{Pair, insert_pair}

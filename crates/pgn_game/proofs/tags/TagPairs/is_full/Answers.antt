@@ -1,8 +1,12 @@
-use Rattle.std.proofs.Common.{arith, ap, sym, ◌∙◌}
+use Rattle.std.proofs.Common.{arith}
 use Rattle.std.proofs.lemmas.Bool.Decides.{nat_tests}
 use Rattle.pgn_game.proofs.Ordering.{whole-held}
 use Rattle.pgn_game.proofs.tags.TagPairs.is_full.Goals as goal
 
-pub returns : goal.returns
-returns g c =
+pub returns-clause-full : goal.returns-clause-full
+returns-clause-full g c =
     rw (← whole-held c.self.inside.pairs.items c.self.inside.has_begun c.args.self.now c.self.view_is c.requires c.self.invariant.some) (grind (arith, nat_tests))
+
+pub returns-clause-room : goal.returns-clause-room
+returns-clause-room g c =
+    rw (← whole-held c.self.inside.pairs.items c.self.inside.has_begun c.args.self.now c.self.view_is c.requires c.self.invariant.some) (omega (arith, c.self.invariant.room))

@@ -1,0 +1,363 @@
+-- Steps behind the last piece.
+use Rattle.std.proofs.Common.{◌≡◌, ℕ, ◌+◌, ◌<◌, ◌≤◌, Bool, true, false, List, [], ◌∷◌, ◌++◌, length, Option, None, Some, Result, Ok, Err, refl, sym, ap, subst, ◌∙◌, append-nil, append_assoc, length-append, le_refl, arith}
+use Rattle.std.specs.Prelude.{IsTrue, IsFalse, is_some, ◌↔◌}
+use Rattle.pgn_lexer.specs.declared.token.LexFault.{LexFault}
+use Rattle.pgn_lexer.specs.Tokens.{Kind, Token}
+use Rattle.pgn_lexer.specs.Tokens as tokens
+use Rattle.pgn_lexer.specs.TokensOf.{tokens_of}
+use Rattle.pgn_lexer.specs.Held.{refusal as refusal_token}
+use Rattle.pgn_lexer.specs.Standing.{Standing, coming, waiting}
+use Rattle.pgn_lexer.specs.Stands.{HasLeft, IsNext, Gives, Follows}
+use Rattle.pgn_game.specs.declared.stage.Stage.{Stage}
+use Rattle.pgn_game.specs.declared.stage.Stage.TheVariants.{Between, AfterBracket, AfterName, AfterValue, AfterTags}
+use Rattle.pgn_game.specs.declared.accept.Accepted.{Accepted}
+use Rattle.pgn_game.specs.declared.accept.Accepted.TheVariants as accepted
+use Rattle.pgn_game.specs.declared.accept.Stopped.{Stopped}
+use Rattle.pgn_game.specs.declared.accept.Stopped.TheVariants as stopped
+use Rattle.pgn_game.specs.declared.reason.Reason.{Reason}
+use Rattle.pgn_game.specs.declared.reason.Reason.TheVariants.{Lexical, ExpectedName, BadTagName, DuplicateTag, TooManyTags, ExpectedValue, BadResult, BadFen, TagLineTooLong, ExpectedBracket, SetUpWithoutFen, ReducedFen, TagInMovetext, NotAMove, IllegalMove, AmbiguousMove, MoveLimit, NoMoveBefore, TooDeep, UnmatchedClose, MarkerInVariation, ResultDiffers, UnexpectedEnd, ReadFault, WriteFault, InputTooLong, Changed}
+use Rattle.pgn_game.specs.declared.reason.Fault.{Fault}
+use Rattle.pgn_game.specs.declared.converter.Stepped.{Stepped}
+use Rattle.pgn_game.specs.declared.converter.Stepped.TheVariants.{NeedMore, More, Finished, Ended, Failed}
+use Rattle.pgn_game.specs.Profile.{Profile}
+use Rattle.pgn_game.specs.Pairs.{Pair}
+use Rattle.pgn_game.specs.Game.{Game}
+use Rattle.pgn_game.specs.FaultTable.{refusal, is_end, marker_of}
+use Rattle.pgn_game.specs.Begun.{next, begun_with, Begun, Read, read}
+use Rattle.pgn_game.specs.Due.{Gains}
+use Rattle.pgn_game.specs.Reading.{Reading, Answers, Stays, FinishesAtMarker, CountsWrites, is_outside_the_table}
+use Rattle.pgn_game.specs.Feeding.{Converter, pairs_if, AreLast, HasRead, Stands, Stops, unwritten, Finishes, CountsReason}
+use Rattle.pgn_game.specs.Stepping.{SameGames, AfterClosing, CloseAdvances, ClosedSoFar, StaysBetween, stepped_of, closed_with, fault_of_step, CountsStep}
+use Rattle.pgn_game.proofs.Growing.{gains_none, gains_more, stops_more, read-passes}
+use Rattle.pgn_game.proofs.OneToken.{stepped, gains_token, same_games, has_read_more, one_game, has_read_game, stops_refused, writing, stops_lexical}
+
+-- what is left behind a token: nothing behind the end
+abbrev Left : List ℕ → List Token → Bool → Standing → Token → Type 0
+Left u given true l t = tokens_of u ≡ given ++ t ∷ []
+Left u given false l t = HasLeft l u (given ++ t ∷ [])
+
+pub left_by : (u : List ℕ) (given : List Token) (k : Kind) (l : Standing) (t : Token) → IsNext u given k l t → Left u given (is_end k) l t
+left_by u given tokens.left_bracket l t h = h
+left_by u given tokens.right_bracket l t h = h
+left_by u given tokens.left_paren l t h = h
+left_by u given tokens.right_paren l t h = h
+left_by u given tokens.period l t h = h
+left_by u given tokens.asterisk l t h = h
+left_by u given (tokens.symbol text) l t h = h
+left_by u given (tokens.str text) l t h = h
+left_by u given (tokens.glyph n) l t h = h
+left_by u given tokens.comment_open l t h = h
+left_by u given (tokens.word text) l t h = h
+left_by u given tokens.comment_close l t h = h
+left_by u given tokens.end l t h = h
+left_by u given (tokens.refused r) l t h = h
+
+-- a token was waiting, unless it is the end
+abbrev Nearer : Bool → Standing → Standing → Type 0
+Nearer true old new = new ≡ old
+Nearer false old new = (waiting new < waiting old) × (new.count ≡ old.count)
+
+pub nearer_by : (k : Kind) (old new : Standing) (t : Token) → Gives k old new t → Nearer (is_end k) old new
+nearer_by tokens.left_bracket old new t h = (h.1, h.2)
+nearer_by tokens.right_bracket old new t h = (h.1, h.2)
+nearer_by tokens.left_paren old new t h = (h.1, h.2)
+nearer_by tokens.right_paren old new t h = (h.1, h.2)
+nearer_by tokens.period old new t h = (h.1, h.2)
+nearer_by tokens.asterisk old new t h = (h.1, h.2)
+nearer_by (tokens.symbol text) old new t h = (h.1, h.2)
+nearer_by (tokens.str text) old new t h = (h.1, h.2)
+nearer_by (tokens.glyph n) old new t h = (h.1, h.2)
+nearer_by tokens.comment_open old new t h = (h.1, h.2)
+nearer_by (tokens.word text) old new t h = (h.1, h.2)
+nearer_by tokens.comment_close old new t h = (h.1, h.2)
+nearer_by tokens.end old new t h = h.1
+nearer_by (tokens.refused r) old new t h = (h.1, h.2)
+
+-- the end is no marker
+marker_or_end : (k : Kind) → IsTrue (is_some (marker_of k)) → is_end k ≡ false
+marker_or_end tokens.left_bracket h = refl
+marker_or_end tokens.right_bracket h = refl
+marker_or_end tokens.left_paren h = refl
+marker_or_end tokens.right_paren h = refl
+marker_or_end tokens.period h = refl
+marker_or_end tokens.asterisk h = refl
+marker_or_end (tokens.symbol text) h = refl
+marker_or_end (tokens.str text) h = refl
+marker_or_end (tokens.glyph n) h = refl
+marker_or_end tokens.comment_open h = refl
+marker_or_end (tokens.word text) h = refl
+marker_or_end tokens.comment_close h = refl
+marker_or_end tokens.end h = absurd (cc)
+marker_or_end (tokens.refused r) h = refl
+
+-- the tokens of the text begin so in either case
+tokens_left : (u : List ℕ) (given : List Token) (e : Bool) (l : Standing) (t : Token) → Left u given e l t → (us : List Token) × (tokens_of u ≡ given ++ t ∷ us)
+tokens_left u given true l t h = ([], h)
+tokens_left u given false l t h = (coming l [], h ∙ append_assoc given (t ∷ []) (coming l []))
+
+-- the end is passed between games alone
+end_at : (p : Profile) (s : Stage) (ps : List Pair) (name : List ℕ) → refusal p (record { stage = s; pairs = ps; name = name }) tokens.end ≡ None → s ≡ Between
+unfolding refusal
+end_at p Between ps name h = refl
+end_at p AfterBracket ps name h = absurd (cc)
+end_at p AfterName ps name h = absurd (cc)
+end_at p AfterValue ps name h = absurd (cc)
+end_at p AfterTags ps name h = absurd (cc)
+
+between_after : (s : Stage) (ps : List Pair) (name : List ℕ) (games : List Game) → s ≡ Between → (begun_with games (next (record { stage = s; pairs = ps; name = name }) tokens.end)).part.stage ≡ Between
+between_after s ps name games e = subst (λ s. (begun_with games (next (record { stage = s; pairs = ps; name = name }) tokens.end)).part.stage ≡ Between) (sym e) refl
+
+is_the_end : (k : Kind) → is_end k ≡ true → k ≡ tokens.end
+is_the_end tokens.left_bracket h = absurd (cc)
+is_the_end tokens.right_bracket h = absurd (cc)
+is_the_end tokens.left_paren h = absurd (cc)
+is_the_end tokens.right_paren h = absurd (cc)
+is_the_end tokens.period h = absurd (cc)
+is_the_end tokens.asterisk h = absurd (cc)
+is_the_end (tokens.symbol text) h = absurd (cc)
+is_the_end (tokens.str text) h = absurd (cc)
+is_the_end (tokens.glyph n) h = absurd (cc)
+is_the_end tokens.comment_open h = absurd (cc)
+is_the_end (tokens.word text) h = absurd (cc)
+is_the_end tokens.comment_close h = absurd (cc)
+is_the_end tokens.end h = refl
+is_the_end (tokens.refused r) h = absurd (cc)
+
+end_passes : (p : Profile) (b : Begun) (k : Kind) → is_end k ≡ true → refusal p b.part k ≡ None → (begun_with b.games (next b.part k)).part.stage ≡ Between
+end_passes p b k e none =
+    let k_is = is_the_end k e in
+    subst (λ j. (begun_with b.games (next b.part j)).part.stage ≡ Between) (sym k_is)
+    (between_after b.part.stage b.part.pairs b.part.name b.games
+    (end_at p b.part.stage b.part.pairs b.part.name (subst (λ j. refusal p b.part j ≡ None) k_is none)))
+
+-- the game at hand is let go
+let_go : (p : Profile) (c : Converter) (given : List Token) → HasRead p c given → HasRead p (record c { at_hand = None }) given
+let_go p c given h = record { profile = h.profile; no_fault = h.no_fault; passes = h.passes; agrees = h.agrees; games = h.games; at_hand = tt }
+
+-- a converter after a step behind the last piece
+abbrev pub closed : Standing → Reading → ℕ → Bool → Stepped → Converter
+closed l r games finished outcome = record (stepped l r games finished outcome) { at_hand = None }
+
+pub closes : (p : Profile) (old : Converter) (u : List ℕ) (given : List Token) (t : Token) (l : Standing) (new : Reading) (finished : Bool) (a c : Option (List ℕ))
+    (e : Bool) (r : Result Accepted Stopped) → is_end t.kind ≡ e → HasRead p old given → Left u given e l t → new.profile ≡ old.reading.profile
+    → Answers old.reading (read p given).begun.part t.kind new r a c → Stays old.reading new r → FinishesAtMarker t.kind new r
+    → AfterClosing p u given old (closed l new old.games finished (stepped_of t.at r)) (closed_with e (stepped_of t.at r)) a c
+closes p old u given t l new finished a c true (Ok accepted.More) is_e has_read left profile (none, leads, wrote) stays at_marker =
+    let more = has_read_more p old given t l new finished has_read profile none leads in
+    let passes = subst (λ q. refusal q (read p given).begun.part t.kind ≡ None) has_read.profile none in (
+      t,
+      record {
+        whole = left;
+        has_read = let_go p _ _ more;
+        between = more.agrees.stage ∙ ap (λ (r : Read). r.begun.part.stage) (read-passes p given t has_read.passes passes)
+            ∙ end_passes p (read p given).begun t.kind is_e passes;
+        same = same_games p old given t l new finished has_read profile none leads;
+        gains = gains_token p old given t l new finished has_read profile a c none wrote;
+      },
+      stays,
+    )
+closes p old u given t l new finished a c false (Ok accepted.More) is_e has_read left profile (none, leads, wrote) stays at_marker = (
+  t,
+  record {
+    left = left;
+    has_read = let_go p _ _ (has_read_more p old given t l new finished has_read profile none leads);
+    gains = gains_token p old given t l new finished has_read profile a c none wrote;
+  },
+  same_games p old given t l new finished has_read profile none leads,
+  stays,
+)
+closes p old u given t l new finished a c true (Ok accepted.Finished) is_e has_read left profile (none, leads, wrote) stays at_marker =
+    absurd (differ (sym is_e ∙ marker_or_end t.kind at_marker.0))
+  where
+    differ : true ≡ false → ⊥
+    differ h = absurd (cc)
+closes p old u given t l new finished a c false (Ok accepted.Finished) is_e has_read left profile (none, leads, wrote) stays at_marker = (
+  t,
+  record {
+    left = left;
+    has_read = let_go p _ _ (has_read_game p old given t l new finished has_read profile none leads);
+    gains = gains_token p old given t l new finished has_read profile a c none wrote;
+  },
+  one_game p old given t l new finished has_read profile none leads,
+)
+closes p old u given t l new finished a c e (Err (stopped.Refused reason)) is_e has_read left profile (some, wrote) stays at_marker =
+    let rest = tokens_left u given e l t left in
+    fails e (subst (λ ts. Stops p given ts a c (record { at = t.at; reason = reason })) (sym rest.1) (stops_refused p old given t l new finished has_read profile rest.0 a c reason some wrote))
+  where
+    fails : (e : Bool) → Stops p given (tokens_of u) a c (record { at = t.at; reason = reason })
+        → AfterClosing p u given old (closed l new old.games finished (Failed (record { at = t.at; reason = reason }))) (closed_with e (Failed (record { at = t.at; reason = reason }))) a c
+    fails true h = h
+    fails false h = h
+closes p old u given t l new finished a c e (Err stopped.Unwritten) is_e has_read left profile (none, wrote) stays at_marker =
+    let rest = tokens_left u given e l t left in
+    fails e (subst (λ ts. Stops p given ts a c (record { at = t.at; reason = WriteFault })) (sym rest.1) (unwritten t.at (writing p old given t l new finished has_read profile rest.0 a c none wrote)))
+  where
+    fails : (e : Bool) → Stops p given (tokens_of u) a c (record { at = t.at; reason = WriteFault })
+        → AfterClosing p u given old (closed l new old.games finished (stepped_of t.at (Err stopped.Unwritten))) (closed_with e (stepped_of t.at (Err stopped.Unwritten))) a c
+    fails true h = h
+    fails false h = h
+
+pub closes_fault : (p : Profile) (old new : Converter) (u : List ℕ) (given : List Token) (f : LexFault) (o : Option (List ℕ)) → HasRead p old given
+    → tokens_of u ≡ given ++ refusal_token f ∷ [] → AfterClosing p u given old new (Failed (record { at = f.at; reason = Lexical f.reason })) o o
+closes_fault p old new u given f o has_read whole =
+    subst (λ ts. Stops p given ts o o (record { at = f.at; reason = Lexical f.reason })) (sym whole) (stops_lexical p given f o has_read.passes)
+
+-- how a token waits, and how it ends
+pub advances : (e : Bool) (old new : Standing) (outcome : Stepped) → Nearer e old new → (outcome ≡ Finished → e ≡ false) → (outcome ≡ NeedMore → ⊥)
+    → CloseAdvances old new (closed_with e outcome)
+advances true old new NeedMore near marker some = some refl
+advances false old new NeedMore near marker some = some refl
+advances true old new More near marker some = tt
+advances false old new More near marker some = near.0
+advances true old new Finished near marker some = absurd (differ (marker refl))
+  where
+    differ : true ≡ false → ⊥
+    differ h = absurd (cc)
+advances false old new Finished near marker some = near.0
+advances true old new Ended near marker some = tt
+advances false old new Ended near marker some = tt
+advances true old new (Failed f) near marker some = tt
+advances false old new (Failed f) near marker some = tt
+
+-- the end has neither a fault of its own nor a failure
+pub fault_of_closed : (e : Bool) (outcome : Stepped) → fault_of_step outcome ≡ fault_of_step (closed_with e outcome)
+fault_of_closed true NeedMore = refl
+fault_of_closed false NeedMore = refl
+fault_of_closed true More = refl
+fault_of_closed false More = refl
+fault_of_closed true Finished = refl
+fault_of_closed false Finished = refl
+fault_of_closed true Ended = refl
+fault_of_closed false Ended = refl
+fault_of_closed true (Failed f) = refl
+fault_of_closed false (Failed f) = refl
+
+-- an answer of the reader counts as the step that it is
+counts_refused : (r : Reason) (old new : ℕ) → new ≡ old → IsFalse (is_outside_the_table r) → CountsReason r old new
+counts_refused (Lexical x) old new same h = same
+counts_refused ExpectedName old new same h = same
+counts_refused BadTagName old new same h = same
+counts_refused DuplicateTag old new same h = same
+counts_refused TooManyTags old new same h = same
+counts_refused ExpectedValue old new same h = same
+counts_refused BadResult old new same h = same
+counts_refused (BadFen field) old new same h = same
+counts_refused TagLineTooLong old new same h = same
+counts_refused ExpectedBracket old new same h = same
+counts_refused SetUpWithoutFen old new same h = same
+counts_refused ReducedFen old new same h = same
+counts_refused TagInMovetext old new same h = same
+counts_refused NotAMove old new same h = same
+counts_refused IllegalMove old new same h = same
+counts_refused AmbiguousMove old new same h = same
+counts_refused MoveLimit old new same h = same
+counts_refused NoMoveBefore old new same h = same
+counts_refused TooDeep old new same h = same
+counts_refused UnmatchedClose old new same h = same
+counts_refused MarkerInVariation old new same h = same
+counts_refused ResultDiffers old new same h = same
+counts_refused UnexpectedEnd old new same h = same
+counts_refused ReadFault old new same h = absurd (cc)
+counts_refused WriteFault old new same h = absurd (cc)
+counts_refused InputTooLong old new same h = absurd (cc)
+counts_refused Changed old new same h = absurd (cc)
+
+pub counts_token : (at : ℕ) (r : Result Accepted Stopped) (old new : ℕ) → CountsWrites r old new → CountsStep (stepped_of at r) old new
+counts_token at (Ok accepted.More) old new h = h
+counts_token at (Ok accepted.Finished) old new h = h
+counts_token at (Err (stopped.Refused reason)) old new h = counts_refused reason old new h.0 h.1
+counts_token at (Err stopped.Unwritten) old new h = h
+
+pub counts_closed : (e : Bool) (outcome : Stepped) (old new : ℕ) → CountsStep outcome old new → CountsStep (closed_with e outcome) old new
+counts_closed true NeedMore old new h = h
+counts_closed false NeedMore old new h = h
+counts_closed true More old new h = h
+counts_closed false More old new h = h
+counts_closed true Finished old new h = h
+counts_closed false Finished old new h = h
+counts_closed true Ended old new h = h
+counts_closed false Ended old new h = h
+counts_closed true (Failed f) old new h = h
+counts_closed false (Failed f) old new h = h
+
+pub not_at_hand : (b : Bool) (ps : List Pair) → pairs_if b ps ≡ None → b ≡ false
+not_at_hand true ps h = absurd (cc)
+not_at_hand false ps h = refl
+
+-- before the first step behind the last piece
+pub closed_none : (p : Profile) (old : Converter) (u : List ℕ) (b : Option ℕ) (given : List Token) (o : Option (List ℕ)) → Stands p old u b given
+    → ClosedSoFar p u given (record old { at_hand = None }) false o o
+closed_none p old u b given o stands =
+    record {
+      tokens = given;
+      left = ap tokens_of (sym (append-nil u)) ∙ stands.lexer.tokens [] (follows_end b);
+      has_read = let_go p old given stands.has_read;
+      no_fewer = le_refl (length (read p given).begun.games);
+      game = (λ h. absurd (cc), λ h. absurd (omega (arith, h)));
+      last = λ h. absurd (cc);
+      gains = gains_none p given o;
+    }
+  where
+    follows_end : (b : Option ℕ) → Follows b []
+    follows_end None = tt
+    follows_end (Some x) = tt
+
+module _ (p : Profile) (u : List ℕ) (given : List Token) (now new : Converter) (is_game : Bool) (a c d : Option (List ℕ)) (so : ClosedSoFar p u given now is_game a c) where
+  same_length : (ts : List Token) → SameGames p so.tokens ts
+      → IsTrue is_game ↔ (length (read p given).begun.games < length (read p ts).begun.games)
+  same_length ts same = subst (λ gs. IsTrue is_game ↔ (length (read p given).begun.games < length {A = Game} gs)) (sym same) so.game
+
+  held_still : (ts : List Token) → SameGames p so.tokens ts → StaysBetween now new
+      → IsTrue is_game → new.reading.stage ≡ Between → AreLast (Some new.reading.tags.held) (read p ts).begun.games
+  held_still ts same stays h between =
+      let kept = stays between in
+      subst (λ gs. AreLast (Some new.reading.tags.held) gs) (sym same)
+      (subst (λ (r : Reading). AreLast (Some r.tags.held) (read p so.tokens).begun.games) (sym kept)
+      (so.last h (ap (λ (r : Reading). r.stage) (sym kept) ∙ between)))
+
+  pub closed_more : AfterClosing p u so.tokens now new More c d → ClosedSoFar p u given new is_game a d
+  closed_more (t, took, same, stays) =
+      record {
+        tokens = so.tokens ++ t ∷ [];
+        left = took.left;
+        has_read = took.has_read;
+        no_fewer = subst (λ gs. length (read p given).begun.games ≤ length {A = Game} gs) (sym same) so.no_fewer;
+        game = same_length _ same;
+        last = held_still _ same stays;
+        gains = gains_more p given so.tokens _ a c d so.gains took.gains;
+      }
+
+  pub closed_game : AfterClosing p u so.tokens now new Finished c d → ClosedSoFar p u given new true a d
+  closed_game (t, took, (g, one, held)) =
+      let count : length (read p (so.tokens ++ t ∷ [])).begun.games ≡ length (read p so.tokens).begun.games + 1 =
+      ap (length {A = Game}) one ∙ length-append (read p so.tokens).begun.games (g ∷ []) in
+      record {
+        tokens = so.tokens ++ t ∷ [];
+        left = took.left;
+        has_read = took.has_read;
+        no_fewer = omega (arith, count, so.no_fewer);
+        game = (λ h. omega (arith, count, so.no_fewer), λ h. refl);
+        last = λ h between. ((read p so.tokens).begun.games, g, one, held);
+        gains = gains_more p given so.tokens _ a c d so.gains took.gains;
+      }
+
+  pub closed_end : (flag : Bool) → AfterClosing p u so.tokens now new Ended c d → (new.reading.stage ≡ Between → flag ≡ is_game)
+      → Finishes p u given (record { lexer = new.lexer; reading = new.reading; games = new.games; at_hand = pairs_if flag new.reading.tags.held; is_finished = true; fault = new.fault }) is_game a d
+  closed_end flag (t, took, stays) e =
+      let h = took.has_read in
+      let same_flag = e took.between in
+      let held = hands (so.tokens ++ t ∷ []) flag (λ h. held_still _ took.same stays (subst IsTrue same_flag h) took.between) in
+      record {
+        has_read = subst (HasRead p _) (sym took.whole) (record { profile = h.profile; no_fault = h.no_fault; passes = h.passes; agrees = h.agrees; games = h.games; at_hand = held });
+        game = subst (λ ts. IsTrue is_game ↔ (length (read p given).begun.games < length (read p ts).begun.games)) (sym took.whole) (same_length _ took.same);
+        at_hand = λ is. (new.reading.tags.held, ap (λ b. pairs_if b new.reading.tags.held) (same_flag ∙ is));
+        none_at_hand = λ is. ap (λ b. pairs_if b new.reading.tags.held) (same_flag ∙ is);
+        gains = subst (λ ts. Gains p given ts a d) (sym took.whole) (gains_more p given so.tokens _ a c d so.gains took.gains);
+      }
+    where
+      hands : (ts : List Token) (b : Bool) → (IsTrue b → AreLast (Some new.reading.tags.held) (read p ts).begun.games) → AreLast (pairs_if b new.reading.tags.held) (read p ts).begun.games
+      hands ts true h = h refl
+      hands ts false h = tt
+
+  pub closed_fault : (f : Fault) → AfterClosing p u so.tokens now new (Failed f) c d → Stops p given (tokens_of u) a d f
+  closed_fault f stops = stops_more p given so.tokens (tokens_of u) f a c d so.gains stops

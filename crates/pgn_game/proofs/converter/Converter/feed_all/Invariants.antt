@@ -1,0 +1,18 @@
+use Rattle.std.proofs.Common.{◌≡◌, ◌≤◌, ◌+◌, ◌-◌, ◌*◌, None, false, length}
+use Rattle.pgn_lexer.specs.Standing.{waiting}
+use Rattle.pgn_game.specs.Stepping.{FeedsAllSoFar}
+use Rattle.pgn_game.proofs.converter.Converter.feed_all.Given as goal
+
+abbrev pub invariant-loop-used : goal.invariant-loop-used
+invariant-loop-used g l =
+    record {
+      within : l.at ≤ length l.piece;
+      count : l.self.lexer.count ≡ l.fn.self.lexer.count + l.at;
+      fault : l.self.fault ≡ None;
+      going : l.self.is_finished ≡ false;
+      counted : g.W.Sink.failures l.out ≡ g.W.Sink.failures l.fn.out;
+      feeds : FeedsAllSoFar l.fn.self l.piece l.at l.self (g.W.Sink.taken l.fn.out) (g.W.Sink.taken l.out);
+    }
+
+abbrev pub decreases-loop-used : goal.decreases-loop-used
+decreases-loop-used g l = 2 * (length l.initial.piece - l.at) + waiting l.self.lexer

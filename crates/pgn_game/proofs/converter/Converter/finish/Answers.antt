@@ -1,0 +1,86 @@
+use Rattle.std.proofs.Common.{rules, refl, sym, ap, subst, ◌∙◌}
+use Rattle.pgn_game.specs.Feeding.{Converter, Stands}
+use Rattle.pgn_game.proofs.AtEnd.{closed_none, closed_more, closed_game, closed_end, closed_fault}
+use Rattle.pgn_game.proofs.InPiece.{counts_step}
+use Rattle.pgn_game.specs.Stepping.{AfterClosing}
+use Rattle.pgn_game.specs.declared.converter.Stepped.TheVariants.{Ended}
+use Rattle.pgn_game.proofs.converter.Converter.finish.Goals as goal
+use Rattle.pgn_game.proofs.converter.Converter.finish.Goals.{then-is_game, else-is_game}
+
+pub loop-is_game-init : goal.loop-is_game-init
+loop-is_game-init g c =
+    record {
+      fault = c.in_default.is;
+      hand = refl;
+      going = ap (λ (s : Converter). s.is_finished) c.self.view_is ∙ c.requires.going;
+      counted = refl;
+      closes = λ p u b given stands. closed_none p _ u b given _ (subst (λ (s : Converter). Stands p s u b given) (sym c.self.view_is) stands);
+    }
+
+pub close-requires : goal.close-requires
+close-requires g c = (search rules, (c.loop-is_game.invariant.fault, c.loop-is_game.invariant.hand))
+
+pub loop-is_game-preserved-in-NeedMore : goal.loop-is_game-preserved-in-NeedMore
+loop-is_game-preserved-in-NeedMore g c = absurd (rw c.in-NeedMore.is at c.close.ensures.advances)
+
+pub loop-is_game-smaller-in-More : goal.loop-is_game-smaller-in-More
+loop-is_game-smaller-in-More g c = rw c.in-More.is at c.close.ensures.advances
+
+pub loop-is_game-preserved-in-More : goal.loop-is_game-preserved-in-More
+loop-is_game-preserved-in-More g c =
+    let after = rw c.in-More.is at c.close.ensures.after in
+    let counted = rw c.in-More.is at c.close.ensures.counted in
+    record {
+      fault = rw c.in-More.is at c.close.ensures.fault;
+      hand = c.close.ensures.hand;
+      going = c.close.ensures.going ∙ c.loop-is_game.invariant.going;
+      counted = counted ∙ c.loop-is_game.invariant.counted;
+      closes = λ p u b given stands.
+          let so = c.loop-is_game.invariant.closes p u b given stands in
+          closed_more p u given _ _ _ _ _ _ so (after p u _ so.left so.has_read);
+    }
+
+pub loop-is_game-smaller : goal.loop-is_game-smaller
+loop-is_game-smaller g c = rw c.in-Finished.is at c.close.ensures.advances
+
+pub loop-is_game-preserved : goal.loop-is_game-preserved
+loop-is_game-preserved g c =
+    let after = rw c.in-Finished.is at c.close.ensures.after in
+    let counted = rw c.in-Finished.is at c.close.ensures.counted in
+    record {
+      fault = rw c.in-Finished.is at c.close.ensures.fault;
+      hand = c.close.ensures.hand;
+      going = c.close.ensures.going ∙ c.loop-is_game.invariant.going;
+      counted = counted ∙ c.loop-is_game.invariant.counted;
+      closes = λ p u b given stands.
+          let so = c.loop-is_game.invariant.closes p u b given stands in
+          closed_game p u given _ _ _ _ _ _ so (after p u _ so.left so.has_read);
+    }
+
+pub returns-in-Ended-clause-ends : goal.returns-in-Ended-clause-ends
+returns-in-Ended-clause-ends g c p u b given stands =
+    let so = c.loop-is_game.invariant.closes p u b given stands in
+    let after = rw c.in-Ended.is at c.close.ensures.after in
+    let here = subst (λ (s : Converter). AfterClosing p u so.tokens c.loop-is_game.self s Ended (g.W.Sink.taken c.loop-is_game.out) (g.W.Sink.taken c.close.new.out))
+    (sym c.self-in-loop-is_game.view_is) (after p u _ so.left so.has_read) in
+    closed_end p u given _ _ c.loop-is_game.is_game _ _ _ so c.if-is_game.self here
+    (λ between. elim c.if-is_game.branch [ then-is_game w ↦ w.self-is ∙ w.is_between-self-inside.ensures.1 between ∙ sym w.if-is_game.true | else-is_game w ↦ w.self-is ])
+
+pub returns-in-Ended-clause-counted : goal.returns-in-Ended-clause-counted
+returns-in-Ended-clause-counted g c none =
+    let counted = rw c.in-Ended.is at c.close.ensures.counted in
+    counted ∙ c.loop-is_game.invariant.counted
+
+pub returns-in-Failed-clause-ends : goal.returns-in-Failed-clause-ends
+returns-in-Failed-clause-ends g c p u b given stands =
+    let after = rw c.in-Failed.is at c.close.ensures.after in
+    let so = c.loop-is_game.invariant.closes p u b given stands in
+    closed_fault p u given _ c.close.new.self _ _ _ _ so c.in-Failed.fault (after p u _ so.left so.has_read)
+
+pub returns-in-Failed-clause-finished : goal.returns-in-Failed-clause-finished
+returns-in-Failed-clause-finished g c = c.close.ensures.going ∙ c.loop-is_game.invariant.going
+
+pub returns-in-Failed-clause-counted : goal.returns-in-Failed-clause-counted
+returns-in-Failed-clause-counted g c none =
+    let counted = rw c.in-Failed.is at c.close.ensures.counted in
+    counts_step c.in-Failed.fault.reason _ _ _ c.loop-is_game.invariant.counted counted

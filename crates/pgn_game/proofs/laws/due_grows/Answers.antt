@@ -1,0 +1,5 @@
+use Rattle.pgn_game.proofs.Growing.{due_grows}
+use Rattle.pgn_game.proofs.laws.due_grows.Goals as goal
+
+pub returns : goal.returns
+returns c = due_grows

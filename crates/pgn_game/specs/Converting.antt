@@ -1,0 +1,137 @@
+-- What a conversion of a whole input does.
+use Rattle.std.specs.Prelude.{◌≡◌, ℕ, ◌^◌, ◌<◌, List, [], ◌++◌, length, Option, None, Result, Ok, Err, IfSome}
+use Rattle.std.specs.Io.KnownBytes.{Appends, Consumes}
+use Rattle.pgn_layout.specs.Device.{one_more}
+use Rattle.pgn_lexer.specs.Tokens.{Token}
+use Rattle.pgn_lexer.specs.TokensOf.{tokens_of}
+use Rattle.pgn_lexer.specs.Decided.{decided}
+use Rattle.pgn_game.specs.declared.reason.Reason.{Reason}
+use Rattle.pgn_game.specs.declared.reason.Reason.TheVariants.{ReadFault, WriteFault, InputTooLong, Changed}
+use Rattle.pgn_game.specs.declared.reason.Fault.{Fault}
+use Rattle.pgn_game.specs.declared.whole.Totals.{Totals}
+use Rattle.pgn_game.specs.Profile.{Profile}
+use Rattle.pgn_game.specs.Begun.{read, due, output, Verdict, refused as is_refused, totals, verdict}
+use Rattle.pgn_game.specs.Due.{Gains}
+use Rattle.pgn_game.specs.Feeding.{Converter, Stands, StopsWriting, Stops, FedFault}
+
+-- the verdict that has these numbers
+abbrev pub verdict_in : Totals → Verdict
+verdict_in t = totals (record { games = t.games; plies = t.plies })
+
+-- the text s is converted: its verdict is v, and its output is written
+abbrev pub IsConverted : Profile → List ℕ → Verdict → Option (List ℕ) → Option (List ℕ) → Type 0
+IsConverted p s v before after = (verdict p s ≡ v) × Appends before after (output p s)
+
+-- After the bytes u, of which nothing is refused, no more are read: what they decide is written.
+pub record ReadsNoMore (p : Profile) (u : List ℕ) (before after : Option (List ℕ)) : Type 0 where
+  pub passes : (read p (decided u)).fault ≡ None
+  pub appended : Appends before after (due p (decided u))
+
+-- How a conversion of a slice fails: by the text's own fault, or because a write failed; or since the slice is too long.
+pub data FailsOn (p : Profile) (text : List ℕ) (before after : Option (List ℕ)) : Fault → Type 0 where
+  refused : (f : Fault) → IsConverted p text (is_refused f) before after → FailsOn p text before after f
+  unwritten : (at : ℕ) → StopsWriting p [] (tokens_of text) at before after → FailsOn p text before after (record { at = at; reason = WriteFault })
+  too_long : (u rest : List ℕ) → text ≡ u ++ rest → length u ≡ 2 ^ 62 → 0 < length rest → ReadsNoMore p u before after
+      → FailsOn p text before after (record { at = length u; reason = InputTooLong })
+
+abbrev pub ConvertsSlice : Profile → List ℕ → Result Totals Fault → Option (List ℕ) → Option (List ℕ) → Type 0
+ConvertsSlice p text (Ok t) before after = IsConverted p text (verdict_in t) before after
+ConvertsSlice p text (Err f) before after = FailsOn p text before after f
+
+-- How a conversion fails: by the input's own fault; because a read failed behind the bytes u; because a write failed when the bytes
+-- u were read; or since the byte at place 2^62 came.
+pub data Fails (p : Profile) (left_old left_new : Option (List ℕ)) (before after : Option (List ℕ)) : Fault → Type 0 where
+  refused : (f : Fault) → IfSome left_old (λ s. IsConverted p s (is_refused f) before after) → Fails p left_old left_new before after f
+  unread : (u : List ℕ) → Consumes left_old left_new u → ReadsNoMore p u before after → Fails p left_old left_new before after (record { at = length u; reason = ReadFault })
+  unwritten : (u : List ℕ) (at : ℕ) → Consumes left_old left_new u → StopsWriting p [] (tokens_of u) at before after
+      → Fails p left_old left_new before after (record { at = at; reason = WriteFault })
+  too_long : (u rest : List ℕ) → Consumes left_old left_new (u ++ rest) → length u ≡ 2 ^ 62 → 0 < length rest → ReadsNoMore p u before after
+      → Fails p left_old left_new before after (record { at = length u; reason = InputTooLong })
+
+-- What the source has left is converted, up to its end.
+abbrev pub Converts : Profile → Option (List ℕ) → Option (List ℕ) → Result Totals Fault → Option (List ℕ) → Option (List ℕ) → Type 0
+Converts p left_old left_new (Ok t) before after = IfSome left_old (λ s. IsConverted p s (verdict_in t) before after)
+Converts p left_old left_new (Err f) before after = Fails p left_old left_new before after f
+
+-- 50 is answered where the source counts one failure more, 51 where the sink does, and nowhere else does one count.
+abbrev pub CountsDevices : Reason → ℕ → ℕ → ℕ → ℕ → Type 0
+CountsDevices ReadFault source_old source_new sink_old sink_new = (source_new ≡ one_more source_old) × (sink_new ≡ sink_old)
+CountsDevices WriteFault source_old source_new sink_old sink_new = (source_new ≡ source_old) × (sink_new ≡ one_more sink_old)
+CountsDevices _ source_old source_new sink_old sink_new = (source_new ≡ source_old) × (sink_new ≡ sink_old)
+
+abbrev pub CountsResult : Result Totals Fault → ℕ → ℕ → ℕ → ℕ → Type 0
+CountsResult (Ok t) source_old source_new sink_old sink_new = (source_new ≡ source_old) × (sink_new ≡ sink_old)
+CountsResult (Err f) source_old source_new sink_old sink_new = CountsDevices f.reason source_old source_new sink_old sink_new
+
+-- the same where there is no source
+abbrev pub CountsWriting : Reason → ℕ → ℕ → Type 0
+CountsWriting WriteFault old new = new ≡ one_more old
+CountsWriting _ old new = new ≡ old
+
+abbrev pub CountsSink : {A : Type 0} → Result A Fault → ℕ → ℕ → Type 0
+CountsSink (Ok t) old new = new ≡ old
+CountsSink (Err f) old new = CountsWriting f.reason old new
+
+-- The piece, or what of it stands before place 2^62, was fed to a converter that had read all that the bytes u decide.
+pub record FedWithin (p : Profile) (u : List ℕ) (given : List Token) (piece : List ℕ) (new : Converter) (before after : Option (List ℕ)) : Type 0 where
+  pub tokens : List Token
+  pub stands : Stands p new (u ++ piece) None tokens
+  pub decided : tokens ≡ decided (u ++ piece)
+  pub gains : Gains p given tokens before after
+
+-- the byte at place 2^62 is in the piece, and what stands before it was fed
+pub record FedTooMuch (p : Profile) (u : List ℕ) (given : List Token) (piece : List ℕ) (before after : Option (List ℕ)) : Type 0 where
+  pub front : List ℕ
+  pub rest : List ℕ
+  pub tokens : List Token
+  pub cut : piece ≡ front ++ rest
+  pub place : length (u ++ front) ≡ 2 ^ 62
+  pub some : 0 < length rest
+  pub decided : tokens ≡ decided (u ++ front)
+  pub passes : (read p tokens).fault ≡ None
+  pub gains : Gains p given tokens before after
+
+pub data StopsWithin (p : Profile) (u : List ℕ) (given : List Token) (piece : List ℕ) (before after : Option (List ℕ)) : Fault → Type 0 where
+  fed : (f : Fault) → FedFault p u None given piece f before after → StopsWithin p u given piece before after f
+  too_long : FedTooMuch p u given piece before after → StopsWithin p u given piece before after (record { at = 2 ^ 62; reason = InputTooLong })
+
+abbrev pub AfterWithin : Profile → List ℕ → List Token → List ℕ → Converter → Result Unit Fault → Option (List ℕ) → Option (List ℕ) → Type 0
+AfterWithin p u given piece new (Ok done) before after = FedWithin p u given piece new before after
+AfterWithin p u given piece new (Err f) before after = StopsWithin p u given piece before after f
+
+abbrev pub FeedsWithin : Converter → List ℕ → Converter → Result Unit Fault → Option (List ℕ) → Option (List ℕ) → Type 0
+FeedsWithin old piece new result before after =
+    (p : Profile) (u : List ℕ) (given : List Token) → Stands p old u None given → given ≡ decided u → AfterWithin p u given piece new result before after
+
+abbrev pub AfterSome : Profile → List ℕ → List Token → List ℕ → Converter → Result Unit Fault → Option (List ℕ) → Option (List ℕ) → Type 0
+AfterSome p u given piece new (Ok done) before after = FedWithin p u given piece new before after
+AfterSome p u given piece new (Err f) before after = FedFault p u None given piece f before after
+
+abbrev pub FeedsSome : Converter → List ℕ → Converter → Result Unit Fault → Option (List ℕ) → Option (List ℕ) → Type 0
+FeedsSome old piece new result before after =
+    (p : Profile) (u : List ℕ) (given : List Token) → Stands p old u None given → given ≡ decided u → AfterSome p u given piece new result before after
+
+-- a piece counts nothing but a write that fails; 50 and 53 are never answered to one
+abbrev pub CountsWithin : Reason → ℕ → ℕ → Type 0
+CountsWithin WriteFault old new = new ≡ one_more old
+CountsWithin ReadFault old new = ⊥
+CountsWithin Changed old new = ⊥
+CountsWithin _ old new = new ≡ old
+
+abbrev pub CountsPiece : Result Unit Fault → ℕ → ℕ → Type 0
+CountsPiece (Ok done) old new = new ≡ old
+CountsPiece (Err f) old new = CountsWithin f.reason old new
+
+-- How a conversion ends behind the bytes u, which are then the whole input.
+abbrev pub AfterEnd : Profile → List ℕ → List Token → Result Totals Fault → Option (List ℕ) → Option (List ℕ) → Type 0
+AfterEnd p u given (Ok t) before after = (verdict p u ≡ verdict_in t) × Gains p given (tokens_of u) before after
+AfterEnd p u given (Err f) before after = Stops p given (tokens_of u) before after f
+
+-- What was read of a source so far, and fed.
+pub record ReadSoFar (p : Profile) (left_old left_now : Option (List ℕ)) (now : Converter) (before after : Option (List ℕ)) : Type 0 where
+  pub bytes : List ℕ
+  pub tokens : List Token
+  pub consumed : Consumes left_old left_now bytes
+  pub stands : Stands p now bytes None tokens
+  pub decided : tokens ≡ decided bytes
+  pub gains : Gains p [] tokens before after

@@ -1,0 +1,209 @@
+-- What a contract sees of a converter, and what a call does to it.
+use Rattle.std.specs.Prelude.{◌≡◌, ℕ, ◌+◌, ◌*◌, ◌^◌, ◌<◌, ◌≤◌, ◌↔◌, Bool, true, false, IsTrue, List, [], ◌∷◌, ◌++◌, length, take, drop, Option, None, Some, Result, Ok, Err}
+use Rattle.std.specs.Io.KnownBytes.{Appends}
+use Rattle.pgn_layout.specs.Device.{one_more}
+use Rattle.pgn_lexer.specs.Tokens.{Token, EndsAt}
+use Rattle.pgn_lexer.specs.TokensOf.{tokens_of}
+use Rattle.pgn_lexer.specs.Decided.{decided}
+use Rattle.pgn_lexer.specs.Standing.{Standing, waiting}
+use Rattle.pgn_lexer.specs.Stands.{StandsAfter, Follows, IsDecided, first, still}
+use Rattle.pgn_game.specs.declared.mode.Mode.{Mode}
+use Rattle.pgn_game.specs.declared.reason.Reason.{Reason}
+use Rattle.pgn_game.specs.declared.reason.Reason.TheVariants.{ReadFault, WriteFault, InputTooLong, Changed}
+use Rattle.pgn_game.specs.declared.reason.Fault.{Fault}
+use Rattle.pgn_game.specs.declared.stage.Stage.TheVariants.{Between}
+use Rattle.pgn_game.specs.declared.converter.Fed.{Fed}
+use Rattle.pgn_game.specs.declared.converter.Fed.TheVariants.{All, Game as GameEnd}
+use Rattle.pgn_game.specs.Profile.{Profile, counts_as_unknown}
+use Rattle.pgn_game.specs.Pairs.{Pair, value_of}
+use Rattle.pgn_game.specs.TagSection.{exported}
+use Rattle.pgn_game.specs.Game.{Game}
+use Rattle.pgn_game.specs.Begun.{read, due}
+use Rattle.pgn_game.specs.Due.{Gains}
+use Rattle.pgn_game.specs.Reading.{Reading, Agrees}
+
+-- the lexer, the reader, how many games were finished, the pairs of the game at hand, whether the input has ended, and the fault
+pub record Converter : Type 0 where
+  pub lexer : Standing
+  pub reading : Reading
+  pub games : ℕ
+  pub at_hand : Option (List Pair)
+  pub is_finished : Bool
+  pub fault : Option Fault
+
+-- the profile of a converter for at most so many pairs and levels
+abbrev pub profile_of : ℕ → ℕ → Mode → Profile
+profile_of most depth mode = record { tags = most; depth = depth; mode = mode; missing_result = counts_as_unknown }
+
+-- the pairs of the reader, while a game is at hand
+abbrev pub pairs_if : Bool → List Pair → Option (List Pair)
+pairs_if true pairs = Some pairs
+pairs_if false pairs = None
+
+-- What a converter keeps to. Before a fault its reader has not failed, and its counts stay small: a byte ends at most two tokens, so
+-- the games fit. A game is at hand only between games, and not after a fault.
+pub record IsSound (lexer : Standing) (reading : Reading) (games : ℕ) (is_at_hand : Bool) (fault : Option Fault) : Type 0 where
+  pub count : fault ≡ None → lexer.count ≤ 2 ^ 62
+  pub going : fault ≡ None → reading.layout.has_failed ≡ false
+  pub few : fault ≡ None → games + waiting lexer ≤ 2 * lexer.count + 2
+  pub between : IsTrue is_at_hand → reading.stage ≡ Between
+  pub no_fault : IsTrue is_at_hand → fault ≡ None
+
+-- the value of a name in the tag section of the game at hand
+abbrev pub value_at_hand : Converter → List ℕ → Option (List ℕ)
+value_at_hand c name = elim c.at_hand [ None ↦ None | Some pairs ↦ value_of (exported c.reading.profile.mode (42 ∷ []) pairs) name ]
+
+-- the pairs at hand are those of the last game
+abbrev pub AreLast : Option (List Pair) → List Game → Type 0
+AreLast None games = Unit {0}
+AreLast (Some pairs) games = (earlier : List Game) × (g : Game) × (games ≡ earlier ++ g ∷ []) × (pairs ≡ g.pairs)
+
+-- The converter has read these tokens: none is refused, its reader agrees with the part that they leave, and its count and the game at
+-- hand are theirs.
+pub record HasRead (p : Profile) (c : Converter) (given : List Token) : Type 0 where
+  pub profile : c.reading.profile ≡ p
+  pub no_fault : c.fault ≡ None
+  pub passes : (read p given).fault ≡ None
+  pub agrees : Agrees c.reading (read p given).begun.part
+  pub games : c.games ≡ length (read p given).begun.games
+  pub at_hand : AreLast c.at_hand (read p given).begun.games
+
+-- The converter stands after the bytes u, of which the lexer has given these tokens; b, where there is one, is known to be next.
+pub record Stands (p : Profile) (c : Converter) (u : List ℕ) (b : Option ℕ) (given : List Token) : Type 0 where
+  pub lexer : StandsAfter c.lexer u b given
+  pub has_read : HasRead p c given
+
+-- Where a write failed: of what is due for the tokens up to `token`, of which none is refused, a front was written, not all, and at least
+-- what is due for those before it. So it is the first token up to which more is due than was written.
+pub record StopsWriting (p : Profile) (given tokens : List Token) (at : ℕ) (before after : Option (List ℕ)) : Type 0 where
+  pub front : List Token
+  pub token : Token
+  pub rest : List Token
+  pub cut : tokens ≡ front ++ token ∷ rest
+  pub place : token.at ≡ at
+  pub passes : (read p (front ++ token ∷ [])).fault ≡ None
+  pub text : List ℕ
+  pub due_for : due p (front ++ token ∷ []) ≡ due p given ++ text
+  pub count : ℕ
+  pub least : length (due p front) ≤ length (due p given) + count
+  pub short : count < length text
+  pub appended : Appends before after (take count text)
+
+-- How reading stops among these tokens, of which the first were read before: at the one that is refused first, with all
+-- written that is due for those before it; or where a write failed.
+pub data Stops (p : Profile) (given tokens : List Token) (before after : Option (List ℕ)) : Fault → Type 0 where
+  refused : (f : Fault) → (read p tokens).fault ≡ Some f → Gains p given tokens before after → Stops p given tokens before after f
+  unwritten : (at : ℕ) → StopsWriting p given tokens at before after → Stops p given tokens before after (record { at = at; reason = WriteFault })
+
+-- the tokens of every text that goes on from here begin with these
+abbrev pub AreNext : List ℕ → Option ℕ → List Token → Type 0
+AreNext u b tokens = (s : List ℕ) → Follows b s → (rest : List Token) × (tokens_of (u ++ s) ≡ tokens ++ rest)
+
+-- The whole piece was used: all tokens that are decided then were read, none finished a game, and what they gain was written.
+pub record FedAll (p : Profile) (u : List ℕ) (b : Option ℕ) (given : List Token) (piece : List ℕ) (new : Converter) (before after : Option (List ℕ)) : Type 0 where
+  pub tokens : List Token
+  pub stands : Stands p new (u ++ piece) (still b piece) tokens
+  pub decided : 0 < length piece → tokens ≡ decided (u ++ piece)
+  pub empty : length piece ≡ 0 → tokens ≡ given
+  pub no_game : (read p tokens).begun.games ≡ (read p given).begun.games
+  pub none_at_hand : new.at_hand ≡ None
+  pub gains : Gains p given tokens before after
+
+-- The used bytes end with a marker: it finished a game, which is at hand, and no token before it did; what they gain was written.
+pub record FedGame (p : Profile) (u : List ℕ) (given : List Token) (piece : List ℕ) (used : ℕ) (new : Converter) (before after : Option (List ℕ)) : Type 0 where
+  pub tokens : List Token
+  pub marker : Token
+  pub game : Game
+  pub stands : Stands p new (u ++ take used piece) (first (drop used piece)) (tokens ++ marker ∷ [])
+  pub decided : IsDecided (u ++ take used piece) (drop used piece) (tokens ++ marker ∷ [])
+  pub ends : EndsAt marker.kind marker.at (length u + used)
+  pub no_game : (read p tokens).begun.games ≡ (read p given).begun.games
+  pub one_game : (read p (tokens ++ marker ∷ [])).begun.games ≡ (read p given).begun.games ++ game ∷ []
+  pub at_hand : new.at_hand ≡ Some game.pairs
+  pub gains : Gains p given (tokens ++ marker ∷ []) before after
+
+-- a token that is known by now is refused, or a write failed
+pub record FedFault (p : Profile) (u : List ℕ) (b : Option ℕ) (given : List Token) (piece : List ℕ) (f : Fault) (before after : Option (List ℕ)) : Type 0 where
+  pub tokens : List Token
+  pub next : AreNext (u ++ piece) (still b piece) tokens
+  pub stops : Stops p given tokens before after f
+
+-- the games that were whole before reading stopped
+abbrev pub games_before : {p : Profile} {given tokens : List Token} {before after : Option (List ℕ)} {f : Fault} → Stops p given tokens before after f → List Game
+games_before {p} {given} {tokens} (refused f fault gains) = (read p tokens).begun.games
+games_before {p} (unwritten at writing) = (read p writing.front).begun.games
+
+-- and before it no game was finished
+pub record FedToFault (p : Profile) (u : List ℕ) (b : Option ℕ) (given : List Token) (piece : List ℕ) (f : Fault) (before after : Option (List ℕ)) : Type 0 where
+  pub fed : FedFault p u b given piece f before after
+  pub no_game : games_before fed.stops ≡ (read p given).begun.games
+
+abbrev pub AfterFeed : Profile → List ℕ → Option ℕ → List Token → List ℕ → Converter → Result Fed Fault → Option (List ℕ) → Option (List ℕ) → Type 0
+AfterFeed p u b given piece new (Ok All) before after = FedAll p u b given piece new before after
+AfterFeed p u b given piece new (Ok (GameEnd used)) before after = FedGame p u given piece used new before after
+AfterFeed p u b given piece new (Err f) before after = FedToFault p u b given piece f before after
+
+-- What `feed` does to a converter that stands after any bytes.
+abbrev pub Feeds : Converter → List ℕ → Converter → Result Fed Fault → Option (List ℕ) → Option (List ℕ) → Type 0
+Feeds old piece new result before after =
+    (p : Profile) (u : List ℕ) (b : Option ℕ) (given : List Token) → Stands p old u b given → Follows b piece → AfterFeed p u b given piece new result before after
+
+-- How a call that feeds the whole piece ends, however many games are finished in it.
+abbrev pub AfterFeedAll : Profile → List ℕ → Option ℕ → List Token → List ℕ → Converter → Result Unit Fault → Option (List ℕ) → Option (List ℕ) → Type 0
+AfterFeedAll p u b given piece new (Ok done) before after =
+    (tokens : List Token) × Stands p new (u ++ piece) (still b piece) tokens × (0 < length piece → tokens ≡ decided (u ++ piece)) × Gains p given tokens before after
+AfterFeedAll p u b given piece new (Err f) before after = FedFault p u b given piece f before after
+
+abbrev pub FeedsAll : Converter → List ℕ → Converter → Result Unit Fault → Option (List ℕ) → Option (List ℕ) → Type 0
+FeedsAll old piece new result before after =
+    (p : Profile) (u : List ℕ) (b : Option ℕ) (given : List Token) → Stands p old u b given → Follows b piece → AfterFeedAll p u b given piece new result before after
+
+-- how much of the piece was used
+abbrev pub used_of : Fed → List ℕ → ℕ
+used_of All piece = length piece
+used_of (GameEnd used) piece = used
+
+-- a finished game took a byte, or was waiting
+abbrev pub Advances : Standing → Standing → Fed → Type 0
+Advances old new All = Unit {0}
+Advances old new (GameEnd used) = waiting new < 2 * used + waiting old
+
+-- The text u has ended: all its tokens were read, and what they add to what was due was written. A game is at hand exactly if the
+-- call finished one.
+pub record Finishes (p : Profile) (u : List ℕ) (given : List Token) (new : Converter) (is_game : Bool) (before after : Option (List ℕ)) : Type 0 where
+  pub has_read : HasRead p new (tokens_of u)
+  pub game : IsTrue is_game ↔ (length (read p given).begun.games < length (read p (tokens_of u)).begun.games)
+  pub at_hand : is_game ≡ true → (pairs : List Pair) × (new.at_hand ≡ Some pairs)
+  pub none_at_hand : is_game ≡ false → new.at_hand ≡ None
+  pub gains : Gains p given (tokens_of u) before after
+
+abbrev pub AfterFinish : Profile → List ℕ → List Token → Converter → Result Bool Fault → Option (List ℕ) → Option (List ℕ) → Type 0
+AfterFinish p u given new (Ok is_game) before after = Finishes p u given new is_game before after
+AfterFinish p u given new (Err f) before after = Stops p given (tokens_of u) before after f
+
+-- What `finish` does to a converter that stands after the bytes u, which are then the whole text.
+abbrev pub Ends : Converter → Converter → Result Bool Fault → Option (List ℕ) → Option (List ℕ) → Type 0
+Ends old new result before after =
+    (p : Profile) (u : List ℕ) (b : Option ℕ) (given : List Token) → Stands p old u b given → AfterFinish p u given new result before after
+
+-- The fault that a call answers is kept, and no other call has one.
+abbrev pub KeepsFault : {A : Type 0} → Converter → Result A Fault → Type 0
+KeepsFault new (Ok x) = new.fault ≡ None
+KeepsFault new (Err f) = new.fault ≡ Some f
+
+-- After a fault each call answers it again, and neither the converter nor the sink changes.
+abbrev pub Again : {A S : Type 0} → Converter → Converter → Result A Fault → S → S → Type 0
+Again old new result out_old out_new = (f : Fault) → old.fault ≡ Some f → (result ≡ Err f) × (new ≡ old) × (out_new ≡ out_old)
+
+-- 51 is first answered where the sink counts one failure more, and nowhere else does it count one. 50, 52 and 53 are no converter's
+-- own: they are answered by calls over a whole input.
+abbrev pub CountsReason : Reason → ℕ → ℕ → Type 0
+CountsReason WriteFault old new = new ≡ one_more old
+CountsReason ReadFault old new = ⊥
+CountsReason InputTooLong old new = ⊥
+CountsReason Changed old new = ⊥
+CountsReason _ old new = new ≡ old
+
+abbrev pub CountsFault : {A : Type 0} → Result A Fault → ℕ → ℕ → Type 0
+CountsFault (Ok x) old new = new ≡ old
+CountsFault (Err f) old new = CountsReason f.reason old new

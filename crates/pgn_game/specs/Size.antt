@@ -1,0 +1,7 @@
+-- Whether a converter fits in memory: it takes fewer than 2 ^ 63 bytes.
+use Rattle.std.specs.Mem.{FitsInMemory}
+use Rattle.std.specs.Borrow.{RattleType}
+use Rattle.pgn_game.specs.contracts.converter.Converter.{the_row}
+
+abbrev pub Holds : RattleType → RattleType → Type 0
+Holds T L = FitsInMemory (the_row T L)

@@ -1,0 +1,162 @@
+-- What one token does to a converter, in the piece and after it.
+use Rattle.std.specs.Prelude.{◌≡◌, ℕ, ◌+◌, ◌*◌, ◌<◌, ◌≤◌, ◌↔◌, Bool, true, false, IsTrue, List, [], ◌∷◌, ◌++◌, length, take, drop, Option, None, Some, Result, Ok, Err}
+use Rattle.pgn_lexer.specs.Tokens.{Token, EndsAt}
+use Rattle.pgn_lexer.specs.TokensOf.{tokens_of}
+use Rattle.pgn_lexer.specs.Decided.{decided}
+use Rattle.pgn_lexer.specs.Standing.{Standing, waiting}
+use Rattle.pgn_lexer.specs.Stands.{HasLeft, Follows, IsDecided, first}
+use Rattle.pgn_game.specs.declared.stage.Stage.TheVariants.{Between}
+use Rattle.pgn_game.specs.declared.reason.Fault.{Fault}
+use Rattle.pgn_game.specs.declared.reason.Reason.TheVariants.{WriteFault}
+use Rattle.pgn_game.specs.declared.accept.Accepted.{Accepted}
+use Rattle.pgn_game.specs.declared.accept.Accepted.TheVariants as accepted
+use Rattle.pgn_game.specs.declared.accept.Stopped.{Stopped}
+use Rattle.pgn_game.specs.declared.accept.Stopped.TheVariants as stopped
+use Rattle.pgn_game.specs.declared.converter.Stepped.{Stepped}
+use Rattle.pgn_game.specs.declared.converter.Stepped.TheVariants.{NeedMore, More, Finished, Ended, Failed}
+use Rattle.pgn_game.specs.Profile.{Profile}
+use Rattle.pgn_game.specs.Game.{Game}
+use Rattle.pgn_game.specs.Begun.{read}
+use Rattle.pgn_game.specs.Due.{Gains}
+use Rattle.pgn_game.specs.Feeding.{Converter, AreLast, HasRead, Stands, Stops, FedToFault, CountsReason}
+
+-- the games read with one token more: none more, or one
+abbrev pub SameGames : Profile → List Token → List Token → Type 0
+SameGames p given tokens = (read p tokens).begun.games ≡ (read p given).begun.games
+
+abbrev pub OneGame : Profile → List Token → List Token → Game → Type 0
+OneGame p given tokens g = (read p tokens).begun.games ≡ (read p given).begun.games ++ g ∷ []
+
+-- a token was read
+pub record Took (p : Profile) (u : List ℕ) (given : List Token) (piece : List ℕ) (used : ℕ) (t : Token) (new : Converter) (before after : Option (List ℕ)) : Type 0 where
+  pub stands : Stands p new (u ++ take used piece) (first (drop used piece)) (given ++ t ∷ [])
+  pub decided : IsDecided (u ++ take used piece) (drop used piece) (given ++ t ∷ [])
+  pub ends : EndsAt t.kind t.at (length u + used)
+  pub gains : Gains p given (given ++ t ∷ []) before after
+
+-- What a step in a piece comes to.
+abbrev pub AfterStep : Profile → List ℕ → List Token → List ℕ → Converter → ℕ → Stepped → Option (List ℕ) → Option (List ℕ) → Type 0
+AfterStep p u given piece new used NeedMore before after =
+    (used ≡ length piece) × Stands p new (u ++ piece) None given × (given ≡ decided (u ++ piece)) × Gains p given given before after
+AfterStep p u given piece new used More before after =
+    (t : Token) × Took p u given piece used t new before after × SameGames p given (given ++ t ∷ [])
+AfterStep p u given piece new used Finished before after =
+    (t : Token) × Took p u given piece used t new before after × ((g : Game) × OneGame p given (given ++ t ∷ []) g × (new.at_hand ≡ Some g.pairs))
+AfterStep p u given piece new used Ended before after = ⊥
+AfterStep p u given piece new used (Failed f) before after = FedToFault p u None given piece f before after
+
+-- Where no game is begun after a token, nothing has changed with it.
+abbrev pub StaysBetween : Converter → Converter → Type 0
+StaysBetween old new = new.reading.stage ≡ Between → new.reading ≡ old.reading
+
+-- What a step behind the last piece comes to; u is the whole text.
+pub record TookLast (p : Profile) (u : List ℕ) (given : List Token) (t : Token) (new : Converter) (before after : Option (List ℕ)) : Type 0 where
+  pub left : HasLeft new.lexer u (given ++ t ∷ [])
+  pub has_read : HasRead p new (given ++ t ∷ [])
+  pub gains : Gains p given (given ++ t ∷ []) before after
+
+-- the end was reached: no game is begun
+pub record TookEnd (p : Profile) (u : List ℕ) (given : List Token) (t : Token) (new : Converter) (before after : Option (List ℕ)) : Type 0 where
+  pub whole : tokens_of u ≡ given ++ t ∷ []
+  pub has_read : HasRead p new (given ++ t ∷ [])
+  pub between : new.reading.stage ≡ Between
+  pub same : SameGames p given (given ++ t ∷ [])
+  pub gains : Gains p given (given ++ t ∷ []) before after
+
+abbrev pub AfterClosing : Profile → List ℕ → List Token → Converter → Converter → Stepped → Option (List ℕ) → Option (List ℕ) → Type 0
+AfterClosing p u given old new NeedMore before after = ⊥
+AfterClosing p u given old new More before after = (t : Token) × TookLast p u given t new before after × SameGames p given (given ++ t ∷ []) × StaysBetween old new
+AfterClosing p u given old new Finished before after =
+    (t : Token) × TookLast p u given t new before after × ((g : Game) × OneGame p given (given ++ t ∷ []) g × (new.reading.tags.held ≡ g.pairs))
+AfterClosing p u given old new Ended before after = (t : Token) × TookEnd p u given t new before after × StaysBetween old new
+AfterClosing p u given old new (Failed f) before after = Stops p given (tokens_of u) before after f
+
+-- What was read behind the last piece so far, and whether a game was finished there. Its pairs are still held while none is begun.
+pub record ClosedSoFar (p : Profile) (u : List ℕ) (given : List Token) (now : Converter) (is_game : Bool) (before after : Option (List ℕ)) : Type 0 where
+  pub tokens : List Token
+  pub left : HasLeft now.lexer u tokens
+  pub has_read : HasRead p now tokens
+  pub no_fewer : length (read p given).begun.games ≤ length (read p tokens).begun.games
+  pub game : IsTrue is_game ↔ (length (read p given).begun.games < length (read p tokens).begun.games)
+  pub last : IsTrue is_game → now.reading.stage ≡ Between → AreLast (Some now.reading.tags.held) (read p tokens).begun.games
+  pub gains : Gains p given tokens before after
+
+abbrev pub ClosesSoFar : Converter → Converter → Bool → Option (List ℕ) → Option (List ℕ) → Type 0
+ClosesSoFar old now is_game before after =
+    (p : Profile) (u : List ℕ) (b : Option ℕ) (given : List Token) → Stands p old u b given → ClosedSoFar p u given now is_game before after
+
+-- what an answer of the reader, to a token at this place, is for the converter
+abbrev pub stepped_of : ℕ → Result Accepted Stopped → Stepped
+stepped_of at (Ok accepted.More) = More
+stepped_of at (Ok accepted.Finished) = Finished
+stepped_of at (Err (stopped.Refused reason)) = Failed (record { at = at; reason = reason })
+stepped_of at (Err stopped.Unwritten) = Failed (record { at = at; reason = WriteFault })
+
+-- whether a step finished a game, and how many there are with it
+abbrev pub is_game : Stepped → Bool
+is_game Finished = true
+is_game _ = false
+
+abbrev pub games_after : Stepped → ℕ → ℕ
+games_after Finished games = games + 1
+games_after _ games = games
+
+-- the fault that is kept after a step
+abbrev pub fault_of_step : Stepped → Option Fault
+fault_of_step (Failed f) = Some f
+fault_of_step _ = None
+
+-- the end of the input told from other tokens
+abbrev pub closed_with : Bool → Stepped → Stepped
+closed_with true More = Ended
+closed_with is_end outcome = outcome
+
+-- A step without a token uses the whole piece; one with a token uses a byte, or the token was waiting.
+abbrev pub StepAdvances : Standing → List ℕ → Standing → ℕ → Stepped → Type 0
+StepAdvances old piece new used NeedMore = used ≡ length piece
+StepAdvances old piece new used More = waiting new < 2 * used + waiting old
+StepAdvances old piece new used Finished = waiting new < 2 * used + waiting old
+StepAdvances old piece new used Ended = ⊥
+StepAdvances old piece new used (Failed f) = Unit {0}
+
+-- behind the last piece a token was waiting
+abbrev pub CloseAdvances : Standing → Standing → Stepped → Type 0
+CloseAdvances old new NeedMore = ⊥
+CloseAdvances old new More = waiting new < waiting old
+CloseAdvances old new Finished = waiting new < waiting old
+CloseAdvances old new Ended = Unit {0}
+CloseAdvances old new (Failed f) = Unit {0}
+
+-- a write that failed is counted, nothing else
+abbrev pub CountsStep : Stepped → ℕ → ℕ → Type 0
+CountsStep (Failed f) old new = CountsReason f.reason old new
+CountsStep _ old new = new ≡ old
+
+-- the byte known to be next at a place of a piece that b was known to begin with
+abbrev pub next_at : Option ℕ → List ℕ → ℕ → Option ℕ
+next_at b [] at = b
+next_at b (c ∷ piece) at = first (drop at (c ∷ piece))
+
+-- what was read of a piece up to a place, no game finished in it
+pub record SoFar (p : Profile) (u : List ℕ) (b : Option ℕ) (given : List Token) (piece : List ℕ) (at : ℕ) (now : Converter) (before after : Option (List ℕ)) : Type 0 where
+  pub tokens : List Token
+  pub stands : Stands p now (u ++ take at piece) (next_at b piece at) tokens
+  pub decided : 0 < at → IsDecided (u ++ take at piece) (drop at piece) tokens
+  pub empty : length piece ≡ 0 → tokens ≡ given
+  pub no_game : SameGames p given tokens
+  pub gains : Gains p given tokens before after
+
+abbrev pub FeedsSoFar : Converter → List ℕ → ℕ → Converter → Option (List ℕ) → Option (List ℕ) → Type 0
+FeedsSoFar old piece at now before after =
+    (p : Profile) (u : List ℕ) (b : Option ℕ) (given : List Token) → Stands p old u b given → Follows b piece → SoFar p u b given piece at now before after
+
+-- what was read of a piece up to a place, however many games were finished in it
+pub record AllSoFar (p : Profile) (u : List ℕ) (b : Option ℕ) (given : List Token) (piece : List ℕ) (at : ℕ) (now : Converter) (before after : Option (List ℕ)) : Type 0 where
+  pub tokens : List Token
+  pub stands : Stands p now (u ++ take at piece) (next_at b piece at) tokens
+  pub decided : 0 < at → IsDecided (u ++ take at piece) (drop at piece) tokens
+  pub gains : Gains p given tokens before after
+
+abbrev pub FeedsAllSoFar : Converter → List ℕ → ℕ → Converter → Option (List ℕ) → Option (List ℕ) → Type 0
+FeedsAllSoFar old piece at now before after =
+    (p : Profile) (u : List ℕ) (b : Option ℕ) (given : List Token) → Stands p old u b given → Follows b piece → AllSoFar p u b given piece at now before after

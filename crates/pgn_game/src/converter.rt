@@ -1,0 +1,371 @@
+//! Converts games that come in any pieces.
+ghost use Rattle.std.specs.Prelude.{◌≡◌, ℕ, List, is_some, is_ok, IsNone, ◌+◌, ◌-◌, ◌≤◌, ◌<◌, ◌^◌, [], Bool, true, false, None, Some, IfOk, OnOk, OnErr, length};
+ghost use Rattle.std.specs.Option.{option_copied};
+ghost use Rattle.pgn_lexer.specs.Tokens.{Token};
+ghost use Rattle.pgn_lexer.specs.Stands.{first, HasLeft};
+ghost use Rattle.pgn_game.specs.declared.reason.Reason.TheVariants.{Lexical};
+ghost use Rattle.pgn_game.specs.declared.converter.Stepped.TheVariants.{NeedMore, Failed};
+ghost use Rattle.pgn_game.specs.Profile.{Profile};
+ghost use Rattle.pgn_game.specs.Stepping.{AfterStep, AfterClosing, StepAdvances, CloseAdvances, CountsStep, stepped_of, games_after, fault_of_step, closed_with, is_game as is_of_game};
+ghost use Rattle.pgn_game.specs.Feeding.{HasRead, Stands, Feeds, FeedsAll, Ends, Again, KeepsFault, CountsFault, Advances, profile_of, used_of, value_at_hand};
+
+use crate::accept::{Accepted, Stopped};
+use crate::kinds::is_end;
+use crate::mode::Mode;
+use crate::reader::Reader;
+use crate::reason::{Fault, Reason};
+use chess_rules::position::Position;
+use pgn_layout::Sink;
+use pgn_lexer::{LexFault, Lexer, Outcome};
+use std::marker::Model;
+
+/// What a piece came to.
+#[derive(Clone, Copy, Debug, PartialEq, Eq)]
+pub enum Fed {
+    /// The whole piece was used, and no game was finished.
+    All,
+    /// A game was finished, and this many bytes of the piece were used.
+    Game(usize),
+}
+
+/// What a step came to.
+#[derive(Clone, Copy)]
+enum Stepped {
+    NeedMore,
+    More,
+    Finished,
+    Ended,
+    Failed(Fault),
+}
+
+/// What a step came to, and how many bytes of the piece it used.
+#[derive(Clone, Copy)]
+struct Step {
+    used: usize,
+    outcome: Stepped,
+}
+
+/// Converts games from import format to export format (PGN 3), in pieces of any length. A game has at most `T` tag pairs, and its
+/// variations are at most `L - 1` deep.
+#[derive(Drop)]
+pub struct Converter<const T: usize, const L: usize> {
+    lexer: Lexer,
+    reader: Reader<T, L>,
+    games: u64,
+    is_at_hand: bool,
+    is_finished: bool,
+    fault: Option<Fault>,
+}
+
+impl<const T: usize, const L: usize> Model for Converter<T, L> {
+    ghost use Rattle.pgn_game.specs.Feeding.{Converter as Seen};
+    ghost use Rattle.pgn_game.specs.Feeding.{pairs_if, IsSound};
+
+    ghost Value = { Seen };
+
+    ghost view = { λ c. record {
+      lexer = c.lexer;
+      reading = c.reader;
+      games = c.games;
+      at_hand = pairs_if c.is_at_hand c.reader.tags.held;
+      is_finished = c.is_finished;
+      fault = c.fault;
+    } };
+
+    ghost invariant = { λ c. IsSound c.lexer c.reader c.games c.is_at_hand c.fault };
+}
+
+impl<const T: usize, const L: usize> Converter<T, L> {
+    /// A converter before the first byte.
+    pub fn new(mode: Mode) -> Self
+        requires { 1 ≤ L }
+        ensures stands { Stands (profile_of T (L - 1) mode) result [] None [] }
+        ensures going { result.is_finished ≡ false }
+    {
+        Converter {
+            lexer: Lexer::new(),
+            reader: Reader::new(mode),
+            games: 0,
+            is_at_hand: false,
+            is_finished: false,
+            fault: None,
+        }
+    }
+
+    /// Converts the piece up to the end of the next game. After `Game(used)` the next piece that is not empty has to begin with the
+    /// rest of this one. A marker that is a symbol is known only at the byte after it, so `Game(0)` is possible.
+    ///
+    /// Answers the fault of the first token that is refused as soon as that is known, with all written that is due for the tokens before
+    /// it; or 51 where a write failed. Each later call answers the same and writes nothing.
+    pub fn feed<W: Sink>(&mut self, piece: &[u8], out: &mut W) -> Result<Fed, Fault>
+        requires going { self.old.is_finished ≡ false }
+        requires short { self.old.fault ≡ None → self.old.lexer.count + length piece.now ≤ 2 ^ 62 }
+        ensures used { IfOk result (λ fed. used_of fed piece.now ≤ length piece.now) }
+        ensures feeds { Feeds self.old piece.now self.new result (W.taken out.old) (W.taken out.new) }
+        ensures count { IfOk result (λ fed. self.new.lexer.count ≡ self.old.lexer.count + used_of fed piece.now) }
+        ensures advances { IfOk result (λ fed. Advances self.old.lexer self.new.lexer fed) }
+        ensures going { self.new.is_finished ≡ false }
+        ensures fault { KeepsFault self.new result }
+        ensures games { OnErr result (self.new.games ≡ self.old.games) }
+        ensures hand { OnErr result (self.new.at_hand ≡ None) }
+        ensures again { Again self.old self.new result out.old out.new }
+        ensures counted { self.old.fault ≡ None → CountsFault result (W.failures out.old) (W.failures out.new) }
+    {
+        if let Some(fault) = self.fault {
+            return Err(fault);
+        }
+        self.is_at_hand = false;
+        let mut at = 0;
+        while at < piece.len() {
+            let step = self.step(&piece[at..], out);
+            at += step.used;
+            match step.outcome {
+                Stepped::NeedMore => return Ok(Fed::All),
+                Stepped::More => {}
+                Stepped::Finished => return Ok(Fed::Game(at)),
+                Stepped::Ended => return Ok(Fed::All),
+                Stepped::Failed(fault) => return Err(fault),
+            }
+        }
+        Ok(Fed::All)
+    }
+
+    /// Converts the whole piece, however many games are finished in it.
+    pub(crate) fn feed_all<W: Sink>(&mut self, piece: &[u8], out: &mut W) -> Result<(), Fault>
+        requires going { self.old.is_finished ≡ false }
+        requires no_fault { self.old.fault ≡ None }
+        requires short { self.old.lexer.count + length piece.now ≤ 2 ^ 62 }
+        ensures feeds { FeedsAll self.old piece.now self.new result (W.taken out.old) (W.taken out.new) }
+        ensures count { OnOk result (self.new.lexer.count ≡ self.old.lexer.count + length piece.now) }
+        ensures going { self.new.is_finished ≡ false }
+        ensures fault { KeepsFault self.new result }
+        ensures counted { CountsFault result (W.failures out.old) (W.failures out.new) }
+    {
+        let mut at = 0;
+        loop {
+            match self.feed(&piece[at..], out)? {
+                Fed::All => return Ok(()),
+                Fed::Game(used) => at += used,
+            }
+        }
+    }
+
+    /// Ends the input: converts what is left, and tells whether that finished a game. Answers a fault as `feed` does, and 42 where the
+    /// input ends in a game.
+    pub fn finish<W: Sink>(&mut self, out: &mut W) -> Result<bool, Fault>
+        requires going { self.old.is_finished ≡ false }
+        ensures ends { Ends self.old self.new result (W.taken out.old) (W.taken out.new) }
+        ensures finished { self.new.is_finished ≡ is_ok result }
+        ensures fault { KeepsFault self.new result }
+        ensures hand { OnErr result (self.new.at_hand ≡ None) }
+        ensures again { Again self.old self.new result out.old out.new }
+        ensures counted { self.old.fault ≡ None → CountsFault result (W.failures out.old) (W.failures out.new) }
+    {
+        if let Some(fault) = self.fault {
+            return Err(fault);
+        }
+        self.is_at_hand = false;
+        let mut is_game = false;
+        loop {
+            match self.close(out) {
+                Stepped::NeedMore => {}
+                Stepped::More => {}
+                Stepped::Finished => is_game = true,
+                Stepped::Ended => {
+                    // The end is passed between games alone.
+                    self.is_at_hand = is_game && self.reader.is_between();
+                    self.is_finished = true;
+                    return Ok(is_game);
+                }
+                Stepped::Failed(fault) => return Err(fault),
+            }
+        }
+    }
+
+    /// The value of a name in the tag section of the game at hand, its defaults included. A game is at hand from the call that finished it
+    /// to the next call of `feed` or `finish`; while none is, there is no value.
+    pub fn tag(&self, name: &[u8]) -> Option<&[u8]>
+        ensures { option_copied result ≡ value_at_hand self.now name.now }
+    {
+        if self.is_at_hand {
+            return self.reader.value(name);
+        }
+        None
+    }
+
+    /// How many moves outside variations the game at hand has. No move is read yet, and so it is 0.
+    pub fn plies(&self) -> u64
+        ensures { result ≡ 0 }
+    {
+        0
+    }
+
+    /// The position after the moves of the game at hand that stand outside variations. It comes with the moves: today there is none.
+    pub fn position(&self) -> Option<&Position>
+        ensures { IsNone result }
+    {
+        None
+    }
+
+    /// The most pairs of squares that were tried for one move so far.
+    pub fn most_probes(&self) -> u32
+        ensures { result ≡ 0 }
+    {
+        0
+    }
+
+    /// How many bytes were used.
+    pub fn count(&self) -> u64
+        ensures { result ≡ self.now.lexer.count }
+    {
+        self.lexer.count()
+    }
+
+    /// How many games were finished so far.
+    pub fn games(&self) -> u64
+        ensures { result ≡ self.now.games }
+    {
+        self.games
+    }
+
+    /// Whether `finish` has answered Ok.
+    pub fn is_finished(&self) -> bool
+        ensures { result ≡ self.now.is_finished }
+    {
+        self.is_finished
+    }
+
+    /// Takes the next token of the piece.
+    fn step<W: Sink>(&mut self, piece: &[u8], out: &mut W) -> Step
+        requires going { self.old.fault ≡ None }
+        requires short { self.old.lexer.count + length piece.now ≤ 2 ^ 62 }
+        requires some { 0 < length piece.now }
+        requires hand { self.old.at_hand ≡ None }
+        ensures used { result.used ≤ length piece.now }
+        ensures after { (p : Profile) (u : List ℕ) (given : List Token) → Stands p self.old u (first piece.now) given
+            → AfterStep p u given piece.now self.new result.used result.outcome (W.taken out.old) (W.taken out.new) }
+        ensures count { self.new.lexer.count ≡ self.old.lexer.count + result.used }
+        ensures advances { StepAdvances self.old.lexer piece.now self.new.lexer result.used result.outcome }
+        ensures fault { self.new.fault ≡ fault_of_step result.outcome }
+        ensures games { self.new.games ≡ games_after result.outcome self.old.games }
+        ensures hand { is_some self.new.at_hand ≡ is_of_game result.outcome }
+        ensures going { self.new.is_finished ≡ self.old.is_finished }
+        ensures counted { CountsStep result.outcome (W.failures out.old) (W.failures out.new) }
+    {
+        let scan = self.lexer.next(piece);
+        let used = scan.used;
+        match scan.outcome {
+            Outcome::NeedMore => Step {
+                used,
+                outcome: Stepped::NeedMore,
+            },
+            Outcome::Token(token) => {
+                let at = token.at;
+                let accepted = self.reader.accept(token.kind, out);
+                let outcome = settle(at, accepted, &mut self.games, &mut self.fault);
+                self.is_at_hand = is_game(outcome);
+                Step { used, outcome }
+            }
+            Outcome::Fault(fault) => Step {
+                used,
+                outcome: fail(lexical(fault), &mut self.fault),
+            },
+        }
+    }
+
+    /// Takes the next token of those that are left behind the last piece.
+    fn close<W: Sink>(&mut self, out: &mut W) -> Stepped
+        requires going { self.old.fault ≡ None }
+        requires hand { self.old.at_hand ≡ None }
+        ensures after { (p : Profile) (u : List ℕ) (given : List Token) → HasLeft self.old.lexer u given → HasRead p self.old given
+            → AfterClosing p u given self.old self.new result (W.taken out.old) (W.taken out.new) }
+        ensures advances { CloseAdvances self.old.lexer self.new.lexer result }
+        ensures fault { self.new.fault ≡ fault_of_step result }
+        ensures hand { self.new.at_hand ≡ None }
+        ensures going { self.new.is_finished ≡ self.old.is_finished }
+        ensures counted { CountsStep result (W.failures out.old) (W.failures out.new) }
+    {
+        match self.lexer.finish() {
+            Outcome::NeedMore => Stepped::NeedMore,
+            Outcome::Token(token) => {
+                let at = token.at;
+                let is_end = is_end(token.kind);
+                let accepted = self.reader.accept(token.kind, out);
+                let outcome = settle(at, accepted, &mut self.games, &mut self.fault);
+                close_with(is_end, outcome)
+            }
+            Outcome::Fault(fault) => fail(lexical(fault), &mut self.fault),
+        }
+    }
+}
+
+// What an answer of the reader to a token at this place comes to: a game finished is counted, a fault is kept.
+fn settle(
+    at: u64,
+    accepted: Result<Accepted, Stopped>,
+    games: &mut u64,
+    fault: &mut Option<Fault>,
+) -> Stepped
+    requires few { games.old < 2 ^ 64 - 1 }
+    requires going { fault.old ≡ None }
+    ensures outcome { result ≡ stepped_of at accepted }
+    ensures games { games.new ≡ games_after result games.old }
+    ensures fault { fault.new ≡ fault_of_step result }
+{
+    match accepted {
+        Ok(Accepted::More) => Stepped::More,
+        Ok(Accepted::Finished) => {
+            *games += 1;
+            Stepped::Finished
+        }
+        Err(Stopped::Refused(reason)) => fail(Fault { at, reason }, fault),
+        Err(Stopped::Unwritten) => {
+            let reason = Reason::WriteFault;
+            fail(Fault { at, reason }, fault)
+        }
+    }
+}
+
+// Keeps the fault.
+fn fail(fault: Fault, kept: &mut Option<Fault>) -> Stepped
+    ensures outcome { result ≡ Failed fault }
+    ensures kept { kept.new ≡ Some fault }
+{
+    *kept = Some(fault);
+    Stepped::Failed(fault)
+}
+
+// A refusal of the lexer as a fault.
+fn lexical(fault: LexFault) -> Fault
+    ensures { result ≡ record { at = fault.at; reason = Lexical fault.reason } }
+{
+    Fault {
+        at: fault.at,
+        reason: Reason::Lexical(fault.reason),
+    }
+}
+
+// Whether the step finished a game.
+fn is_game(outcome: Stepped) -> bool
+    ensures { result ≡ is_of_game outcome }
+{
+    match outcome {
+        Stepped::Finished => true,
+        _ => false,
+    }
+}
+
+// The end of the input, where the game goes on with it, is told from other tokens.
+fn close_with(is_end: bool, outcome: Stepped) -> Stepped
+    ensures { result ≡ closed_with is_end outcome }
+{
+    match outcome {
+        Stepped::More => {
+            if is_end {
+                return Stepped::Ended;
+            }
+            Stepped::More
+        }
+        _ => outcome,
+    }
+}

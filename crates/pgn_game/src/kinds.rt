@@ -1,0 +1,69 @@
+//! Tests of a token.
+ghost use Rattle.std.specs.Prelude.{◌≡◌, ◌≤◌, ◌<◌, length, IfSome};
+ghost use Rattle.std.specs.Option.{option_copied};
+ghost use Rattle.std.specs.List.{list_all};
+ghost use Rattle.pgn_lexer.specs.Scanned.{kind_of};
+ghost use Rattle.pgn_layout.specs.Lines.{IsToken};
+ghost use Rattle.pgn_game.specs.FaultTable.{is_comment as is_of_comment, is_end as is_the_end, in_name, is_result as is_any_result, marker_of};
+
+use pgn_lexer::TokenKind;
+
+/// Whether the token belongs to a comment (PGN 5).
+pub fn is_comment(kind: TokenKind<'_>) -> bool
+    ensures { result ≡ is_of_comment (kind_of kind.entry) }
+{
+    match kind {
+        TokenKind::CommentOpen => true,
+        TokenKind::Word(_) => true,
+        TokenKind::CommentClose => true,
+        _ => false,
+    }
+}
+
+/// Whether the token is the end of the input.
+pub fn is_end(kind: TokenKind<'_>) -> bool
+    ensures { result ≡ is_the_end (kind_of kind.entry) }
+{
+    match kind {
+        TokenKind::End => true,
+        _ => false,
+    }
+}
+
+/// Whether the bytes are those of a tag name: letters, digits and `_` (PGN 8.1).
+pub fn is_tag_name(name: &[u8]) -> bool
+    ensures { result ≡ list_all in_name name.now }
+{
+    name.iter()
+        .all(|byte| byte.is_ascii_alphanumeric() || *byte == b'_')
+}
+
+/// Whether the text is one of the four markers (PGN 8.2.6).
+pub fn is_result(text: &[u8]) -> bool
+    ensures { result ≡ is_any_result text.now }
+{
+    text == b"1-0".as_slice()
+        || text == b"0-1".as_slice()
+        || text == b"1/2-1/2".as_slice()
+        || text == b"*".as_slice()
+}
+
+/// The marker that the token is, if it is one (PGN 8.2.6).
+pub fn marker<'a>(kind: TokenKind<'a>) -> Option<&'a [u8]>
+    ensures marker { option_copied result ≡ marker_of (kind_of kind.entry) }
+    ensures token { IfSome result (λ marker. IsToken marker.now) }
+{
+    match kind {
+        TokenKind::Asterisk => Some(b"*"),
+        TokenKind::Symbol(text) => {
+            if text == b"1-0".as_slice()
+                || text == b"0-1".as_slice()
+                || text == b"1/2-1/2".as_slice()
+            {
+                return Some(text);
+            }
+            None
+        }
+        _ => None,
+    }
+}
