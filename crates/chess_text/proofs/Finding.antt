@@ -1,0 +1,193 @@
+-- Lists of what is found, and the only element of one.
+use Rattle.std.proofs.Common.{◌≡◌, ◌⊎◌, inl, inr, ℕ, zero, suc, ◌+◌, ◌<◌, ◌≤◌, Bool, true, false, cond, List, [], ◌∷◌, ◌++◌, map, length, take, drop, get_or, append-nil, Option, None, Some, refl, sym, ◌∙◌, ap, ap₂, subst, arith}
+use Rattle.std.specs.Prelude.{Ok, Err, sum_by}
+use Rattle.std.specs.Option.{option_to_list, ok_or, is_some}
+use Rattle.std.specs.List.{filter, filter_map, cons_option, Contains}
+use Rattle.std.specs.List.Sorted.{IsPermutation}
+use Rattle.std.proofs.lemmas.Bool.{false≢true}
+use Rattle.std.proofs.lemmas.List.{take_more, take_all, take-append-drop}
+use Rattle.std.proofs.lemmas.List.Sums.{sum_by-cons}
+use Rattle.std.proofs.lemmas.List.Elements.{filter_map-append}
+use Rattle.std.proofs.lemmas.List.Sorted.{Contains-permutation, sum_by-IsPermutation}
+use Rattle.chess_text.specs.declared.resolve.Played.{Played}
+use Rattle.chess_text.specs.declared.resolve.SanFault.TheVariants.{NoMove, Ambiguous}
+use Rattle.chess_text.specs.Reads.{only}
+
+-- Elements.
+
+pub here : {X : Type 0} (x : X) (xs : List X) → Contains (x ∷ xs) x
+here x xs = (0, omega arith, refl)
+
+pub later : {X : Type 0} (x y : X) (xs : List X) → Contains xs y → Contains (x ∷ xs) y
+later x y xs (k, low, is) = (suc k, omega arith, is)
+
+-- an element is the first, or one of the others
+pub element : {X : Type 0} (x y : X) (xs : List X) → Contains (x ∷ xs) y → (x ≡ y) ⊎ Contains xs y
+element x y xs (zero, low, is) = inl is
+element x y xs (suc k, low, is) = inr (k, omega arith, is)
+
+pub none_in : {X : Type 0} (y : X) → Contains [] y → ⊥
+none_in y (k, low, is) = omega arith
+
+pub in_map : {X Y : Type 0} (f : X → Y) (xs : List X) (x : X) → Contains xs x → Contains (map f xs) (f x)
+in_map f [] x h = absurd (none_in x h)
+in_map f (y ∷ ys) x h =
+    elim (element y x ys h) [
+      | inl e ↦ subst (λ z. Contains (f y ∷ map f ys) (f z)) e (here (f y) (map f ys))
+      | inr more ↦ later (f y) (f x) (map f ys) (in_map f ys x more)
+    ]
+
+pub record MapsTo {X Y : Type 0} (f : X → Y) (xs : List X) (y : Y) : Type 0 where
+  pub at : X
+  pub among : Contains xs at
+  pub gives : f at ≡ y
+
+pub of_map : {X Y : Type 0} (f : X → Y) (xs : List X) (y : Y) → Contains (map f xs) y → MapsTo f xs y
+of_map f [] y c = absurd (none_in y c)
+of_map {X} {Y} f (x ∷ xs) y c =
+    elim (element (f x) y (map f xs) c) [
+      | inl is ↦ record { at = x; among = here x xs; gives = is }
+      | inr more ↦ further (of_map f xs y more)
+    ]
+  where
+    further : MapsTo f xs y → MapsTo f (x ∷ xs) y
+    further g = record { at = g.at; among = later x g.at xs g.among; gives = g.gives }
+
+-- What is found.
+
+pub in_found : {X Y : Type 0} (h : X → Option Y) (xs : List X) (x : X) (y : Y) → Contains xs x → h x ≡ Some y → Contains (filter_map h xs) y
+in_found h [] x y c e = absurd (none_in x c)
+in_found {X} {Y} h (z ∷ zs) x y c e =
+    elim (element z x zs c) [
+      | inl is ↦ subst (λ (o : Option Y). Contains (cons_option o (filter_map h zs)) y) (sym (ap h is ∙ e)) (here y (filter_map h zs))
+      | inr more ↦ keeps (h z) (in_found h zs x y more e)
+    ]
+  where
+    keeps : (o : Option Y) → Contains (filter_map h zs) y → Contains (cons_option o (filter_map h zs)) y
+    keeps None g = g
+    keeps (Some w) g = later w y (filter_map h zs) g
+
+-- where an element was found
+pub record FoundAt {X Y : Type 0} (h : X → Option Y) (xs : List X) (y : Y) : Type 0 where
+  pub at : X
+  pub among : Contains xs at
+  pub gives : h at ≡ Some y
+
+found_further : {X Y : Type 0} (h : X → Option Y) (z : X) (zs : List X) (y : Y) → FoundAt h zs y → FoundAt h (z ∷ zs) y
+found_further h z zs y f = record { at = f.at; among = later z f.at zs f.among; gives = f.gives }
+
+pub found_in : {X Y : Type 0} (h : X → Option Y) (xs : List X) (y : Y) → Contains (filter_map h xs) y → FoundAt h xs y
+found_in h [] y c = absurd (none_in y c)
+found_in {X} {Y} h (z ∷ zs) y c = by_found (h z) refl c (found_in h zs y)
+  where
+    by_found : (o : Option Y) → h z ≡ o → Contains (cons_option o (filter_map h zs)) y → (Contains (filter_map h zs) y → FoundAt h zs y) → FoundAt h (z ∷ zs) y
+    by_found None e g more = found_further h z zs y (more g)
+    by_found (Some w) e g more =
+        elim (element w y (filter_map h zs) g) [
+          | inl is ↦ record { at = z; among = here z zs; gives = e ∙ ap Some is }
+          | inr other ↦ found_further h z zs y (more other)
+        ]
+
+-- how many are found
+abbrev pub count_found : {X Y : Type 0} → (X → Option Y) → X → ℕ
+count_found h x = length (cons_option (h x) [])
+
+pub length-found : {X Y : Type 0} (h : X → Option Y) (xs : List X) → length (filter_map h xs) ≡ sum_by (count_found h) xs
+length-found h [] = refl
+length-found {X} {Y} h (x ∷ xs) = by_found (h x) (length-found h xs) ∙ sym (sum_by-cons (count_found h) x xs)
+  where
+    by_found : (o : Option Y) → length (filter_map h xs) ≡ sum_by (count_found h) xs → length (cons_option o (filter_map h xs)) ≡ length (cons_option o []) + sum_by (count_found h) xs
+    by_found None e = omega (arith, e)
+    by_found (Some y) e = omega (arith, e)
+
+pub filter_map-map : {X Y Z : Type 0} (h : Y → Option Z) (f : X → Y) (xs : List X) → filter_map h (map f xs) ≡ filter_map (λ x. h (f x)) xs
+filter_map-map h f [] = refl
+filter_map-map {X} {Y} {Z} h f (x ∷ xs) = ap (λ (zs : List Z). cons_option (h (f x)) zs) (filter_map-map h f xs)
+
+-- a filter that loses nothing
+pub filter_map-filter : {X Y : Type 0} (h : X → Option Y) (c : X → Bool) → ((x : X) → c x ≡ false → h x ≡ None) → (xs : List X) → filter_map h (filter c xs) ≡ filter_map h xs
+filter_map-filter h c lost [] = refl
+filter_map-filter {X} {Y} h c lost (x ∷ xs) = by_test (c x) refl (filter_map-filter h c lost xs)
+  where
+    by_test : (b : Bool) → c x ≡ b → filter_map h (filter c xs) ≡ filter_map h xs → filter_map h (cond b (x ∷ filter c xs) (filter c xs)) ≡ filter_map h (x ∷ xs)
+    by_test true e rest = ap (λ (ys : List Y). cons_option (h x) ys) rest
+    by_test false e rest = rest ∙ ap (λ (o : Option Y). cons_option o (filter_map h xs)) (sym (lost x e))
+
+-- The only element.
+
+only_same : (xs ys : List Played) → length xs ≡ length ys → ((x : Played) → Contains xs x → Contains ys x) → only xs ≡ only ys
+only_same [] [] e among = refl
+only_same [] (y ∷ ys) e among = absurd (omega (arith, e))
+only_same (x ∷ xs) [] e among = absurd (omega (arith, e))
+only_same (x ∷ []) (y ∷ []) e among =
+    elim (element y x [] (among x (here x []))) [
+      | inl is ↦ ap (λ (z : Played). Ok z) (sym is)
+      | inr more ↦ absurd (none_in x more)
+    ]
+only_same (x ∷ []) (y ∷ z ∷ zs) e among = absurd (omega (arith, e))
+only_same (x ∷ w ∷ ws) (y ∷ []) e among = absurd (omega (arith, e))
+only_same (x ∷ w ∷ ws) (y ∷ z ∷ zs) e among = refl
+
+-- the order decides nothing
+pub only_permuted : {X : Type 0} (h : X → Option Played) (xs ys : List X) → IsPermutation xs ys → only (filter_map h xs) ≡ only (filter_map h ys)
+only_permuted h xs ys perm =
+    only_same (filter_map h xs) (filter_map h ys)
+    (length-found h xs ∙ sym (sum_by-IsPermutation (count_found h) xs ys perm) ∙ sym (length-found h ys))
+    (λ y c.
+    let f = found_in h xs y c in
+    in_found h ys f.at y (Contains-permutation xs ys f.at perm f.among) f.gives)
+
+-- one element more
+pub found_more : {X Y : Type 0} (h : X → Option Y) (xs : List X) (i : ℕ) (d : X) (o : Option Y) → i < length xs → o ≡ h (get_or xs i d) → filter_map h (take (i + 1) xs) ≡ filter_map h (take i xs) ++ cons_option o []
+found_more {X} {Y} h xs i d o low is =
+    ap (λ (ys : List X). filter_map h ys) (take_more xs i d low)
+    ∙ filter_map-append h (take i xs) (get_or xs i d ∷ [])
+    ∙ ap (λ (p : Option Y). filter_map h (take i xs) ++ cons_option p []) (sym is)
+
+pub only_so_far : (o : Option Played) → ok_or o NoMove ≡ only (option_to_list o)
+only_so_far None = refl
+only_so_far (Some x) = refl
+
+-- a second one, wherever it was found
+pub only_two : {X : Type 0} (h : X → Option Played) (xs : List X) (n : ℕ) (x y : Played) → filter_map h (take n xs) ≡ (x ∷ []) ++ (y ∷ []) → only (filter_map h xs) ≡ Err Ambiguous
+only_two {X} h xs n x y e =
+    ap (λ (zs : List X). only (filter_map h zs)) (sym (take-append-drop n xs))
+    ∙ ap only (filter_map-append h (take n xs) (drop n xs))
+    ∙ ap (λ (zs : List Played). only (zs ++ filter_map h (drop n xs))) e
+
+-- What a loop has found after the first i elements: nothing, or one.
+module _ {X : Type 0} (h : X → Option Played) (xs : List X) (i : ℕ) (found : Option Played) (so_far : filter_map h (take i xs) ≡ option_to_list found) where
+  pub still_none : (d : X) (o : Option Played) → i < length xs → o ≡ h (get_or xs i d) → o ≡ None → filter_map h (take (i + 1) xs) ≡ option_to_list found
+  still_none d o low is none =
+      found_more h xs i d o low is
+      ∙ ap₂ (λ (ys : List Played) (p : Option Played). ys ++ cons_option p []) so_far none
+      ∙ append-nil (option_to_list found)
+
+  pub first_one : (d : X) (o : Option Played) (y : Played) → i < length xs → o ≡ h (get_or xs i d) → o ≡ Some y → is_some found ≡ false → filter_map h (take (i + 1) xs) ≡ y ∷ []
+  first_one d o y low is some none =
+      found_more h xs i d o low is
+      ∙ ap₂ (λ (ys : List Played) (p : Option Played). ys ++ cons_option p []) (so_far ∙ nothing found none) some
+    where
+      nothing : (f : Option Played) → is_some f ≡ false → option_to_list f ≡ []
+      nothing None e = refl
+      nothing (Some x) e = absurd (false≢true (sym e))
+
+  pub second_one : (d : X) (o : Option Played) (y : Played) → i < length xs → o ≡ h (get_or xs i d) → o ≡ Some y → is_some found ≡ true → Err Ambiguous ≡ only (filter_map h xs)
+  second_one d o y low is some one = by_found found one so_far
+    where
+      by_found : (f : Option Played) → is_some f ≡ true → filter_map h (take i xs) ≡ option_to_list f → Err Ambiguous ≡ only (filter_map h xs)
+      by_found None e g = absurd (false≢true e)
+      by_found (Some x) e g =
+          sym (only_two h xs (i + 1) x y (found_more h xs i d o low is ∙ ap₂ (λ (ys : List Played) (p : Option Played). ys ++ cons_option p []) g some))
+
+  pub not_at_once : is_some found ≡ true → 1 ≤ i
+  not_at_once one = by_count i found one so_far
+    where
+      by_count : (n : ℕ) (f : Option Played) → is_some f ≡ true → filter_map h (take n xs) ≡ option_to_list f → 1 ≤ n
+      by_count (suc n) f e g = omega arith
+      by_count zero None e g = absurd (false≢true e)
+      by_count zero (Some x) e g = absurd (cc)
+
+  pub at_the_end : length xs ≤ i → ok_or found NoMove ≡ only (filter_map h xs)
+  at_the_end all =
+      only_so_far found ∙ ap only (sym so_far) ∙ ap (λ (ys : List X). only (filter_map h ys)) (take_all i xs all)

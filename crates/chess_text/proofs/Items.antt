@@ -1,0 +1,71 @@
+-- What the bytes of a rank stand for.
+use Rattle.std.proofs.Common.{◌≡◌, ℕ, ◌+◌, ◌-◌, ◌<◌, ◌≤◌, Bool, true, false, ◌&&◌, ◌==◌, nat_le, List, [], ◌∷◌, ◌++◌, length, get_or, take, drop, replicate, refl, sym, ◌∙◌, ap, arith, length-append}
+use Rattle.std.specs.Prelude.{Option, None, Some, Result, Ok, Err, is_ok, if◌then◌else◌}
+use Rattle.std.specs.Bool.{OnTrue}
+use Rattle.std.specs.Result.{OnOk}
+use Rattle.std.proofs.lemmas.Bool.{false≢true}
+use Rattle.std.proofs.lemmas.Bool.Decides.{nat_tests}
+use Rattle.std.specs.List.{list_all}
+use Rattle.std.proofs.lemmas.List.{take-replicate, take-append-drop, take_more}
+use Rattle.std.proofs.lemmas.List.Concat.{flat_map-append}
+use Rattle.std.proofs.lemmas.List.Folds.{list_all_at}
+use Rattle.chess_rules.specs.declared.piece.Piece.{Piece}
+use Rattle.chess_text.specs.Placement.{is_run, is_item, cells_at, cells_of, is_rank}
+
+pub on_true_from_ok : {T E P Q : Type 0} (r : Result T E) (b : Bool) → b ≡ is_ok r → OnOk r P → (P → Q) → OnTrue b Q
+on_true_from_ok (Ok x) b e p f = rw e (f p)
+on_true_from_ok (Err x) b e p f = rw e tt
+
+-- a call that has the room it needs
+pub when_ok : {T E P : Type 0} (r : Result T E) → is_ok r ≡ true → OnOk r P → P
+when_ok (Ok x) h p = p
+when_ok (Err x) h p = absurd (false≢true h)
+
+low : (c : ℕ) → is_run c ≡ true → c - 48 ≤ 8
+low c h = grind (arith, nat_tests)
+
+pub cells_at-run : (c : ℕ) → is_run c ≡ true → cells_at c ≡ replicate (c - 48) None
+cells_at-run c h = rw h refl
+
+-- as many cells of an empty rank as the digit says
+pub run_cells : (c : ℕ) → is_run c ≡ true → take {A = Option Piece} (c - 48) (None ∷ None ∷ None ∷ None ∷ None ∷ None ∷ None ∷ None ∷ []) ≡ cells_at c
+run_cells c h = take-replicate (c - 48) 8 None (low c h) ∙ sym (cells_at-run c h)
+
+-- the squares of a text have those of its front, of the byte behind it, and of what follows
+cells-around : (s : List ℕ) (i : ℕ) → i < length s → length (cells_of (take i s)) + length (cells_at (get_or s i 0)) ≤ length (cells_of s)
+cells-around s i h =
+    let split : cells_of s ≡ cells_of (take (i + 1) s) ++ cells_of (drop (i + 1) s) =
+    ap (λ t. cells_of t) (sym (take-append-drop (i + 1) s)) ∙ flat_map-append cells_at (take (i + 1) s) (drop (i + 1) s) in
+    let more : cells_of (take (i + 1) s) ≡ cells_of (take i s) ++ (cells_at (get_or s i 0) ++ []) =
+    ap (λ t. cells_of t) (take_more s i 0 h) ∙ flat_map-append cells_at (take i s) (get_or s i 0 ∷ []) in
+    omega (
+      arith,
+      ap (λ b. length b) split,
+      length-append (cells_of (take (i + 1) s)) (cells_of (drop (i + 1) s)),
+      ap (λ b. length b) more,
+      length-append (cells_of (take i s)) (cells_at (get_or s i 0) ++ []),
+      length-append (cells_at (get_or s i 0)) [],
+    )
+
+too_many : (m n : ℕ) → nat_le m 8 ≡ false → m ≤ n → (n == 8) ≡ false
+too_many m n h le = grind (arith, nat_tests)
+
+and_false : (a b : Bool) → b ≡ false → (a && b) ≡ false
+and_false true b h = h
+and_false false b h = refl
+
+-- a byte that is no item, or goes past the eighth square, stands in no rank
+pub no_rank : (s : List ℕ) (i : ℕ) → i < length s
+    → (is_item (get_or s i 0) && nat_le (length (cells_of (take i s)) + length (cells_at (get_or s i 0))) 8) ≡ false
+    → is_rank s ≡ false
+no_rank s i h test = by_item (is_item (get_or s i 0)) refl
+  where
+    by_item : (b : Bool) → is_item (get_or s i 0) ≡ b → is_rank s ≡ false
+    by_item false e = ap (λ b. b && (length (cells_of s) == 8)) (list_all_at is_item s i 0 h e)
+    by_item true e =
+        and_false (list_all is_item s) (length (cells_of s) == 8)
+        (too_many (length (cells_of (take i s)) + length (cells_at (get_or s i 0))) (length (cells_of s))
+        (sym (ap (λ b. b && nat_le (length (cells_of (take i s)) + length (cells_at (get_or s i 0))) 8) e) ∙ test) (cells-around s i h))
+
+pub no_cells : (s : List ℕ) → is_rank s ≡ false → None ≡ (if is_rank s then Some (cells_of s) else None)
+no_cells s h = rw h refl

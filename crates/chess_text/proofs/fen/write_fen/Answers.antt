@@ -1,0 +1,26 @@
+use Rattle.std.proofs.Common.{◌≡◌, ◌≤◌, List, ℕ, ◌∷◌, length, ◌∙◌, ap, arith, length-append}
+use Rattle.std.specs.Prelude.{decimal}
+use Rattle.chess_text.proofs.Joined.{length-number}
+use Rattle.chess_text.proofs.fen.write_fen.Goals as goal
+
+-- the last field has five bytes at most
+short_number : (field : List ℕ) (n : ℕ) → field ≡ decimal n → n ≤ 99999 → length field ≤ 5
+short_number field n e h = omega (arith, ap (λ (t : List ℕ). length t) e, length-number n h)
+
+pub push_field-requires : goal.push_field-requires
+push_field-requires c =
+    omega (
+      arith,
+      c.first_fields-text.ensures.short,
+      short_number c.as_bytes.result.now c.full.result (c.as_bytes.ensures.value ∙ c.format.ensures.text) c.full.ensures.limit,
+    )
+
+pub returns-clause-short : goal.returns-clause-short
+returns-clause-short c =
+    omega (
+      arith,
+      c.first_fields-text.ensures.short,
+      ap (λ (t : List ℕ). length t) c.push_field.ensures,
+      length-append c.first_fields-text.result.items (32 ∷ c.as_bytes.result.now),
+      short_number c.as_bytes.result.now c.full.result (c.as_bytes.ensures.value ∙ c.format.ensures.text) c.full.ensures.limit,
+    )

@@ -1,0 +1,11 @@
+use Rattle.std.proofs.Common.{◌≡◌, ◌≤◌, true, length, drop}
+use Rattle.std.specs.List.{list_all}
+use Rattle.chess_text.specs.Form.{is_mark}
+use Rattle.chess_text.proofs.form.before_marks.Given as goal
+
+-- what stands from there on are marks
+abbrev pub invariant-loop-end : goal.invariant-loop-end
+invariant-loop-end l = record { within : l.end ≤ length l.text; marks_alone : list_all is_mark (drop l.end l.text) ≡ true }
+
+abbrev pub decreases-loop-end : goal.decreases-loop-end
+decreases-loop-end l = l.end

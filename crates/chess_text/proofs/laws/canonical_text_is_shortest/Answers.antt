@@ -1,0 +1,5 @@
+use Rattle.chess_text.proofs.Lawful.{is_shortest}
+use Rattle.chess_text.proofs.laws.canonical_text_is_shortest.Goals as goal
+
+pub returns : goal.returns
+returns c = is_shortest

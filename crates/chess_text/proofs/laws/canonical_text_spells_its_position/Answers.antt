@@ -1,0 +1,5 @@
+use Rattle.chess_text.proofs.Lawful.{canonical}
+use Rattle.chess_text.proofs.laws.canonical_text_spells_its_position.Goals as goal
+
+pub returns : goal.returns
+returns c = canonical

@@ -1,0 +1,5 @@
+use Rattle.chess_text.proofs.Lawful.{lowest}
+use Rattle.chess_text.proofs.laws.fault_is_lowest.Goals as goal
+
+pub returns : goal.returns
+returns c = lowest

@@ -1,0 +1,5 @@
+use Rattle.chess_text.proofs.Lawful.{fields}
+use Rattle.chess_text.proofs.laws.fields_are_spellings.Goals as goal
+
+pub returns : goal.returns
+returns c = fields

@@ -1,0 +1,5 @@
+use Rattle.chess_text.proofs.Names.{less}
+use Rattle.chess_text.proofs.laws.less_is_ambiguous.Goals as goal
+
+pub returns : goal.returns
+returns c = less

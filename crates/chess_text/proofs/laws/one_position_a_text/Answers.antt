@@ -1,0 +1,5 @@
+use Rattle.chess_text.proofs.Lawful.{once}
+use Rattle.chess_text.proofs.laws.one_position_a_text.Goals as goal
+
+pub returns : goal.returns
+returns c = once

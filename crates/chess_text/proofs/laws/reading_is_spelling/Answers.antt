@@ -1,0 +1,5 @@
+use Rattle.chess_text.proofs.Lawful.{reads}
+use Rattle.chess_text.proofs.laws.reading_is_spelling.Goals as goal
+
+pub returns : goal.returns
+returns c = reads

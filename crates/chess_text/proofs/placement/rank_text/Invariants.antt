@@ -1,0 +1,6 @@
+use Rattle.chess_text.specs.Placement.{row}
+use Rattle.chess_text.proofs.Runs.{WrittenSoFar}
+use Rattle.chess_text.proofs.placement.rank_text.Given as goal
+
+abbrev pub invariant-loop-cell : goal.invariant-loop-cell
+invariant-loop-cell l = WrittenSoFar (row l.fn.position.board l.fn.rank) l.text.items l.run l.cell-index l.cell-items

@@ -1,0 +1,9 @@
+use Rattle.std.proofs.Common.{◌∙◌, ap₂}
+use Rattle.std.specs.Int.{abs_diff}
+use Rattle.chess_text.proofs.Castling.{castling_by_files}
+use Rattle.chess_text.proofs.resolve.is_castling.Goals as goal
+
+pub returns-then-has_king : goal.returns-then-has_king
+returns-then-has_king c =
+    castling_by_files c.args.position.now c.args.mv.now c.has_king.result c.abs_diff.result c.requires c.has_king.ensures c.if-has_king.true
+    (c.abs_diff.ensures ∙ ap₂ abs_diff c.file.ensures.value c.file-then-has_king.ensures.value)

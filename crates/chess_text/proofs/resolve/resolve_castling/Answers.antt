@@ -1,0 +1,21 @@
+use Rattle.std.proofs.Common.{sym, ◌∙◌, ap}
+use Rattle.chess_rules.specs.declared.piece.Colour.{Colour}
+use Rattle.chess_text.specs.Reads.{castling_move}
+use Rattle.chess_text.proofs.CastleForms.{castling_illegal, castling_found, castling_other}
+use Rattle.chess_text.proofs.resolve.resolve_castling.Goals as goal
+
+pub returns-in_default-clause-answer : goal.returns-in_default-clause-answer
+returns-in_default-clause-answer c =
+    castling_illegal c.args.position.now c.args.long c.castling_move-mv.result
+    (c.castling_move-mv.ensures ∙ ap (λ (side : Colour). castling_move side c.args.long) c.side.ensures) (sym c.try_pair.ensures.after ∙ c.in_default.is)
+
+pub returns-then-is_castling-clause-answer : goal.returns-then-is_castling-clause-answer
+returns-then-is_castling-clause-answer c =
+    castling_found c.args.position.now c.args.long c.castling_move-mv.result
+    (c.castling_move-mv.ensures ∙ ap (λ (side : Colour). castling_move side c.args.long) c.side.ensures) c.in-Some.next
+    (sym c.in-Some.ensures.after) (sym c.is_castling.ensures ∙ c.if-is_castling.true)
+
+pub returns-else-is_castling-clause-answer : goal.returns-else-is_castling-clause-answer
+returns-else-is_castling-clause-answer c =
+    castling_other c.args.position.now c.args.long c.castling_move-mv.result
+    (c.castling_move-mv.ensures ∙ ap (λ (side : Colour). castling_move side c.args.long) c.side.ensures) (sym c.is_castling.ensures ∙ c.if-is_castling.false)

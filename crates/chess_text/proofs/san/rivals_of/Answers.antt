@@ -1,0 +1,52 @@
+use Rattle.std.proofs.Common.{◌≡◌, Bool, true, List, take, ◌∙◌, sym, subst, arith}
+use Rattle.std.specs.Prelude.{◌==◌}
+use Rattle.std.specs.List.{list_any}
+use Rattle.std.specs.List.Sorted.{IsPermutation}
+use Rattle.std.proofs.lemmas.List.Sorted.{length_permutation}
+use Rattle.chess_rules.specs.Square.{Square}
+use Rattle.chess_rules.specs.Candidate.{candidates}
+use Rattle.chess_text.specs.San.{rivals}
+use Rattle.chess_text.proofs.Rivals.{seen, found_more, all_found, rivals_seen}
+use Rattle.chess_text.proofs.san.rivals_of.Goals as goal
+
+pub loop-origin-preserved : goal.loop-origin-preserved
+loop-origin-preserved c =
+    record {
+      found =
+          found_more c.args.position.now c.args.mv.now c.as_slice-origin-items.result.now c.loop-origin.origin-index c.origin-item.result c.is_rival-is_rival.result
+          c.loop-origin.found.any c.loop-origin.found.on_file c.loop-origin.found.on_rank c.with-found.result.any c.with-found.result.on_file c.with-found.result.on_rank
+          c.loop-origin-test.true c.origin-item.is c.is_rival-is_rival.ensures.rival c.loop-origin.invariant.found c.with-found.ensures.any c.with-found.ensures.file c.with-found.ensures.rank;
+      tried = omega (arith, c.is_rival-is_rival.ensures.pairs, c.loop-origin.invariant.tried);
+    }
+
+-- the origins are the candidates
+perm : (c : goal.After-loop-origin) → IsPermutation (candidates c.args.position.now c.args.kind c.args.mv.now.to) c.as_slice-origin-items.result.now
+perm c =
+    subst (λ (ys : List Square). IsPermutation (candidates c.args.position.now c.args.kind c.args.mv.now.to) ys) (sym c.as_slice-origin-items.ensures.value)
+    c.origins-origins.ensures.exactly
+
+-- all of them were seen
+whole : (c : goal.After-loop-origin) (test : Square → Bool)
+    → seen c.args.position.now c.args.mv.now test (take c.loop-origin.origin-index c.as_slice-origin-items.result.now) ≡ list_any test (rivals c.args.position.now c.args.kind c.args.mv.now)
+whole c test =
+    all_found c.args.position.now c.args.mv.now test c.as_slice-origin-items.result.now c.loop-origin.origin-index c.loop-origin-test.false
+    ∙ rivals_seen c.candidates_are_complete.ensures c.args.position.now c.args.kind c.args.mv.now test c.as_slice-origin-items.result.now (perm c)
+
+pub returns-clause-any : goal.returns-clause-any
+returns-clause-any c = c.loop-origin.invariant.found.any_is ∙ whole c (λ s. true)
+
+pub returns-clause-file : goal.returns-clause-file
+returns-clause-file c = c.loop-origin.invariant.found.file_is ∙ whole c (λ s. s.file == c.args.mv.now.from.file)
+
+pub returns-clause-rank : goal.returns-clause-rank
+returns-clause-rank c = c.loop-origin.invariant.found.rank_is ∙ whole c (λ s. s.rank == c.args.mv.now.from.rank)
+
+pub returns-clause-pairs : goal.returns-clause-pairs
+returns-clause-pairs c =
+    omega (
+      arith,
+      length_permutation (candidates c.args.position.now c.args.kind c.args.mv.now.to) c.as_slice-origin-items.result.now (perm c),
+      c.loop-origin.invariant.tried,
+      c.loop-origin-test.false,
+      c.loop-origin.auto.origin-index-end,
+    )

@@ -1,0 +1,24 @@
+use Rattle.std.proofs.Common.{◌≡◌, true, sym, ◌∙◌, subst}
+use Rattle.chess_rules.specs.Step.{own}
+use Rattle.chess_text.proofs.Movers.{mover, officer}
+use Rattle.chess_text.proofs.san.unmarked.Goals as goal
+
+pub king_text-requires-clause-king : goal.king_text-requires-clause-king
+king_text-requires-clause-king c =
+    let p = c.args.position.now in
+    let m = c.args.mv.now in
+    subst (λ k. own p k m.from ≡ true) c.in-King.is (mover p m c.in-Some.piece c.requires.legal (sym c.at.ensures ∙ c.in-Some.is))
+
+pub pawn_text-requires-clause-pawn : goal.pawn_text-requires-clause-pawn
+pawn_text-requires-clause-pawn c =
+    let p = c.args.position.now in
+    let m = c.args.mv.now in
+    subst (λ k. own p k m.from ≡ true) c.in-Pawn.is (mover p m c.in-Some.piece c.requires.legal (sym c.at.ensures ∙ c.in-Some.is))
+
+pub officer_text-requires : goal.officer_text-requires
+officer_text-requires c =
+    record {
+      own = mover c.args.position.now c.args.mv.now c.in-Some.piece c.requires.legal (sym c.at.ensures ∙ c.in-Some.is);
+      officer = officer c.in-Some.piece.kind (λ e. c.in_default-kind.not-King e) (λ e. c.in_default-kind.not-Pawn e);
+      room = c.requires.room;
+    }

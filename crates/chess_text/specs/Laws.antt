@@ -1,0 +1,118 @@
+-- What the definitions of texts promise.
+use Rattle.std.specs.Prelude.{◌≡◌, ◌≢◌, ◌+◌, ◌<◌, ◌≤◌, ◌↔◌, Bool, List, [], ◌∷◌, ◌++◌, ℕ, Option, Some, Ok, Err, length, slice_index_or, is_some, IsTrue}
+use Rattle.std.specs.List.{prefix_len}
+use Rattle.chess_rules.specs.declared.position.Move.{Move}
+use Rattle.chess_rules.specs.declared.piece.Colour.{Colour}
+use Rattle.chess_rules.specs.declared.position.Rights.{Rights}
+use Rattle.chess_rules.specs.declared.position.Parts.{Parts}
+use Rattle.chess_rules.specs.Square.{Square}
+use Rattle.chess_rules.specs.Board.{Board}
+use Rattle.chess_rules.specs.Position.{is_position, target_fits}
+use Rattle.chess_rules.specs.declared.piece.Kind.{Kind}
+use Rattle.chess_rules.specs.Step.{own}
+use Rattle.chess_rules.specs.Legal.{legal, is_legal}
+use Rattle.chess_text.specs.declared.fen.FenFault.{FenFault}
+use Rattle.chess_text.specs.declared.form.Form.{Form}
+use Rattle.chess_text.specs.declared.resolve.Played.{Played}
+use Rattle.chess_text.specs.declared.resolve.SanFault.TheVariants.{NoMove, Ambiguous}
+use Rattle.chess_text.specs.Placement.{placement_of}
+use Rattle.chess_text.specs.Field.{side_text, side_of, rights_text, rights_of, target_text, target_of, number_of}
+use Rattle.chess_text.specs.Fen.{SpellsBoard, SpellsNumber, Fen, field, read, fen_text}
+use Rattle.chess_text.specs.Form.{Spells, is_form, form_of}
+use Rattle.chess_text.specs.Letter.{letter, file_letter, rank_digit, square_text}
+use Rattle.chess_text.specs.Reads.{agrees, reads}
+use Rattle.chess_text.specs.San.{rivals, told_apart, has_rivals, capture_text, mark, san}
+
+-- what is read of a text is the position that it spells
+abbrev pub ReadsFen : Type 0
+ReadsFen = (s : List ℕ) (p : Parts) → Fen s p ↔ (read s ≡ Ok p)
+
+-- a text spells at most one position
+abbrev pub FenOnce : Type 0
+FenOnce = (s : List ℕ) (p q : Parts) → Fen s p → Fen s q → p ≡ q
+
+-- the canonical text of a position spells it
+abbrev pub CanonicalSpells : Type 0
+CanonicalSpells = (p : Parts) → IsTrue (is_position p) → Fen (fen_text p) p
+
+-- and has at most 93 bytes
+abbrev pub CanonicalFits : Type 0
+CanonicalFits = (p : Parts) → IsTrue (is_position p) → length (fen_text p) ≤ 93
+
+-- and no text of the position is shorter: no run is split, no zero leads
+abbrev pub CanonicalIsShortest : Type 0
+CanonicalIsShortest = (s : List ℕ) (p : Parts) → Fen s p → length (fen_text p) ≤ length s
+
+-- a square that is the target of some position, or none, and its text
+pub record SpellsTarget (s : List ℕ) (t : Option Square) : Type 0 where
+  pub text : s ≡ target_text t
+  pub side : Colour
+  pub fits : IsTrue (target_fits side t)
+
+-- Each part is read of exactly the texts that spell it.
+pub record FieldsAreSpellings : Type 0 where
+  pub boards : (s : List ℕ) (b : Board) → SpellsBoard s b ↔ (placement_of s ≡ Some b)
+  pub sides : (s : List ℕ) (c : Colour) → (s ≡ side_text c) ↔ (side_of s ≡ Some c)
+  pub rights : (s : List ℕ) (r : Rights) → (s ≡ rights_text r) ↔ (rights_of s ≡ Some r)
+  pub targets : (s : List ℕ) (t : Option Square) → SpellsTarget s t ↔ (target_of s ≡ Some t)
+  pub numbers : (s : List ℕ) (n : ℕ) → SpellsNumber s n ↔ (number_of s ≡ Some n)
+
+-- which of the six fields of a text are spellings, in their order
+abbrev pub spelled : List ℕ → List Bool
+spelled s =
+    is_some (placement_of (field 1 s)) ∷ is_some (side_of (field 2 s)) ∷ is_some (rights_of (field 3 s))
+    ∷ is_some (target_of (field 4 s)) ∷ is_some (number_of (field 5 s)) ∷ is_some (number_of (field 6 s)) ∷ []
+
+-- the field at fault is the one after the spellings that come before any other; so it is 7 where all six are spellings
+abbrev pub FaultIsLowest : Type 0
+FaultIsLowest = (s : List ℕ) (fault : FenFault) → read s ≡ Err fault → fault.field ≡ prefix_len (λ b. b) (spelled s) + 1
+
+-- what is read of a move's text is the form that it spells
+abbrev pub ReadsForm : Type 0
+ReadsForm = (s : List ℕ) (f : Form) → (Spells s f × IsTrue (is_form f)) ↔ (form_of s ≡ Some f)
+
+-- a text spells at most one form
+abbrev pub FormOnce : Type 0
+FormOnce = (s : List ℕ) (f g : Form) → IsTrue (is_form f) → IsTrue (is_form g) → Spells s f → Spells s g → f ≡ g
+
+-- what is read of a form is the one move that agrees, with the position after it
+abbrev pub ReadsTheOne : Type 0
+ReadsTheOne =
+    (p : Parts) (f : Form) (x : Played)
+    → (reads p f ≡ Ok x) ↔ (IsTrue (agrees p f x.mv) × (legal p x.mv ≡ Some x.next) × ((m : Move) → IsTrue (agrees p f m) → m ≡ x.mv))
+
+-- the fault is NoMove exactly where none agrees
+abbrev pub ReadsNone : Type 0
+ReadsNone = (p : Parts) (f : Form) → (reads p f ≡ Err NoMove) ↔ ((m : Move) → ¬ IsTrue (agrees p f m))
+
+-- and Ambiguous exactly where two or more agree
+abbrev pub ReadsTwo : Type 0
+ReadsTwo =
+    (p : Parts) (f : Form)
+    → (reads p f ≡ Err Ambiguous) ↔ ((m : Move) × (n : Move) × (m ≢ n) × IsTrue (agrees p f m) × IsTrue (agrees p f n))
+
+-- the text names the move: it spells a form with which the move agrees
+abbrev pub Names : Parts → List ℕ → Move → Type 0
+Names p s m = (f : Form) × Spells s f × IsTrue (is_form f) × IsTrue (agrees p f m)
+
+-- the text that is written for a legal move names this move and no other
+abbrev pub SingleReading : Type 0
+SingleReading =
+    (p : Parts) (m : Move) → IsTrue (is_position p) → IsTrue (is_legal p m) → Names p (san p m) m × ((n : Move) → Names p (san p m) n → n ≡ m)
+
+-- what may tell the origin apart, in its order (PGN 8.2.3.4)
+abbrev pub steps_apart : Square → List (List ℕ)
+steps_apart s = [] ∷ (file_letter s.file ∷ []) ∷ (rank_digit s.rank ∷ []) ∷ square_text s ∷ []
+
+-- the text of an officer's move with that between its letter and its target
+abbrev pub text_with : Parts → Kind → Move → List ℕ → List ℕ
+text_with p k m apart = ((letter k ∷ []) ++ apart ++ capture_text p m ++ square_text m.to) ++ mark (legal p m)
+
+-- Nothing shorter would do: with an earlier step than the one that is written, the text names the move and another one.
+abbrev pub ShorterIsAmbiguous : Type 0
+ShorterIsAmbiguous =
+    (p : Parts) (k : Kind) (m : Move) (i j : ℕ)
+    → IsTrue (is_legal p m) → IsTrue (own p k m.from) → IsTrue (has_rivals k)
+    → i < j → j < 4 → told_apart m.from (rivals p k m) ≡ slice_index_or (steps_apart m.from) j []
+    → Names p (text_with p k m (slice_index_or (steps_apart m.from) i [])) m
+    × ((n : Move) × (n ≢ m) × Names p (text_with p k m (slice_index_or (steps_apart m.from) i [])) n)

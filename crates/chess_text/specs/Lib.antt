@@ -1,0 +1,9 @@
+pub mod Letter
+pub mod Placement
+pub mod Ranks
+pub mod Field
+pub mod Fen
+pub mod Form
+pub mod Reads
+pub mod San
+pub mod Laws

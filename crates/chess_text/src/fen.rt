@@ -1,0 +1,139 @@
+//! Positions as text: Forsyth-Edwards notation. (PGN 16.1)
+
+ghost use Rattle.std.specs.Prelude.{◌≡◌, ◌≤◌, ◌+◌, ◌++◌, ◌∷◌, length, decimal};
+ghost use Rattle.std.specs.List.{before_first, after_first, position_or_len};
+ghost use Rattle.chess_text.specs.Fen.{is_space, read, parts_read, fen_text};
+
+use crate::field::{
+    read_number, read_rights, read_side, read_target, rights_text, side_letter, target_text,
+};
+use crate::placement::{board_text, read_placement};
+use arrayvec::ArrayVec;
+use chess_rules::position::{Parts, Position};
+use itoa::Buffer;
+
+/// A text that spells no position.
+#[derive(Clone, Copy, PartialEq, Eq, Debug)]
+pub struct FenFault {
+    /// The lowest of the six fields that is no spelling, or 7 where all are and the position breaks a rule.
+    pub field: u8,
+}
+
+/// The position that the text spells. (PGN 16.1.3)
+///
+/// The text has six fields, separated by one space each; what follows the fifth space is the sixth. Beside the standard's own
+/// spellings, digits may stand side by side in the first field, and zeros before the numbers, which have 1 to 5 digits.
+/// Otherwise the lowest field that is no spelling is answered; 7 where the six make no position (`Position::build`).
+pub fn read_fen(text: &[u8]) -> Result<Position, FenFault>
+    ensures { result ≡ read text.now }
+{
+    let parts = read_parts(text)?;
+    match Position::build(&parts) {
+        Ok(position) => Ok(position),
+        Err(_) => Err(FenFault { field: 7 }),
+    }
+}
+
+// The six parts that the six fields spell.
+fn read_parts(text: &[u8]) -> Result<Parts, FenFault>
+    ensures { result ≡ parts_read text.now }
+{
+    let Some(board) = read_placement(first_field(text)) else {
+        return Err(FenFault { field: 1 });
+    };
+    let text = other_fields(text);
+    let Some(side) = read_side(first_field(text)) else {
+        return Err(FenFault { field: 2 });
+    };
+    let text = other_fields(text);
+    let Some(rights) = read_rights(first_field(text)) else {
+        return Err(FenFault { field: 3 });
+    };
+    let text = other_fields(text);
+    let Some(target) = read_target(first_field(text)) else {
+        return Err(FenFault { field: 4 });
+    };
+    let text = other_fields(text);
+    let Some(half) = read_number(first_field(text)) else {
+        return Err(FenFault { field: 5 });
+    };
+    let Some(full) = read_number(other_fields(text)) else {
+        return Err(FenFault { field: 6 });
+    };
+    Ok(Parts {
+        board,
+        side,
+        rights,
+        target,
+        half,
+        full,
+    })
+}
+
+// What stands before the first space.
+fn first_field(text: &[u8]) -> &[u8]
+    ensures { result.now ≡ before_first is_space text.now }
+{
+    &text[..field_length(text)]
+}
+
+// What follows the first space; nothing where none is.
+fn other_fields(text: &[u8]) -> &[u8]
+    ensures { result.now ≡ after_first is_space text.now }
+{
+    let end = field_length(text);
+    if end == text.len() {
+        &[]
+    } else {
+        &text[end + 1..]
+    }
+}
+
+// How many bytes stand before the first space.
+fn field_length(text: &[u8]) -> usize
+    ensures value { result ≡ position_or_len is_space text.now }
+    ensures within { result ≤ length text.now }
+{
+    for (i, byte) in text.iter().enumerate() {
+        if *byte == b' ' {
+            return i;
+        }
+    }
+    text.len()
+}
+
+/// The canonical text of the position: the longest runs of empty squares, and no leading zeros. (PGN 16.1.3)
+///
+/// It has at most 93 bytes.
+pub fn write_fen(position: &Position) -> ArrayVec<u8, 93>
+    ensures text { result.items ≡ fen_text position.now }
+    ensures short { length result.items ≤ 93 }
+{
+    let mut text = first_fields(position);
+    push_field(&mut text, Buffer::new().format(position.full()).as_bytes());
+    text
+}
+
+// The canonical text of the position without its last field.
+fn first_fields(position: &Position) -> ArrayVec<u8, 93>
+    ensures text { result.items ++ 32 ∷ decimal position.now.full ≡ fen_text position.now }
+    ensures short { length result.items ≤ 87 }
+{
+    let mut buffer = Buffer::new();
+    let mut text = ArrayVec::new();
+    let _ = text.try_extend_from_slice(board_text(position).as_slice());
+    push_field(&mut text, &[side_letter(position.side())]);
+    push_field(&mut text, rights_text(position.rights()).as_slice());
+    push_field(&mut text, target_text(position.target()).as_slice());
+    push_field(&mut text, buffer.format(position.half()).as_bytes());
+    text
+}
+
+// Adds a space and the field.
+fn push_field(text: &mut ArrayVec<u8, 93>, field: &[u8])
+    requires { length text.old.items + 1 + length field.now ≤ 93 }
+    ensures { text.new.items ≡ text.old.items ++ 32 ∷ field.now }
+{
+    text.push(b' ');
+    let _ = text.try_extend_from_slice(field);
+}

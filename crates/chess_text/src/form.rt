@@ -1,0 +1,212 @@
+//! Moves as they are spelled: standard algebraic notation before a position gives it a meaning.
+
+ghost use Rattle.std.specs.Prelude.{◌≡◌, ◌≤◌, length};
+ghost use Rattle.chess_text.specs.Form as spec;
+
+use chess_rules::piece::{Kind, Promotion};
+use chess_rules::square::Square;
+
+/// What the letters of a move tell (PGN 8.2.3).
+#[derive(Clone, Copy, Debug, PartialEq, Eq)]
+pub enum Form {
+    /// Castling, to the queen's side if it is long.
+    Castle {
+        long: bool,
+    },
+    /// A move of one piece.
+    Man {
+        kind: Kind,
+        /// The origin's file, 0 to 7, if it is told.
+        file: Option<u8>,
+        /// The origin's rank, 0 to 7, if it is told.
+        rank: Option<u8>,
+        to: Square,
+        promotion: Option<Promotion>,
+    },
+}
+
+/// The form that the text spells; None where it spells none. (PGN 8.2.3)
+///
+/// In this order, each at most once and all but the target free to be missing: a letter of `KQRBNP`, where none is a pawn; the
+/// origin's file; its rank; `x`; the target; a letter of `QRBN`, with or without `=`. Or one of `O-O`, `O-O-O`, `0-0`, `0-0-0`.
+/// Any number of `+` and `#` may follow, and no space stands anywhere.
+pub fn read_form(text: &[u8]) -> Option<Form>
+    ensures { result ≡ spec.form_of text.now }
+{
+    let bare = before_marks(text);
+    match castle_told(bare) {
+        Some(long) => Some(Form::Castle { long }),
+        None => read_man(bare),
+    }
+}
+
+// What stands before the marks at the end. (PGN 8.2.3.5)
+fn before_marks(text: &[u8]) -> &[u8]
+    ensures { result.now ≡ spec.before_marks text.now }
+{
+    let mut end = text.len();
+    while end > 0 && is_mark(text[end - 1]) {
+        end -= 1;
+    }
+    &text[..end]
+}
+
+fn is_mark(byte: u8) -> bool
+    ensures { result ≡ spec.is_mark byte }
+{
+    matches!(byte, b'+' | b'#')
+}
+
+// The castling that the text names: whether it is the long one. (PGN 8.2.3.3)
+fn castle_told(text: &[u8]) -> Option<bool>
+    ensures { result ≡ spec.castle_of text.now }
+{
+    if text == b"O-O".as_slice() || text == b"0-0".as_slice() {
+        Some(false)
+    } else if text == b"O-O-O".as_slice() || text == b"0-0-0".as_slice() {
+        Some(true)
+    } else {
+        None
+    }
+}
+
+// The move of one piece that the text names, read from its end.
+fn read_man(text: &[u8]) -> Option<Form>
+    ensures { result ≡ spec.man_of text.now }
+{
+    let promotion = promotion_told(text);
+    let text = before_promotion(text);
+    let to = target_told(text)?;
+    let text = before_target(text);
+    let rank = rank_of(last_byte(text));
+    let text = before_rank(text);
+    let file = file_of(last_byte(text));
+    let kind = kind_told(before_file(text))?;
+    Some(Form::Man {
+        kind,
+        file,
+        rank,
+        to,
+        promotion,
+    })
+}
+
+// The last byte, or 0 where there is none.
+fn last_byte(text: &[u8]) -> u8
+    ensures { result ≡ spec.last_byte text.now }
+{
+    if text.is_empty() {
+        0
+    } else {
+        text[text.len() - 1]
+    }
+}
+
+// What stands before the last byte.
+fn front(text: &[u8]) -> &[u8]
+    ensures { result.now ≡ spec.front text.now }
+{
+    &text[..text.len().saturating_sub(1)]
+}
+
+fn file_of(byte: u8) -> Option<u8>
+    ensures { result ≡ spec.file_of byte }
+{
+    match byte {
+        b'a'..=b'h' => Some(byte - b'a'),
+        _ => None,
+    }
+}
+
+fn rank_of(byte: u8) -> Option<u8>
+    ensures { result ≡ spec.rank_of byte }
+{
+    match byte {
+        b'1'..=b'8' => Some(byte - b'1'),
+        _ => None,
+    }
+}
+
+// What the text says at its end that the pawn becomes.
+fn promotion_told(text: &[u8]) -> Option<Promotion>
+    ensures { result ≡ spec.promotion_told text.now }
+{
+    match last_byte(text) {
+        b'Q' => Some(Promotion::Queen),
+        b'R' => Some(Promotion::Rook),
+        b'B' => Some(Promotion::Bishop),
+        b'N' => Some(Promotion::Knight),
+        _ => None,
+    }
+}
+
+fn before_promotion(text: &[u8]) -> &[u8]
+    ensures { result.now ≡ spec.before_promotion text.now }
+{
+    if promotion_told(text).is_none() {
+        return text;
+    }
+    let text = front(text);
+    if last_byte(text) == b'=' {
+        front(text)
+    } else {
+        text
+    }
+}
+
+// The square of the last two bytes.
+fn target_told(text: &[u8]) -> Option<Square>
+    ensures { result ≡ spec.target_told text.now }
+{
+    let file = file_of(last_byte(front(text)))?;
+    let rank = rank_of(last_byte(text))?;
+    Square::new(file, rank)
+}
+
+// What stands before the target and the `x`.
+fn before_target(text: &[u8]) -> &[u8]
+    ensures { result.now ≡ spec.before_target text.now }
+{
+    let text = front(front(text));
+    if last_byte(text) == b'x' {
+        front(text)
+    } else {
+        text
+    }
+}
+
+fn before_rank(text: &[u8]) -> &[u8]
+    ensures { result.now ≡ spec.before_rank text.now }
+{
+    if rank_of(last_byte(text)).is_some() {
+        front(text)
+    } else {
+        text
+    }
+}
+
+fn before_file(text: &[u8]) -> &[u8]
+    ensures { result.now ≡ spec.before_file text.now }
+{
+    if file_of(last_byte(text)).is_some() {
+        front(text)
+    } else {
+        text
+    }
+}
+
+// The kind whose letter the text is; a pawn where it is empty.
+fn kind_told(text: &[u8]) -> Option<Kind>
+    ensures { result ≡ spec.kind_told text.now }
+{
+    match *text {
+        [] => Some(Kind::Pawn),
+        [b'K'] => Some(Kind::King),
+        [b'Q'] => Some(Kind::Queen),
+        [b'R'] => Some(Kind::Rook),
+        [b'B'] => Some(Kind::Bishop),
+        [b'N'] => Some(Kind::Knight),
+        [b'P'] => Some(Kind::Pawn),
+        _ => None,
+    }
+}

@@ -1,0 +1,53 @@
+//! The letters of pieces.
+
+ghost use Rattle.std.specs.Prelude.{◌≡◌, ◌≤◌};
+ghost use Rattle.chess_text.specs.Letter as spec;
+
+use chess_rules::piece::{Colour, Kind, Piece};
+
+// The capital letter of a kind. (PGN 8.2.3.2)
+pub(crate) fn letter(kind: Kind) -> u8
+    ensures value { result ≡ spec.letter kind }
+    ensures capital { result ≤ 90 }
+{
+    match kind {
+        Kind::King => b'K',
+        Kind::Queen => b'Q',
+        Kind::Rook => b'R',
+        Kind::Bishop => b'B',
+        Kind::Knight => b'N',
+        Kind::Pawn => b'P',
+    }
+}
+
+// The capital letter for White, the small one for Black. (PGN 16.1.3.1)
+pub(crate) fn piece_letter(piece: Piece) -> u8
+    ensures { result ≡ spec.piece_letter piece }
+{
+    match piece.colour {
+        Colour::White => letter(piece.kind),
+        Colour::Black => letter(piece.kind) + 32,
+    }
+}
+
+// The piece whose letter it is. (PGN 16.1.3.1)
+pub(crate) fn piece_of(byte: u8) -> Option<Piece>
+    ensures { result ≡ spec.piece_of byte }
+{
+    let (colour, kind) = match byte {
+        b'K' => (Colour::White, Kind::King),
+        b'Q' => (Colour::White, Kind::Queen),
+        b'R' => (Colour::White, Kind::Rook),
+        b'B' => (Colour::White, Kind::Bishop),
+        b'N' => (Colour::White, Kind::Knight),
+        b'P' => (Colour::White, Kind::Pawn),
+        b'k' => (Colour::Black, Kind::King),
+        b'q' => (Colour::Black, Kind::Queen),
+        b'r' => (Colour::Black, Kind::Rook),
+        b'b' => (Colour::Black, Kind::Bishop),
+        b'n' => (Colour::Black, Kind::Knight),
+        b'p' => (Colour::Black, Kind::Pawn),
+        _ => return None,
+    };
+    Some(Piece { colour, kind })
+}

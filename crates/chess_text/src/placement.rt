@@ -1,0 +1,158 @@
+//! The board as the first field of a FEN. (PGN 16.1.3.1)
+
+ghost use Rattle.std.specs.Prelude.{◌≡◌, ◌<◌, ◌≤◌, ◌+◌, ◌++◌, ◌∷◌, [], ◌&&◌, nat_le, drop, length, if◌then◌else◌, Some, None};
+ghost use Rattle.chess_text.specs.Placement.{ranks, is_rank, cells_of, cells_at, is_item, placement_of, placement_text, rank_text as text_of_rank, run_text, row};
+ghost use Rattle.std.specs.Bool.{OnTrue};
+ghost use Rattle.chess_rules.specs.Board.{at};
+ghost use Rattle.chess_rules.specs.Square.{square};
+ghost use Rattle.chess_text.specs.Placement as spec;
+ghost use Rattle.chess_text.specs.Ranks.{ranks_before};
+
+use crate::letter::{piece_letter, piece_of};
+use arrayvec::ArrayVec;
+use chess_rules::piece::Piece;
+use chess_rules::position::Position;
+use chess_rules::square::Square;
+
+const EMPTY_RANK: [Option<Piece>; 8] = [None; 8];
+
+// What stands on each square, from a1, b1 to h8.
+pub(crate) fn read_placement(text: &[u8]) -> Option<[Option<Piece>; 64]>
+    ensures { result ≡ placement_of text.now }
+{
+    let mut cells: ArrayVec<Option<Piece>, 64> = ArrayVec::new();
+    // One more than the bytes that are left; 0 where no rank is.
+    let mut left = text.len() + 1;
+    while left > 0 {
+        let above = &text[..left - 1];
+        let start = last_rank_start(above);
+        let Some(rank) = read_rank(&above[start..]) else {
+            return None;
+        };
+        if cells.try_extend_from_slice(&rank).is_err() {
+            return None;
+        }
+        left = start;
+    }
+    cells.into_inner().ok()
+}
+
+// Where the last rank of the text begins.
+fn last_rank_start(text: &[u8]) -> usize
+    ensures within { result ≤ length text.now }
+    ensures cut { ranks text.now ≡ ranks_before result text.now ++ drop result text.now ∷ [] }
+{
+    let mut start = text.len();
+    while start > 0 && text[start - 1] != b'/' {
+        start -= 1;
+    }
+    start
+}
+
+// What stands on the squares of a rank, from file a on.
+fn read_rank(text: &[u8]) -> Option<[Option<Piece>; 8]>
+    ensures { result ≡ (if is_rank text.now then Some (cells_of text.now) else None) }
+{
+    let mut cells = ArrayVec::new();
+    for &byte in text {
+        if !push_item(&mut cells, byte) {
+            return None;
+        }
+    }
+    cells.into_inner().ok()
+}
+
+// Adds the squares that the byte stands for, if it stands for any and the rank has as many left.
+fn push_item(cells: &mut ArrayVec<Option<Piece>, 8>, byte: u8) -> bool
+    ensures fits { result ≡ (is_item byte && nat_le (length cells.old.items + length (cells_at byte)) 8) }
+    ensures added { OnTrue result (cells.new.items ≡ cells.old.items ++ cells_at byte) }
+{
+    if is_run(byte) {
+        let run = &EMPTY_RANK[..(byte - b'0') as usize];
+        return cells.try_extend_from_slice(run).is_ok();
+    }
+    match piece_of(byte) {
+        None => false,
+        Some(piece) => cells.try_push(Some(piece)).is_ok(),
+    }
+}
+
+// Whether the byte is the digit of a run of empty squares.
+fn is_run(byte: u8) -> bool
+    ensures { result ≡ spec.is_run byte }
+{
+    matches!(byte, b'1'..=b'8')
+}
+
+// The canonical text of the board.
+pub(crate) fn board_text(position: &Position) -> ArrayVec<u8, 71>
+    ensures text { result.items ≡ placement_text position.now.board }
+    ensures short { length result.items ≤ 71 }
+{
+    let mut text = ArrayVec::new();
+    let _ = text.try_extend_from_slice(rank_text(position, 7).as_slice());
+    for below in 0..7 {
+        text.push(b'/');
+        let _ = text.try_extend_from_slice(rank_text(position, 6 - below).as_slice());
+    }
+    text
+}
+
+// The canonical text of a rank.
+fn rank_text(position: &Position, rank: u8) -> ArrayVec<u8, 8>
+    requires { rank < 8 }
+    ensures text { result.items ≡ text_of_rank 0 (row position.now.board rank) }
+    ensures short { length result.items ≤ 8 }
+{
+    let mut text = ArrayVec::new();
+    let mut run = 0u8;
+    for cell in cells_of_rank(position, rank) {
+        match cell {
+            None => run += 1,
+            Some(piece) => {
+                push_run(&mut text, run);
+                text.push(piece_letter(piece));
+                run = 0;
+            }
+        }
+    }
+    push_run(&mut text, run);
+    text
+}
+
+// Adds the digit of a run of empty squares.
+fn push_run(text: &mut ArrayVec<u8, 8>, run: u8)
+    requires room { length text.old.items + length (run_text run) ≤ 8 }
+    requires run { run ≤ 8 }
+    ensures { text.new.items ≡ text.old.items ++ run_text run }
+{
+    if run > 0 {
+        text.push(b'0' + run);
+    }
+}
+
+// What stands on the squares of the rank, from file a to file h.
+fn cells_of_rank(position: &Position, rank: u8) -> [Option<Piece>; 8]
+    requires { rank < 8 }
+    ensures { result ≡ row position.now.board rank }
+{
+    [
+        cell(position, 0, rank),
+        cell(position, 1, rank),
+        cell(position, 2, rank),
+        cell(position, 3, rank),
+        cell(position, 4, rank),
+        cell(position, 5, rank),
+        cell(position, 6, rank),
+        cell(position, 7, rank),
+    ]
+}
+
+// What stands on the square.
+fn cell(position: &Position, file: u8, rank: u8) -> Option<Piece>
+    requires file { file < 8 }
+    requires rank { rank < 8 }
+    ensures { result ≡ at position.now.board (square file rank) }
+{
+    position.at(Square::new(file, rank)?)
+}

@@ -1,0 +1,202 @@
+//! The move that a form names in a position. (PGN 8.2.3)
+
+ghost use Rattle.std.specs.Prelude.{◌≡◌, ◌≢◌, ◌+◌, ◌<◌, ◌≤◌, ◌^◌, Err, IsTrue, length};
+ghost use Rattle.std.specs.Result.{OnOk};
+ghost use Rattle.chess_rules.specs.declared.piece.Kind.TheVariants.{King};
+ghost use Rattle.chess_rules.specs.Candidate.{candidates};
+ghost use Rattle.chess_rules.specs.Legal.{is_legal};
+ghost use Rattle.chess_rules.specs.Step.{own};
+ghost use Rattle.chess_text.specs.declared.form.Form.TheVariants.{Castle, Man};
+ghost use Rattle.chess_text.specs.declared.resolve.SanFault.TheVariants.{Ambiguous};
+ghost use Rattle.chess_text.specs.Reads as spec;
+
+use crate::form::Form;
+use chess_rules::candidates::origins;
+use chess_rules::laws::candidates_are_complete;
+use chess_rules::legal::try_pair;
+use chess_rules::piece::{Colour, Kind, Promotion};
+use chess_rules::position::{Move, Position};
+use chess_rules::probes::Probes;
+use chess_rules::square::Square;
+
+/// A legal move, and the position after it.
+#[derive(Clone, Copy)]
+pub struct Played {
+    /// The move.
+    pub mv: Move,
+    /// The position after it.
+    pub next: Position,
+}
+
+/// Why a form names no move.
+#[derive(Clone, Copy, PartialEq, Eq, Debug)]
+pub enum SanFault {
+    /// No legal move agrees with the form.
+    NoMove,
+    /// Two legal moves or more agree with it.
+    Ambiguous,
+}
+
+/// The one legal move that agrees with the form, and the position after it. (PGN 8.2.3)
+///
+/// A legal move agrees if it has the kind, the target and the promotion of the form, and its origin the file and the rank
+/// that are told. Castling agrees with the form of that castling and with no other. `NoMove` is answered exactly where no
+/// legal move agrees, `Ambiguous` exactly where two or more do.
+///
+/// It counts the pairs that it tries, also on an error: one for castling, and for another form one for each member of
+/// `origins`, whether the hints allow it or not; where two moves agree, at least two of them. That is at most 8, and 8 must
+/// still fit in the count.
+pub fn resolve(position: &Position, form: &Form, probes: &mut Probes) -> Result<Played, SanFault>
+    requires { probes.old + 8 < 2 ^ 32 }
+    ensures answer { result ≡ spec.reads position.now form.now }
+    ensures each { result ≢ Err Ambiguous → probes.new ≡ probes.old + spec.pair_count position.now form.now }
+    ensures two { result ≡ Err Ambiguous → probes.old + 2 ≤ probes.new }
+    ensures most { probes.new ≤ probes.old + spec.pair_count position.now form.now }
+    ensures some { OnOk result (probes.old < probes.new) }
+    ensures bound { probes.new ≤ probes.old + 8 }
+{
+    match *form {
+        Form::Castle { long } => resolve_castling(position, long, probes),
+        Form::Man {
+            kind,
+            file,
+            rank,
+            to,
+            promotion,
+        } => resolve_man(position, kind, Hints { file, rank }, to, promotion, probes),
+    }
+}
+
+// The king's move of castling. (PGN 8.2.3.3)
+fn castling_move(side: Colour, long: bool) -> Move
+    ensures { result ≡ spec.castling_move side long }
+{
+    let rank = match side {
+        Colour::White => 0,
+        Colour::Black => 7,
+    };
+    let file = if long { 2 } else { 6 };
+    Move {
+        from: Square::new(4, rank).unwrap(),
+        to: Square::new(file, rank).unwrap(),
+        promotion: None,
+    }
+}
+
+// Whether a king of the side to move stands on the square.
+fn has_king(position: &Position, square: Square) -> bool
+    ensures { result ≡ own position.now King square }
+{
+    match position.at(square) {
+        None => false,
+        Some(piece) => piece.colour == position.side() && piece.kind == Kind::King,
+    }
+}
+
+// Whether the legal move is castling: no other takes a king further than to the next file. (FIDE Laws 3.8)
+pub(crate) fn is_castling(position: &Position, mv: &Move) -> bool
+    requires { IsTrue (is_legal position.now mv.now) }
+    ensures { result ≡ spec.is_castling position.now mv.now }
+{
+    has_king(position, mv.from) && mv.from.file().abs_diff(mv.to.file()) > 1
+}
+
+// Tries the one castling.
+fn resolve_castling(
+    position: &Position,
+    long: bool,
+    probes: &mut Probes,
+) -> Result<Played, SanFault>
+    requires { probes.old + 1 < 2 ^ 32 }
+    ensures answer { result ≡ spec.reads position.now (Castle long) }
+    ensures single { result ≢ Err Ambiguous }
+    ensures count { probes.new ≡ probes.old + 1 }
+{
+    let mv = castling_move(position.side(), long);
+    let Some(next) = try_pair(position, mv, probes) else {
+        return Err(SanFault::NoMove);
+    };
+    if is_castling(position, &mv) {
+        Ok(Played { mv, next })
+    } else {
+        Err(SanFault::NoMove)
+    }
+}
+
+// What is told of an origin.
+#[derive(Clone, Copy)]
+struct Hints {
+    file: Option<u8>,
+    rank: Option<u8>,
+}
+
+impl Hints {
+    // Whether this square may be meant. (PGN 8.2.3.4)
+    fn fit(self, origin: Square) -> bool
+        ensures { result ≡ spec.hints_fit self.file self.rank origin }
+    {
+        is_fit(self.file, origin.file()) && is_fit(self.rank, origin.rank())
+    }
+}
+
+// Whether the number is the one that is told, if one is.
+fn is_fit(hint: Option<u8>, number: u8) -> bool
+    ensures { result ≡ spec.hint_fits hint number }
+{
+    match hint {
+        None => true,
+        Some(told) => told == number,
+    }
+}
+
+// The move with the position after it, if it is legal, no castling, and begins where the hints allow.
+fn try_man(position: &Position, hints: Hints, mv: Move, probes: &mut Probes) -> Option<Played>
+    requires { probes.old + 1 < 2 ^ 32 }
+    ensures played { result ≡ spec.played (spec.man_fits position.now hints.file hints.rank mv) position.now mv }
+    ensures count { probes.new ≡ probes.old + 1 }
+{
+    let Some(next) = try_pair(position, mv, probes) else {
+        return None;
+    };
+    if hints.fit(mv.from) && !is_castling(position, &mv) {
+        Some(Played { mv, next })
+    } else {
+        None
+    }
+}
+
+// Tries the move from each origin, until a second one agrees.
+fn resolve_man(
+    position: &Position,
+    kind: Kind,
+    hints: Hints,
+    to: Square,
+    promotion: Option<Promotion>,
+    probes: &mut Probes,
+) -> Result<Played, SanFault>
+    requires { probes.old + 8 < 2 ^ 32 }
+    ensures answer { result ≡ spec.reads position.now (Man kind hints.file hints.rank to promotion) }
+    ensures each { result ≢ Err Ambiguous → probes.new ≡ probes.old + length (candidates position.now kind to) }
+    ensures two { result ≡ Err Ambiguous → probes.old + 2 ≤ probes.new }
+    ensures most { probes.new ≤ probes.old + length (candidates position.now kind to) }
+    ensures some { OnOk result (probes.old < probes.new) }
+    ensures bound { probes.new ≤ probes.old + 8 }
+{
+    candidates_are_complete();
+    let origins = origins(position, kind, to);
+    let mut found = None;
+    for origin in origins.as_slice() {
+        let mv = Move {
+            from: *origin,
+            to,
+            promotion,
+        };
+        if let Some(played) = try_man(position, hints, mv, probes) {
+            if found.is_some() {
+                return Err(SanFault::Ambiguous);
+            }
+            found = Some(played);
+        }
+    }
+    found.ok_or(SanFault::NoMove)
+}

@@ -1,0 +1,275 @@
+//! Moves as they are written: standard algebraic notation. (PGN 8.2.3)
+
+ghost use Rattle.std.specs.Prelude.{◌≡◌, ◌+◌, ◌<◌, ◌≤◌, ◌^◌, ◌++◌, ◌∷◌, [], ◌&&◌, ◌||◌, ◌==◌, not, true, length, Some, IsTrue};
+ghost use Rattle.std.specs.List.{list_any};
+ghost use Rattle.chess_rules.specs.declared.piece.Kind.TheVariants.{King, Pawn};
+ghost use Rattle.chess_rules.specs.Candidate.{candidates};
+ghost use Rattle.chess_rules.specs.Legal.{legal, is_legal};
+ghost use Rattle.chess_rules.specs.Step.{own};
+ghost use Rattle.chess_text.specs.Form.{promotion_letter as letter_of};
+ghost use Rattle.chess_text.specs.Letter as letters;
+ghost use Rattle.chess_text.specs.San as spec;
+ghost use Rattle.chess_text.specs.San.{MarkPairs};
+
+use crate::letter::letter;
+use crate::resolve::{Played, is_castling};
+use arrayvec::ArrayVec;
+use chess_rules::candidates::origins;
+use chess_rules::laws::candidates_are_complete;
+use chess_rules::legal::{has_legal_move, in_check, try_pair};
+use chess_rules::piece::{Kind, Promotion};
+use chess_rules::position::{Move, Position};
+use chess_rules::probes::Probes;
+use chess_rules::square::Square;
+
+/// The text of the move (PGN 8.2.3): castling is `O-O` or `O-O-O`; a pawn's move is the target, after the file and `x` where it takes, and before
+/// `=` and the piece that it becomes; another piece's move is its letter, as much of its origin as tells it from others that could go there, `x`
+/// where it takes, and the target. Then `#` on mate, else `+` on check.
+///
+/// The move is legal, and `next` is the position after it.
+/// For a queen, a rook, a bishop or a knight it counts a pair for each member of `origins`; and where `next` is in check, those of
+/// one `has_legal_move`.
+pub fn write_san(position: &Position, played: &Played, probes: &mut Probes) -> ArrayVec<u8, 7>
+    requires legal { legal position.now played.now.mv ≡ Some played.now.next }
+    requires room { probes.old + 1032 < 2 ^ 32 }
+    ensures text { result.items ≡ spec.san position.now played.now.mv }
+    ensures pairs { MarkPairs played.now.next (probes.old + spec.apart_pairs position.now played.now.mv) probes.new }
+    ensures bound { probes.new ≤ probes.old + 1032 }
+{
+    let mut text = unmarked(position, &played.mv, probes);
+    push_part(&mut text, mark(&played.next, probes));
+    text
+}
+
+// Adds the part.
+fn push_part(text: &mut ArrayVec<u8, 7>, part: &[u8])
+    requires { length text.old.items + length part.now ≤ 7 }
+    ensures { text.new.items ≡ text.old.items ++ part.now }
+{
+    let _ = text.try_extend_from_slice(part);
+}
+
+// The mark of a move that leaves this position. (PGN 8.2.3.5)
+fn mark(next: &Position, probes: &mut Probes) -> &'static [u8]
+    requires { probes.old + 1024 < 2 ^ 32 }
+    ensures text { result.now ≡ spec.mark_after next.now }
+    ensures short { length result.now ≤ 1 }
+    ensures pairs { MarkPairs next.now probes.old probes.new }
+{
+    if !in_check(next) {
+        b""
+    } else if has_legal_move(next, probes) {
+        b"+"
+    } else {
+        b"#"
+    }
+}
+
+// The text of the move without its mark.
+fn unmarked(position: &Position, mv: &Move, probes: &mut Probes) -> ArrayVec<u8, 7>
+    requires legal { IsTrue (is_legal position.now mv.now) }
+    requires room { probes.old + 8 < 2 ^ 32 }
+    ensures text { result.items ≡ spec.unmarked position.now mv.now }
+    ensures short { length result.items ≤ 6 }
+    ensures pairs { probes.new ≡ probes.old + spec.apart_pairs position.now mv.now }
+    ensures few { probes.new ≤ probes.old + 8 }
+{
+    let Some(piece) = position.at(mv.from) else {
+        // No legal move begins on an empty square.
+        return ArrayVec::new();
+    };
+    match piece.kind {
+        Kind::King => king_text(position, mv),
+        Kind::Pawn => pawn_text(position, mv),
+        kind => officer_text(position, kind, mv, probes),
+    }
+}
+
+// The text of a king's move. (PGN 8.2.3.3)
+fn king_text(position: &Position, mv: &Move) -> ArrayVec<u8, 7>
+    requires legal { IsTrue (is_legal position.now mv.now) }
+    requires king { IsTrue (own position.now King mv.now.from) }
+    ensures text { result.items ≡ spec.king_text position.now mv.now }
+    ensures short { length result.items ≤ 6 }
+{
+    let mut text = ArrayVec::new();
+    if is_castling(position, mv) {
+        push_part(&mut text, castling_text(mv.to.file() == 2));
+        return text;
+    }
+    text.push(b'K');
+    push_part(&mut text, capture_text(position.at(mv.to).is_some()));
+    push_part(&mut text, &square_text(mv.to));
+    text
+}
+
+fn castling_text(long: bool) -> &'static [u8]
+    ensures text { result.now ≡ spec.castling_text long }
+    ensures short { length result.now ≤ 5 }
+{
+    if long { b"O-O-O" } else { b"O-O" }
+}
+
+// The text of a pawn's move, which takes exactly if it changes its file. (PGN 8.2.3.3)
+fn pawn_text(position: &Position, mv: &Move) -> ArrayVec<u8, 7>
+    requires legal { IsTrue (is_legal position.now mv.now) }
+    requires pawn { IsTrue (own position.now Pawn mv.now.from) }
+    ensures text { result.items ≡ spec.pawn_text position.now mv.now }
+    ensures short { length result.items ≤ 6 }
+{
+    let mut text = ArrayVec::new();
+    push_part(&mut text, pawn_capture(mv).as_slice());
+    push_part(&mut text, &square_text(mv.to));
+    push_part(&mut text, promotion_text(mv.promotion).as_slice());
+    text
+}
+
+// The origin's file and `x` of a pawn that changes its file. (PGN 8.2.3.3)
+fn pawn_capture(mv: &Move) -> ArrayVec<u8, 2>
+    ensures text { result.items ≡ spec.pawn_capture (not (mv.now.from.file == mv.now.to.file)) mv.now }
+    ensures short { length result.items ≤ 2 }
+{
+    let mut text = ArrayVec::new();
+    if mv.from.file() == mv.to.file() {
+        return text;
+    }
+    text.push(b'a' + mv.from.file());
+    text.push(b'x');
+    text
+}
+
+// `=` and the letter of what the pawn becomes. (PGN 8.2.3.3)
+fn promotion_text(promotion: Option<Promotion>) -> ArrayVec<u8, 2>
+    ensures text { result.items ≡ spec.promotion_text promotion }
+    ensures short { length result.items ≤ 2 }
+{
+    let mut text = ArrayVec::new();
+    if let Some(promotion) = promotion {
+        text.push(b'=');
+        text.push(promotion_letter(promotion));
+    }
+    text
+}
+
+// The text of a queen's, a rook's, a bishop's or a knight's move. (PGN 8.2.3.4)
+fn officer_text(position: &Position, kind: Kind, mv: &Move, probes: &mut Probes) -> ArrayVec<u8, 7>
+    requires own { IsTrue (own position.now kind mv.now.from) }
+    requires officer { IsTrue (spec.has_rivals kind) }
+    requires room { probes.old + 8 < 2 ^ 32 }
+    ensures text { result.items ≡ spec.officer_text kind position.now mv.now }
+    ensures short { length result.items ≤ 6 }
+    ensures pairs { probes.new ≡ probes.old + length (candidates position.now kind mv.now.to) }
+    ensures few { probes.new ≤ probes.old + 8 }
+{
+    let rivals = rivals_of(position, kind, mv, probes);
+    let mut text = ArrayVec::new();
+    text.push(letter(kind));
+    push_part(&mut text, told_apart(mv.from, rivals).as_slice());
+    push_part(&mut text, capture_text(position.at(mv.to).is_some()));
+    push_part(&mut text, &square_text(mv.to));
+    text
+}
+
+// What other squares have such a move.
+#[derive(Clone, Copy)]
+struct Rivals {
+    any: bool,
+    // One of them is on the origin's file, on its rank.
+    on_file: bool,
+    on_rank: bool,
+}
+
+impl Rivals {
+    // With the other square, if it is a rival's.
+    fn with(self, from: Square, other: Square, is_rival: bool) -> Rivals
+        ensures any { result.any ≡ (self.any || is_rival) }
+        ensures file { result.on_file ≡ (self.on_file || (is_rival && (other.file == from.file))) }
+        ensures rank { result.on_rank ≡ (self.on_rank || (is_rival && (other.rank == from.rank))) }
+    {
+        if !is_rival {
+            return self;
+        }
+        Rivals {
+            any: true,
+            on_file: self.on_file || other.file() == from.file(),
+            on_rank: self.on_rank || other.rank() == from.rank(),
+        }
+    }
+}
+
+// The rivals of the move.
+fn rivals_of(position: &Position, kind: Kind, mv: &Move, probes: &mut Probes) -> Rivals
+    requires { probes.old + 8 < 2 ^ 32 }
+    ensures any { result.any ≡ list_any (λ s. true) (spec.rivals position.now kind mv.now) }
+    ensures file { result.on_file ≡ spec.on_file mv.now.from (spec.rivals position.now kind mv.now) }
+    ensures rank { result.on_rank ≡ spec.on_rank mv.now.from (spec.rivals position.now kind mv.now) }
+    ensures pairs { probes.new ≡ probes.old + length (candidates position.now kind mv.now.to) }
+    ensures few { probes.new ≤ probes.old + 8 }
+{
+    candidates_are_complete();
+    let origins = origins(position, kind, mv.to);
+    let mut found = Rivals {
+        any: false,
+        on_file: false,
+        on_rank: false,
+    };
+    for origin in origins.as_slice() {
+        let is_rival = is_rival(position, mv, *origin, probes);
+        found = found.with(mv.from, *origin, is_rival);
+    }
+    found
+}
+
+// Whether the same move is legal from that other square.
+fn is_rival(position: &Position, mv: &Move, origin: Square, probes: &mut Probes) -> bool
+    requires { probes.old + 1 < 2 ^ 32 }
+    ensures rival { result ≡ spec.is_rival position.now mv.now origin }
+    ensures pairs { probes.new ≡ probes.old + 1 }
+{
+    let other = Move {
+        from: origin,
+        to: mv.to,
+        promotion: mv.promotion,
+    };
+    let is_legal = try_pair(position, other, probes).is_some();
+    is_legal && (origin.file() != mv.from.file() || origin.rank() != mv.from.rank())
+}
+
+// What tells the origin from the rivals. (PGN 8.2.3.4)
+fn told_apart(from: Square, rivals: Rivals) -> ArrayVec<u8, 2>
+    ensures text { result.items ≡ spec.apart_by from rivals.any rivals.on_file rivals.on_rank }
+    ensures short { length result.items ≤ 2 }
+{
+    let mut text = ArrayVec::new();
+    if rivals.any && (!rivals.on_file || rivals.on_rank) {
+        text.push(b'a' + from.file());
+    }
+    if rivals.any && rivals.on_file {
+        text.push(b'1' + from.rank());
+    }
+    text
+}
+
+fn capture_text(takes: bool) -> &'static [u8]
+    ensures text { result.now ≡ spec.capture_if takes }
+    ensures short { length result.now ≤ 1 }
+{
+    if takes { b"x" } else { b"" }
+}
+
+fn square_text(square: Square) -> [u8; 2]
+    ensures { result ≡ letters.square_text square }
+{
+    [b'a' + square.file(), b'1' + square.rank()]
+}
+
+fn promotion_letter(promotion: Promotion) -> u8
+    ensures { result ≡ letter_of promotion }
+{
+    letter(match promotion {
+        Promotion::Queen => Kind::Queen,
+        Promotion::Rook => Kind::Rook,
+        Promotion::Bishop => Kind::Bishop,
+        Promotion::Knight => Kind::Knight,
+    })
+}
