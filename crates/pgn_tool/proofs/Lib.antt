@@ -2,4 +2,6 @@
 mod Builders
 mod Refusals
 mod Rows
+mod RunRows
+mod Runs
 mod Subcommands

@@ -1,3 +1,5 @@
 -- Definitions that the contracts of pgn_tool cite.
 pub mod CommandLine
 pub mod Requests
+pub mod Running
+pub mod Refusing

@@ -18,6 +18,11 @@ pub data Request : Type 0 where
   export : Bool → Option Text → Request
   check : Option Text → Request
 
+-- the file's name
+abbrev pub file_of : Request → Option Text
+file_of (export reduced file) = file
+file_of (check file) = file
+
 abbrev pub request_of : Task → Request
 request_of (Export reduced file) = export reduced (option_map string_bytes file)
 request_of (Check file) = check (option_map string_bytes file)

@@ -2,7 +2,8 @@
 ghost use Rattle.std.specs.Prelude.{◌≡◌, IfOk, IsSome, false, codes, map, option_map, string_bytes};
 ghost use Rattle.clap.specs.Words.{app_of, first_of, found_of, kind_of, rows_of, rule_of, subcommand_rows_of};
 ghost use Rattle.pgn_tool.specs.CommandLine.{check_command, command_line, export_command, file_rule};
-ghost use Rattle.pgn_tool.specs.Requests.{AnswersBy, AnswersError, is_given, refusals, request_from, request_in, request_of};
+ghost use Rattle.std.specs.Option.{option_copied};
+ghost use Rattle.pgn_tool.specs.Requests.{AnswersBy, AnswersError, file_of, is_given, refusals, request_from, request_in, request_of};
 ghost use Rattle.pgn_tool.specs.declared.arguments.ParseFault.TheVariants.{NoMemory};
 
 use clap::error::ErrorKind;
@@ -27,6 +28,18 @@ pub enum Task {
         /// The file to read; with none, standard input.
         file: Option<String>,
     },
+}
+
+impl Task {
+    /// The file to read; with none, standard input.
+    pub fn file(&self) -> Option<&str>
+        ensures { option_copied result ≡ file_of (request_of self.now) }
+    {
+        match self {
+            Task::Export { file, .. } => file.as_deref(),
+            Task::Check { file } => file.as_deref(),
+        }
+    }
 }
 
 /// Why the words of a call are no task.

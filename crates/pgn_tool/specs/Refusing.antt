@@ -1,0 +1,23 @@
+-- What is answered where no task is run.
+use Rattle.std.specs.Prelude.{◌≡◌, ℕ, ◌≤◌, List, codes, string_bytes}
+use Rattle.std.specs.Io.KnownBytes.{Appends}
+use Rattle.pgn_tool.specs.Running.{Device, HasFailed, IsStill, IsUntouched, Tells, line}
+use Rattle.pgn_tool.specs.declared.arguments.ParseFault.{ParseFault}
+use Rattle.pgn_tool.specs.declared.arguments.ParseFault.TheVariants.{Help, Bad, NoMemory}
+
+-- the text is written to standard output; or that failed, which is told
+pub record Shows (text : List ℕ) (out err : Device) (status : ℕ) : Type 0 where
+  pub ends : status ≤ 1
+  pub well : status ≡ 0 → IsStill out × Appends out.before out.after text × IsUntouched err
+  pub ill : status ≡ 1 → HasFailed out × Tells err (line (codes "output cannot be written"))
+
+-- a text is told, and nothing is written
+pub record Stops (text : List ℕ) (out err : Device) (status code : ℕ) : Type 0 where
+  pub ends : status ≡ code
+  pub told : Tells err text
+  pub silent : IsUntouched out
+
+abbrev pub AnswersFault : ParseFault → Device → Device → ℕ → Type 0
+AnswersFault (Help text) out err status = Shows (string_bytes text) out err status
+AnswersFault (Bad text) out err status = Stops (string_bytes text) out err status 2
+AnswersFault NoMemory out err status = Stops (line (codes "out of memory")) out err status 3

@@ -1,0 +1,165 @@
+-- What a run of a task does to its devices, and the status that it ends with.
+use Rattle.std.specs.Prelude.{◌≡◌, ℕ, ◌-◌, ◌^◌, ◌<◌, ◌≤◌, Bool, true, false, List, [], ◌∷◌, ◌++◌, length, take, codes, decimal, Option, None, Some, Result, Ok, Err}
+use Rattle.std.specs.Io.KnownBytes.{Appends, Keeps}
+use Rattle.pgn_layout.specs.Device.{one_more}
+use Rattle.pgn_game.specs.declared.mode.Mode.{Mode}
+use Rattle.pgn_game.specs.declared.mode.Mode.TheVariants.{Full, Reduced}
+use Rattle.pgn_game.specs.declared.reason.Reason.{Reason}
+use Rattle.pgn_game.specs.declared.reason.Reason.TheVariants.{ReadFault, WriteFault}
+use Rattle.pgn_game.specs.declared.reason.Fault.{Fault}
+use Rattle.pgn_game.specs.declared.whole.Totals.{Totals}
+use Rattle.pgn_game.specs.Profile.{Profile}
+use Rattle.pgn_game.specs.Reason.{line_of}
+use Rattle.pgn_game.specs.Begun.{Verdict, refused, totals, output, verdict}
+use Rattle.pgn_game.specs.Feeding.{profile_of}
+use Rattle.pgn_game.specs.Converting.{Converts}
+use Rattle.pgn_tool.specs.declared.arguments.Task.{Task}
+use Rattle.pgn_tool.specs.declared.arguments.Task.TheVariants.{Export, Check}
+
+-- ---- what is asked for
+
+-- to write the games in a mode, or to count them
+pub data Job : Type 0 where
+  exporting : Mode → Job
+  checking : Job
+
+abbrev pub mode_for : Bool → Mode
+mode_for true = Reduced
+mode_for false = Full
+
+abbrev pub job_of : Task → Job
+job_of (Export reduced file) = exporting (mode_for reduced)
+job_of (Check file) = checking
+
+-- what is checked is read in full
+abbrev pub mode_of : Job → Mode
+mode_of (exporting mode) = mode
+mode_of checking = Full
+
+-- 64 tag pairs of a game, and variations to depth 32
+abbrev pub profile_for : Job → Profile
+profile_for job = profile_of 64 32 (mode_of job)
+
+-- ---- what is written and told
+
+-- the text with LF
+abbrev pub line : List ℕ → List ℕ
+line text = text ++ 10 ∷ []
+
+-- `games: G, plies: P`
+abbrev pub counting_line : ℕ → ℕ → List ℕ
+counting_line games plies = line (codes "games: " ++ decimal games ++ codes ", plies: " ++ decimal plies)
+
+-- the counts where no fault was met, else nothing
+abbrev pub counting_of : Verdict → List ℕ
+counting_of (refused f) = []
+counting_of (totals c) = counting_line c.games c.plies
+
+-- what standard output gets for a text
+abbrev pub text_for : Job → List ℕ → List ℕ
+text_for (exporting mode) s = output (profile_of 64 32 mode) s
+text_for checking s = counting_of (verdict (profile_of 64 32 Full) s)
+
+-- the status is 1 exactly for a fault
+abbrev pub status_of : Verdict → ℕ
+status_of (refused f) = 1
+status_of (totals c) = 0
+
+-- ---- devices
+
+-- A device at the beginning and the end of a run: the bytes that a source has left or a sink has taken, where it tells them, and
+-- how often it has failed.
+pub record Device : Type 0 where
+  pub before : Option (List ℕ)
+  pub after : Option (List ℕ)
+  pub failures : ℕ
+  pub failures_after : ℕ
+
+-- the device that goes from one state to another
+abbrev pub device : {S : Type 0} → (S → Option (List ℕ)) → (S → ℕ) → S → S → Device
+device bytes failures old new = record { before = bytes old; after = bytes new; failures = failures old; failures_after = failures new }
+
+-- the count of failures stayed
+abbrev pub IsStill : Device → Type 0
+IsStill d = d.failures_after ≡ d.failures
+
+-- the count rose, or was at its last value
+abbrev pub HasFailed : Device → Type 0
+HasFailed d = one_more d.failures ≤ d.failures_after
+
+-- no call failed
+abbrev pub IsCalm : Device → Type 0
+IsCalm d = IsStill d × (d.failures < 2 ^ 64 - 1)
+
+-- nothing was done to the sink
+abbrev pub IsUntouched : Device → Type 0
+IsUntouched d = (d.after ≡ d.before) × (d.failures_after ≡ d.failures)
+
+-- the sink has taken this text, if no call of it failed
+abbrev pub Tells : Device → List ℕ → Type 0
+Tells d text = IsCalm d → Appends d.before d.after text
+
+-- the sink has taken a front of this text, and no more
+abbrev pub HasFront : Device → List ℕ → Type 0
+HasFront d text = (count : ℕ) × Appends d.before d.after (take count text)
+
+-- ---- where no device fails
+
+-- a fault is told, and nothing else is
+abbrev pub TellsVerdict : Device → Verdict → Type 0
+TellsVerdict err (refused f) = Tells err (line (line_of f))
+TellsVerdict err (totals c) = IsUntouched err
+
+-- The run of a text s: its status, what standard output has then, and what standard error has.
+pub record Answers (job : Job) (s : List ℕ) (out err : Device) (status : ℕ) : Type 0 where
+  pub ends : status ≡ status_of (verdict (profile_for job) s)
+  pub written : Appends out.before out.after (text_for job s)
+  pub told : TellsVerdict err (verdict (profile_for job) s)
+
+-- What the source gives is the text s, short enough for its places, and neither it nor standard output fails.
+pub record IsSmooth (s : List ℕ) (source out : Device) : Type 0 where
+  pub gives : source.before ≡ Some s
+  pub short : length s ≤ 2 ^ 62
+  pub reads : IsCalm source
+  pub writes : IsCalm out
+
+-- ---- whatever the devices do
+
+-- 50 is told only where the source failed, 51 only where standard output did
+abbrev pub Blames : Reason → Device → Device → Type 0
+Blames ReadFault source out = HasFailed source
+Blames WriteFault source out = HasFailed out
+Blames _ source out = Unit {0}
+
+-- a fault was met: it is told
+pub record Refuses (f : Fault) (source out err : Device) (status : ℕ) : Type 0 where
+  pub ends : status ≡ 1
+  pub told : Tells err (line (line_of f))
+  pub blames : Blames f.reason source out
+
+-- no fault was met: the status tells whether all was written
+pub record Concludes (source out err : Device) (status : ℕ) : Type 0 where
+  pub read : IsStill source
+  pub ends : status ≤ 1
+  pub well : status ≡ 0 → IsStill out × IsUntouched err
+  pub ill : status ≡ 1 → HasFailed out × Tells err (line (codes "output cannot be written"))
+
+abbrev pub Ends : Result Totals Fault → Device → Device → Device → ℕ → Type 0
+Ends (Ok t) source out err status = Concludes source out err status
+Ends (Err f) source out err status = Refuses f source out err status
+
+-- the line of a check, or where it cannot be written a front of it; and on a fault nothing
+abbrev pub Counts : Result Totals Fault → Device → Type 0
+Counts (Ok t) out = Tells out (counting_line t.games t.plies) × HasFront out (counting_line t.games t.plies)
+Counts (Err f) out = Keeps out.before out.after
+
+-- what is converted, and where to
+abbrev pub Works : Job → Result Totals Fault → Device → Device → Type 0
+Works (exporting mode) answer source out = Converts (profile_of 64 32 mode) source.before source.after answer out.before out.after
+Works checking answer source out = Converts (profile_of 64 32 Full) source.before source.after answer None None × Counts answer out
+
+-- A run: a conversion with its answer, and how it ends. Of an export, standard output has what the conversion wrote.
+pub record Runs (job : Job) (source out err : Device) (status : ℕ) : Type 0 where
+  pub answer : Result Totals Fault
+  pub works : Works job answer source out
+  pub ends : Ends answer source out err status

@@ -1,0 +1,154 @@
+//! Carries out a task on a source and sinks.
+ghost use Rattle.std.specs.Prelude.{◌≡◌, ℕ, ◌+◌, ◌-◌, ◌≤◌, List, ◌++◌, length, true, false, codes, if◌then◌else◌};
+ghost use Rattle.std.specs.Io.KnownBytes.{Appends};
+ghost use Rattle.pgn_game.specs.Reason.{line_of};
+ghost use Rattle.pgn_tool.specs.Running.{Answers, HasFailed, HasFront, IsSmooth, IsStill, Runs, Tells, checking, counting_line, device, exporting, job_of, line, mode_for};
+
+use crate::arguments::Task;
+use arrayvec::ArrayVec;
+use itoa::Buffer;
+use pgn_game::{Fault, Mode, Nowhere, Sink, Source, Totals, convert};
+use pgn_layout::write_all;
+
+/// The most tag pairs of a game.
+const TAGS: usize = 64;
+/// The levels of movetext: the game's own, and variations to depth 32.
+const LEVELS: usize = 33;
+
+/// Carries out the task on what the source gives, and answers the exit status.
+///
+/// 0: no fault was met. `out` has what the task writes, and is flushed once, at the end; `err` has nothing.
+/// 1: a fault was met, whose line `err` has; or `out` could not take the line of `check`, or be flushed, and `err`
+/// says so. Of an export, what stands before the fault was written; of a check, nothing.
+///
+/// The first fault is told alone, and a failure of `err` changes no status.
+pub fn run_stream<R: Source, O: Sink, E: Sink>(
+    task: &Task,
+    reader: &mut R,
+    out: &mut O,
+    err: &mut E,
+) -> u8
+    // Where no device fails: the status, what is written and what is told are those of the text.
+    ensures answers { (s : List ℕ)
+        → IsSmooth s (device R.left R.failures reader.old reader.new) (device O.taken O.failures out.old out.new)
+        → Answers (job_of task.now) s (device O.taken O.failures out.old out.new) (device E.taken E.failures err.old err.new) result }
+
+    // Where a device fails the status is 1.
+    ensures status { result ≤ 1 }
+    ensures source_kept { result ≡ 0 → R.failures reader.new ≡ R.failures reader.old }
+    ensures out_kept { result ≡ 0 → O.failures out.new ≡ O.failures out.old }
+
+    // What stands written and is told then.
+    ensures runs { Runs (job_of task.now) (device R.left R.failures reader.old reader.new) (device O.taken O.failures out.old out.new)
+        (device E.taken E.failures err.old err.new) result }
+{
+    match task {
+        Task::Export { reduced, .. } => export(export_mode(*reduced), reader, out, err),
+        Task::Check { .. } => check(reader, out, err),
+    }
+}
+
+// Which parts of a game an export writes.
+fn export_mode(reduced: bool) -> Mode
+    ensures { result ≡ mode_for reduced }
+{
+    if reduced { Mode::Reduced } else { Mode::Full }
+}
+
+// Writes the games in export format.
+fn export<R: Source, O: Sink, E: Sink>(mode: Mode, reader: &mut R, out: &mut O, err: &mut E) -> u8
+    ensures { Runs (exporting mode) (device R.left R.failures reader.old reader.new) (device O.taken O.failures out.old out.new)
+        (device E.taken E.failures err.old err.new) result }
+{
+    let answer = convert::<TAGS, LEVELS, R, O>(reader, out, mode);
+    let flushed = out.flush();
+    match answer {
+        Ok(_) => conclude(flushed.is_ok(), err),
+        Err(fault) => refuse(fault, err),
+    }
+}
+
+// Writes how many games and moves there are.
+fn check<R: Source, O: Sink, E: Sink>(reader: &mut R, out: &mut O, err: &mut E) -> u8
+    ensures { Runs checking (device R.left R.failures reader.old reader.new) (device O.taken O.failures out.old out.new)
+        (device E.taken E.failures err.old err.new) result }
+{
+    match convert::<TAGS, LEVELS, R, Nowhere>(reader, &mut Nowhere, Mode::Full) {
+        Ok(totals) => {
+            let is_written = write_totals(totals, out);
+            conclude(is_written, err)
+        }
+        Err(fault) => {
+            let _ = out.flush();
+            refuse(fault, err)
+        }
+    }
+}
+
+// Writes the line of the totals and flushes, and tells whether both were done.
+fn write_totals<O: Sink>(totals: Totals, out: &mut O) -> bool
+    ensures written { result ≡ true → Appends (O.taken out.old) (O.taken out.new) (counting_line totals.games totals.plies) }
+    ensures kept { result ≡ true → O.failures out.new ≡ O.failures out.old }
+    ensures failed { result ≡ false → HasFailed (device O.taken O.failures out.old out.new) }
+    ensures front { HasFront (device O.taken O.failures out.old out.new) (counting_line totals.games totals.plies) }
+{
+    let written = write_all(out, counting_line(totals).as_slice());
+    let flushed = out.flush();
+    written.is_ok() && flushed.is_ok()
+}
+
+// `games: G, plies: P` and LF.
+fn counting_line(totals: Totals) -> ArrayVec<u8, 64>
+    ensures { result.items ≡ counting_line totals.games totals.plies }
+{
+    let mut line = ArrayVec::new();
+    let mut buffer = Buffer::new();
+    append(&mut line, b"games: ");
+    append(&mut line, buffer.format(totals.games).as_bytes());
+    append(&mut line, b", plies: ");
+    append(&mut line, buffer.format(totals.plies).as_bytes());
+    append(&mut line, b"\n");
+    line
+}
+
+/// The status where no fault was met: 0 if all was written, else 1, and that is told.
+pub fn conclude<E: Sink>(is_written: bool, err: &mut E) -> u8
+    ensures status { result ≡ (if is_written then 0 else 1) }
+    ensures untouched { is_written ≡ true → err.new ≡ err.old }
+    ensures told { is_written ≡ false → Tells (device E.taken E.failures err.old err.new)
+        (line (codes "output cannot be written")) }
+{
+    if is_written {
+        return 0;
+    }
+    tell(b"output cannot be written", err);
+    1
+}
+
+/// Tells the fault, and answers the status of a fault.
+pub fn refuse<E: Sink>(fault: Fault, err: &mut E) -> u8
+    ensures status { result ≡ 1 }
+    ensures told { Tells (device E.taken E.failures err.old err.new) (line (line_of fault)) }
+{
+    tell(fault.line().as_slice(), err);
+    1
+}
+
+/// Writes the words and LF, as far as the sink takes them.
+pub fn tell<E: Sink>(words: &[u8], err: &mut E)
+    requires { length words.now ≤ 96 }
+    ensures { Tells (device E.taken E.failures err.old err.new) (line words.now) }
+{
+    let mut text = ArrayVec::<u8, 97>::new();
+    append(&mut text, words);
+    append(&mut text, b"\n");
+    let _ = write_all(err, text.as_slice());
+}
+
+// Sets the text at the line's end.
+fn append<const N: usize>(line: &mut ArrayVec<u8, N>, text: &[u8])
+    requires { length line.old.items + length text.now ≤ N }
+    ensures { line.new.items ≡ line.old.items ++ text.now }
+{
+    let _ = line.try_extend_from_slice(text);
+}
