@@ -1,6 +1,6 @@
 -- A legal move leaves a position, and the kings where they are said to be.
 use Rattle.std.proofs.Common.{◌≡◌, ℕ, ◌+◌, ◌/◌, ◌<◌, ◌≤◌, Bool, true, false, not, ◌&&◌, ◌||◌, ◌⊎◌, inl, inr, refl, sym, ◌∙◌, ap, ap₂, subst, arith}
-use Rattle.std.specs.Prelude.{nat_lt, Option, None, Some, option_map, if◌then◌else◌}
+use Rattle.std.specs.Prelude.{nat_lt, Option, None, Some, is_some, option_map, if◌then◌else◌}
 use Rattle.std.proofs.lemmas.Bool.Decides.{nat_tests}
 use Rattle.chess_rules.specs.declared.piece.Colour.{Colour}
 use Rattle.chess_rules.specs.declared.piece.Colour.TheVariants.{White, Black}
@@ -13,7 +13,7 @@ use Rattle.chess_rules.specs.Board.{Board, is_empty, other}
 use Rattle.chess_rules.specs.Attacks.{is_attacked, king_attacked}
 use Rattle.chess_rules.specs.Position.{is_position, target_fits}
 use Rattle.chess_rules.specs.Step.{own, pawn_rank, double_rank, is_on_board, is_double_step, is_piece_step, is_pawn_step, is_en_passant, crossed, castles_short, castles_long, short_right, long_right, short_wing, long_wing, carried, en_passant_board, castled, board_after, after, step, rights_after, target_after, half_after, full_after, counted}
-use Rattle.chess_rules.specs.Legal.{legal, if_safe}
+use Rattle.chess_rules.specs.Legal.{legal, if_safe, is_legal}
 use Rattle.chess_rules.specs.Walk.{king_square, king_after}
 use Rattle.chess_rules.specs.Laws.{LeavesPosition, OneAfter}
 use Rattle.chess_rules.proofs.Squares.{first_true, second_true, both_true}
@@ -226,3 +226,19 @@ position_after p m b position on h safe =
 pub king_kept : (p : Parts) (m : Move) (b : Board) (c : Colour) (old new : Square) → is_position p ≡ true → is_on_board m ≡ true → board_after p m ≡ Some b → old ≡ king_square c p.board → new ≡ king_after old m → new ≡ king_square c b
 king_kept p m b c old new position on h e f =
     f ∙ (ap (λ k. king_after k m) e ∙ king_moves p m b c (sound_from_position p position) on h)
+
+-- a step is legal exactly if the king is not attacked then
+pub legal_unless_attacked : (p : Parts) (m : Move) (b : Board) (by : Colour) (king : Square) (attacked : Bool) → is_position p ≡ true → is_on_board m ≡ true → board_after p m ≡ Some b
+    → by ≡ other p.side → king ≡ king_after (king_square p.side p.board) m → attacked ≡ is_attacked b by king → not attacked ≡ is_legal p m
+legal_unless_attacked p m b by king attacked position on h e f g = by_test attacked (attacked_is p m b by king attacked position on h e f g)
+  where
+    by_test : (x : Bool) → king_attacked b (other (other p.side)) ≡ x → not x ≡ is_legal p m
+    by_test true is = sym (ap is_some (not_legal_when p m b on h is))
+    by_test false is = sym (ap is_some (legal_when p m b on h is))
+
+pub safe_from_legal : (p : Parts) (m : Move) (b : Board) → is_on_board m ≡ true → board_after p m ≡ Some b → is_legal p m ≡ true → king_attacked b (other (other p.side)) ≡ false
+safe_from_legal p m b on h legal = by_test (king_attacked b (other (other p.side))) refl
+  where
+    by_test : (x : Bool) → king_attacked b (other (other p.side)) ≡ x → x ≡ false
+    by_test false is = refl
+    by_test true is = cc (sym legal ∙ ap is_some (not_legal_when p m b on h is))

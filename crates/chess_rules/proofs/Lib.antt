@@ -11,6 +11,7 @@ pub mod Sound
 pub mod Stays
 pub mod Steps
 pub mod Leaves
+pub mod Quiet
 pub mod Apart
 pub mod Complete
 mod Drawn

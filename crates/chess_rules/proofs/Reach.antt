@@ -232,14 +232,14 @@ pub none_or_all : (c : Colour) (cell : Option Piece) → has_colour c cell ≡ t
 none_or_all c None h = cc
 none_or_all c (Some x) h = refl
 
-reaches_with_attack : (c : Colour) (cell : Option Piece) (b : Board) (s t : Square) → (has_colour c cell && cell_attacks cell b s t) ≡ true → reaches_with c cell s t ≡ true
+pub reaches_with_attack : (c : Colour) (cell : Option Piece) (b : Board) (s t : Square) → (has_colour c cell && cell_attacks cell b s t) ≡ true → reaches_with c cell s t ≡ true
 reaches_with_attack c None b s t h = cc
 reaches_with_attack c (Some x) b s t h =
     both_true _ _ (first_true (same_colour c x.colour) _ h)
     (reaches_from_attack x.kind x.colour b s t (second_true (same_colour c x.colour) _ h))
 
 -- a knight that reaches t, or a piece that sees it
-comes : (c : Colour) (cell : Option Piece) (b : Board) (s t : Square) → (has_colour c cell && cell_attacks cell b s t) ≡ true → ((has_piece c Knight cell ≡ true) × (reaches Knight c s t ≡ true)) ⊎ ((is_aligned s t && is_clear b s t) ≡ true)
+pub comes : (c : Colour) (cell : Option Piece) (b : Board) (s t : Square) → (has_colour c cell && cell_attacks cell b s t) ≡ true → ((has_piece c Knight cell ≡ true) × (reaches Knight c s t ≡ true)) ⊎ ((is_aligned s t && is_clear b s t) ≡ true)
 comes c None b s t h = cc
 comes c (Some x) b s t h =
     elim (attack_seen x.kind x.colour b s t (second_true (same_colour c x.colour) _ h)) [
@@ -253,7 +253,7 @@ comes c (Some x) b s t h =
 abbrev pub found_attacker : Board → Colour → Square → Bool
 found_attacker b c t = list_any (attacked_along b c t) DIRECTIONS || list_any (attacked_by_jump b c t) JUMPS
 
-moving : (s t : Square) → is_aligned s t ≡ true → is_still (direction_between t s) ≡ false
+pub moving : (s t : Square) → is_aligned s t ≡ true → is_still (direction_between t s) ≡ false
 moving s t h =
     elim (split_or (in_line s t) (on_diagonal s t) h) [
       | inl line ↦ by_ends s t (second_true ((s.rank == t.rank) || (s.file == t.file)) _ line)
@@ -300,7 +300,7 @@ found_from_attacked b c t file rank h = by_attacker (some_square (λ s. has_colo
               (sight_found b c w.on t w.file w.rank file rank sees (none_or_all c (at b w.on) (first_true (has_colour c (at b w.on)) _ w.holds)) (reaches_with_attack c (at b w.on) b w.on t w.holds))
         ]
 
-attacked_from_sight : (b : Board) (c : Colour) (t : Square) → t.file < 8 → t.rank < 8 → (d : Direction) → is_still d ≡ false → attacked_along b c t d ≡ true → is_attacked b c t ≡ true
+pub attacked_from_sight : (b : Board) (c : Colour) (t : Square) → t.file < 8 → t.rank < 8 → (d : Direction) → is_still d ≡ false → attacked_along b c t d ≡ true → is_attacked b c t ≡ true
 attacked_from_sight b c t file rank d moves h = by_first (first_on b d t) refl h
   where
     by_first : (o : Option Square) → first_on b d t ≡ o → attacked_from b c t o ≡ true → is_attacked b c t ≡ true

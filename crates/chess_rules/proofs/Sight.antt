@@ -1,6 +1,6 @@
 -- A piece on the rank, file or diagonal of a square sees it over empty squares exactly if it is the first piece on
 -- a way from that square.
-use Rattle.std.proofs.Common.{◌≡◌, ℕ, ◌+◌, ◌<◌, Bool, true, false, not, ◌&&◌, ◌||◌, ◌⊎◌, inl, inr, refl, sym, ◌∙◌, ap₂, subst, arith}
+use Rattle.std.proofs.Common.{◌≡◌, ℕ, ◌+◌, ◌<◌, Bool, true, false, not, ◌&&◌, ◌||◌, ◌⊎◌, inl, inr, refl, sym, ◌∙◌, ap₂, subst, arith, ap}
 use Rattle.std.specs.Prelude.{◌==◌}
 use Rattle.std.proofs.lemmas.Bool.Decides.{nat_tests}
 use Rattle.chess_rules.specs.declared.direction.Shift.{Shift}
@@ -110,6 +110,49 @@ aligned_back s t h =
       | inl line ↦ or_first _ _ (line_back s t line)
       | inr cross ↦ or_second _ _ (cross_back s t cross)
     ]
+
+rank_line : (s u t : Square) → between_on_rank s u t ≡ true → in_line u t ≡ true
+rank_line s u t h = grind (arith, nat_tests)
+
+file_line : (s u t : Square) → between_on_file s u t ≡ true → in_line u t ≡ true
+file_line s u t h = grind (arith, nat_tests)
+
+-- what lies between s and t is on one rank, file or diagonal with t
+pub aligned_between : (s u t : Square) → strictly_between s u t ≡ true → is_aligned u t ≡ true
+aligned_between s u t h =
+    elim (split_or (between_on_rank s u t) (between_on_file s u t || between_on_diagonal s u t) h) [
+      | inl r ↦ or_first _ _ (rank_line s u t r)
+      | inr more ↦ elim (split_or (between_on_file s u t) (between_on_diagonal s u t) more) [
+        | inl f ↦ or_first _ _ (file_line s u t f)
+        | inr d ↦ or_second _ _ (cross_back t u (second_true (on_diagonal t s) (on_diagonal t u) (first_true (on_diagonal t s && on_diagonal t u) _ (diagonal_back s u t d))))
+      ]
+    ]
+
+inside_shift : (a x b : ℕ) → inside a x b ≡ true → shift_between b a ≡ shift_between b x
+inside_shift a x b h = grind (arith, nat_tests)
+
+-- it lies on the way from t to s
+pub between_way : (s u t : Square) → strictly_between s u t ≡ true → direction_between t s ≡ direction_between t u
+between_way s u t h =
+    elim (split_or (between_on_rank s u t) (between_on_file s u t || between_on_diagonal s u t) h) [
+      | inl r ↦
+          let rest : ((u.rank == s.rank) && inside s.file u.file t.file) ≡ true = second_true (s.rank == t.rank) _ r in
+          way (inside_shift s.file u.file t.file (second_true (u.rank == s.rank) _ rest)) (ap (shift_between t.rank) (sym (equal_from _ _ (first_true (u.rank == s.rank) _ rest))))
+      | inr more ↦ elim (split_or (between_on_file s u t) (between_on_diagonal s u t) more) [
+        | inl f ↦
+            let rest : ((u.file == s.file) && inside s.rank u.rank t.rank) ≡ true = second_true (s.file == t.file) _ f in
+            way (ap (shift_between t.file) (sym (equal_from _ _ (first_true (u.file == s.file) _ rest)))) (inside_shift s.rank u.rank t.rank (second_true (u.file == s.file) _ rest))
+        | inr d ↦
+            let rest : (inside s.file u.file t.file && inside s.rank u.rank t.rank) ≡ true = second_true (on_diagonal s t && on_diagonal s u) _ d in
+            way (inside_shift s.file u.file t.file (first_true (inside s.file u.file t.file) _ rest)) (inside_shift s.rank u.rank t.rank (second_true (inside s.file u.file t.file) _ rest))
+      ]
+    ]
+  where
+    of : Shift → Shift → Direction
+    of f r = record { files = f; ranks = r }
+
+    way : {f g q r : Shift} → f ≡ g → q ≡ r → of f q ≡ of g r
+    way e h = ap₂ of e h
 
 aligned_apart : (s t : Square) → is_aligned s t ≡ true → 0 < distance s t
 aligned_apart s t h =

@@ -1,20 +1,22 @@
 -- What a position keeps, and what it says.
 use Rattle.std.specs.Prelude.{◌≡◌, IsTrue}
-use Rattle.std.proofs.Common.{ap₂, sym}
+use Rattle.std.proofs.Common.{ap, ap₂, sym, ◌∙◌}
 use Rattle.chess_rules.specs.declared.piece.Colour.TheVariants.{White, Black}
 use Rattle.chess_rules.specs.declared.position.Parts.{Parts}
 use Rattle.chess_rules.specs.declared.position.Position.TheInside.{Inside}
+use Rattle.chess_rules.specs.Legal.{is_check}
 use Rattle.chess_rules.specs.Walk.{king_square}
 use Rattle.chess_rules.specs.Position.{is_position}
 
 abbrev pub parts_of : Inside → Parts
 parts_of p = record { board = p.board; side = p.side; rights = p.rights; target = p.target; half = p.half; full = p.full }
 
--- it is a position, and both kings' squares are known
+-- it is a position, both kings' squares are known, and whether the one to move is in check
 pub record IsKept (p : Inside) : Type 0 where
   pub position : IsTrue (is_position (parts_of p))
   pub white_king : p.white_king ≡ king_square White p.board
   pub black_king : p.black_king ≡ king_square Black p.board
+  pub checked : p.checked ≡ is_check (parts_of p)
 
 abbrev pub kept : Parts → Inside
 kept p =
@@ -27,7 +29,10 @@ kept p =
       full = p.full;
       white_king = king_square White p.board;
       black_king = king_square Black p.board;
+      checked = is_check p;
     }
 
 pub kept_again : (a : Inside) → IsKept a → kept (parts_of a) ≡ a
-kept_again a h = ap₂ (λ x y. record a { white_king = x; black_king = y }) (sym h.white_king) (sym h.black_king)
+kept_again a h =
+    ap₂ (λ x y. record a { white_king = x; black_king = y; checked = is_check (parts_of a) }) (sym h.white_king) (sym h.black_king)
+    ∙ ap (λ x. record a { checked = x }) (sym h.checked)

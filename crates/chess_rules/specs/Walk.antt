@@ -1,5 +1,5 @@
 -- Walking over the board from square to square: what the code does, and no definition of the rules.
-use Rattle.std.specs.Prelude.{ℕ, zero, suc, ◌+◌, ◌-◌, ◌*◌, ◌/◌, ◌%◌, max, Bool, true, false, ◌&&◌, ◌||◌, Option, None, Some, position, unwrap_or, slice_index_or, ◌==◌, nat_lt, nat_le, if◌then◌else◌}
+use Rattle.std.specs.Prelude.{ℕ, zero, suc, ◌+◌, ◌-◌, ◌*◌, ◌/◌, ◌%◌, max, Bool, true, false, ◌&&◌, ◌||◌, not, Option, None, Some, position, unwrap_or, slice_index_or, ◌==◌, nat_lt, nat_le, if◌then◌else◌}
 use Rattle.chess_rules.specs.declared.direction.TheConstants.{JUMPS}
 use Rattle.chess_rules.specs.declared.direction.Shift.{Shift}
 use Rattle.chess_rules.specs.declared.direction.Shift.TheVariants.{Down, Stay, Up}
@@ -10,9 +10,11 @@ use Rattle.chess_rules.specs.declared.piece.Kind.{Kind}
 use Rattle.chess_rules.specs.declared.piece.Kind.TheVariants.{King, Queen, Rook, Bishop, Knight, Pawn}
 use Rattle.chess_rules.specs.declared.piece.Piece.{Piece}
 use Rattle.chess_rules.specs.declared.position.Move.{Move}
+use Rattle.chess_rules.specs.declared.position.Parts.{Parts}
 use Rattle.chess_rules.specs.Square.{Square, square, same_square, gap, is_adjacent, is_jump, in_line, on_diagonal}
 use Rattle.chess_rules.specs.Board.{Board, at, cell_of, is_empty, same_colour, has_piece}
 use Rattle.chess_rules.specs.Attacks.{is_ahead}
+use Rattle.chess_rules.specs.Step.{own, is_target}
 
 -- the square with that place among all, rank by rank from a1
 abbrev pub square_at : ℕ → Square
@@ -37,6 +39,10 @@ distance s t = max (gap s.file t.file) (gap s.rank t.rank)
 -- s and t are two squares of one rank, file or diagonal
 abbrev pub is_aligned : Square → Square → Bool
 is_aligned s t = in_line s t || on_diagonal s t
+
+-- s and t are on one rank, file or diagonal, or are one square
+abbrev pub is_on_line : Square → Square → Bool
+is_on_line s t = (s.rank == t.rank) || ((s.file == t.file) || (gap s.file t.file == gap s.rank t.rank))
 
 -- Outward from a square.
 
@@ -161,3 +167,11 @@ king_square c b = square_at (unwrap_or (position (has_piece c King) b) 0)
 -- where a king stands after a move that may be its own
 abbrev pub king_after : Square → Move → Square
 king_after k m = if same_square m.from k then m.to else k
+
+-- a step, neither castling nor en passant, from another square than t: it takes one piece off its square, and no more
+abbrev pub opens_one_line : Parts → Move → Square → Bool
+opens_one_line p m t = not (same_square m.from t) && (not (own p King m.from) && not (is_target p.target m.to))
+
+-- the first piece on the way from t that leads through s is of the colour and attacks t
+abbrev pub attacked_through : Board → Colour → Square → Square → Bool
+attacked_through b c s t = is_on_line s t && attacked_along b c t (direction_between t s)

@@ -55,6 +55,15 @@ pub(crate) fn is_adjacent(from: Square, to: Square) -> bool
     files <= 1 && ranks <= 1 && (files != 0 || ranks != 0)
 }
 
+// Whether the two are on one rank, file or diagonal, or are one square.
+fn is_on_line(from: Square, to: Square) -> bool
+    ensures { result ≡ walk.is_on_line from to }
+{
+    from.rank() == to.rank()
+        || from.file() == to.file()
+        || difference(from.file(), to.file()) == difference(from.rank(), to.rank())
+}
+
 // Whether a pawn of the colour goes from the first rank to the second one.
 pub(crate) fn is_ahead(colour: Colour, rank: u8, ahead: u8) -> bool
     requires low { rank < 8 }
@@ -125,6 +134,14 @@ fn is_attacked_along(board: &Board, by: Colour, target: Square, direction: Direc
         None => false,
         Some(piece) => piece.colour == by && reaches(piece.kind, piece.colour, origin, target),
     }
+}
+
+// Whether the first piece on the way from `target` that leads through `from` is of the colour and attacks it.
+pub(crate) fn is_attacked_through(board: &Board, by: Colour, from: Square, target: Square) -> bool
+    ensures { result ≡ walk.attacked_through board.now by from target }
+{
+    is_on_line(from, target)
+        && is_attacked_along(board, by, target, Direction::between(target, from))
 }
 
 // Whether a knight of the colour is that jump away.

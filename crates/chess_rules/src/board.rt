@@ -1,6 +1,6 @@
 //! The board: what stands on each of the 64 squares.
 
-ghost use Rattle.std.specs.Prelude.{◌≡◌, ◌<◌, position, length, map, IfSome};
+ghost use Rattle.std.specs.Prelude.{◌≡◌, ◌<◌, position, length, map, IfSome, None};
 ghost use Rattle.std.specs.List.{list_any, range_with_len};
 ghost use Rattle.chess_rules.specs.Square.{square};
 ghost use Rattle.chess_rules.specs.Board as spec;
@@ -129,16 +129,22 @@ impl Board {
     pub(crate) fn has_piece(&self, square: Square, colour: Colour, kind: Kind) -> bool
         ensures { result ≡ spec.has_piece colour kind (spec.at self.now square) }
     {
-        match self.at(square) {
-            None => false,
-            Some(piece) => piece.colour == colour && piece.kind == kind,
-        }
+        self.cells[square.index()].holds(colour, kind)
     }
 
     pub(crate) fn put(&mut self, square: Square, content: Option<Piece>)
         ensures { self.new ≡ spec.put self.old square content }
     {
         self.cells[square.index()] = Cell::of(content);
+    }
+
+    // Carries what stands on one square to another.
+    pub(crate) fn carry(&mut self, from: Square, to: Square)
+        ensures { self.new ≡ spec.put (spec.put self.old from None) to (spec.at self.old from) }
+    {
+        let cell = self.cells[from.index()];
+        self.cells[from.index()] = Cell::Empty;
+        self.cells[to.index()] = cell;
     }
 
     // The board of the first position.

@@ -1,13 +1,14 @@
 //! The origins from which a piece may reach a square, seen from that square.
 
-ghost use Rattle.std.specs.Prelude.{◌≡◌, ◌≤◌, ◌≢◌, AllPairs};
+ghost use Rattle.std.specs.Prelude.{◌≡◌, ◌<◌, ◌≤◌, ◌≢◌, AllPairs};
 ghost use Rattle.std.specs.List.Sorted.{IsPermutation};
 ghost use Rattle.arrayvec.specs.ArrayVec.{array_vec_len};
 ghost use Rattle.chess_rules.specs.Candidate.{candidates};
 ghost use Rattle.chess_rules.specs.Pairs as spec;
+ghost use Rattle.chess_rules.specs.Walk.{jump_numbered};
 
 use crate::attack::first_on;
-use crate::direction::{DIRECTIONS, Direction, JUMPS, Jump};
+use crate::direction::{DIRECTIONS, Direction, landing};
 use crate::piece::Kind;
 use crate::position::Position;
 use crate::square::Square;
@@ -48,15 +49,12 @@ fn origin_on(position: &Position, kind: Kind, target: Square, way: Direction) ->
     if_own(position, kind, first_on(position.board(), way, target))
 }
 
-// The square that jump away from the target, if a knight of the side to move stands there.
-pub(crate) fn origin_by(position: &Position, target: Square, jump: Jump) -> Option<Square>
-    ensures { result ≡ spec.origin_by position.now target jump }
+// The square the jump of that number away from the target, if a knight of the side to move stands there.
+pub(crate) fn origin_by(position: &Position, target: Square, jump: usize) -> Option<Square>
+    requires { jump < 8 }
+    ensures { result ≡ spec.origin_by position.now target (jump_numbered jump) }
 {
-    if_own(
-        position,
-        Kind::Knight,
-        jump.way.stepped(target, jump.files, jump.ranks),
-    )
+    if_own(position, Kind::Knight, landing(target, jump))
 }
 
 fn origins_on_ways(position: &Position, kind: Kind, target: Square) -> ArrayVec<Square, 8>
@@ -75,8 +73,8 @@ fn origins_by_jumps(position: &Position, target: Square) -> ArrayVec<Square, 8>
     ensures { result.items ≡ spec.by_jumps position.now target }
 {
     let mut origins = ArrayVec::new();
-    for jump in JUMPS.iter() {
-        if let Some(origin) = origin_by(position, target, *jump) {
+    for jump in 0..8 {
+        if let Some(origin) = origin_by(position, target, jump) {
             origins.push(origin);
         }
     }

@@ -74,6 +74,13 @@ impl Cell {
         Some(Piece { colour, kind })
     }
 
+    // Whether it holds such a piece.
+    pub(crate) fn holds(self, colour: Colour, kind: Kind) -> bool
+        ensures { result ≡ has_piece colour kind (content self) }
+    {
+        self == Cell::with(Piece { colour, kind })
+    }
+
     pub(crate) fn is_king_of(self, colour: Colour) -> bool
         ensures { result ≡ has_piece colour King (content self) }
     {

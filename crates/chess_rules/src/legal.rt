@@ -1,14 +1,15 @@
 //! Which moves are legal, and check.
 
-ghost use Rattle.std.specs.Prelude.{◌≡◌, ◌+◌, ◌<◌, ◌≤◌, ◌^◌, true, false};
+ghost use Rattle.std.specs.Prelude.{◌≡◌, ◌+◌, ◌<◌, ◌≤◌, ◌^◌, true, false, Some, None, if◌then◌else◌};
 ghost use Rattle.chess_rules.specs.Candidate.{pair_count};
 ghost use Rattle.chess_rules.specs.Legal as spec;
+ghost use Rattle.chess_rules.specs.Step as step;
 
-use crate::attack::is_attacked;
+use crate::board::Board;
 use crate::pairs::{any_king_step, any_other};
 use crate::position::{Move, Position};
 use crate::probes::Probes;
-use crate::step::board_after;
+use crate::step::make_step;
 
 /// The position after the move, exactly if it is legal. (FIDE Laws 3.10.1)
 ///
@@ -18,21 +19,46 @@ pub fn try_pair(position: &Position, mv: Move, probes: &mut Probes) -> Option<Po
     ensures after { result ≡ spec.legal position.now mv }
     ensures count { probes.new ≡ probes.old + 1 }
 {
-    probes.add_one();
     mv.from.lies_on_board();
     mv.to.lies_on_board();
-    match board_after(position, &mv) {
-        None => None,
-        Some(board) => position.after(&mv, board),
+    let mut board = *position.board();
+    if tried_step(position, &mv, &mut board, probes) && position.is_safe_after(&mv, &board) {
+        Some(position.after(&mv, board))
+    } else {
+        None
     }
+}
+
+/// Whether the move is legal: `try_pair` without the position after it.
+///
+/// It counts as one pair tried.
+pub fn is_legal(position: &Position, mv: Move, probes: &mut Probes) -> bool
+    requires { probes.old + 1 < 2 ^ 32 }
+    ensures legal { result ≡ spec.is_legal position.now mv }
+    ensures count { probes.new ≡ probes.old + 1 }
+{
+    mv.from.lies_on_board();
+    mv.to.lies_on_board();
+    let mut board = *position.board();
+    tried_step(position, &mv, &mut board, probes) && position.is_safe_after(&mv, &board)
+}
+
+// Makes the move on the position's board, if it is a step of the side to move; the pair is counted.
+fn tried_step(position: &Position, mv: &Move, board: &mut Board, probes: &mut Probes) -> bool
+    requires board { board.old ≡ position.now.board }
+    requires room { probes.old + 1 < 2 ^ 32 }
+    ensures step { step.board_after position.now mv.now ≡ (if result then Some board.new else None) }
+    ensures count { probes.new ≡ probes.old + 1 }
+{
+    probes.add_one();
+    make_step(position, mv, board)
 }
 
 /// Whether the king of the side to move is attacked. (FIDE Laws 3.9.1)
 pub fn in_check(position: &Position) -> bool
     ensures { result ≡ spec.is_check position.now }
 {
-    position.keeps_rules();
-    is_attacked(position.board(), position.side().other(), position.king())
+    position.is_checked()
 }
 
 /// Whether the side to move has a legal move; without one it is mated or stalemated. (FIDE Laws 1.4, 5.1.1, 5.2.1)

@@ -6,8 +6,8 @@ ghost use Rattle.chess_rules.specs.Pairs.{Counts};
 
 use crate::attack::{first_on, is_adjacent};
 use crate::candidates::origin_by;
-use crate::direction::{DIRECTIONS, Direction, JUMPS};
-use crate::legal::try_pair;
+use crate::direction::{DIRECTIONS, Direction};
+use crate::legal::is_legal;
 use crate::piece::{Kind, Promotion};
 use crate::position::{Move, Position};
 use crate::probes::Probes;
@@ -38,7 +38,7 @@ fn is_legal_pair(position: &Position, from: Square, to: Square, probes: &mut Pro
         to,
         promotion,
     };
-    try_pair(position, mv, probes).is_some()
+    is_legal(position, mv, probes)
 }
 
 // Tries the pair, if there is an origin.
@@ -149,8 +149,8 @@ fn any_by_jumps(position: &Position, target: Square, probes: &mut Probes) -> boo
     ensures found { result ≡ spec.any_by_jumps position.now target }
     ensures count { Counts result probes.old probes.new (spec.count_by_jumps position.now target) }
 {
-    for jump in JUMPS.iter() {
-        let origin = origin_by(position, target, *jump);
+    for jump in 0..8 {
+        let origin = origin_by(position, target, jump);
         if hits(position, origin, target, probes) {
             return true;
         }

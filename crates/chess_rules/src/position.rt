@@ -1,18 +1,19 @@
 //! Moves and positions.
 
-ghost use Rattle.std.specs.Prelude.{◌≡◌, ◌<◌, ◌≤◌, IsTrue};
-ghost use Rattle.chess_rules.specs.Board.{at};
+ghost use Rattle.std.specs.Prelude.{◌≡◌, ◌<◌, ◌≤◌, IsTrue, Some};
+ghost use Rattle.chess_rules.specs.Board.{at, other};
+ghost use Rattle.chess_rules.specs.Attacks.{king_attacked};
 ghost use Rattle.chess_rules.specs.Position as spec;
 ghost use Rattle.chess_rules.specs.Step as step;
-ghost use Rattle.chess_rules.specs.Legal.{legal};
+ghost use Rattle.chess_rules.specs.Legal.{legal, is_legal, is_check};
 ghost use Rattle.chess_rules.specs.Walk.{king_square};
 ghost use Rattle.chess_rules.specs.Walk as walk;
 
-use crate::attack::{is_attacked, is_king_attacked};
+use crate::attack::{attacks, is_attacked, is_attacked_through, is_king_attacked};
 use crate::board::Board;
 use crate::piece::{Colour, Kind, Piece, Promotion};
 use crate::square::Square;
-use crate::step::{crossed, is_double_step};
+use crate::step::{crossed, is_double_step, is_target};
 use std::marker::Model;
 
 /// A move by its origin, its target and what a pawn becomes. Castling is the king's move.
@@ -69,6 +70,8 @@ pub struct Position {
     full: u32,
     white_king: Square,
     black_king: Square,
+    // Whether the king of the side to move is attacked.
+    checked: bool,
 }
 
 impl Model for Position {
@@ -108,6 +111,7 @@ impl Position {
             full: 1,
             white_king: Square::nth(4),
             black_king: Square::nth(60),
+            checked: false,
         }
     }
 
@@ -142,6 +146,7 @@ impl Position {
             full: parts.full,
             white_king: board.king_square(Colour::White),
             black_king: board.king_square(Colour::Black),
+            checked: is_king_attacked(&board, parts.side),
         })
     }
 
@@ -159,26 +164,75 @@ impl Position {
         let _ = &self.board;
     }
 
-    // The square of the king of the side to move.
-    pub(crate) fn king(&self) -> Square
-        ensures { result ≡ king_square self.now.side self.now.board }
+    // The square of the colour's king.
+    fn king_of(&self, colour: Colour) -> Square
+        ensures { result ≡ king_square colour self.now.board }
     {
-        match self.side {
+        match colour {
             Colour::White => self.white_king,
             Colour::Black => self.black_king,
         }
     }
 
-    // The position after a step of the side to move that leaves that board, if its king is then safe.
-    pub(crate) fn after(&self, mv: &Move, board: Board) -> Option<Position>
+    // The square of the king of the side to move.
+    pub(crate) fn king(&self) -> Square
+        ensures { result ≡ king_square self.now.side self.now.board }
+    {
+        self.king_of(self.side)
+    }
+
+    // Whether the king of the side to move is attacked.
+    pub(crate) fn is_checked(&self) -> bool
+        ensures { result ≡ is_check self.now }
+    {
+        self.checked
+    }
+
+    // Whether a step takes one piece off its square and no more, so that it opens one line to another square at most.
+    fn opens_one_line(&self, mv: &Move, square: Square) -> bool
+        ensures { result ≡ walk.opens_one_line self.now mv.now square }
+    {
+        !mv.from.is(square)
+            && !self.board.has_piece(mv.from, self.side, Kind::King)
+            && !is_target(self.target, mv.to)
+    }
+
+    // Whether the step, which leaves that board, attacks the other king.
+    fn gives_check(&self, mv: &Move, board: &Board) -> bool
+        requires on_board { IsTrue (step.is_on_board mv.now) }
+        requires step { step.board_after self.now mv.now ≡ Some board.now }
+        ensures { result ≡ king_attacked board.now (other self.now.side) }
+    {
+        let king = self.king_of(self.side.other());
+        if self.opens_one_line(mv, king) {
+            attacks(board, mv.to, king) || is_attacked_through(board, self.side, mv.from, king)
+        } else {
+            is_attacked(board, self.side, king_after(king, mv))
+        }
+    }
+
+    // Whether the king of the side to move is safe after its step, which leaves that board.
+    pub(crate) fn is_safe_after(&self, mv: &Move, board: &Board) -> bool
+        requires on_board { IsTrue (step.is_on_board mv.now) }
+        requires step { step.board_after self.now mv.now ≡ Some board.now }
+        ensures { result ≡ is_legal self.now mv.now }
+    {
+        let king = self.king();
+        if !self.checked && self.opens_one_line(mv, king) {
+            return !is_attacked_through(board, self.side.other(), mv.from, king);
+        }
+        !is_attacked(board, self.side.other(), king_after(king, mv))
+    }
+
+    // The position after a legal move, which leaves that board.
+    pub(crate) fn after(&self, mv: &Move, board: Board) -> Position
         requires on_board { IsTrue (step.is_on_board mv.now) }
         requires step { step.board_after self.now mv.now ≡ Some board }
-        ensures { result ≡ legal self.now mv.now }
+        requires legal { IsTrue (is_legal self.now mv.now) }
+        ensures { Some result ≡ legal self.now mv.now }
     {
-        if is_attacked(&board, self.side.other(), king_after(self.king(), mv)) {
-            return None;
-        }
-        Some(Position {
+        let checked = self.gives_check(mv, &board);
+        Position {
             board,
             side: self.side.other(),
             rights: rights_after(mv, self.rights),
@@ -187,7 +241,8 @@ impl Position {
             full: full_after(self.side, self.full),
             white_king: king_after(self.white_king, mv),
             black_king: king_after(self.black_king, mv),
-        })
+            checked,
+        }
     }
 
     // The square crossed by a pawn that goes two squares. (PGN 16.1.3.4)

@@ -1,6 +1,6 @@
 //! One step of the side to move: which pairs are one, and the board after it.
 
-ghost use Rattle.std.specs.Prelude.{◌≡◌, ◌<◌};
+ghost use Rattle.std.specs.Prelude.{◌≡◌, ◌<◌, Some, None, if◌then◌else◌};
 ghost use Rattle.chess_rules.specs.Step as spec;
 
 use crate::attack::{attacks, is_ahead, is_attacked, is_clear};
@@ -131,7 +131,8 @@ fn captured_pawn(mv: &Move) -> Square
     Square::nth(8 * mv.from.rank() as usize + mv.to.file() as usize)
 }
 
-fn is_target(target: Option<Square>, square: Square) -> bool
+// Whether the square is the en passant target.
+pub(crate) fn is_target(target: Option<Square>, square: Square) -> bool
     ensures { result ≡ spec.is_target target square }
 {
     match target {
@@ -251,46 +252,43 @@ fn kind_of(promotion: Promotion) -> Kind
     }
 }
 
-// The piece that arrives. (FIDE Laws 3.7.3.3)
-fn promoted(colour: Colour, promotion: Option<Promotion>, content: Option<Piece>) -> Option<Piece>
-    ensures { result ≡ spec.promoted colour promotion content }
+// Carries the piece from the origin to the target, where a promotion puts another. (FIDE Laws 3.7.3.3)
+fn carry(position: &Position, mv: &Move, board: &mut Board)
+    requires { board.old ≡ position.now.board }
+    ensures { board.new ≡ spec.carried position.now mv.now }
 {
-    match promotion {
-        None => content,
-        Some(promotion) => Some(Piece {
-            colour,
-            kind: kind_of(promotion),
-        }),
+    match mv.promotion {
+        None => board.carry(mv.from, mv.to),
+        Some(promotion) => {
+            board.put(mv.from, None);
+            board.put(
+                mv.to,
+                Some(Piece {
+                    colour: position.side(),
+                    kind: kind_of(promotion),
+                }),
+            );
+        }
     }
 }
 
-// The board with the piece carried from the origin to the target.
-fn carried(position: &Position, mv: &Move) -> Board
-    ensures { result ≡ spec.carried position.now mv.now }
+// Takes a pawn in passing.
+fn take_in_passing(position: &Position, mv: &Move, board: &mut Board)
+    requires { board.old ≡ position.now.board }
+    ensures { board.new ≡ spec.en_passant_board position.now mv.now }
 {
-    let mut board = *position.board();
-    let arriving = promoted(position.side(), mv.promotion, board.at(mv.from));
-    board.put(mv.from, None);
-    board.put(mv.to, arriving);
-    board
-}
-
-// The board after a pawn was taken in passing.
-fn en_passant_board(position: &Position, mv: &Move) -> Board
-    ensures { result ≡ spec.en_passant_board position.now mv.now }
-{
-    let mut board = carried(position, mv);
+    carry(position, mv, board);
     board.put(captured_pawn(mv), None);
-    board
 }
 
-// The board after castling: the rook goes to the square that the king crossed.
-fn castled(position: &Position, mv: &Move, rook: u8, crossing: u8) -> Board
+// Castles: the rook goes to the square that the king crossed.
+fn castle(position: &Position, mv: &Move, rook: u8, crossing: u8, board: &mut Board)
     requires rook { rook < 8 }
     requires crossing { crossing < 8 }
-    ensures { result ≡ spec.castled position.now mv.now rook crossing }
+    requires board { board.old ≡ position.now.board }
+    ensures { board.new ≡ spec.castled position.now mv.now rook crossing }
 {
-    let mut board = carried(position, mv);
+    carry(position, mv, board);
     board.put(home(position, rook), None);
     board.put(
         home(position, crossing),
@@ -299,24 +297,28 @@ fn castled(position: &Position, mv: &Move, rook: u8, crossing: u8) -> Board
             kind: Kind::Rook,
         }),
     );
-    board
 }
 
-// The board after the move, if it is a step of the side to move.
-pub(crate) fn board_after(position: &Position, mv: &Move) -> Option<Board>
-    ensures { result ≡ spec.board_after position.now mv.now }
+// Makes the move on the position's board, if it is a step of the side to move.
+pub(crate) fn make_step(position: &Position, mv: &Move, board: &mut Board) -> bool
+    requires { board.old ≡ position.now.board }
+    ensures { spec.board_after position.now mv.now ≡ (if result then Some board.new else None) }
 {
     if is_piece_step(position, mv) || is_pawn_step(position, mv) {
-        return Some(carried(position, mv));
+        carry(position, mv, board);
+        return true;
     }
     if is_en_passant(position, mv) {
-        return Some(en_passant_board(position, mv));
+        take_in_passing(position, mv, board);
+        return true;
     }
     if castles_short(position, mv) {
-        return Some(castled(position, mv, 7, 5));
+        castle(position, mv, 7, 5, board);
+        return true;
     }
     if castles_long(position, mv) {
-        return Some(castled(position, mv, 0, 3));
+        castle(position, mv, 0, 3, board);
+        return true;
     }
-    None
+    false
 }

@@ -13,16 +13,16 @@ loop-jump-preserved c =
     elim c.match-origin_by.branch [
       | in-Some w ↦ (
         ap (λ v. v.items) w.origins-is ∙ (w.push.ensures.items ∙ (ap (λ xs. xs ++ w.in-Some.origin ∷ []) c.loop-jump.invariant.0
-            ∙ sym (filter_map_found (spec.origin_by c.args.position.now c.args.target) JUMPS c.loop-jump.jump-index _ c.origin_by.result w.in-Some.origin (omega arith) c.origin_by.ensures w.in-Some.is))),
+            ∙ sym (filter_map_found (spec.origin_by c.args.position.now c.args.target) JUMPS c.loop-jump.jump _ c.origin_by.result w.in-Some.origin (omega arith) c.origin_by.ensures w.in-Some.is))),
         rw w.origins-is (omega arith),
       )
       | in_default w ↦ (
         ap (λ v. v.items) w.origins-is ∙ (c.loop-jump.invariant.0
-            ∙ sym (filter_map_none (spec.origin_by c.args.position.now c.args.target) JUMPS c.loop-jump.jump-index _ c.origin_by.result (omega arith) c.origin_by.ensures w.in_default.is)),
+            ∙ sym (filter_map_none (spec.origin_by c.args.position.now c.args.target) JUMPS c.loop-jump.jump _ c.origin_by.result (omega arith) c.origin_by.ensures w.in_default.is)),
         rw w.origins-is (omega arith),
       )
     ]
 
 pub returns : goal.returns
 unfolding by_jumps
-returns c = c.loop-jump.invariant.0 ∙ ap (filter_map (spec.origin_by c.args.position.now c.args.target)) (take_all c.loop-jump.jump-index JUMPS (omega arith))
+returns c = c.loop-jump.invariant.0 ∙ ap (filter_map (spec.origin_by c.args.position.now c.args.target)) (take_all c.loop-jump.jump JUMPS (omega arith))

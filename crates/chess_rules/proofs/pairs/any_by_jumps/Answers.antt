@@ -9,12 +9,12 @@ pub hits-requires : goal.hits-requires
 unfolding count_by_jumps
 hits-requires c =
     subst (λ o. c.loop-jump.probes + spec.tried o < 2 ^ 32) (sym c.origin_by-origin.ensures)
-    (stands_fits (spec.hits_by c.args.position.now c.args.target) (spec.tried_by c.args.position.now c.args.target) JUMPS c.loop-jump.jump-index c.args.probes.now c.loop-jump.probes (2 ^ 32) _ _ c.loop-jump.invariant (omega arith) refl c.requires)
+    (stands_fits (spec.hits_by c.args.position.now c.args.target) (spec.tried_by c.args.position.now c.args.target) JUMPS c.loop-jump.jump c.args.probes.now c.loop-jump.probes (2 ^ 32) _ _ c.loop-jump.invariant (omega arith) refl c.requires)
 
 pub returns-then-hits-clause-found : goal.returns-then-hits-clause-found
 unfolding any_by_jumps
 returns-then-hits-clause-found c =
-    (stands_hit (spec.hits_by c.args.position.now c.args.target) (spec.tried_by c.args.position.now c.args.target) JUMPS c.loop-jump.jump-index c.args.probes.now c.loop-jump.probes c.hits.new.probes _ _ c.hits.result
+    (stands_hit (spec.hits_by c.args.position.now c.args.target) (spec.tried_by c.args.position.now c.args.target) JUMPS c.loop-jump.jump c.args.probes.now c.loop-jump.probes c.hits.new.probes _ _ c.hits.result
     c.loop-jump.invariant (omega arith) refl
     (c.hits.ensures.found ∙ ap (spec.hits c.args.position.now c.args.target) c.origin_by-origin.ensures)
     c.if-hits.true (counts_try _ _ _ _ _ _ (c.hits.ensures.found ∙ ap (spec.hits c.args.position.now c.args.target) c.origin_by-origin.ensures)
@@ -23,7 +23,7 @@ returns-then-hits-clause-found c =
 pub returns-then-hits-clause-count : goal.returns-then-hits-clause-count
 unfolding count_by_jumps
 returns-then-hits-clause-count c =
-    (stands_hit (spec.hits_by c.args.position.now c.args.target) (spec.tried_by c.args.position.now c.args.target) JUMPS c.loop-jump.jump-index c.args.probes.now c.loop-jump.probes c.hits.new.probes _ _ c.hits.result
+    (stands_hit (spec.hits_by c.args.position.now c.args.target) (spec.tried_by c.args.position.now c.args.target) JUMPS c.loop-jump.jump c.args.probes.now c.loop-jump.probes c.hits.new.probes _ _ c.hits.result
     c.loop-jump.invariant (omega arith) refl
     (c.hits.ensures.found ∙ ap (spec.hits c.args.position.now c.args.target) c.origin_by-origin.ensures)
     c.if-hits.true (counts_try _ _ _ _ _ _ (c.hits.ensures.found ∙ ap (spec.hits c.args.position.now c.args.target) c.origin_by-origin.ensures)
@@ -31,7 +31,7 @@ returns-then-hits-clause-count c =
 
 pub loop-jump-preserved : goal.loop-jump-preserved
 loop-jump-preserved c =
-    stands_more (spec.hits_by c.args.position.now c.args.target) (spec.tried_by c.args.position.now c.args.target) JUMPS c.loop-jump.jump-index c.args.probes.now c.loop-jump.probes c.hits.new.probes _ _ c.hits.result
+    stands_more (spec.hits_by c.args.position.now c.args.target) (spec.tried_by c.args.position.now c.args.target) JUMPS c.loop-jump.jump c.args.probes.now c.loop-jump.probes c.hits.new.probes _ _ c.hits.result
     c.loop-jump.invariant (omega arith) refl
     (c.hits.ensures.found ∙ ap (spec.hits c.args.position.now c.args.target) c.origin_by-origin.ensures)
     c.if-hits.false (counts_try _ _ _ _ _ _ (c.hits.ensures.found ∙ ap (spec.hits c.args.position.now c.args.target) c.origin_by-origin.ensures)
@@ -39,8 +39,8 @@ loop-jump-preserved c =
 
 pub returns-clause-found : goal.returns-clause-found
 unfolding any_by_jumps
-returns-clause-found c = (stands_end (spec.hits_by c.args.position.now c.args.target) (spec.tried_by c.args.position.now c.args.target) JUMPS c.loop-jump.jump-index c.args.probes.now c.loop-jump.probes c.loop-jump.invariant (omega arith)).0
+returns-clause-found c = (stands_end (spec.hits_by c.args.position.now c.args.target) (spec.tried_by c.args.position.now c.args.target) JUMPS c.loop-jump.jump c.args.probes.now c.loop-jump.probes c.loop-jump.invariant (omega arith)).0
 
 pub returns-clause-count : goal.returns-clause-count
 unfolding count_by_jumps
-returns-clause-count c = (stands_end (spec.hits_by c.args.position.now c.args.target) (spec.tried_by c.args.position.now c.args.target) JUMPS c.loop-jump.jump-index c.args.probes.now c.loop-jump.probes c.loop-jump.invariant (omega arith)).1
+returns-clause-count c = (stands_end (spec.hits_by c.args.position.now c.args.target) (spec.tried_by c.args.position.now c.args.target) JUMPS c.loop-jump.jump c.args.probes.now c.loop-jump.probes c.loop-jump.invariant (omega arith)).1

@@ -4,4 +4,4 @@ use Rattle.chess_rules.proofs.Counting.{Stands}
 use Rattle.chess_rules.proofs.pairs.any_by_jumps.Given as goal
 
 abbrev pub invariant-loop-jump : goal.invariant-loop-jump
-invariant-loop-jump l = Stands (spec.hits_by l.position l.target) (spec.tried_by l.position l.target) JUMPS l.jump-index l.fn.probes l.probes
+invariant-loop-jump l = Stands (spec.hits_by l.position l.target) (spec.tried_by l.position l.target) JUMPS l.jump l.fn.probes l.probes

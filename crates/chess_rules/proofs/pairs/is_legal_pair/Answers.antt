@@ -1,5 +1,4 @@
 use Rattle.std.proofs.Common.{◌∙◌, ap}
-use Rattle.std.specs.Prelude.{is_some}
 use Rattle.chess_rules.specs.Legal.{is_legal}
 use Rattle.chess_rules.specs.Pairs.{is_legal_pair}
 use Rattle.chess_rules.proofs.pairs.is_legal_pair.Goals as goal
@@ -7,6 +6,5 @@ use Rattle.chess_rules.proofs.pairs.is_legal_pair.Goals as goal
 pub returns-clause-found : goal.returns-clause-found
 unfolding is_legal_pair
 returns-clause-found c =
-    c.is_some.ensures
-    ∙ (ap is_some c.try_pair.ensures.after
-    ∙ ap (λ promotion. is_legal c.args.position.now (record { from = c.args.from; to = c.args.to; promotion = promotion })) c.one_promotion-promotion.ensures)
+    c.is_legal.ensures.legal
+    ∙ ap (λ promotion. is_legal c.args.position.now (record { from = c.args.from; to = c.args.to; promotion = promotion })) c.one_promotion-promotion.ensures

@@ -1,8 +1,6 @@
-use Rattle.std.proofs.Common.{sym, ◌∙◌, ap}
+use Rattle.std.proofs.Common.{◌∙◌, ap}
 use Rattle.chess_rules.specs.Walk.{king_square}
 use Rattle.chess_rules.proofs.position.Position.king.Goals as goal
 
-pub returns-in-Black : goal.returns-in-Black
-returns-in-Black c =
-    c.self.invariant.black_king
-    ∙ (ap (λ d. king_square d c.self.inside.board) (sym c.in-Black.is) ∙ ap (λ p. king_square p.side p.board) c.self.view_is)
+pub returns : goal.returns
+returns c = c.king_of.ensures ∙ ap (λ p. king_square p.side c.args.self.now.board) c.self.view_is
