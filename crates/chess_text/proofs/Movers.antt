@@ -50,6 +50,10 @@ mover_colour p m h =
         let man = (and_parts (has_colour p.side (at p.board m.from) && not (own p Pawn m.from)) (is_none m.promotion) stands).0 in
         (and_parts (has_colour p.side (at p.board m.from)) (not (own p Pawn m.from)) man).0
 
+-- it stands on the origin
+pub mover_stands : (p : Parts) (m : Move) → is_legal p m ≡ true → at p.board m.from ≡ None → ⊥
+mover_stands p m h nothing = false≢true (ap (λ (cell : Option Piece). has_colour p.side cell) (sym nothing) ∙ mover_colour p m h)
+
 same_kind-refl : (k : Kind) → same_kind k k ≡ true
 same_kind-refl King = refl
 same_kind-refl Queen = refl

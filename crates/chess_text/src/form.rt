@@ -61,6 +61,10 @@ fn is_mark(byte: u8) -> bool
 fn castle_told(text: &[u8]) -> Option<bool>
     ensures { result ≡ spec.castle_of text.now }
 {
+    // Most texts end otherwise.
+    if !matches!(last_byte(text), b'O' | b'0') {
+        return None;
+    }
     if text == b"O-O".as_slice() || text == b"0-0".as_slice() {
         Some(false)
     } else if text == b"O-O-O".as_slice() || text == b"0-0-0".as_slice() {

@@ -16,7 +16,7 @@ use crate::resolve::{Played, is_castling};
 use arrayvec::ArrayVec;
 use chess_rules::candidates::origins;
 use chess_rules::laws::candidates_are_complete;
-use chess_rules::legal::{has_legal_move, in_check, try_pair};
+use chess_rules::legal::{has_legal_move, in_check, is_legal};
 use chess_rules::piece::{Kind, Promotion};
 use chess_rules::position::{Move, Position};
 use chess_rules::probes::Probes;
@@ -33,35 +33,30 @@ pub fn write_san(position: &Position, played: &Played, probes: &mut Probes) -> A
     requires legal { legal position.now played.now.mv ≡ Some played.now.next }
     requires room { probes.old + 1032 < 2 ^ 32 }
     ensures text { result.items ≡ spec.san position.now played.now.mv }
+    ensures some { 0 < length result.items }
+    ensures short { length result.items ≤ 7 }
     ensures pairs { MarkPairs played.now.next (probes.old + spec.apart_pairs position.now played.now.mv) probes.new }
     ensures bound { probes.new ≤ probes.old + 1032 }
 {
     let mut text = unmarked(position, &played.mv, probes);
-    push_part(&mut text, mark(&played.next, probes));
+    push_mark(&mut text, &played.next, probes);
     text
 }
 
-// Adds the part.
-fn push_part(text: &mut ArrayVec<u8, 7>, part: &[u8])
-    requires { length text.old.items + length part.now ≤ 7 }
-    ensures { text.new.items ≡ text.old.items ++ part.now }
-{
-    let _ = text.try_extend_from_slice(part);
-}
-
-// The mark of a move that leaves this position. (PGN 8.2.3.5)
-fn mark(next: &Position, probes: &mut Probes) -> &'static [u8]
-    requires { probes.old + 1024 < 2 ^ 32 }
-    ensures text { result.now ≡ spec.mark_after next.now }
-    ensures short { length result.now ≤ 1 }
+// Adds the mark of a move that leaves this position. (PGN 8.2.3.5)
+fn push_mark(text: &mut ArrayVec<u8, 7>, next: &Position, probes: &mut Probes)
+    requires space { length text.old.items ≤ 6 }
+    requires room { probes.old + 1024 < 2 ^ 32 }
+    ensures text { text.new.items ≡ text.old.items ++ spec.mark_after next.now }
     ensures pairs { MarkPairs next.now probes.old probes.new }
 {
     if !in_check(next) {
-        b""
-    } else if has_legal_move(next, probes) {
-        b"+"
+        return;
+    }
+    if has_legal_move(next, probes) {
+        text.push(b'+');
     } else {
-        b"#"
+        text.push(b'#');
     }
 }
 
@@ -70,6 +65,7 @@ fn unmarked(position: &Position, mv: &Move, probes: &mut Probes) -> ArrayVec<u8,
     requires legal { IsTrue (is_legal position.now mv.now) }
     requires room { probes.old + 8 < 2 ^ 32 }
     ensures text { result.items ≡ spec.unmarked position.now mv.now }
+    ensures some { 0 < length result.items }
     ensures short { length result.items ≤ 6 }
     ensures pairs { probes.new ≡ probes.old + spec.apart_pairs position.now mv.now }
     ensures few { probes.new ≤ probes.old + 8 }
@@ -90,6 +86,7 @@ fn king_text(position: &Position, mv: &Move) -> ArrayVec<u8, 7>
     requires legal { IsTrue (is_legal position.now mv.now) }
     requires king { IsTrue (own position.now King mv.now.from) }
     ensures text { result.items ≡ spec.king_text position.now mv.now }
+    ensures some { 0 < length result.items }
     ensures short { length result.items ≤ 6 }
 {
     let mut text = ArrayVec::new();
@@ -98,13 +95,22 @@ fn king_text(position: &Position, mv: &Move) -> ArrayVec<u8, 7>
         return text;
     }
     text.push(b'K');
-    push_part(&mut text, capture_text(position.at(mv.to).is_some()));
-    push_part(&mut text, &square_text(mv.to));
+    push_capture(&mut text, position.at(mv.to).is_some());
+    push_square(&mut text, mv.to);
     text
+}
+
+// Adds the part.
+fn push_part(text: &mut ArrayVec<u8, 7>, part: &[u8])
+    requires { length text.old.items + length part.now ≤ 7 }
+    ensures { text.new.items ≡ text.old.items ++ part.now }
+{
+    let _ = text.try_extend_from_slice(part);
 }
 
 fn castling_text(long: bool) -> &'static [u8]
     ensures text { result.now ≡ spec.castling_text long }
+    ensures some { 0 < length result.now }
     ensures short { length result.now ≤ 5 }
 {
     if long { b"O-O-O" } else { b"O-O" }
@@ -115,40 +121,38 @@ fn pawn_text(position: &Position, mv: &Move) -> ArrayVec<u8, 7>
     requires legal { IsTrue (is_legal position.now mv.now) }
     requires pawn { IsTrue (own position.now Pawn mv.now.from) }
     ensures text { result.items ≡ spec.pawn_text position.now mv.now }
+    ensures some { 0 < length result.items }
     ensures short { length result.items ≤ 6 }
 {
     let mut text = ArrayVec::new();
-    push_part(&mut text, pawn_capture(mv).as_slice());
-    push_part(&mut text, &square_text(mv.to));
-    push_part(&mut text, promotion_text(mv.promotion).as_slice());
+    push_pawn_capture(&mut text, mv);
+    push_square(&mut text, mv.to);
+    push_promotion(&mut text, mv.promotion);
     text
 }
 
-// The origin's file and `x` of a pawn that changes its file. (PGN 8.2.3.3)
-fn pawn_capture(mv: &Move) -> ArrayVec<u8, 2>
-    ensures text { result.items ≡ spec.pawn_capture (not (mv.now.from.file == mv.now.to.file)) mv.now }
-    ensures short { length result.items ≤ 2 }
+// Adds the origin's file and `x` of a pawn that changes its file. (PGN 8.2.3.3)
+fn push_pawn_capture(text: &mut ArrayVec<u8, 7>, mv: &Move)
+    requires { length text.old.items ≤ 5 }
+    ensures text { text.new.items ≡ text.old.items ++ spec.pawn_capture (not (mv.now.from.file == mv.now.to.file)) mv.now }
+    ensures short { length text.new.items ≤ length text.old.items + 2 }
 {
-    let mut text = ArrayVec::new();
-    if mv.from.file() == mv.to.file() {
-        return text;
+    if mv.from.file() != mv.to.file() {
+        text.push(b'a' + mv.from.file());
+        push_capture(text, true);
     }
-    text.push(b'a' + mv.from.file());
-    text.push(b'x');
-    text
 }
 
-// `=` and the letter of what the pawn becomes. (PGN 8.2.3.3)
-fn promotion_text(promotion: Option<Promotion>) -> ArrayVec<u8, 2>
-    ensures text { result.items ≡ spec.promotion_text promotion }
-    ensures short { length result.items ≤ 2 }
+// Adds `=` and the letter of what the pawn becomes. (PGN 8.2.3.3)
+fn push_promotion(text: &mut ArrayVec<u8, 7>, promotion: Option<Promotion>)
+    requires { length text.old.items ≤ 5 }
+    ensures text { text.new.items ≡ text.old.items ++ spec.promotion_text promotion }
+    ensures short { length text.new.items ≤ length text.old.items + 2 }
 {
-    let mut text = ArrayVec::new();
     if let Some(promotion) = promotion {
         text.push(b'=');
         text.push(promotion_letter(promotion));
     }
-    text
 }
 
 // The text of a queen's, a rook's, a bishop's or a knight's move. (PGN 8.2.3.4)
@@ -157,6 +161,7 @@ fn officer_text(position: &Position, kind: Kind, mv: &Move, probes: &mut Probes)
     requires officer { IsTrue (spec.has_rivals kind) }
     requires room { probes.old + 8 < 2 ^ 32 }
     ensures text { result.items ≡ spec.officer_text kind position.now mv.now }
+    ensures some { 0 < length result.items }
     ensures short { length result.items ≤ 6 }
     ensures pairs { probes.new ≡ probes.old + length (candidates position.now kind mv.now.to) }
     ensures few { probes.new ≤ probes.old + 8 }
@@ -164,9 +169,9 @@ fn officer_text(position: &Position, kind: Kind, mv: &Move, probes: &mut Probes)
     let rivals = rivals_of(position, kind, mv, probes);
     let mut text = ArrayVec::new();
     text.push(letter(kind));
-    push_part(&mut text, told_apart(mv.from, rivals).as_slice());
-    push_part(&mut text, capture_text(position.at(mv.to).is_some()));
-    push_part(&mut text, &square_text(mv.to));
+    push_told_apart(&mut text, mv.from, rivals);
+    push_capture(&mut text, position.at(mv.to).is_some());
+    push_square(&mut text, mv.to);
     text
 }
 
@@ -220,47 +225,53 @@ fn rivals_of(position: &Position, kind: Kind, mv: &Move, probes: &mut Probes) ->
     found
 }
 
-// Whether the same move is legal from that other square.
+// Whether the same move is legal from that other square; the move's own origin is counted untried.
 fn is_rival(position: &Position, mv: &Move, origin: Square, probes: &mut Probes) -> bool
     requires { probes.old + 1 < 2 ^ 32 }
     ensures rival { result ≡ spec.is_rival position.now mv.now origin }
     ensures pairs { probes.new ≡ probes.old + 1 }
 {
+    if origin.file() == mv.from.file() && origin.rank() == mv.from.rank() {
+        probes.add_one();
+        return false;
+    }
     let other = Move {
         from: origin,
         to: mv.to,
         promotion: mv.promotion,
     };
-    let is_legal = try_pair(position, other, probes).is_some();
-    is_legal && (origin.file() != mv.from.file() || origin.rank() != mv.from.rank())
+    is_legal(position, other, probes)
 }
 
-// What tells the origin from the rivals. (PGN 8.2.3.4)
-fn told_apart(from: Square, rivals: Rivals) -> ArrayVec<u8, 2>
-    ensures text { result.items ≡ spec.apart_by from rivals.any rivals.on_file rivals.on_rank }
-    ensures short { length result.items ≤ 2 }
+// Adds what tells the origin from the rivals. (PGN 8.2.3.4)
+fn push_told_apart(text: &mut ArrayVec<u8, 7>, from: Square, rivals: Rivals)
+    requires { length text.old.items ≤ 5 }
+    ensures text { text.new.items ≡ text.old.items ++ spec.apart_by from rivals.any rivals.on_file rivals.on_rank }
+    ensures short { length text.new.items ≤ length text.old.items + 2 }
 {
-    let mut text = ArrayVec::new();
     if rivals.any && (!rivals.on_file || rivals.on_rank) {
         text.push(b'a' + from.file());
     }
     if rivals.any && rivals.on_file {
         text.push(b'1' + from.rank());
     }
-    text
 }
 
-fn capture_text(takes: bool) -> &'static [u8]
-    ensures text { result.now ≡ spec.capture_if takes }
-    ensures short { length result.now ≤ 1 }
+fn push_capture(text: &mut ArrayVec<u8, 7>, takes: bool)
+    requires { length text.old.items ≤ 6 }
+    ensures { text.new.items ≡ text.old.items ++ spec.capture_if takes }
 {
-    if takes { b"x" } else { b"" }
+    if takes {
+        text.push(b'x');
+    }
 }
 
-fn square_text(square: Square) -> [u8; 2]
-    ensures { result ≡ letters.square_text square }
+fn push_square(text: &mut ArrayVec<u8, 7>, square: Square)
+    requires { length text.old.items ≤ 5 }
+    ensures { text.new.items ≡ text.old.items ++ letters.square_text square }
 {
-    [b'a' + square.file(), b'1' + square.rank()]
+    text.push(b'a' + square.file());
+    text.push(b'1' + square.rank());
 }
 
 fn promotion_letter(promotion: Promotion) -> u8

@@ -14,12 +14,11 @@ returns-then-is_castling-clause-text c =
 
 pub returns-clause-text : goal.returns-clause-text
 returns-clause-text c =
-    c.push_part-3.ensures
+    c.push_square.ensures
     ∙ ap₂ (λ (s t : List ℕ). s ++ t)
-    (c.push_part-2.ensures
+    (c.push_capture.ensures
     ∙ ap₂ (λ (s t : List ℕ). s ++ t) (c.push.ensures.items ∙ ap (λ (s : List ℕ). s ++ 75 ∷ []) c.new-text.ensures)
-    (c.capture_text.ensures.text
-    ∙ ap (λ b. capture_if b) (something c.args.position.now c.args.mv.now c.at.result c.is_some.result c.at.ensures c.is_some.ensures
+    (ap (λ b. capture_if b) (something c.args.position.now c.args.mv.now c.at.result c.is_some.result c.at.ensures c.is_some.ensures
     ∙ sym (piece_takes c.args.position.now c.args.mv.now King c.requires.king refl))))
-    c.square_text.ensures
+    refl
     ∙ sym (step_written c.args.position.now c.args.mv.now (sym c.is_castling.ensures ∙ c.if-is_castling.false))

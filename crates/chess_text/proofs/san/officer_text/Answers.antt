@@ -1,4 +1,4 @@
-use Rattle.std.proofs.Common.{ℕ, List, [], ◌∷◌, ◌++◌, sym, ◌∙◌, ap, ap₂}
+use Rattle.std.proofs.Common.{ℕ, List, [], ◌∷◌, ◌++◌, refl, sym, ◌∙◌, ap, ap₂}
 use Rattle.chess_text.specs.San.{capture_if, rivals}
 use Rattle.chess_text.proofs.Movers.{piece_takes, officer_no_pawn, something}
 use Rattle.chess_text.proofs.Rivals.{apart_same}
@@ -9,17 +9,14 @@ returns-clause-text c =
     let p = c.args.position.now in
     let m = c.args.mv.now in
     let k = c.args.kind in
-    c.push_part-3.ensures
+    c.push_square.ensures
     ∙ ap₂ (λ (s t : List ℕ). s ++ t)
-    (c.push_part-2.ensures
+    (c.push_capture.ensures
     ∙ ap₂ (λ (s t : List ℕ). s ++ t)
-    (c.push_part.ensures
+    (c.push_told_apart.ensures.text
     ∙ ap₂ (λ (s t : List ℕ). s ++ t)
     (c.push.ensures.items ∙ ap₂ (λ (s : List ℕ) d. s ++ d ∷ []) c.new-text.ensures c.letter.ensures.value)
-    (c.as_slice.ensures.value
-    ∙ (c.told_apart.ensures.text
-    ∙ apart_same m.from (rivals p k m) c.rivals_of-rivals.result.any c.rivals_of-rivals.result.on_file c.rivals_of-rivals.result.on_rank
-    c.rivals_of-rivals.ensures.any c.rivals_of-rivals.ensures.file c.rivals_of-rivals.ensures.rank)))
-    (c.capture_text.ensures.text
-    ∙ ap (λ b. capture_if b) (something p m c.at.result c.is_some.result c.at.ensures c.is_some.ensures ∙ sym (piece_takes p m k c.requires.own (officer_no_pawn k c.requires.officer)))))
-    c.square_text.ensures
+    (apart_same m.from (rivals p k m) c.rivals_of-rivals.result.any c.rivals_of-rivals.result.on_file c.rivals_of-rivals.result.on_rank
+    c.rivals_of-rivals.ensures.any c.rivals_of-rivals.ensures.file c.rivals_of-rivals.ensures.rank))
+    (ap (λ b. capture_if b) (something p m c.at.result c.is_some.result c.at.ensures c.is_some.ensures ∙ sym (piece_takes p m k c.requires.own (officer_no_pawn k c.requires.officer)))))
+    refl

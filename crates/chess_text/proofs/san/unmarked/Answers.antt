@@ -1,6 +1,6 @@
 use Rattle.std.proofs.Common.{◌≡◌, true, sym, ◌∙◌, subst}
 use Rattle.chess_rules.specs.Step.{own}
-use Rattle.chess_text.proofs.Movers.{mover, officer}
+use Rattle.chess_text.proofs.Movers.{mover, mover_stands, officer}
 use Rattle.chess_text.proofs.san.unmarked.Goals as goal
 
 pub king_text-requires-clause-king : goal.king_text-requires-clause-king
@@ -14,6 +14,9 @@ pawn_text-requires-clause-pawn c =
     let p = c.args.position.now in
     let m = c.args.mv.now in
     subst (λ k. own p k m.from ≡ true) c.in-Pawn.is (mover p m c.in-Some.piece c.requires.legal (sym c.at.ensures ∙ c.in-Some.is))
+
+pub returns-in_default-clause-some : goal.returns-in_default-clause-some
+returns-in_default-clause-some c = absurd (mover_stands c.args.position.now c.args.mv.now c.requires.legal (sym c.at.ensures ∙ c.in_default.is))
 
 pub officer_text-requires : goal.officer_text-requires
 officer_text-requires c =
