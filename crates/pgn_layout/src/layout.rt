@@ -118,7 +118,9 @@ fn append(line: &mut ArrayVec<u8, LINE_LENGTH>, token: &[u8])
     requires { length line.old.items + length token.now ≤ 79 }
     ensures { line.new.items ≡ line.old.items ++ token.now }
 {
-    let _ = line.try_extend_from_slice(token);
+    for byte in token {
+        line.push(*byte);
+    }
 }
 
 // Writes the text, unless a write has failed.

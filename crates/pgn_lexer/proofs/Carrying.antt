@@ -318,3 +318,7 @@ scans_form count old new piece used form t at kind h =
 -- what is said of one view of a lexer, of the other
 pub scans_of : (old old' new : Standing) (piece : List ℕ) (used : ℕ) (seen : Scanned) → old ≡ old' → Scans old piece new used seen → Scans old' piece new used seen
 scans_of old old' new piece used seen e = subst (λ (l : Standing). Scans l piece new used seen) e
+
+pub scans_told : (count : ℕ) (old new : Held) (piece : List ℕ) (used : ℕ) (f g : LexFault) → f ≡ g → RunsToFault count old piece g new used
+    → Scans (ahead count old) piece (behind count new used) used (fault f)
+scans_told count old new piece used f g same h = scans_fault count old new piece used f (subst (λ f. RunsToFault count old piece f new used) (sym same) h)

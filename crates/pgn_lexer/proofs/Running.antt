@@ -1,17 +1,29 @@
 -- A run over a piece, byte by byte.
 use Rattle.std.proofs.Common.{◌≡◌, ℕ, zero, suc, ◌+◌, ◌*◌, ◌<◌, ◌≤◌, inl, inr, List, [], ◌∷◌, ◌++◌, length, get_or, take, drop, refl, sym, ap, subst, ◌∙◌, append_assoc, add-one, arith}
-use Rattle.std.proofs.lemmas.List.{take_more}
+use Rattle.std.specs.Prelude.{◌⊎◌, Bool, true, false, nat_lt, if◌then◌else◌}
+use Rattle.std.proofs.lemmas.Bool.{lt-ltb}
+use Rattle.std.proofs.lemmas.List.{take_all, take_more}
 use Rattle.std.proofs.Math.Seq.{drop-cons}
 use Rattle.pgn_lexer.specs.declared.token.LexFault.{LexFault}
 use Rattle.pgn_lexer.specs.declared.hand.Mode.{Mode}
-use Rattle.pgn_lexer.specs.declared.hand.Mode.TheVariants.{Failed}
+use Rattle.pgn_lexer.specs.declared.token.LexReason.TheVariants.{StringTooLong, SymbolTooLong, WordTooLong}
+use Rattle.pgn_lexer.specs.declared.class.Class.{Class}
+use Rattle.pgn_lexer.specs.declared.class.CommentClass.{CommentClass}
+use Rattle.pgn_lexer.specs.declared.class.CommentClass.TheVariants as comments
+use Rattle.pgn_lexer.specs.declared.class.StringClass.{StringClass}
+use Rattle.pgn_lexer.specs.declared.class.StringClass.TheVariants as strings
+use Rattle.pgn_lexer.specs.declared.hand.Mode.TheVariants.{Column, Outside, Symbol, Str, Brace, BraceWord, Failed}
+use Rattle.pgn_lexer.specs.declared.hand.Form.TheVariants as forms
+use Rattle.pgn_lexer.specs.Bytes.{continues_symbol}
+use Rattle.pgn_lexer.specs.Spelling.{class, comment_class, string_class}
 use Rattle.pgn_lexer.specs.declared.hand.Form.{Form}
 use Rattle.pgn_lexer.specs.declared.hand.Step.{Step}
 use Rattle.pgn_lexer.specs.declared.hand.Step.TheVariants.{Used, Ends, EndsBefore, Fault}
 use Rattle.pgn_lexer.specs.Tokens.{EndsAt}
-use Rattle.pgn_lexer.specs.Held.{Held, to_come, kind_in, token_of, IsSound, IsGoing, pending}
-use Rattle.pgn_lexer.specs.Taking.{taken, Takes}
-use Rattle.pgn_lexer.specs.Running.{StoodAt, RunsToToken, RunsToFault}
+use Rattle.pgn_lexer.specs.Held.{Held, to_come, kind_in, token_of, IsSound, IsGoing, pending, fault_in, fault_met}
+use Rattle.pgn_lexer.specs.Taking.{begin, begin_line, brace, brace_word, string, fails, grown, into, symbol, taken, taken_in, Takes}
+use Rattle.pgn_lexer.specs.Running.{IsOutside, Ran, RunsOn, StoodAt, RunGives, RunsToToken, RunsToFault, used_after, found_after}
+use Rattle.pgn_lexer.specs.declared.hand.Found.TheVariants as found
 use Rattle.pgn_lexer.proofs.Steps.{StepGives, Uses, EndsIn, EndsAhead, Fails, front_of}
 use Rattle.pgn_lexer.proofs.Stepping.{step_gives}
 
@@ -21,13 +33,31 @@ takes_gives place h b new answer sound t =
     subst (λ n. StepGives (front_of place h b) n answer) (sym t.held)
     (subst (λ step. StepGives (front_of place h b) (taken place h b).held step) (sym t.step) (step_gives place h b sound))
 
--- after so many bytes of the piece
-pub record Ran (place : ℕ) (old : Held) (piece : List ℕ) (h : Held) (i : ℕ) : Type 0 where
-  pub start : i ≡ 0 → h ≡ old
-  pub sound : IsSound (place + i) h
-  pub going : IsGoing h.mode
-  pub fresh : IsGoing old.mode
-  pub comes : (s : List ℕ) → to_come place old (take i piece ++ s) ≡ to_come (place + i) h s
+-- a run that used nothing yet
+pub ran_none : (place : ℕ) (h : Held) (piece : List ℕ) → IsSound place h → IsGoing h.mode → Ran place h piece h 0
+ran_none place h piece sound going =
+    let same : place ≡ place + 0 = omega arith in
+    record {
+      start = λ _. refl;
+      sound = subst (λ p. IsSound p h) same sound;
+      going = going;
+      fresh = going;
+      comes = λ s. ap (λ p. to_come p h s) same;
+    }
+
+-- a run that used the whole piece
+pub ran_all : (place : ℕ) (piece : List ℕ) (i : ℕ) (h new : Held) (used : ℕ) → used ≡ length piece
+    → ((old : Held) → Ran place old piece h i → Ran place old piece new used) → RunsOn place piece i h new used found.Nothing
+ran_all place piece i h new used all goes old ran =
+    let r : Ran place old piece new used = goes old ran in
+    record {
+      all = all;
+      fresh = r.fresh;
+      empty = λ none. r.start (all ∙ none);
+      sound = r.sound;
+      going = r.going;
+      comes = λ s. ap (λ l. to_come place old (l ++ s)) (sym (take_all used piece (omega (arith, all)))) ∙ r.comes s;
+    }
 
 going_on : (m : Mode) (f : LexFault) → IsGoing m → m ≡ Failed f → ⊥
 going_on m f going e = subst (λ m. IsGoing m) e going
@@ -107,14 +137,105 @@ module _ (place : ℕ) (old : Held) (piece : List ℕ) (h : Held) (i b : ℕ) (h
         });
       }
 
-  pub ran_fails : (f : LexFault) (new : Held) → Takes (taken (place + i) h b) new (Fault f) → RunsToFault place old piece f new (i + 1)
+  pub ran_fails : (f : LexFault) (new : Held) → Takes (taken (place + i) h b) new (Fault f) → RunsToFault place old piece (fault_met new) new (i + 1)
   ran_fails f new t =
       let g : Fails (front_of (place + i) h b) f new = takes_gives (place + i) h b new (Fault f) ran.sound t in
-      record {
+      subst (λ f. RunsToFault place old piece f new (i + 1)) (sym (ap (λ m. fault_in m new.at) g.fails))
+      (record {
         within = omega arith;
         sound = subst (λ p. IsSound p new) next_place g.sound;
         fails = g.fails;
         stays = λ f' e. absurd (going_on old.mode f' ran.fresh e);
         some = λ _. omega arith;
         comes = λ s. longer s ∙ g.comes s;
-      }
+      })
+
+  pub ran_stops : (answer : Step) (new : Held) → (answer ≡ Used → ⊥) → Takes (taken (place + i) h b) new answer → RunGives place old piece new (used_after answer i) (found_after answer)
+  ran_stops Used new other t = absurd (other refl)
+  ran_stops (Ends form) new other t = ran_ends form new t
+  ran_stops (EndsBefore form) new other t = ran_ends_before form new t
+  ran_stops (Fault f) new other t = ran_fails f new t
+
+-- a byte in a symbol
+pub takes_symbol : (place b : ℕ) (h new : Held) (answer : Step) → h.mode ≡ Symbol → Takes (symbol h b) new answer → Takes (taken place h b) new answer
+unfolding taken
+takes_symbol place b h new answer e t = subst (λ m. Takes (taken_in m place h b) new answer) (sym e) t
+
+symbol_goes_on : (h new : Held) (b : ℕ) (c d : Bool)
+    → Takes (if c then (if d then grown h Symbol b else fails h h.at SymbolTooLong) else into h Outside (EndsBefore forms.Symbol)) new Used → new.mode ≡ Symbol
+symbol_goes_on h new b true true t = ap (λ (h : Held). h.mode) t.held
+symbol_goes_on h new b true false t = let e : Used ≡ Fault (record { at = h.at; reason = SymbolTooLong }) = t.step in absurd (cc)
+symbol_goes_on h new b false d t = let e : Used ≡ EndsBefore forms.Symbol = t.step in absurd (cc)
+
+pub still_symbol : (h new : Held) (b : ℕ) → Takes (symbol h b) new Used → new.mode ≡ Symbol
+still_symbol h new b t = symbol_goes_on h new b (continues_symbol b) (nat_lt (length h.text) 255) t
+
+-- a byte between tokens
+taken_outside : (m : Mode) (place at b : ℕ) (text : List ℕ) (c : Class) → IsOutside m → class b ≡ c
+    → let h : Held = record { mode = m; at = at; text = text } in
+    begin_line place h b c ≡ begin place h b c → taken_in m place h b ≡ begin place h b c
+taken_outside Column place at b text c outside e same = ap (begin_line place (record { mode = Column; at = at; text = text }) b) e ∙ same
+taken_outside Outside place at b text c outside e same = ap (begin place (record { mode = Outside; at = at; text = text }) b) e
+taken_outside _ place at b text c outside e same = absurd outside
+
+pub takes_outside : (place b : ℕ) (h new : Held) (answer : Step) (c : Class) → IsOutside h.mode → class b ≡ c → begin_line place h b c ≡ begin place h b c
+    → Takes (begin place h b c) new answer → Takes (taken place h b) new answer
+unfolding taken
+takes_outside place b h new answer c outside e same t = subst (λ x. Takes x new answer) (sym (taken_outside h.mode place h.at b h.text c outside e same)) t
+
+-- no refusal was met, in any other mode
+pub unless_failed : (m : Mode) → ((f : LexFault) → m ≡ Failed f → ⊥) → IsGoing m
+unless_failed (Failed f) other = other f refl
+unless_failed _ other = tt
+
+pub in_mode : (m n : Mode) → IsGoing n → m ≡ n → IsGoing m
+in_mode m n going e = subst (λ m. IsGoing m) (sym e) going
+
+pub between_tokens : (m : Mode) → (m ≡ Column) ⊎ (m ≡ Outside) → IsGoing m
+between_tokens m (inl e) = subst (λ m. IsGoing m) (sym e) tt
+between_tokens m (inr e) = subst (λ m. IsGoing m) (sym e) tt
+
+-- a byte in a string
+taken_string : (place b : ℕ) (h : Held) (c : StringClass) → h.mode ≡ Str → string_class b ≡ c → taken place h b ≡ string place h b c
+unfolding taken
+taken_string place b h c e same = ap (λ m. taken_in m place h b) e ∙ ap (string place h b) same
+
+pub takes_plain : (place b : ℕ) (h new : Held) → h.mode ≡ Str → string_class b ≡ strings.Plain → length h.text < 255 → new ≡ record { mode = h.mode; at = h.at; text = h.text ++ b ∷ [] }
+    → Takes (taken place h b) new Used
+takes_plain place b h new e same room grows =
+    subst (λ t. Takes t new Used) (sym (taken_string place b h strings.Plain e same ∙ ap (λ d. if d then grown h Str b else fails h h.at StringTooLong) (lt-ltb _ _ room)))
+    (record { held = grows ∙ ap (λ m. record { mode = m; at = h.at; text = h.text ++ b ∷ [] }) e; step = refl })
+
+pub takes_quote : (place b : ℕ) (h new : Held) → h.mode ≡ Str → string_class b ≡ strings.Quote → new ≡ record { mode = Outside; at = h.at; text = h.text }
+    → Takes (taken place h b) new (Ends forms.Str)
+takes_quote place b h new e same ends =
+    subst (λ t. Takes t new (Ends forms.Str)) (sym (taken_string place b h strings.Quote e same)) (record { held = ends; step = refl })
+
+-- a byte between the words of a comment in braces
+pub takes_brace : (place b : ℕ) (h new : Held) (answer : Step) (c : CommentClass) → h.mode ≡ Brace → comment_class b ≡ c → Takes (brace place h b c) new answer → Takes (taken place h b) new answer
+unfolding taken
+takes_brace place b h new answer c e same t = subst (λ x. Takes x new answer) (sym (ap (λ m. taken_in m place h b) e ∙ ap (brace place h b) same)) t
+
+pub takes_gap : (place b : ℕ) (h new : Held) (c : CommentClass) → h.mode ≡ Brace → comment_class b ≡ c → (c ≡ comments.LineEnd) ⊎ (c ≡ comments.Space)
+    → new ≡ record { mode = Brace; at = place; text = h.text } → Takes (taken place h b) new Used
+takes_gap place b h new c e same (inl gap) goes = takes_brace place b h new Used comments.LineEnd e (same ∙ gap) (record { held = goes; step = refl })
+takes_gap place b h new c e same (inr gap) goes = takes_brace place b h new Used comments.Space e (same ∙ gap) (record { held = goes; step = refl })
+
+-- and in a word of it
+pub takes_word : (place b : ℕ) (h new : Held) (answer : Step) → h.mode ≡ BraceWord → Takes (brace_word h b (comment_class b)) new answer → Takes (taken place h b) new answer
+unfolding taken
+takes_word place b h new answer e t = subst (λ m. Takes (taken_in m place h b) new answer) (sym e) t
+
+word_goes_on : (h new : Held) (b : ℕ) (d : Bool) → Takes (if d then grown h BraceWord b else fails h h.at WordTooLong) new Used → new.mode ≡ BraceWord
+word_goes_on h new b true t = ap (λ (h : Held). h.mode) t.held
+word_goes_on h new b false t = let e : Used ≡ Fault (record { at = h.at; reason = WordTooLong }) = t.step in absurd (cc)
+
+still_in : (h new : Held) (b : ℕ) (c : CommentClass) → Takes (brace_word h b c) new Used → new.mode ≡ BraceWord
+still_in h new b comments.Letter t = word_goes_on h new b (nat_lt (length h.text) 79) t
+still_in h new b comments.LineEnd t = let e : Used ≡ EndsBefore forms.Word = t.step in absurd (cc)
+still_in h new b comments.Space t = let e : Used ≡ EndsBefore forms.Word = t.step in absurd (cc)
+still_in h new b comments.CloseBrace t = let e : Used ≡ EndsBefore forms.Word = t.step in absurd (cc)
+still_in h new b comments.Control t = let e : Used ≡ EndsBefore forms.Word = t.step in absurd (cc)
+
+pub still_word : (h new : Held) (b : ℕ) → Takes (brace_word h b (comment_class b)) new Used → new.mode ≡ BraceWord
+still_word h new b t = still_in h new b (comment_class b) t

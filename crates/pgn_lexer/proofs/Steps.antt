@@ -1,5 +1,5 @@
 -- What a step must give, of the tokens that come.
-use Rattle.std.proofs.Common.{◌≡◌, ℕ, ◌+◌, ◌<◌, ◌≤◌, List, [], ◌∷◌, true, false, refl}
+use Rattle.std.proofs.Common.{◌≡◌, ℕ, ◌+◌, ◌<◌, ◌≤◌, List, [], ◌∷◌, true, false}
 use Rattle.pgn_lexer.specs.declared.token.LexFault.{LexFault}
 use Rattle.pgn_lexer.specs.declared.hand.Mode.TheVariants.{Failed}
 use Rattle.pgn_lexer.specs.declared.hand.Form.{Form}

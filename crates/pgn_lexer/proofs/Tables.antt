@@ -3,8 +3,12 @@ use Rattle.std.proofs.Common.{◌≡◌, ℕ, zero, suc, ◌+◌, ◌<◌, Bool,
 use Rattle.std.specs.Prelude.{map}
 use Rattle.pgn_lexer.specs.declared.class.Class.{Class}
 use Rattle.pgn_lexer.specs.declared.class.Class.TheVariants.{LineEnd}
+use Rattle.pgn_lexer.specs.declared.class.CommentClass.{CommentClass}
+use Rattle.pgn_lexer.specs.declared.class.CommentClass.TheVariants as comments
+use Rattle.pgn_lexer.specs.declared.class.StringClass.{StringClass}
+use Rattle.pgn_lexer.specs.declared.class.StringClass.TheVariants as strings
 use Rattle.pgn_lexer.specs.Bytes.{continues_symbol}
-use Rattle.pgn_lexer.specs.Spelling.{class}
+use Rattle.pgn_lexer.specs.Spelling.{class, comment_class, string_class}
 
 -- n numbers from k on
 abbrev pub numbers : ℕ → ℕ → List ℕ
@@ -28,3 +32,13 @@ pub continues_at : (table : List Bool) (b : ℕ) → table ≡ map continues_sym
 continues_at table b are less =
     let same : 0 + b ≡ b = omega arith in
     ap (λ l. get_or l b false) are ∙ at_number continues_symbol 256 0 b false less ∙ ap continues_symbol same
+
+pub comment_class_at : (table : List CommentClass) (b : ℕ) → table ≡ map comment_class (numbers 256 0) → b < 256 → get_or table b comments.LineEnd ≡ comment_class b
+comment_class_at table b are less =
+    let same : 0 + b ≡ b = omega arith in
+    ap (λ l. get_or l b comments.LineEnd) are ∙ at_number comment_class 256 0 b comments.LineEnd less ∙ ap comment_class same
+
+pub string_class_at : (table : List StringClass) (b : ℕ) → table ≡ map string_class (numbers 256 0) → b < 256 → get_or table b strings.Quote ≡ string_class b
+string_class_at table b are less =
+    let same : 0 + b ≡ b = omega arith in
+    ap (λ l. get_or l b strings.Quote) are ∙ at_number string_class 256 0 b strings.Quote less ∙ ap string_class same

@@ -1,6 +1,7 @@
 -- What a lexer holds of the token in hand, and the tokens that it still gives.
 use Rattle.std.specs.Prelude.{◌≡◌, ℕ, ◌+◌, ◌<◌, ◌≤◌, true, false, List, [], ◌∷◌, ◌++◌, take_while, length}
 use Rattle.pgn_lexer.specs.declared.token.LexFault.{LexFault}
+use Rattle.pgn_lexer.specs.declared.token.LexReason.TheVariants.{StrayByte}
 use Rattle.pgn_lexer.specs.declared.hand.Mode.{Mode}
 use Rattle.pgn_lexer.specs.declared.hand.Mode.TheVariants.{Start, AfterEf, AfterEfBb, Column, Outside, Escape, Symbol, Str, AfterBackslash, Dollar, Glyph, Suffix, Brace, BraceWord, Line, LineWord, Failed}
 use Rattle.pgn_lexer.specs.declared.hand.SuffixRun.{SuffixRun}
@@ -109,6 +110,14 @@ pub record IsSound (place : ℕ) (h : Held) : Type 0 where
 abbrev pub IsGoing : Mode → Type 0
 IsGoing (Failed f) = ⊥
 IsGoing _ = Unit {0}
+
+-- the refusal that was met, in mode Failed
+abbrev pub fault_in : Mode → ℕ → LexFault
+fault_in (Failed f) at = f
+fault_in _ at = record { at = at; reason = StrayByte }
+
+abbrev pub fault_met : Held → LexFault
+fault_met h = fault_in h.mode h.at
 
 -- how many tokens come with no byte more, but for the end
 abbrev pub pending_in : Mode → ℕ

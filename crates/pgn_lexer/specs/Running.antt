@@ -1,12 +1,15 @@
 -- What a run over a piece comes to.
 use Rattle.std.specs.Prelude.{◌≡◌, true, false, ℕ, ◌+◌, ◌*◌, ◌<◌, ◌≤◌, ◌⊎◌, List, [], ◌∷◌, ◌++◌, length, take, drop}
 use Rattle.pgn_lexer.specs.declared.token.LexFault.{LexFault}
-use Rattle.pgn_lexer.specs.declared.hand.Mode.TheVariants.{Failed}
+use Rattle.pgn_lexer.specs.declared.hand.Mode.{Mode}
+use Rattle.pgn_lexer.specs.declared.hand.Mode.TheVariants.{Column, Outside, Failed}
+use Rattle.pgn_lexer.specs.declared.hand.Step.{Step}
+use Rattle.pgn_lexer.specs.declared.hand.Step.TheVariants.{Used, Ends, EndsBefore, Fault}
 use Rattle.pgn_lexer.specs.declared.hand.Found.{Found}
 use Rattle.pgn_lexer.specs.declared.hand.Found.TheVariants as found
 use Rattle.pgn_lexer.specs.Tokens.{Token, HasLength, EndsAt, is_run}
 use Rattle.pgn_lexer.specs.TokensOf.{Within, tokens_from}
-use Rattle.pgn_lexer.specs.Held.{Held, to_come, token_of, refusal, IsSound, IsGoing, pending}
+use Rattle.pgn_lexer.specs.Held.{Held, to_come, token_of, refusal, IsSound, IsGoing, pending, fault_met}
 
 -- the whole piece was used, and no token ends in it
 pub record RunsOut (place : ℕ) (old : Held) (piece : List ℕ) (new : Held) (used : ℕ) : Type 0 where
@@ -68,4 +71,33 @@ pub record RunsToFault (place : ℕ) (old : Held) (piece : List ℕ) (f : LexFau
 abbrev pub RunGives : ℕ → Held → List ℕ → Held → ℕ → Found → Type 0
 RunGives place old piece new used found.Nothing = RunsOut place old piece new used
 RunGives place old piece new used (found.Token form) = RunsToToken place old piece (token_of form new) new used
-RunGives place old piece new used (found.Fault f) = RunsToFault place old piece f new used
+RunGives place old piece new used found.Fault = RunsToFault place old piece (fault_met new) new used
+
+-- no token ended in the first i bytes of the piece, and h is held after them
+pub record Ran (place : ℕ) (old : Held) (piece : List ℕ) (h : Held) (i : ℕ) : Type 0 where
+  pub start : i ≡ 0 → h ≡ old
+  pub sound : IsSound (place + i) h
+  pub going : IsGoing h.mode
+  pub fresh : IsGoing old.mode
+  pub comes : (s : List ℕ) → to_come place old (take i piece ++ s) ≡ to_come (place + i) h s
+
+-- wherever a run came to hold h after i bytes of the piece, so it ends
+abbrev pub RunsOn : ℕ → List ℕ → ℕ → Held → Held → ℕ → Found → Type 0
+RunsOn place piece i h new used found = (old : Held) → Ran place old piece h i → RunGives place old piece new used found
+
+-- between tokens, and in no comment
+abbrev pub IsOutside : Mode → Type 0
+IsOutside Column = Unit {0}
+IsOutside Outside = Unit {0}
+IsOutside _ = ⊥
+
+-- how many bytes a run used that a step ended, and what it came to
+abbrev pub used_after : Step → ℕ → ℕ
+used_after (EndsBefore form) used = used
+used_after _ used = used + 1
+
+abbrev pub found_after : Step → Found
+found_after Used = found.Nothing
+found_after (Ends form) = found.Token form
+found_after (EndsBefore form) = found.Token form
+found_after (Fault f) = found.Fault

@@ -114,28 +114,74 @@ pub(crate) fn class_of(byte: u8) -> Class
     CLASSES[byte as usize]
 }
 
+const CEN: CommentClass = CommentClass::LineEnd;
+
+const CGA: CommentClass = CommentClass::Space;
+
+const CLO: CommentClass = CommentClass::CloseBrace;
+
+const LET: CommentClass = CommentClass::Letter;
+
+const CCT: CommentClass = CommentClass::Control;
+
+/// The class of each byte in a comment, from byte 0 on.
+static COMMENT_CLASSES: [CommentClass; 256] = [
+    CCT, CCT, CCT, CCT, CCT, CCT, CCT, CCT, CCT, CGA, CEN, CGA, CGA, CEN, CCT, CCT, CCT, CCT, CCT,
+    CCT, CCT, CCT, CCT, CCT, CCT, CCT, CCT, CCT, CCT, CCT, CCT, CCT, CGA, LET, LET, LET, LET, LET,
+    LET, LET, LET, LET, LET, LET, LET, LET, LET, LET, LET, LET, LET, LET, LET, LET, LET, LET, LET,
+    LET, LET, LET, LET, LET, LET, LET, LET, LET, LET, LET, LET, LET, LET, LET, LET, LET, LET, LET,
+    LET, LET, LET, LET, LET, LET, LET, LET, LET, LET, LET, LET, LET, LET, LET, LET, LET, LET, LET,
+    LET, LET, LET, LET, LET, LET, LET, LET, LET, LET, LET, LET, LET, LET, LET, LET, LET, LET, LET,
+    LET, LET, LET, LET, LET, LET, LET, LET, LET, LET, LET, CLO, LET, CCT, LET, LET, LET, LET, LET,
+    LET, LET, LET, LET, LET, LET, LET, LET, LET, LET, LET, LET, LET, LET, LET, LET, LET, LET, LET,
+    LET, LET, LET, LET, LET, LET, LET, LET, LET, LET, LET, LET, LET, LET, LET, LET, LET, LET, LET,
+    LET, LET, LET, LET, LET, LET, LET, LET, LET, LET, LET, LET, LET, LET, LET, LET, LET, LET, LET,
+    LET, LET, LET, LET, LET, LET, LET, LET, LET, LET, LET, LET, LET, LET, LET, LET, LET, LET, LET,
+    LET, LET, LET, LET, LET, LET, LET, LET, LET, LET, LET, LET, LET, LET, LET, LET, LET, LET, LET,
+    LET, LET, LET, LET, LET, LET, LET, LET, LET, LET, LET, LET, LET, LET, LET, LET, LET, LET, LET,
+    LET, LET, LET, LET, LET, LET, LET, LET, LET,
+];
+
+/// The class of a byte in a comment.
 pub(crate) fn comment_class_of(byte: u8) -> CommentClass
     ensures { result ≡ spelling.comment_class byte }
 {
-    match byte {
-        b'}' => CommentClass::CloseBrace,
-        33..=126 | 128..=255 => CommentClass::Letter,
-        b'\n' | b'\r' => CommentClass::LineEnd,
-        9 | 11 | 12 | b' ' => CommentClass::Space,
-        _ => CommentClass::Control,
-    }
+    COMMENT_CLASSES[byte as usize]
 }
 
+const SQU: StringClass = StringClass::Quote;
+
+const SEN: StringClass = StringClass::LineEnd;
+
+const SCT: StringClass = StringClass::Control;
+
+const SBA: StringClass = StringClass::Backslash;
+
+const SPL: StringClass = StringClass::Plain;
+
+/// The class of each byte in a string, from byte 0 on.
+static STRING_CLASSES: [StringClass; 256] = [
+    SCT, SCT, SCT, SCT, SCT, SCT, SCT, SCT, SCT, SCT, SEN, SCT, SCT, SEN, SCT, SCT, SCT, SCT, SCT,
+    SCT, SCT, SCT, SCT, SCT, SCT, SCT, SCT, SCT, SCT, SCT, SCT, SCT, SPL, SPL, SQU, SPL, SPL, SPL,
+    SPL, SPL, SPL, SPL, SPL, SPL, SPL, SPL, SPL, SPL, SPL, SPL, SPL, SPL, SPL, SPL, SPL, SPL, SPL,
+    SPL, SPL, SPL, SPL, SPL, SPL, SPL, SPL, SPL, SPL, SPL, SPL, SPL, SPL, SPL, SPL, SPL, SPL, SPL,
+    SPL, SPL, SPL, SPL, SPL, SPL, SPL, SPL, SPL, SPL, SPL, SPL, SPL, SPL, SPL, SPL, SBA, SPL, SPL,
+    SPL, SPL, SPL, SPL, SPL, SPL, SPL, SPL, SPL, SPL, SPL, SPL, SPL, SPL, SPL, SPL, SPL, SPL, SPL,
+    SPL, SPL, SPL, SPL, SPL, SPL, SPL, SPL, SPL, SPL, SPL, SPL, SPL, SCT, SPL, SPL, SPL, SPL, SPL,
+    SPL, SPL, SPL, SPL, SPL, SPL, SPL, SPL, SPL, SPL, SPL, SPL, SPL, SPL, SPL, SPL, SPL, SPL, SPL,
+    SPL, SPL, SPL, SPL, SPL, SPL, SPL, SPL, SPL, SPL, SPL, SPL, SPL, SPL, SPL, SPL, SPL, SPL, SPL,
+    SPL, SPL, SPL, SPL, SPL, SPL, SPL, SPL, SPL, SPL, SPL, SPL, SPL, SPL, SPL, SPL, SPL, SPL, SPL,
+    SPL, SPL, SPL, SPL, SPL, SPL, SPL, SPL, SPL, SPL, SPL, SPL, SPL, SPL, SPL, SPL, SPL, SPL, SPL,
+    SPL, SPL, SPL, SPL, SPL, SPL, SPL, SPL, SPL, SPL, SPL, SPL, SPL, SPL, SPL, SPL, SPL, SPL, SPL,
+    SPL, SPL, SPL, SPL, SPL, SPL, SPL, SPL, SPL, SPL, SPL, SPL, SPL, SPL, SPL, SPL, SPL, SPL, SPL,
+    SPL, SPL, SPL, SPL, SPL, SPL, SPL, SPL, SPL,
+];
+
+/// The class of a byte in a string.
 pub(crate) fn string_class_of(byte: u8) -> StringClass
     ensures { result ≡ spelling.string_class byte }
 {
-    match byte {
-        b'"' => StringClass::Quote,
-        b'\\' => StringClass::Backslash,
-        b'\n' | b'\r' => StringClass::LineEnd,
-        0..=31 | 127 => StringClass::Control,
-        _ => StringClass::Plain,
-    }
+    STRING_CLASSES[byte as usize]
 }
 
 const YES: bool = true;

@@ -1,6 +1,7 @@
 //! The token in hand, and what one byte does to it.
 
 ghost use Rattle.std.specs.Prelude.{◌≡◌, ℕ, ◌+◌, ◌<◌, ◌≤◌, ◌^◌, [], ◌∷◌, length};
+ghost use Rattle.pgn_lexer.specs.Running.{used_after, found_after};
 ghost use Rattle.pgn_lexer.specs.Taking as taking;
 
 use crate::buffer::Buffer;
@@ -92,7 +93,8 @@ pub(crate) enum Found {
     /// The whole piece was used.
     Nothing,
     Token(Form),
-    Fault(LexFault),
+    /// The text is refused, as the mode tells.
+    Fault,
 }
 
 /// The token in hand: where it began, and what was read of it.
@@ -116,9 +118,9 @@ impl Model for Hand {
 impl Hand {
     ghost use Rattle.pgn_lexer.specs.Spelling as spelling;
     ghost use Rattle.pgn_lexer.specs.Taking.{Takes, Closes};
-    ghost use Rattle.pgn_lexer.specs.Held.{HasMore, IsSound, kind_in};
+    ghost use Rattle.pgn_lexer.specs.Held.{HasMore, IsSound, fault_met, kind_in};
     ghost use Rattle.pgn_lexer.specs.Scanned.{kind_of};
-    ghost use Rattle.pgn_lexer.specs.Running.{RunGives};
+    ghost use Rattle.pgn_lexer.specs.Running.{IsOutside, RunGives, RunsOn};
 
     pub(crate) fn new() -> Hand
         ensures { result ≡ record { mode = Mode.Start; at = 0; text = [] } }
@@ -136,19 +138,167 @@ impl Hand {
         requires sound { IsSound place self.old }
         ensures { RunGives place self.old piece.now self.new result.0 result.1 }
     {
-        if let Mode::Failed(fault) = self.mode {
-            return (0, Found::Fault(fault));
+        match self.mode {
+            Mode::Failed(_) => (0, Found::Fault),
+            Mode::Column | Mode::Outside => self.run_outside(piece, place),
+            Mode::Brace => self.run_brace(piece, place),
+            _ => self.run_on(piece, 0, place),
         }
+    }
+
+    /// From between tokens on: white space, and the token after it.
+    fn run_outside(&mut self, piece: &[u8], place: u64) -> (usize, Found)
+        requires room { place + length piece.now ≤ 2 ^ 62 }
+        requires outside { IsOutside self.old.mode }
+        ensures { RunsOn place piece.now 0 self.old self.new result.0 result.1 }
+    {
         let mut used = 0;
-        for byte in piece {
-            match self.take(*byte, place + used as u64) {
+        while used < piece.len() {
+            let byte = piece[used];
+            let at = place + used as u64;
+            match class_of(byte) {
+                Class::LineEnd => self.pass(Mode::Column, at),
+                Class::Space => self.pass(Mode::Outside, at),
+                Class::SymbolStart => {
+                    self.at = at;
+                    self.begin_text(Mode::Symbol, byte);
+                    return self.run_symbol(piece, used + 1);
+                }
+                Class::Quote => {
+                    self.at = at;
+                    self.begin_string();
+                    return self.run_string(piece, used + 1, place);
+                }
+                Class::Alone(single) => {
+                    self.pass(Mode::Outside, at);
+                    return (used + 1, Found::Token(Form::Single(single)));
+                }
+                Class::OpenBrace => {
+                    self.pass(Mode::Brace, at);
+                    return (used + 1, Found::Token(Form::CommentOpen));
+                }
+                _ => return self.run_on(piece, used, place),
+            }
+            used += 1;
+        }
+        (used, Found::Nothing)
+    }
+
+    /// On in a symbol.
+    fn run_symbol(&mut self, piece: &[u8], from: usize) -> (usize, Found)
+        requires within { from ≤ length piece.now }
+        requires symbol { self.old.mode ≡ Mode.Symbol }
+        ensures { (place : ℕ) → RunsOn place piece.now from self.old self.new result.0 result.1 }
+    {
+        let mut used = from;
+        while used < piece.len() {
+            match self.symbol(piece[used]) {
                 Step::Used => used += 1,
-                Step::Ends(form) => return (used + 1, Found::Token(form)),
-                Step::EndsBefore(form) => return (used, Found::Token(form)),
-                Step::Fault(fault) => return (used + 1, Found::Fault(fault)),
+                step => return ended(step, used),
             }
         }
         (used, Found::Nothing)
+    }
+
+    /// On in a string.
+    fn run_string(&mut self, piece: &[u8], from: usize, place: u64) -> (usize, Found)
+        requires room { place + length piece.now ≤ 2 ^ 62 }
+        requires within { from ≤ length piece.now }
+        requires string { self.old.mode ≡ Mode.Str }
+        ensures { RunsOn place piece.now from self.old self.new result.0 result.1 }
+    {
+        let mut used = from;
+        while used < piece.len() {
+            let byte = piece[used];
+            match string_class_of(byte) {
+                StringClass::Plain => {
+                    if self.buffer.len() == 255 {
+                        return self.run_on(piece, used, place);
+                    }
+                    self.buffer.push(byte);
+                }
+                StringClass::Quote => {
+                    self.mode = Mode::Outside;
+                    return (used + 1, Found::Token(Form::Str));
+                }
+                _ => return self.run_on(piece, used, place),
+            }
+            used += 1;
+        }
+        (used, Found::Nothing)
+    }
+
+    /// From between the words of a comment in braces on: white space, and the word after it.
+    fn run_brace(&mut self, piece: &[u8], place: u64) -> (usize, Found)
+        requires room { place + length piece.now ≤ 2 ^ 62 }
+        requires brace { self.old.mode ≡ Mode.Brace }
+        ensures { RunsOn place piece.now 0 self.old self.new result.0 result.1 }
+    {
+        let mut used = 0;
+        while used < piece.len() {
+            let byte = piece[used];
+            let at = place + used as u64;
+            match comment_class_of(byte) {
+                CommentClass::LineEnd | CommentClass::Space => self.pass(Mode::Brace, at),
+                CommentClass::Letter => {
+                    self.at = at;
+                    self.begin_text(Mode::BraceWord, byte);
+                    return self.run_word(piece, used + 1);
+                }
+                CommentClass::CloseBrace => {
+                    self.pass(Mode::Outside, at);
+                    return (used + 1, Found::Token(Form::CommentClose));
+                }
+                _ => return self.run_on(piece, used, place),
+            }
+            used += 1;
+        }
+        (used, Found::Nothing)
+    }
+
+    /// On in a word of a comment in braces.
+    fn run_word(&mut self, piece: &[u8], from: usize) -> (usize, Found)
+        requires within { from ≤ length piece.now }
+        requires word { self.old.mode ≡ Mode.BraceWord }
+        ensures { (place : ℕ) → RunsOn place piece.now from self.old self.new result.0 result.1 }
+    {
+        let mut used = from;
+        while used < piece.len() {
+            match self.brace_word(piece[used]) {
+                Step::Used => used += 1,
+                step => return ended(step, used),
+            }
+        }
+        (used, Found::Nothing)
+    }
+
+    /// On from so many bytes of the piece, in any mode.
+    fn run_on(&mut self, piece: &[u8], from: usize, place: u64) -> (usize, Found)
+        requires room { place + length piece.now ≤ 2 ^ 62 }
+        requires within { from ≤ length piece.now }
+        ensures { RunsOn place piece.now from self.old self.new result.0 result.1 }
+    {
+        let mut used = from;
+        while used < piece.len() {
+            match self.take(piece[used], place + used as u64) {
+                Step::Used => used += 1,
+                step => return ended(step, used),
+            }
+        }
+        (used, Found::Nothing)
+    }
+
+    /// The refusal that was met.
+    pub(crate) fn fault_met(&self) -> LexFault
+        ensures { result ≡ fault_met self.now }
+    {
+        match self.mode {
+            Mode::Failed(fault) => fault,
+            _ => LexFault {
+                at: self.at,
+                reason: LexReason::StrayByte,
+            },
+        }
     }
 
     /// The token of this form, whose place and text stand in the hand.
@@ -510,6 +660,14 @@ impl Hand {
         Step::Used
     }
 
+    fn pass(&mut self, mode: Mode, place: u64)
+        requires { HasMore mode self.old.text }
+        ensures { self.new ≡ record { mode = mode; at = place; text = self.old.text } }
+    {
+        self.mode = mode;
+        self.at = place;
+    }
+
     fn go(&mut self, mode: Mode) -> Step
         requires { HasMore mode self.old.text }
         ensures { Takes (taking.into self.old mode Step.Used) self.new result }
@@ -542,6 +700,20 @@ impl Hand {
         self.buffer.clear();
         self.mode = Mode::Str;
         Step::Used
+    }
+}
+
+/// What a run came to that a step ended, after so many bytes.
+fn ended(step: Step, used: usize) -> (usize, Found)
+    requires { used < 2 ^ 63 }
+    ensures used { result.0 ≡ used_after step used }
+    ensures found { result.1 ≡ found_after step }
+{
+    match step {
+        Step::Used => (used + 1, Found::Nothing),
+        Step::Ends(form) => (used + 1, Found::Token(form)),
+        Step::EndsBefore(form) => (used, Found::Token(form)),
+        Step::Fault(_) => (used + 1, Found::Fault),
     }
 }
 

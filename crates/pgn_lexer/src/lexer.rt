@@ -69,9 +69,9 @@ impl Lexer {
                 used,
                 outcome: Outcome::Token(self.hand.token(form)),
             },
-            Found::Fault(fault) => Scan {
+            Found::Fault => Scan {
                 used,
-                outcome: Outcome::Fault(fault),
+                outcome: Outcome::Fault(self.hand.fault_met()),
             },
         }
     }

@@ -1,21 +1,14 @@
-use Rattle.std.proofs.Common.{ap, get_or, sym, arith}
-use Rattle.pgn_lexer.proofs.Running.{ran_uses, ran_ends, ran_ends_before, ran_fails}
+use Rattle.std.proofs.Common.{subst}
+use Rattle.pgn_lexer.specs.declared.hand.Mode.TheVariants.{Brace}
+use Rattle.pgn_lexer.specs.Held.{Held, IsGoing}
+use Rattle.pgn_lexer.proofs.Running.{ran_none, between_tokens, in_mode, unless_failed}
 use Rattle.pgn_lexer.proofs.hand.Hand.run.Goals as goal
 
-pub returns-in-Ends : goal.returns-in-Ends
-returns-in-Ends c =
-    ran_ends _ _ c.args.piece.now _ c.loop-byte.used _ (omega arith) (ap (λ i. get_or c.args.piece.now i 0) (sym c.loop-byte.invariant.counted)) c.loop-byte.invariant.ran _ _ c.in-Ends.ensures
+pub returns-in-Column : goal.returns-in-Column
+returns-in-Column c = c.run_outside.ensures _ (ran_none _ _ _ c.requires.sound (subst (λ (h : Held). IsGoing h.mode) c.self.view_is (between_tokens _ c.in-Column.is)))
 
-pub returns-in-EndsBefore : goal.returns-in-EndsBefore
-returns-in-EndsBefore c =
-    ran_ends_before _ _ c.args.piece.now _ c.loop-byte.used _ (omega arith) (ap (λ i. get_or c.args.piece.now i 0) (sym c.loop-byte.invariant.counted)) c.loop-byte.invariant.ran _ _ c.in-EndsBefore.ensures
+pub returns-in-Brace : goal.returns-in-Brace
+returns-in-Brace c = c.run_brace.ensures _ (ran_none _ _ _ c.requires.sound (subst (λ (h : Held). IsGoing h.mode) c.self.view_is (in_mode _ Brace tt c.in-Brace.is)))
 
-pub returns-in-Fault : goal.returns-in-Fault
-returns-in-Fault c =
-    ran_fails _ _ c.args.piece.now _ c.loop-byte.used _ (omega arith) (ap (λ i. get_or c.args.piece.now i 0) (sym c.loop-byte.invariant.counted)) c.loop-byte.invariant.ran _ _ c.in-Fault.ensures
-
-pub loop-byte-preserved : goal.loop-byte-preserved
-loop-byte-preserved c = record {
-  counted = omega arith;
-  ran = ran_uses _ _ c.args.piece.now _ c.loop-byte.used _ (omega arith) (ap (λ i. get_or c.args.piece.now i 0) (sym c.loop-byte.invariant.counted)) c.loop-byte.invariant.ran _ c.in-Used.ensures;
-}
+pub returns-in_default : goal.returns-in_default
+returns-in_default c = c.run_on.ensures _ (ran_none _ _ _ c.requires.sound (subst (λ (h : Held). IsGoing h.mode) c.self.view_is (unless_failed _ c.in_default.not-Failed)))

@@ -1,5 +1,5 @@
 use Rattle.std.proofs.Common.{refl, arith}
-use Rattle.pgn_lexer.proofs.Carrying.{scans_nothing, scans_fault, scans_form, scans_of}
+use Rattle.pgn_lexer.proofs.Carrying.{scans_nothing, scans_form, scans_told, scans_of}
 use Rattle.pgn_lexer.proofs.lexer.Lexer.next.Goals as goal
 
 pub returns-in-Nothing : goal.returns-in-Nothing
@@ -15,4 +15,4 @@ returns-in-Token c =
 pub returns-in-Fault : goal.returns-in-Fault
 returns-in-Fault c =
     let ran = rw c.in-Fault.is at c.run-used.ensures in
-    ((refl, λ _. tt, scans_of _ _ _ _ _ _ c.self.view_is (scans_fault _ _ _ _ _ _ ran)), record { used = ran.within; after = tt })
+    ((refl, λ _. tt, scans_of _ _ _ _ _ _ c.self.view_is (scans_told _ _ _ _ _ _ _ c.fault_met.ensures ran)), record { used = ran.within; after = tt })
