@@ -1,6 +1,6 @@
 -- Steps behind the last piece.
 use Rattle.std.proofs.Common.{◌≡◌, ℕ, ◌+◌, ◌<◌, ◌≤◌, Bool, true, false, List, [], ◌∷◌, ◌++◌, length, Option, None, Some, Result, Ok, Err, refl, sym, ap, subst, ◌∙◌, append-nil, append_assoc, length-append, le_refl, arith}
-use Rattle.std.specs.Prelude.{IsTrue, IsFalse, is_some, ◌↔◌}
+use Rattle.std.specs.Prelude.{◌*◌, ◌^◌, IsTrue, IsFalse, OnOk, is_some, ◌↔◌}
 use Rattle.pgn_lexer.specs.declared.token.LexFault.{LexFault}
 use Rattle.pgn_lexer.specs.Tokens.{Kind, Token}
 use Rattle.pgn_lexer.specs.Tokens as tokens
@@ -9,7 +9,7 @@ use Rattle.pgn_lexer.specs.Held.{refusal as refusal_token}
 use Rattle.pgn_lexer.specs.Standing.{Standing, coming, waiting}
 use Rattle.pgn_lexer.specs.Stands.{HasLeft, IsNext, Gives, Follows}
 use Rattle.pgn_game.specs.declared.stage.Stage.{Stage}
-use Rattle.pgn_game.specs.declared.stage.Stage.TheVariants.{Between, AfterBracket, AfterName, AfterValue, AfterTags}
+use Rattle.pgn_game.specs.declared.stage.Stage.TheVariants.{Between, AfterBracket, AfterName, AfterValue, AfterTags, InMovetext}
 use Rattle.pgn_game.specs.declared.accept.Accepted.{Accepted}
 use Rattle.pgn_game.specs.declared.accept.Accepted.TheVariants as accepted
 use Rattle.pgn_game.specs.declared.accept.Stopped.{Stopped}
@@ -21,15 +21,15 @@ use Rattle.pgn_game.specs.declared.converter.Stepped.{Stepped}
 use Rattle.pgn_game.specs.declared.converter.Stepped.TheVariants.{NeedMore, More, Finished, Ended, Failed}
 use Rattle.pgn_game.specs.Profile.{Profile}
 use Rattle.pgn_game.specs.Pairs.{Pair}
-use Rattle.pgn_game.specs.Game.{Game}
+use Rattle.pgn_game.specs.Game.{Item, Game}
 use Rattle.pgn_game.specs.FaultTable.{refusal, is_end, marker_of}
 use Rattle.pgn_game.specs.Begun.{next, begun_with, Begun, Read, read}
 use Rattle.pgn_game.specs.Due.{Gains}
 use Rattle.pgn_game.specs.Reading.{Reading, Answers, Stays, FinishesAtMarker, CountsWrites, is_outside_the_table}
-use Rattle.pgn_game.specs.Feeding.{Converter, pairs_if, AreLast, HasRead, Stands, Stops, unwritten, Finishes, CountsReason}
-use Rattle.pgn_game.specs.Stepping.{SameGames, AfterClosing, CloseAdvances, ClosedSoFar, StaysBetween, stepped_of, closed_with, fault_of_step, CountsStep}
-use Rattle.pgn_game.proofs.Growing.{gains_none, gains_more, stops_more, read-passes}
-use Rattle.pgn_game.proofs.OneToken.{stepped, gains_token, same_games, has_read_more, one_game, has_read_game, stops_refused, writing, stops_lexical}
+use Rattle.pgn_game.specs.Feeding.{Converter, IsSound, held_by, held_if, IsLast, HasRead, Stands, unwritten, Finishes, FinishesToFault, CountsReason}
+use Rattle.pgn_game.specs.Stepping.{SameGames, ClosedToFault, AfterClosing, CloseAdvances, ClosedSoFar, StaysBetween, stepped_of, is_ended, games_after, closed_with, fault_of_step, CountsStep}
+use Rattle.pgn_game.proofs.Growing.{gains_none, gains_more, stops_more, games_still, read-passes}
+use Rattle.pgn_game.proofs.OneToken.{stepped, gains_token, same_games, has_read_more, one_game, has_read_game, stops_refused, writing, stops_lexical, none_before_refused, none_before_unwritten, none_before_lexical}
 
 -- what is left behind a token: nothing behind the end
 abbrev Left : List ℕ → List Token → Bool → Standing → Token → Type 0
@@ -96,16 +96,20 @@ tokens_left u given true l t h = ([], h)
 tokens_left u given false l t h = (coming l [], h ∙ append_assoc given (t ∷ []) (coming l []))
 
 -- the end is passed between games alone
-end_at : (p : Profile) (s : Stage) (ps : List Pair) (name : List ℕ) → refusal p (record { stage = s; pairs = ps; name = name }) tokens.end ≡ None → s ≡ Between
+end_at : (p : Profile) (s : Stage) (ps : List Pair) (name : List ℕ) (items : List Item)
+    → refusal p (record { stage = s; pairs = ps; name = name; items = items }) tokens.end ≡ None → s ≡ Between
 unfolding refusal
-end_at p Between ps name h = refl
-end_at p AfterBracket ps name h = absurd (cc)
-end_at p AfterName ps name h = absurd (cc)
-end_at p AfterValue ps name h = absurd (cc)
-end_at p AfterTags ps name h = absurd (cc)
+end_at p Between ps name items h = refl
+end_at p AfterBracket ps name items h = absurd (cc)
+end_at p AfterName ps name items h = absurd (cc)
+end_at p AfterValue ps name items h = absurd (cc)
+end_at p AfterTags ps name items h = absurd (cc)
+end_at p InMovetext ps name items h = absurd (cc)
 
-between_after : (s : Stage) (ps : List Pair) (name : List ℕ) (games : List Game) → s ≡ Between → (begun_with games (next (record { stage = s; pairs = ps; name = name }) tokens.end)).part.stage ≡ Between
-between_after s ps name games e = subst (λ s. (begun_with games (next (record { stage = s; pairs = ps; name = name }) tokens.end)).part.stage ≡ Between) (sym e) refl
+between_after : (s : Stage) (ps : List Pair) (name : List ℕ) (items : List Item) (games : List Game) → s ≡ Between
+    → (begun_with games (next (record { stage = s; pairs = ps; name = name; items = items }) tokens.end)).part.stage ≡ Between
+between_after s ps name items games e =
+    subst (λ s. (begun_with games (next (record { stage = s; pairs = ps; name = name; items = items }) tokens.end)).part.stage ≡ Between) (sym e) refl
 
 is_the_end : (k : Kind) → is_end k ≡ true → k ≡ tokens.end
 is_the_end tokens.left_bracket h = absurd (cc)
@@ -127,72 +131,80 @@ end_passes : (p : Profile) (b : Begun) (k : Kind) → is_end k ≡ true → refu
 end_passes p b k e none =
     let k_is = is_the_end k e in
     subst (λ j. (begun_with b.games (next b.part j)).part.stage ≡ Between) (sym k_is)
-    (between_after b.part.stage b.part.pairs b.part.name b.games
-    (end_at p b.part.stage b.part.pairs b.part.name (subst (λ j. refusal p b.part j ≡ None) k_is none)))
+    (between_after b.part.stage b.part.pairs b.part.name b.part.items b.games
+    (end_at p b.part.stage b.part.pairs b.part.name b.part.items (subst (λ j. refusal p b.part j ≡ None) k_is none)))
 
 -- the game at hand is let go
 let_go : (p : Profile) (c : Converter) (given : List Token) → HasRead p c given → HasRead p (record c { at_hand = None }) given
-let_go p c given h = record { profile = h.profile; no_fault = h.no_fault; passes = h.passes; agrees = h.agrees; games = h.games; at_hand = tt }
+let_go p c given h = record { profile = h.profile; no_fault = h.no_fault; passes = h.passes; agrees = h.agrees; games = h.games; plies = h.plies; probed = h.probed; at_hand = tt }
 
 -- a converter after a step behind the last piece
 abbrev pub closed : Standing → Reading → ℕ → Bool → Stepped → Converter
 closed l r games finished outcome = record (stepped l r games finished outcome) { at_hand = None }
 
 pub closes : (p : Profile) (old : Converter) (u : List ℕ) (given : List Token) (t : Token) (l : Standing) (new : Reading) (finished : Bool) (a c : Option (List ℕ))
-    (e : Bool) (r : Result Accepted Stopped) → is_end t.kind ≡ e → HasRead p old given → Left u given e l t → new.profile ≡ old.reading.profile
+    (e : Bool) (r : Result Accepted Stopped) → is_end t.kind ≡ e → HasRead p old given → Left u given e l t → new.profile ≡ old.reading.profile → old.reading.most_probes ≤ new.most_probes
     → Answers old.reading (read p given).begun.part t.kind new r a c → Stays old.reading new r → FinishesAtMarker t.kind new r
     → AfterClosing p u given old (closed l new old.games finished (stepped_of t.at r)) (closed_with e (stepped_of t.at r)) a c
-closes p old u given t l new finished a c true (Ok accepted.More) is_e has_read left profile (none, leads, wrote) stays at_marker =
-    let more = has_read_more p old given t l new finished has_read profile none leads in
-    let passes = subst (λ q. refusal q (read p given).begun.part t.kind ≡ None) has_read.profile none in (
+closes p old u given t l new finished a c true (Ok accepted.More) is_e has_read left profile probes h stays at_marker =
+    let more = has_read_more p old given t l new finished has_read profile probes h.free h.leads h.plies in
+    let passes = subst (λ q. refusal q (read p given).begun.part t.kind ≡ None) has_read.profile h.free in (
       t,
       record {
         whole = left;
         has_read = let_go p _ _ more;
         between = more.agrees.stage ∙ ap (λ (r : Read). r.begun.part.stage) (read-passes p given t has_read.passes passes)
             ∙ end_passes p (read p given).begun t.kind is_e passes;
-        same = same_games p old given t l new finished has_read profile none leads;
-        gains = gains_token p old given t l new finished has_read profile a c none wrote;
+        same = same_games p old given t l new finished has_read profile probes h.free h.leads;
+        gains = gains_token p old given t l new finished has_read profile probes a c h.free h.appended;
       },
       stays,
     )
-closes p old u given t l new finished a c false (Ok accepted.More) is_e has_read left profile (none, leads, wrote) stays at_marker = (
+closes p old u given t l new finished a c false (Ok accepted.More) is_e has_read left profile probes h stays at_marker = (
   t,
   record {
     left = left;
-    has_read = let_go p _ _ (has_read_more p old given t l new finished has_read profile none leads);
-    gains = gains_token p old given t l new finished has_read profile a c none wrote;
+    has_read = let_go p _ _ (has_read_more p old given t l new finished has_read profile probes h.free h.leads h.plies);
+    gains = gains_token p old given t l new finished has_read profile probes a c h.free h.appended;
   },
-  same_games p old given t l new finished has_read profile none leads,
+  same_games p old given t l new finished has_read profile probes h.free h.leads,
   stays,
 )
-closes p old u given t l new finished a c true (Ok accepted.Finished) is_e has_read left profile (none, leads, wrote) stays at_marker =
+closes p old u given t l new finished a c true (Ok accepted.Finished) is_e has_read left profile probes h stays at_marker =
     absurd (differ (sym is_e ∙ marker_or_end t.kind at_marker.0))
   where
     differ : true ≡ false → ⊥
-    differ h = absurd (cc)
-closes p old u given t l new finished a c false (Ok accepted.Finished) is_e has_read left profile (none, leads, wrote) stays at_marker = (
+    differ e = absurd (cc)
+closes p old u given t l new finished a c false (Ok accepted.Finished) is_e has_read left profile probes h stays at_marker = (
   t,
   record {
     left = left;
-    has_read = let_go p _ _ (has_read_game p old given t l new finished has_read profile none leads);
-    gains = gains_token p old given t l new finished has_read profile a c none wrote;
+    has_read = let_go p _ _ (has_read_game p old given t l new finished has_read profile probes h.free h.leads h.plies);
+    gains = gains_token p old given t l new finished has_read profile probes a c h.free h.appended;
   },
-  one_game p old given t l new finished has_read profile none leads,
+  one_game p old given t l new finished has_read profile probes h.free h.leads,
 )
-closes p old u given t l new finished a c e (Err (stopped.Refused reason)) is_e has_read left profile (some, wrote) stays at_marker =
+closes p old u given t l new finished a c e (Err (stopped.Refused reason)) is_e has_read left profile probes (some, wrote) stays at_marker =
     let rest = tokens_left u given e l t left in
-    fails e (subst (λ ts. Stops p given ts a c (record { at = t.at; reason = reason })) (sym rest.1) (stops_refused p old given t l new finished has_read profile rest.0 a c reason some wrote))
+    fails e (subst (λ ts. ClosedToFault p given ts (record { at = t.at; reason = reason }) a c) (sym rest.1)
+    (record {
+      stops = stops_refused p old given t l new finished has_read profile probes rest.0 a c reason some wrote;
+      no_game = none_before_refused p old given t l new finished has_read profile probes rest.0 a c reason some wrote;
+    }))
   where
-    fails : (e : Bool) → Stops p given (tokens_of u) a c (record { at = t.at; reason = reason })
+    fails : (e : Bool) → ClosedToFault p given (tokens_of u) (record { at = t.at; reason = reason }) a c
         → AfterClosing p u given old (closed l new old.games finished (Failed (record { at = t.at; reason = reason }))) (closed_with e (Failed (record { at = t.at; reason = reason }))) a c
     fails true h = h
     fails false h = h
-closes p old u given t l new finished a c e (Err stopped.Unwritten) is_e has_read left profile (none, wrote) stays at_marker =
+closes p old u given t l new finished a c e (Err stopped.Unwritten) is_e has_read left profile probes (none, wrote) stays at_marker =
     let rest = tokens_left u given e l t left in
-    fails e (subst (λ ts. Stops p given ts a c (record { at = t.at; reason = WriteFault })) (sym rest.1) (unwritten t.at (writing p old given t l new finished has_read profile rest.0 a c none wrote)))
+    fails e (subst (λ ts. ClosedToFault p given ts (record { at = t.at; reason = WriteFault }) a c) (sym rest.1)
+    (record {
+      stops = unwritten t.at (writing p old given t l new finished has_read profile probes rest.0 a c none wrote);
+      no_game = none_before_unwritten p old given t l new finished has_read profile probes rest.0 a c none wrote;
+    }))
   where
-    fails : (e : Bool) → Stops p given (tokens_of u) a c (record { at = t.at; reason = WriteFault })
+    fails : (e : Bool) → ClosedToFault p given (tokens_of u) (record { at = t.at; reason = WriteFault }) a c
         → AfterClosing p u given old (closed l new old.games finished (stepped_of t.at (Err stopped.Unwritten))) (closed_with e (stepped_of t.at (Err stopped.Unwritten))) a c
     fails true h = h
     fails false h = h
@@ -200,7 +212,11 @@ closes p old u given t l new finished a c e (Err stopped.Unwritten) is_e has_rea
 pub closes_fault : (p : Profile) (old new : Converter) (u : List ℕ) (given : List Token) (f : LexFault) (o : Option (List ℕ)) → HasRead p old given
     → tokens_of u ≡ given ++ refusal_token f ∷ [] → AfterClosing p u given old new (Failed (record { at = f.at; reason = Lexical f.reason })) o o
 closes_fault p old new u given f o has_read whole =
-    subst (λ ts. Stops p given ts o o (record { at = f.at; reason = Lexical f.reason })) (sym whole) (stops_lexical p given f o has_read.passes)
+    subst (λ ts. ClosedToFault p given ts (record { at = f.at; reason = Lexical f.reason }) o o) (sym whole)
+    (record {
+      stops = stops_lexical p given f o has_read.passes;
+      no_game = none_before_lexical p given f o has_read.passes;
+    })
 
 -- how a token waits, and how it ends
 pub advances : (e : Bool) (old new : Standing) (outcome : Stepped) → Nearer e old new → (outcome ≡ Finished → e ≡ false) → (outcome ≡ NeedMore → ⊥)
@@ -231,6 +247,19 @@ fault_of_closed true Ended = refl
 fault_of_closed false Ended = refl
 fault_of_closed true (Failed f) = refl
 fault_of_closed false (Failed f) = refl
+
+-- the end finishes no game
+pub games_of_closed : (e : Bool) (outcome : Stepped) (games : ℕ) → games_after outcome games ≡ games_after (closed_with e outcome) games
+games_of_closed true NeedMore games = refl
+games_of_closed false NeedMore games = refl
+games_of_closed true More games = refl
+games_of_closed false More games = refl
+games_of_closed true Finished games = refl
+games_of_closed false Finished games = refl
+games_of_closed true Ended games = refl
+games_of_closed false Ended games = refl
+games_of_closed true (Failed f) games = refl
+games_of_closed false (Failed f) games = refl
 
 -- an answer of the reader counts as the step that it is
 counts_refused : (r : Reason) (old new : ℕ) → new ≡ old → IsFalse (is_outside_the_table r) → CountsReason r old new
@@ -280,9 +309,73 @@ counts_closed false Ended old new h = h
 counts_closed true (Failed f) old new h = h
 counts_closed false (Failed f) old new h = h
 
-pub not_at_hand : (b : Bool) (ps : List Pair) → pairs_if b ps ≡ None → b ≡ false
-not_at_hand true ps h = absurd (cc)
-not_at_hand false ps h = refl
+-- A token behind the last piece keeps the counts small. The end takes no byte, but it is the last one.
+pub sound_behind : (old new : Standing) (before after : Reading) (games at : ℕ) (k : Kind) (e : Bool) (r : Result Accepted Stopped) → is_end k ≡ e → Nearer e old new
+    → FinishesAtMarker k after r → OnOk r (after.layout.has_failed ≡ false) → old.count ≤ 2 ^ 62 → games + waiting old ≤ 2 * old.count + 2
+    → before.earlier_plies + before.text.plies + waiting old ≤ 2 * old.count + 2
+    → after.earlier_plies + after.text.plies ≤ before.earlier_plies + before.text.plies + 1
+    → IsSound new after (games_after (stepped_of at r) games) false (is_ended (closed_with e (stepped_of at r))) (fault_of_step (stepped_of at r))
+sound_behind old new before after games at k true (Ok accepted.More) is_e near marker going count few plies more =
+    let still = ap waiting near in
+    let place = ap (λ (l : Standing). l.count) near in
+    record {
+      count = λ none. omega (arith, count, place);
+      going = λ none. going;
+      few = λ none. omega (arith, few, still, place);
+      few_plies = λ none. omega (arith, plies, more, still, place);
+      fewer_plies = λ none is. absurd (cc);
+      between = λ is. absurd (cc);
+      no_fault = λ is. absurd (cc);
+    }
+sound_behind old new before after games at k false (Ok accepted.More) is_e near marker going count few plies more =
+    record {
+      count = λ none. omega (arith, count, near.1);
+      going = λ none. going;
+      few = λ none. omega (arith, few, near.0, near.1);
+      few_plies = λ none. omega (arith, plies, more, near.0, near.1);
+      fewer_plies = λ none is. omega (arith, plies, more, near.0, near.1);
+      between = λ is. absurd (cc);
+      no_fault = λ is. absurd (cc);
+    }
+sound_behind old new before after games at k true (Ok accepted.Finished) is_e near marker going count few plies more =
+    absurd (differ (sym is_e ∙ marker_or_end k marker.0))
+  where
+    differ : true ≡ false → ⊥
+    differ e = absurd (cc)
+sound_behind old new before after games at k false (Ok accepted.Finished) is_e near marker going count few plies more =
+    record {
+      count = λ none. omega (arith, count, near.1);
+      going = λ none. going;
+      few = λ none. omega (arith, few, near.0, near.1);
+      few_plies = λ none. omega (arith, plies, more, near.0, near.1);
+      fewer_plies = λ none is. omega (arith, plies, more, near.0, near.1);
+      between = λ is. absurd (cc);
+      no_fault = λ is. absurd (cc);
+    }
+sound_behind old new before after games at k e (Err (stopped.Refused reason)) is_e near marker going count few plies more =
+    record {
+      count = λ none. absurd (cc);
+      going = λ none. absurd (cc);
+      few = λ none. absurd (cc);
+      few_plies = λ none. absurd (cc);
+      fewer_plies = λ none is. absurd (cc);
+      between = λ is. absurd (cc);
+      no_fault = λ is. absurd (cc);
+    }
+sound_behind old new before after games at k e (Err stopped.Unwritten) is_e near marker going count few plies more =
+    record {
+      count = λ none. absurd (cc);
+      going = λ none. absurd (cc);
+      few = λ none. absurd (cc);
+      few_plies = λ none. absurd (cc);
+      fewer_plies = λ none is. absurd (cc);
+      between = λ is. absurd (cc);
+      no_fault = λ is. absurd (cc);
+    }
+
+pub not_at_hand : (b : Bool) (r : Reading) → held_if b r ≡ None → b ≡ false
+not_at_hand true r h = absurd (cc)
+not_at_hand false r h = refl
 
 -- before the first step behind the last piece
 pub closed_none : (p : Profile) (old : Converter) (u : List ℕ) (b : Option ℕ) (given : List Token) (o : Option (List ℕ)) → Stands p old u b given
@@ -308,11 +401,11 @@ module _ (p : Profile) (u : List ℕ) (given : List Token) (now new : Converter)
   same_length ts same = subst (λ gs. IsTrue is_game ↔ (length (read p given).begun.games < length {A = Game} gs)) (sym same) so.game
 
   held_still : (ts : List Token) → SameGames p so.tokens ts → StaysBetween now new
-      → IsTrue is_game → new.reading.stage ≡ Between → AreLast (Some new.reading.tags.held) (read p ts).begun.games
+      → IsTrue is_game → new.reading.stage ≡ Between → IsLast (Some (held_by new.reading)) (read p ts).begun.games
   held_still ts same stays h between =
       let kept = stays between in
-      subst (λ gs. AreLast (Some new.reading.tags.held) gs) (sym same)
-      (subst (λ (r : Reading). AreLast (Some r.tags.held) (read p so.tokens).begun.games) (sym kept)
+      subst (λ gs. IsLast (Some (held_by new.reading)) gs) (sym same)
+      (subst (λ (r : Reading). IsLast (Some (held_by r)) (read p so.tokens).begun.games) (sym kept)
       (so.last h (ap (λ (r : Reading). r.stage) (sym kept) ∙ between)))
 
   pub closed_more : AfterClosing p u so.tokens now new More c d → ClosedSoFar p u given new is_game a d
@@ -342,22 +435,26 @@ module _ (p : Profile) (u : List ℕ) (given : List Token) (now new : Converter)
       }
 
   pub closed_end : (flag : Bool) → AfterClosing p u so.tokens now new Ended c d → (new.reading.stage ≡ Between → flag ≡ is_game)
-      → Finishes p u given (record { lexer = new.lexer; reading = new.reading; games = new.games; at_hand = pairs_if flag new.reading.tags.held; is_finished = true; fault = new.fault }) is_game a d
+      → Finishes p u given (record { lexer = new.lexer; reading = new.reading; games = new.games; at_hand = held_if flag new.reading; is_finished = new.is_finished; fault = new.fault }) is_game a d
   closed_end flag (t, took, stays) e =
       let h = took.has_read in
       let same_flag = e took.between in
       let held = hands (so.tokens ++ t ∷ []) flag (λ h. held_still _ took.same stays (subst IsTrue same_flag h) took.between) in
       record {
-        has_read = subst (HasRead p _) (sym took.whole) (record { profile = h.profile; no_fault = h.no_fault; passes = h.passes; agrees = h.agrees; games = h.games; at_hand = held });
+        has_read = subst (HasRead p _) (sym took.whole) (record { profile = h.profile; no_fault = h.no_fault; passes = h.passes; agrees = h.agrees; games = h.games; plies = h.plies; probed = h.probed; at_hand = held });
         game = subst (λ ts. IsTrue is_game ↔ (length (read p given).begun.games < length (read p ts).begun.games)) (sym took.whole) (same_length _ took.same);
-        at_hand = λ is. (new.reading.tags.held, ap (λ b. pairs_if b new.reading.tags.held) (same_flag ∙ is));
-        none_at_hand = λ is. ap (λ b. pairs_if b new.reading.tags.held) (same_flag ∙ is);
+        at_hand = λ is. (held_by new.reading, ap (λ b. held_if b new.reading) (same_flag ∙ is));
+        none_at_hand = λ is. ap (λ b. held_if b new.reading) (same_flag ∙ is);
         gains = subst (λ ts. Gains p given ts a d) (sym took.whole) (gains_more p given so.tokens _ a c d so.gains took.gains);
       }
     where
-      hands : (ts : List Token) (b : Bool) → (IsTrue b → AreLast (Some new.reading.tags.held) (read p ts).begun.games) → AreLast (pairs_if b new.reading.tags.held) (read p ts).begun.games
+      hands : (ts : List Token) (b : Bool) → (IsTrue b → IsLast (Some (held_by new.reading)) (read p ts).begun.games) → IsLast (held_if b new.reading) (read p ts).begun.games
       hands ts true h = h refl
       hands ts false h = tt
 
-  pub closed_fault : (f : Fault) → AfterClosing p u so.tokens now new (Failed f) c d → Stops p given (tokens_of u) a d f
-  closed_fault f stops = stops_more p given so.tokens (tokens_of u) f a c d so.gains stops
+  pub closed_fault : (f : Fault) → AfterClosing p u so.tokens now new (Failed f) c d → new.games ≡ now.games → FinishesToFault p u given new f a d
+  closed_fault f to same =
+      record {
+        stops = stops_more p given so.tokens (tokens_of u) f a c d so.gains to.stops;
+        games = same ∙ so.has_read.games ∙ sym (ap (length {A = Game}) (games_still p given so.tokens (tokens_of u) f a c d so.gains to.stops ∙ to.no_game));
+      }

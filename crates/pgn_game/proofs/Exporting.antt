@@ -1,13 +1,13 @@
 -- The value of a name in the pairs that are written.
 use Rattle.std.proofs.Common.{◌≡◌, ℕ, suc, ◌+◌, Bool, true, false, cond, List, [], ◌∷◌, ◌++◌, drop, Option, None, Some, refl, ap, sym, ◌∙◌, add-one}
 use Rattle.std.proofs.Math.Seq.{drop-cons}
-use Rattle.std.specs.Prelude.{bytes_eq, slice_get, unwrap_or, map, not, is_some, ◌||◌, codes}
+use Rattle.std.specs.Prelude.{bytes_eq, slice_get, unwrap_or, map, filter, not, is_some, ◌||◌, codes}
 use Rattle.std.proofs.lemmas.Slice.Eq.{bytes_eq-Decides}
 use Rattle.std.proofs.lemmas.Bool.{false≢true}
 use Rattle.pgn_game.specs.declared.mode.Mode.{Mode}
 use Rattle.pgn_game.specs.declared.mode.Mode.TheVariants.{Full, Reduced}
-use Rattle.pgn_game.specs.Pairs.{Pair, value_of}
-use Rattle.pgn_game.specs.TagSection.{roster, in_roster, roster_pairs, other_pairs, exported}
+use Rattle.pgn_game.specs.Pairs.{Pair, value_of, has_pair, comes_before, insert_pair}
+use Rattle.pgn_game.specs.TagSection.{roster, in_roster, roster_pairs, other_pairs, with_set_up, exported}
 use Rattle.pgn_game.proofs.Appending.{within_at}
 
 pub bytes_eq-true : (xs ys : List ℕ) → bytes_eq xs ys ≡ true → xs ≡ ys
@@ -43,7 +43,7 @@ abbrev pub either_of : Option (List ℕ) → Option (List ℕ) → Option (List 
 either_of (Some value) other = Some value
 either_of None other = other
 
-value_of-cons : (p : Pair) (ps : List Pair) (name : List ℕ) → value_of (p ∷ ps) name ≡ pick (bytes_eq p.name name) p.value (value_of ps name)
+pub value_of-cons : (p : Pair) (ps : List Pair) (name : List ℕ) → value_of (p ∷ ps) name ≡ pick (bytes_eq p.name name) p.value (value_of ps name)
 value_of-cons p ps name = elim (bytes_eq p.name name) as (λ b. elim b [ true ↦ Some p.value | false ↦ value_of ps name ] ≡ pick b p.value (value_of ps name)) [ true ↦ refl | false ↦ refl ]
 
 -- the search for a name at a place
@@ -135,26 +135,119 @@ value_of-others (p ∷ ps) name e =
     (value_of-others ps name e)
     ∙ sym (value_of-cons p ps name)
 
-full_choice : (value unknown others : Option (List ℕ)) → (is_some unknown ≡ false → others ≡ value) → either_of (defaulted value unknown) others ≡ either_of value unknown
-full_choice (Some v) (Some u) others out = refl
-full_choice None (Some u) others out = refl
-full_choice (Some v) None others out = out refl
-full_choice None None others out = out refl
+-- the pairs but SetUp, the pair that stands for it, and the pairs with it if there is a FEN
+abbrev pub without_set_up : List Pair → List Pair
+without_set_up ps = filter (λ p. not (bytes_eq p.name (codes "SetUp"))) ps
 
-reduced_choice : (value unknown : Option (List ℕ)) → (unknown ≡ None → ⊥) → defaulted value unknown ≡ either_of value unknown
-reduced_choice (Some v) (Some u) some = refl
-reduced_choice None (Some u) some = refl
-reduced_choice value None some = absurd (some refl)
+abbrev pub set_up : Pair
+set_up = record { name = codes "SetUp"; value = codes "1" }
 
--- what a name has in the section: its value, or what stands for it in the roster
+abbrev pub set_up_if : Bool → List Pair → List Pair
+set_up_if b ps = elim b [ true ↦ insert_pair set_up (without_set_up ps) | false ↦ ps ]
+
+-- a pair put in does not change the values of other names
+pub value_of-insert : (p : Pair) (qs : List Pair) (name : List ℕ) → bytes_eq p.name name ≡ false → value_of (insert_pair p qs) name ≡ value_of qs name
+value_of-insert p [] name e = value_of-cons p [] name ∙ ap (λ b. pick b p.value None) e
+value_of-insert p (q ∷ qs) name e =
+    elim (comes_before p.name q.name) as (λ b. value_of (elim b [ true ↦ p ∷ q ∷ qs | false ↦ q ∷ insert_pair p qs ]) name ≡ value_of (q ∷ qs) name) [
+      | true ↦ value_of-cons p (q ∷ qs) name ∙ ap (λ b. pick b p.value (value_of (q ∷ qs) name)) e
+      | false ↦ value_of-cons q (insert_pair p qs) name ∙ ap (pick (bytes_eq q.name name) q.value) (value_of-insert p qs name e) ∙ sym (value_of-cons q qs name)
+    ]
+
+skip_set_up : (p : Pair) (ps : List Pair) (name : List ℕ) (s : Bool) → bytes_eq name (codes "SetUp") ≡ false → bytes_eq p.name (codes "SetUp") ≡ s
+    → value_of (cond (not s) (p ∷ ps) ps) name ≡ pick (bytes_eq p.name name) p.value (value_of ps name)
+skip_set_up p ps name false e is = value_of-cons p ps name
+skip_set_up p ps name true e is =
+    let other : bytes_eq p.name name ≡ false = ap (λ n. bytes_eq n name) (bytes_eq-true p.name (codes "SetUp") is) ∙ bytes_eq-sym (codes "SetUp") name ∙ e in
+    ap (λ b. pick b p.value (value_of ps name)) (sym other)
+
+-- nor does a SetUp left out
+value_of-left_out : (ps : List Pair) (name : List ℕ) → bytes_eq name (codes "SetUp") ≡ false → value_of (without_set_up ps) name ≡ value_of ps name
+value_of-left_out [] name e = refl
+value_of-left_out (p ∷ ps) name e =
+    skip_set_up p (without_set_up ps) name (bytes_eq p.name (codes "SetUp")) e refl
+    ∙ ap (pick (bytes_eq p.name name) p.value) (value_of-left_out ps name e)
+    ∙ sym (value_of-cons p ps name)
+
+set_up_behind : (p : Pair) (ps : List Pair) (s b : Bool) → bytes_eq p.name (codes "SetUp") ≡ s → comes_before (codes "SetUp") p.name ≡ b
+    → value_of (insert_pair set_up ps) (codes "SetUp") ≡ Some (codes "1")
+    → value_of (insert_pair set_up (cond (not s) (p ∷ ps) ps)) (codes "SetUp") ≡ Some (codes "1")
+set_up_behind p ps true b is before rest = rest
+set_up_behind p ps false true is before rest = ap (λ c. value_of (elim c [ true ↦ set_up ∷ p ∷ ps | false ↦ p ∷ insert_pair set_up ps ]) (codes "SetUp")) before
+set_up_behind p ps false false is before rest =
+    ap (λ c. value_of (elim c [ true ↦ set_up ∷ p ∷ ps | false ↦ p ∷ insert_pair set_up ps ]) (codes "SetUp")) before
+    ∙ value_of-cons p (insert_pair set_up ps) (codes "SetUp")
+    ∙ ap (λ s. pick s p.value (value_of (insert_pair set_up ps) (codes "SetUp"))) is
+    ∙ rest
+
+-- SetUp 1 is found where it is put in
+set_up_found : (ps : List Pair) → value_of (insert_pair set_up (without_set_up ps)) (codes "SetUp") ≡ Some (codes "1")
+set_up_found [] = refl
+set_up_found (p ∷ ps) = set_up_behind p (without_set_up ps) (bytes_eq p.name (codes "SetUp")) (comes_before (codes "SetUp") p.name) refl refl (set_up_found ps)
+
+-- the values with SetUp 1, where there is a FEN, and without
+pub set_up_one : (ps : List Pair) (name : List ℕ) → bytes_eq name (codes "SetUp") ≡ true → has_pair ps (codes "FEN") ≡ true → value_of (with_set_up ps) name ≡ Some (codes "1")
+set_up_one ps name is some =
+    ap (λ b. value_of (set_up_if b ps) name) some ∙ ap (value_of (set_up_if true ps)) (bytes_eq-true name (codes "SetUp") is) ∙ set_up_found ps
+
+pub no_fen : (ps : List Pair) (name : List ℕ) → has_pair ps (codes "FEN") ≡ false → value_of (with_set_up ps) name ≡ value_of ps name
+no_fen ps name none = ap (λ b. value_of (set_up_if b ps) name) none
+
+pub no_set_up : (ps : List Pair) (name : List ℕ) → bytes_eq name (codes "SetUp") ≡ false → value_of (with_set_up ps) name ≡ value_of ps name
+no_set_up ps name e =
+    elim (has_pair ps (codes "FEN")) as (λ b. value_of (set_up_if b ps) name ≡ value_of ps name) [
+      | true ↦ value_of-insert set_up (without_set_up ps) name (bytes_eq-sym (codes "SetUp") name ∙ e) ∙ value_of-left_out ps name e
+      | false ↦ refl
+    ]
+
+-- A name of the roster has its value in the section, or what stands for it
+exported_roster : (mode : Mode) (ps : List Pair) (name unknown : List ℕ) → value_of (roster (42 ∷ [])) name ≡ Some unknown
+    → value_of (exported mode (42 ∷ []) ps) name ≡ Some (unwrap_or (value_of ps name) unknown)
+exported_roster Reduced ps name unknown e = value_of-defaults ps (roster (42 ∷ [])) name ∙ ap (defaulted (value_of ps name)) e
+exported_roster Full ps name unknown e =
+    value_of-append (roster_pairs (42 ∷ []) ps) (other_pairs (with_set_up ps)) name
+    ∙ ap (λ o. either_of o (value_of (other_pairs (with_set_up ps)) name)) (value_of-defaults ps (roster (42 ∷ [])) name ∙ ap (defaulted (value_of ps name)) e)
+
+-- another name has in full mode what the pairs with SetUp have
+exported_other : (ps : List Pair) (name : List ℕ) → value_of (roster (42 ∷ [])) name ≡ None
+    → value_of (exported Full (42 ∷ []) ps) name ≡ value_of (with_set_up ps) name
+exported_other ps name e =
+    value_of-append (roster_pairs (42 ∷ []) ps) (other_pairs (with_set_up ps)) name
+    ∙ ap (λ o. either_of o (value_of (other_pairs (with_set_up ps)) name)) (value_of-defaults ps (roster (42 ∷ [])) name ∙ ap (defaulted (value_of ps name)) e)
+    ∙ value_of-others (with_set_up ps) name (in_roster-value name ∙ ap is_some e)
+
+roster_without_set_up : value_of (roster (42 ∷ [])) (codes "SetUp") ≡ None
+unfolding roster
+roster_without_set_up = refl
+
+-- SetUp is not of the roster
+other_than_set_up : (name unknown : List ℕ) (b : Bool) → value_of (roster (42 ∷ [])) name ≡ Some unknown → bytes_eq name (codes "SetUp") ≡ b → b ≡ false
+other_than_set_up name unknown false e is = refl
+other_than_set_up name unknown true e is =
+    let none : None ≡ Some unknown = sym roster_without_set_up ∙ ap (value_of (roster (42 ∷ []))) (sym (bytes_eq-true name (codes "SetUp") is)) ∙ e in
+    absurd (cc)
+
+either_unknown : (value : Option (List ℕ)) (unknown : List ℕ) → Some (unwrap_or value unknown) ≡ either_of value (Some unknown)
+either_unknown (Some v) unknown = refl
+either_unknown None unknown = refl
+
+either_none : (value : Option (List ℕ)) → value ≡ either_of value None
+either_none (Some v) = refl
+either_none None = refl
+
+exported_by : (mode : Mode) (ps : List Pair) (name : List ℕ) (unknown : Option (List ℕ)) → value_of (roster (42 ∷ [])) name ≡ unknown → (unknown ≡ None → mode ≡ Reduced → ⊥)
+    → value_of (exported mode (42 ∷ []) ps) name ≡ either_of (value_of (with_set_up ps) name) unknown
+exported_by mode ps name (Some u) e some =
+    exported_roster mode ps name u e
+    ∙ ap (λ o. Some (unwrap_or o u)) (sym (no_set_up ps name (other_than_set_up name u (bytes_eq name (codes "SetUp")) e refl)))
+    ∙ either_unknown (value_of (with_set_up ps) name) u
+exported_by Full ps name None e some = exported_other ps name e ∙ either_none (value_of (with_set_up ps) name)
+exported_by Reduced ps name None e some = absurd (some refl refl)
+
+-- what a name has in the section: its value with SetUp, or what stands for it in the roster
 pub exported_either : (mode : Mode) (ps : List Pair) (name : List ℕ) → (value_of (roster (42 ∷ [])) name ≡ None → mode ≡ Reduced → ⊥)
-    → value_of (exported mode (42 ∷ []) ps) name ≡ either_of (value_of ps name) (value_of (roster (42 ∷ [])) name)
-exported_either Full ps name some =
-    value_of-append (roster_pairs (42 ∷ []) ps) (other_pairs ps) name
-    ∙ ap (λ o. either_of o (value_of (other_pairs ps) name)) (value_of-defaults ps (roster (42 ∷ [])) name)
-    ∙ full_choice (value_of ps name) (value_of (roster (42 ∷ [])) name) (value_of (other_pairs ps) name) (λ e. value_of-others ps name (in_roster-value name ∙ e))
-exported_either Reduced ps name some =
-    value_of-defaults ps (roster (42 ∷ [])) name ∙ reduced_choice (value_of ps name) (value_of (roster (42 ∷ [])) name) (λ e. some e refl)
+    → value_of (exported mode (42 ∷ []) ps) name ≡ either_of (value_of (with_set_up ps) name) (value_of (roster (42 ∷ [])) name)
+exported_either mode ps name some = exported_by mode ps name (value_of (roster (42 ∷ [])) name) refl some
 
 -- and none in reduced mode, where the roster has it not
 pub exported_none : (ps : List Pair) (name : List ℕ) → value_of (roster (42 ∷ [])) name ≡ None → value_of (exported Reduced (42 ∷ []) ps) name ≡ None

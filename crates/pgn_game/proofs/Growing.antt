@@ -1,19 +1,21 @@
 -- One token more: what was read, and what is due for it.
-use Rattle.std.proofs.Common.{◌≡◌, ℕ, ◌+◌, List, [], ◌∷◌, ◌++◌, length, drop, Option, None, Some, refl, sym, ap, subst, ◌∙◌, append_assoc, append-nil, length-append, arith}
+use Rattle.std.proofs.Common.{◌≡◌, ℕ, ◌+◌, List, [], ◌∷◌, ◌++◌, length, Option, None, Some, refl, sym, ap, subst, ◌∙◌, append_assoc, append-nil, length-append, arith}
 use Rattle.std.proofs.Math.Seq.{take-append-add}
 use Rattle.std.proofs.KnownBytes.{Appends-trans, Appends-nil}
 use Rattle.std.specs.Io.KnownBytes.{Appends}
-use Rattle.pgn_lexer.specs.Tokens.{Token}
+use Rattle.pgn_lexer.specs.Tokens.{Kind, Token}
 use Rattle.pgn_game.specs.declared.reason.Reason.{Reason}
 use Rattle.pgn_game.specs.declared.reason.Fault.{Fault}
-use Rattle.pgn_game.specs.Profile.{Profile}
-use Rattle.pgn_game.specs.Game.{Game, Part}
+use Rattle.pgn_game.specs.declared.mode.Mode.{Mode}
+use Rattle.pgn_game.specs.Profile.{Profile, Missing, counts_as_unknown, takes_the_marker}
+use Rattle.pgn_game.specs.Game.{Game, Part, no_part}
 use Rattle.pgn_game.specs.FaultTable.{refusal}
-use Rattle.pgn_game.specs.Text.{game_text, text_of, torn}
+use Rattle.pgn_game.specs.Text.{game_text, text_of, torn, torn_for}
 use Rattle.pgn_game.specs.Begun.{Next, going, whole, next, Begun, begun_with, begun_after, nothing_begun, Read, read_from, read, written, due}
 use Rattle.pgn_game.specs.Due.{text_next, gain, Gains}
 use Rattle.pgn_game.specs.Laws.{IsPrefix, DueGrows}
 use Rattle.pgn_game.specs.Feeding.{Stops, refused, unwritten, StopsWriting, games_before}
+use Rattle.pgn_game.proofs.NextGrows.{next_is}
 
 abbrev read_as : Begun → Option Fault → Read
 read_as b f = record { begun = b; fault = f }
@@ -65,18 +67,29 @@ text_of-snoc : (p : Profile) (games : List Game) (g : Game) → text_of p (games
 text_of-snoc p [] g = append-nil (game_text p g)
 text_of-snoc p (x ∷ xs) g = ap (λ l. game_text p x ++ l) (text_of-snoc p xs g) ∙ sym (append_assoc (game_text p x) (text_of p xs) (game_text p g))
 
+-- where no game is begun, nothing stands written of one
+pub torn-none : (missing : Missing) (mode : Mode) → torn_for missing mode no_part ≡ []
+torn-none counts_as_unknown mode = refl
+torn-none takes_the_marker mode = refl
+
+-- what is written when a token has led so far
+written_with : (p : Profile) (games : List Game) (nx : Next) → written p (begun_with games nx) ≡ text_of p games ++ text_next p nx
+written_with p games (going after) = refl
+written_with p games (whole g) =
+    ap (λ l. text_of p (games ++ g ∷ []) ++ l) (torn-none p.missing_result p.mode) ∙ append-nil (text_of p (games ++ g ∷ [])) ∙ text_of-snoc p games g
+
 -- what a token adds to what was written
-written-next : (p : Profile) (games : List Game) (part : Part) (nx : Next)
-    → written p (begun_with games nx) ≡ written p (record { games = games; part = part }) ++ drop (length (torn p part)) (text_next p nx)
-written-next p games part (going after) = sym (append-nil (text_of p games ++ []))
-written-next p games part (whole g) =
-    append-nil (text_of p (games ++ g ∷ [])) ∙ text_of-snoc p games g ∙ ap (λ l. l ++ game_text p g) (sym (append-nil (text_of p games)))
+written-next : (p : Profile) (games : List Game) (part : Part) (k : Kind)
+    → written p (begun_with games (next part k)) ≡ written p (record { games = games; part = part }) ++ gain p part k
+written-next p games part k =
+    written_with p games (next part k) ∙ ap (λ l. text_of p games ++ l) (next_is p part k)
+    ∙ sym (append_assoc (text_of p games) (torn p part) (gain p part k))
 
 pub due-passes : (p : Profile) (given : List Token) (t : Token) → (read p given).fault ≡ None → refusal p (read p given).begun.part t.kind ≡ None
     → due p (given ++ t ∷ []) ≡ due p given ++ gain p (read p given).begun.part t.kind
 due-passes p given t e none =
     ap (λ (r : Read). written p r.begun) (read-passes p given t e none)
-    ∙ written-next p (read p given).begun.games (read p given).begun.part (next (read p given).begun.part t.kind)
+    ∙ written-next p (read p given).begun.games (read p given).begun.part t.kind
 
 pub due-refuses : (p : Profile) (given : List Token) (t : Token) (us : List Token) (reason : Reason) → (read p given).fault ≡ None → refusal p (read p given).begun.part t.kind ≡ Some reason
     → due p (given ++ t ∷ us) ≡ due p given
@@ -157,7 +170,7 @@ grows_from p b (t ∷ ts) = by_test (refusal p b.part t.kind) refl (grows_from p
     by_test None is further =
         subst (λ (r : Read). IsPrefix (written p b) (written p r.begun)) (sym (goes_on p b t ts is))
         (also (written p b) (written p (begun_after b t)) _
-        (drop (length (torn p b.part)) (text_next p (next b.part t.kind)), written-next p b.games b.part (next b.part t.kind)) further)
+        (gain p b.part t.kind, written-next p b.games b.part t.kind) further)
 
 abbrev Grows : Profile → Read → Read → Type 0
 Grows p r s = IsPrefix (written p r.begun) (written p s.begun)

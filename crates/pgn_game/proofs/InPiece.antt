@@ -10,8 +10,7 @@ use Rattle.pgn_game.specs.declared.reason.Reason.{Reason}
 use Rattle.pgn_game.specs.declared.reason.Fault.{Fault}
 use Rattle.pgn_game.specs.declared.converter.Stepped.TheVariants.{NeedMore, More, Finished, Failed}
 use Rattle.pgn_game.specs.Profile.{Profile}
-use Rattle.pgn_game.specs.Pairs.{Pair}
-use Rattle.pgn_game.specs.Feeding.{Converter, Stands, AreNext, FedAll, FedGame, FedToFault, CountsReason}
+use Rattle.pgn_game.specs.Feeding.{AtHand, Converter, Stands, AreNext, FedAll, FedGame, FedToFault, CountsReason}
 use Rattle.pgn_game.specs.Stepping.{AfterStep, next_at, SoFar}
 use Rattle.pgn_game.proofs.Growing.{gains_none, gains_more, stops_more, games_still}
 use Rattle.pgn_game.proofs.OneToken.{still_none-none}
@@ -20,7 +19,7 @@ use Rattle.pgn_game.proofs.OneToken.{still_none-none}
 pub lets_go : (p : Profile) (old : Converter) (u : List ℕ) (b : Option ℕ) (given : List Token) → Stands p old u b given → Stands p (record old { at_hand = None }) u b given
 lets_go p old u b given stands =
     let h = stands.has_read in
-    record { lexer = stands.lexer; has_read = record { profile = h.profile; no_fault = h.no_fault; passes = h.passes; agrees = h.agrees; games = h.games; at_hand = tt } }
+    record { lexer = stands.lexer; has_read = record { profile = h.profile; no_fault = h.no_fault; passes = h.passes; agrees = h.agrees; games = h.games; plies = h.plies; probed = h.probed; at_hand = tt } }
 
 -- what follows the first byte of the piece follows the byte known
 follows_from : (b : Option ℕ) (x : ℕ) (xs s : List ℕ) → Follows b (x ∷ xs) → Follows (Some x) s → Follows b s
@@ -181,6 +180,6 @@ pub counts_step : (r : Reason) (x y z : ℕ) → y ≡ x → CountsReason r y z 
 counts_step r x y z same h = subst (λ n. CountsReason r n z) same h
 
 -- no game at hand
-pub none_at_hand : (o : Option (List Pair)) → is_some o ≡ false → o ≡ None
+pub none_at_hand : (o : Option AtHand) → is_some o ≡ false → o ≡ None
 none_at_hand None h = refl
-none_at_hand (Some ps) h = absurd (cc)
+none_at_hand (Some hand) h = absurd (cc)

@@ -1,6 +1,10 @@
 -- One token that the lexer gave, and what the reader answered to it.
-use Rattle.std.proofs.Common.{◌≡◌, ℕ, ◌+◌, ◌<◌, Bool, List, [], ◌∷◌, ◌++◌, length, take, drop, Option, None, Some, Result, Ok, Err, refl, sym, ap, subst, ◌∙◌, append_assoc, append-nil, length-append, arith}
-use Rattle.std.proofs.lemmas.List.{take-append-drop}
+use Rattle.std.proofs.Common.{◌≡◌, ℕ, ◌+◌, ◌<◌, ◌≤◌, ◌⊎◌, inl, inr, Bool, false, true, List, [], ◌∷◌, ◌++◌, length, take, drop, Option, None, Some, Result, Ok, Err, refl, sym, ap, subst, ◌∙◌, append_assoc, append-nil, length-append, arith}
+use Rattle.std.specs.Prelude.{IsTrue, map, sum, ◌||◌}
+use Rattle.std.proofs.lemmas.List.{take-append-drop, map-append}
+use Rattle.std.proofs.lemmas.List.Sums.{sum_by-append, sum_by-cons}
+use Rattle.std.proofs.lemmas.List.Folds.{list_any-append}
+use Rattle.std.proofs.lemmas.Bool.{or_cases}
 use Rattle.std.proofs.KnownBytes.{Appends-nil}
 use Rattle.std.specs.Io.KnownBytes.{Appends}
 use Rattle.pgn_lexer.specs.declared.token.LexFault.{LexFault}
@@ -19,13 +23,13 @@ use Rattle.pgn_game.specs.declared.reason.Reason.TheVariants.{Lexical}
 use Rattle.pgn_game.specs.declared.converter.Stepped.{Stepped}
 use Rattle.pgn_game.specs.declared.converter.Stepped.TheVariants.{NeedMore, More, Finished, Failed}
 use Rattle.pgn_game.specs.Profile.{Profile}
-use Rattle.pgn_game.specs.Pairs.{Pair}
 use Rattle.pgn_game.specs.Game.{Game, Part}
 use Rattle.pgn_game.specs.FaultTable.{refusal}
 use Rattle.pgn_game.specs.Begun.{Next, going, whole, next, Begun, begun_with, begun_after, Read, read}
 use Rattle.pgn_game.specs.Due.{gain, Gains}
-use Rattle.pgn_game.specs.Reading.{Reading, Agrees, Leads, Answers}
-use Rattle.pgn_game.specs.Feeding.{Converter, pairs_if, HasRead, Stands, Stops, refused, unwritten, StopsWriting, AreNext}
+use Rattle.pgn_game.specs.Here.{plies_of}
+use Rattle.pgn_game.specs.Reading.{Reading, Agrees, IsBehind, has_move, whole_plies, plies_next, Leads, Answers}
+use Rattle.pgn_game.specs.Feeding.{AtHand, hand_of, Converter, held_by, held_if, play_moves, HasRead, Stands, Stops, refused, unwritten, StopsWriting, AreNext, games_before}
 use Rattle.pgn_game.specs.Stepping.{SameGames, OneGame, AfterStep, stepped_of, is_game, games_after, fault_of_step}
 use Rattle.pgn_game.proofs.Growing.{read-passes, read-refuses, due-passes, due-refuses, gains_none, gains_nothing}
 
@@ -44,9 +48,35 @@ leads_more (going part) games r h = (refl, h)
 leads_more (whole g) games r h = absurd h
 
 leads_finished : (nx : Next) (games : List Game) (r : Reading) → Leads nx accepted.Finished r
-    → (g : Game) × ((begun_with games nx).games ≡ games ++ g ∷ []) × Agrees r (begun_with games nx).part × (r.tags.held ≡ g.pairs)
+    → (g : Game) × ((begun_with games nx).games ≡ games ++ g ∷ []) × Agrees r (begun_with games nx).part × IsBehind r g × (plies_next nx ≡ plies_of g)
 leads_finished (going part) games r h = absurd h
-leads_finished (whole g) games r h = (g, refl, h.agrees, h.pairs)
+leads_finished (whole g) games r h = (g, refl, h.agrees, h, refl)
+
+-- a token that finishes no game counts no move
+plies_more : (nx : Next) (r : Reading) → Leads nx accepted.More r → plies_next nx ≡ 0
+plies_more (going part) r h = refl
+plies_more (whole g) r h = absurd h
+
+-- what the reader still holds of the game that it is behind
+hand_behind : (r : Reading) (g : Game) → IsBehind r g → held_by r ≡ hand_of g
+hand_behind r g h = cc (h.pairs, h.plies, h.position)
+
+plies-snoc : (games : List Game) (g : Game) → sum (map plies_of (games ++ g ∷ [])) ≡ sum (map plies_of games) + plies_of g
+plies-snoc games g =
+    let one : sum (plies_of g ∷ []) ≡ plies_of g = omega (arith, sum_by-cons (λ n. n) (plies_of g) []) in
+    ap sum (map-append plies_of games (g ∷ [])) ∙ sum_by-append (λ n. n) (map plies_of games) (plies_of g ∷ []) ∙ ap (λ n. sum (map plies_of games) + n) one
+
+-- a move is in the games before, or in the last one
+moves-snoc : (games : List Game) (g : Game) → IsTrue (play_moves (games ++ g ∷ [])) → IsTrue (play_moves games) ⊎ IsTrue (has_move g.items)
+moves-snoc games g h =
+    elim (or_cases (play_moves games) (play_moves (g ∷ [])) (sym (list_any-append (λ (g : Game). has_move g.items) games (g ∷ [])) ∙ h)) [
+      | inl e ↦ inl e
+      | inr e ↦ inr (only (has_move g.items) e)
+    ]
+  where
+    only : (b : Bool) → (b || false) ≡ true → b ≡ true
+    only true e = refl
+    only false e = absurd (cc)
 
 length-snoc : (games : List Game) (g : Game) → length (games ++ g ∷ []) ≡ length games + 1
 length-snoc games g = length-append games (g ∷ [])
@@ -58,12 +88,12 @@ stepped l r games finished outcome =
       lexer = l;
       reading = r;
       games = games_after outcome games;
-      at_hand = pairs_if (is_game outcome) r.tags.held;
+      at_hand = held_if (is_game outcome) r;
       is_finished = finished;
       fault = fault_of_step outcome;
     }
 
-module _ (p : Profile) (old : Converter) (given : List Token) (t : Token) (l : Standing) (new : Reading) (finished : Bool) (has_read : HasRead p old given) (profile : new.profile ≡ old.reading.profile) where
+module _ (p : Profile) (old : Converter) (given : List Token) (t : Token) (l : Standing) (new : Reading) (finished : Bool) (has_read : HasRead p old given) (profile : new.profile ≡ old.reading.profile) (probes : old.reading.most_probes ≤ new.most_probes) where
   abbrev b : Begun
   b = (read p given).begun
 
@@ -86,37 +116,52 @@ module _ (p : Profile) (old : Converter) (given : List Token) (t : Token) (l : S
   same_games h leads = ap (λ (r : Read). r.begun.games) (reads h) ∙ (leads_more (next b.part t.kind) b.games new leads).0
 
   pub has_read_more : refusal old.reading.profile b.part t.kind ≡ None → Leads (next b.part t.kind) accepted.More new
-      → HasRead p (stepped l new old.games finished More) (given ++ t ∷ [])
-  has_read_more h leads =
+      → whole_plies new ≡ whole_plies old.reading + plies_next (next b.part t.kind) → HasRead p (stepped l new old.games finished More) (given ++ t ∷ [])
+  has_read_more h leads plies =
       let more = leads_more (next b.part t.kind) b.games new leads in
+      let same = same_games h leads in
+      let none = plies_more (next b.part t.kind) new leads in
+      let total : whole_plies new ≡ whole_plies old.reading = omega (arith, plies, none) in
       record {
         profile = profile ∙ has_read.profile;
         no_fault = refl;
         passes = ap (λ (r : Read). r.fault) (reads h);
         agrees = subst (λ (r : Read). Agrees new r.begun.part) (sym (reads h)) more.1;
-        games = has_read.games ∙ ap (length {A = Game}) (sym (same_games h leads));
+        games = has_read.games ∙ ap (length {A = Game}) (sym same);
+        plies = total ∙ has_read.plies ∙ ap (λ games. sum (map plies_of games)) (sym same);
+        probed = λ moves.
+            let some = has_read.probed (subst (λ games. IsTrue (play_moves games)) same moves) in
+            omega (arith, some, probes);
         at_hand = tt;
       }
 
   -- the game is whole
   pub one_game : refusal old.reading.profile b.part t.kind ≡ None → Leads (next b.part t.kind) accepted.Finished new
-      → (g : Game) × OneGame p given (given ++ t ∷ []) g × (new.tags.held ≡ g.pairs)
+      → (g : Game) × OneGame p given (given ++ t ∷ []) g × (held_by new ≡ hand_of g)
   one_game h leads =
       let done = leads_finished (next b.part t.kind) b.games new leads in
-      (done.0, ap (λ (r : Read). r.begun.games) (reads h) ∙ done.1, done.3)
+      (done.0, ap (λ (r : Read). r.begun.games) (reads h) ∙ done.1, hand_behind new done.0 done.3)
 
   pub has_read_game : refusal old.reading.profile b.part t.kind ≡ None → Leads (next b.part t.kind) accepted.Finished new
-      → HasRead p (stepped l new old.games finished Finished) (given ++ t ∷ [])
-  has_read_game h leads =
+      → whole_plies new ≡ whole_plies old.reading + plies_next (next b.part t.kind) → HasRead p (stepped l new old.games finished Finished) (given ++ t ∷ [])
+  has_read_game h leads plies =
       let done = leads_finished (next b.part t.kind) b.games new leads in
-      let one = one_game h leads in
+      let one = ap (λ (r : Read). r.begun.games) (reads h) ∙ done.1 in
+      let g : Game = done.0 in
+      let behind : IsBehind new g = done.3 in
       record {
         profile = profile ∙ has_read.profile;
         no_fault = refl;
         passes = ap (λ (r : Read). r.fault) (reads h);
         agrees = subst (λ (r : Read). Agrees new r.begun.part) (sym (reads h)) done.2;
-        games = ap (λ n. n + 1) has_read.games ∙ sym (ap (length {A = Game}) one.1 ∙ length-snoc b.games one.0);
-        at_hand = (b.games, one.0, one.1, one.2);
+        games = ap (λ n. n + 1) has_read.games ∙ sym (ap (length {A = Game}) one ∙ length-snoc b.games g);
+        plies = plies ∙ ap (λ n. n + plies_next (next b.part t.kind)) has_read.plies ∙ ap (λ n. sum (map plies_of b.games) + n) done.4
+            ∙ sym (ap (λ games. sum (map plies_of games)) one ∙ plies-snoc b.games g);
+        probed = λ moves. elim (moves-snoc b.games g (subst (λ games. IsTrue (play_moves games)) one moves)) [
+          | inl before ↦ omega (arith, has_read.probed before, probes)
+          | inr here ↦ behind.probed here
+        ];
+        at_hand = (b.games, g, one, hand_behind new g behind);
       }
 
   -- the token is refused
@@ -126,6 +171,12 @@ module _ (p : Profile) (old : Converter) (given : List Token) (t : Token) (l : S
       let some = subst (λ q. refusal q b.part t.kind ≡ Some reason) has_read.profile h in
       refused (record { at = t.at; reason = reason }) (ap (λ (r : Read). r.fault) (read-refuses p given t us reason has_read.passes some))
       (gains_nothing p given (given ++ t ∷ us) a c (due-refuses p given t us reason has_read.passes some) wrote)
+
+  pub none_before_refused : (us : List Token) (a c : Option (List ℕ)) (reason : Reason) (h : refusal old.reading.profile b.part t.kind ≡ Some reason) (wrote : Appends a c [])
+      → games_before (stops_refused us a c reason h wrote) ≡ b.games
+  unfolding stops_refused
+  none_before_refused us a c reason h wrote =
+      ap (λ (r : Read). r.begun.games) (read-refuses p given t us reason has_read.passes (subst (λ q. refusal q b.part t.kind ≡ Some reason) has_read.profile h))
 
   -- a write failed
   pub writing : (us : List Token) (a c : Option (List ℕ)) → refusal old.reading.profile b.part t.kind ≡ None
@@ -147,6 +198,12 @@ module _ (p : Profile) (old : Converter) (given : List Token) (t : Token) (l : S
         appended = subst (λ q. Appends a c (take n (gain q b.part t.kind))) has_read.profile wrote;
       }
 
+  pub none_before_unwritten : (us : List Token) (a c : Option (List ℕ)) (h : refusal old.reading.profile b.part t.kind ≡ None)
+      (wrote : (n : ℕ) × (n < length (gain old.reading.profile b.part t.kind)) × Appends a c (take n (gain old.reading.profile b.part t.kind)))
+      → games_before (unwritten t.at (writing us a c h wrote)) ≡ b.games
+  unfolding writing
+  none_before_unwritten us a c h (n, short, wrote) = refl
+
 -- a text that goes on behind the bytes used goes on behind the piece
 next_in_piece : (l : Standing) (u piece : List ℕ) (used : ℕ) (given : List Token) → StandsAfter l (u ++ take used piece) (first (drop used piece)) given → AreNext (u ++ piece) None given
 next_in_piece l u piece used given stands s follows =
@@ -167,49 +224,47 @@ still_none-none (x ∷ xs) = refl
 -- What the reader answers to a token of the piece.
 pub took : (p : Profile) (old : Converter) (u : List ℕ) (given : List Token) (piece : List ℕ) (used : ℕ) (t : Token) (l : Standing) (new : Reading) (finished : Bool)
     (a c : Option (List ℕ)) (r : Result Accepted Stopped) → Stands p old u (first piece) given → AfterScan u (first piece) given piece l used (token t)
-    → EndsAt t.kind t.at l.count → l.count ≡ old.lexer.count + used → new.profile ≡ old.reading.profile
+    → EndsAt t.kind t.at l.count → l.count ≡ old.lexer.count + used → new.profile ≡ old.reading.profile → old.reading.most_probes ≤ new.most_probes
     → Answers old.reading (read p given).begun.part t.kind new r a c
     → AfterStep p u given piece (stepped l new old.games finished (stepped_of t.at r)) used (stepped_of t.at r) a c
-unfolding stops_refused writing
-took p old u given piece used t l new finished a c (Ok accepted.More) stands scan ends count profile (none, leads, wrote) = (
+took p old u given piece used t l new finished a c (Ok accepted.More) stands scan ends count profile probes h = (
   t,
   record {
-    stands = record { lexer = scan.0; has_read = has_read_more p old given t l new finished stands.has_read profile none leads };
+    stands = record { lexer = scan.0; has_read = has_read_more p old given t l new finished stands.has_read profile probes h.free h.leads h.plies };
     decided = scan.1;
     ends = subst (EndsAt t.kind t.at) (count ∙ ap (λ n. n + used) stands.lexer.count) ends;
-    gains = gains_token p old given t l new finished stands.has_read profile a c none wrote;
+    gains = gains_token p old given t l new finished stands.has_read profile probes a c h.free h.appended;
   },
-  same_games p old given t l new finished stands.has_read profile none leads,
+  same_games p old given t l new finished stands.has_read profile probes h.free h.leads,
 )
-took p old u given piece used t l new finished a c (Ok accepted.Finished) stands scan ends count profile (none, leads, wrote) =
-    let one = one_game p old given t l new finished stands.has_read profile none leads in (
+took p old u given piece used t l new finished a c (Ok accepted.Finished) stands scan ends count profile probes h =
+    let one = one_game p old given t l new finished stands.has_read profile probes h.free h.leads in (
       t,
       record {
-        stands = record { lexer = scan.0; has_read = has_read_game p old given t l new finished stands.has_read profile none leads };
+        stands = record { lexer = scan.0; has_read = has_read_game p old given t l new finished stands.has_read profile probes h.free h.leads h.plies };
         decided = scan.1;
         ends = subst (EndsAt t.kind t.at) (count ∙ ap (λ n. n + used) stands.lexer.count) ends;
-        gains = gains_token p old given t l new finished stands.has_read profile a c none wrote;
+        gains = gains_token p old given t l new finished stands.has_read profile probes a c h.free h.appended;
       },
-      (one.0, one.1, ap (λ (ps : List Pair). Some ps) one.2),
+      (one.0, one.1, ap (λ (hand : AtHand). Some hand) one.2),
     )
-took p old u given piece used t l new finished a c (Err (stopped.Refused reason)) stands scan ends count profile (some, wrote) =
-    let refusal_in_p = subst (λ q. refusal q (read p given).begun.part t.kind ≡ Some reason) stands.has_read.profile some in
+took p old u given piece used t l new finished a c (Err (stopped.Refused reason)) stands scan ends count profile probes (some, wrote) =
     record {
       fed = record {
         tokens = given ++ t ∷ [];
         next = subst (λ b. AreNext (u ++ piece) b (given ++ t ∷ [])) (sym (still_none-none piece)) (next_in_piece l u piece used (given ++ t ∷ []) scan.0);
-        stops = stops_refused p old given t l new finished stands.has_read profile [] a c reason some wrote;
+        stops = stops_refused p old given t l new finished stands.has_read profile probes [] a c reason some wrote;
       };
-      no_game = ap (λ (r : Read). r.begun.games) (read-refuses p given t [] reason stands.has_read.passes refusal_in_p);
+      no_game = none_before_refused p old given t l new finished stands.has_read profile probes [] a c reason some wrote;
     }
-took p old u given piece used t l new finished a c (Err stopped.Unwritten) stands scan ends count profile (none, wrote) =
+took p old u given piece used t l new finished a c (Err stopped.Unwritten) stands scan ends count profile probes (none, wrote) =
     record {
       fed = record {
         tokens = given ++ t ∷ [];
         next = subst (λ b. AreNext (u ++ piece) b (given ++ t ∷ [])) (sym (still_none-none piece)) (next_in_piece l u piece used (given ++ t ∷ []) scan.0);
-        stops = unwritten t.at (writing p old given t l new finished stands.has_read profile [] a c none wrote);
+        stops = unwritten t.at (writing p old given t l new finished stands.has_read profile probes [] a c none wrote);
       };
-      no_game = refl;
+      no_game = none_before_unwritten p old given t l new finished stands.has_read profile probes [] a c none wrote;
     }
 
 -- no token in the piece
@@ -221,7 +276,7 @@ took_none p old u given piece used l o some stands scan =
       scan.0,
       record {
         lexer = subst (λ b. StandsAfter l (u ++ piece) b given) (still_none (first piece) piece some) scan.1;
-        has_read = record { profile = h.profile; no_fault = h.no_fault; passes = h.passes; agrees = h.agrees; games = h.games; at_hand = h.at_hand };
+        has_read = record { profile = h.profile; no_fault = h.no_fault; passes = h.passes; agrees = h.agrees; games = h.games; plies = h.plies; probed = h.probed; at_hand = h.at_hand };
       },
       scan.2 some,
       gains_none p given o,
@@ -239,10 +294,15 @@ stops_lexical p given f o passes =
     refused (record { at = f.at; reason = Lexical f.reason }) (ap (λ (r : Read). r.fault) (read-refuses p given (refusal_token f) [] (Lexical f.reason) passes some))
     (gains_nothing p given (given ++ refusal_token f ∷ []) o o (due-refuses p given (refusal_token f) [] (Lexical f.reason) passes some) (Appends-nil o))
 
+pub none_before_lexical : (p : Profile) (given : List Token) (f : LexFault) (o : Option (List ℕ)) (passes : (read p given).fault ≡ None)
+    → games_before (stops_lexical p given f o passes) ≡ (read p given).begun.games
+unfolding stops_lexical
+none_before_lexical p given f o passes =
+    ap (λ (r : Read). r.begun.games) (read-refuses p given (refusal_token f) [] (Lexical f.reason) passes (lexical-refusal p (read p given).begun.part f))
+
 pub took_fault : (p : Profile) (old : Converter) (u : List ℕ) (given : List Token) (piece : List ℕ) (used : ℕ) (f : LexFault) (l : Standing) (new : Converter) (o : Option (List ℕ)) → 0 < length piece
     → Stands p old u (first piece) given → AfterScan u (first piece) given piece l used (fault f)
     → AfterStep p u given piece new used (Failed (record { at = f.at; reason = Lexical f.reason })) o o
-unfolding stops_lexical
 took_fault p old u given piece used f l new o some stands scan =
     record {
       fed = record {
@@ -252,5 +312,5 @@ took_fault p old u given piece used f l new o some stands scan =
             ([], scan.0 s rest ∙ sym (append-nil (given ++ refusal_token f ∷ [])));
         stops = stops_lexical p given f o stands.has_read.passes;
       };
-      no_game = ap (λ (r : Read). r.begun.games) (read-refuses p given (refusal_token f) [] (Lexical f.reason) stands.has_read.passes (lexical-refusal p (read p given).begun.part f));
+      no_game = none_before_lexical p given f o stands.has_read.passes;
     }

@@ -5,21 +5,22 @@ use Rattle.pgn_lexer.specs.Tokens as tokens
 use Rattle.pgn_lexer.specs.declared.token.LexReason.TheVariants as lexical
 use Rattle.pgn_game.specs.declared.mode.Mode.TheVariants.{Full, Reduced}
 use Rattle.pgn_game.specs.declared.reason.Reason.{Reason}
-use Rattle.pgn_game.specs.declared.reason.Reason.TheVariants.{Lexical, ExpectedName, BadTagName, DuplicateTag, TooManyTags, ExpectedValue, BadResult, TagLineTooLong, ExpectedBracket, ReducedFen, NotAMove, ResultDiffers, UnexpectedEnd}
+use Rattle.pgn_game.specs.declared.reason.Reason.TheVariants.{Lexical, ExpectedName, BadTagName, DuplicateTag, TooManyTags, ExpectedValue, BadResult, TagLineTooLong, ExpectedBracket, ReducedFen, NotAMove, NoMoveBefore, ResultDiffers, UnexpectedEnd}
 use Rattle.pgn_game.specs.Profile.{Profile, counts_as_unknown, takes_the_marker}
+use Rattle.pgn_game.specs.Chess.{move_of}
 use Rattle.pgn_game.specs.FaultTable.{refusal, rows}
 use Rattle.pgn_game.specs.Reason.{number_of}
 use Rattle.pgn_game.specs.Game.{no_part}
 use Rattle.pgn_game.specs.TagSection.{roster}
 use Rattle.pgn_game.specs.Begun.{output, verdict, Verdict, refused, totals}
 
-abbrev plain : Profile
+abbrev pub plain : Profile
 plain = record { tags = 64; depth = 32; mode = Full; missing_result = counts_as_unknown }
 
 abbrev two_pairs : Profile
 two_pairs = record { tags = 2; depth = 32; mode = Full; missing_result = counts_as_unknown }
 
-abbrev reduced : Profile
+abbrev pub reduced : Profile
 reduced = record { tags = 64; depth = 32; mode = Reduced; missing_result = counts_as_unknown }
 
 abbrev reduced_full : Profile
@@ -32,20 +33,20 @@ abbrev checked : Profile
 checked = record { tags = 64; depth = 32; mode = Full; missing_result = takes_the_marker }
 
 -- a verdict and what is written
-abbrev Gives : Profile → List ℕ → Verdict → List ℕ → Type 0
+abbrev pub Gives : Profile → List ℕ → Verdict → List ℕ → Type 0
 Gives p s v text = (verdict p s ≡ v) × (output p s ≡ text)
 
-abbrev counted : ℕ → Verdict
+abbrev pub counted : ℕ → Verdict
 counted games = totals (record { games = games; plies = 0 })
 
-abbrev fault : ℕ → Reason → Verdict
+abbrev pub fault : ℕ → Reason → Verdict
 fault at reason = refused (record { at = at; reason = reason })
 
 -- the six roster lines before Result, with no value
-abbrev unknown : List ℕ
+abbrev pub unknown : List ℕ
 unknown = codes "[Event \"?\"]\n[Site \"?\"]\n[Date \"????.??.??\"]\n[Round \"?\"]\n[White \"?\"]\n[Black \"?\"]\n"
 
-abbrev head : List ℕ
+abbrev pub head : List ℕ
 head = unknown ++ codes "[Result \"*\"]\n\n"
 
 empty_input : Gives plain [] (counted 0) []
@@ -137,7 +138,7 @@ unfolding refusal roster
 fen_in_reduced_mode = (refl, refl)
 
 no_move : Gives plain (codes "e9 *") (fault 0 NotAMove) []
-unfolding refusal roster
+unfolding refusal roster move_of
 no_move = (refl, refl)
 
 result_differs : Gives plain (codes "[Result \"1-0\"] 0-1") (fault 15 ResultDiffers) []
@@ -228,26 +229,19 @@ lone_string : Gives plain (codes "\"x\" *") (fault 0 NotAMove) ([])
 unfolding refusal roster
 lone_string = (refl, refl)
 
-comment_after_tags : Gives plain (codes "[A \"1\"]{a} *") (fault 7 NotAMove) ([])
+comment_after_tags : Gives plain (codes "[A \"1\"]{a} *") (counted 1) (unknown ++ codes "[Result \"*\"]\n[A \"1\"]\n\n{ a } *\n\n")
 unfolding refusal roster
 comment_after_tags = (refl, refl)
 
-number : Gives plain (codes "1. e4 *") (fault 0 NotAMove) ([])
-unfolding refusal roster
-number = (refl, refl)
-
-parenthesis : Gives plain (codes "(e4) *") (fault 0 NotAMove) ([])
+parenthesis : Gives plain (codes "(e4) *") (fault 0 NoMoveBefore) ([])
 unfolding refusal roster
 parenthesis = (refl, refl)
-
-fen_is_copied : Gives plain (codes "[FEN \"x\"] *") (counted 1) (unknown ++ codes "[Result \"*\"]\n[FEN \"x\"]\n\n*\n\n")
-unfolding refusal roster
-fen_is_copied = (refl, refl)
 
 result_differs_from_a_pair : Gives checked (codes "[Result \"1-0\"] 0-1") (fault 15 ResultDiffers) ([])
 unfolding refusal roster
 result_differs_from_a_pair = (refl, refl)
 
 -- the rows of the table stand in the order of their numbers
-in_order : map (λ r. number_of r.reason) (rows plain no_part tokens.end) ≡ 20 ∷ 21 ∷ 22 ∷ 23 ∷ 24 ∷ 25 ∷ 27 ∷ 27 ∷ 28 ∷ 31 ∷ 33 ∷ 41 ∷ 42 ∷ []
+in_order : map (λ r. number_of r.reason) (rows plain no_part tokens.end) ≡ 20 ∷ 21 ∷ 22 ∷ 23 ∷ 24 ∷ 25 ∷ 26 ∷ 27 ∷ 27 ∷ 28 ∷ 30 ∷ 31 ∷ 32 ∷ 33
+    ∷ 34 ∷ 35 ∷ 36 ∷ 37 ∷ 38 ∷ 39 ∷ 40 ∷ 41 ∷ 42 ∷ []
 in_order = refl

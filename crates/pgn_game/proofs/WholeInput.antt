@@ -1,5 +1,6 @@
 -- Conversions of whole inputs.
 use Rattle.std.proofs.Common.{◌≡◌, ℕ, ◌+◌, ◌^◌, ◌<◌, ◌≤◌, List, [], ◌∷◌, ◌++◌, length, take, drop, Option, None, Some, Result, Ok, Err, IfSome, OnOk, refl, sym, ap, subst, ◌∙◌, append-nil, append_assoc, length-append, length-take-le, length-drop, arith}
+use Rattle.std.specs.Prelude.{map, sum}
 use Rattle.std.proofs.lemmas.List.{take-append-drop}
 use Rattle.std.proofs.KnownBytes.{Consumes-nil, Consumes-trans}
 use Rattle.std.specs.Io.KnownBytes.{Appends, Consumes, Keeps, IsAtEnd}
@@ -11,12 +12,14 @@ use Rattle.pgn_game.specs.declared.reason.Reason.TheVariants.{ReadFault, InputTo
 use Rattle.pgn_game.specs.declared.reason.Fault.{Fault}
 use Rattle.pgn_game.specs.declared.whole.Totals.{Totals}
 use Rattle.pgn_game.specs.Profile.{Profile}
+use Rattle.pgn_game.specs.Here.{plies_of}
+use Rattle.pgn_game.specs.Reading.{whole_plies}
 use Rattle.pgn_game.specs.Begun.{nothing_begun, Read, read, written, due, refused as is_refused, totals, verdict_of}
 use Rattle.pgn_game.specs.Due.{Gains}
 use Rattle.pgn_game.specs.Feeding.{Converter, Stands, Stops, refused, unwritten, StopsWriting, FedFault, AfterFeedAll, Finishes}
-use Rattle.pgn_game.specs.Converting.{verdict_in, IsConverted, ReadsNoMore, FailsOn, Fails, FedWithin, FedTooMuch, StopsWithin, AfterWithin, AfterSome, AfterEnd, ReadSoFar, Converts, ConvertsSlice}
+use Rattle.pgn_game.specs.Converting.{IsConverted, IsTotalled, ReadsNoMore, FailsOn, Fails, FedWithin, FedTooMuch, StopsWithin, AfterWithin, AfterSome, AfterEnd, ReadSoFar, Converts, ConvertsSlice}
 use Rattle.pgn_game.specs.Converting as converting
-use Rattle.pgn_game.proofs.Growing.{gains_none, gains_more, stops_more, stops_from}
+use Rattle.pgn_game.proofs.Growing.{torn-none, gains_none, gains_more, stops_more, stops_from}
 use Rattle.pgn_game.proofs.OneToken.{still_none-none}
 
 -- a piece without a byte
@@ -79,23 +82,27 @@ too_much p u given piece n new a c place more fed =
       gains = fed.gains;
     }
 
-verdict_passes : (r : Read) → r.fault ≡ None → verdict_of r ≡ totals (record { games = length r.begun.games; plies = 0 })
-verdict_passes r e = ap (λ (o : Option Fault). elim o [ Some f ↦ is_refused f | None ↦ totals (record { games = length r.begun.games; plies = 0 }) ]) e
+verdict_passes : (r : Read) → r.fault ≡ None → verdict_of r ≡ totals (record { games = length r.begun.games; plies = sum (map plies_of r.begun.games) })
+verdict_passes r e = ap (λ (o : Option Fault). elim o [ Some f ↦ is_refused f | None ↦ totals (record { games = length r.begun.games; plies = sum (map plies_of r.begun.games) }) ]) e
 
 verdict_refused : (r : Read) (f : Fault) → r.fault ≡ Some f → verdict_of r ≡ is_refused f
-verdict_refused r f e = ap (λ (o : Option Fault). elim o [ Some f ↦ is_refused f | None ↦ totals (record { games = length r.begun.games; plies = 0 }) ]) e
+verdict_refused r f e = ap (λ (o : Option Fault). elim o [ Some f ↦ is_refused f | None ↦ totals (record { games = length r.begun.games; plies = sum (map plies_of r.begun.games) }) ]) e
 
-pub ended : (p : Profile) (u : List ℕ) (given : List Token) (new : Converter) (is_game : _) (t : Totals) (a c : Option (List ℕ)) → Finishes p u given new is_game a c → t.games ≡ new.games → t.plies ≡ 0
-    → AfterEnd p u given (Ok t) a c
-ended p u given new is_game t a c done games plies = (
+pub ended : (p : Profile) (u : List ℕ) (given : List Token) (new : Converter) (is_game : _) (t : Totals) (a c : Option (List ℕ)) → Finishes p u given new is_game a c
+    → t.games ≡ new.games → t.plies ≡ whole_plies new.reading → t.most_probes ≡ new.reading.most_probes → t.most_probes ≤ 1040 → AfterEnd p u given (Ok t) a c
+ended p u given new is_game t a c done games plies probes bound = (
   verdict_passes (read p (tokens_of u)) done.has_read.passes
-      ∙ ap (λ n. totals (record { games = n; plies = 0 })) (sym (games ∙ done.has_read.games)) ∙ ap (λ n. totals (record { games = t.games; plies = n })) (sym plies),
+      ∙ ap (λ n. totals (record { games = n; plies = sum (map plies_of (read p (tokens_of u)).begun.games) })) (sym (games ∙ done.has_read.games))
+      ∙ ap (λ n. totals (record { games = t.games; plies = n })) (sym (plies ∙ done.has_read.plies)),
+  record { most = bound; some = λ moves. subst (λ n. 0 < n) (sym probes) (done.has_read.probed moves) },
   done.gains,
 )
 
 -- what was due from the start on
 appended : (p : Profile) (tokens : List Token) (a c : Option (List ℕ)) → Gains p [] tokens a c → Appends a c (due p tokens)
-appended p tokens a c gains = subst (Appends a c) (sym gains.due_for) gains.appended
+appended p tokens a c gains =
+    let whole : due p tokens ≡ gains.text = gains.due_for ∙ ap (λ l. l ++ gains.text) (torn-none p.missing_result p.mode) in
+    subst (Appends a c) (sym whole) gains.appended
 
 pub read_none : (p : Profile) (c : Converter) (left o : Option (List ℕ)) → Stands p c [] None [] → ReadSoFar p left left c o o
 read_none p c left o stands =
@@ -201,10 +208,10 @@ stops_in_piece p left_old left left_new now a c d piece f so consumed (convertin
 -- the source's end
 pub ends_here : (p : Profile) (left_old left left_new : Option (List ℕ)) (now : Converter) (a c d : Option (List ℕ)) (r : Result Totals Fault) (so : ReadSoFar p left_old left now a c)
     → Consumes left left_new [] → IsAtEnd left_new → AfterEnd p so.bytes so.tokens r c d → Converts p left_old left_new r a d
-ends_here p left_old left left_new now a c d (Ok t) so consumed end (is_verdict, gains) =
+ends_here p left_old left left_new now a c d (Ok t) so consumed end (is_verdict, probes, gains) =
     let all = subst (Consumes left_old left_new) (append-nil so.bytes) (Consumes-trans left_old left left_new so.bytes [] so.consumed consumed) in
-    known_whole left_old left_new so.bytes (λ s. IsConverted p s (verdict_in t) a d) all end
-    (is_verdict, appended p (tokens_of so.bytes) a d (gains_more p [] so.tokens (tokens_of so.bytes) a c d so.gains gains))
+    known_whole left_old left_new so.bytes (λ s. IsTotalled p s t a d) all end
+    (record { converted = (is_verdict, appended p (tokens_of so.bytes) a d (gains_more p [] so.tokens (tokens_of so.bytes) a c d so.gains gains)); probes = probes })
 ends_here p left_old left left_new now a c d (Err f) so consumed end stops = by_stops (stops_more p [] so.tokens (tokens_of so.bytes) f a c d so.gains stops)
   where
     all : Consumes left_old left_new so.bytes
@@ -236,8 +243,8 @@ slice_stops p f text a c (converting.too_long much) =
 
 pub slice_ends : (p : Profile) (text : List ℕ) (now : Converter) (a c d : Option (List ℕ)) (r : Result Totals Fault) (fed : FedWithin p [] [] text now a c) → AfterEnd p text fed.tokens r c d
     → ConvertsSlice p text r a d
-slice_ends p text now a c d (Ok t) fed (is_verdict, gains) =
-    (is_verdict, appended p (tokens_of text) a d (gains_more p [] fed.tokens (tokens_of text) a c d fed.gains gains))
+slice_ends p text now a c d (Ok t) fed (is_verdict, probes, gains) =
+    record { converted = (is_verdict, appended p (tokens_of text) a d (gains_more p [] fed.tokens (tokens_of text) a c d fed.gains gains)); probes = probes }
 slice_ends p text now a c d (Err f) fed stops = by_stops (stops_more p [] fed.tokens (tokens_of text) f a c d fed.gains stops)
   where
     by_stops : {h : Fault} → Stops p [] (tokens_of text) a d h → FailsOn p text a d h

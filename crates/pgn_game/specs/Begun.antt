@@ -1,5 +1,7 @@
 -- Tokens read into games, and what is due for them.
-use Rattle.std.specs.Prelude.{ℕ, List, [], ◌∷◌, ◌++◌, length, Option, None, Some}
+use Rattle.std.specs.Prelude.{ℕ, true, false, List, [], ◌∷◌, ◌++◌, length, map, sum, Option, None, Some, Result, Ok, Err}
+use Rattle.chess_text.specs.declared.resolve.Played.{Played}
+use Rattle.chess_text.specs.declared.resolve.SanFault.{SanFault}
 use Rattle.pgn_lexer.specs.Tokens as tokens
 use Rattle.pgn_lexer.specs.Tokens.{Kind, Token}
 use Rattle.pgn_lexer.specs.TokensOf.{tokens_of}
@@ -7,9 +9,12 @@ use Rattle.pgn_game.specs.declared.reason.Fault.{Fault}
 use Rattle.pgn_game.specs.Profile.{Profile}
 use Rattle.pgn_game.specs.Pairs.{insert_pair}
 use Rattle.pgn_game.specs.declared.stage.Stage.{Stage}
-use Rattle.pgn_game.specs.declared.stage.Stage.TheVariants.{Between, AfterBracket, AfterName, AfterValue, AfterTags}
-use Rattle.pgn_game.specs.Game.{Game, Part, no_part}
-use Rattle.pgn_game.specs.FaultTable.{refusal, marker_of}
+use Rattle.pgn_game.specs.declared.stage.Stage.TheVariants.{Between, AfterBracket, AfterName, AfterValue, AfterTags, InMovetext}
+use Rattle.pgn_game.specs.Chess.{move_of}
+use Rattle.pgn_game.specs.Game as games
+use Rattle.pgn_game.specs.Game.{Item, Game, Part, no_part}
+use Rattle.pgn_game.specs.Here.{plies_of}
+use Rattle.pgn_game.specs.FaultTable.{refusal, marker_of, is_number, position_in}
 use Rattle.pgn_game.specs.Text.{text_of, torn}
 
 -- the part that a token leaves, or the game that it finishes
@@ -18,25 +23,51 @@ pub data Next : Type 0 where
   whole : Game → Next
 
 abbrev pub at_stage : Stage → Part → Part
-at_stage stage part = record { stage = stage; pairs = part.pairs; name = part.name }
+at_stage stage part = record { stage = stage; pairs = part.pairs; name = part.name; items = part.items }
 
--- a token of movetext: a marker finishes the game
+-- the one move that a symbol names; a symbol that names none is refused
+abbrev pub item_of : Option (Result Played SanFault) → List Item
+item_of None = []
+item_of (Some (Err fault)) = []
+item_of (Some (Ok played)) = games.move played.mv ∷ []
+
+-- what a token of movetext adds: numbers and periods nothing (PGN 8.2.2.1)
+abbrev pub items_of : Part → Kind → List Item
+items_of part (tokens.symbol s) = elim (is_number s) [ true ↦ [] | false ↦ item_of (move_of (position_in part) s) ]
+items_of part (tokens.glyph n) = games.glyph n ∷ []
+items_of part tokens.comment_open = games.comment_open ∷ []
+items_of part (tokens.word text) = games.word text ∷ []
+items_of part tokens.comment_close = games.comment_close ∷ []
+items_of part tokens.left_paren = games.open_variation ∷ []
+items_of part tokens.right_paren = games.close_variation ∷ []
+items_of part _ = []
+
+-- a token of movetext: a marker finishes the game, any other adds its items
 abbrev pub in_text : Part → Kind → Next
-in_text part k = elim (marker_of k) [ Some marker ↦ whole (record { pairs = part.pairs; marker = marker }) | None ↦ going part ]
+in_text part k =
+    elim (marker_of k) [
+      | Some marker ↦ whole (record { pairs = part.pairs; items = part.items; marker = marker })
+      | None ↦ going (record { stage = InMovetext; pairs = part.pairs; name = part.name; items = part.items ++ items_of part k })
+    ]
 
--- What a token that is not refused leads to, stage by stage. Comments before a game and in a pair are dropped.
+-- What a token that is not refused leads to, stage by stage. Comments before a game and in a pair are dropped, and the end leads nowhere.
 abbrev pub next_in : Stage → Part → Kind → Next
 next_in Between part tokens.left_bracket = going (at_stage AfterBracket part)
+next_in Between part tokens.comment_open = going part
+next_in Between part (tokens.word text) = going part
+next_in Between part tokens.comment_close = going part
+next_in Between part tokens.end = going part
 next_in Between part k = in_text part k
-next_in AfterBracket part (tokens.symbol name) = going (record { stage = AfterName; pairs = part.pairs; name = name })
+next_in AfterBracket part (tokens.symbol name) = going (record { stage = AfterName; pairs = part.pairs; name = name; items = part.items })
 next_in AfterBracket part k = going part
 next_in AfterName part (tokens.str value) =
-    going (record { stage = AfterValue; pairs = insert_pair (record { name = part.name; value = value }) part.pairs; name = [] })
+    going (record { stage = AfterValue; pairs = insert_pair (record { name = part.name; value = value }) part.pairs; name = []; items = part.items })
 next_in AfterName part k = going part
 next_in AfterValue part tokens.right_bracket = going (at_stage AfterTags part)
 next_in AfterValue part k = going part
 next_in AfterTags part tokens.left_bracket = going (at_stage AfterBracket part)
 next_in AfterTags part k = in_text part k
+next_in InMovetext part k = in_text part k
 
 -- what a token leads to
 abbrev pub next : Part → Kind → Next
@@ -97,7 +128,7 @@ pub data Verdict : Type 0 where
   totals : Counted → Verdict
 
 abbrev pub verdict_of : Read → Verdict
-verdict_of r = elim r.fault [ Some f ↦ refused f | None ↦ totals (record { games = length r.begun.games; plies = 0 }) ]
+verdict_of r = elim r.fault [ Some f ↦ refused f | None ↦ totals (record { games = length r.begun.games; plies = sum (map plies_of r.begun.games) }) ]
 
 -- how a text ends
 abbrev pub verdict : Profile → List ℕ → Verdict

@@ -1,5 +1,5 @@
 -- What a conversion of a whole input does.
-use Rattle.std.specs.Prelude.{◌≡◌, ℕ, ◌^◌, ◌<◌, List, [], ◌++◌, length, Option, None, Result, Ok, Err, IfSome}
+use Rattle.std.specs.Prelude.{◌≡◌, ℕ, ◌^◌, ◌<◌, ◌≤◌, IsTrue, List, [], ◌++◌, length, Option, None, Result, Ok, Err, IfSome}
 use Rattle.std.specs.Io.KnownBytes.{Appends, Consumes}
 use Rattle.pgn_layout.specs.Device.{one_more}
 use Rattle.pgn_lexer.specs.Tokens.{Token}
@@ -12,7 +12,7 @@ use Rattle.pgn_game.specs.declared.whole.Totals.{Totals}
 use Rattle.pgn_game.specs.Profile.{Profile}
 use Rattle.pgn_game.specs.Begun.{read, due, output, Verdict, refused as is_refused, totals, verdict}
 use Rattle.pgn_game.specs.Due.{Gains}
-use Rattle.pgn_game.specs.Feeding.{Converter, Stands, StopsWriting, Stops, FedFault}
+use Rattle.pgn_game.specs.Feeding.{Converter, play_moves, Stands, StopsWriting, Stops, FedFault}
 
 -- the verdict that has these numbers
 abbrev pub verdict_in : Totals → Verdict
@@ -21,6 +21,17 @@ verdict_in t = totals (record { games = t.games; plies = t.plies })
 -- the text s is converted: its verdict is v, and its output is written
 abbrev pub IsConverted : Profile → List ℕ → Verdict → Option (List ℕ) → Option (List ℕ) → Type 0
 IsConverted p s v before after = (verdict p s ≡ v) × Appends before after (output p s)
+
+-- The most pairs tried for one move: at most 1,040, which is 8 for the candidates of its piece, 8 for their rivals, and 1,024 for an answer
+-- to a check; and at least one, if any move was played.
+pub record CountsProbes (p : Profile) (s : List ℕ) (n : ℕ) : Type 0 where
+  pub most : n ≤ 1040
+  pub some : IsTrue (play_moves (read p (tokens_of s)).begun.games) → 0 < n
+
+-- the same with these numbers
+pub record IsTotalled (p : Profile) (s : List ℕ) (t : Totals) (before after : Option (List ℕ)) : Type 0 where
+  pub converted : IsConverted p s (verdict_in t) before after
+  pub probes : CountsProbes p s t.most_probes
 
 -- After the bytes u, of which nothing is refused, no more are read: what they decide is written.
 pub record ReadsNoMore (p : Profile) (u : List ℕ) (before after : Option (List ℕ)) : Type 0 where
@@ -35,7 +46,7 @@ pub data FailsOn (p : Profile) (text : List ℕ) (before after : Option (List �
       → FailsOn p text before after (record { at = length u; reason = InputTooLong })
 
 abbrev pub ConvertsSlice : Profile → List ℕ → Result Totals Fault → Option (List ℕ) → Option (List ℕ) → Type 0
-ConvertsSlice p text (Ok t) before after = IsConverted p text (verdict_in t) before after
+ConvertsSlice p text (Ok t) before after = IsTotalled p text t before after
 ConvertsSlice p text (Err f) before after = FailsOn p text before after f
 
 -- How a conversion fails: by the input's own fault; because a read failed behind the bytes u; because a write failed when the bytes
@@ -50,7 +61,7 @@ pub data Fails (p : Profile) (left_old left_new : Option (List ℕ)) (before aft
 
 -- What the source has left is converted, up to its end.
 abbrev pub Converts : Profile → Option (List ℕ) → Option (List ℕ) → Result Totals Fault → Option (List ℕ) → Option (List ℕ) → Type 0
-Converts p left_old left_new (Ok t) before after = IfSome left_old (λ s. IsConverted p s (verdict_in t) before after)
+Converts p left_old left_new (Ok t) before after = IfSome left_old (λ s. IsTotalled p s t before after)
 Converts p left_old left_new (Err f) before after = Fails p left_old left_new before after f
 
 -- 50 is answered where the source counts one failure more, 51 where the sink does, and nowhere else does one count.
@@ -124,7 +135,7 @@ CountsPiece (Err f) old new = CountsWithin f.reason old new
 
 -- How a conversion ends behind the bytes u, which are then the whole input.
 abbrev pub AfterEnd : Profile → List ℕ → List Token → Result Totals Fault → Option (List ℕ) → Option (List ℕ) → Type 0
-AfterEnd p u given (Ok t) before after = (verdict p u ≡ verdict_in t) × Gains p given (tokens_of u) before after
+AfterEnd p u given (Ok t) before after = (verdict p u ≡ verdict_in t) × CountsProbes p u t.most_probes × Gains p given (tokens_of u) before after
 AfterEnd p u given (Err f) before after = Stops p given (tokens_of u) before after f
 
 -- What was read of a source so far, and fed.

@@ -1,19 +1,26 @@
 -- The fault table: which token is refused after which part of a game, and why.
-use Rattle.std.specs.Prelude.{ℕ, ◌+◌, Bool, true, false, ◌||◌, ◌&&◌, not, List, [], ◌∷◌, length, nat_lt, nat_le, ◌==◌, Option, None, Some, bytes_eq, unwrap_or, is_some, codes}
+use Rattle.std.specs.Prelude.{ℕ, ◌+◌, Bool, true, false, ◌||◌, ◌&&◌, not, List, [], ◌∷◌, length, nat_lt, nat_le, ◌==◌, Option, None, Some, Result, Ok, Err, bytes_eq, unwrap_or, is_some, codes}
+use Rattle.chess_rules.specs.declared.position.Parts.{Parts}
+use Rattle.chess_text.specs.declared.fen.FenFault.{FenFault}
+use Rattle.chess_text.specs.declared.resolve.Played.{Played}
+use Rattle.chess_text.specs.declared.resolve.SanFault.{SanFault}
+use Rattle.chess_text.specs.declared.resolve.SanFault.TheVariants.{NoMove, Ambiguous}
 use Rattle.std.specs.List.{list_all}
 use Rattle.pgn_layout.specs.TagLine.{escaped}
 use Rattle.pgn_lexer.specs.Tokens as tokens
 use Rattle.pgn_lexer.specs.Tokens.{Kind}
-use Rattle.pgn_lexer.specs.Bytes.{starts_symbol}
+use Rattle.pgn_lexer.specs.Bytes.{starts_symbol, is_digit}
 use Rattle.pgn_game.specs.declared.reason.Reason.{Reason}
-use Rattle.pgn_game.specs.declared.reason.Reason.TheVariants.{Lexical, ExpectedName, BadTagName, DuplicateTag, TooManyTags, ExpectedValue, BadResult, TagLineTooLong, ExpectedBracket, ReducedFen, NotAMove, ResultDiffers, UnexpectedEnd}
+use Rattle.pgn_game.specs.declared.reason.Reason.TheVariants.{Lexical, ExpectedName, BadTagName, DuplicateTag, TooManyTags, ExpectedValue, BadResult, BadFen, TagLineTooLong, ExpectedBracket, SetUpWithoutFen, ReducedFen, TagInMovetext, NotAMove, IllegalMove, AmbiguousMove, MoveLimit, NoMoveBefore, TooDeep, UnmatchedClose, MarkerInVariation, ResultDiffers, UnexpectedEnd}
 use Rattle.pgn_game.specs.declared.mode.Mode.{Mode}
 use Rattle.pgn_game.specs.declared.mode.Mode.TheVariants.{Full, Reduced}
 use Rattle.pgn_game.specs.Profile.{Profile, Missing, counts_as_unknown, takes_the_marker}
-use Rattle.pgn_game.specs.Pairs.{value_of, has_pair}
+use Rattle.pgn_game.specs.Pairs.{Pair, value_of, has_pair}
 use Rattle.pgn_game.specs.declared.stage.Stage.{Stage}
-use Rattle.pgn_game.specs.declared.stage.Stage.TheVariants.{Between, AfterBracket, AfterName, AfterValue, AfterTags}
+use Rattle.pgn_game.specs.declared.stage.Stage.TheVariants.{Between, AfterBracket, AfterName, AfterValue, AfterTags, InMovetext}
+use Rattle.pgn_game.specs.Chess.{position_of, move_of, is_black_to_move}
 use Rattle.pgn_game.specs.Game.{Part}
+use Rattle.pgn_game.specs.Here.{Levels, levels_of, depth, here, start_of}
 
 -- Tests of a token.
 abbrev pub is_comment : Kind → Bool
@@ -29,6 +36,14 @@ is_left_bracket _ = false
 abbrev pub is_right_bracket : Kind → Bool
 is_right_bracket tokens.right_bracket = true
 is_right_bracket _ = false
+
+abbrev pub is_left_paren : Kind → Bool
+is_left_paren tokens.left_paren = true
+is_left_paren _ = false
+
+abbrev pub is_right_paren : Kind → Bool
+is_right_paren tokens.right_paren = true
+is_right_paren _ = false
 
 abbrev pub is_end : Kind → Bool
 is_end tokens.end = true
@@ -57,6 +72,7 @@ stage_number AfterBracket = 1
 stage_number AfterName = 2
 stage_number AfterValue = 3
 stage_number AfterTags = 4
+stage_number InMovetext = 5
 
 -- the part is at the stage
 abbrev pub is_at : Stage → Part → Bool
@@ -65,6 +81,10 @@ is_at stage part = stage_number stage == stage_number part.stage
 -- the stages at which a pair or the movetext can begin
 abbrev pub is_before_movetext : Part → Bool
 is_before_movetext part = is_at Between part || is_at AfterTags part
+
+-- the stages at which movetext can begin or go on
+abbrev pub is_outside_pairs : Part → Bool
+is_outside_pairs part = is_before_movetext part || is_at InMovetext part
 
 -- letters, digits and _ (PGN 8.1)
 abbrev pub in_name : ℕ → Bool
@@ -82,9 +102,65 @@ marker_of tokens.asterisk = Some (codes "*")
 marker_of (tokens.symbol s) = elim (is_score s) [ true ↦ Some s | false ↦ None ]
 marker_of _ = None
 
--- a token of movetext that is no marker: any but a `[`, the end, and a comment between games
-abbrev pub is_other_movetext : Part → Kind → Bool
-is_other_movetext part k = not (is_left_bracket k || is_end k || is_some (marker_of k) || (is_at Between part && is_comment k))
+abbrev pub is_marker : Kind → Bool
+is_marker k = is_some (marker_of k)
+
+-- Moves (PGN 8.2.3).
+
+-- digits alone, which may be a move number (PGN 8.2.2)
+abbrev pub is_number : List ℕ → Bool
+is_number s = list_all is_digit s
+
+-- the levels that the items so far leave, and the position there
+abbrev pub levels_in : Part → Levels
+levels_in part = levels_of part.items
+
+abbrev pub position_in : Part → Parts
+position_in part = here (start_of part.pairs) (levels_in part)
+
+-- it is none of the texts of a move; no legal move agrees; more than one does; one does
+abbrev pub is_no_form : Option (Result Played SanFault) → Bool
+is_no_form None = true
+is_no_form _ = false
+
+abbrev pub is_no_move : Option (Result Played SanFault) → Bool
+is_no_move (Some (Err NoMove)) = true
+is_no_move _ = false
+
+abbrev pub is_many_moves : Option (Result Played SanFault) → Bool
+is_many_moves (Some (Err Ambiguous)) = true
+is_many_moves _ = false
+
+abbrev pub is_one_move : Option (Result Played SanFault) → Bool
+is_one_move (Some (Ok played)) = true
+is_one_move _ = false
+
+-- a symbol that is neither a number nor a marker, and that passes as a move
+abbrev pub is_move_with : (Option (Result Played SanFault) → Bool) → Part → Kind → Bool
+is_move_with test part (tokens.symbol s) = elim (is_number s || is_score s) [ true ↦ false | false ↦ test (move_of (position_in part) s) ]
+is_move_with test part _ = false
+
+-- Black's move with the number 99,999 would lead to a number above it
+abbrev pub is_at_limit : Parts → Bool
+is_at_limit p = is_black_to_move p && (p.full == 99999)
+
+-- FEN and SetUp (PGN 9.7).
+
+-- the field for which a value is no FEN
+abbrev pub field_of : Result Parts FenFault → Option ℕ
+field_of (Ok p) = None
+field_of (Err fault) = Some fault.field
+
+abbrev pub fen_field : List ℕ → Option ℕ
+fen_field value = field_of (position_of value)
+
+abbrev pub fen_field_of : Kind → ℕ
+fen_field_of (tokens.str value) = unwrap_or (fen_field value) 0
+fen_field_of _ = 0
+
+-- SetUp is 1, and there is no FEN
+abbrev pub lacks_fen : List Pair → Bool
+lacks_fen ps = bytes_eq (unwrap_or (value_of ps (codes "SetUp")) []) (codes "1") && not (has_pair ps (codes "FEN"))
 
 -- the reduced format is written
 abbrev pub is_reduced : Mode → Bool
@@ -112,8 +188,9 @@ pub record Row : Type 0 where
 abbrev pub row : Reason → Bool → Row
 row reason holds = record { holds = holds; reason = reason }
 
--- The table, lowest number first. Of our own are the rules that a name is given once (22), that a game has so many pairs (23), that the
--- reduced format has no FEN (31), and that a missing Result counts as `*` (41).
+-- The table, lowest number first. Of our own are the rules that a name is given once (22), that a game has so many pairs (23), that SetUp 1 asks
+-- for a FEN (30), that the reduced format has no FEN (31), that no number passes 99,999 (36), that variations are so deep (38), and that a
+-- missing Result counts as `*` (41).
 abbrev pub rows : Profile → Part → Kind → List Row
 rows p part k =
     row ExpectedName (is_at AfterBracket part && not (is_symbol k || is_comment k))
@@ -122,13 +199,23 @@ rows p part k =
     ∷ row TooManyTags (is_before_movetext part && is_left_bracket k && nat_le p.tags (length part.pairs))
     ∷ row ExpectedValue (is_at AfterName part && not (is_string k || is_comment k))
     ∷ row BadResult (is_at AfterName part && bytes_eq part.name (codes "Result") && is_string_with (λ value. not (is_result value)) k)
+    ∷ row (BadFen (fen_field_of k)) (is_at AfterName part && bytes_eq part.name (codes "FEN") && is_string_with (λ value. is_some (fen_field value)) k)
     ∷ row TagLineTooLong (is_at AfterBracket part && is_symbol_with (λ name. nat_lt 249 (length name)) k)
     ∷ row TagLineTooLong (is_at AfterName part && is_string_with (λ value. nat_lt 249 (length part.name + length (escaped value))) k)
     ∷ row ExpectedBracket (is_at AfterValue part && not (is_right_bracket k || is_comment k))
+    ∷ row SetUpWithoutFen (is_at AfterTags part && not (is_left_bracket k || is_end k) && lacks_fen part.pairs)
     ∷ row ReducedFen (is_at AfterBracket part && is_reduced p.mode && is_symbol_with (λ name. bytes_eq name (codes "FEN")) k)
-    ∷ row NotAMove (is_before_movetext part && is_other_movetext part k)
-    ∷ row ResultDiffers (is_before_movetext part && has_other_result p.missing_result part k)
-    ∷ row UnexpectedEnd (is_at AfterTags part && is_end k)
+    ∷ row TagInMovetext (is_at InMovetext part && is_left_bracket k)
+    ∷ row NotAMove (is_outside_pairs part && (is_right_bracket k || is_string k || is_move_with is_no_form part k))
+    ∷ row IllegalMove (is_outside_pairs part && is_move_with is_no_move part k)
+    ∷ row AmbiguousMove (is_outside_pairs part && is_move_with is_many_moves part k)
+    ∷ row MoveLimit (is_outside_pairs part && is_move_with is_one_move part k && is_at_limit (position_in part))
+    ∷ row NoMoveBefore (is_outside_pairs part && is_left_paren k && not (levels_in part).present.holds_move)
+    ∷ row TooDeep (is_outside_pairs part && is_left_paren k && nat_le p.depth (depth (levels_in part)))
+    ∷ row UnmatchedClose (is_outside_pairs part && is_right_paren k && (depth (levels_in part) == 0))
+    ∷ row MarkerInVariation (is_outside_pairs part && is_marker k && nat_le 1 (depth (levels_in part)))
+    ∷ row ResultDiffers (is_outside_pairs part && has_other_result p.missing_result part k && (depth (levels_in part) == 0))
+    ∷ row UnexpectedEnd ((is_at AfterTags part || is_at InMovetext part) && is_end k)
     ∷ []
 
 abbrev pub first_holding : List Row → Option Reason

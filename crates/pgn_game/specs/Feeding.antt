@@ -1,6 +1,8 @@
 -- What a contract sees of a converter, and what a call does to it.
-use Rattle.std.specs.Prelude.{◌≡◌, ℕ, ◌+◌, ◌*◌, ◌^◌, ◌<◌, ◌≤◌, ◌↔◌, Bool, true, false, IsTrue, List, [], ◌∷◌, ◌++◌, length, take, drop, Option, None, Some, Result, Ok, Err}
+use Rattle.std.specs.Prelude.{◌≡◌, ℕ, ◌+◌, ◌*◌, ◌^◌, ◌<◌, ◌≤◌, ◌↔◌, Bool, true, false, IsTrue, List, [], ◌∷◌, ◌++◌, length, take, drop, map, sum, codes, option_map, Option, None, Some, Result, Ok, Err}
+use Rattle.std.specs.List.{list_any}
 use Rattle.std.specs.Io.KnownBytes.{Appends}
+use Rattle.chess_rules.specs.declared.position.Parts.{Parts}
 use Rattle.pgn_layout.specs.Device.{one_more}
 use Rattle.pgn_lexer.specs.Tokens.{Token, EndsAt}
 use Rattle.pgn_lexer.specs.TokensOf.{tokens_of}
@@ -20,14 +22,24 @@ use Rattle.pgn_game.specs.TagSection.{exported}
 use Rattle.pgn_game.specs.Game.{Game}
 use Rattle.pgn_game.specs.Begun.{read, due}
 use Rattle.pgn_game.specs.Due.{Gains}
-use Rattle.pgn_game.specs.Reading.{Reading, Agrees}
+use Rattle.pgn_game.specs.Here.{plies_of, last_position}
+use Rattle.pgn_game.specs.Reading.{Reading, Agrees, has_move, whole_plies}
 
--- the lexer, the reader, how many games were finished, the pairs of the game at hand, whether the input has ended, and the fault
+-- what is told of a game that is whole: its pairs, how many moves it has outside variations, and the position after these
+pub record AtHand : Type 0 where
+  pub pairs : List Pair
+  pub plies : ℕ
+  pub position : Parts
+
+abbrev pub hand_of : Game → AtHand
+hand_of g = record { pairs = g.pairs; plies = plies_of g; position = last_position g }
+
+-- the lexer, the reader, how many games were finished, the game at hand, whether the input has ended, and the fault
 pub record Converter : Type 0 where
   pub lexer : Standing
   pub reading : Reading
   pub games : ℕ
-  pub at_hand : Option (List Pair)
+  pub at_hand : Option AtHand
   pub is_finished : Bool
   pub fault : Option Fault
 
@@ -35,30 +47,47 @@ pub record Converter : Type 0 where
 abbrev pub profile_of : ℕ → ℕ → Mode → Profile
 profile_of most depth mode = record { tags = most; depth = depth; mode = mode; missing_result = counts_as_unknown }
 
--- the pairs of the reader, while a game is at hand
-abbrev pub pairs_if : Bool → List Pair → Option (List Pair)
-pairs_if true pairs = Some pairs
-pairs_if false pairs = None
+-- what the reader still holds of a game
+abbrev pub held_by : Reading → AtHand
+held_by reading = record { pairs = reading.tags.held; plies = reading.text.plies; position = reading.text.levels.present.present }
+
+-- the same, while a game is at hand
+abbrev pub held_if : Bool → Reading → Option AtHand
+held_if true reading = Some (held_by reading)
+held_if false reading = None
 
 -- What a converter keeps to. Before a fault its reader has not failed, and its counts stay small: a byte ends at most two tokens, so
--- the games fit. A game is at hand only between games, and not after a fault.
-pub record IsSound (lexer : Standing) (reading : Reading) (games : ℕ) (is_at_hand : Bool) (fault : Option Fault) : Type 0 where
+-- the games fit, and the moves; the end is one token more. A game is at hand only between games, and not after a fault.
+pub record IsSound (lexer : Standing) (reading : Reading) (games : ℕ) (is_at_hand is_finished : Bool) (fault : Option Fault) : Type 0 where
   pub count : fault ≡ None → lexer.count ≤ 2 ^ 62
   pub going : fault ≡ None → reading.layout.has_failed ≡ false
   pub few : fault ≡ None → games + waiting lexer ≤ 2 * lexer.count + 2
+  pub few_plies : fault ≡ None → reading.earlier_plies + reading.text.plies + waiting lexer ≤ 2 * lexer.count + 3
+  pub fewer_plies : fault ≡ None → is_finished ≡ false → reading.earlier_plies + reading.text.plies + waiting lexer ≤ 2 * lexer.count + 2
   pub between : IsTrue is_at_hand → reading.stage ≡ Between
   pub no_fault : IsTrue is_at_hand → fault ≡ None
 
--- the value of a name in the tag section of the game at hand
+-- What is told of the game at hand: the value of a name in its tag section, how many moves outside variations it has, and the position
+-- after them.
 abbrev pub value_at_hand : Converter → List ℕ → Option (List ℕ)
-value_at_hand c name = elim c.at_hand [ None ↦ None | Some pairs ↦ value_of (exported c.reading.profile.mode (42 ∷ []) pairs) name ]
+value_at_hand c name = elim c.at_hand [ None ↦ None | Some hand ↦ value_of (exported c.reading.profile.mode (codes "*") hand.pairs) name ]
 
--- the pairs at hand are those of the last game
-abbrev pub AreLast : Option (List Pair) → List Game → Type 0
-AreLast None games = Unit {0}
-AreLast (Some pairs) games = (earlier : List Game) × (g : Game) × (games ≡ earlier ++ g ∷ []) × (pairs ≡ g.pairs)
+abbrev pub plies_at_hand : Converter → ℕ
+plies_at_hand c = elim c.at_hand [ None ↦ 0 | Some hand ↦ hand.plies ]
 
--- The converter has read these tokens: none is refused, its reader agrees with the part that they leave, and its count and the game at
+abbrev pub position_at_hand : Converter → Option Parts
+position_at_hand c = option_map (λ hand. hand.position) c.at_hand
+
+-- the game at hand is the last one
+abbrev pub IsLast : Option AtHand → List Game → Type 0
+IsLast None games = Unit {0}
+IsLast (Some hand) games = (earlier : List Game) × (g : Game) × (games ≡ earlier ++ g ∷ []) × (hand ≡ hand_of g)
+
+-- a move is in one of the games
+abbrev pub play_moves : List Game → Bool
+play_moves games = list_any (λ g. has_move g.items) games
+
+-- The converter has read these tokens: none is refused, its reader agrees with the part that they leave, and its counts and the game at
 -- hand are theirs.
 pub record HasRead (p : Profile) (c : Converter) (given : List Token) : Type 0 where
   pub profile : c.reading.profile ≡ p
@@ -66,7 +95,9 @@ pub record HasRead (p : Profile) (c : Converter) (given : List Token) : Type 0 w
   pub passes : (read p given).fault ≡ None
   pub agrees : Agrees c.reading (read p given).begun.part
   pub games : c.games ≡ length (read p given).begun.games
-  pub at_hand : AreLast c.at_hand (read p given).begun.games
+  pub plies : whole_plies c.reading ≡ sum (map plies_of (read p given).begun.games)
+  pub probed : IsTrue (play_moves (read p given).begun.games) → 0 < c.reading.most_probes
+  pub at_hand : IsLast c.at_hand (read p given).begun.games
 
 -- The converter stands after the bytes u, of which the lexer has given these tokens; b, where there is one, is known to be next.
 pub record Stands (p : Profile) (c : Converter) (u : List ℕ) (b : Option ℕ) (given : List Token) : Type 0 where
@@ -119,7 +150,7 @@ pub record FedGame (p : Profile) (u : List ℕ) (given : List Token) (piece : Li
   pub ends : EndsAt marker.kind marker.at (length u + used)
   pub no_game : (read p tokens).begun.games ≡ (read p given).begun.games
   pub one_game : (read p (tokens ++ marker ∷ [])).begun.games ≡ (read p given).begun.games ++ game ∷ []
-  pub at_hand : new.at_hand ≡ Some game.pairs
+  pub at_hand : new.at_hand ≡ Some (hand_of game)
   pub gains : Gains p given (tokens ++ marker ∷ []) before after
 
 -- a token that is known by now is refused, or a write failed
@@ -173,13 +204,18 @@ Advances old new (GameEnd used) = waiting new < 2 * used + waiting old
 pub record Finishes (p : Profile) (u : List ℕ) (given : List Token) (new : Converter) (is_game : Bool) (before after : Option (List ℕ)) : Type 0 where
   pub has_read : HasRead p new (tokens_of u)
   pub game : IsTrue is_game ↔ (length (read p given).begun.games < length (read p (tokens_of u)).begun.games)
-  pub at_hand : is_game ≡ true → (pairs : List Pair) × (new.at_hand ≡ Some pairs)
+  pub at_hand : is_game ≡ true → (hand : AtHand) × (new.at_hand ≡ Some hand)
   pub none_at_hand : is_game ≡ false → new.at_hand ≡ None
   pub gains : Gains p given (tokens_of u) before after
 
+-- The text u has ended, but one of its tokens is refused, or a write failed; the games before that are counted.
+pub record FinishesToFault (p : Profile) (u : List ℕ) (given : List Token) (new : Converter) (f : Fault) (before after : Option (List ℕ)) : Type 0 where
+  pub stops : Stops p given (tokens_of u) before after f
+  pub games : new.games ≡ length (games_before stops)
+
 abbrev pub AfterFinish : Profile → List ℕ → List Token → Converter → Result Bool Fault → Option (List ℕ) → Option (List ℕ) → Type 0
 AfterFinish p u given new (Ok is_game) before after = Finishes p u given new is_game before after
-AfterFinish p u given new (Err f) before after = Stops p given (tokens_of u) before after f
+AfterFinish p u given new (Err f) before after = FinishesToFault p u given new f before after
 
 -- What `finish` does to a converter that stands after the bytes u, which are then the whole text.
 abbrev pub Ends : Converter → Converter → Result Bool Fault → Option (List ℕ) → Option (List ℕ) → Type 0

@@ -4,10 +4,15 @@ pub mod Pairs
 pub mod Handling
 pub mod Holding
 pub mod Profile
+pub mod Chess
 pub mod Game
+pub mod Here
+pub mod Movetext
+pub mod Putting
 pub mod TagSection
 pub mod SectionLines
 pub mod FaultTable
+pub mod Finding
 pub mod Text
 pub mod Begun
 pub mod Due
@@ -17,3 +22,5 @@ pub mod Stepping
 pub mod Size
 pub mod Converting
 pub mod Laws
+pub mod Spells
+pub mod UniqueReading

@@ -1,29 +1,38 @@
 -- What a contract sees of the reader of games, and what it does with one token.
-use Rattle.std.specs.Prelude.{◌≡◌, ℕ, ◌<◌, ◌≤◌, nat_le, IsTrue, IsFalse, is_some, Bool, List, [], length, Option, None, Some, IsSomeAnd, Result, Ok, Err}
+use Rattle.std.specs.Prelude.{◌≡◌, ℕ, ◌+◌, ◌<◌, ◌≤◌, nat_le, false, IsTrue, IsFalse, is_some, Bool, List, [], length, Option, None, Some, IsSomeAnd, Result, Ok, Err}
+use Rattle.std.specs.List.{list_any}
 use Rattle.std.specs.Io.KnownBytes.{Appends}
 use Rattle.pgn_layout.specs.Device.{AppendsFront, one_more}
 use Rattle.pgn_layout.specs.Layout.{Layout, holding}
 use Rattle.pgn_lexer.specs.Tokens.{Kind}
 use Rattle.pgn_game.specs.declared.reason.Reason.{Reason}
 use Rattle.pgn_game.specs.declared.stage.Stage.{Stage}
-use Rattle.pgn_game.specs.declared.stage.Stage.TheVariants.{Between, AfterBracket, AfterName}
+use Rattle.pgn_game.specs.declared.stage.Stage.TheVariants.{Between, AfterBracket, AfterName, InMovetext}
 use Rattle.pgn_game.specs.declared.accept.Accepted.{Accepted}
 use Rattle.pgn_game.specs.declared.accept.Accepted.TheVariants.{More, Finished}
 use Rattle.pgn_game.specs.declared.accept.Stopped.{Stopped}
 use Rattle.pgn_game.specs.declared.accept.Stopped.TheVariants.{Refused, Unwritten}
 use Rattle.pgn_game.specs.Profile.{Profile}
+use Rattle.pgn_game.specs.Pairs.{has_pair}
 use Rattle.pgn_game.specs.Holding.{TagPairs}
-use Rattle.pgn_game.specs.Game.{Game, Part, no_part}
+use Rattle.pgn_game.specs.Game.{Item, Game, Part, no_part}
+use Rattle.pgn_game.specs.Here.{start_of, plies_of, last_position}
+use Rattle.pgn_game.specs.Text.{is_move}
+use Rattle.pgn_game.specs.Movetext.{Movetext, HoldsItems, begins_at}
 use Rattle.pgn_game.specs.Reason.{number_of}
 use Rattle.pgn_game.specs.FaultTable.{refusal, marker_of}
 use Rattle.pgn_game.specs.Begun.{Next, going, whole, next}
 use Rattle.pgn_game.specs.Due.{gain}
 
--- what is asked for, how far the game is, its pairs, and the line of movetext
+-- What is asked for, how far the game is, its pairs, its movetext, how many moves outside variations the games before it have, the most
+-- pairs tried for a move, and the line of movetext.
 pub record Reading : Type 0 where
   pub profile : Profile
   pub stage : Stage
   pub tags : TagPairs
+  pub text : Movetext
+  pub earlier_plies : ℕ
+  pub most_probes : ℕ
   pub layout : Layout
 
 -- What holds of the pairs at a stage: a name has begun after a name alone, and after a `[` there is room for one.
@@ -32,22 +41,49 @@ AreSound most AfterBracket tags = (tags.begun ≡ None) × (length tags.held < m
 AreSound most AfterName tags = IsSomeAnd tags.begun (λ name. length name ≤ 249)
 AreSound most _ tags = tags.begun ≡ None
 
--- The pairs held are those of the part. Between games they may be those of the game before.
+-- The pairs held are those of the part, and none has the name whose value is to come. Between games they may be those of the game before.
 abbrev pub HoldsPairs : Stage → TagPairs → Part → Type 0
 HoldsPairs Between tags part = part ≡ no_part
-HoldsPairs AfterName tags part = tags ≡ record { held = part.pairs; begun = Some part.name }
+HoldsPairs AfterName tags part = (tags ≡ record { held = part.pairs; begun = Some part.name }) × (has_pair part.pairs part.name ≡ false)
 HoldsPairs _ tags part = tags ≡ record { held = part.pairs; begun = None }
 
--- The reader agrees with a part: its fields follow from it, but for pairs that were left from the game before.
+-- a move is among the items
+abbrev pub has_move : List Item → Bool
+has_move items = list_any is_move items
+
+-- The movetext held is that of the part, which before its stage has no item. Between games it may be that of the game before.
+abbrev pub HoldsText : Stage → Reading → Part → Type 0
+HoldsText Between reading part = reading.layout ≡ holding []
+HoldsText InMovetext reading part =
+    HoldsItems reading.profile.mode (start_of part.pairs) part.items reading.text reading.layout × (IsTrue (has_move part.items) → 0 < reading.most_probes)
+HoldsText _ reading part = (part.items ≡ []) × (reading.text ≡ begins_at (start_of part.pairs)) × (reading.layout ≡ holding [])
+
+-- The reader agrees with a part: its fields follow from it, but for what was left from the game before.
 pub record Agrees (reading : Reading) (part : Part) : Type 0 where
   pub stage : reading.stage ≡ part.stage
   pub pairs : HoldsPairs reading.stage reading.tags part
-  pub layout : reading.layout ≡ holding []
+  pub text : HoldsText reading.stage reading part
 
--- The reader stands behind a whole game, and still has its pairs.
+-- The reader stands behind a whole game, and still has its pairs, its count of moves and its last position.
 pub record IsBehind (reading : Reading) (g : Game) : Type 0 where
   pub agrees : Agrees reading no_part
   pub pairs : reading.tags.held ≡ g.pairs
+  pub plies : reading.text.plies ≡ plies_of g
+  pub position : reading.text.levels.present.present ≡ last_position g
+  pub probed : IsTrue (has_move g.items) → 0 < reading.most_probes
+
+-- how many moves outside variations the whole games have that were read
+abbrev pub plies_behind : Stage → ℕ → ℕ → ℕ
+plies_behind Between earlier plies = earlier + plies
+plies_behind _ earlier plies = earlier
+
+abbrev pub whole_plies : Reading → ℕ
+whole_plies reading = plies_behind reading.stage reading.earlier_plies reading.text.plies
+
+-- and how many a token adds to them
+abbrev pub plies_next : Next → ℕ
+plies_next (going part) = 0
+plies_next (whole g) = plies_of g
 
 -- where a token that is not refused leads
 abbrev pub Leads : Next → Accepted → Reading → Type 0
@@ -56,11 +92,17 @@ Leads (going part) Finished new = ⊥
 Leads (whole g) More new = ⊥
 Leads (whole g) Finished new = IsBehind new g
 
+-- A token is accepted: it leads on, and what it adds was appended.
+pub record IsAccepted (old : Reading) (part : Part) (k : Kind) (new : Reading) (accepted : Accepted) (before after : Option (List ℕ)) : Type 0 where
+  pub free : refusal old.profile part k ≡ None
+  pub leads : Leads (next part k) accepted new
+  pub plies : whole_plies new ≡ whole_plies old + plies_next (next part k)
+  pub appended : Appends before after (gain old.profile part k)
+
 -- What the reader answers to a token after a part that it agrees with. A token that is not refused leads on, and what it adds is
 -- appended, or a front of that where a write failed. A refused one adds nothing.
 abbrev pub Answers : Reading → Part → Kind → Reading → Result Accepted Stopped → Option (List ℕ) → Option (List ℕ) → Type 0
-Answers old part k new (Ok accepted) before after =
-    (refusal old.profile part k ≡ None) × Leads (next part k) accepted new × Appends before after (gain old.profile part k)
+Answers old part k new (Ok accepted) before after = IsAccepted old part k new accepted before after
 Answers old part k new (Err (Refused reason)) before after = (refusal old.profile part k ≡ Some reason) × Appends before after []
 Answers old part k new (Err Unwritten) before after = (refusal old.profile part k ≡ None) × AppendsFront before after (gain old.profile part k)
 

@@ -18,7 +18,7 @@ use Rattle.pgn_game.specs.Profile.{Profile}
 use Rattle.pgn_game.specs.Game.{Game}
 use Rattle.pgn_game.specs.Begun.{read}
 use Rattle.pgn_game.specs.Due.{Gains}
-use Rattle.pgn_game.specs.Feeding.{Converter, AreLast, HasRead, Stands, Stops, FedToFault, CountsReason}
+use Rattle.pgn_game.specs.Feeding.{Converter, held_by, hand_of, IsLast, HasRead, Stands, Stops, games_before, FedToFault, CountsReason}
 
 -- the games read with one token more: none more, or one
 abbrev pub SameGames : Profile → List Token → List Token → Type 0
@@ -41,7 +41,7 @@ AfterStep p u given piece new used NeedMore before after =
 AfterStep p u given piece new used More before after =
     (t : Token) × Took p u given piece used t new before after × SameGames p given (given ++ t ∷ [])
 AfterStep p u given piece new used Finished before after =
-    (t : Token) × Took p u given piece used t new before after × ((g : Game) × OneGame p given (given ++ t ∷ []) g × (new.at_hand ≡ Some g.pairs))
+    (t : Token) × Took p u given piece used t new before after × ((g : Game) × OneGame p given (given ++ t ∷ []) g × (new.at_hand ≡ Some (hand_of g)))
 AfterStep p u given piece new used Ended before after = ⊥
 AfterStep p u given piece new used (Failed f) before after = FedToFault p u None given piece f before after
 
@@ -63,22 +63,27 @@ pub record TookEnd (p : Profile) (u : List ℕ) (given : List Token) (t : Token)
   pub same : SameGames p given (given ++ t ∷ [])
   pub gains : Gains p given (given ++ t ∷ []) before after
 
+-- a token of these is refused, or a write failed, and before it no game was finished
+pub record ClosedToFault (p : Profile) (given tokens : List Token) (f : Fault) (before after : Option (List ℕ)) : Type 0 where
+  pub stops : Stops p given tokens before after f
+  pub no_game : games_before stops ≡ (read p given).begun.games
+
 abbrev pub AfterClosing : Profile → List ℕ → List Token → Converter → Converter → Stepped → Option (List ℕ) → Option (List ℕ) → Type 0
 AfterClosing p u given old new NeedMore before after = ⊥
 AfterClosing p u given old new More before after = (t : Token) × TookLast p u given t new before after × SameGames p given (given ++ t ∷ []) × StaysBetween old new
 AfterClosing p u given old new Finished before after =
-    (t : Token) × TookLast p u given t new before after × ((g : Game) × OneGame p given (given ++ t ∷ []) g × (new.reading.tags.held ≡ g.pairs))
+    (t : Token) × TookLast p u given t new before after × ((g : Game) × OneGame p given (given ++ t ∷ []) g × (held_by new.reading ≡ hand_of g))
 AfterClosing p u given old new Ended before after = (t : Token) × TookEnd p u given t new before after × StaysBetween old new
-AfterClosing p u given old new (Failed f) before after = Stops p given (tokens_of u) before after f
+AfterClosing p u given old new (Failed f) before after = ClosedToFault p given (tokens_of u) f before after
 
--- What was read behind the last piece so far, and whether a game was finished there. Its pairs are still held while none is begun.
+-- What was read behind the last piece so far, and whether a game was finished there. It is still held while none is begun.
 pub record ClosedSoFar (p : Profile) (u : List ℕ) (given : List Token) (now : Converter) (is_game : Bool) (before after : Option (List ℕ)) : Type 0 where
   pub tokens : List Token
   pub left : HasLeft now.lexer u tokens
   pub has_read : HasRead p now tokens
   pub no_fewer : length (read p given).begun.games ≤ length (read p tokens).begun.games
   pub game : IsTrue is_game ↔ (length (read p given).begun.games < length (read p tokens).begun.games)
-  pub last : IsTrue is_game → now.reading.stage ≡ Between → AreLast (Some now.reading.tags.held) (read p tokens).begun.games
+  pub last : IsTrue is_game → now.reading.stage ≡ Between → IsLast (Some (held_by now.reading)) (read p tokens).begun.games
   pub gains : Gains p given tokens before after
 
 abbrev pub ClosesSoFar : Converter → Converter → Bool → Option (List ℕ) → Option (List ℕ) → Type 0
@@ -92,11 +97,17 @@ stepped_of at (Ok accepted.Finished) = Finished
 stepped_of at (Err (stopped.Refused reason)) = Failed (record { at = at; reason = reason })
 stepped_of at (Err stopped.Unwritten) = Failed (record { at = at; reason = WriteFault })
 
--- whether a step finished a game, and how many there are with it
+-- whether a step finished a game
 abbrev pub is_game : Stepped → Bool
 is_game Finished = true
 is_game _ = false
 
+-- whether it passed the end
+abbrev pub is_ended : Stepped → Bool
+is_ended Ended = true
+is_ended _ = false
+
+-- how many games there are with it
 abbrev pub games_after : Stepped → ℕ → ℕ
 games_after Finished games = games + 1
 games_after _ games = games

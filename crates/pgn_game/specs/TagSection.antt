@@ -1,9 +1,9 @@
 -- The tag section (PGN 8.1, 3.2.4).
-use Rattle.std.specs.Prelude.{ℕ, Bool, ◌||◌, not, bytes_eq, List, [], ◌∷◌, ◌++◌, map, filter, unwrap_or, codes}
+use Rattle.std.specs.Prelude.{ℕ, Bool, true, false, ◌||◌, not, bytes_eq, List, [], ◌∷◌, ◌++◌, map, filter, unwrap_or, codes}
 use Rattle.pgn_layout.specs.TagLine.{tag_line}
 use Rattle.pgn_game.specs.declared.mode.Mode.{Mode}
 use Rattle.pgn_game.specs.declared.mode.Mode.TheVariants.{Full, Reduced}
-use Rattle.pgn_game.specs.Pairs.{Pair, value_of}
+use Rattle.pgn_game.specs.Pairs.{Pair, value_of, has_pair, insert_pair}
 
 -- the seven tag roster in its order, each with what stands for a missing value (PGN 8.1.1); that of Result is given.
 -- It is `unfoldable`, so that goals show it by its name.
@@ -24,14 +24,22 @@ in_roster name =
 abbrev pub roster_pairs : List ℕ → List Pair → List Pair
 roster_pairs result ps = map (λ d. record { name = d.name; value = unwrap_or (value_of ps d.name) d.value }) (roster result)
 
--- the others
+-- A game that a FEN begins is written with SetUp 1, whatever its SetUp is; in any other SetUp stays as it is (PGN 9.7.1).
+abbrev pub with_set_up : List Pair → List Pair
+with_set_up ps =
+    elim (has_pair ps (codes "FEN")) [
+      | true ↦ insert_pair (record { name = codes "SetUp"; value = codes "1" }) (filter (λ p. not (bytes_eq p.name (codes "SetUp"))) ps)
+      | false ↦ ps
+    ]
+
+-- the pairs that are not of the roster
 abbrev pub other_pairs : List Pair → List Pair
 other_pairs ps = filter (λ p. not (in_roster p.name)) ps
 
 -- The pairs that are written, of pairs in ASCII order: the roster, and in full mode the others after it (PGN 8.1.1). `result`
 -- stands for a missing Result.
 abbrev pub exported : Mode → List ℕ → List Pair → List Pair
-exported Full result ps = roster_pairs result ps ++ other_pairs ps
+exported Full result ps = roster_pairs result ps ++ other_pairs (with_set_up ps)
 exported Reduced result ps = roster_pairs result ps
 
 -- a line for each pair

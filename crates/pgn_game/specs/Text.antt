@@ -1,24 +1,89 @@
 -- The export text of games (PGN 3.2, 8.2), and of a part of one.
-use Rattle.std.specs.Prelude.{ℕ, List, [], ◌∷◌, ◌++◌}
-use Rattle.pgn_layout.specs.Lines.{lines_of, text_of as text_of_lines}
-use Rattle.pgn_game.specs.Profile.{Profile}
-use Rattle.pgn_game.specs.Game.{Game, Part}
+use Rattle.std.specs.Prelude.{ℕ, Bool, true, false, ◌&&◌, List, [], ◌∷◌, ◌++◌, filter, ◌==◌, codes, decimal}
+use Rattle.chess_rules.specs.declared.position.Parts.{Parts}
+use Rattle.pgn_layout.specs.Lines.{lines_of, full_lines, text_of as text_of_lines}
+use Rattle.pgn_game.specs.declared.mode.Mode.{Mode}
+use Rattle.pgn_game.specs.declared.mode.Mode.TheVariants.{Full, Reduced}
+use Rattle.pgn_game.specs.declared.stage.Stage.{Stage}
+use Rattle.pgn_game.specs.declared.stage.Stage.TheVariants.{InMovetext}
+use Rattle.pgn_game.specs.Profile.{Profile, Missing, counts_as_unknown, takes_the_marker}
+use Rattle.pgn_game.specs.Chess.{text_of_move, is_black_to_move}
+use Rattle.pgn_game.specs.Game.{Item, move, glyph, comment_open, word, comment_close, open_variation, close_variation, Game, Part}
+use Rattle.pgn_game.specs.Here.{Levels, levels_after, first_level, start_of, depth, here}
 use Rattle.pgn_game.specs.TagSection.{tag_section}
 use Rattle.pgn_game.specs.FaultTable.{result_for}
 
--- the movetext tokens of a game
-abbrev pub tokens_out : Game → List (List ℕ)
-tokens_out g = g.marker ∷ []
+-- an item with the position and the depth at which it stands
+pub record Placed : Type 0 where
+  pub position : Parts
+  pub depth : ℕ
+  pub item : Item
 
--- the tag section, the lines of movetext, and an empty line
+abbrev pub placed_from : Parts → Levels → List Item → List Placed
+placed_from start ls [] = []
+placed_from start ls (i ∷ is) = record { position = here start ls; depth = depth ls; item = i } ∷ placed_from start (levels_after ls i) is
+
+abbrev pub is_move : Item → Bool
+is_move (move m) = true
+is_move _ = false
+
+abbrev pub is_main_move : Placed → Bool
+is_main_move i = is_move i.item && (i.depth == 0)
+
+-- the items that are written: all, or in the reduced format the moves outside variations (PGN 3.2.4)
+abbrev pub written_items : Mode → List Placed → List Placed
+written_items Full is = is
+written_items Reduced is = filter is_main_move is
+
+-- The number of a move: `n.` before White's; before Black's `n...`, unless a move stands just before it (PGN 8.2.2.2).
+abbrev pub number_before : Bool → Bool → ℕ → List (List ℕ)
+number_before is_after_move false n = (decimal n ++ codes ".") ∷ []
+number_before false true n = (decimal n ++ codes "...") ∷ []
+number_before true true n = []
+
+-- the tokens of an item: a move with its number, `$` and a number (PGN 8.2.4), a comment's brace or word, a parenthesis
+abbrev pub tokens_at : Bool → Parts → Item → List (List ℕ)
+tokens_at is_after_move p (move m) = number_before is_after_move (is_black_to_move p) p.full ++ text_of_move p m ∷ []
+tokens_at is_after_move p (glyph n) = (36 ∷ decimal n) ∷ []
+tokens_at is_after_move p comment_open = codes "{" ∷ []
+tokens_at is_after_move p (word text) = text ∷ []
+tokens_at is_after_move p comment_close = codes "}" ∷ []
+tokens_at is_after_move p open_variation = codes "(" ∷ []
+tokens_at is_after_move p close_variation = codes ")" ∷ []
+
+-- the tokens of items in turn
+abbrev pub tokens_from : Bool → List Placed → List (List ℕ)
+tokens_from is_after_move [] = []
+tokens_from is_after_move (i ∷ is) = tokens_at is_after_move i.position i.item ++ tokens_from (is_move i.item) is
+
+-- the movetext tokens of the items of a game that begins there
+abbrev pub tokens_out : Mode → Parts → List Item → List (List ℕ)
+tokens_out mode start items = tokens_from false (written_items mode (placed_from start first_level items))
+
+-- the tag section, the lines of movetext with the marker last, and an empty line
 abbrev pub game_text : Profile → Game → List ℕ
-game_text p g = tag_section p.mode (result_for p.missing_result g.marker) g.pairs ++ text_of_lines (lines_of (tokens_out g)) ++ 10 ∷ []
+game_text p g =
+    tag_section p.mode (result_for p.missing_result g.marker) g.pairs
+    ++ text_of_lines (lines_of (tokens_out p.mode (start_of g.pairs) g.items ++ g.marker ∷ [])) ++ 10 ∷ []
 
 -- of games in turn
 abbrev pub text_of : Profile → List Game → List ℕ
 text_of p [] = []
 text_of p (g ∷ gs) = game_text p g ++ text_of p gs
 
--- What stands written of a game that is not whole: nothing while it has no movetext, and no part has any yet.
+-- all lines of movetext but the last
+abbrev pub full_text : Mode → Parts → List Item → List ℕ
+full_text mode start items = text_of_lines (full_lines (lines_of (tokens_out mode start items)))
+
+abbrev pub torn_at : Stage → Mode → Part → List ℕ
+torn_at InMovetext mode part = tag_section mode (codes "*") part.pairs ++ full_text mode (start_of part.pairs) part.items
+torn_at _ mode part = []
+
+abbrev pub torn_for : Missing → Mode → Part → List ℕ
+torn_for counts_as_unknown mode part = torn_at part.stage mode part
+torn_for takes_the_marker mode part = []
+
+-- What stands written of a game that is not whole: nothing while it has no movetext; then its tag section and all lines but the last.
+-- Where a missing Result takes the marker, the section waits for the marker, and nothing stands written.
 abbrev pub torn : Profile → Part → List ℕ
-torn p part = []
+torn p part = torn_for p.missing_result p.mode part

@@ -1,13 +1,14 @@
 //! Converts games that come in any pieces.
-ghost use Rattle.std.specs.Prelude.{◌≡◌, ℕ, List, is_some, is_ok, IsNone, ◌+◌, ◌-◌, ◌≤◌, ◌<◌, ◌^◌, [], Bool, true, false, None, Some, IfOk, OnOk, OnErr, length};
+ghost use Rattle.std.specs.Prelude.{◌≡◌, ℕ, List, is_some, is_ok, ◌+◌, ◌-◌, ◌≤◌, ◌<◌, ◌^◌, [], true, false, None, Some, IfOk, OnOk, OnErr, length};
 ghost use Rattle.std.specs.Option.{option_copied};
 ghost use Rattle.pgn_lexer.specs.Tokens.{Token};
 ghost use Rattle.pgn_lexer.specs.Stands.{first, HasLeft};
 ghost use Rattle.pgn_game.specs.declared.reason.Reason.TheVariants.{Lexical};
 ghost use Rattle.pgn_game.specs.declared.converter.Stepped.TheVariants.{NeedMore, Failed};
 ghost use Rattle.pgn_game.specs.Profile.{Profile};
-ghost use Rattle.pgn_game.specs.Stepping.{AfterStep, AfterClosing, StepAdvances, CloseAdvances, CountsStep, stepped_of, games_after, fault_of_step, closed_with, is_game as is_of_game};
-ghost use Rattle.pgn_game.specs.Feeding.{HasRead, Stands, Feeds, FeedsAll, Ends, Again, KeepsFault, CountsFault, Advances, profile_of, used_of, value_at_hand};
+ghost use Rattle.pgn_game.specs.Stepping.{AfterStep, AfterClosing, StepAdvances, CloseAdvances, CountsStep, stepped_of, games_after, fault_of_step, closed_with, is_game as is_of_game, is_ended as is_of_end};
+ghost use Rattle.pgn_game.specs.Feeding.{HasRead, Stands, Feeds, FeedsAll, Ends, Again, KeepsFault, CountsFault, Advances, profile_of, used_of, value_at_hand, plies_at_hand, position_at_hand};
+ghost use Rattle.pgn_game.specs.Reading.{whole_plies};
 
 use crate::accept::{Accepted, Stopped};
 use crate::kinds::is_end;
@@ -59,7 +60,7 @@ pub struct Converter<const T: usize, const L: usize> {
 
 impl<const T: usize, const L: usize> Model for Converter<T, L> {
     ghost use Rattle.pgn_game.specs.Feeding.{Converter as Seen};
-    ghost use Rattle.pgn_game.specs.Feeding.{pairs_if, IsSound};
+    ghost use Rattle.pgn_game.specs.Feeding.{held_if, IsSound};
 
     ghost Value = { Seen };
 
@@ -67,12 +68,12 @@ impl<const T: usize, const L: usize> Model for Converter<T, L> {
       lexer = c.lexer;
       reading = c.reader;
       games = c.games;
-      at_hand = pairs_if c.is_at_hand c.reader.tags.held;
+      at_hand = held_if c.is_at_hand c.reader;
       is_finished = c.is_finished;
       fault = c.fault;
     } };
 
-    ghost invariant = { λ c. IsSound c.lexer c.reader c.games c.is_at_hand c.fault };
+    ghost invariant = { λ c. IsSound c.lexer c.reader c.games c.is_at_hand c.is_finished c.fault };
 }
 
 impl<const T: usize, const L: usize> Converter<T, L> {
@@ -107,6 +108,7 @@ impl<const T: usize, const L: usize> Converter<T, L> {
         ensures going { self.new.is_finished ≡ false }
         ensures fault { KeepsFault self.new result }
         ensures games { OnErr result (self.new.games ≡ self.old.games) }
+        ensures probes { self.old.reading.most_probes ≤ self.new.reading.most_probes }
         ensures hand { OnErr result (self.new.at_hand ≡ None) }
         ensures again { Again self.old self.new result out.old out.new }
         ensures counted { self.old.fault ≡ None → CountsFault result (W.failures out.old) (W.failures out.new) }
@@ -156,6 +158,7 @@ impl<const T: usize, const L: usize> Converter<T, L> {
         requires going { self.old.is_finished ≡ false }
         ensures ends { Ends self.old self.new result (W.taken out.old) (W.taken out.new) }
         ensures finished { self.new.is_finished ≡ is_ok result }
+        ensures probes { self.old.reading.most_probes ≤ self.new.reading.most_probes }
         ensures fault { KeepsFault self.new result }
         ensures hand { OnErr result (self.new.at_hand ≡ None) }
         ensures again { Again self.old self.new result out.old out.new }
@@ -174,7 +177,6 @@ impl<const T: usize, const L: usize> Converter<T, L> {
                 Stepped::Ended => {
                     // The end is passed between games alone.
                     self.is_at_hand = is_game && self.reader.is_between();
-                    self.is_finished = true;
                     return Ok(is_game);
                 }
                 Stepped::Failed(fault) => return Err(fault),
@@ -193,25 +195,44 @@ impl<const T: usize, const L: usize> Converter<T, L> {
         None
     }
 
-    /// How many moves outside variations the game at hand has. No move is read yet, and so it is 0.
+    /// How many moves outside variations the game at hand has; 0 while none is.
     pub fn plies(&self) -> u64
-        ensures { result ≡ 0 }
+        ensures { result ≡ plies_at_hand self.now }
     {
+        if self.is_at_hand {
+            return self.reader.plies();
+        }
         0
     }
 
-    /// The position after the moves of the game at hand that stand outside variations. It comes with the moves: today there is none.
+    /// The position after the moves of the game at hand that stand outside variations; None while none is.
     pub fn position(&self) -> Option<&Position>
-        ensures { IsNone result }
+        ensures { option_copied result ≡ position_at_hand self.now }
     {
+        if self.is_at_hand {
+            return Some(self.reader.position());
+        }
         None
     }
 
-    /// The most pairs of squares that were tried for one move so far.
+    /// The most pairs of an origin and a target that were tried for one move so far, for its SAN and its mark too. It is at most 1,040, and
+    /// at least 1 once a move was played.
     pub fn most_probes(&self) -> u32
-        ensures { result ≡ 0 }
+        ensures value { result ≡ self.now.reading.most_probes }
+        ensures bound { result ≤ 1040 }
     {
-        0
+        self.reader.most_probes()
+    }
+
+    // How many moves outside variations the games have together that were finished.
+    pub(crate) fn whole_plies(&self) -> u64
+        requires { self.now.fault ≡ None }
+        ensures { result ≡ whole_plies self.now.reading }
+    {
+        if self.reader.is_between() {
+            return self.reader.earlier_plies() + self.reader.plies();
+        }
+        self.reader.earlier_plies()
     }
 
     /// How many bytes were used.
@@ -248,6 +269,7 @@ impl<const T: usize, const L: usize> Converter<T, L> {
         ensures advances { StepAdvances self.old.lexer piece.now self.new.lexer result.used result.outcome }
         ensures fault { self.new.fault ≡ fault_of_step result.outcome }
         ensures games { self.new.games ≡ games_after result.outcome self.old.games }
+        ensures probes { self.old.reading.most_probes ≤ self.new.reading.most_probes }
         ensures hand { is_some self.new.at_hand ≡ is_of_game result.outcome }
         ensures going { self.new.is_finished ≡ self.old.is_finished }
         ensures counted { CountsStep result.outcome (W.failures out.old) (W.failures out.new) }
@@ -275,14 +297,17 @@ impl<const T: usize, const L: usize> Converter<T, L> {
 
     /// Takes the next token of those that are left behind the last piece.
     fn close<W: Sink>(&mut self, out: &mut W) -> Stepped
-        requires going { self.old.fault ≡ None }
+        requires no_fault { self.old.fault ≡ None }
+        requires going { self.old.is_finished ≡ false }
         requires hand { self.old.at_hand ≡ None }
         ensures after { (p : Profile) (u : List ℕ) (given : List Token) → HasLeft self.old.lexer u given → HasRead p self.old given
             → AfterClosing p u given self.old self.new result (W.taken out.old) (W.taken out.new) }
         ensures advances { CloseAdvances self.old.lexer self.new.lexer result }
         ensures fault { self.new.fault ≡ fault_of_step result }
+        ensures games { self.new.games ≡ games_after result self.old.games }
+        ensures probes { self.old.reading.most_probes ≤ self.new.reading.most_probes }
         ensures hand { self.new.at_hand ≡ None }
-        ensures going { self.new.is_finished ≡ self.old.is_finished }
+        ensures finished { self.new.is_finished ≡ is_of_end result }
         ensures counted { CountsStep result (W.failures out.old) (W.failures out.new) }
     {
         match self.lexer.finish() {
@@ -292,7 +317,9 @@ impl<const T: usize, const L: usize> Converter<T, L> {
                 let is_end = is_end(token.kind);
                 let accepted = self.reader.accept(token.kind, out);
                 let outcome = settle(at, accepted, &mut self.games, &mut self.fault);
-                close_with(is_end, outcome)
+                let closed = close_with(is_end, outcome);
+                self.is_finished = is_ended(closed);
+                closed
             }
             Outcome::Fault(fault) => fail(lexical(fault), &mut self.fault),
         }
@@ -351,6 +378,16 @@ fn is_game(outcome: Stepped) -> bool
 {
     match outcome {
         Stepped::Finished => true,
+        _ => false,
+    }
+}
+
+// Whether the step passed the end.
+fn is_ended(outcome: Stepped) -> bool
+    ensures { result ≡ is_of_end outcome }
+{
+    match outcome {
+        Stepped::Ended => true,
         _ => false,
     }
 }

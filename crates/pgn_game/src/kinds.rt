@@ -4,7 +4,7 @@ ghost use Rattle.std.specs.Option.{option_copied};
 ghost use Rattle.std.specs.List.{list_all};
 ghost use Rattle.pgn_lexer.specs.Scanned.{kind_of};
 ghost use Rattle.pgn_layout.specs.Lines.{IsToken};
-ghost use Rattle.pgn_game.specs.FaultTable.{is_comment as is_of_comment, is_end as is_the_end, in_name, is_result as is_any_result, marker_of};
+ghost use Rattle.pgn_game.specs.FaultTable.{is_comment as is_of_comment, is_end as is_the_end, in_name, is_result as is_any_result, is_score as is_any_score, is_number as is_any_number};
 
 use pgn_lexer::TokenKind;
 
@@ -38,32 +38,23 @@ pub fn is_tag_name(name: &[u8]) -> bool
         .all(|byte| byte.is_ascii_alphanumeric() || *byte == b'_')
 }
 
+/// Whether the text is one of the three markers that are symbols (PGN 8.2.6).
+pub fn is_score(text: &[u8]) -> bool
+    ensures { result ≡ is_any_score text.now }
+{
+    text == b"1-0".as_slice() || text == b"0-1".as_slice() || text == b"1/2-1/2".as_slice()
+}
+
 /// Whether the text is one of the four markers (PGN 8.2.6).
 pub fn is_result(text: &[u8]) -> bool
     ensures { result ≡ is_any_result text.now }
 {
-    text == b"1-0".as_slice()
-        || text == b"0-1".as_slice()
-        || text == b"1/2-1/2".as_slice()
-        || text == b"*".as_slice()
+    is_score(text) || text == b"*".as_slice()
 }
 
-/// The marker that the token is, if it is one (PGN 8.2.6).
-pub fn marker<'a>(kind: TokenKind<'a>) -> Option<&'a [u8]>
-    ensures marker { option_copied result ≡ marker_of (kind_of kind.entry) }
-    ensures token { IfSome result (λ marker. IsToken marker.now) }
+/// Whether the text is digits alone, as move numbers are (PGN 8.2.2).
+pub fn is_number(text: &[u8]) -> bool
+    ensures { result ≡ is_any_number text.now }
 {
-    match kind {
-        TokenKind::Asterisk => Some(b"*"),
-        TokenKind::Symbol(text) => {
-            if text == b"1-0".as_slice()
-                || text == b"0-1".as_slice()
-                || text == b"1/2-1/2".as_slice()
-            {
-                return Some(text);
-            }
-            None
-        }
-        _ => None,
-    }
+    text.iter().all(|byte| byte.is_ascii_digit())
 }

@@ -2,12 +2,14 @@
 #![tactic(auto)]
 
 mod accept;
-#[cfg(test)]
-mod conversions;
 mod converter;
+mod find;
 mod kinds;
 pub mod laws;
+mod levels;
 mod mode;
+mod movetext;
+mod number;
 mod pair;
 mod reader;
 mod reason;

@@ -1,19 +1,25 @@
 //! The tag section of a game.
-ghost use Rattle.std.specs.Prelude.{◌≡◌, ◌+◌, ◌<◌, ◌≤◌, [], ◌∷◌, false, Some, None, IsTrue, IfSome, OnOk, OnErr, length, slice_get, unwrap_or};
+ghost use Rattle.std.specs.Prelude.{◌≡◌, ◌+◌, ◌<◌, ◌≤◌, [], ◌∷◌, false, Some, None, IsTrue, IfSome, OnOk, OnErr, codes, length, slice_get, unwrap_or};
 ghost use Rattle.std.specs.Option.{option_copied};
 ghost use Rattle.pgn_layout.specs.Device.{Counts, Writes};
 ghost use Rattle.pgn_layout.specs.TagLine.{escaped};
-ghost use Rattle.pgn_game.specs.Pairs.{value_of};
+ghost use Rattle.pgn_game.specs.Pairs.{value_of, has_pair};
 ghost use Rattle.pgn_game.specs.SectionLines.{text_by, roster_line, other_line};
-ghost use Rattle.pgn_game.specs.TagSection.{roster, in_roster, exported, tag_section};
+ghost use Rattle.pgn_game.specs.TagSection.{roster, in_roster, exported, other_pairs, tag_lines, tag_section, with_set_up};
 
 use crate::mode::Mode;
 use crate::pair::TagPair;
-use crate::tags::TagPairs;
+use crate::tags::{TagPairs, place_of};
 use pgn_layout::{Layout, Sink, WriteFault};
 
+/// The name of the pair that says whether a FEN begins the game (PGN 9.7.1).
+const SET_UP: &[u8] = b"SetUp";
+
+/// Its value where one does.
+const FROM_FEN: &[u8] = b"1";
+
 /// Writes the tag section (PGN 8.1): the roster, in full mode the other pairs, and an empty line. A pair of the roster
-/// that the game has not is written with its value for unknown, Result with `*`.
+/// that the game has not is written with its value for unknown, Result with `*`. Beside a FEN, SetUp is 1 (PGN 9.7.1).
 pub fn write_section<const T: usize, W: Sink>(
     mode: Mode,
     tags: &TagPairs<T>,
@@ -50,10 +56,21 @@ pub fn exported_value<'a, const T: usize>(
     if unknown.is_none() && mode == Mode::Reduced {
         return None;
     }
-    match tags.value(name) {
+    match value_with_set_up(tags, name) {
         Some(value) => Some(value),
         None => unknown,
     }
+}
+
+// The value of a name, with SetUp 1 where there is a FEN (PGN 9.7.1).
+fn value_with_set_up<'a, const T: usize>(tags: &'a TagPairs<T>, name: &[u8]) -> Option<&'a [u8]>
+    requires whole { tags.now.begun ≡ None }
+    ensures value { option_copied result ≡ value_of (with_set_up tags.now.held) name.now }
+{
+    if name == SET_UP && has_fen(tags) {
+        return Some(FROM_FEN);
+    }
+    tags.value(name)
 }
 
 // What stands for a missing value of the roster (PGN 8.1.1).
@@ -104,7 +121,7 @@ fn value_or<'a, const T: usize>(tags: &'a TagPairs<T>, name: &[u8], unknown: &'a
     }
 }
 
-// Writes the pairs that are not of the roster.
+// Writes the pairs that are not of the roster, SetUp 1 among them where there is a FEN (PGN 9.7.1).
 fn write_others<const T: usize, W: Sink>(
     tags: &TagPairs<T>,
     layout: &mut Layout,
@@ -113,26 +130,62 @@ fn write_others<const T: usize, W: Sink>(
     requires whole { tags.now.begun ≡ None }
     requires going { layout.old.has_failed ≡ false }
     ensures text { Writes (W.taken out.old) (W.taken out.new) result
-        (text_by other_line tags.now.held) }
+        (tag_lines (other_pairs (with_set_up tags.now.held))) }
     ensures line { OnOk result (layout.new ≡ layout.old) }
     ensures failed { OnErr result (IsTrue layout.new.has_failed) }
     ensures counted { Counts result (W.failures out.old) (W.failures out.new) }
 {
-    for pair in tags.pairs() {
-        write_other(pair, layout, out)?;
+    let pairs = tags.pairs();
+    if !has_fen(tags) {
+        return write_pairs(pairs, false, layout, out);
+    }
+    let (before, after) = pairs.split_at(place_of(pairs, SET_UP));
+    write_pairs(before, true, layout, out)?;
+    layout.tag(SET_UP, FROM_FEN, out)?;
+    write_pairs(after, true, layout, out)
+}
+
+// Whether there is a FEN.
+fn has_fen<const T: usize>(tags: &TagPairs<T>) -> bool
+    requires whole { tags.now.begun ≡ None }
+    ensures { result ≡ has_pair tags.now.held (codes "FEN") }
+{
+    tags.value(b"FEN").is_some()
+}
+
+// Writes those of the pairs that are not of the roster, and no SetUp beside the one of a FEN.
+fn write_pairs<W: Sink>(
+    pairs: &[TagPair],
+    has_fen: bool,
+    layout: &mut Layout,
+    out: &mut W,
+) -> Result<(), WriteFault>
+    requires going { layout.old.has_failed ≡ false }
+    ensures text { Writes (W.taken out.old) (W.taken out.new) result (text_by (other_line has_fen) pairs.now) }
+    ensures line { OnOk result (layout.new ≡ layout.old) }
+    ensures failed { OnErr result (IsTrue layout.new.has_failed) }
+    ensures counted { Counts result (W.failures out.old) (W.failures out.new) }
+{
+    for pair in pairs {
+        write_other(pair, has_fen, layout, out)?;
     }
     Ok(())
 }
 
-// Writes the pair, unless it is of the roster.
-fn write_other<W: Sink>(pair: &TagPair, layout: &mut Layout, out: &mut W) -> Result<(), WriteFault>
+// Writes the pair, unless it is of the roster, or a SetUp beside the one of a FEN.
+fn write_other<W: Sink>(
+    pair: &TagPair,
+    has_fen: bool,
+    layout: &mut Layout,
+    out: &mut W,
+) -> Result<(), WriteFault>
     requires { layout.old.has_failed ≡ false }
-    ensures text { Writes (W.taken out.old) (W.taken out.new) result (other_line pair.now) }
+    ensures text { Writes (W.taken out.old) (W.taken out.new) result (other_line has_fen pair.now) }
     ensures line { OnOk result (layout.new ≡ layout.old) }
     ensures failed { OnErr result (IsTrue layout.new.has_failed) }
     ensures counted { Counts result (W.failures out.old) (W.failures out.new) }
 {
-    if is_in_roster(pair.name()) {
+    if is_in_roster(pair.name()) || (has_fen && pair.name() == SET_UP) {
         return Ok(());
     }
     layout.tag(pair.name(), pair.value(), out)

@@ -114,8 +114,8 @@ impl<const T: usize> TagPairs<T> {
     }
 }
 
-// How many pairs stand before the place of a name.
-fn place_of(pairs: &[TagPair], name: &[u8]) -> usize
+/// How many pairs stand before the place of a name.
+pub fn place_of(pairs: &[TagPair], name: &[u8]) -> usize
     ensures { result ≡ place_before name.now (pairs.now) }
 {
     for (i, pair) in pairs.iter().enumerate() {

@@ -1,7 +1,6 @@
 //! Converts a whole input.
-ghost use Rattle.std.specs.Prelude.{◌≡◌, ◌+◌, ◌-◌, ◌≤◌, ◌<◌, ◌^◌, length, false, None, ℕ, List, OnOk, IfOk, IfSome};
+ghost use Rattle.std.specs.Prelude.{◌≡◌, ◌+◌, ◌-◌, ◌≤◌, ◌<◌, ◌^◌, length, false, None, ℕ, List, OnOk, IfSome};
 ghost use Rattle.pgn_lexer.specs.Tokens.{Token};
-ghost use Rattle.pgn_lexer.specs.Stands.{Follows};
 ghost use Rattle.pgn_game.specs.Profile.{Profile};
 ghost use Rattle.pgn_game.specs.Feeding.{Stands, KeepsFault, CountsFault, profile_of};
 ghost use Rattle.pgn_game.specs.Size.{Holds};
@@ -41,7 +40,6 @@ pub fn convert<const T: usize, const L: usize, R: Source, W: Sink>(
     requires memory { Holds T.row L.row }
     ensures converts { Converts (profile_of T (L - 1) mode) (R.left reader.old) (R.left reader.new) result
         (W.taken writer.old) (W.taken writer.new) }
-    ensures probes { IfOk result (λ totals. totals.most_probes ≡ 0) }
     ensures short { OnOk result (IfSome (R.left reader.old) (λ s. length s ≤ 2 ^ 62)) }
     ensures counted { CountsResult result (R.failures reader.old) (R.failures reader.new)
         (W.failures writer.old) (W.failures writer.new) }
@@ -71,7 +69,6 @@ pub fn convert_slice<const T: usize, const L: usize, W: Sink>(
     requires levels { 1 ≤ L }
     requires memory { Holds T.row L.row }
     ensures converts { ConvertsSlice (profile_of T (L - 1) mode) text.now result (W.taken writer.old) (W.taken writer.new) }
-    ensures probes { IfOk result (λ totals. totals.most_probes ≡ 0) }
     ensures short { OnOk result (length text.now ≤ 2 ^ 62) }
     ensures counted { CountsSink result (W.failures writer.old) (W.failures writer.new) }
 {
@@ -137,13 +134,12 @@ fn end<const T: usize, const L: usize, W: Sink>(
     requires no_fault { converter.old.fault ≡ None }
     ensures ends { (p : Profile) (u : List ℕ) (given : List Token) → Stands p converter.old u None given
         → AfterEnd p u given result (W.taken writer.old) (W.taken writer.new) }
-    ensures probes { IfOk result (λ totals. totals.most_probes ≡ 0) }
     ensures counted { CountsFault result (W.failures writer.old) (W.failures writer.new) }
 {
     converter.finish(writer)?;
     Ok(Totals {
         games: converter.games(),
-        plies: converter.plies(),
+        plies: converter.whole_plies(),
         most_probes: converter.most_probes(),
     })
 }

@@ -1,5 +1,9 @@
 -- Lemmas on the program's command line.
 mod Builders
+mod Leftover
+mod Lines
+mod Listed
+mod Reading
 mod Refusals
 mod Rows
 mod RunRows

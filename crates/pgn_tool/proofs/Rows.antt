@@ -2,11 +2,11 @@
 use Rattle.std.proofs.Common.{◌≡◌, refl, codes, true, false, [], ◌∷◌, Some, None}
 use Rattle.clap.proofs.OnLiterals.{clap_on_literals}
 use Rattle.clap.specs.declared.error.kind.ErrorKind.TheVariants.{ArgumentConflict, DisplayHelp, DisplayVersion, InvalidSubcommand, MissingSubcommand, UnknownArgument}
-use Rattle.pgn_tool.specs.CommandLine.{bare_program, check_command, command_line, export_command, file_rule, reduced_rule}
-use Rattle.pgn_tool.specs.Requests.{check, export, refusals, request_from, request_in}
+use Rattle.pgn_tool.specs.CommandLine.{bare_program, check_command, command_line, export_command, file_rule, list_command, reduced_rule}
+use Rattle.pgn_tool.specs.Requests.{check, export, listing, refusals, request_from, request_in}
 
 unfoldable line_on_words : Unit {0}
-unfolding clap_on_literals command_line bare_program export_command check_command reduced_rule file_rule refusals request_from request_in
+unfolding clap_on_literals command_line bare_program export_command check_command list_command reduced_rule file_rule refusals request_from request_in
 line_on_words = tt
 
 export-asks : request_in (codes "pgn_tool" ∷ codes "export" ∷ []) ≡ Some (export false None)
@@ -65,6 +65,22 @@ check_file-refused : refusals (codes "pgn_tool" ∷ codes "check" ∷ codes "a.p
 unfolding line_on_words
 check_file-refused = refl
 
+list-asks : request_in (codes "pgn_tool" ∷ codes "list" ∷ []) ≡ Some (listing None)
+unfolding line_on_words
+list-asks = refl
+
+list-refused : refusals (codes "pgn_tool" ∷ codes "list" ∷ []) ≡ []
+unfolding line_on_words
+list-refused = refl
+
+list_file-asks : request_in (codes "pgn_tool" ∷ codes "list" ∷ codes "a.pgn" ∷ []) ≡ Some (listing (Some (codes "a.pgn")))
+unfolding line_on_words
+list_file-asks = refl
+
+list_file-refused : refusals (codes "pgn_tool" ∷ codes "list" ∷ codes "a.pgn" ∷ []) ≡ []
+unfolding line_on_words
+list_file-refused = refl
+
 alone-asks : request_in (codes "pgn_tool" ∷ []) ≡ None
 unfolding line_on_words
 alone-asks = refl
@@ -84,6 +100,10 @@ reduced_twice-refused = refl
 reduced_check-refused : refusals (codes "pgn_tool" ∷ codes "check" ∷ codes "--reduced" ∷ []) ≡ UnknownArgument ∷ []
 unfolding line_on_words
 reduced_check-refused = refl
+
+reduced_list-refused : refusals (codes "pgn_tool" ∷ codes "list" ∷ codes "--reduced" ∷ []) ≡ UnknownArgument ∷ []
+unfolding line_on_words
+reduced_list-refused = refl
 
 help-refused : refusals (codes "pgn_tool" ∷ codes "--help" ∷ []) ≡ DisplayHelp ∷ []
 unfolding line_on_words

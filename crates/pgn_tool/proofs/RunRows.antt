@@ -8,7 +8,9 @@ use Rattle.pgn_game.specs.FaultTable.{refusal}
 use Rattle.pgn_game.specs.TagSection.{roster}
 use Rattle.pgn_game.specs.Begun.{verdict}
 use Rattle.pgn_game.specs.Reason.{line_of}
-use Rattle.pgn_tool.specs.Running.{Job, checking, counting_line, exporting, line, profile_for, status_of, text_for}
+use Rattle.pgn_game.specs.Chess.{first_position}
+use Rattle.pgn_tool.specs.Listing.{hand_line}
+use Rattle.pgn_tool.specs.Running.{Job, checking, counting_line, exporting, line, listing, profile_for, status_of, text_for}
 
 -- the six roster lines before Result, with no value
 abbrev unknown : List ℕ
@@ -44,6 +46,26 @@ two_games = (refl, refl)
 no_line : Gives checking (codes "* 1-0") [] 1
 unfolding refusal roster
 no_line = (refl, refl)
+
+-- the usual first position, with LF
+abbrev first_fen : List ℕ
+first_fen = codes "rnbqkbnr/pppppppp/8/8/8/8/PPPPPPPP/RNBQKBNR w KQkq - 0 1\n"
+
+no_game : Gives listing [] [] 0
+unfolding refusal roster
+no_game = (refl, refl)
+
+two_lines : Gives listing (codes "* *") (codes "1\t?\t?\t*\t0\t" ++ first_fen ++ codes "2\t?\t?\t*\t0\t" ++ first_fen) 0
+unfolding refusal roster digits hand_line first_position
+two_lines = (refl, refl)
+
+values_in_a_line : Gives listing (codes "[White \"A\"] [Black \"B\"] [Result \"1-0\"] 1-0") (codes "1\tA\tB\t1-0\t0\t" ++ first_fen) 0
+unfolding refusal roster digits hand_line first_position
+values_in_a_line = (refl, refl)
+
+lines_before_a_fault : Gives listing (codes "* 1-0") (codes "1\t?\t?\t*\t0\t" ++ first_fen) 1
+unfolding refusal roster digits hand_line first_position
+lines_before_a_fault = (refl, refl)
 
 counts : counting_line 12 345 ≡ codes "games: 12, plies: 345\n"
 unfolding digits

@@ -1,7 +1,7 @@
 -- What follows of a run from the conversion in it.
 use Rattle.std.proofs.Common.{◌≡◌, ◌∙◌, ℕ, ◌^◌, ◌<◌, ◌≤◌, List, [], ◌++◌, length, ap, subst, sym, arith, append-nil, take, length-append, Option, None, Some}
 use Rattle.std.proofs.Math.Seq.{take-length}
-use Rattle.std.specs.Prelude.{Result, Ok, Err}
+use Rattle.std.specs.Prelude.{Result, Ok, Err, map, sum}
 use Rattle.std.specs.Io.KnownBytes.{Appends, Consumes, Keeps}
 use Rattle.pgn_layout.specs.Device.{Counts, Writes, one_more}
 use Rattle.pgn_game.specs.declared.mode.Mode.TheVariants.{Full}
@@ -10,10 +10,16 @@ use Rattle.pgn_game.specs.declared.reason.Reason.TheVariants.{ReadFault, WriteFa
 use Rattle.pgn_game.specs.declared.reason.Fault.{Fault}
 use Rattle.pgn_game.specs.declared.whole.Totals.{Totals}
 use Rattle.pgn_game.specs.Profile.{Profile}
-use Rattle.pgn_game.specs.Begun.{refused as is_refused}
+use Rattle.pgn_lexer.specs.TokensOf.{tokens_of}
+use Rattle.pgn_game.specs.Begun.{Read, read, refused as is_refused, totals, verdict_of}
+use Rattle.pgn_game.specs.Here.{plies_of}
 use Rattle.pgn_game.specs.Feeding.{profile_of}
 use Rattle.pgn_game.specs.Converting.{Converts, CountsDevices, Fails, IsConverted, refused, unread, unwritten, too_long}
-use Rattle.pgn_tool.specs.Running.{Answers, Blames, Device, Ends, HasFailed, IsCalm, IsSmooth, IsStill, Job, Runs, TellsVerdict, Works, checking, counting_of, exporting, status_of}
+use Rattle.pgn_tool.specs.declared.list.Stopped.{Stopped}
+use Rattle.pgn_tool.specs.declared.list.Stopped.TheVariants as stopped
+use Rattle.pgn_tool.specs.Listing as lists
+use Rattle.pgn_tool.specs.Listing.{CountsReason, Lists, Stops, list_profile}
+use Rattle.pgn_tool.specs.Running.{Answers, Blames, Concludes, Device, Ends, EndsList, HasFailed, IsCalm, IsSmooth, IsStill, Job, Runs, TellsVerdict, Works, checking, counting_of, exporting, listing, status_of}
 
 -- ---- devices
 
@@ -70,12 +76,13 @@ fails_on p left_old left_new a b c _ (too_long u rest consumed long more reads) 
 pub converts_on : (p : Profile) (left_old left_new a b c : Option (List ℕ)) (r : Result Totals Fault) → Converts p left_old left_new r a b
     → Keeps b c → Converts p left_old left_new r a c
 converts_on p None left_new a b c (Ok t) converts keeps = tt
-converts_on p (Some s) left_new a b c (Ok t) converts keeps = (converts.0, keeps_on a b c _ converts.1 keeps)
+converts_on p (Some s) left_new a b c (Ok t) converts keeps =
+    record { converted = (converts.converted.0, keeps_on a b c _ converts.converted.1 keeps); probes = converts.probes }
 converts_on p left_old left_new a b c (Err f) converts keeps = fails_on p left_old left_new a b c f converts keeps
 
 -- ---- which device is to blame
 
-risen : {A E : Type 0} → (r : Result A E) (old mid new : ℕ) → mid ≡ one_more old → Counts r mid new → one_more old ≤ new
+pub risen : {A E : Type 0} → (r : Result A E) (old mid new : ℕ) → mid ≡ one_more old → Counts r mid new → one_more old ≤ new
 risen (Ok x) old mid new rose counts = omega (arith, rose, counts)
 risen (Err e) old mid new rose counts = omega (arith, rose, counts)
 
@@ -108,14 +115,14 @@ own_fault p s source out a b _ smooth (too_long u rest consumed long more reads)
 below_two : (code : ℕ) → code ≤ 1 → (code ≡ 1 → ⊥) → code ≡ 0
 below_two code low other = omega (arith, low, other)
 
-well : (source out err : Device) (code : ℕ) (t : Totals) → Ends (Ok t) source out err code → IsCalm out → code ≡ 0
-well source out err code t ends calm = below_two code ends.ends (λ one. calm_fails out calm (ends.ill one).0)
+well : (source out err : Device) (code : ℕ) → Concludes source out err code → IsCalm out → code ≡ 0
+well source out err code ends calm = below_two code ends.ends (λ one. calm_fails out calm (ends.ill one).0)
 
 job_answers : (job : Job) (s : List ℕ) (source out err : Device) (code : ℕ) (answer : Result Totals Fault) → IsSmooth s source out
     → Works job answer source out → Ends answer source out err code → Answers job s out err code
 job_answers (exporting mode) s source out err code (Ok t) smooth works ends =
-    let converted = rw smooth.gives at works in
-    let zero = well source out err code t ends smooth.writes in
+    let converted = (rw smooth.gives at works).converted in
+    let zero = well source out err code ends smooth.writes in
     record {
       ends = zero ∙ sym (ap status_of converted.0);
       written = converted.1;
@@ -130,8 +137,8 @@ job_answers (exporting mode) s source out err code (Err f) smooth works ends =
       told = subst (TellsVerdict err) (sym converted.0) ends.told;
     }
 job_answers checking s source out err code (Ok t) smooth works ends =
-    let converted = rw smooth.gives at works.0 in
-    let zero = well source out err code t ends smooth.writes in
+    let converted = (rw smooth.gives at works.0).converted in
+    let zero = well source out err code ends smooth.writes in
     record {
       ends = zero ∙ sym (ap status_of converted.0);
       written = subst (λ v. Appends out.before out.after (counting_of v)) (sym converted.0) (works.1.0 smooth.writes);
@@ -145,13 +152,70 @@ job_answers checking s source out err code (Err f) smooth works ends =
       written = subst (λ v. Appends out.before out.after (counting_of v)) (sym converted.0) (keeps_nothing out.before out.after works.1);
       told = subst (TellsVerdict err) (sym converted.0) ends.told;
     }
+job_answers listing s source out err code answer smooth works ends = absurd works
+
+-- ---- a list
+
+-- and a flush after it
+pub stops_on : (left_old left_new a b c : Option (List ℕ)) (stopped : Stopped) → Stops left_old left_new a b stopped → Keeps b c → Stops left_old left_new a c stopped
+stops_on None left_new a b c _ (lists.refused f listed) keeps = lists.refused f tt
+stops_on (Some s) left_new a b c _ (lists.refused f listed) keeps =
+    lists.refused f (record { fault = listed.fault; written = keeps_on a b c _ listed.written keeps })
+stops_on left_old left_new a b c _ (lists.unread u consumed listed) keeps =
+    lists.unread u consumed (record { passes = listed.passes; written = keeps_on a b c _ listed.written keeps })
+stops_on left_old left_new a b c _ (lists.too_long u rest consumed long more listed) keeps =
+    lists.too_long u rest consumed long more (record { passes = listed.passes; written = keeps_on a b c _ listed.written keeps })
+stops_on left_old left_new a b c _ (lists.unwritten u rest consumed cut) keeps =
+    lists.unwritten u rest consumed (record { count = cut.count; short = cut.short; front = keeps_on a b c _ cut.front keeps })
+
+pub lists_on : (left_old left_new a b c : Option (List ℕ)) (r : Result Unit Stopped) → Lists left_old left_new r a b → Keeps b c → Lists left_old left_new r a c
+lists_on None left_new a b c (Ok x) listed keeps = tt
+lists_on (Some s) left_new a b c (Ok x) listed keeps = record { fault = listed.fault; written = keeps_on a b c _ listed.written keeps }
+lists_on left_old left_new a b c (Err stopped) listed keeps = stops_on left_old left_new a b c stopped listed keeps
+
+pub list_blames : (reason : Reason) (source out : Device) → CountsReason reason source.failures source.failures_after → Blames reason source out
+list_blames ReadFault source out counts = omega (arith, counts)
+list_blames WriteFault source out counts = absurd counts
+list_blames _ source out counts = tt
+
+passes_verdict : (r : Read) → r.fault ≡ None → verdict_of r ≡ totals (record { games = length r.begun.games; plies = sum (map plies_of r.begun.games) })
+passes_verdict r e =
+    ap (λ (o : Option Fault). elim o [ Some f ↦ is_refused f | None ↦ totals (record { games = length r.begun.games; plies = sum (map plies_of r.begun.games) }) ]) e
+
+refused_verdict : (r : Read) (f : Fault) → r.fault ≡ Some f → verdict_of r ≡ is_refused f
+refused_verdict r f e =
+    ap (λ (o : Option Fault). elim o [ Some f ↦ is_refused f | None ↦ totals (record { games = length r.begun.games; plies = sum (map plies_of r.begun.games) }) ]) e
+
+stopped_answers : (s : List ℕ) (source out err : Device) (code : ℕ) (stopped : Stopped) → IsSmooth s source out
+    → Stops (Some s) source.after out.before out.after stopped → EndsList (Err stopped) source out err code → Answers listing s out err code
+stopped_answers s source out err code _ smooth (lists.refused f listed) ends =
+    let verdict = refused_verdict (read list_profile (tokens_of s)) f listed.fault in
+    record { ends = ends.ends ∙ sym (ap status_of verdict); written = listed.written; told = subst (TellsVerdict err) (sym verdict) ends.told }
+stopped_answers s source out err code _ smooth (lists.unread u consumed listed) ends = absurd (calm_fails source smooth.reads ends.blames)
+stopped_answers s source out err code _ smooth (lists.too_long u rest consumed long more listed) ends =
+    absurd (longer s source.after u rest consumed long more smooth.short)
+stopped_answers s source out err code _ smooth (lists.unwritten u rest consumed cut) ends = absurd (calm_fails out smooth.writes ends.failed)
+
+list_answers : (s : List ℕ) (source out err : Device) (code : ℕ) (answer : Result Unit Stopped) → IsSmooth s source out
+    → Lists source.before source.after answer out.before out.after → EndsList answer source out err code → Answers listing s out err code
+list_answers s source out err code (Ok x) smooth works ends =
+    let listed = rw smooth.gives at works in
+    let zero = well source out err code ends smooth.writes in
+    let verdict = passes_verdict (read list_profile (tokens_of s)) listed.fault in
+    record { ends = zero ∙ sym (ap status_of verdict); written = listed.written; told = subst (TellsVerdict err) (sym verdict) (ends.well zero).1 }
+list_answers s source out err code (Err stopped) smooth works ends =
+    stopped_answers s source out err code stopped smooth (subst (λ o. Stops o source.after out.before out.after stopped) smooth.gives works) ends
+
+-- ---- any run
 
 pub runs_as : (job other : Job) (source out err : Device) (code : ℕ) → job ≡ other → Runs job source out err code → Runs other source out err code
 runs_as job other source out err code same runs = subst (λ (j : Job). Runs j source out err code) same runs
 
 pub runs_answers : (job : Job) (s : List ℕ) (source out err : Device) (code : ℕ) → IsSmooth s source out → Runs job source out err code
     → Answers job s out err code
-runs_answers job s source out err code smooth runs = job_answers job s source out err code runs.answer smooth runs.works runs.ends
+runs_answers (exporting mode) s source out err code smooth runs = job_answers (exporting mode) s source out err code runs.answer smooth runs.works runs.ends
+runs_answers checking s source out err code smooth runs = job_answers checking s source out err code runs.answer smooth runs.works runs.ends
+runs_answers listing s source out err code smooth runs = list_answers s source out err code runs.answer smooth runs.lists runs.ends
 
 -- ---- the status
 
@@ -159,13 +223,28 @@ ends_status : (answer : Result Totals Fault) (source out err : Device) (code : �
 ends_status (Ok t) source out err code ends = ends.ends
 ends_status (Err f) source out err code ends = omega (arith, ends.ends)
 
+list_status : (answer : Result Unit Stopped) (source out err : Device) (code : ℕ) → EndsList answer source out err code → code ≤ 1
+list_status (Ok x) source out err code ends = ends.ends
+list_status (Err (stopped.Refused f)) source out err code ends = omega (arith, ends.ends)
+list_status (Err stopped.Unwritten) source out err code ends = omega (arith, ends.ends)
+
 pub runs_status : (job : Job) (source out err : Device) (code : ℕ) → Runs job source out err code → code ≤ 1
-runs_status job source out err code runs = ends_status runs.answer source out err code runs.ends
+runs_status (exporting mode) source out err code runs = ends_status runs.answer source out err code runs.ends
+runs_status checking source out err code runs = ends_status runs.answer source out err code runs.ends
+runs_status listing source out err code runs = list_status runs.answer source out err code runs.ends
 
 ends_still : (answer : Result Totals Fault) (source out err : Device) (code : ℕ) → Ends answer source out err code → code ≡ 0
     → IsStill source × IsStill out
 ends_still (Ok t) source out err code ends zero = (ends.read, (ends.well zero).0)
 ends_still (Err f) source out err code ends zero = absurd (omega (arith, ends.ends, zero))
 
+list_still : (answer : Result Unit Stopped) (source out err : Device) (code : ℕ) → EndsList answer source out err code → code ≡ 0
+    → IsStill source × IsStill out
+list_still (Ok x) source out err code ends zero = (ends.read, (ends.well zero).0)
+list_still (Err (stopped.Refused f)) source out err code ends zero = absurd (omega (arith, ends.ends, zero))
+list_still (Err stopped.Unwritten) source out err code ends zero = absurd (omega (arith, ends.ends, zero))
+
 pub runs_still : (job : Job) (source out err : Device) (code : ℕ) → Runs job source out err code → code ≡ 0 → IsStill source × IsStill out
-runs_still job source out err code runs = ends_still runs.answer source out err code runs.ends
+runs_still (exporting mode) source out err code runs = ends_still runs.answer source out err code runs.ends
+runs_still checking source out err code runs = ends_still runs.answer source out err code runs.ends
+runs_still listing source out err code runs = list_still runs.answer source out err code runs.ends

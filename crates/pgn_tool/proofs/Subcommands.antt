@@ -12,40 +12,42 @@ use Rattle.clap.specs.declared.builder.command.Command.{Command}
 use Rattle.clap.specs.declared.parser.matches.ArgMatches.{ArgMatches}
 use Rattle.clap.specs.declared.parser.matches.ArgMatches.TheViews.{out-ArgMatches, out-SubCommand}
 use Rattle.clap.proofs.OnLiterals.{clap_on_literals}
-use Rattle.pgn_tool.specs.CommandLine.{bare_program, check_command, command_line, export_command, file_rule, reduced_rule}
+use Rattle.pgn_tool.specs.CommandLine.{bare_program, check_command, command_line, export_command, file_rule, list_command, reduced_rule}
 use Rattle.pgn_tool.specs.Requests.{Request, request_from, request_named}
 use Rattle.pgn_tool.proofs.Builders.{is_local}
 
 -- ---- the command line is one whose matches and refusals `clap` defines
 
 pub line_is_simple : is_simple command_line ≡ true
-unfolding clap_on_literals command_line bare_program export_command check_command reduced_rule file_rule
+unfolding clap_on_literals command_line bare_program export_command check_command list_command reduced_rule file_rule
 line_is_simple = refl
 
 pub line_is_free : is_simple_and_free command_line ≡ true
-unfolding clap_on_literals command_line bare_program export_command check_command reduced_rule file_rule
+unfolding clap_on_literals command_line bare_program export_command check_command list_command reduced_rule file_rule
 line_is_free = refl
 
 pub line_is_plain : command_line.top.is_plain ≡ true
-unfolding command_line bare_program export_command check_command reduced_rule file_rule
+unfolding command_line bare_program export_command check_command list_command reduced_rule file_rule
 line_is_plain = refl
 
 pub line_wants_subcommand : command_line.top.subcommand_required ≡ true
-unfolding command_line bare_program export_command check_command reduced_rule file_rule
+unfolding command_line bare_program export_command check_command list_command reduced_rule file_rule
 line_wants_subcommand = refl
 
 -- ---- a subcommand that is met is one that makes a request
 
 abbrev is_known : Text → Bool
-is_known name = bytes_eq name (codes "export") || bytes_eq name (codes "check")
+is_known name = bytes_eq name (codes "export") || (bytes_eq name (codes "check") || bytes_eq name (codes "list"))
 
 known_request : (name : Text) (rows : List Row) → is_known name ≡ true → IsSome (request_named name rows)
-known_request name rows known = go (bytes_eq name (codes "export")) (bytes_eq name (codes "check")) _ _ known
+known_request name rows known = go (bytes_eq name (codes "export")) (bytes_eq name (codes "check")) (bytes_eq name (codes "list")) _ _ _ known
   where
-    go : (is_export is_check : Bool) (x y : Request) → (is_export || is_check) ≡ true → IsSome (cond is_export (Some x) (cond is_check (Some y) None))
-    go true is_check x y known = refl
-    go false true x y known = refl
-    go false false x y known = known
+    go : (is_export is_check is_list : Bool) (x y z : Request) → (is_export || (is_check || is_list)) ≡ true
+        → IsSome (cond is_export (Some x) (cond is_check (Some y) (cond is_list (Some z) None)))
+    go true is_check is_list x y z known = refl
+    go false true is_list x y z known = refl
+    go false false true x y z known = refl
+    go false false false x y z known = known
 
 and_both : (a b : Bool) → (a && b) ≡ true → (a ≡ true) × (b ≡ true)
 and_both true b e = (refl, e)
@@ -72,7 +74,7 @@ entered_is_known a None known met = absurd (true≢false (sym met))
 entered_is_known a (Some p) known met = found_is_known a.subs _ p.1 known met
 
 line_is_known : list_all (λ s. is_known s.name) (built command_line).subs ≡ true
-unfolding clap_on_literals command_line bare_program export_command check_command reduced_rule file_rule
+unfolding clap_on_literals command_line bare_program export_command check_command list_command reduced_rule file_rule
 line_is_known = refl
 
 words_are_known : (words : List Text) → is_some (subcommand_of command_line words) ≡ true → IsSome (request_from (subcommand_of command_line words))
@@ -120,14 +122,17 @@ none_asks (Some p) is_name known = true≢false (sym (ap is_some is_name))
 pub none_met : (m : ArgMatches) → None ≡ subcommand_name_of m → IsSome (request_from (subcommand_rows_of m)) → ⊥
 none_met m is_name known = none_asks (subcommand_rows_of m) (is_name ∙ names_met m) known
 
-pub no_other : (name : Text) (rows : List Row) → name ≢ codes "export" → name ≢ codes "check" → IsSome (request_named name rows) → ⊥
-no_other name rows not_export not_check known =
-    go (bytes_eq name (codes "export")) (bytes_eq name (codes "check")) _ _ (λ e. not_export ((bytes_eq-Decides _ _).0 e)) (λ e. not_check ((bytes_eq-Decides _ _).0 e)) known
+pub no_other : (name : Text) (rows : List Row) → name ≢ codes "export" → name ≢ codes "check" → name ≢ codes "list" → IsSome (request_named name rows) → ⊥
+no_other name rows not_export not_check not_list known =
+    go (bytes_eq name (codes "export")) (bytes_eq name (codes "check")) (bytes_eq name (codes "list")) _ _ _ (λ e. not_export ((bytes_eq-Decides _ _).0 e))
+    (λ e. not_check ((bytes_eq-Decides _ _).0 e)) (λ e. not_list ((bytes_eq-Decides _ _).0 e)) known
   where
-    go : (is_export is_check : Bool) (x y : Request) → (is_export ≡ true → ⊥) → (is_check ≡ true → ⊥) → IsSome (cond is_export (Some x) (cond is_check (Some y) None)) → ⊥
-    go true is_check x y a b known = a refl
-    go false true x y a b known = b refl
-    go false false x y a b known = true≢false (sym known)
+    go : (is_export is_check is_list : Bool) (x y z : Request) → (is_export ≡ true → ⊥) → (is_check ≡ true → ⊥) → (is_list ≡ true → ⊥)
+        → IsSome (cond is_export (Some x) (cond is_check (Some y) (cond is_list (Some z) None))) → ⊥
+    go true is_check is_list x y z a b c known = a refl
+    go false true is_list x y z a b c known = b refl
+    go false false true x y z a b c known = c refl
+    go false false false x y z a b c known = true≢false (sym known)
 
 -- ---- a flag
 

@@ -1,5 +1,6 @@
 -- Definitions that the contracts of pgn_tool cite.
 pub mod CommandLine
 pub mod Requests
+pub mod Listing
 pub mod Running
 pub mod Refusing

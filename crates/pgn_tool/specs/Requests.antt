@@ -9,7 +9,7 @@ use Rattle.clap.specs.declared.error.kind.ErrorKind.{ErrorKind}
 use Rattle.clap.specs.declared.error.kind.ErrorKind.TheVariants.{DisplayHelp, DisplayVersion, OutOfMemory}
 use Rattle.pgn_tool.specs.CommandLine.{command_line}
 use Rattle.pgn_tool.specs.declared.arguments.Task.{Task}
-use Rattle.pgn_tool.specs.declared.arguments.Task.TheVariants.{Export, Check}
+use Rattle.pgn_tool.specs.declared.arguments.Task.TheVariants.{Export, Check, List as ListGames}
 use Rattle.pgn_tool.specs.declared.arguments.ParseFault.{ParseFault}
 use Rattle.pgn_tool.specs.declared.arguments.ParseFault.TheVariants.{Help, Bad, NoMemory}
 
@@ -17,15 +17,18 @@ use Rattle.pgn_tool.specs.declared.arguments.ParseFault.TheVariants.{Help, Bad, 
 pub data Request : Type 0 where
   export : Bool → Option Text → Request
   check : Option Text → Request
+  listing : Option Text → Request
 
 -- the file's name
 abbrev pub file_of : Request → Option Text
 file_of (export reduced file) = file
 file_of (check file) = file
+file_of (listing file) = file
 
 abbrev pub request_of : Task → Request
 request_of (Export reduced file) = export reduced (option_map string_bytes file)
 request_of (Check file) = check (option_map string_bytes file)
+request_of (ListGames file) = listing (option_map string_bytes file)
 
 -- the flag of this id was given
 abbrev pub is_given : Text → List Row → Bool
@@ -37,7 +40,8 @@ request_named name rows =
     if bytes_eq name (codes "export")
     then Some (export (is_given (codes "reduced") rows) (first_of (codes "file") rows))
     else (if bytes_eq name (codes "check") then Some (check (first_of (codes "file") rows))
-    else None)
+    else (if bytes_eq name (codes "list") then Some (listing (first_of (codes "file") rows))
+    else None))
 
 -- the request of a subcommand that was met, if any
 unfoldable pub request_from : Option (Text × List Row) → Option Request

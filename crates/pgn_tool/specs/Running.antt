@@ -14,14 +14,18 @@ use Rattle.pgn_game.specs.Begun.{Verdict, refused, totals, output, verdict}
 use Rattle.pgn_game.specs.Feeding.{profile_of}
 use Rattle.pgn_game.specs.Converting.{Converts}
 use Rattle.pgn_tool.specs.declared.arguments.Task.{Task}
-use Rattle.pgn_tool.specs.declared.arguments.Task.TheVariants.{Export, Check}
+use Rattle.pgn_tool.specs.declared.arguments.Task.TheVariants.{Export, Check, List as ListGames}
+use Rattle.pgn_tool.specs.declared.list.Stopped.{Stopped}
+use Rattle.pgn_tool.specs.declared.list.Stopped.TheVariants as stopped
+use Rattle.pgn_tool.specs.Listing.{Lists, list_text}
 
 -- ---- what is asked for
 
--- to write the games in a mode, or to count them
+-- to write the games in a mode, to count them, or to tell each on a line
 pub data Job : Type 0 where
   exporting : Mode → Job
   checking : Job
+  listing : Job
 
 abbrev pub mode_for : Bool → Mode
 mode_for true = Reduced
@@ -30,11 +34,13 @@ mode_for false = Full
 abbrev pub job_of : Task → Job
 job_of (Export reduced file) = exporting (mode_for reduced)
 job_of (Check file) = checking
+job_of (ListGames file) = listing
 
--- what is checked is read in full
+-- what is checked or listed is read in full
 abbrev pub mode_of : Job → Mode
 mode_of (exporting mode) = mode
 mode_of checking = Full
+mode_of listing = Full
 
 -- 64 tag pairs of a game, and variations to depth 32
 abbrev pub profile_for : Job → Profile
@@ -59,6 +65,7 @@ counting_of (totals c) = counting_line c.games c.plies
 abbrev pub text_for : Job → List ℕ → List ℕ
 text_for (exporting mode) s = output (profile_of 64 32 mode) s
 text_for checking s = counting_of (verdict (profile_of 64 32 Full) s)
+text_for listing s = list_text s
 
 -- the status is 1 exactly for a fault
 abbrev pub status_of : Verdict → ℕ
@@ -157,9 +164,32 @@ Counts (Err f) out = Keeps out.before out.after
 abbrev pub Works : Job → Result Totals Fault → Device → Device → Type 0
 Works (exporting mode) answer source out = Converts (profile_of 64 32 mode) source.before source.after answer out.before out.after
 Works checking answer source out = Converts (profile_of 64 32 Full) source.before source.after answer None None × Counts answer out
+Works listing answer source out = ⊥
 
--- A run: a conversion with its answer, and how it ends. Of an export, standard output has what the conversion wrote.
-pub record Runs (job : Job) (source out err : Device) (status : ℕ) : Type 0 where
+-- A run that converts: a conversion with its answer, and how it ends. Of an export, standard output has what the conversion wrote.
+pub record RunsConversion (job : Job) (source out err : Device) (status : ℕ) : Type 0 where
   pub answer : Result Totals Fault
   pub works : Works job answer source out
   pub ends : Ends answer source out err status
+
+-- a line could not be written, which is told
+pub record Breaks (out err : Device) (status : ℕ) : Type 0 where
+  pub ends : status ≡ 1
+  pub failed : HasFailed out
+  pub told : Tells err (line (codes "output cannot be written"))
+
+abbrev pub EndsList : Result Unit Stopped → Device → Device → Device → ℕ → Type 0
+EndsList (Ok done) source out err status = Concludes source out err status
+EndsList (Err (stopped.Refused f)) source out err status = Refuses f source out err status
+EndsList (Err stopped.Unwritten) source out err status = Breaks out err status
+
+-- A run that lists: how the list ended, and how the run ends.
+pub record RunsList (source out err : Device) (status : ℕ) : Type 0 where
+  pub answer : Result Unit Stopped
+  pub lists : Lists source.before source.after answer out.before out.after
+  pub ends : EndsList answer source out err status
+
+-- what a run of a job is
+abbrev pub Runs : Job → Device → Device → Device → ℕ → Type 0
+Runs listing source out err status = RunsList source out err status
+Runs job source out err status = RunsConversion job source out err status

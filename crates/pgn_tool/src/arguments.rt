@@ -1,7 +1,7 @@
 //! The command line: which task the words of a call ask for.
 ghost use Rattle.std.specs.Prelude.{◌≡◌, IfOk, IsSome, false, codes, map, option_map, string_bytes};
 ghost use Rattle.clap.specs.Words.{app_of, first_of, found_of, kind_of, rows_of, rule_of, subcommand_rows_of};
-ghost use Rattle.pgn_tool.specs.CommandLine.{check_command, command_line, export_command, file_rule};
+ghost use Rattle.pgn_tool.specs.CommandLine.{check_command, command_line, export_command, file_rule, list_command};
 ghost use Rattle.std.specs.Option.{option_copied};
 ghost use Rattle.pgn_tool.specs.Requests.{AnswersBy, AnswersError, file_of, is_given, refusals, request_from, request_in, request_of};
 ghost use Rattle.pgn_tool.specs.declared.arguments.ParseFault.TheVariants.{NoMemory};
@@ -28,6 +28,11 @@ pub enum Task {
         /// The file to read; with none, standard input.
         file: Option<String>,
     },
+    /// Tell each game on a line.
+    List {
+        /// The file to read; with none, standard input.
+        file: Option<String>,
+    },
 }
 
 impl Task {
@@ -38,6 +43,7 @@ impl Task {
         match self {
             Task::Export { file, .. } => file.as_deref(),
             Task::Check { file } => file.as_deref(),
+            Task::List { file } => file.as_deref(),
         }
     }
 }
@@ -87,7 +93,8 @@ fn command_line<'a>(alloc: Global) -> Result<Command<'a>, AllocError>
         .disable_help_subcommand(true)
         .subcommand_required(true)
         .subcommand(export_command(alloc)?)?
-        .subcommand(check_command(alloc)?)
+        .subcommand(check_command(alloc)?)?
+        .subcommand(list_command(alloc)?)
 }
 
 fn export_command<'a>(alloc: Global) -> Result<Command<'a>, AllocError>
@@ -108,6 +115,14 @@ fn check_command<'a>(alloc: Global) -> Result<Command<'a>, AllocError>
 {
     Command::new(alloc, "check")
         .about("Check the games and count them and their moves")
+        .arg(file_argument(alloc))
+}
+
+fn list_command<'a>(alloc: Global) -> Result<Command<'a>, AllocError>
+    ensures { IfOk result (λ c. app_of c ≡ list_command) }
+{
+    Command::new(alloc, "list")
+        .about("List the games, a line for each")
         .arg(file_argument(alloc))
 }
 
@@ -137,6 +152,7 @@ fn task_of(alloc: Global, matches: &ArgMatches<'_>) -> Result<Task, AllocError>
             file,
         }),
         "check" => Ok(Task::Check { file }),
+        "list" => Ok(Task::List { file }),
         _ => unreachable!(),
     }
 }

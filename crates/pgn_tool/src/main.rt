@@ -1,9 +1,10 @@
-//! The program: converts chess games in Portable Game Notation to export format, or checks them.
+//! The program: converts chess games in Portable Game Notation to export format, or checks or lists them.
 #![tactic(auto)]
 
 ghost use Rattle.std.specs.Prelude.{◌≡◌, ◌≤◌};
 
 mod arguments;
+mod list;
 mod replies;
 mod stream;
 #[cfg(test)]

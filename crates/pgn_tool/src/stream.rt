@@ -2,18 +2,19 @@
 ghost use Rattle.std.specs.Prelude.{◌≡◌, ℕ, ◌+◌, ◌-◌, ◌≤◌, List, ◌++◌, length, true, false, codes, if◌then◌else◌};
 ghost use Rattle.std.specs.Io.KnownBytes.{Appends};
 ghost use Rattle.pgn_game.specs.Reason.{line_of};
-ghost use Rattle.pgn_tool.specs.Running.{Answers, HasFailed, HasFront, IsSmooth, IsStill, Runs, Tells, checking, counting_line, device, exporting, job_of, line, mode_for};
+ghost use Rattle.pgn_tool.specs.Running.{Answers, HasFailed, HasFront, IsSmooth, IsStill, Runs, Tells, checking, counting_line, device, exporting, job_of, line, listing, mode_for};
 
 use crate::arguments::Task;
+use crate::list::{Stopped, list_games};
 use arrayvec::ArrayVec;
 use itoa::Buffer;
 use pgn_game::{Fault, Mode, Nowhere, Sink, Source, Totals, convert};
 use pgn_layout::write_all;
 
 /// The most tag pairs of a game.
-const TAGS: usize = 64;
+pub const TAGS: usize = 64;
 /// The levels of movetext: the game's own, and variations to depth 32.
-const LEVELS: usize = 33;
+pub const LEVELS: usize = 33;
 
 /// Carries out the task on what the source gives, and answers the exit status.
 ///
@@ -45,6 +46,7 @@ pub fn run_stream<R: Source, O: Sink, E: Sink>(
     match task {
         Task::Export { reduced, .. } => export(export_mode(*reduced), reader, out, err),
         Task::Check { .. } => check(reader, out, err),
+        Task::List { .. } => list(reader, out, err),
     }
 }
 
@@ -82,6 +84,20 @@ fn check<R: Source, O: Sink, E: Sink>(reader: &mut R, out: &mut O, err: &mut E) 
             let _ = out.flush();
             refuse(fault, err)
         }
+    }
+}
+
+// Writes a line for each game.
+fn list<R: Source, O: Sink, E: Sink>(reader: &mut R, out: &mut O, err: &mut E) -> u8
+    ensures { Runs listing (device R.left R.failures reader.old reader.new) (device O.taken O.failures out.old out.new)
+        (device E.taken E.failures err.old err.new) result }
+{
+    let answer = list_games(reader, out);
+    let flushed = out.flush();
+    match answer {
+        Ok(()) => conclude(flushed.is_ok(), err),
+        Err(Stopped::Refused(fault)) => refuse(fault, err),
+        Err(Stopped::Unwritten) => conclude(false, err),
     }
 }
 

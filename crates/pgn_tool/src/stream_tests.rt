@@ -24,6 +24,12 @@ const WON: &[u8] =
 const NAMED: &[u8] =
     b"[Event \"?\"]\n[Site \"?\"]\n[Date \"????.??.??\"]\n[Round \"?\"]\n[White \"?\"]\n[Black \"?\"]\n[Result \"*\"]\n[A \"1\"]\n\n*\n\n";
 
+const FIRST_LINE: &[u8] =
+    b"1\t?\t?\t*\t0\trnbqkbnr/pppppppp/8/8/8/8/PPPPPPPP/RNBQKBNR w KQkq - 0 1\n";
+
+const BOTH_LINES: &[u8] =
+    b"1\t?\t?\t*\t0\trnbqkbnr/pppppppp/8/8/8/8/PPPPPPPP/RNBQKBNR w KQkq - 0 1\n2\t?\t?\t*\t0\trnbqkbnr/pppppppp/8/8/8/8/PPPPPPPP/RNBQKBNR w KQkq - 0 1\n";
+
 /// A reader of a text in pieces of at most 7 bytes, which fails at one of its calls.
 #[derive(Drop)]
 struct Reader {
@@ -134,6 +140,8 @@ const REDUCED: Task = Task::Export {
 
 const CHECK: Task = Task::Check { file: None };
 
+const LIST: Task = Task::List { file: None };
+
 #[test]
 fn exports(rt: HostRuntime) {
     let rows: [(&'static [u8], u8, &[u8], &[u8]); 7] = [
@@ -187,18 +195,73 @@ fn checks(rt: HostRuntime) {
     }
 }
 
+#[test]
+fn lists(rt: HostRuntime) {
+    let rows: [(&'static [u8], u8, &[u8], &[u8]); 9] = [
+        (b"", 0, b"", b""),
+        (TWO, 0, BOTH_LINES, b""),
+        (
+            b"1. e4 *",
+            0,
+            b"1\t?\t?\t*\t1\trnbqkbnr/pppppppp/8/8/4P3/8/PPPP1PPP/RNBQKBNR b KQkq e3 0 1\n",
+            b"",
+        ),
+        // The marker ends with the input.
+        (
+            b"[Result \"0-1\"]\nf3 e5 g4 Qh4 0-1",
+            0,
+            b"1\t?\t?\t0-1\t4\trnb1kbnr/pppp1ppp/8/4p3/6Pq/5P2/PPPPP2P/RNBQKBNR w KQkq - 1 3\n",
+            b"",
+        ),
+        (
+            b"[White \"Amaral \\\"R\\\"\"][Black \"Okafor\"] e4 (d4) *",
+            0,
+            b"1\tAmaral \"R\"\tOkafor\t*\t1\trnbqkbnr/pppppppp/8/8/4P3/8/PPPP1PPP/RNBQKBNR b KQkq e3 0 1\n",
+            b"",
+        ),
+        (
+            b"[FEN \"4k3/44/8/8/8/8/8/4K3 w - - 00 007\"] *",
+            0,
+            b"1\t?\t?\t*\t0\t4k3/8/8/8/8/8/8/4K3 w - - 0 7\n",
+            b"",
+        ),
+        (
+            b"* 1. e4 e5 2. Ke3 *",
+            1,
+            FIRST_LINE,
+            b"byte 14: move is not legal\n",
+        ),
+        (
+            b"* [A \"1\"]",
+            1,
+            FIRST_LINE,
+            b"byte 9: unexpected end of input\n",
+        ),
+        (
+            b"1-0",
+            1,
+            b"",
+            b"byte 0: result differs from the Result tag\n",
+        ),
+    ];
+    for (text, status, out, err) in rows {
+        let ran = run(&LIST, whole(text), memory(rt.alloc()), memory(rt.alloc()));
+        assert!(rt; ran.is(status, out, err), "at {text:?}");
+    }
+}
+
 // The text is read in four pieces, and a fifth read finds its end.
 #[test]
 fn tells_each_read_that_fails(rt: HostRuntime) {
-    let rows: [(&[u8], &[u8]); 5] = [
-        (b"", b"byte 0: input cannot be read\n"),
-        (b"", b"byte 7: input cannot be read\n"),
-        (FIRST, b"byte 14: input cannot be read\n"),
-        (FIRST, b"byte 21: input cannot be read\n"),
-        (BOTH, b"byte 27: input cannot be read\n"),
+    let rows: [(&[u8], &[u8], &[u8]); 5] = [
+        (b"", b"", b"byte 0: input cannot be read\n"),
+        (b"", b"", b"byte 7: input cannot be read\n"),
+        (FIRST, FIRST_LINE, b"byte 14: input cannot be read\n"),
+        (FIRST, FIRST_LINE, b"byte 21: input cannot be read\n"),
+        (BOTH, BOTH_LINES, b"byte 27: input cannot be read\n"),
     ];
     let mut fails_at = 0usize;
-    for (out, err) in rows {
+    for (out, lines, err) in rows {
         let failing = Reader {
             text: TWO,
             calls: 0,
@@ -213,6 +276,13 @@ fn tells_each_read_that_fails(rt: HostRuntime) {
         };
         let ran = run(&CHECK, failing, memory(rt.alloc()), memory(rt.alloc()));
         assert!(rt; ran.is(1, b"", err), "at read {fails_at}");
+        let failing = Reader {
+            text: TWO,
+            calls: 0,
+            fails_at,
+        };
+        let ran = run(&LIST, failing, memory(rt.alloc()), memory(rt.alloc()));
+        assert!(rt; ran.is(1, lines, err), "at read {fails_at}");
         fails_at = fails_at.saturating_add(1);
     }
     let failing = Reader {
@@ -264,10 +334,47 @@ fn tells_each_write_that_fails(rt: HostRuntime) {
     assert!(rt; ran.is(1, b"", b"byte 0: output cannot be written\n"));
 }
 
+// A line that cannot be written ends the list: a front of the lines stands.
+#[test]
+fn ends_at_a_line_that_cannot_be_written(rt: HostRuntime) {
+    let mut failed = 0usize;
+    for fails_at in 0..1000usize {
+        let mut out = memory(rt.alloc());
+        out.fails_at = fails_at;
+        let ran = run(&LIST, whole(TWO), out, memory(rt.alloc()));
+        if ran.out.calls <= fails_at {
+            assert!(rt; ran.is(0, BOTH_LINES, b""));
+            break;
+        }
+        failed = failed.saturating_add(1);
+        let front = ran.out.taken.as_slice();
+        assert!(rt; BOTH_LINES.starts_with(front), "at write {fails_at}");
+        assert!(rt; front.len() < BOTH_LINES.len(), "at write {fails_at}");
+        assert!(rt;
+            ran.is(1, front, b"output cannot be written\n"),
+            "at write {fails_at}"
+        );
+    }
+    assert!(rt; failed > 2);
+
+    // The fault behind the line is not reached.
+    let mut out = memory(rt.alloc());
+    out.fails_at = 0;
+    let ran = run(&LIST, whole(b"* 1-0"), out, memory(rt.alloc()));
+    assert!(rt; ran.is(1, b"", b"output cannot be written\n"));
+}
+
 #[test]
 fn tells_a_flush_that_fails_after_no_fault(rt: HostRuntime) {
-    let rows: [(&Task, &'static [u8], &[u8], &[u8]); 4] = [
+    let rows: [(&Task, &'static [u8], &[u8], &[u8]); 6] = [
         (&EXPORT, TWO, BOTH, b"output cannot be written\n"),
+        (&LIST, TWO, BOTH_LINES, b"output cannot be written\n"),
+        (
+            &LIST,
+            b"* 1-0",
+            FIRST_LINE,
+            b"byte 2: result differs from the Result tag\n",
+        ),
         (
             &CHECK,
             TWO,
@@ -297,8 +404,10 @@ fn tells_a_flush_that_fails_after_no_fault(rt: HostRuntime) {
 
 #[test]
 fn keeps_its_status_where_nothing_can_be_told(rt: HostRuntime) {
-    let rows: [(&Task, &'static [u8], u8, &[u8]); 4] = [
+    let rows: [(&Task, &'static [u8], u8, &[u8]); 6] = [
         (&EXPORT, TWO, 0, BOTH),
+        (&LIST, TWO, 0, BOTH_LINES),
+        (&LIST, b"* 1-0", 1, FIRST_LINE),
         (&CHECK, TWO, 0, b"games: 2, plies: 0\n"),
         (&EXPORT, b"* 1-0", 1, UNKNOWN),
         (&CHECK, b"* 1-0", 1, b""),

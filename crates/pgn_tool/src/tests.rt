@@ -61,8 +61,26 @@ fn reads_check(rt: HostRuntime) -> Result<(), Fail> {
 }
 
 #[test]
+fn reads_list(rt: HostRuntime) -> Result<(), Fail> {
+    let alloc = rt.alloc();
+    let rows: [(&[&str], Option<&str>); 2] = [
+        (&["pgn_tool", "list"], None),
+        (&["pgn_tool", "list", "a.pgn"], Some("a.pgn")),
+    ];
+    for (words, file) in rows {
+        let file = owned(alloc, file)?;
+        assert!(rt;
+            parse(alloc, words) == Ok(Task::List { file }),
+            "at {words:?}"
+        );
+    }
+    Ok(())
+}
+
+#[test]
 fn refuses_other_words(rt: HostRuntime) {
-    let rows: [(&[&str], &str); 9] = [
+    let rows: [(&[&str], &str); 10] = [
+        (&["pgn_tool", "list", "a", "b"], "unexpected argument 'b'"),
         (&[], "requires a subcommand"),
         (&["pgn_tool"], "requires a subcommand"),
         (&["pgn_tool", "export", "a", "b"], "unexpected argument 'b'"),
@@ -101,10 +119,16 @@ fn refuses_other_words(rt: HostRuntime) {
 
 #[test]
 fn shows_help_and_version(rt: HostRuntime) {
-    let rows: [(&[&str], &[&str]); 5] = [
+    let rows: [(&[&str], &[&str]); 6] = [
         (
             &["pgn_tool", "--help"],
-            &["export", "check", "--version", "Usage: pgn_tool <COMMAND>"],
+            &[
+                "export",
+                "check",
+                "list",
+                "--version",
+                "Usage: pgn_tool <COMMAND>",
+            ],
         ),
         (&["pgn_tool", "-h"], &["export", "check"]),
         (
@@ -119,6 +143,10 @@ fn shows_help_and_version(rt: HostRuntime) {
         (
             &["pgn_tool", "check", "--help"],
             &["Usage: pgn_tool check", "[FILE]", "standard input"],
+        ),
+        (
+            &["pgn_tool", "list", "--help"],
+            &["Usage: pgn_tool list", "[FILE]", "standard input"],
         ),
         (&["pgn_tool", "--version"], &["pgn_tool "]),
     ];

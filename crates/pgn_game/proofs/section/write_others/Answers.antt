@@ -1,18 +1,54 @@
-use Rattle.std.proofs.Common.{sym, ◌∙◌}
+use Rattle.std.proofs.Common.{◌≡◌, ℕ, true, false, List, ◌++◌, take, drop, ap, sym, ◌∙◌}
+use Rattle.std.specs.Prelude.{codes}
 use Rattle.std.proofs.lemmas.Result.{err_from_is_err_and}
-use Rattle.pgn_game.specs.SectionLines.{other_line}
-use Rattle.pgn_game.proofs.Appending.{next_text, next_front}
+use Rattle.std.proofs.KnownBytes.{Appends-trans}
+use Rattle.pgn_layout.specs.Layout.{Layout}
+use Rattle.pgn_layout.specs.TagLine.{tag_line}
+use Rattle.pgn_game.specs.Holding.{place_of}
+use Rattle.pgn_game.specs.Pairs.{Pair, has_pair}
+use Rattle.pgn_game.specs.SectionLines.{text_by, other_line}
+use Rattle.pgn_game.specs.TagSection.{other_pairs, tag_lines, with_set_up}
+use Rattle.pgn_game.proofs.Appending.{front_of_more, front_after, Writes-append}
+use Rattle.pgn_game.proofs.Ordering.{place_of-le}
+use Rattle.pgn_game.proofs.Sections.{others_without_fen, others_with_fen, lines_about}
 use Rattle.pgn_game.proofs.section.write_others.Goals as goal
 
-pub returns-in_err-write_other-clause-text : goal.returns-in_err-write_other-clause-text
-returns-in_err-write_other-clause-text g c =
-    let p = err_from_is_err_and c.from_residual.result c.from_residual.ensures.1 in
-    rw (p.1, ← c.pairs-pair-items.ensures)
-    (next_front other_line c.pairs-pair-items.result.now c.loop-pair.pair-index c.pair-item.result _ _ _ c.loop-pair-test.true (sym c.pair-item.is) c.loop-pair.invariant.2 c.in_err-write_other.ensures.text)
+-- the pairs on both sides of SetUp's place
+both_sides : (held pairs before after : List Pair) (n : ℕ) → pairs ≡ held → n ≡ place_of (codes "SetUp") pairs → before ≡ take n pairs → after ≡ drop n pairs
+    → has_pair held (codes "FEN") ≡ true
+    → (text_by (other_line true) before ++ tag_line (codes "SetUp") (codes "1")) ++ text_by (other_line true) after ≡ tag_lines (other_pairs (with_set_up held))
+both_sides held pairs before after n is place front back some =
+    ap (λ ps. (text_by (other_line true) ps ++ tag_line (codes "SetUp") (codes "1")) ++ text_by (other_line true) after) front
+    ∙ ap (λ ps. (text_by (other_line true) (take n pairs) ++ tag_line (codes "SetUp") (codes "1")) ++ text_by (other_line true) ps) back
+    ∙ ap (λ k. lines_about k pairs) place ∙ ap (λ ps. lines_about (place_of (codes "SetUp") ps) ps) is ∙ others_with_fen held some
 
-pub loop-pair-preserved : goal.loop-pair-preserved
-loop-pair-preserved g c = (
-  c.in_ok-write_other.ensures.line ∙ c.loop-pair.invariant.0,
-  c.in_ok-write_other.ensures.counted ∙ c.loop-pair.invariant.1,
-  next_text other_line c.pairs-pair-items.result.now c.loop-pair.pair-index c.pair-item.result _ _ _ c.loop-pair-test.true (sym c.pair-item.is) c.loop-pair.invariant.2 c.in_ok-write_other.ensures.text,
-)
+pub returns-then-not-has_fen-clause-text : goal.returns-then-not-has_fen-clause-text
+returns-then-not-has_fen-clause-text g c =
+    let held = c.args.tags.now.held in
+    let none : has_pair held (codes "FEN") ≡ false = sym c.has_fen.ensures ∙ c.if-not-has_fen.true in
+    rw (← others_without_fen held none, ← c.pairs-pairs.ensures) c.write_pairs.ensures.text
+
+pub split_at-requires : goal.split_at-requires
+split_at-requires g c = rw c.place_of.ensures (place_of-le (codes "SetUp") c.pairs-pairs.result.now)
+
+pub returns-in_err-write_pairs-clause-text : goal.returns-in_err-write_pairs-clause-text
+returns-in_err-write_pairs-clause-text g c =
+    let p = err_from_is_err_and c.from_residual.result c.from_residual.ensures.1 in
+    let some : has_pair c.args.tags.now.held (codes "FEN") ≡ true = sym c.has_fen.ensures ∙ c.if-not-has_fen.false in
+    rw (p.1, ← both_sides c.args.tags.now.held _ _ _ _ c.pairs-pairs.ensures c.place_of.ensures c.split_at.ensures.front c.split_at.ensures.back some)
+    (front_of_more _ _ _ _ (front_of_more _ _ _ _ c.in_err-write_pairs.ensures.text))
+
+pub returns-in_err-tag-clause-text : goal.returns-in_err-tag-clause-text
+returns-in_err-tag-clause-text g c =
+    let p = err_from_is_err_and c.from_residual-in_err-tag.result c.from_residual-in_err-tag.ensures.1 in
+    let some : has_pair c.args.tags.now.held (codes "FEN") ≡ true = sym c.has_fen.ensures ∙ c.if-not-has_fen.false in
+    let going = ap (λ (l : Layout). l.has_failed) c.in_ok-write_pairs.ensures.line ∙ c.requires.going in
+    rw (p.1, ← both_sides c.args.tags.now.held _ _ _ _ c.pairs-pairs.ensures c.place_of.ensures c.split_at.ensures.front c.split_at.ensures.back some)
+    (front_of_more _ _ _ _ (front_after _ _ _ _ _ c.in_ok-write_pairs.ensures.text (c.in_err-tag.ensures.text going)))
+
+pub returns-clause-text : goal.returns-clause-text
+returns-clause-text g c =
+    let some : has_pair c.args.tags.now.held (codes "FEN") ≡ true = sym c.has_fen.ensures ∙ c.if-not-has_fen.false in
+    let going = ap (λ (l : Layout). l.has_failed) c.in_ok-write_pairs.ensures.line ∙ c.requires.going in
+    rw (← both_sides c.args.tags.now.held _ _ _ _ c.pairs-pairs.ensures c.place_of.ensures c.split_at.ensures.front c.split_at.ensures.back some)
+    (Writes-append _ _ _ _ _ _ (Appends-trans _ _ _ _ _ c.in_ok-write_pairs.ensures.text (c.in_ok-tag.ensures.text going)) c.write_pairs-3.ensures.text)

@@ -5,8 +5,8 @@ use Rattle.pgn_game.proofs.whole.end.Goals as goal
 pub returns-in_err-finish-clause-ends : goal.returns-in_err-finish-clause-ends
 returns-in_err-finish-clause-ends g c =
     let e = err_from_is_err_and c.from_residual.result c.from_residual.ensures.1 in
-    rw (e.1, e.2) (λ p u given stands. c.in_err-finish.ensures.ends p u _ given stands)
+    rw (e.1, e.2) (λ p u given stands. (c.in_err-finish.ensures.ends p u _ given stands).stops)
 
 pub returns-clause-ends : goal.returns-clause-ends
 returns-clause-ends g c p u given stands =
-    ended p u given c.finish.new.self _ (record { games = c.games.result; plies = c.plies.result; most_probes = c.most_probes.result }) _ _ (c.in_ok-finish.ensures.ends p u _ given stands) c.games.ensures c.plies.ensures
+    ended p u given c.finish.new.self _ (record { games = c.games.result; plies = c.whole_plies.result; most_probes = c.most_probes.result }) _ _ (c.in_ok-finish.ensures.ends p u _ given stands) c.games.ensures c.whole_plies.ensures c.most_probes.ensures.value c.most_probes.ensures.bound

@@ -2,7 +2,7 @@ use Rattle.std.proofs.Common.{◌≡◌, ◌∙◌, refl, ap, ap₂, true}
 use Rattle.std.proofs.lemmas.Result.{IfOk-weaker}
 use Rattle.clap.specs.Words.{App, app_of, with_subcommand}
 use Rattle.clap.specs.Simple.{Shape, on_top}
-use Rattle.pgn_tool.specs.CommandLine.{bare_program, check_command, command_line, export_command}
+use Rattle.pgn_tool.specs.CommandLine.{bare_program, check_command, command_line, export_command, list_command}
 use Rattle.pgn_tool.proofs.Builders.{app_about, app_help_subcommand, app_required, app_version, is_local}
 use Rattle.pgn_tool.proofs.arguments.command_line.Goals as goal
 
@@ -14,6 +14,10 @@ check_is_plain : check_command.top.is_plain ≡ true
 unfolding check_command
 check_is_plain = refl
 
+list_is_plain : list_command.top.is_plain ≡ true
+unfolding list_command
+list_is_plain = refl
+
 pub returns : goal.returns
 unfolding command_line bare_program
 returns c =
@@ -24,6 +28,8 @@ returns c =
     ∙ ap (on_top (λ (s : Shape). record s { subcommand_required = true })) plain in
     let export_is = c.in_ok-export_command.ensures in
     let check_is = c.in_ok-check_command.ensures in
+    let list_is = c.in_ok-list_command.ensures in
     let first = c.in_ok-subcommand.ensures.shape (is_local _ _ export_is export_is_plain) ∙ ap₂ with_subcommand bare (ap (λ (a : App). a.top) export_is) in
-    IfOk-weaker c.subcommand-2.result _ _
-    (λ made h. h.shape (is_local _ _ check_is check_is_plain) ∙ ap₂ with_subcommand first (ap (λ (a : App). a.top) check_is)) c.subcommand-2.ensures
+    let second = c.in_ok-subcommand-2.ensures.shape (is_local _ _ check_is check_is_plain) ∙ ap₂ with_subcommand first (ap (λ (a : App). a.top) check_is) in
+    IfOk-weaker c.subcommand-3.result _ _
+    (λ made h. h.shape (is_local _ _ list_is list_is_plain) ∙ ap₂ with_subcommand second (ap (λ (a : App). a.top) list_is)) c.subcommand-3.ensures

@@ -15,6 +15,7 @@ loop-at-init g c =
       games = ap (λ (s : Converter). s.games) c.self.view_is;
       hand = refl;
       going = ap (λ (s : Converter). s.is_finished) c.self.view_is ∙ c.requires.going;
+      probes = omega (arith, ap (λ (s : Converter). s.reading.most_probes) c.self.view_is);
       counted = refl;
       feeds = λ p u b given stands follows.
           so_far_none p _ u b given c.args.piece.now _ (lets_go p _ u b given (subst (λ (s : Converter). Stands p s u b given) (sym c.self.view_is) stands)) follows;
@@ -76,6 +77,7 @@ loop-at-preserved g c =
       games = rw c.in-More.is at c.step-step.ensures.games ∙ c.loop-at.invariant.games;
       hand = none_at_hand _ (rw c.in-More.is at c.step-step.ensures.hand);
       going = c.step-step.ensures.going ∙ c.loop-at.invariant.going;
+      probes = omega (arith, c.step-step.ensures.probes, c.loop-at.invariant.probes);
       counted = counted ∙ c.loop-at.invariant.counted;
       feeds = λ p u b given stands follows.
           let so = c.loop-at.invariant.feeds p u b given stands follows in

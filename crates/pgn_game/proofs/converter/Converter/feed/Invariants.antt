@@ -13,6 +13,7 @@ invariant-loop-at g l =
       games : l.self.games ≡ l.fn.self.games;
       hand : l.self.at_hand ≡ None;
       going : l.self.is_finished ≡ false;
+      probes : l.fn.self.reading.most_probes ≤ l.self.reading.most_probes;
       counted : g.W.Sink.failures l.out ≡ g.W.Sink.failures l.fn.out;
       feeds : FeedsSoFar l.fn.self l.piece l.at l.self (g.W.Sink.taken l.fn.out) (g.W.Sink.taken l.out);
     }

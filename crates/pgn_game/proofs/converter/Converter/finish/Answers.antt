@@ -1,4 +1,4 @@
-use Rattle.std.proofs.Common.{rules, refl, sym, ap, subst, ◌∙◌}
+use Rattle.std.proofs.Common.{rules, arith, refl, sym, ap, subst, ◌∙◌}
 use Rattle.pgn_game.specs.Feeding.{Converter, Stands}
 use Rattle.pgn_game.proofs.AtEnd.{closed_none, closed_more, closed_game, closed_end, closed_fault}
 use Rattle.pgn_game.proofs.InPiece.{counts_step}
@@ -13,12 +13,13 @@ loop-is_game-init g c =
       fault = c.in_default.is;
       hand = refl;
       going = ap (λ (s : Converter). s.is_finished) c.self.view_is ∙ c.requires.going;
+      probes = omega (arith, ap (λ (s : Converter). s.reading.most_probes) c.self.view_is);
       counted = refl;
       closes = λ p u b given stands. closed_none p _ u b given _ (subst (λ (s : Converter). Stands p s u b given) (sym c.self.view_is) stands);
     }
 
 pub close-requires : goal.close-requires
-close-requires g c = (search rules, (c.loop-is_game.invariant.fault, c.loop-is_game.invariant.hand))
+close-requires g c = (search rules, (c.loop-is_game.invariant.fault, (c.loop-is_game.invariant.going, c.loop-is_game.invariant.hand)))
 
 pub loop-is_game-preserved-in-NeedMore : goal.loop-is_game-preserved-in-NeedMore
 loop-is_game-preserved-in-NeedMore g c = absurd (rw c.in-NeedMore.is at c.close.ensures.advances)
@@ -33,7 +34,8 @@ loop-is_game-preserved-in-More g c =
     record {
       fault = rw c.in-More.is at c.close.ensures.fault;
       hand = c.close.ensures.hand;
-      going = c.close.ensures.going ∙ c.loop-is_game.invariant.going;
+      going = rw c.in-More.is at c.close.ensures.finished;
+      probes = omega (arith, c.close.ensures.probes, c.loop-is_game.invariant.probes);
       counted = counted ∙ c.loop-is_game.invariant.counted;
       closes = λ p u b given stands.
           let so = c.loop-is_game.invariant.closes p u b given stands in
@@ -50,7 +52,8 @@ loop-is_game-preserved g c =
     record {
       fault = rw c.in-Finished.is at c.close.ensures.fault;
       hand = c.close.ensures.hand;
-      going = c.close.ensures.going ∙ c.loop-is_game.invariant.going;
+      going = rw c.in-Finished.is at c.close.ensures.finished;
+      probes = omega (arith, c.close.ensures.probes, c.loop-is_game.invariant.probes);
       counted = counted ∙ c.loop-is_game.invariant.counted;
       closes = λ p u b given stands.
           let so = c.loop-is_game.invariant.closes p u b given stands in
@@ -75,12 +78,19 @@ pub returns-in-Failed-clause-ends : goal.returns-in-Failed-clause-ends
 returns-in-Failed-clause-ends g c p u b given stands =
     let after = rw c.in-Failed.is at c.close.ensures.after in
     let so = c.loop-is_game.invariant.closes p u b given stands in
-    closed_fault p u given _ c.close.new.self _ _ _ _ so c.in-Failed.fault (after p u _ so.left so.has_read)
+    closed_fault p u given _ c.close.new.self _ _ _ _ so c.in-Failed.fault (after p u _ so.left so.has_read) (rw c.in-Failed.is at c.close.ensures.games)
 
 pub returns-in-Failed-clause-finished : goal.returns-in-Failed-clause-finished
-returns-in-Failed-clause-finished g c = c.close.ensures.going ∙ c.loop-is_game.invariant.going
+returns-in-Failed-clause-finished g c = rw c.in-Failed.is at c.close.ensures.finished
 
 pub returns-in-Failed-clause-counted : goal.returns-in-Failed-clause-counted
 returns-in-Failed-clause-counted g c none =
     let counted = rw c.in-Failed.is at c.close.ensures.counted in
     counts_step c.in-Failed.fault.reason _ _ _ c.loop-is_game.invariant.counted counted
+
+pub returns-in-Ended-clause-probes : goal.returns-in-Ended-clause-probes
+returns-in-Ended-clause-probes g c =
+    omega (arith, ap (λ (s : Converter). s.reading.most_probes) c.self-in-loop-is_game.view_is, c.close.ensures.probes, c.loop-is_game.invariant.probes)
+
+pub returns-in-Failed-clause-probes : goal.returns-in-Failed-clause-probes
+returns-in-Failed-clause-probes g c = omega (arith, c.close.ensures.probes, c.loop-is_game.invariant.probes)

@@ -1,4 +1,4 @@
-use Rattle.std.proofs.Common.{◌≡◌, None, false}
+use Rattle.std.proofs.Common.{◌≡◌, ◌≤◌, None, false}
 use Rattle.pgn_lexer.specs.Standing.{waiting}
 use Rattle.pgn_game.specs.Stepping.{ClosesSoFar}
 use Rattle.pgn_game.proofs.converter.Converter.finish.Given as goal
@@ -9,6 +9,7 @@ invariant-loop-is_game g l =
       fault : l.self.fault ≡ None;
       hand : l.self.at_hand ≡ None;
       going : l.self.is_finished ≡ false;
+      probes : l.fn.self.reading.most_probes ≤ l.self.reading.most_probes;
       counted : g.W.Sink.failures l.out ≡ g.W.Sink.failures l.fn.out;
       closes : ClosesSoFar l.fn.self l.self l.is_game (g.W.Sink.taken l.fn.out) (g.W.Sink.taken l.out);
     }

@@ -11,6 +11,8 @@ returns-in-AfterBracket g c =
       going = h.going;
       finished = h.finished;
       counted = h.counted;
+      plies = h.plies;
+      probes = h.probes;
     }
 
 pub returns-in-AfterName : goal.returns-in-AfterName
@@ -23,6 +25,8 @@ returns-in-AfterName g c =
       going = h.going;
       finished = h.finished;
       counted = h.counted;
+      plies = h.plies;
+      probes = h.probes;
     }
 
 pub returns-in-AfterValue : goal.returns-in-AfterValue
@@ -35,4 +39,6 @@ returns-in-AfterValue g c =
       going = h.going;
       finished = h.finished;
       counted = h.counted;
+      plies = h.plies;
+      probes = h.probes;
     }

@@ -1,72 +1,53 @@
-use Rattle.std.proofs.Common.{ℕ, List, true, false, Option, refl, sym, ap, ◌∙◌}
-use Rattle.std.specs.Prelude.{Err, is_some}
-use Rattle.std.proofs.lemmas.Result.{err_from_is_err_and}
+use Rattle.std.proofs.Common.{true, false, List, length, refl, sym, ap, ◌∙◌, arith}
+use Rattle.std.specs.Prelude.{codes}
+use Rattle.std.proofs.lemmas.Bool.{le-leb}
 use Rattle.pgn_lexer.specs.Scanned.{kind_of}
-use Rattle.pgn_game.specs.declared.reason.Reason.TheVariants.{NotAMove, ResultDiffers}
+use Rattle.pgn_game.specs.declared.reason.Reason.TheVariants.{MarkerInVariation, ResultDiffers}
+use Rattle.pgn_game.specs.Pairs.{Pair, value_of}
+use Rattle.pgn_game.specs.Here.{depth}
+use Rattle.pgn_game.specs.Holding.{TagPairs}
+use Rattle.pgn_game.specs.FaultTable.{levels_in}
 use Rattle.pgn_game.specs.Reading.{Reading}
-use Rattle.pgn_game.specs.Handling.{IsReady}
+use Rattle.pgn_game.specs.Handling.{IsOpen}
 use Rattle.pgn_game.proofs.Moves.{comes_refused}
-use Rattle.pgn_game.proofs.Finishing.{IsMovetext, IsTested, IsFinished, no_marker, marker_differs, test_of, answers_finished, answers_unwritten}
+use Rattle.pgn_game.proofs.Putting.{comes_finish}
+use Rattle.pgn_game.proofs.InText.{refused_in_text, depth_is, marker_comes, marker_inside, marker_differs, marker_passes, marker_next, test_of, differs}
 use Rattle.pgn_game.proofs.reader.Reader.accept_marker.Goals as goal
 
-pub returns-in_default-clause-comes : goal.returns-in_default-clause-comes
-returns-in_default-clause-comes g c =
+pub returns-then-depth-gt0-clause-comes : goal.returns-then-depth-gt0-clause-comes
+returns-then-depth-gt0-clause-comes g c = λ k is.
     let old = c.args.self.now in
-    let text : IsMovetext old c.args.kind = record { before = c.requires.stage; bracket = c.requires.no_bracket; over = c.requires.no_end; outside = c.requires.no_comment } in
-    comes_refused (IsReady old) old (kind_of c.args.kind) NotAMove refl (λ part ready. no_marker old c.args.kind part text ready c.in_default.ensures.marker) _ _
+    let v = c.self.view_is in
+    comes_refused (IsOpen old) old (kind_of k) MarkerInVariation refl (refused_in_text old k MarkerInVariation (marker_comes old k c.args.marker.now c.requires.stage is) (λ part op.
+    marker_inside old k c.args.marker.now part is (le-leb 1 (depth (levels_in part))
+    (omega (arith, c.if-depth-gt0.true, c.depth.ensures.value, depth_is old part op, ap (λ (r : Reading). length r.text.levels.around) v))))) _ _
 
 pub returns-then-ne-clause-comes : goal.returns-then-ne-clause-comes
-returns-then-ne-clause-comes g c =
+returns-then-ne-clause-comes g c = λ k is.
     let old = c.args.self.now in
-    let text : IsMovetext old c.args.kind = record { before = c.requires.stage; bracket = c.requires.no_bracket; over = c.requires.no_end; outside = c.requires.no_comment } in
-    let tested : IsTested old c.args.kind c.in-Some.marker.now true = record {
-      text = text;
-      unknown = sym (ap (λ (r : Reading). r.profile.missing_result) c.self.view_is);
-      is = c.in-Some.ensures.marker;
-      given = test_of c.self.inside.tags.held c.value.result _ c.unwrap_or.result c.in-Some.marker.now true old.tags.held (ap (λ (r : Reading). r.tags.held) c.self.view_is)
-          c.value.ensures.value refl c.unwrap_or.ensures (sym c.if-ne.true ∙ c.ne.ensures);
-    } in
-    comes_refused (IsReady old) old (kind_of c.args.kind) ResultDiffers refl (λ part ready. marker_differs old c.args.kind c.in-Some.marker.now part tested ready) _ _
-
-pub returns-in_err-finish_game-clause-comes : goal.returns-in_err-finish_game-clause-comes
-returns-in_err-finish_game-clause-comes g c =
-    let p = err_from_is_err_and c.from_residual.result c.from_residual.ensures.1 in
-    let f = c.in_err-finish_game.ensures in
-    let old = c.args.self.now in
-    let text : IsMovetext old c.args.kind = record { before = c.requires.stage; bracket = c.requires.no_bracket; over = c.requires.no_end; outside = c.requires.no_comment } in
-    let tested : IsTested old c.args.kind c.in-Some.marker.now false = record {
-      text = text;
-      unknown = sym (ap (λ (r : Reading). r.profile.missing_result) c.self.view_is);
-      is = c.in-Some.ensures.marker;
-      given = test_of c.self.inside.tags.held c.value.result _ c.unwrap_or.result c.in-Some.marker.now false old.tags.held (ap (λ (r : Reading). r.tags.held) c.self.view_is)
-          c.value.ensures.value refl c.unwrap_or.ensures (sym c.if-ne.false ∙ c.ne.ensures);
-    } in
-    rw (p.1 ∙ ap Err p.2)
-    (record {
-      answers = λ part ready. answers_unwritten old c.finish_game.new.self c.args.kind c.in-Some.marker.now part _ _ tested ready f.text;
-      profile = f.profile;
-      going = tt;
-      finished = tt;
-      counted = f.counted;
-    })
+    let v = c.self.view_is in
+    let marker = c.args.marker.now in
+    let unknown = sym (ap (λ (r : Reading). r.profile.missing_result) v) in
+    let test = test_of c.self.inside.tags.held c.value.result _ c.unwrap_or.result marker true old.tags.held (ap (λ (r : Reading). r.tags.held) v)
+    c.value.ensures.value refl c.unwrap_or.ensures (sym c.if-ne.true ∙ c.ne.ensures) in
+    comes_refused (IsOpen old) old (kind_of k) ResultDiffers refl (refused_in_text old k ResultDiffers (marker_comes old k marker c.requires.stage is) (λ part op.
+    marker_differs old k marker part is
+    (omega (arith, c.if-depth-gt0.false, c.depth.ensures.value, depth_is old part op, ap (λ (r : Reading). length r.text.levels.around) v)) unknown
+    (ap (λ (ps : List Pair). differs (value_of ps (codes "Result")) marker) (sym (ap (λ (t : TagPairs). t.held) op.pairs)) ∙ test))) _ _
 
 pub returns-clause-comes : goal.returns-clause-comes
-returns-clause-comes g c =
-    let f = c.in_ok-finish_game.ensures in
+returns-clause-comes g c = λ k is.
     let old = c.args.self.now in
-    let text : IsMovetext old c.args.kind = record { before = c.requires.stage; bracket = c.requires.no_bracket; over = c.requires.no_end; outside = c.requires.no_comment } in
-    let tested : IsTested old c.args.kind c.in-Some.marker.now false = record {
-      text = text;
-      unknown = sym (ap (λ (r : Reading). r.profile.missing_result) c.self.view_is);
-      is = c.in-Some.ensures.marker;
-      given = test_of c.self.inside.tags.held c.value.result _ c.unwrap_or.result c.in-Some.marker.now false old.tags.held (ap (λ (r : Reading). r.tags.held) c.self.view_is)
-          c.value.ensures.value refl c.unwrap_or.ensures (sym c.if-ne.false ∙ c.ne.ensures);
-    } in
-    let done : IsFinished old c.finish_game.new.self c.in-Some.marker.now _ _ = record { reading = f.finished; text = f.text } in
-    record {
-      answers = λ part ready. answers_finished old c.finish_game.new.self c.args.kind c.in-Some.marker.now part _ _ tested ready done;
-      profile = f.profile;
-      going = ap (λ (r : Reading). r.layout.has_failed) f.finished;
-      finished = (ap (λ (o : Option (List ℕ)). is_some o) (sym c.in-Some.ensures.marker), ap (λ (r : Reading). r.stage) f.finished);
-      counted = f.counted;
-    }
+    let v = c.self.view_is in
+    let marker = c.args.marker.now in
+    let unknown = sym (ap (λ (r : Reading). r.profile.missing_result) v) in
+    let test = test_of c.self.inside.tags.held c.value.result _ c.unwrap_or.result marker false old.tags.held (ap (λ (r : Reading). r.tags.held) v)
+    c.value.ensures.value refl c.unwrap_or.ensures (sym c.if-ne.false ∙ c.ne.ensures) in
+    let comes = marker_comes old k marker c.requires.stage is in
+    comes_finish old c.finish_game.new.self (kind_of k) marker c.finish_game.result c.finished.result (g.W.Sink.taken c.args.out.now) (g.W.Sink.taken c.finish_game.new.out) (g.W.Sink.failures c.args.out.now) (g.W.Sink.failures c.finish_game.new.out)
+    c.requires.stage c.finish_game.ensures.finishes is (λ part op. (
+      marker_passes old k marker part comes op is
+          (omega (arith, c.if-depth-gt0.false, c.depth.ensures.value, depth_is old part op, ap (λ (r : Reading). length r.text.levels.around) v)) unknown
+          (ap (λ (ps : List Pair). differs (value_of ps (codes "Result")) marker) (sym (ap (λ (t : TagPairs). t.held) op.pairs)) ∙ test),
+      marker_next old k marker part comes op is,
+    )) c.finished.ensures

@@ -1,9 +1,9 @@
 use Rattle.std.proofs.Common.{◌≡◌, take}
 use Rattle.std.specs.Io.KnownBytes.{Appends}
 use Rattle.pgn_game.specs.SectionLines.{text_by, other_line}
-use Rattle.pgn_game.proofs.section.write_others.Given as goal
+use Rattle.pgn_game.proofs.section.write_pairs.Given as goal
 
 abbrev pub invariant-loop-pair : goal.invariant-loop-pair
 invariant-loop-pair g l =
     (l.layout ≡ l.fn.layout) × (g.W.Sink.failures l.out ≡ g.W.Sink.failures l.fn.out)
-    × Appends (g.W.Sink.taken l.fn.out) (g.W.Sink.taken l.out) (text_by other_line (take l.pair-index l.pair-items))
+    × Appends (g.W.Sink.taken l.fn.out) (g.W.Sink.taken l.out) (text_by (other_line l.has_fen) (take l.pair-index l.pairs))

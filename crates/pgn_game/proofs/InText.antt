@@ -1,0 +1,335 @@
+-- What the tokens of movetext are refused for, and where they lead, for a part that is open.
+use Rattle.std.proofs.Common.{◌≡◌, ℕ, suc, Bool, true, false, ◌&&◌, ◌||◌, not, List, [], ◌∷◌, length, map, nat_le, Option, None, Some, Bor, refl, sym, ap, subst, ◌∙◌}
+use Rattle.std.specs.Option.{option_copied}
+use Rattle.std.specs.List.{list_any}
+use Rattle.std.specs.Prelude.{IsTrue, IsFalse, is_some, ◌==◌, Result, Ok, Err, bytes_eq, codes, unwrap_or}
+use Rattle.chess_rules.specs.declared.position.Parts.{Parts}
+use Rattle.chess_text.specs.declared.resolve.Played.{Played}
+use Rattle.chess_text.specs.declared.resolve.SanFault.{SanFault}
+use Rattle.chess_text.specs.declared.resolve.SanFault.TheVariants.{NoMove, Ambiguous}
+use Rattle.pgn_layout.specs.declared.sink.WriteFault.{WriteFault}
+use Rattle.pgn_lexer.specs.Tokens.{Kind, symbol}
+use Rattle.pgn_lexer.specs.Scanned.{kind_of}
+use Rattle.pgn_lexer.specs.declared.token.TokenKind.{TokenKind}
+use Rattle.pgn_lexer.specs.declared.token.TokenKind.TheVariants as variants
+use Rattle.pgn_game.specs.declared.accept.Accepted.{Accepted}
+use Rattle.pgn_game.specs.declared.accept.Stopped.{Stopped}
+use Rattle.pgn_game.specs.declared.reason.Reason.{Reason}
+use Rattle.pgn_game.specs.declared.reason.Reason.TheVariants.{NotAMove, IllegalMove, AmbiguousMove, MoveLimit, MarkerInVariation, ResultDiffers}
+use Rattle.pgn_game.specs.declared.stage.Stage.TheVariants.{Between}
+use Rattle.pgn_game.specs.Profile.{Profile, Missing, counts_as_unknown}
+use Rattle.pgn_game.specs.Chess.{move_of}
+use Rattle.pgn_game.specs.Pairs.{Pair, value_of}
+use Rattle.pgn_game.specs.Game as games
+use Rattle.pgn_game.specs.Game.{Item, Part}
+use Rattle.pgn_game.specs.Here.{Level as ModelLevel, depth, start_of, replayed, without_last}
+use Rattle.pgn_game.specs.FaultTable.{refusal, is_comment, is_left_bracket, is_end, marker_of, is_number, is_score, is_no_form, is_no_move, is_many_moves, is_one_move, is_at_limit, levels_in, position_in, result_for}
+use Rattle.pgn_game.specs.Finding.{found_in}
+use Rattle.pgn_game.specs.Begun.{Next, going, whole, next, in_text, item_of, items_of}
+use Rattle.pgn_game.specs.Text.{is_move}
+use Rattle.pgn_game.specs.Movetext.{Levels, before_last, level_held}
+use Rattle.pgn_game.specs.Reading.{Reading, is_outside_the_table}
+use Rattle.pgn_game.specs.Handling.{Comes, IsOpen, Puts, is_outside_pairs, with_items, game_of, more_of}
+use Rattle.pgn_game.proofs.Refusing.{or_else, hit, pass, IsMovetext, text_refusal, refusal_in_text, next_in_text}
+use Rattle.pgn_game.proofs.Putting.{Adding, comes_quiet, open_stage}
+
+-- a token of movetext, from a reader at its stage
+pub record ComesInText (old : Reading) (k : TokenKind) : Type 0 where
+  pub stage : IsTrue (is_outside_pairs old.stage)
+  pub bracket : is_left_bracket (kind_of k) ≡ false
+  pub over : is_end (kind_of k) ≡ false
+  pub outside : old.stage ≡ Between → is_comment (kind_of k) ≡ false
+
+in_text_of : (old : Reading) (k : TokenKind) (part : Part) → ComesInText old k → IsOpen old part → IsMovetext part k
+in_text_of old k part comes is = record {
+  stage = open_stage old part is comes.stage;
+  bracket = comes.bracket;
+  over = comes.over;
+  outside = λ e. comes.outside (is.stage ∙ e);
+  set_up = is.set_up;
+}
+
+-- a token that is refused, for each part that is open
+pub refused_in_text : (old : Reading) (k : TokenKind) (reason : Reason) → ComesInText old k → ((part : Part) → IsOpen old part → text_refusal old.profile part (kind_of k) ≡ Some reason)
+    → (part : Part) → IsOpen old part → refusal old.profile part (kind_of k) ≡ Some reason
+refused_in_text old k reason comes why part is = refusal_in_text old.profile part k (in_text_of old k part comes is) ∙ why part is
+
+-- a token that adds items
+pub adding : (old : Reading) (k : TokenKind) (more : List Item) → ComesInText old k → ((part : Part) → IsOpen old part → text_refusal old.profile part (kind_of k) ≡ None)
+    → ((part : Part) → IsOpen old part → in_text part (kind_of k) ≡ going (with_items part more)) → Adding old (kind_of k) more
+adding old k more comes free leads part is = (
+  refusal_in_text old.profile part k (in_text_of old k part comes is) ∙ free part is,
+  next_in_text part k (in_text_of old k part comes is) ∙ leads part is,
+)
+
+-- a token that nothing refuses, and whose items were put; none of them is a move
+pub comes_with : (old new : Reading) (k j : TokenKind) (more : List Item) (r : Result Unit WriteFault) (answer : Result Accepted Stopped) (a b : Option (List ℕ)) (n m : ℕ) → ComesInText old k → k ≡ j
+    → ((part : Part) → IsOpen old part → text_refusal old.profile part (kind_of j) ≡ None) → ((part : Part) → in_text part (kind_of j) ≡ going (with_items part more)) → list_any is_move more ≡ false
+    → Puts old more new r a b n m → answer ≡ more_of r → Comes (IsOpen old) old (kind_of k) new answer a b n m
+comes_with old new k j more r answer a b n m comes same free leads none puts answers =
+    comes_quiet old new (kind_of k) more r answer a b n m comes.stage puts
+    (adding old k more comes (λ part is. ap (λ (x : TokenKind). text_refusal old.profile part (kind_of x)) same ∙ free part is)
+    (λ part is. ap (λ (x : TokenKind). in_text part (kind_of x)) same ∙ leads part)) none answers
+
+-- The levels.
+
+length-held : (start : Parts) (ls : List ModelLevel) → length (map (level_held start) ls) ≡ length ls
+length-held start [] = refl
+length-held start (l ∷ ls) = ap (λ n. suc n) (length-held start ls)
+
+some_before : (start : Parts) (l : ModelLevel) → is_some (before_last start l) ≡ l.holds_move
+some_before start l =
+    elim l.holds_move as (λ b. is_some {T = Parts} (elim b [ true ↦ Some (replayed start (without_last l.trail)) | false ↦ None ]) ≡ b) [ true ↦ refl | false ↦ refl ]
+
+pub holds_is : (old : Reading) (part : Part) → IsOpen old part → is_some old.text.levels.present.before ≡ (levels_in part).present.holds_move
+holds_is old part is =
+    ap (λ (ls : Levels). is_some ls.present.before) is.held.levels ∙ some_before (start_of part.pairs) (levels_in part).present
+
+pub depth_is : (old : Reading) (part : Part) → IsOpen old part → length old.text.levels.around ≡ depth (levels_in part)
+depth_is old part is = ap (λ (ls : Levels). length ls.around) is.held.levels ∙ length-held (start_of part.pairs) (levels_in part).around
+
+pub position_is : (old : Reading) (part : Part) → IsOpen old part → old.text.levels.present.present ≡ position_in part
+position_is old part is = ap (λ (ls : Levels). ls.present.present) is.held.levels
+
+-- Symbols.
+
+abbrev MoveReading : Type 0
+MoveReading = Option (Result Played SanFault)
+
+abbrev or_false : Bool → Bool → Bool
+or_false word b = elim word [ true ↦ false | false ↦ b ]
+
+abbrev marker_if : Bool → List ℕ → Option (List ℕ)
+marker_if score s = elim score [ true ↦ Some s | false ↦ None ]
+
+abbrev other_if : Missing → List Pair → Option (List ℕ) → Bool
+other_if missing ps o =
+    elim o [ None ↦ false | Some marker ↦ not (bytes_eq marker (unwrap_or (value_of ps (codes "Result")) (result_for missing marker))) ]
+
+-- the rows for a symbol, of whether it is a number or a marker, whether it is a marker, and what it comes to as a move
+abbrev symbol_rows : Profile → Part → List ℕ → Bool → Bool → MoveReading → Option Reason
+symbol_rows p part s word score r =
+    or_else (or_false word (is_no_form r)) NotAMove
+    (or_else (or_false word (is_no_move r)) IllegalMove
+    (or_else (or_false word (is_many_moves r)) AmbiguousMove
+    (or_else (or_false word (is_one_move r) && is_at_limit (position_in part)) MoveLimit
+    (or_else (is_some (marker_if score s) && nat_le 1 (depth (levels_in part))) MarkerInVariation
+    (or_else (other_if p.missing_result part.pairs (marker_if score s) && (depth (levels_in part) == 0)) ResultDiffers None)))))
+
+symbol_refusal : (p : Profile) (part : Part) (s : List ℕ) (word score : Bool) → (is_number s || is_score s) ≡ word → is_score s ≡ score
+    → text_refusal p part (symbol s) ≡ symbol_rows p part s word score (move_of (position_in part) s)
+symbol_refusal p part s word score w e =
+    ap (λ (b : Bool). symbol_rows p part s b (is_score s) (move_of (position_in part) s)) w
+    ∙ ap (λ (b : Bool). symbol_rows p part s word b (move_of (position_in part) s)) e
+
+either_left : (a b : Bool) → a ≡ true → (a || b) ≡ true
+either_left a b e = ap (λ (x : Bool). x || b) e
+
+either_right : (a b : Bool) → b ≡ true → (a || b) ≡ true
+either_right true b e = refl
+either_right false b e = e
+
+neither : (a b : Bool) → a ≡ false → b ≡ false → (a || b) ≡ false
+neither a b e f = ap (λ (x : Bool). x || b) e ∙ f
+
+-- a number is let pass, and adds nothing
+pub number_free : (p : Profile) (part : Part) (s : List ℕ) → is_number s ≡ true → is_score s ≡ false → text_refusal p part (symbol s) ≡ None
+number_free p part s is other = symbol_refusal p part s true false (either_left (is_number s) (is_score s) is) other
+
+abbrev symbol_next : Part → List ℕ → Bool → Bool → MoveReading → Next
+symbol_next part s number score r =
+    elim (marker_if score s) [ Some marker ↦ whole (game_of part marker) | None ↦ going (with_items part (elim number [ true ↦ [] | false ↦ item_of r ])) ]
+
+symbol_leads : (part : Part) (s : List ℕ) (number score : Bool) → is_number s ≡ number → is_score s ≡ score
+    → in_text part (symbol s) ≡ symbol_next part s number score (move_of (position_in part) s)
+symbol_leads part s number score n e =
+    ap (λ (b : Bool). symbol_next part s b (is_score s) (move_of (position_in part) s)) n
+    ∙ ap (λ (b : Bool). symbol_next part s number b (move_of (position_in part) s)) e
+
+pub number_leads : (part : Part) (s : List ℕ) → is_number s ≡ true → is_score s ≡ false → in_text part (symbol s) ≡ going (with_items part [])
+number_leads part s is other = symbol_leads part s true false is other
+
+-- a move is refused as it is found
+abbrev refused_as : Parts → MoveReading → Option Reason
+refused_as p None = Some NotAMove
+refused_as p (Some (Err NoMove)) = Some IllegalMove
+refused_as p (Some (Err Ambiguous)) = Some AmbiguousMove
+refused_as p (Some (Ok played)) = or_else (is_at_limit p) MoveLimit None
+
+move_rows : (p : Profile) (part : Part) (s : List ℕ) (r : MoveReading) → symbol_rows p part s false false r ≡ refused_as (position_in part) r
+move_rows p part s None = refl
+move_rows p part s (Some (Err NoMove)) = refl
+move_rows p part s (Some (Err Ambiguous)) = refl
+move_rows p part s (Some (Ok played)) = refl
+
+move_refusal : (p : Profile) (part : Part) (s : List ℕ) → is_number s ≡ false → is_score s ≡ false → text_refusal p part (symbol s) ≡ refused_as (position_in part) (move_of (position_in part) s)
+move_refusal p part s number score =
+    symbol_refusal p part s false false (neither (is_number s) (is_score s) number score) score ∙ move_rows p part s (move_of (position_in part) s)
+
+abbrev one_move : Played → MoveReading
+one_move played = Some (Ok played)
+
+abbrev limited : Bool → Played → Result Played Reason
+limited b one = elim b [ true ↦ Err MoveLimit | false ↦ Ok one ]
+
+found_free : (p : Parts) (r : MoveReading) (played : Played) → found_in p r ≡ Ok played → (refused_as p r ≡ None) × (r ≡ Some (Ok played))
+found_free p None played e = absurd (cc)
+found_free p (Some (Err NoMove)) played e = absurd (cc)
+found_free p (Some (Err Ambiguous)) played e = absurd (cc)
+found_free p (Some (Ok one)) played e = by_limit (is_at_limit p) refl
+  where
+    by_limit : (b : Bool) → is_at_limit p ≡ b → (refused_as p (one_move one) ≡ None) × (one_move one ≡ one_move played)
+    by_limit true is = let h : limited true one ≡ Ok played = sym (ap (λ (b : Bool). limited b one) is) ∙ e in absurd (cc)
+    by_limit false is =
+        let h : limited false one ≡ Ok played = sym (ap (λ (b : Bool). limited b one) is) ∙ e in
+        let k : one ≡ played = cc in
+        (pass (is_at_limit p) MoveLimit None is, ap one_move k)
+
+found_refused : (p : Parts) (r : MoveReading) (reason : Reason) → found_in p r ≡ Err reason → (refused_as p r ≡ Some reason) × IsFalse (is_outside_the_table reason)
+found_refused p None reason e = let h : NotAMove ≡ reason = cc in (ap (λ x. Some x) h, subst (λ (x : Reason). IsFalse (is_outside_the_table x)) h refl)
+found_refused p (Some (Err NoMove)) reason e = let h : IllegalMove ≡ reason = cc in (ap (λ x. Some x) h, subst (λ (x : Reason). IsFalse (is_outside_the_table x)) h refl)
+found_refused p (Some (Err Ambiguous)) reason e = let h : AmbiguousMove ≡ reason = cc in (ap (λ x. Some x) h, subst (λ (x : Reason). IsFalse (is_outside_the_table x)) h refl)
+found_refused p (Some (Ok one)) reason e = by_limit (is_at_limit p) refl
+  where
+    by_limit : (b : Bool) → is_at_limit p ≡ b → (refused_as p (one_move one) ≡ Some reason) × IsFalse (is_outside_the_table reason)
+    by_limit true is =
+        let g : limited true one ≡ Err reason = sym (ap (λ (b : Bool). limited b one) is) ∙ e in
+        let h : MoveLimit ≡ reason = cc in
+        (hit (is_at_limit p) MoveLimit None is ∙ ap (λ x. Some x) h, subst (λ (x : Reason). IsFalse (is_outside_the_table x)) h refl)
+    by_limit false is = let h : limited false one ≡ Err reason = sym (ap (λ (b : Bool). limited b one) is) ∙ e in absurd (cc)
+
+-- what was found at the reader's position was found at the part's
+found_at : (old : Reading) (part : Part) (s : List ℕ) (here : Parts) (r : Result Played Reason) → IsOpen old part → here ≡ old.text.levels.present.present → r ≡ found_in here (move_of here s)
+    → found_in (position_in part) (move_of (position_in part) s) ≡ r
+found_at old part s here r is same found = sym (found ∙ ap (λ (p : Parts). found_in p (move_of p s)) (same ∙ position_is old part is))
+
+pub move_refused : (old : Reading) (part : Part) (s : List ℕ) (here : Parts) (reason : Reason) → is_number s ≡ false → is_score s ≡ false → IsOpen old part → here ≡ old.text.levels.present.present
+    → Err reason ≡ found_in here (move_of here s) → text_refusal old.profile part (symbol s) ≡ Some reason
+move_refused old part s here reason number score is same found =
+    move_refusal old.profile part s number score
+    ∙ (found_refused (position_in part) (move_of (position_in part) s) reason (found_at old part s here (Err reason) is same found)).0
+
+-- the reason is one of the table, whether or not a part is open
+pub move_reason : (here : Parts) (s : List ℕ) (reason : Reason) → Err reason ≡ found_in here (move_of here s) → IsFalse (is_outside_the_table reason)
+move_reason here s reason found = (found_refused here (move_of here s) reason (sym found)).1
+
+pub move_free : (old : Reading) (part : Part) (s : List ℕ) (here : Parts) (played : Played) → is_number s ≡ false → is_score s ≡ false → IsOpen old part → here ≡ old.text.levels.present.present
+    → Ok played ≡ found_in here (move_of here s) → text_refusal old.profile part (symbol s) ≡ None
+move_free old part s here played number score is same found =
+    move_refusal old.profile part s number score ∙ (found_free (position_in part) (move_of (position_in part) s) played (found_at old part s here (Ok played) is same found)).0
+
+pub move_leads : (old : Reading) (part : Part) (s : List ℕ) (here : Parts) (played : Played) → is_number s ≡ false → is_score s ≡ false → IsOpen old part → here ≡ old.text.levels.present.present
+    → Ok played ≡ found_in here (move_of here s) → in_text part (symbol s) ≡ going (with_items part (games.move played.mv ∷ []))
+move_leads old part s here played number score is same found =
+    symbol_leads part s false false number score
+    ∙ ap (λ (r : MoveReading). going (with_items part (item_of r))) (found_free (position_in part) (move_of (position_in part) s) played (found_at old part s here (Ok played) is same found)).1
+
+-- Markers.
+
+-- what a marker is refused for
+abbrev marker_rows : Profile → Part → List ℕ → Option Reason
+marker_rows p part marker =
+    or_else (nat_le 1 (depth (levels_in part))) MarkerInVariation
+    (or_else (other_if p.missing_result part.pairs (Some marker) && (depth (levels_in part) == 0)) ResultDiffers None)
+
+score_of : (s marker : List ℕ) (b : Bool) → is_score s ≡ b → marker_if b s ≡ Some marker → (b ≡ true) × (s ≡ marker)
+score_of s marker true e h = (refl, cc)
+score_of s marker false e h = absurd (cc)
+
+symbol_marker : (p : Profile) (part : Part) (s marker : List ℕ) → marker_of (symbol s) ≡ Some marker → text_refusal p part (symbol s) ≡ marker_rows p part marker
+symbol_marker p part s marker is =
+    let h = score_of s marker (is_score s) refl is in
+    symbol_refusal p part s true true (either_right (is_number s) (is_score s) h.0) h.0 ∙ ap (λ (m : List ℕ). marker_rows p part m) h.1
+
+asterisk_marker : (p : Profile) (part : Part) (marker : List ℕ) → codes "*" ≡ marker → text_refusal p part (kind_of variants.Asterisk) ≡ marker_rows p part marker
+asterisk_marker p part marker e = ap (λ (m : List ℕ). marker_rows p part m) e
+
+pub marker_refusal : (p : Profile) (part : Part) (k : TokenKind) (marker : List ℕ) → marker_of (kind_of k) ≡ Some marker → text_refusal p part (kind_of k) ≡ marker_rows p part marker
+marker_refusal p part variants.LeftBracket marker is = absurd (cc)
+marker_refusal p part variants.RightBracket marker is = absurd (cc)
+marker_refusal p part variants.LeftParen marker is = absurd (cc)
+marker_refusal p part variants.RightParen marker is = absurd (cc)
+marker_refusal p part variants.Period marker is = absurd (cc)
+marker_refusal p part variants.Asterisk marker is = let e : codes "*" ≡ marker = cc in asterisk_marker p part marker e
+marker_refusal p part (variants.Symbol t) marker is = symbol_marker p part t.now marker is
+marker_refusal p part (variants.Str t) marker is = absurd (cc)
+marker_refusal p part (variants.Glyph n) marker is = absurd (cc)
+marker_refusal p part variants.CommentOpen marker is = absurd (cc)
+marker_refusal p part (variants.Word t) marker is = absurd (cc)
+marker_refusal p part variants.CommentClose marker is = absurd (cc)
+marker_refusal p part variants.End marker is = absurd (cc)
+
+-- a marker is a token of movetext
+pub marker_comes : (old : Reading) (k : TokenKind) (marker : List ℕ) → IsTrue (is_outside_pairs old.stage) → marker_of (kind_of k) ≡ Some marker → ComesInText old k
+marker_comes old variants.Asterisk marker at is = record { stage = at; bracket = refl; over = refl; outside = λ e. refl }
+marker_comes old (variants.Symbol t) marker at is = record { stage = at; bracket = refl; over = refl; outside = λ e. refl }
+marker_comes old variants.LeftBracket marker at is = absurd (cc)
+marker_comes old variants.RightBracket marker at is = absurd (cc)
+marker_comes old variants.LeftParen marker at is = absurd (cc)
+marker_comes old variants.RightParen marker at is = absurd (cc)
+marker_comes old variants.Period marker at is = absurd (cc)
+marker_comes old (variants.Str t) marker at is = absurd (cc)
+marker_comes old (variants.Glyph n) marker at is = absurd (cc)
+marker_comes old variants.CommentOpen marker at is = absurd (cc)
+marker_comes old (variants.Word t) marker at is = absurd (cc)
+marker_comes old variants.CommentClose marker at is = absurd (cc)
+marker_comes old variants.End marker at is = absurd (cc)
+
+-- whether a marker differs from the value for Result, or from `*`
+abbrev pub differs : Option (List ℕ) → List ℕ → Bool
+differs value marker = not (bytes_eq marker (unwrap_or value (codes "*")))
+
+other_is : (p : Profile) (ps : List Pair) (marker : List ℕ) → p.missing_result ≡ counts_as_unknown → other_if p.missing_result ps (Some marker) ≡ differs (value_of ps (codes "Result")) marker
+other_is p ps marker unknown = ap (λ (m : Missing). other_if m ps (Some marker)) unknown
+
+marker_tested : (p : Profile) (part : Part) (marker : List ℕ) (inside other : Bool) → nat_le 1 (depth (levels_in part)) ≡ inside → p.missing_result ≡ counts_as_unknown
+    → differs (value_of part.pairs (codes "Result")) marker ≡ other
+    → marker_rows p part marker ≡ or_else inside MarkerInVariation (or_else (other && (depth (levels_in part) == 0)) ResultDiffers None)
+marker_tested p part marker inside other within unknown test =
+    ap (λ (b : Bool). or_else b MarkerInVariation (or_else (other_if p.missing_result part.pairs (Some marker) && (depth (levels_in part) == 0)) ResultDiffers None)) within
+    ∙ ap (λ (b : Bool). or_else inside MarkerInVariation (or_else (b && (depth (levels_in part) == 0)) ResultDiffers None)) (other_is p part.pairs marker unknown ∙ test)
+
+pub marker_inside : (old : Reading) (k : TokenKind) (marker : List ℕ) (part : Part) → marker_of (kind_of k) ≡ Some marker → nat_le 1 (depth (levels_in part)) ≡ true
+    → text_refusal old.profile part (kind_of k) ≡ Some MarkerInVariation
+marker_inside old k marker part is within = marker_refusal old.profile part k marker is ∙ hit _ MarkerInVariation _ within
+
+pub marker_differs : (old : Reading) (k : TokenKind) (marker : List ℕ) (part : Part) → marker_of (kind_of k) ≡ Some marker → depth (levels_in part) ≡ 0 → old.profile.missing_result ≡ counts_as_unknown
+    → differs (value_of part.pairs (codes "Result")) marker ≡ true → text_refusal old.profile part (kind_of k) ≡ Some ResultDiffers
+marker_differs old k marker part is none unknown test =
+    marker_refusal old.profile part k marker is ∙ marker_tested old.profile part marker false true (ap (λ n. nat_le 1 n) none) unknown test
+    ∙ ap (λ n. or_else (n == 0) ResultDiffers None) none
+
+pub marker_free : (old : Reading) (k : TokenKind) (marker : List ℕ) (part : Part) → marker_of (kind_of k) ≡ Some marker → depth (levels_in part) ≡ 0 → old.profile.missing_result ≡ counts_as_unknown
+    → differs (value_of part.pairs (codes "Result")) marker ≡ false → text_refusal old.profile part (kind_of k) ≡ None
+marker_free old k marker part is none unknown test =
+    marker_refusal old.profile part k marker is ∙ marker_tested old.profile part marker false false (ap (λ n. nat_le 1 n) none) unknown test
+
+abbrev leads_to : Part → Kind → Option (List ℕ) → Next
+leads_to part k o = elim o [ Some m ↦ whole (game_of part m) | None ↦ going (with_items part (items_of part k)) ]
+
+marker_whole : (part : Part) (k : Kind) (marker : List ℕ) → marker_of k ≡ Some marker → in_text part k ≡ whole (game_of part marker)
+marker_whole part k marker is = ap (leads_to part k) is
+
+pub marker_next : (old : Reading) (k : TokenKind) (marker : List ℕ) (part : Part) → ComesInText old k → IsOpen old part → marker_of (kind_of k) ≡ Some marker
+    → next part (kind_of k) ≡ whole (game_of part marker)
+marker_next old k marker part comes is marker_is = next_in_text part k (in_text_of old k part comes is) ∙ marker_whole part (kind_of k) marker marker_is
+
+pub marker_passes : (old : Reading) (k : TokenKind) (marker : List ℕ) (part : Part) → ComesInText old k → IsOpen old part → marker_of (kind_of k) ≡ Some marker
+    → depth (levels_in part) ≡ 0 → old.profile.missing_result ≡ counts_as_unknown → differs (value_of part.pairs (codes "Result")) marker ≡ false
+    → refusal old.profile part (kind_of k) ≡ None
+marker_passes old k marker part comes is marker_is none unknown test =
+    refusal_in_text old.profile part k (in_text_of old k part comes is) ∙ marker_free old k marker part marker_is none unknown test
+
+-- the test of a reader that knows the unknown value
+unwrap_copied : (o : Option (Bor (List ℕ))) (d : Bor (List ℕ)) → (unwrap_or o d).now ≡ unwrap_or (option_copied o) d.now
+unwrap_copied None d = refl
+unwrap_copied (Some x) d = refl
+
+pub test_of : (held : List Pair) (value : Option (Bor (List ℕ))) (d known : Bor (List ℕ)) (marker : List ℕ) (test : Bool) (tags : List Pair) → held ≡ tags
+    → option_copied value ≡ value_of held (codes "Result") → d.now ≡ codes "*" → known ≡ unwrap_or value d → test ≡ not (bytes_eq marker known.now)
+    → differs (value_of tags (codes "Result")) marker ≡ test
+test_of held value d known marker test tags same found star is tested =
+    sym (
+    tested ∙ ap (λ (n : List ℕ). not (bytes_eq marker n)) (ap (λ (x : Bor (List ℕ)). x.now) is ∙ unwrap_copied value d ∙ ap (unwrap_or (option_copied value)) star)
+    ∙ ap (λ (o : Option (List ℕ)). differs o marker) (found ∙ ap (λ (ps : List Pair). value_of ps (codes "Result")) same)
+    )

@@ -1,0 +1,221 @@
+-- Movetext of more items: its tokens, and the lines that are full.
+use Rattle.std.proofs.Common.{◌≡◌, ℕ, ◌<◌, Bool, true, false, cond, List, [], ◌∷◌, ◌++◌, length, refl, sym, ap, subst, ◌∙◌, append_assoc, append-nil, length-append, arith}
+use Rattle.std.specs.Prelude.{All, filter, fold}
+use Rattle.std.proofs.lemmas.List.Elements.{All-nil, All-cons, All-head, All-tail, All-append}
+use Rattle.chess_rules.specs.declared.position.Parts.{Parts}
+use Rattle.pgn_layout.specs.Lines.{IsToken, has_room, lines_from, lines_of, full_lines, last_line, text_of as text_of_lines}
+use Rattle.pgn_layout.specs.Layout.{Put, EndGame, ended, text_put, line_put, text_at, line_at}
+use Rattle.pgn_game.specs.declared.mode.Mode.{Mode}
+use Rattle.pgn_game.specs.declared.mode.Mode.TheVariants.{Full, Reduced}
+use Rattle.pgn_game.specs.Game.{Item}
+use Rattle.pgn_game.specs.Here.{Levels, levels_after, levels_of, first_level, depth, here}
+use Rattle.pgn_game.specs.Text.{Placed, placed_from, is_move, is_main_move, written_items, tokens_at, tokens_from, tokens_out, full_text}
+use Rattle.pgn_game.specs.Movetext.{ends_in_move}
+use Rattle.pgn_game.specs.Laws.{IsPrefix}
+
+-- Lines.
+full_lines-cons : (l t : List ℕ) (ts : List (List ℕ)) → full_lines (l ∷ lines_from t ts) ≡ l ∷ full_lines (lines_from t ts)
+full_lines-cons l t [] = refl
+full_lines-cons l t (u ∷ us) =
+    elim (has_room t u)
+    as (λ v. full_lines (l ∷ elim v [ true ↦ lines_from (t ++ 32 ∷ u) us | false ↦ t ∷ lines_from u us ])
+    ≡ l ∷ full_lines (elim v [ true ↦ lines_from (t ++ 32 ∷ u) us | false ↦ t ∷ lines_from u us ])) [
+      | true ↦ full_lines-cons l (t ++ 32 ∷ u) us
+      | false ↦ refl
+    ]
+
+last_line-cons : (l t : List ℕ) (ts : List (List ℕ)) → last_line (l ∷ lines_from t ts) ≡ last_line (lines_from t ts)
+last_line-cons l t [] = refl
+last_line-cons l t (u ∷ us) =
+    elim (has_room t u)
+    as (λ v. last_line (l ∷ elim v [ true ↦ lines_from (t ++ 32 ∷ u) us | false ↦ t ∷ lines_from u us ])
+    ≡ last_line (elim v [ true ↦ lines_from (t ++ 32 ∷ u) us | false ↦ t ∷ lines_from u us ])) [
+      | true ↦ last_line-cons l (t ++ 32 ∷ u) us
+      | false ↦ refl
+    ]
+
+full_lines-append : (xs : List (List ℕ)) (t : List ℕ) (ts : List (List ℕ)) → full_lines (xs ++ lines_from t ts) ≡ xs ++ full_lines (lines_from t ts)
+full_lines-append [] t ts = refl
+full_lines-append (x ∷ []) t ts = full_lines-cons x t ts
+full_lines-append (x ∷ y ∷ ys) t ts = ap (λ l. x ∷ l) (full_lines-append (y ∷ ys) t ts)
+
+last_line-append : (xs : List (List ℕ)) (t : List ℕ) (ts : List (List ℕ)) → last_line (xs ++ lines_from t ts) ≡ last_line (lines_from t ts)
+last_line-append [] t ts = refl
+last_line-append (x ∷ []) t ts = last_line-cons x t ts
+last_line-append (x ∷ y ∷ ys) t ts = last_line-append (y ∷ ys) t ts
+
+-- the lines of more tokens go on from the last line
+lines_from-append : (line : List ℕ) (ts us : List (List ℕ)) → lines_from line (ts ++ us) ≡ full_lines (lines_from line ts) ++ lines_from (last_line (lines_from line ts)) us
+lines_from-append line [] us = refl
+lines_from-append line (t ∷ ts) us =
+    elim (has_room line t)
+    as (λ v. elim v [ true ↦ lines_from (line ++ 32 ∷ t) (ts ++ us) | false ↦ line ∷ lines_from t (ts ++ us) ]
+    ≡ full_lines (elim v [ true ↦ lines_from (line ++ 32 ∷ t) ts | false ↦ line ∷ lines_from t ts ])
+    ++ lines_from (last_line (elim v [ true ↦ lines_from (line ++ 32 ∷ t) ts | false ↦ line ∷ lines_from t ts ])) us) [
+      | true ↦ lines_from-append (line ++ 32 ∷ t) ts us
+      | false ↦ ap (λ l. line ∷ l) (lines_from-append t ts us)
+          ∙ ap (λ l. l ++ lines_from (last_line (lines_from t ts)) us) (sym (full_lines-cons line t ts))
+          ∙ ap (λ l. full_lines (line ∷ lines_from t ts) ++ lines_from l us) (sym (last_line-cons line t ts))
+    ]
+
+text_of_lines-append : (xs ys : List (List ℕ)) → text_of_lines (xs ++ ys) ≡ text_of_lines xs ++ text_of_lines ys
+text_of_lines-append [] ys = refl
+text_of_lines-append (x ∷ xs) ys = ap (λ l. (x ++ 10 ∷ []) ++ l) (text_of_lines-append xs ys) ∙ sym (append_assoc (x ++ 10 ∷ []) (text_of_lines xs) (text_of_lines ys))
+
+-- more tokens keep the lines that are full
+full_lines-grow : (ts us : List (List ℕ)) → IsPrefix (text_of_lines (full_lines (lines_of ts))) (text_of_lines (full_lines (lines_of (ts ++ us))))
+full_lines-grow [] us = (text_of_lines (full_lines (lines_of us)), refl)
+full_lines-grow (t ∷ ts) us =
+    let full = full_lines (lines_from t ts) in
+    let last = last_line (lines_from t ts) in (
+      text_of_lines (full_lines (lines_from last us)),
+      ap (λ ls. text_of_lines (full_lines ls)) (lines_from-append t ts us) ∙ ap text_of_lines (full_lines-append full last us)
+          ∙ text_of_lines-append full (full_lines (lines_from last us)),
+    )
+
+-- and the text of all lines begins with that of those
+full_lines-front : (ls : List (List ℕ)) → IsPrefix (text_of_lines (full_lines ls)) (text_of_lines ls)
+full_lines-front [] = ([], refl)
+full_lines-front (l ∷ []) = (text_of_lines (l ∷ []), refl)
+full_lines-front (l ∷ m ∷ ls) =
+    let rest = full_lines-front (m ∷ ls) in
+    (rest.0, ap (λ x. (l ++ 10 ∷ []) ++ x) rest.1 ∙ sym (append_assoc (l ++ 10 ∷ []) (text_of_lines (full_lines (m ∷ ls))) rest.0))
+
+-- Items.
+placed-append : (start : Parts) (ls : Levels) (xs ys : List Item) → placed_from start ls (xs ++ ys) ≡ placed_from start ls xs ++ placed_from start (fold levels_after ls xs) ys
+placed-append start ls [] ys = refl
+placed-append start ls (x ∷ xs) ys = ap (λ l. record { position = here start ls; depth = depth ls; item = x } ∷ l) (placed-append start (levels_after ls x) xs ys)
+
+filter-append : {A : Type 0} (p : A → Bool) (xs ys : List A) → filter p (xs ++ ys) ≡ filter p xs ++ filter p ys
+filter-append p [] ys = refl
+filter-append p (x ∷ xs) ys =
+    elim (p x) as (λ v. cond v (x ∷ filter p (xs ++ ys)) (filter p (xs ++ ys)) ≡ cond v (x ∷ filter p xs) (filter p xs) ++ filter p ys) [
+      | true ↦ ap (λ l. x ∷ l) (filter-append p xs ys)
+      | false ↦ filter-append p xs ys
+    ]
+
+written-append : (mode : Mode) (xs ys : List Placed) → written_items mode (xs ++ ys) ≡ written_items mode xs ++ written_items mode ys
+written-append Full xs ys = refl
+written-append Reduced xs ys = filter-append is_main_move xs ys
+
+tokens_from-append : (b : Bool) (xs ys : List Placed) → tokens_from b (xs ++ ys) ≡ tokens_from b xs ++ tokens_from (ends_in_move b xs) ys
+tokens_from-append b [] ys = refl
+tokens_from-append b (x ∷ xs) ys =
+    ap (λ l. tokens_at b x.position x.item ++ l) (tokens_from-append (is_move x.item) xs ys)
+    ∙ sym (append_assoc (tokens_at b x.position x.item) (tokens_from (is_move x.item) xs) (tokens_from (ends_in_move (is_move x.item) xs) ys))
+
+-- the items that are written of a game that begins there, and of those that follow them
+abbrev pub written_from_start : Mode → Parts → List Item → List Placed
+written_from_start mode start items = written_items mode (placed_from start first_level items)
+
+abbrev pub written_behind : Mode → Parts → List Item → List Item → List Placed
+written_behind mode start items more = written_items mode (placed_from start (levels_of items) more)
+
+pub written_more : (mode : Mode) (start : Parts) (items more : List Item)
+    → written_from_start mode start (items ++ more) ≡ written_from_start mode start items ++ written_behind mode start items more
+written_more mode start items more =
+    ap (written_items mode) (placed-append start first_level items more)
+    ∙ written-append mode (placed_from start first_level items) (placed_from start (levels_of items) more)
+
+-- the tokens that they add
+abbrev pub tokens_behind : Mode → Parts → List Item → List Item → List (List ℕ)
+tokens_behind mode start items more = tokens_from (ends_in_move false (written_from_start mode start items)) (written_behind mode start items more)
+
+pub tokens_more : (mode : Mode) (start : Parts) (items more : List Item) → tokens_out mode start (items ++ more) ≡ tokens_out mode start items ++ tokens_behind mode start items more
+tokens_more mode start items more =
+    ap (tokens_from false) (written_more mode start items more)
+    ∙ tokens_from-append false (written_from_start mode start items) (written_behind mode start items more)
+
+-- What stands on full lines stays there when more items come.
+pub full_text_grows : (mode : Mode) (start : Parts) (items more : List Item) → IsPrefix (full_text mode start items) (full_text mode start (items ++ more))
+full_text_grows mode start items more =
+    subst (λ ts. IsPrefix (full_text mode start items) (text_of_lines (full_lines (lines_of ts)))) (sym (tokens_more mode start items more))
+    (full_lines-grow (tokens_out mode start items) (tokens_behind mode start items more))
+
+-- So it does when the marker comes and the game ends.
+pub full_text_marker : (mode : Mode) (start : Parts) (items : List Item) (marker : List ℕ)
+    → IsPrefix (full_text mode start items) (text_of_lines (lines_of (tokens_out mode start items ++ marker ∷ [])) ++ 10 ∷ [])
+full_text_marker mode start items marker =
+    let ts = tokens_out mode start items in
+    let whole = lines_of (ts ++ marker ∷ []) in
+    let full = full_lines-grow ts (marker ∷ []) in
+    let all = full_lines-front whole in (
+      full.0 ++ (all.0 ++ 10 ∷ []),
+      ap (λ l. l ++ 10 ∷ []) (all.1 ∙ ap (λ l. l ++ all.0) full.1 ∙ append_assoc (full_text mode start items) full.0 all.0)
+          ∙ append_assoc (full_text mode start items) (full.0 ++ all.0) (10 ∷ []) ∙ ap (λ l. full_text mode start items ++ l) (append_assoc full.0 all.0 (10 ∷ [])),
+    )
+
+-- Tokens that are put.
+still_not_empty : (line : List ℕ) (ts : List (List ℕ)) → 0 < length line → All IsToken ts → 0 < length (last_line (lines_from line ts))
+still_not_empty line [] some each = some
+still_not_empty line (t ∷ ts) some each =
+    elim (has_room line t) as (λ v. 0 < length (last_line (elim v [ true ↦ lines_from (line ++ 32 ∷ t) ts | false ↦ line ∷ lines_from t ts ]))) [
+      | true ↦ still_not_empty (line ++ 32 ∷ t) ts (omega (arith, length-append line (32 ∷ t))) (All-tail IsToken t ts each)
+      | false ↦ subst (λ (l : List ℕ). 0 < length l) (sym (last_line-cons line t ts))
+          (still_not_empty t ts (All-head IsToken t ts each).not_empty (All-tail IsToken t ts each))
+    ]
+
+-- one token put on a line that holds one
+put_full : (line t : List ℕ) → 0 < length line → text_of_lines (full_lines (lines_from line (t ∷ []))) ≡ text_put line t
+put_full [] t some = absurd (omega arith)
+put_full (b ∷ bs) t some =
+    elim (has_room (b ∷ bs) t)
+    as (λ v. text_of_lines (full_lines (elim v [ true ↦ ((b ∷ bs) ++ 32 ∷ t) ∷ [] | false ↦ (b ∷ bs) ∷ t ∷ [] ])) ≡ elim v [ true ↦ [] | false ↦ ended (b ∷ bs) ]) [
+      | true ↦ refl
+      | false ↦ append-nil ((b ∷ bs) ++ 10 ∷ [])
+    ]
+
+put_last : (line t : List ℕ) → 0 < length line → last_line (lines_from line (t ∷ [])) ≡ line_put line t
+put_last [] t some = absurd (omega arith)
+put_last (b ∷ bs) t some =
+    elim (has_room (b ∷ bs) t)
+    as (λ v. last_line (elim v [ true ↦ ((b ∷ bs) ++ 32 ∷ t) ∷ [] | false ↦ (b ∷ bs) ∷ t ∷ [] ]) ≡ elim v [ true ↦ (b ∷ bs) ++ 32 ∷ t | false ↦ t ]) [
+      | true ↦ refl
+      | false ↦ refl
+    ]
+
+-- What goes out for one token more, and the line that is held after it.
+pub full_lines_put : (ts : List (List ℕ)) (t : List ℕ) → All IsToken ts
+    → text_of_lines (full_lines (lines_of (ts ++ t ∷ []))) ≡ text_of_lines (full_lines (lines_of ts)) ++ text_put (last_line (lines_of ts)) t
+full_lines_put [] t each = refl
+full_lines_put (x ∷ xs) t each =
+    let full = full_lines (lines_from x xs) in
+    let last = last_line (lines_from x xs) in
+    let some : 0 < length last = still_not_empty x xs (All-head IsToken x xs each).not_empty (All-tail IsToken x xs each) in
+    ap (λ ls. text_of_lines (full_lines ls)) (lines_from-append x xs (t ∷ [])) ∙ ap text_of_lines (full_lines-append full last (t ∷ []))
+    ∙ text_of_lines-append full (full_lines (lines_from last (t ∷ []))) ∙ ap (λ l. text_of_lines full ++ l) (put_full last t some)
+
+pub last_line_put : (ts : List (List ℕ)) (t : List ℕ) → All IsToken ts → last_line (lines_of (ts ++ t ∷ [])) ≡ line_put (last_line (lines_of ts)) t
+last_line_put [] t each = refl
+last_line_put (x ∷ xs) t each =
+    let full = full_lines (lines_from x xs) in
+    let last = last_line (lines_from x xs) in
+    let some : 0 < length last = still_not_empty x xs (All-head IsToken x xs each).not_empty (All-tail IsToken x xs each) in
+    ap last_line (lines_from-append x xs (t ∷ [])) ∙ last_line-append full last (t ∷ []) ∙ put_last last t some
+
+-- the lines are those that are full, and the last
+lines_ended : (ls : List (List ℕ)) → 0 < length (last_line ls) → text_of_lines ls ≡ text_of_lines (full_lines ls) ++ ended (last_line ls)
+lines_ended [] some = absurd (omega arith)
+lines_ended ([] ∷ []) some = absurd (omega arith)
+lines_ended ((b ∷ bs) ∷ []) some = append-nil ((b ∷ bs) ++ 10 ∷ [])
+lines_ended (l ∷ m ∷ ls) some =
+    ap (λ x. (l ++ 10 ∷ []) ++ x) (lines_ended (m ∷ ls) some)
+    ∙ sym (append_assoc (l ++ 10 ∷ []) (text_of_lines (full_lines (m ∷ ls))) (ended (last_line (m ∷ ls))))
+
+held_not_empty : (ts : List (List ℕ)) (m : List ℕ) → All IsToken ts → IsToken m → 0 < length (last_line (lines_of (ts ++ m ∷ [])))
+held_not_empty [] m each token = token.not_empty
+held_not_empty (x ∷ xs) m each token =
+    still_not_empty x (xs ++ m ∷ []) (All-head IsToken x xs each).not_empty (All-append IsToken xs (m ∷ []) (All-tail IsToken x xs each) (All-cons IsToken m [] token (All-nil IsToken)))
+
+-- What the marker and the end of the game write behind the lines that are full.
+pub game_ends : (ts : List (List ℕ)) (m : List ℕ) → All IsToken ts → IsToken m
+    → text_of_lines (lines_of (ts ++ m ∷ [])) ++ 10 ∷ []
+    ≡ text_of_lines (full_lines (lines_of ts)) ++ text_at (last_line (lines_of ts)) (Put m) ++ text_at (line_at (last_line (lines_of ts)) (Put m)) EndGame
+game_ends ts m each token =
+    let before = text_of_lines (full_lines (lines_of ts)) in
+    let last = last_line (lines_of ts) in
+    ap (λ l. l ++ 10 ∷ [])
+    (lines_ended (lines_of (ts ++ m ∷ [])) (held_not_empty ts m each token)
+    ∙ ap (λ l. l ++ ended (last_line (lines_of (ts ++ m ∷ [])))) (full_lines_put ts m each)
+    ∙ ap (λ l. (before ++ text_put last m) ++ ended l) (last_line_put ts m each))
+    ∙ append_assoc (before ++ text_put last m) (ended (line_put last m)) (10 ∷ [])

@@ -1,0 +1,282 @@
+-- What is asked of a token at each stage, row by row, and where it then leads.
+use Rattle.std.proofs.Common.{◌≡◌, ℕ, ◌+◌, Bool, true, false, ◌&&◌, ◌||◌, not, List, length, nat_lt, nat_le, Option, None, Some, refl, ap, ◌∙◌}
+use Rattle.std.specs.Prelude.{◌==◌, codes, bytes_eq, is_some, IsTrue, IsFalse, Result}
+use Rattle.std.specs.List.{list_all}
+use Rattle.chess_text.specs.declared.resolve.Played.{Played}
+use Rattle.chess_text.specs.declared.resolve.SanFault.{SanFault}
+use Rattle.pgn_layout.specs.TagLine.{escaped}
+use Rattle.pgn_lexer.specs.Tokens as tokens
+use Rattle.pgn_lexer.specs.Tokens.{Kind}
+use Rattle.pgn_game.specs.declared.reason.Reason.{Reason}
+use Rattle.pgn_game.specs.declared.reason.Reason.TheVariants.{BadTagName, DuplicateTag, TooManyTags, BadResult, BadFen, TagLineTooLong, SetUpWithoutFen, ReducedFen, NotAMove, IllegalMove, AmbiguousMove, MoveLimit, NoMoveBefore, TooDeep, UnmatchedClose, MarkerInVariation, ResultDiffers}
+use Rattle.pgn_game.specs.declared.stage.Stage.{Stage}
+use Rattle.pgn_game.specs.declared.stage.Stage.TheVariants.{Between, AfterBracket, AfterName, AfterValue, AfterTags, InMovetext}
+use Rattle.pgn_game.specs.Profile.{Profile}
+use Rattle.pgn_game.specs.Pairs.{Pair, has_pair}
+use Rattle.pgn_game.specs.Chess.{move_of}
+use Rattle.pgn_game.specs.Game.{Item}
+use Rattle.pgn_game.specs.Here.{Levels, levels_of, depth, here, start_of}
+use Rattle.pgn_game.specs.FaultTable.{refusal, is_comment, is_end, in_name, is_result, is_score, is_number, is_no_form, is_no_move, is_many_moves, is_one_move, is_at_limit, fen_field, fen_field_of, lacks_fen, is_reduced, has_other_result}
+use Rattle.pgn_game.specs.Begun.{next, going}
+use Rattle.pgn_game.proofs.Runs.{at}
+
+-- the reason where a test holds, and else what the rest gives
+abbrev pub or_else : Bool → Reason → Option Reason → Option Reason
+or_else test reason rest = elim test [ true ↦ Some reason | false ↦ rest ]
+
+pub pass : (test : Bool) (reason : Reason) (rest : Option Reason) → test ≡ false → rest ≡ None → or_else test reason rest ≡ None
+pass test reason rest failed e = ap (λ (b : Bool). or_else b reason rest) failed ∙ e
+
+pub test_failed : (test : Bool) (reason : Reason) (rest : Option Reason) → or_else test reason rest ≡ None → test ≡ false
+test_failed true reason rest e = absurd (cc)
+test_failed false reason rest e = refl
+
+pub rest_passed : (test : Bool) (reason : Reason) (rest : Option Reason) → or_else test reason rest ≡ None → rest ≡ None
+rest_passed true reason rest e = absurd (cc)
+rest_passed false reason rest e = e
+
+pub and_false : (b : Bool) → (b && false) ≡ false
+and_false true = refl
+and_false false = refl
+
+-- Comments in a pair and before a game.
+abbrev pub drops_comments : Stage → Bool
+drops_comments AfterTags = false
+drops_comments InMovetext = false
+drops_comments _ = true
+
+no_value_rows : (p : Profile) (name : List ℕ)
+    → or_else (bytes_eq name (codes "Result") && false) BadResult (or_else (bytes_eq name (codes "FEN") && false) (BadFen 0) None) ≡ None
+no_value_rows p name =
+    pass (bytes_eq name (codes "Result") && false) BadResult _ (and_false (bytes_eq name (codes "Result")))
+    (pass (bytes_eq name (codes "FEN") && false) (BadFen 0) None (and_false (bytes_eq name (codes "FEN"))) refl)
+
+pub comment_free : (p : Profile) (stage : Stage) (ps : List Pair) (name : List ℕ) (items : List Item) (k : Kind) → IsTrue (drops_comments stage) → IsTrue (is_comment k)
+    → refusal p (at stage ps name items) k ≡ None
+unfolding refusal
+comment_free p Between ps name items tokens.comment_open drops is = refl
+comment_free p Between ps name items (tokens.word s) drops is = refl
+comment_free p Between ps name items tokens.comment_close drops is = refl
+comment_free p AfterBracket ps name items tokens.comment_open drops is = pass (is_reduced p.mode && false) ReducedFen None (and_false (is_reduced p.mode)) refl
+comment_free p AfterBracket ps name items (tokens.word s) drops is = pass (is_reduced p.mode && false) ReducedFen None (and_false (is_reduced p.mode)) refl
+comment_free p AfterBracket ps name items tokens.comment_close drops is = pass (is_reduced p.mode && false) ReducedFen None (and_false (is_reduced p.mode)) refl
+comment_free p AfterName ps name items tokens.comment_open drops is = no_value_rows p name
+comment_free p AfterName ps name items (tokens.word s) drops is = no_value_rows p name
+comment_free p AfterName ps name items tokens.comment_close drops is = no_value_rows p name
+comment_free p AfterValue ps name items tokens.comment_open drops is = refl
+comment_free p AfterValue ps name items (tokens.word s) drops is = refl
+comment_free p AfterValue ps name items tokens.comment_close drops is = refl
+comment_free p AfterTags ps name items k drops is = absurd (cc)
+comment_free p InMovetext ps name items k drops is = absurd (cc)
+comment_free p stage ps name items tokens.left_bracket drops is = absurd (cc)
+comment_free p stage ps name items tokens.right_bracket drops is = absurd (cc)
+comment_free p stage ps name items tokens.left_paren drops is = absurd (cc)
+comment_free p stage ps name items tokens.right_paren drops is = absurd (cc)
+comment_free p stage ps name items tokens.period drops is = absurd (cc)
+comment_free p stage ps name items tokens.asterisk drops is = absurd (cc)
+comment_free p stage ps name items (tokens.symbol s) drops is = absurd (cc)
+comment_free p stage ps name items (tokens.str s) drops is = absurd (cc)
+comment_free p stage ps name items (tokens.glyph n) drops is = absurd (cc)
+comment_free p stage ps name items tokens.end drops is = absurd (cc)
+comment_free p stage ps name items (tokens.refused r) drops is = absurd (cc)
+
+pub comment_stays : (stage : Stage) (ps : List Pair) (name : List ℕ) (items : List Item) (k : Kind) → IsTrue (drops_comments stage) → IsTrue (is_comment k)
+    → next (at stage ps name items) k ≡ going (at stage ps name items)
+comment_stays Between ps name items tokens.comment_open drops is = refl
+comment_stays Between ps name items (tokens.word s) drops is = refl
+comment_stays Between ps name items tokens.comment_close drops is = refl
+comment_stays AfterBracket ps name items tokens.comment_open drops is = refl
+comment_stays AfterBracket ps name items (tokens.word s) drops is = refl
+comment_stays AfterBracket ps name items tokens.comment_close drops is = refl
+comment_stays AfterName ps name items tokens.comment_open drops is = refl
+comment_stays AfterName ps name items (tokens.word s) drops is = refl
+comment_stays AfterName ps name items tokens.comment_close drops is = refl
+comment_stays AfterValue ps name items tokens.comment_open drops is = refl
+comment_stays AfterValue ps name items (tokens.word s) drops is = refl
+comment_stays AfterValue ps name items tokens.comment_close drops is = refl
+comment_stays AfterTags ps name items k drops is = absurd (cc)
+comment_stays InMovetext ps name items k drops is = absurd (cc)
+comment_stays stage ps name items tokens.left_bracket drops is = absurd (cc)
+comment_stays stage ps name items tokens.right_bracket drops is = absurd (cc)
+comment_stays stage ps name items tokens.left_paren drops is = absurd (cc)
+comment_stays stage ps name items tokens.right_paren drops is = absurd (cc)
+comment_stays stage ps name items tokens.period drops is = absurd (cc)
+comment_stays stage ps name items tokens.asterisk drops is = absurd (cc)
+comment_stays stage ps name items (tokens.symbol s) drops is = absurd (cc)
+comment_stays stage ps name items (tokens.str s) drops is = absurd (cc)
+comment_stays stage ps name items (tokens.glyph n) drops is = absurd (cc)
+comment_stays stage ps name items tokens.end drops is = absurd (cc)
+comment_stays stage ps name items (tokens.refused r) drops is = absurd (cc)
+
+pub comment_goes : (k : Kind) → IsTrue (is_comment k) → is_end k ≡ false
+comment_goes tokens.end is = absurd (cc)
+comment_goes _ is = refl
+
+-- Pairs.
+pub opening : (p : Profile) (ps : List Pair) (name : List ℕ) (items : List Item)
+    → refusal p (at AfterTags ps name items) tokens.left_bracket ≡ or_else (nat_le p.tags (length ps)) TooManyTags None
+unfolding refusal
+opening p ps name items = refl
+
+pub opening_between : (p : Profile) (ps : List Pair) (name : List ℕ) (items : List Item)
+    → refusal p (at Between ps name items) tokens.left_bracket ≡ or_else (nat_le p.tags (length ps)) TooManyTags None
+unfolding refusal
+opening_between p ps name items = refl
+
+pub naming : (p : Profile) (ps : List Pair) (name : List ℕ) (items : List Item) (s : List ℕ)
+    → refusal p (at AfterBracket ps name items) (tokens.symbol s)
+    ≡ or_else (not (list_all in_name s)) BadTagName
+    (or_else (has_pair ps s) DuplicateTag
+    (or_else (nat_lt 249 (length s)) TagLineTooLong
+    (or_else (is_reduced p.mode && bytes_eq s (codes "FEN")) ReducedFen None)))
+unfolding refusal
+naming p ps name items s = refl
+
+pub valuing : (p : Profile) (ps : List Pair) (name : List ℕ) (items : List Item) (s : List ℕ)
+    → refusal p (at AfterName ps name items) (tokens.str s)
+    ≡ or_else (bytes_eq name (codes "Result") && not (is_result s)) BadResult
+    (or_else (bytes_eq name (codes "FEN") && is_some (fen_field s)) (BadFen (fen_field_of (tokens.str s)))
+    (or_else (nat_lt 249 (length name + length (escaped s))) TagLineTooLong None))
+unfolding refusal
+valuing p ps name items s = refl
+
+pub closing : (p : Profile) (ps : List Pair) (name : List ℕ) (items : List Item) → refusal p (at AfterValue ps name items) tokens.right_bracket ≡ None
+unfolding refusal
+closing p ps name items = refl
+
+-- Movetext.
+abbrev pub levels_at : List Item → Levels
+levels_at items = levels_of items
+
+-- what may be a token of movetext
+abbrev pub is_textual : Kind → Bool
+is_textual tokens.left_bracket = false
+is_textual tokens.end = false
+is_textual (tokens.refused r) = false
+is_textual _ = true
+
+-- behind the pairs of a game
+pub after_tags : (p : Profile) (ps : List Pair) (name : List ℕ) (items : List Item) (k : Kind) → IsTrue (is_textual k)
+    → refusal p (at AfterTags ps name items) k ≡ or_else (lacks_fen ps) SetUpWithoutFen (refusal p (at InMovetext ps name items) k)
+unfolding refusal
+after_tags p ps name items tokens.left_bracket is = absurd (cc)
+after_tags p ps name items tokens.end is = absurd (cc)
+after_tags p ps name items (tokens.refused r) is = absurd (cc)
+after_tags p ps name items tokens.right_bracket is = refl
+after_tags p ps name items tokens.left_paren is = refl
+after_tags p ps name items tokens.right_paren is = refl
+after_tags p ps name items tokens.period is = refl
+after_tags p ps name items tokens.asterisk is = refl
+after_tags p ps name items (tokens.symbol s) is = refl
+after_tags p ps name items (tokens.str s) is = refl
+after_tags p ps name items (tokens.glyph n) is = refl
+after_tags p ps name items tokens.comment_open is = refl
+after_tags p ps name items (tokens.word s) is = refl
+after_tags p ps name items tokens.comment_close is = refl
+
+pub leads_after_tags : (ps : List Pair) (name : List ℕ) (items : List Item) (k : Kind) → IsTrue (is_textual k)
+    → next (at AfterTags ps name items) k ≡ next (at InMovetext ps name items) k
+leads_after_tags ps name items tokens.left_bracket is = absurd (cc)
+leads_after_tags ps name items tokens.end is = absurd (cc)
+leads_after_tags ps name items (tokens.refused r) is = absurd (cc)
+leads_after_tags ps name items tokens.right_bracket is = refl
+leads_after_tags ps name items tokens.left_paren is = refl
+leads_after_tags ps name items tokens.right_paren is = refl
+leads_after_tags ps name items tokens.period is = refl
+leads_after_tags ps name items tokens.asterisk is = refl
+leads_after_tags ps name items (tokens.symbol s) is = refl
+leads_after_tags ps name items (tokens.str s) is = refl
+leads_after_tags ps name items (tokens.glyph n) is = refl
+leads_after_tags ps name items tokens.comment_open is = refl
+leads_after_tags ps name items (tokens.word s) is = refl
+leads_after_tags ps name items tokens.comment_close is = refl
+
+-- without pairs
+pub between : (p : Profile) (ps : List Pair) (name : List ℕ) (items : List Item) (k : Kind) → IsTrue (is_textual k) → IsFalse (is_comment k)
+    → refusal p (at Between ps name items) k ≡ refusal p (at InMovetext ps name items) k
+unfolding refusal
+between p ps name items tokens.left_bracket is bare = absurd (cc)
+between p ps name items tokens.end is bare = absurd (cc)
+between p ps name items (tokens.refused r) is bare = absurd (cc)
+between p ps name items tokens.right_bracket is bare = refl
+between p ps name items tokens.left_paren is bare = refl
+between p ps name items tokens.right_paren is bare = refl
+between p ps name items tokens.period is bare = refl
+between p ps name items tokens.asterisk is bare = refl
+between p ps name items (tokens.symbol s) is bare = refl
+between p ps name items (tokens.str s) is bare = refl
+between p ps name items (tokens.glyph n) is bare = refl
+between p ps name items tokens.comment_open is bare = absurd (cc)
+between p ps name items (tokens.word s) is bare = absurd (cc)
+between p ps name items tokens.comment_close is bare = absurd (cc)
+
+pub leads_between : (ps : List Pair) (name : List ℕ) (items : List Item) (k : Kind) → IsTrue (is_textual k) → IsFalse (is_comment k)
+    → next (at Between ps name items) k ≡ next (at InMovetext ps name items) k
+leads_between ps name items tokens.left_bracket is bare = absurd (cc)
+leads_between ps name items tokens.end is bare = absurd (cc)
+leads_between ps name items (tokens.refused r) is bare = absurd (cc)
+leads_between ps name items tokens.right_bracket is bare = refl
+leads_between ps name items tokens.left_paren is bare = refl
+leads_between ps name items tokens.right_paren is bare = refl
+leads_between ps name items tokens.period is bare = refl
+leads_between ps name items tokens.asterisk is bare = refl
+leads_between ps name items (tokens.symbol s) is bare = refl
+leads_between ps name items (tokens.str s) is bare = refl
+leads_between ps name items (tokens.glyph n) is bare = refl
+leads_between ps name items tokens.comment_open is bare = absurd (cc)
+leads_between ps name items (tokens.word s) is bare = absurd (cc)
+leads_between ps name items tokens.comment_close is bare = absurd (cc)
+
+-- what a variation and its end are refused for
+pub varying : (p : Profile) (ps : List Pair) (name : List ℕ) (items : List Item)
+    → refusal p (at InMovetext ps name items) tokens.left_paren
+    ≡ or_else (not (levels_of items).present.holds_move) NoMoveBefore (or_else (nat_le p.depth (depth (levels_of items))) TooDeep None)
+unfolding refusal
+varying p ps name items = refl
+
+pub unvarying : (p : Profile) (ps : List Pair) (name : List ℕ) (items : List Item)
+    → refusal p (at InMovetext ps name items) tokens.right_paren ≡ or_else (depth (levels_of items) == 0) UnmatchedClose None
+unfolding refusal
+unvarying p ps name items = refl
+
+-- what an asterisk is refused for
+pub starring : (p : Profile) (ps : List Pair) (name : List ℕ) (items : List Item)
+    → refusal p (at InMovetext ps name items) tokens.asterisk
+    ≡ or_else (nat_le 1 (depth (levels_of items))) MarkerInVariation
+    (or_else (has_other_result p.missing_result (at InMovetext ps name items) tokens.asterisk && (depth (levels_of items) == 0)) ResultDiffers None)
+unfolding refusal
+starring p ps name items = refl
+
+-- What a symbol is refused for, by what it is: a number, a score, what it comes to as a move, whether the numbers are at their limit, the
+-- depth, and whether it differs from the Result.
+abbrev pub symbol_fault : Bool → Bool → Option (Result Played SanFault) → Bool → ℕ → Bool → Option Reason
+symbol_fault number score o limit deep other =
+    or_else (elim (number || score) [ true ↦ false | false ↦ is_no_form o ]) NotAMove
+    (or_else (elim (number || score) [ true ↦ false | false ↦ is_no_move o ]) IllegalMove
+    (or_else (elim (number || score) [ true ↦ false | false ↦ is_many_moves o ]) AmbiguousMove
+    (or_else (elim (number || score) [ true ↦ false | false ↦ is_one_move o ] && limit) MoveLimit
+    (or_else (score && nat_le 1 deep) MarkerInVariation
+    (or_else (other && (deep == 0)) ResultDiffers None)))))
+
+abbrev marked : Bool → List ℕ → Option (List ℕ)
+marked score s = elim score [ true ↦ Some s | false ↦ None ]
+
+is_marker_symbol : (score : Bool) (s : List ℕ) → is_some (marked score s) ≡ score
+is_marker_symbol true s = refl
+is_marker_symbol false s = refl
+
+pub symbolic : (p : Profile) (ps : List Pair) (name : List ℕ) (items : List Item) (s : List ℕ)
+    → refusal p (at InMovetext ps name items) (tokens.symbol s)
+    ≡ symbol_fault (is_number s) (is_score s) (move_of (here (start_of ps) (levels_of items)) s) (is_at_limit (here (start_of ps) (levels_of items)))
+    (depth (levels_of items)) (has_other_result p.missing_result (at InMovetext ps name items) (tokens.symbol s))
+unfolding refusal
+symbolic p ps name items s =
+    ap
+    (λ (b : Bool).
+    or_else (elim (is_number s || is_score s) [ true ↦ false | false ↦ is_no_form (move_of (here (start_of ps) (levels_of items)) s) ]) NotAMove
+    (or_else (elim (is_number s || is_score s) [ true ↦ false | false ↦ is_no_move (move_of (here (start_of ps) (levels_of items)) s) ]) IllegalMove
+    (or_else (elim (is_number s || is_score s) [ true ↦ false | false ↦ is_many_moves (move_of (here (start_of ps) (levels_of items)) s) ]) AmbiguousMove
+    (or_else (elim (is_number s || is_score s) [ true ↦ false | false ↦ is_one_move (move_of (here (start_of ps) (levels_of items)) s) ] && is_at_limit (here (start_of ps) (levels_of items))) MoveLimit
+    (or_else (b && nat_le 1 (depth (levels_of items))) MarkerInVariation
+    (or_else (has_other_result p.missing_result (at InMovetext ps name items) (tokens.symbol s) && (depth (levels_of items) == 0)) ResultDiffers None))))))
+    (is_marker_symbol (is_score s) s)

@@ -1,0 +1,88 @@
+-- Where a game begins, from its pairs.
+use Rattle.std.proofs.Common.{◌≡◌, ℕ, ◌&&◌, Bool, true, false, not, List, [], ◌∷◌, Option, None, Some, refl, sym, ap, ◌∙◌}
+use Rattle.std.specs.Prelude.{codes, bytes_eq, is_some, unwrap_or, Result, Ok, Err}
+use Rattle.chess_rules.specs.declared.position.Parts.{Parts}
+use Rattle.chess_text.specs.declared.fen.FenFault.{FenFault}
+use Rattle.chess_text.specs.Fen.{read as read_text}
+use Rattle.std.proofs.lemmas.Bool.{not-false}
+use Rattle.pgn_game.specs.Chess.{position_of}
+use Rattle.pgn_game.specs.Pairs.{Pair, value_of, has_pair, comes_before, insert_pair}
+use Rattle.pgn_game.specs.Here.{start_of, start_by, position_or_first}
+use Rattle.pgn_game.specs.FaultTable.{field_of, fen_field}
+use Rattle.pgn_game.specs.Handling.{start_told}
+use Rattle.pgn_game.proofs.Exporting.{pick, value_of-cons, value_of-insert, bytes_eq-true, bytes_eq-refl}
+
+not_picked : (b : Bool) (v : List ℕ) (o : Option (List ℕ)) → is_some (pick b v o) ≡ false → (b ≡ false) × (is_some o ≡ false)
+not_picked true v o none = absurd (cc)
+not_picked false v o none = (refl, none)
+
+-- a pair whose name is new is found where it is put in
+value_of-found : (p : Pair) (qs : List Pair) → has_pair qs p.name ≡ false → value_of (insert_pair p qs) p.name ≡ Some p.value
+value_of-found p [] none = value_of-cons p [] p.name ∙ ap (λ b. pick b p.value None) (bytes_eq-refl p.name p.name refl)
+value_of-found p (q ∷ qs) none =
+    let out = not_picked (bytes_eq q.name p.name) q.value (value_of qs p.name) (ap is_some (sym (value_of-cons q qs p.name)) ∙ none) in
+    elim (comes_before p.name q.name) as (λ b. value_of (elim b [ true ↦ p ∷ q ∷ qs | false ↦ q ∷ insert_pair p qs ]) p.name ≡ Some p.value) [
+      | true ↦ value_of-cons p (q ∷ qs) p.name ∙ ap (λ b. pick b p.value (value_of (q ∷ qs) p.name)) (bytes_eq-refl p.name p.name refl)
+      | false ↦
+          value_of-cons q (insert_pair p qs) p.name ∙ ap (λ b. pick b q.value (value_of (insert_pair p qs) p.name)) out.0
+          ∙ value_of-found p qs out.1
+    ]
+
+-- what a pair tells of where its game begins, from whether it is a FEN, and from what its value is read as
+abbrev pub told_by : Bool → Result Parts FenFault → Result (Option Parts) ℕ
+told_by is read = elim is [ false ↦ Ok None | true ↦ elim read [ Ok start ↦ Ok (Some start) | Err fault ↦ Err fault.field ] ]
+
+is_position : (value : List ℕ) → read_text value ≡ position_of value
+unfolding position_of
+is_position value = refl
+
+-- what a FEN tells, once its value is read
+pub told_read : (name value : List ℕ) (read : Result Parts FenFault) → not (bytes_eq name (codes "FEN")) ≡ false → read ≡ read_text value → start_told name value ≡ told_by true read
+told_read name value read named reads =
+    ap (λ b. told_by b (position_of value)) (not-false (bytes_eq name (codes "FEN")) named) ∙ ap (told_by true) (sym (reads ∙ is_position value))
+
+abbrev pub with_pair : List ℕ → List ℕ → List Pair → List Pair
+with_pair name value ps = insert_pair (record { name = name; value = value }) ps
+
+found_by : (is : Bool) (read : Result Parts FenFault) (name value : List ℕ) (ps : List Pair) (start : Parts) → bytes_eq name (codes "FEN") ≡ is → position_of value ≡ read
+    → has_pair ps name ≡ false → told_by is read ≡ Ok (Some start) → start_of (with_pair name value ps) ≡ start
+found_by false read name value ps start named reads none told = absurd (cc)
+found_by true (Err fault) name value ps start named reads none told = absurd (cc)
+found_by true (Ok first) name value ps start named reads none told =
+    let same : first ≡ start = cc in
+    ap start_by (ap (value_of (with_pair name value ps)) (sym (bytes_eq-true name (codes "FEN") named)) ∙ value_of-found (record { name = name; value = value }) ps none)
+    ∙ ap position_or_first reads ∙ same
+
+-- a FEN is where its game begins
+pub start_found : (name value : List ℕ) (ps : List Pair) (start : Parts) → has_pair ps name ≡ false → start_told name value ≡ Ok (Some start)
+    → start_of (with_pair name value ps) ≡ start
+start_found name value ps start none told = found_by (bytes_eq name (codes "FEN")) (position_of value) name value ps start refl refl none told
+
+kept_by : (is : Bool) (read : Result Parts FenFault) (name value : List ℕ) (ps : List Pair) → bytes_eq name (codes "FEN") ≡ is → told_by is read ≡ Ok None
+    → start_of (with_pair name value ps) ≡ start_of ps
+kept_by false read name value ps named told = ap start_by (value_of-insert (record { name = name; value = value }) ps (codes "FEN") named)
+kept_by true (Ok first) name value ps named told = absurd (cc)
+kept_by true (Err fault) name value ps named told = absurd (cc)
+
+-- another pair decides nothing of it
+pub start_kept : (name value : List ℕ) (ps : List Pair) → start_told name value ≡ Ok None → start_of (with_pair name value ps) ≡ start_of ps
+start_kept name value ps told = kept_by (bytes_eq name (codes "FEN")) (position_of value) name value ps refl told
+
+passes_by : (is : Bool) (read : Result Parts FenFault) (start : Option Parts) → told_by is read ≡ Ok start → (is && is_some (field_of read)) ≡ false
+passes_by false read start told = refl
+passes_by true (Ok first) start told = refl
+passes_by true (Err fault) start told = absurd (cc)
+
+-- a pair that is no FEN or a good one is not refused for it
+pub start_passes : (name value : List ℕ) (start : Option Parts) → start_told name value ≡ Ok start → (bytes_eq name (codes "FEN") && is_some (fen_field value)) ≡ false
+start_passes name value start told = passes_by (bytes_eq name (codes "FEN")) (position_of value) start told
+
+faults_by : (is : Bool) (read : Result Parts FenFault) (field : ℕ) → told_by is read ≡ Err field → ((is && is_some (field_of read)) ≡ true) × (unwrap_or (field_of read) 0 ≡ field)
+faults_by false read field told = absurd (cc)
+faults_by true (Ok first) field told = absurd (cc)
+faults_by true (Err fault) field told = (refl, cc)
+
+-- a FEN at fault is refused for the field
+pub start_faults : (name value : List ℕ) (field : ℕ) → start_told name value ≡ Err field
+    → ((bytes_eq name (codes "FEN") && is_some (fen_field value)) ≡ true) × (unwrap_or (fen_field value) 0 ≡ field)
+start_faults name value field told = faults_by (bytes_eq name (codes "FEN")) (position_of value) field told

@@ -1,0 +1,51 @@
+use Rattle.std.proofs.Common.{◌≡◌, Bool, true, false, List, ℕ, None, Some, sym, ap, ◌∙◌}
+use Rattle.std.specs.Prelude.{Result, Ok, Err, option_map}
+use Rattle.chess_rules.specs.declared.position.Parts.{Parts}
+use Rattle.chess_text.specs.declared.form.Form.{Form}
+use Rattle.chess_text.specs.declared.resolve.Played.{Played}
+use Rattle.chess_text.specs.declared.resolve.SanFault.{SanFault}
+use Rattle.chess_text.specs.Form.{form_of}
+use Rattle.chess_text.specs.Reads.{reads}
+use Rattle.pgn_game.specs.declared.reason.Reason.{Reason}
+use Rattle.pgn_game.specs.declared.reason.Reason.TheVariants.{MoveLimit}
+use Rattle.pgn_game.specs.Chess.{move_of}
+use Rattle.pgn_game.specs.FaultTable.{is_at_limit}
+use Rattle.pgn_game.specs.Finding.{found_in}
+use Rattle.pgn_game.proofs.find.find_move.Goals as goal
+
+no_form : (p : Parts) (s : List ℕ) → None ≡ form_of s → move_of p s ≡ None
+unfolding move_of
+no_form p s e = ap (option_map (reads p)) (sym e)
+
+of_form : (p : Parts) (s : List ℕ) (f : Form) (r : Result Played SanFault) → Some f ≡ form_of s → r ≡ reads p f → move_of p s ≡ Some r
+unfolding move_of
+of_form p s f r e h = ap (option_map (reads p)) (sym e) ∙ ap Some (sym h)
+
+limited : (p : Parts) (played : Played) (b : Bool) → is_at_limit p ≡ b
+    → (let r : Result Played Reason = elim b [ true ↦ Err MoveLimit | false ↦ Ok played ] in r) ≡ found_in p (Some (Ok played))
+limited p played b e = ap (λ (b : Bool). let r : Result Played Reason = elim b [ true ↦ Err MoveLimit | false ↦ Ok played ] in r) (sym e)
+
+pub returns-in_default-clause-found : goal.returns-in_default-clause-found
+returns-in_default-clause-found c = ap (found_in c.args.position.now) (sym (no_form c.args.position.now c.args.text.now c.in_default.ensures))
+
+pub returns-in-Err-NoMove-clause-found : goal.returns-in-Err-NoMove-clause-found
+returns-in-Err-NoMove-clause-found c =
+    ap (found_in c.args.position.now) (sym (of_form c.args.position.now c.args.text.now c.in-Some.form _ c.in-Some.ensures (rw c.in-Err-NoMove.field-0-is at c.in-Err-NoMove.ensures.answer)))
+
+pub returns-in-Err-Ambiguous-clause-found : goal.returns-in-Err-Ambiguous-clause-found
+returns-in-Err-Ambiguous-clause-found c =
+    ap (found_in c.args.position.now) (sym (of_form c.args.position.now c.args.text.now c.in-Some.form _ c.in-Some.ensures (rw c.in-Err-Ambiguous.field-0-is at c.in-Err-Ambiguous.ensures.answer)))
+
+pub returns-then-is_at_limit-clause-found : goal.returns-then-is_at_limit-clause-found
+returns-then-is_at_limit-clause-found c =
+    limited c.args.position.now c.in-Ok.played true (sym c.is_at_limit.ensures ∙ c.if-is_at_limit.true)
+    ∙ ap (found_in c.args.position.now) (sym (of_form c.args.position.now c.args.text.now c.in-Some.form _ c.in-Some.ensures c.in-Ok.ensures.answer))
+
+pub returns-else-is_at_limit-clause-found : goal.returns-else-is_at_limit-clause-found
+returns-else-is_at_limit-clause-found c =
+    limited c.args.position.now c.in-Ok.played false (sym c.is_at_limit.ensures ∙ c.if-is_at_limit.false)
+    ∙ ap (found_in c.args.position.now) (sym (of_form c.args.position.now c.args.text.now c.in-Some.form _ c.in-Some.ensures c.in-Ok.ensures.answer))
+
+pub returns-else-is_at_limit-clause-legal : goal.returns-else-is_at_limit-clause-legal
+returns-else-is_at_limit-clause-legal c =
+    ((c.the_one_move_is_read.ensures c.args.position.now c.in-Some.form c.in-Ok.played).0 (sym c.in-Ok.ensures.answer)).1

@@ -1,0 +1,8 @@
+use Rattle.std.proofs.Common.{ap}
+use Rattle.pgn_game.specs.Chess.{first_position}
+use Rattle.pgn_game.specs.Movetext.{only_level}
+use Rattle.pgn_game.proofs.levels.Levels.new.Goals as goal
+
+pub returns : goal.returns
+unfolding first_position
+returns g c = rw (c.push.ensures.items, c.new-levels.ensures, c.at.ensures) (ap only_level c.initial.ensures)

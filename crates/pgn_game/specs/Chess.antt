@@ -1,0 +1,39 @@
+-- What games need of chess: where a game begins, and what the text of a move comes to. The names are `unfoldable`, so that goals show
+-- them as they are.
+use Rattle.std.specs.Prelude.{ℕ, Bool, true, false, List, Option, Result, option_map, unwrap_or}
+use Rattle.chess_rules.specs.declared.piece.Colour.TheVariants.{White, Black}
+use Rattle.chess_rules.specs.declared.position.Move.{Move}
+use Rattle.chess_rules.specs.declared.position.Parts.{Parts}
+use Rattle.chess_rules.specs.Position.{initial}
+use Rattle.chess_rules.specs.Legal.{legal}
+use Rattle.chess_text.specs.declared.fen.FenFault.{FenFault}
+use Rattle.chess_text.specs.declared.resolve.Played.{Played}
+use Rattle.chess_text.specs.declared.resolve.SanFault.{SanFault}
+use Rattle.chess_text.specs.Fen.{read}
+use Rattle.chess_text.specs.Form.{form_of}
+use Rattle.chess_text.specs.Reads.{reads}
+use Rattle.chess_text.specs.San.{san}
+
+-- the usual first position (FIDE 2.3)
+unfoldable pub first_position : Parts
+first_position = initial
+
+-- the position of a FEN value, or the field that is at fault (PGN 9.7.2, 16.1)
+unfoldable pub position_of : List ℕ → Result Parts FenFault
+position_of text = read text
+
+-- What a symbol comes to as a move: None, if it has not the pattern of one; else the one legal move that agrees with it and the position
+-- after that, or why there is none (PGN 8.2.3).
+unfoldable pub move_of : Parts → List ℕ → Option (Result Played SanFault)
+move_of p s = option_map (reads p) (form_of s)
+
+-- how a legal move is written (PGN 8.2.3)
+unfoldable pub text_of_move : Parts → Move → List ℕ
+text_of_move p m = san p m
+
+-- the position after a legal move (FIDE 3)
+unfoldable pub play : Parts → Move → Parts
+play p m = unwrap_or (legal p m) p
+
+abbrev pub is_black_to_move : Parts → Bool
+is_black_to_move p = elim p.side [ White ↦ false | Black ↦ true ]

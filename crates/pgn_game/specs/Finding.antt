@@ -1,0 +1,16 @@
+-- What a symbol names as a move, and which row of the fault table refuses it.
+use Rattle.std.specs.Prelude.{true, false, Option, None, Some, Result, Ok, Err}
+use Rattle.chess_rules.specs.declared.position.Parts.{Parts}
+use Rattle.chess_text.specs.declared.resolve.Played.{Played}
+use Rattle.chess_text.specs.declared.resolve.SanFault.{SanFault}
+use Rattle.chess_text.specs.declared.resolve.SanFault.TheVariants.{NoMove, Ambiguous}
+use Rattle.pgn_game.specs.declared.reason.Reason.{Reason}
+use Rattle.pgn_game.specs.declared.reason.Reason.TheVariants.{NotAMove, IllegalMove, AmbiguousMove, MoveLimit}
+use Rattle.pgn_game.specs.FaultTable.{is_at_limit}
+
+-- of what its text comes to in this position: the move, unless a number above 99,999 would follow
+abbrev pub found_in : Parts → Option (Result Played SanFault) → Result Played Reason
+found_in p None = Err NotAMove
+found_in p (Some (Err NoMove)) = Err IllegalMove
+found_in p (Some (Err Ambiguous)) = Err AmbiguousMove
+found_in p (Some (Ok played)) = elim (is_at_limit p) [ true ↦ Err MoveLimit | false ↦ Ok played ]

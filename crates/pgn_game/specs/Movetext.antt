@@ -1,0 +1,99 @@
+-- What is held of movetext while it is read: the levels, how many moves outside variations there are, and whether a move was written last.
+use Rattle.std.specs.Prelude.{◌≡◌, ℕ, ◌<◌, ◌≤◌, Bool, true, false, List, [], ◌∷◌, ◌++◌, map, length, drop, Option, None, Some, All, Result, MatchResult}
+use Rattle.std.specs.Io.KnownBytes.{Appends}
+use Rattle.chess_rules.specs.declared.position.Parts.{Parts}
+use Rattle.pgn_layout.specs.Device.{AppendsFront}
+use Rattle.pgn_layout.specs.Lines.{IsToken, lines_of, last_line}
+use Rattle.pgn_layout.specs.Layout.{Layout, holding}
+use Rattle.pgn_game.specs.declared.levels.Level.{Level as CodeLevel}
+use Rattle.pgn_game.specs.declared.mode.Mode.{Mode}
+use Rattle.pgn_game.specs.Chess.{first_position}
+use Rattle.pgn_game.specs.Game.{Item}
+use Rattle.pgn_game.specs.Here.{Level as ModelLevel, Levels as ModelLevels, levels_of, first_level, replayed, without_last, main_moves}
+use Rattle.pgn_game.specs.Text.{Placed, placed_from, is_move, written_items, tokens_out, full_text}
+
+-- a level: the present position, and the one before its last move, if it has one
+pub record Level : Type 0 where
+  pub present : Parts
+  pub before : Option Parts
+
+-- the level at hand, and those around it, the nearest first
+pub record Levels : Type 0 where
+  pub present : Level
+  pub around : List Level
+
+abbrev pub level_at : Parts → Level
+level_at start = record { present = start; before = None }
+
+abbrev pub only_level : Parts → Levels
+only_level start = record { present = level_at start; around = [] }
+
+-- The levels as they are kept: the game's own first, at least one, and at most so many.
+abbrev pub level_of : CodeLevel → Level
+level_of l = record { present = l.present; before = l.before }
+
+abbrev pub inside : Levels → List CodeLevel → Levels
+inside ls [] = ls
+inside ls (l ∷ more) = inside (record { present = level_of l; around = ls.present ∷ ls.around }) more
+
+abbrev pub levels_in : List CodeLevel → Levels
+levels_in [] = only_level first_position
+levels_in (l ∷ more) = inside (record { present = level_of l; around = [] }) more
+
+pub record AreHeld (most : ℕ) (levels : List CodeLevel) : Type 0 where
+  pub some : 0 < length levels
+  pub room : length levels ≤ most
+
+-- the nearest of the levels around has become the one at hand
+abbrev pub IsBackIn : List Level → Levels → Type 0
+IsBackIn [] new = Unit {0}
+IsBackIn (l ∷ around) new = new ≡ record { present = l; around = around }
+
+-- What a contract sees of the movetext at hand.
+pub record Movetext : Type 0 where
+  pub levels : Levels
+  pub plies : ℕ
+  pub is_after_move : Bool
+
+-- no item yet, from this position on
+abbrev pub begins_at : Parts → Movetext
+begins_at start = record { levels = only_level start; plies = 0; is_after_move = false }
+
+-- The levels of the definitions, as they are held: positions for moves.
+abbrev pub before_last : Parts → ModelLevel → Option Parts
+before_last start l = elim l.holds_move [ true ↦ Some (replayed start (without_last l.trail)) | false ↦ None ]
+
+abbrev pub level_held : Parts → ModelLevel → Level
+level_held start l = record { present = replayed start l.trail; before = before_last start l }
+
+abbrev pub levels_held : Parts → ModelLevels → Levels
+levels_held start ls = record { present = level_held start ls.present; around = map (level_held start) ls.around }
+
+-- whether the last item that is written is a move
+abbrev pub ends_in_move : Bool → List Placed → Bool
+ends_in_move is_after_move [] = is_after_move
+ends_in_move is_after_move (i ∷ is) = ends_in_move (is_move i.item) is
+
+-- The movetext at hand is that of these items, of a game that begins there; and the layout holds their last line.
+pub record HoldsItems (mode : Mode) (start : Parts) (items : List Item) (text : Movetext) (layout : Layout) : Type 0 where
+  pub levels : text.levels ≡ levels_held start (levels_of items)
+  pub plies : text.plies ≡ length (main_moves items)
+  pub is_after_move : text.is_after_move ≡ ends_in_move false (written_items mode (placed_from start first_level items))
+  pub tokens : All IsToken (tokens_out mode start items)
+  pub line : layout ≡ holding (last_line (lines_of (tokens_out mode start items)))
+
+-- what an item adds to the lines that are full
+abbrev pub item_text : Mode → Parts → List Item → Item → List ℕ
+item_text mode start items i = drop (length (full_text mode start items)) (full_text mode start (items ++ i ∷ []))
+
+-- One item more: it is held, and what it adds was appended; or a front of that where a write failed.
+abbrev pub AddsItem : {A E : Type 0} → Mode → Parts → List Item → Item → Movetext → Layout → Result A E → Option (List ℕ) → Option (List ℕ) → Type 0
+AddsItem mode start items i text layout result before after =
+    MatchResult result
+    (λ _. HoldsItems mode start (items ++ i ∷ []) text layout × Appends before after (item_text mode start items i))
+    (λ _. AppendsFront before after (item_text mode start items i))
+
+-- so for all items that are held
+abbrev pub Adds : {A E : Type 0} → Mode → Item → Movetext → Layout → Movetext → Layout → Result A E → Option (List ℕ) → Option (List ℕ) → Type 0
+Adds mode i text layout new_text new_layout result before after =
+    (start : Parts) (items : List Item) → HoldsItems mode start items text layout → AddsItem mode start items i new_text new_layout result before after

@@ -1,0 +1,45 @@
+//! The move that a symbol in movetext names.
+ghost use Rattle.std.specs.Prelude.{◌≡◌, ◌<◌, ◌≤◌, Some, IfOk, OnOk};
+ghost use Rattle.chess_rules.specs.Legal.{legal};
+ghost use Rattle.pgn_game.specs.Chess.{move_of};
+ghost use Rattle.pgn_game.specs.FaultTable.{is_at_limit as at_limit};
+ghost use Rattle.pgn_game.specs.Finding.{found_in};
+
+use crate::reason::Reason;
+use chess_rules::piece::Colour;
+use chess_rules::position::Position;
+use chess_rules::probes::Probes;
+use chess_text::form::read_form;
+use chess_text::laws::the_one_move_is_read;
+use chess_text::resolve::{Played, SanFault, resolve};
+
+/// The one legal move that the text names in this position (PGN 8.2.3), or the row of the fault table that refuses it.
+pub fn find_move(position: &Position, text: &[u8], probes: &mut Probes) -> Result<Played, Reason>
+    requires { probes.old ≡ 0 }
+    ensures found { result ≡ found_in position.now (move_of position.now text.now) }
+    ensures legal { IfOk result (λ played. legal position.now played.mv ≡ Some played.next) }
+    ensures bound { probes.new ≤ 8 }
+    ensures some { OnOk result (0 < probes.new) }
+{
+    the_one_move_is_read();
+    let Some(form) = read_form(text) else {
+        return Err(Reason::NotAMove);
+    };
+    match resolve(position, &form, probes) {
+        Err(SanFault::NoMove) => Err(Reason::IllegalMove),
+        Err(SanFault::Ambiguous) => Err(Reason::AmbiguousMove),
+        Ok(played) => {
+            if is_at_limit(position) {
+                return Err(Reason::MoveLimit);
+            }
+            Ok(played)
+        }
+    }
+}
+
+// Whether a move from here would lead to a number above 99,999.
+fn is_at_limit(position: &Position) -> bool
+    ensures { result ≡ at_limit position.now }
+{
+    position.side() == Colour::Black && position.full() == 99_999
+}

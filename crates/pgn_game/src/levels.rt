@@ -1,0 +1,122 @@
+//! The levels of movetext: the game's own, and those of the variations that are open.
+ghost use Rattle.std.specs.Prelude.{◌≡◌, ◌+◌, ◌<◌, ◌≤◌, ◌↔◌, [], ◌∷◌, None, Some, IsTrue, IsSome, IfSome, is_some, length};
+ghost use Rattle.pgn_game.specs.Chess.{first_position};
+ghost use Rattle.pgn_game.specs.Movetext.{level_at, only_level, IsBackIn};
+
+use arrayvec::ArrayVec;
+use chess_rules::position::Position;
+use std::marker::Model;
+
+/// A level: the present position, and the one before its last move, if it has one.
+#[derive(Clone, Copy)]
+struct Level {
+    present: Position,
+    before: Option<Position>,
+}
+
+impl Level {
+    // No move yet, at this position.
+    fn at(present: Position) -> Level
+        ensures { result ≡ record { present = present; before = None } }
+    {
+        Level {
+            present,
+            before: None,
+        }
+    }
+}
+
+impl Default for Level {
+    fn default() -> Level {
+        Level::at(Position::initial())
+    }
+}
+
+/// At least one level and at most `L`, the game's own first.
+#[derive(Drop)]
+pub struct Levels<const L: usize> {
+    levels: ArrayVec<Level, L>,
+}
+
+impl<const L: usize> Model for Levels<L> {
+    ghost use Rattle.pgn_game.specs.Movetext.{Levels as Seen, AreHeld, levels_in};
+
+    ghost Value = { Seen };
+
+    ghost view = { λ l. levels_in l.levels.items };
+
+    ghost invariant = { λ l. AreHeld L l.levels.items };
+}
+
+impl<const L: usize> Levels<L> {
+    /// The game's own level, at the usual first position.
+    pub fn new() -> Self
+        requires { 1 ≤ L }
+        ensures { result ≡ only_level first_position }
+    {
+        let mut levels = ArrayVec::new();
+        levels.push(Level::at(Position::initial()));
+        Levels { levels }
+    }
+
+    /// The game's own level alone, at this position.
+    pub fn begin(&mut self, start: Position)
+        ensures { self.new ≡ only_level start }
+    {
+        self.levels.truncate(1);
+        self.levels[0] = Level::at(start);
+    }
+
+    /// The present position of the level at hand.
+    pub fn present(&self) -> &Position
+        ensures { result.now ≡ self.now.present.present }
+    {
+        &self.levels[self.levels.len() - 1].present
+    }
+
+    /// How many variations are open.
+    pub fn depth(&self) -> usize
+        ensures value { result ≡ length self.now.around }
+        ensures room { result + 1 ≤ L }
+    {
+        self.levels.len() - 1
+    }
+
+    /// Whether a move was played at the level at hand.
+    pub fn holds_move(&self) -> bool
+        ensures { result ≡ is_some self.now.present.before }
+    {
+        self.levels[self.levels.len() - 1].before.is_some()
+    }
+
+    /// Plays a move to this position.
+    pub fn play(&mut self, next: Position)
+        ensures { self.new ≡ record { present = record { present = next; before = Some self.old.present.present }; around = self.old.around } }
+    {
+        let last = self.levels.len() - 1;
+        let level = &mut self.levels[last];
+        level.before = Some(level.present);
+        level.present = next;
+    }
+
+    /// Opens a variation, which begins before the last move of the level at hand.
+    pub fn open(&mut self)
+        requires before { IsSome self.old.present.before }
+        requires room { length self.old.around + 1 < L }
+        ensures { IfSome self.old.present.before (λ start. self.new
+            ≡ record { present = level_at start; around = self.old.present ∷ self.old.around }) }
+    {
+        let last = self.levels[self.levels.len() - 1];
+        if let Some(present) = last.before {
+            self.levels.push(Level::at(present));
+        }
+    }
+
+    /// Closes the variation at hand: the level around it goes on.
+    pub fn close(&mut self)
+        requires { 0 < length self.old.around }
+        ensures { IsBackIn self.old.around self.new }
+    {
+        self.levels.truncate(self.levels.len() - 1);
+    }
+}

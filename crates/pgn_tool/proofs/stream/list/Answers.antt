@@ -1,0 +1,41 @@
+use Rattle.std.proofs.Common.{◌≡◌, ◌∙◌, ap, refl, subst}
+use Rattle.std.specs.Prelude.{Err, Result}
+use Rattle.pgn_tool.specs.declared.list.Stopped.{Stopped}
+use Rattle.pgn_tool.specs.declared.list.Stopped.TheVariants.{Refused, Unwritten}
+use Rattle.pgn_tool.specs.Listing.{CountsList, Lists}
+use Rattle.pgn_tool.proofs.Runs.{list_blames, lists_on, risen}
+use Rattle.pgn_tool.proofs.stream.list.Goals as goal
+
+pub returns-in-Err-Refused : goal.returns-in-Err-Refused
+returns-in-Err-Refused g c =
+    let is : c.list_games-answer.result ≡ Err (Refused c.in-Err-Refused.fault) = c.in-Err-Refused.is ∙ ap (λ s. Err s) (rw c.in-Err-Refused.is at c.in-Err-Refused.field-0-is) in
+    let listed = subst (λ (r : Result Unit Stopped). Lists (g.R.Source.left c.args.reader.now) (g.R.Source.left c.list_games-answer.new.reader) r
+    (g.O.Sink.taken c.args.out.now) (g.O.Sink.taken c.list_games-answer.new.out)) is c.list_games-answer.ensures.lists in
+    let counted = subst (λ (r : Result Unit Stopped). CountsList r (g.R.Source.failures c.args.reader.now) (g.R.Source.failures c.list_games-answer.new.reader)
+    (g.O.Sink.failures c.args.out.now) (g.O.Sink.failures c.list_games-answer.new.out)) is c.list_games-answer.ensures.counted in
+    record {
+      answer = Err (Refused c.in-Err-Refused.fault);
+      lists = lists_on _ _ _ _ _ (Err (Refused c.in-Err-Refused.fault)) listed c.flush-flushed.ensures.bytes;
+      ends = record {
+        ends = c.refuse.ensures.status;
+        told = c.refuse.ensures.told;
+        blames = list_blames c.in-Err-Refused.fault.reason _ _ counted.0;
+      };
+    }
+
+pub returns-in-Err-Unwritten : goal.returns-in-Err-Unwritten
+returns-in-Err-Unwritten g c =
+    let is : c.list_games-answer.result ≡ Err Unwritten = c.in-Err-Unwritten.is ∙ ap (λ s. Err s) (rw c.in-Err-Unwritten.is at c.in-Err-Unwritten.field-0-is) in
+    let listed = subst (λ (r : Result Unit Stopped). Lists (g.R.Source.left c.args.reader.now) (g.R.Source.left c.list_games-answer.new.reader) r
+    (g.O.Sink.taken c.args.out.now) (g.O.Sink.taken c.list_games-answer.new.out)) is c.list_games-answer.ensures.lists in
+    let counted = subst (λ (r : Result Unit Stopped). CountsList r (g.R.Source.failures c.args.reader.now) (g.R.Source.failures c.list_games-answer.new.reader)
+    (g.O.Sink.failures c.args.out.now) (g.O.Sink.failures c.list_games-answer.new.out)) is c.list_games-answer.ensures.counted in
+    record {
+      answer = Err Unwritten;
+      lists = lists_on _ _ _ _ _ (Err Unwritten) listed c.flush-flushed.ensures.bytes;
+      ends = record {
+        ends = c.conclude-in-Err-Unwritten.ensures.status;
+        failed = risen c.flush-flushed.result _ _ _ counted.1 c.flush-flushed.ensures.failures;
+        told = c.conclude-in-Err-Unwritten.ensures.told refl;
+      };
+    }

@@ -1,0 +1,165 @@
+-- The lines that a list has, and what writing them comes to.
+use Rattle.std.specs.Prelude.{◌≡◌, ℕ, ◌+◌, ◌^◌, ◌<◌, List, [], ◌∷◌, ◌++◌, length, take, drop, codes, decimal, unwrap_or, Option, None, Some, Result, Ok, Err, IfSome}
+use Rattle.std.specs.Io.KnownBytes.{Appends, Consumes}
+use Rattle.chess_text.specs.Fen.{fen_text}
+use Rattle.pgn_layout.specs.Device.{one_more}
+use Rattle.pgn_lexer.specs.Tokens.{Token}
+use Rattle.pgn_lexer.specs.TokensOf.{tokens_of}
+use Rattle.pgn_lexer.specs.Decided.{decided}
+use Rattle.pgn_lexer.specs.Stands.{IsDecided, first}
+use Rattle.pgn_game.specs.declared.mode.Mode.{Mode}
+use Rattle.pgn_game.specs.declared.mode.Mode.TheVariants.{Full}
+use Rattle.pgn_game.specs.declared.reason.Reason.{Reason}
+use Rattle.pgn_game.specs.declared.reason.Reason.TheVariants.{ReadFault, WriteFault, InputTooLong}
+use Rattle.pgn_game.specs.declared.reason.Fault.{Fault}
+use Rattle.pgn_game.specs.Profile.{Profile}
+use Rattle.pgn_game.specs.Pairs.{Pair, value_of}
+use Rattle.pgn_game.specs.TagSection.{exported}
+use Rattle.pgn_game.specs.Game.{Game}
+use Rattle.pgn_game.specs.Begun.{read}
+use Rattle.pgn_game.specs.Feeding.{AtHand, Converter, Stands, hand_of, profile_of}
+use Rattle.pgn_tool.specs.declared.list.Stopped.{Stopped}
+use Rattle.pgn_tool.specs.declared.list.Stopped.TheVariants.{Refused, Unwritten}
+
+-- ---- lines
+
+-- the value of a name in the tag section of a game with these pairs, its defaults included
+abbrev pub value_told : Mode → List Pair → List ℕ → List ℕ
+value_told mode pairs name = unwrap_or (value_of (exported mode (codes "*") pairs) name) []
+
+-- a field, and the byte that ends it
+abbrev pub field : List ℕ → ℕ → List ℕ
+field text end = text ++ end ∷ []
+
+-- six fields, with a tab after each but the last, and LF
+abbrev pub six_fields : (number white black result plies position : List ℕ) → List ℕ
+six_fields number white black result plies position =
+    field number 9 ++ field white 9 ++ field black 9 ++ field result 9 ++ field plies 9 ++ field position 10
+
+-- what is told of a game, as a line; the name is `unfoldable`, so that goals show it as it is
+unfoldable pub hand_line : ℕ → Mode → AtHand → List ℕ
+hand_line number mode hand =
+    six_fields (decimal number) (value_told mode hand.pairs (codes "White")) (value_told mode hand.pairs (codes "Black"))
+    (value_told mode hand.pairs (codes "Result")) (decimal hand.plies) (fen_text hand.position)
+
+-- the line of a game: its number, White, Black, Result, how many moves it has outside variations, and the position after these
+abbrev pub game_line : ℕ → Game → List ℕ
+game_line number g = hand_line number Full (hand_of g)
+
+-- the lines of games in turn, numbered from there
+abbrev pub lines_from : ℕ → List Game → List ℕ
+lines_from number [] = []
+lines_from number (g ∷ gs) = game_line number g ++ lines_from (number + 1) gs
+
+-- what is listed is read in full, with at most 64 tag pairs of a game and variations to depth 32
+abbrev pub list_profile : Profile
+list_profile = profile_of 64 32 Full
+
+-- the lines of the games that are whole before the first of these tokens that is refused
+abbrev pub lines_of : List Token → List ℕ
+lines_of ts = lines_from 1 (read list_profile ts).begun.games
+
+-- the same of a text
+abbrev pub list_text : List ℕ → List ℕ
+list_text s = lines_of (tokens_of s)
+
+-- the line of the game at hand, and nothing while none is
+abbrev pub line_at_hand : Converter → List ℕ
+line_at_hand c = elim c.at_hand [ None ↦ [] | Some hand ↦ hand_line c.games c.reading.profile.mode hand ]
+
+-- ---- how a list ends
+
+-- the first fault of the text s, or none, and the lines of the games before it are written
+pub record IsListed (s : List ℕ) (found : Option Fault) (before after : Option (List ℕ)) : Type 0 where
+  pub fault : (read list_profile (tokens_of s)).fault ≡ found
+  pub written : Appends before after (list_text s)
+
+-- After the bytes u, of which nothing is refused, no more are read: the lines of the games that they decide are written.
+pub record ListsNoMore (u : List ℕ) (before after : Option (List ℕ)) : Type 0 where
+  pub passes : (read list_profile (decided u)).fault ≡ None
+  pub written : Appends before after (lines_of (decided u))
+
+-- of the lines of the games that the bytes u have, a front is written, and not all
+pub record CutsLine (u : List ℕ) (before after : Option (List ℕ)) : Type 0 where
+  pub count : ℕ
+  pub short : count < length (list_text u)
+  pub front : Appends before after (take count (list_text u))
+
+-- How a list stops: at the input's own fault; because a read failed behind the bytes u; since the byte at place 2^62 came; or because
+-- a line could not be written when the bytes u were read.
+pub data Stops (left_old left_new : Option (List ℕ)) (before after : Option (List ℕ)) : Stopped → Type 0 where
+  refused : (f : Fault) → IfSome left_old (λ s. IsListed s (Some f) before after) → Stops left_old left_new before after (Refused f)
+  unread : (u : List ℕ) → Consumes left_old left_new u → ListsNoMore u before after
+      → Stops left_old left_new before after (Refused (record { at = length u; reason = ReadFault }))
+  too_long : (u rest : List ℕ) → Consumes left_old left_new (u ++ rest) → length u ≡ 2 ^ 62 → 0 < length rest → ListsNoMore u before after
+      → Stops left_old left_new before after (Refused (record { at = length u; reason = InputTooLong }))
+  unwritten : (u rest : List ℕ) → Consumes left_old left_new (u ++ rest) → CutsLine u before after → Stops left_old left_new before after Unwritten
+
+-- What the source has left is listed, up to its end.
+abbrev pub Lists : Option (List ℕ) → Option (List ℕ) → Result Unit Stopped → Option (List ℕ) → Option (List ℕ) → Type 0
+Lists left_old left_new (Ok done) before after = IfSome left_old (λ s. IsListed s None before after)
+Lists left_old left_new (Err stopped) before after = Stops left_old left_new before after stopped
+
+-- 50 is answered where the source counts one failure more, and 51 never
+abbrev pub CountsReason : Reason → ℕ → ℕ → Type 0
+CountsReason ReadFault old new = new ≡ one_more old
+CountsReason WriteFault old new = ⊥
+CountsReason _ old new = new ≡ old
+
+-- the same of a list, which ends at a line where the sink counts one failure more; nowhere else does one count
+abbrev pub CountsStopped : Stopped → ℕ → ℕ → ℕ → ℕ → Type 0
+CountsStopped (Refused f) source_old source_new sink_old sink_new = CountsReason f.reason source_old source_new × (sink_new ≡ sink_old)
+CountsStopped Unwritten source_old source_new sink_old sink_new = (source_new ≡ source_old) × (sink_new ≡ one_more sink_old)
+
+abbrev pub CountsList : Result Unit Stopped → ℕ → ℕ → ℕ → ℕ → Type 0
+CountsList (Ok done) source_old source_new sink_old sink_new = (source_new ≡ source_old) × (sink_new ≡ sink_old)
+CountsList (Err stopped) source_old source_new sink_old sink_new = CountsStopped stopped source_old source_new sink_old sink_new
+
+-- ---- on the way
+
+-- The converter stands after the bytes u, before the bytes of `rest`, and from `before` on the lines of the games so far were written.
+pub record Listed (u rest : List ℕ) (c : Converter) (before now : Option (List ℕ)) : Type 0 where
+  pub tokens : List Token
+  pub stands : Stands list_profile c u (first rest) tokens
+  pub decided : IsDecided u rest tokens
+  pub written : Appends before now (lines_of tokens)
+
+-- a token that the bytes u decide is refused, and the lines of the games before it are written
+pub record ListsToFault (u : List ℕ) (f : Fault) (before after : Option (List ℕ)) : Type 0 where
+  pub tokens : List Token
+  pub next : (s : List ℕ) → (rest : List Token) × (tokens_of (u ++ s) ≡ tokens ++ rest)
+  pub fault : (read list_profile tokens).fault ≡ Some f
+  pub written : Appends before after (lines_of tokens)
+
+-- what a piece comes to that was fed after the bytes u
+abbrev pub AfterPiece : List ℕ → List ℕ → Converter → Result Unit Stopped → Option (List ℕ) → Option (List ℕ) → Type 0
+AfterPiece u piece new (Ok done) before after = Listed (u ++ piece) [] new before after
+AfterPiece u piece new (Err (Refused f)) before after = ListsToFault (u ++ piece) f before after
+AfterPiece u piece new (Err Unwritten) before after = CutsLine (u ++ piece) before after
+
+-- so wherever the lines before the piece began
+abbrev pub ListsPiece : Converter → List ℕ → Converter → Result Unit Stopped → Option (List ℕ) → Option (List ℕ) → Type 0
+ListsPiece old piece new result now after = (u : List ℕ) (before : Option (List ℕ)) → Listed u [] old before now → AfterPiece u piece new result before after
+
+abbrev pub ListsOn : Converter → List ℕ → ℕ → Converter → Option (List ℕ) → Option (List ℕ) → Type 0
+ListsOn old piece at new now after =
+    (u : List ℕ) (before : Option (List ℕ)) → Listed u [] old before now → Listed (u ++ take at piece) (drop at piece) new before after
+
+-- what the end comes to behind the bytes u, which are then the whole text
+abbrev pub AfterLast : List ℕ → Result Unit Stopped → Option (List ℕ) → Option (List ℕ) → Type 0
+AfterLast u (Ok done) before after = IsListed u None before after
+AfterLast u (Err (Refused f)) before after = IsListed u (Some f) before after
+AfterLast u (Err Unwritten) before after = CutsLine u before after
+
+abbrev pub ListsLast : Converter → Result Unit Stopped → Option (List ℕ) → Option (List ℕ) → Type 0
+ListsLast old result now after = (u : List ℕ) (before : Option (List ℕ)) → Listed u [] old before now → AfterLast u result before after
+
+-- what is counted of a piece and of the end, which read nothing more
+abbrev pub CountsSink : Result Unit Stopped → ℕ → ℕ → Type 0
+CountsSink result old new = CountsList result 0 0 old new
+
+-- what was read of a source so far, and listed
+pub record ReadSoFar (left_old left_now : Option (List ℕ)) (c : Converter) (before now : Option (List ℕ)) : Type 0 where
+  pub bytes : List ℕ
+  pub consumed : Consumes left_old left_now bytes
+  pub listed : Listed bytes [] c before now

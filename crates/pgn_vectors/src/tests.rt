@@ -1,0 +1,9 @@
+//! The conformance tests: each vector in each way to convert it, and what no table says.
+mod bytes;
+mod counts;
+mod cuts;
+mod devices;
+mod hand;
+mod limits;
+mod runs;
+mod tables;

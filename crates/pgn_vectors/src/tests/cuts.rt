@@ -1,0 +1,111 @@
+//! Each vector, ended and cut at each of its bytes.
+use crate::tests::runs::{Usual, agrees, converted, feed, finish, tables};
+use crate::{Vector, Verdict};
+use pgn_game::{Fault, Outlet, Totals};
+use std::process::Abort;
+use std::test::Fail;
+
+/// What stands inside the vectors, and is cut at each byte.
+const PARTS: [&str; 6] = ["1/2-1/2", "$255", "\\\"", "\r\n", "\u{feff}", "0-0-0"];
+
+/// Whether an input of the table contains it.
+fn is_contained(part: &str, table: &[Vector]) -> bool {
+    for vector in table {
+        if vector.input.contains(part) {
+            return true;
+        }
+    }
+    false
+}
+
+#[test]
+fn cuts_tokens_of_more_than_one_byte(rt: HostRuntime) {
+    for part in PARTS {
+        let mut found = false;
+        for table in tables() {
+            found = found || is_contained(part, table);
+        }
+        assert!(rt; found, "{part}");
+    }
+}
+
+/// The first bytes come to a front of the output, and with the end behind them to what they come to as a slice.
+fn ends_at(rt: &impl Abort, vector: &Vector, end: usize, text: &mut Vec<u8>, whole: &mut Vec<u8>) {
+    let piece = vector.input.as_bytes().get(..end).unwrap_or_default();
+    let mut converter = Usual::new(vector.mode);
+    text.clear();
+    let fed = feed(&mut converter, piece, &mut Outlet::new(&mut *text));
+    assert!(rt;
+        vector.output.as_bytes().starts_with(text.as_slice()),
+        "{} up to {end}",
+        vector.name
+    );
+    let result = match fed {
+        Ok(plies) => finish(&mut converter, plies, &mut Outlet::new(&mut *text)),
+        Err(fault) => {
+            assert_eq!(rt;
+                Verdict::Refused(fault),
+                vector.verdict,
+                "{} up to {end}",
+                vector.name
+            );
+            Err(fault)
+        }
+    };
+    let expected = converted(piece, vector.mode, whole);
+    assert_eq!(rt; result, expected, "{} up to {end}", vector.name);
+    assert!(rt;
+        text.as_slice() == whole.as_slice(),
+        "{} up to {end}",
+        vector.name
+    );
+}
+
+fn ends(rt: &impl Abort, table: &[Vector], text: &mut Vec<u8>, whole: &mut Vec<u8>) {
+    for vector in table {
+        for end in 0..=vector.input.len() {
+            ends_at(rt, vector, end, text, whole);
+        }
+    }
+}
+
+#[test]
+fn ends_at_each_byte(rt: HostRuntime) {
+    let mut text = Vec::new(rt.alloc());
+    let mut whole = Vec::new(rt.alloc());
+    for table in tables() {
+        ends(&rt, table, &mut text, &mut whole);
+    }
+}
+
+/// Converts the input in two pieces.
+fn cut_at(
+    converter: &mut Usual,
+    input: &[u8],
+    cut: usize,
+    text: &mut Vec<u8>,
+) -> Result<Totals, Fault> {
+    text.clear();
+    let mut out = Outlet::new(text);
+    let first = feed(converter, input.get(..cut).unwrap_or_default(), &mut out)?;
+    let second = feed(converter, input.get(cut..).unwrap_or_default(), &mut out)?;
+    finish(converter, first.saturating_add(second), &mut out)
+}
+
+fn cuts(rt: &impl Abort, table: &[Vector], text: &mut Vec<u8>) {
+    for vector in table {
+        for cut in 0..=vector.input.len() {
+            let mut converter = Usual::new(vector.mode);
+            let run = cut_at(&mut converter, vector.input.as_bytes(), cut, text);
+            agrees(rt, vector, run, text.as_slice());
+        }
+    }
+}
+
+#[test]
+fn takes_each_vector_in_two_pieces(rt: HostRuntime) {
+    let mut text = Vec::new(rt.alloc());
+    for table in tables() {
+        cuts(&rt, table, &mut text);
+    }
+}

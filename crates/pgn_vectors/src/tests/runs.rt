@@ -1,0 +1,131 @@
+//! Runs of the converter, and what they have to come to.
+use crate::{
+    FAULTS, LIMITS, MAIN_LINES, POSITION_FAULTS, POSITIONS, TAG_PAIRS, VARIATIONS, Vector, Verdict,
+};
+use pgn_game::{Converter, Fault, Fed, Mode, Outlet, Reason, Sink, Totals, convert_slice};
+use std::process::Abort;
+
+/// How many bytes a run has at most.
+const LONGEST: u64 = 1 << 60;
+
+/// The section of a game without pairs.
+pub const HEAD: &[u8] =
+    b"[Event \"?\"]\n[Site \"?\"]\n[Date \"????.??.??\"]\n[Round \"?\"]\n[White \"?\"]\n[Black \"?\"]\n[Result \"*\"]\n\n";
+
+/// What `*` gives.
+pub const LONE_MARKER: &[u8] =
+    b"[Event \"?\"]\n[Site \"?\"]\n[Date \"????.??.??\"]\n[Round \"?\"]\n[White \"?\"]\n[Black \"?\"]\n[Result \"*\"]\n\n*\n\n";
+
+/// A converter as the program has it, for 64 pairs and 32 variations in one another.
+pub type Usual = Converter<64, 33>;
+
+/// The tables; each behind a call of its own, so that no proof of a loop sees all their bytes.
+pub fn tables() -> [&'static [Vector]; 7] {
+    [
+        main_lines(),
+        tag_pairs(),
+        variations(),
+        positions(),
+        position_faults(),
+        faults(),
+        limits(),
+    ]
+}
+
+fn main_lines() -> &'static [Vector] {
+    MAIN_LINES
+}
+
+fn tag_pairs() -> &'static [Vector] {
+    TAG_PAIRS
+}
+
+fn variations() -> &'static [Vector] {
+    VARIATIONS
+}
+
+fn positions() -> &'static [Vector] {
+    POSITIONS
+}
+
+fn position_faults() -> &'static [Vector] {
+    POSITION_FAULTS
+}
+
+fn faults() -> &'static [Vector] {
+    FAULTS
+}
+
+fn limits() -> &'static [Vector] {
+    LIMITS
+}
+
+/// Converts the input to the text, which is emptied first.
+pub fn converted(input: &[u8], mode: Mode, text: &mut Vec<u8>) -> Result<Totals, Fault> {
+    text.clear();
+    convert_slice::<64, 33, _>(input, &mut Outlet::new(text), mode)
+}
+
+/// The run came to the vector's verdict and output.
+pub fn agrees(rt: &impl Abort, vector: &Vector, run: Result<Totals, Fault>, text: &[u8]) {
+    assert_eq!(rt; verdict_of(run), vector.verdict, "{}", vector.name);
+    assert!(rt;
+        text == vector.output.as_bytes(),
+        "{}: the text",
+        vector.name
+    );
+}
+
+/// The verdict that a run's result is.
+pub fn verdict_of(run: Result<Totals, Fault>) -> Verdict {
+    match run {
+        Ok(totals) => Verdict::Converted {
+            games: totals.games,
+            plies: totals.plies,
+        },
+        Err(fault) => Verdict::Refused(fault),
+    }
+}
+
+/// Hands the piece in, game by game, and tells how many moves the games have that end in it.
+pub fn feed<W: Sink>(converter: &mut Usual, piece: &[u8], out: &mut W) -> Result<u64, Fault> {
+    let mut rest = piece;
+    let mut plies = 0u64;
+    for _ in 0..LONGEST {
+        match feed_once(converter, rest, out)? {
+            Fed::All => return Ok(plies),
+            Fed::Game(used) => {
+                plies = plies.saturating_add(converter.plies());
+                rest = rest.get(used..).unwrap_or_default();
+            }
+        }
+    }
+    Ok(plies)
+}
+
+/// Hands the piece in up to the end of a game.
+pub fn feed_once<W: Sink>(converter: &mut Usual, piece: &[u8], out: &mut W) -> Result<Fed, Fault> {
+    if converter.is_finished() || converter.count() > LONGEST || piece.len() as u64 > LONGEST {
+        return Err(UNCALLED);
+    }
+    converter.feed(piece, out)
+}
+
+/// Ends the input, and tells what all came to where the games that ended before have so many moves.
+pub fn finish<W: Sink>(converter: &mut Usual, plies: u64, out: &mut W) -> Result<Totals, Fault> {
+    if converter.is_finished() {
+        return Err(UNCALLED);
+    }
+    converter.finish(out)?;
+    Ok(Totals {
+        games: converter.games(),
+        plies: plies.saturating_add(converter.plies()),
+        most_probes: converter.most_probes(),
+    })
+}
+
+/// What no run of these tests answers: the call was not made.
+const UNCALLED: Fault = Fault {
+    at: 0,
+    reason: Reason::Changed,
+};

@@ -1,0 +1,119 @@
+//! Each vector, in each way to convert it.
+use crate::tests::runs::{LONE_MARKER, Usual, agrees, converted, feed, finish, tables};
+use crate::{FAULTS, Vector, Verdict};
+use pgn_game::{Fault, Inlet, Outlet, Reason, Totals, convert};
+use std::process::Abort;
+use std::test::Fail;
+
+fn converts(rt: &impl Abort, table: &[Vector], text: &mut Vec<u8>) {
+    for vector in table {
+        let run = converted(vector.input.as_bytes(), vector.mode, text);
+        agrees(rt, vector, run, text.as_slice());
+    }
+}
+
+#[test]
+fn converts_each_vector(rt: HostRuntime) {
+    let mut text = Vec::new(rt.alloc());
+    for table in tables() {
+        converts(&rt, table, &mut text);
+    }
+}
+
+fn reads(rt: &impl Abort, table: &[Vector], text: &mut Vec<u8>) {
+    for vector in table {
+        text.clear();
+        let mut source = Inlet::new(vector.input.as_bytes());
+        let mut out = Outlet::new(&mut *text);
+        let run = convert::<64, 33, _, _>(&mut source, &mut out, vector.mode);
+        agrees(rt, vector, run, text.as_slice());
+    }
+}
+
+#[test]
+fn reads_each_vector(rt: HostRuntime) {
+    let mut text = Vec::new(rt.alloc());
+    for table in tables() {
+        reads(&rt, table, &mut text);
+    }
+}
+
+/// Converts the bytes one by one.
+fn drip(converter: &mut Usual, input: &[u8], text: &mut Vec<u8>) -> Result<Totals, Fault> {
+    text.clear();
+    let mut out = Outlet::new(text);
+    let mut plies = 0u64;
+    for byte in input {
+        plies = plies.saturating_add(feed(converter, &[*byte], &mut out)?);
+    }
+    finish(converter, plies, &mut out)
+}
+
+fn takes_bytes(rt: &impl Abort, table: &[Vector], text: &mut Vec<u8>) {
+    for vector in table {
+        let mut converter = Usual::new(vector.mode);
+        let run = drip(&mut converter, vector.input.as_bytes(), text);
+        agrees(rt, vector, run, text.as_slice());
+    }
+}
+
+#[test]
+fn takes_each_vector_byte_by_byte(rt: HostRuntime) {
+    let mut text = Vec::new(rt.alloc());
+    for table in tables() {
+        takes_bytes(&rt, table, &mut text);
+    }
+}
+
+/// The output of each input that is converted comes to the same verdict and to itself.
+fn gives_itself(rt: &impl Abort, table: &[Vector], text: &mut Vec<u8>) {
+    for vector in table {
+        if let Verdict::Refused(_) = vector.verdict {
+            continue;
+        }
+        let run = converted(vector.output.as_bytes(), vector.mode, text);
+        if vector.name == "64 pairs" {
+            // with the roster there are 71 tag lines
+            let reason = Reason::TooManyTags;
+            assert_eq!(rt; run, Err(Fault { at: 662, reason }));
+        } else {
+            agrees(rt, vector, run, text.as_slice());
+        }
+    }
+}
+
+#[test]
+fn converts_each_output_to_itself(rt: HostRuntime) {
+    let mut text = Vec::new(rt.alloc());
+    for table in tables() {
+        gives_itself(&rt, table, &mut text);
+    }
+}
+
+/// The result, which is that of the vector behind `* `, is a fault at the same token.
+fn is_refused_behind(rt: &impl Abort, vector: &Vector, run: Result<Totals, Fault>) {
+    match vector.verdict {
+        Verdict::Refused(fault) => {
+            let at = fault.at.saturating_add(2);
+            let reason = fault.reason;
+            assert_eq!(rt; run, Err(Fault { at, reason }), "{}", vector.name);
+        }
+        Verdict::Converted { .. } => assert!(rt; false, "{}", vector.name),
+    }
+}
+
+#[test]
+fn refuses_each_fault_behind_a_game(rt: HostRuntime) -> Result<(), Fail> {
+    let mut input = Vec::new(rt.alloc());
+    let mut text = Vec::new(rt.alloc());
+    for vector in FAULTS {
+        input.clear();
+        input.extend_from_slice(b"* ")?;
+        input.extend_from_slice(vector.input.as_bytes())?;
+        let result = converted(input.as_slice(), vector.mode, &mut text);
+        is_refused_behind(&rt, vector, result);
+        let rest = text.as_slice().strip_prefix(LONE_MARKER);
+        assert!(rt; rest == Some(vector.output.as_bytes()), "{}", vector.name);
+    }
+    Ok(())
+}
