@@ -28,12 +28,12 @@ pub fn candidates_are_few()
     ensures { FewCandidates }
 {}
 
-/// A pair is legal with one promotion exactly if it is legal with each other one.
+/// In a position a pair is legal with one promotion exactly if it is legal with each other one.
 pub fn promotions_are_alike()
     ensures { PromotionsAlike }
 {}
 
-/// A king of one colour stands on one square alone.
+/// In a position a king of one colour stands on one square alone.
 pub fn one_king_a_side()
     ensures { OneKing }
 {}

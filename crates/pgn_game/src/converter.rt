@@ -152,8 +152,8 @@ impl<const T: usize, const L: usize> Converter<T, L> {
         }
     }
 
-    /// Ends the input: converts what is left, and tells whether that finished a game. Answers a fault as `feed` does, and 42 where the
-    /// input ends in a game.
+    /// Ends the input: converts what is left, and tells whether that finished a game. Answers a fault as `feed` does; where the input ends
+    /// in movetext or behind a whole tag pair that is 42, and inside a pair 20, 24 or 28.
     pub fn finish<W: Sink>(&mut self, out: &mut W) -> Result<bool, Fault>
         requires going { self.old.is_finished ≡ false }
         ensures ends { Ends self.old self.new result (W.taken out.old) (W.taken out.new) }
@@ -195,7 +195,7 @@ impl<const T: usize, const L: usize> Converter<T, L> {
         None
     }
 
-    /// How many moves outside variations the game at hand has; 0 while none is.
+    /// How many moves outside variations the game at hand has, each side's counted as one; 0 while none is.
     pub fn plies(&self) -> u64
         ensures { result ≡ plies_at_hand self.now }
     {

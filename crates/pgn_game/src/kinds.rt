@@ -42,7 +42,12 @@ pub fn is_tag_name(name: &[u8]) -> bool
 pub fn is_score(text: &[u8]) -> bool
     ensures { result ≡ is_any_score text.now }
 {
-    text == b"1-0".as_slice() || text == b"0-1".as_slice() || text == b"1/2-1/2".as_slice()
+    // Most symbols are moves, and differ in the first byte.
+    match text.first() {
+        Some(b'1') => text == b"1-0".as_slice() || text == b"1/2-1/2".as_slice(),
+        Some(b'0') => text == b"0-1".as_slice(),
+        _ => false,
+    }
 }
 
 /// Whether the text is one of the four markers (PGN 8.2.6).

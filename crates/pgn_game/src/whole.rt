@@ -20,9 +20,9 @@ const LONGEST: u64 = 1 << 62;
 pub struct Totals {
     /// How many games.
     pub games: u64,
-    /// How many moves outside variations they have together.
+    /// How many moves outside variations they have together, each side's counted as one.
     pub plies: u64,
-    /// The most pairs of squares that were tried for one move.
+    /// The most pairs of an origin and a target that were tried for one move, for its SAN and its mark too; at most 1,040.
     pub most_probes: u32,
 }
 

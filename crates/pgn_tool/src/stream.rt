@@ -19,8 +19,8 @@ pub const LEVELS: usize = 33;
 /// Carries out the task on what the source gives, and answers the exit status.
 ///
 /// 0: no fault was met. `out` has what the task writes, and is flushed once, at the end; `err` has nothing.
-/// 1: a fault was met, whose line `err` has; or `out` could not take the line of `check`, or be flushed, and `err`
-/// says so. Of an export, what stands before the fault was written; of a check, nothing.
+/// 1: a fault was met, whose line `err` has; or `out` could not take a line of `check` or `list`, or be flushed, and `err`
+/// says so. Of an export, what is due before the fault was written; of a list, the lines of the games before it; of a check, nothing.
 ///
 /// The first fault is told alone, and a failure of `err` changes no status.
 pub fn run_stream<R: Source, O: Sink, E: Sink>(

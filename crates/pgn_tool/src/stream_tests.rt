@@ -178,9 +178,21 @@ fn exports(rt: HostRuntime) {
 
 #[test]
 fn checks(rt: HostRuntime) {
-    let rows: [(&'static [u8], u8, &[u8], &[u8]); 4] = [
+    let rows: [(&'static [u8], u8, &[u8], &[u8]); 6] = [
         (b"", 0, b"games: 0, plies: 0\n", b""),
         (TWO, 0, b"games: 2, plies: 0\n", b""),
+        (
+            b"1. e4 (1. d4 d5) (1. c4) e5 *",
+            0,
+            b"games: 1, plies: 2\n",
+            b"",
+        ),
+        (
+            b"1. e4 e5 2. Ke3 *",
+            1,
+            b"",
+            b"byte 12: move is not legal\n",
+        ),
         (
             b"1-0",
             1,
