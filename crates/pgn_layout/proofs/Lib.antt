@@ -1,4 +1,5 @@
 mod Escaping
+mod LawRows
 mod LinesHold
 mod Putting
 mod Writing

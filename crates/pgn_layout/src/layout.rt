@@ -1,5 +1,5 @@
 //! Tag pairs and movetext tokens on lines.
-ghost use Rattle.std.specs.Prelude.{◌≡◌, ◌+◌, ◌≤◌, [], ◌∷◌, ◌++◌, length, false, OnOk, OnErr};
+ghost use Rattle.std.specs.Prelude.{◌≡◌, ◌+◌, ◌≤◌, [], ◌∷◌, ◌++◌, length, false, OnOk};
 ghost use Rattle.pgn_layout.specs.Device.{Writes};
 ghost use Rattle.pgn_layout.specs.TagLine.{escaped};
 ghost use Rattle.pgn_layout.specs.Lines.{IsToken};
@@ -13,13 +13,16 @@ use std::marker::Model;
 /// The longest line of movetext, without its LF (PGN 8.2.1).
 const LINE_LENGTH: usize = 79;
 
+/// The same line with its LF.
+const LINE_WITH_LF_LENGTH: usize = LINE_LENGTH + 1;
+
 /// Writes tag pairs, and sets movetext tokens on lines. It holds the line that is not full yet.
 ///
 /// After a call answered [`WriteFault`], a front of its text was written and not all of it, and each later call that takes a sink answers
 /// `WriteFault` again and leaves the sink as it is.
 #[derive(Drop)]
 pub struct Layout {
-    line: ArrayVec<u8, LINE_LENGTH>,
+    line: ArrayVec<u8, LINE_WITH_LF_LENGTH>,
     has_failed: bool,
 }
 
@@ -114,13 +117,11 @@ impl Layout {
 }
 
 // Sets the bytes at the line's end.
-fn append(line: &mut ArrayVec<u8, LINE_LENGTH>, token: &[u8])
+fn append(line: &mut ArrayVec<u8, LINE_WITH_LF_LENGTH>, token: &[u8])
     requires { length line.old.items + length token.now ≤ 79 }
     ensures { line.new.items ≡ line.old.items ++ token.now }
 {
-    for byte in token {
-        line.push(*byte);
-    }
+    let _ = line.try_extend_from_slice(token);
 }
 
 // Writes the text, unless a write has failed.
@@ -136,19 +137,20 @@ fn write<W: Sink>(has_failed: &mut bool, text: &[u8], out: &mut W) -> Result<(),
     written
 }
 
-// Writes the line with LF, and makes it empty.
+// Writes the line with LF in one write, and makes it empty, also where the write failed.
 fn write_line<W: Sink>(
     has_failed: &mut bool,
-    line: &mut ArrayVec<u8, LINE_LENGTH>,
+    line: &mut ArrayVec<u8, LINE_WITH_LF_LENGTH>,
     out: &mut W,
 ) -> Result<(), WriteFault>
-    ensures text { has_failed.old ≡ false → Writes (W.taken out.old) (W.taken out.new) result (line.old.items ++ 10 ∷ []) }
+    requires { length line.old.items ≤ 79 }
+    ensures text { has_failed.old ≡ false →
+        Writes (W.taken out.old) (W.taken out.new) result (line.old.items ++ 10 ∷ []) }
     ensures faults { Fails W.failures has_failed.old has_failed.new out.old out.new result }
-    ensures empty { OnOk result (line.new.items ≡ []) }
-    ensures kept { OnErr result (line.new ≡ line.old) }
+    ensures empty { line.new.items ≡ [] }
 {
-    write(has_failed, line.as_slice(), out)?;
-    write(has_failed, b"\n", out)?;
+    line.push(b'\n');
+    let answer = write(has_failed, line.as_slice(), out);
     line.clear();
-    Ok(())
+    answer
 }

@@ -7,6 +7,7 @@ mod Data
 mod Deciding
 mod Existing
 mod Glyphs
+mod LawRows
 mod Marks
 mod Outside
 mod Placing

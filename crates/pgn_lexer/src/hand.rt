@@ -133,6 +133,7 @@ impl Hand {
     }
 
     /// Uses the piece, which begins at the place, up to the end of the first token. A refused byte is used too.
+    #[inline(always)]
     pub(crate) fn run(&mut self, piece: &[u8], place: u64) -> (usize, Found)
         requires room { place + length piece.now ≤ 2 ^ 62 }
         requires sound { IsSound place self.old }
@@ -147,6 +148,7 @@ impl Hand {
     }
 
     /// From between tokens on: white space, and the token after it.
+    #[inline(always)]
     fn run_outside(&mut self, piece: &[u8], place: u64) -> (usize, Found)
         requires room { place + length piece.now ≤ 2 ^ 62 }
         requires outside { IsOutside self.old.mode }
@@ -185,6 +187,7 @@ impl Hand {
     }
 
     /// On in a symbol.
+    #[inline(always)]
     fn run_symbol(&mut self, piece: &[u8], from: usize) -> (usize, Found)
         requires within { from ≤ length piece.now }
         requires symbol { self.old.mode ≡ Mode.Symbol }
@@ -201,6 +204,7 @@ impl Hand {
     }
 
     /// On in a string.
+    #[inline(always)]
     fn run_string(&mut self, piece: &[u8], from: usize, place: u64) -> (usize, Found)
         requires room { place + length piece.now ≤ 2 ^ 62 }
         requires within { from ≤ length piece.now }
@@ -229,6 +233,7 @@ impl Hand {
     }
 
     /// From between the words of a comment in braces on: white space, and the word after it.
+    #[inline(always)]
     fn run_brace(&mut self, piece: &[u8], place: u64) -> (usize, Found)
         requires room { place + length piece.now ≤ 2 ^ 62 }
         requires brace { self.old.mode ≡ Mode.Brace }
@@ -257,6 +262,7 @@ impl Hand {
     }
 
     /// On in a word of a comment in braces.
+    #[inline(always)]
     fn run_word(&mut self, piece: &[u8], from: usize) -> (usize, Found)
         requires within { from ≤ length piece.now }
         requires word { self.old.mode ≡ Mode.BraceWord }
@@ -272,7 +278,9 @@ impl Hand {
         (used, Found::Nothing)
     }
 
-    /// On from so many bytes of the piece, in any mode.
+    /// On from so many bytes of the piece, in any mode. Few tokens come here, so it stays out of
+    /// line.
+    #[inline(never)]
     fn run_on(&mut self, piece: &[u8], from: usize, place: u64) -> (usize, Found)
         requires room { place + length piece.now ≤ 2 ^ 62 }
         requires within { from ≤ length piece.now }
@@ -302,6 +310,7 @@ impl Hand {
     }
 
     /// The token of this form, whose place and text stand in the hand.
+    #[inline(always)]
     pub(crate) fn token(&self, form: Form) -> Token<'_>
         ensures at { result.at ≡ self.now.at }
         ensures kind { kind_of result.kind ≡ kind_in form self.now.text }

@@ -53,6 +53,7 @@ impl Lexer {
     /// Answers `NeedMore` where no token ends in the piece: the whole piece is used. Answers `Fault` where the text
     /// is refused; the bytes used go up to and with the one that showed it. From then on every call answers the same
     /// and uses no byte. Not to be called after `finish`.
+    #[inline(always)]
     pub fn next(&mut self, piece: &[u8]) -> Scan<'_>
         requires { self.old.count + length piece.now ≤ 2 ^ 62 }
         ensures used { result.used ≤ length piece.now }

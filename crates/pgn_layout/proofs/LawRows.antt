@@ -1,0 +1,144 @@
+-- Worked rows of the laws of lines (PGN 8.2.1, 8.2.6), with their premises and without.
+use Rattle.std.proofs.Common.{◌≡◌, ℕ, ◌<◌, ◌≤◌, List, [], ◌∷◌, ◌++◌, map, length, refl, sym, ap, arith, length-append}
+use Rattle.std.specs.Prelude.{◌↔◌, All, codes, replicate}
+use Rattle.std.proofs.lemmas.List.Elements.{All-cons, All-nil}
+use Rattle.pgn_layout.specs.Lines.{Line, AreFull, IsToken, Lines, full_lines, last_line, lines_of, spaced, text_of, tokens_over}
+use Rattle.pgn_layout.specs.Layout.{EndGame, Put, laid_from}
+use Rattle.pgn_layout.specs.Laws.{LinesAreThosePut, TokensDetermineLines}
+
+-- a token of so many bytes
+abbrev letters : ℕ → List ℕ
+letters n = replicate n 97
+
+abbrev token : (t : List ℕ) → 0 < length t → length t ≤ 79 → IsToken t
+token t not_empty fits = record { not_empty = not_empty; fits = fits }
+
+one_fits : (t : List ℕ) → IsToken t → All IsToken (t ∷ [])
+one_fits t it = All-cons IsToken t [] it (All-nil IsToken)
+
+two_fit : (t u : List ℕ) → IsToken t → IsToken u → All IsToken (t ∷ u ∷ [])
+two_fit t u it iu = All-cons IsToken t (u ∷ []) it (one_fits u iu)
+
+fit_whole : All IsToken (letters 79 ∷ [])
+fit_whole = one_fits _ (token _ (omega arith) (omega arith))
+
+fit_79 : All IsToken (letters 40 ∷ letters 38 ∷ [])
+fit_79 = two_fit _ _ (token _ (omega arith) (omega arith)) (token _ (omega arith) (omega arith))
+
+fit_80 : All IsToken (letters 40 ∷ letters 39 ∷ [])
+fit_80 = two_fit _ _ (token _ (omega arith) (omega arith)) (token _ (omega arith) (omega arith))
+
+few_fit : All IsToken (codes "e4" ∷ codes "e5" ∷ [])
+few_fit = two_fit _ _ (token _ (omega arith) (omega arith)) (token _ (omega arith) (omega arith))
+
+-- Without tokens there is no line.
+no_line : Lines [] []
+no_line = record { parts = []; in_order = refl; texts = refl; full = tt }
+
+-- A token of 79 bytes fills its line.
+full_token : Lines (letters 79 ∷ []) (letters 79 ∷ [])
+full_token = record { parts = record { first = letters 79; others = [] } ∷ []; in_order = refl; texts = refl; full = omega arith }
+
+-- 40 bytes, a space and 38 bytes are 79 bytes: one line.
+full_line : Lines (letters 40 ∷ letters 38 ∷ []) ((letters 40 ++ 32 ∷ letters 38) ∷ [])
+full_line = record { parts = record { first = letters 40; others = letters 38 ∷ [] } ∷ []; in_order = refl; texts = refl; full = omega arith }
+
+-- 40 bytes, a space and 39 bytes are 80 bytes: two lines.
+two_lines : Lines (letters 40 ∷ letters 39 ∷ []) (letters 40 ∷ letters 39 ∷ [])
+two_lines = record {
+  parts = record { first = letters 40; others = [] } ∷ record { first = letters 39; others = [] } ∷ [];
+  in_order = refl;
+  texts = refl;
+  full = (omega arith, omega arith, omega arith);
+}
+
+-- The law at these tokens, in both directions.
+
+full_token_by_law : TokensDetermineLines → Lines (letters 79 ∷ []) (letters 79 ∷ [])
+full_token_by_law law = (law (letters 79 ∷ []) (letters 79 ∷ []) fit_whole).1 refl
+
+full_line_by_law : TokensDetermineLines → Lines (letters 40 ∷ letters 38 ∷ []) ((letters 40 ++ 32 ∷ letters 38) ∷ [])
+full_line_by_law law = (law _ ((letters 40 ++ 32 ∷ letters 38) ∷ []) fit_79).1 refl
+
+two_lines_by_law : TokensDetermineLines → lines_of (letters 40 ∷ letters 39 ∷ []) ≡ letters 40 ∷ letters 39 ∷ []
+two_lines_by_law law = sym ((law _ _ fit_80).0 two_lines)
+
+-- A line of 80 bytes is none, though its tokens are in order.
+line_of_80 : TokensDetermineLines → Lines (letters 40 ∷ letters 39 ∷ []) ((letters 40 ++ 32 ∷ letters 39) ∷ []) → ⊥
+line_of_80 law h = absurd (omega (arith, ap length ((law _ _ fit_80).0 h)))
+
+-- A line that could have taken the next token is none.
+line_with_room : TokensDetermineLines → Lines (letters 40 ∷ letters 38 ∷ []) (letters 40 ∷ letters 38 ∷ []) → ⊥
+line_with_room law h = absurd (omega (arith, ap length ((law _ _ fit_79).0 h)))
+
+-- the bytes of the first line
+abbrev first_of : List (List ℕ) → List ℕ
+first_of [] = []
+first_of (l ∷ ls) = l
+
+-- the second byte
+abbrev second : List ℕ → ℕ
+second (a ∷ b ∷ bs) = b
+second _ = 0
+
+other_order : TokensDetermineLines → Lines (codes "e4" ∷ codes "e5" ∷ []) (codes "e5 e4" ∷ []) → ⊥
+other_order law h = absurd (omega (arith, ap (λ ls. second (first_of ls)) ((law _ _ few_fit).0 h)))
+
+two_spaces : TokensDetermineLines → Lines (codes "e4" ∷ codes "e5" ∷ []) (codes "e4  e5" ∷ []) → ⊥
+two_spaces law h = absurd (omega (arith, ap (λ ls. length (first_of ls)) ((law _ _ few_fit).0 h)))
+
+empty_line : TokensDetermineLines → Lines (codes "e4" ∷ codes "e5" ∷ []) (codes "e4 e5" ∷ [] ∷ []) → ⊥
+empty_line law h = absurd (omega (arith, ap length ((law _ _ few_fit).0 h)))
+
+lost_token : TokensDetermineLines → Lines (codes "e4" ∷ codes "e5" ∷ []) (codes "e4" ∷ []) → ⊥
+lost_token law h = absurd (omega (arith, ap (λ ls. length (first_of ls)) ((law _ _ few_fit).0 h)))
+
+-- A token of more than 79 bytes has no lines.
+no_line_takes : (t : List ℕ) → 79 < length t → (parts : List Line) → tokens_over parts ≡ t ∷ [] → AreFull parts → ⊥
+no_line_takes t long [] e full = absurd (omega (arith, ap length e))
+no_line_takes t long (l ∷ []) e full =
+    absurd (omega (arith, long, full, ap (λ ts. length (first_of ts)) e, length-append l.first (spaced l.others)))
+no_line_takes t long (l ∷ m ∷ ls) e full =
+    absurd (omega (arith, long, full.0, ap (λ ts. length (first_of ts)) e, length-append l.first (spaced l.others)))
+
+long_token : (lines : List (List ℕ)) → Lines (letters 80 ∷ []) lines → ⊥
+long_token lines h = no_line_takes (letters 80) (omega arith) h.parts h.in_order h.full
+
+-- So the law is false for tokens of 80 bytes, and without its premise.
+fails_at_80 :
+    ((tokens lines : List (List ℕ)) → All (λ t. (0 < length t) × (length t ≤ 80)) tokens →
+    Lines tokens lines ↔ (lines ≡ lines_of tokens)) → ⊥
+fails_at_80 law =
+    let P : List ℕ → Type 0 = λ t. (0 < length t) × (length t ≤ 80) in
+    long_token _ ((law (letters 80 ∷ []) _ (All-cons P _ [] (omega arith, omega arith) (All-nil P))).1 refl)
+
+fails_unless_tokens_fit : ((tokens lines : List (List ℕ)) → Lines tokens lines ↔ (lines ≡ lines_of tokens)) → ⊥
+fails_unless_tokens_fit law = long_token _ ((law (letters 80 ∷ []) _).1 refl)
+
+-- What is put on lines: the full line goes out, and the last one is held.
+put_in_turn :
+    LinesAreThosePut →
+    (laid_from [] (Put (letters 40) ∷ Put (letters 39) ∷ []) ≡ record { written = letters 40 ++ 10 ∷ []; line = letters 39 })
+    × (laid_from [] (Put (letters 40) ∷ Put (letters 39) ∷ EndGame ∷ [])
+    ≡ record { written = letters 40 ++ 10 ∷ letters 39 ++ 10 ∷ 10 ∷ []; line = [] })
+put_in_turn law = law _ _ fit_80 two_lines
+
+-- what that law says of tokens and lines
+abbrev ArePut : List (List ℕ) → List (List ℕ) → Type 0
+ArePut tokens lines = laid_from [] (map Put tokens) ≡ record { written = text_of (full_lines lines); line = last_line lines }
+
+-- It is false without the premise that the lines are those of the tokens.
+fails_at_other_lines : ((tokens lines : List (List ℕ)) → All IsToken tokens → ArePut tokens lines) → ⊥
+fails_at_other_lines law = absurd (omega (arith, ap (λ l. length l.line) (law (codes "e4" ∷ codes "e5" ∷ []) (codes "e4" ∷ []) few_fit)))
+
+-- It is false for an empty token: that has lines, but the space after it is not put.
+empty_token : Lines ([] ∷ codes "e4" ∷ []) (codes " e4" ∷ [])
+empty_token = record { parts = record { first = []; others = codes "e4" ∷ [] } ∷ []; in_order = refl; texts = refl; full = omega arith }
+
+fails_unless_tokens_are_not_empty :
+    ((tokens lines : List (List ℕ)) → All (λ t. length t ≤ 79) tokens → Lines tokens lines → ArePut tokens lines) → ⊥
+fails_unless_tokens_are_not_empty law =
+    let P : List ℕ → Type 0 = λ t. length t ≤ 79 in
+    let word : All P (codes "e4" ∷ []) = All-cons P (codes "e4") [] (omega arith) (All-nil P) in
+    let each : All P ([] ∷ codes "e4" ∷ []) = All-cons P [] (codes "e4" ∷ []) (omega arith) word in
+    absurd (omega (arith, ap (λ l. length l.line) (law _ _ each empty_token)))
