@@ -91,7 +91,7 @@ between_gone Up a k room started = by_tests (nat_lt a (a + k)) (goes_up a k star
     by_tests : (x : Bool) → x ≡ true → (if x then Up else if nat_lt (a + k) a then Down else Stay) ≡ Up
     by_tests x e = rw e refl
 
-direction_gone : (d : Direction) (t : Square) (i j : ℕ) → fits d t i j ≡ true → 0 < i → 0 < j → direction_between t (further d t i j) ≡ d
+pub direction_gone : (d : Direction) (t : Square) (i j : ℕ) → fits d t i j ≡ true → 0 < i → 0 < j → direction_between t (further d t i j) ≡ d
 direction_gone d t i j room first second =
     ap₂ (λ f r. record { files = f; ranks = r })
     (between_gone d.files t.file i (first_true _ _ room) first) (between_gone d.ranks t.rank j (second_true (has_room d.files t.file i) _ room) second)

@@ -242,3 +242,13 @@ safe_from_legal p m b on h legal = by_test (king_attacked b (other (other p.side
     by_test : (x : Bool) → king_attacked b (other (other p.side)) ≡ x → x ≡ false
     by_test false is = refl
     by_test true is = cc (sym legal ∙ ap is_some (not_legal_when p m b on h is))
+
+-- whether the step gives check, seen from where the other king stands then
+pub check_is_seen : (p : Parts) (m : Move) (b : Board) (k : Square) → is_position p ≡ true → is_on_board m ≡ true → board_after p m ≡ Some b
+    → k ≡ king_after (king_square (other p.side) p.board) m → king_attacked b (other p.side) ≡ is_attacked b p.side k
+check_is_seen p m b k position on h is =
+    let sound : Sound p = sound_from_position p position in
+    let stays : Stays p m b = board_stays p m b sound on h in
+    king_attacked_there (other p.side) b stays.long (stays.kings_of (other p.side))
+    ∙ (ap (λ c. is_attacked b c (king_square (other p.side) b)) (other-other p.side)
+    ∙ ap (is_attacked b p.side) (sym (is ∙ king_moves p m b (other p.side) sound on h)))

@@ -1,5 +1,5 @@
 pub mod Squares
-pub mod CellLemmas
+pub mod WordLemmas
 pub mod Between
 pub mod Rays
 pub mod Sight
@@ -11,7 +11,6 @@ pub mod Sound
 pub mod Stays
 pub mod Steps
 pub mod Leaves
-pub mod Quiet
 pub mod Apart
 pub mod Complete
 mod Drawn
@@ -23,3 +22,9 @@ pub mod Promotions
 pub mod Totals
 pub mod Trying
 pub mod Places
+pub mod Extremes
+pub mod FirstOn
+pub mod Sets
+pub mod Attackers
+pub mod Origins
+pub mod Homes

@@ -1,13 +1,18 @@
 -- The tables of squares hold what is said of each square.
 use Rattle.std.proofs.Common.{◌≡◌, ℕ, zero, suc, ◌+◌, ◌*◌, ◌/◌, ◌%◌, ◌<◌, Bool, true, false, List, [], ◌∷◌, refl, sym, ◌∙◌, ap, ap₂, arith, get_or}
-use Rattle.std.specs.Prelude.{map, None, Some, nat_lt, if◌then◌else◌}
+use Rattle.std.specs.Prelude.{◌==◌, map, None, Some, nat_lt, if◌then◌else◌}
 use Rattle.std.proofs.lemmas.Bool.Decides.{nat_tests}
 use Rattle.chess_rules.specs.declared.direction.Shift.{Shift}
 use Rattle.chess_rules.specs.declared.direction.Shift.TheVariants.{Down, Stay, Up}
 use Rattle.chess_rules.specs.declared.direction.Direction.{Direction}
 use Rattle.chess_rules.specs.Square.{Square}
+use Rattle.std.specs.List.{range_with_len}
+use Rattle.std.proofs.lemmas.List.FromFn.{get_or-range_with_len, length-range_with_len}
 use Rattle.chess_rules.specs.Board.{cell_of}
-use Rattle.chess_rules.specs.Walk.{square_at, square_there, has_room, further, fits, stepped, shift_number, direction_number, shift_numbered, direction_numbered, place_or_none, next_place, landing, landing_place}
+use Rattle.chess_rules.specs.Again.{digit, word_bit}
+use Rattle.chess_rules.specs.Masks.{ray_mask}
+use Rattle.chess_rules.specs.Words.{has, mask, Places}
+use Rattle.chess_rules.specs.Walk.{square_at, square_there, has_room, further, fits, stepped, shift_number, direction_number, shift_numbered, direction_numbered, place_or_none, lies_on, landing, landing_place}
 use Rattle.chess_rules.proofs.Squares.{first_true, second_true}
 use Rattle.chess_rules.proofs.Kings.{square_at-cell_of}
 use Rattle.chess_rules.proofs.Sight.{gone_below}
@@ -62,7 +67,7 @@ shift_low Down = omega arith
 shift_low Stay = omega arith
 shift_low Up = omega arith
 
-direction_again : (d : Direction) → direction_numbered (direction_number d) ≡ d
+pub direction_again : (d : Direction) → direction_numbered (direction_number d) ≡ d
 direction_again d =
     let low : shift_number d.ranks < 3 = shift_low d.ranks in
     let first : (3 * shift_number d.files + shift_number d.ranks) / 3 ≡ shift_number d.files = omega arith in
@@ -70,13 +75,28 @@ direction_again d =
     ap₂ (λ m n. record { files = shift_numbered m; ranks = shift_numbered n }) first second
     ∙ ap₂ (λ f r. record { files = f; ranks = r }) (shift_again d.files) (shift_again d.ranks)
 
-pub next_place_is : (d : Direction) (s : Square) → s.file < 8 → s.rank < 8 → next_place (64 * direction_number d + cell_of s) ≡ place_or_none (stepped d s 1 1)
-next_place_is d s file rank =
+-- A set of squares in a table.
+
+is_one : (b : Bool) → (digit b == 1) ≡ b
+is_one true = refl
+is_one false = refl
+
+mask_has : (test : Square → Bool) (i : ℕ) → i < 64 → has (mask test) i ≡ test (square_at i)
+unfolding has mask
+mask_has test i low =
+    ap (λ n. n == 1) (word_bit (λ k. test (square_at k)) (range_with_len 0 64) i 0 (omega (arith, length-range_with_len 0 64)))
+    ∙ (is_one (test (square_at (get_or (range_with_len 0 64) i 0)))
+    ∙ ap (λ k. test (square_at k)) (get_or-range_with_len 0 64 i 0 low ∙ omega arith))
+
+pub places : (test : Square → Bool) (n : ℕ) → n ≡ mask test → Places n test
+places test n is = record { of = λ i low. ap (λ m. has m i) is ∙ mask_has test i low }
+
+pub ray_mask_is : (d : Direction) (s : Square) → s.file < 8 → s.rank < 8 → ray_mask (64 * direction_number d + cell_of s) ≡ mask (lies_on d s)
+unfolding ray_mask
+ray_mask_is d s file rank =
     let low : cell_of s < 64 = omega arith in
-    let first : (64 * direction_number d + cell_of s) / 64 ≡ direction_number d = quotient (direction_number d) (cell_of s) low in
-    let second : (64 * direction_number d + cell_of s) % 64 ≡ cell_of s = rest (direction_number d) (cell_of s) low in
-    ap₂ (λ m n. place_or_none (stepped (direction_numbered m) (square_at n) 1 1)) first second
-    ∙ ap₂ (λ e u. place_or_none (stepped e u 1 1)) (direction_again d) (square_at-cell_of s file)
+    ap₂ (λ m n. mask (lies_on (direction_numbered m) (square_at n))) (quotient (direction_number d) (cell_of s) low) (rest (direction_number d) (cell_of s) low)
+    ∙ ap₂ (λ e u. mask (lies_on e u)) (direction_again d) (square_at-cell_of s file)
   where
     quotient : (m n : ℕ) → n < 64 → (64 * m + n) / 64 ≡ m
     quotient m n h = omega arith

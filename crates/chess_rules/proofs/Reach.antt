@@ -17,7 +17,7 @@ use Rattle.chess_rules.specs.declared.piece.Piece.{Piece}
 use Rattle.chess_rules.specs.Square.{Square, square, gap, same_square, in_line, is_jump, on_diagonal}
 use Rattle.chess_rules.specs.Board.{Board, at, is_empty, has_colour, has_piece, same_colour, same_kind, kind_number}
 use Rattle.chess_rules.specs.Attacks.{is_clear, is_ahead, kind_attacks, cell_attacks, attacks, is_attacked}
-use Rattle.chess_rules.specs.Walk.{along, is_aligned, gone, has_room, further, fits, stepped, first_on, shift_between, direction_between, reaches, reaches_with, attacked_from, attacked_along, knight_on, attacked_by_jump}
+use Rattle.chess_rules.specs.Walk.{along, is_aligned, gone, has_room, further, fits, stepped, first_on, shift_between, direction_between, reaches, reaches_with, attacked_from, attacked_along, is_there, knight_on, attacked_by_jump}
 use Rattle.chess_rules.proofs.Squares.{split_or, or_first, or_second, first_true, second_true, both_true, same_tests, Passes, some_square, any_square}
 use Rattle.chess_rules.proofs.Between.{equal_from, equal_tests, clear_from_walk}
 use Rattle.chess_rules.proofs.Rays.{seen_from_first, first_from_seen}
@@ -359,10 +359,6 @@ pub squares_same : (s t : Square) → same_square s t ≡ true → s ≡ t
 squares_same s t h = ap₂ square (equal_from _ _ (first_true (s.file == t.file) _ h)) (equal_from _ _ (second_true (s.file == t.file) _ h))
 
 -- The way is clear exactly if the walk back ends where it set out for.
-
-abbrev pub is_there : Option Square → Square → Bool
-is_there None s = false
-is_there (Some u) s = same_square u s
 
 pub clear_test : (b : Board) (s t : Square) → s.file < 8 → s.rank < 8 → t.file < 8 → t.rank < 8 → is_aligned s t ≡ true → is_empty b s ≡ false → is_clear b s t ≡ is_there (first_on b (direction_between t s) t) s
 clear_test b s t sf sr tf tr aligned occupied = same_tests _ _ there from_there

@@ -1,5 +1,6 @@
 pub mod Square
-pub mod Cell
+pub mod Words
+pub mod Masks
 pub mod Board
 pub mod Index
 pub mod Again

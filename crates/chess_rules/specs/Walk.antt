@@ -1,6 +1,7 @@
 -- Walking over the board from square to square: what the code does, and no definition of the rules.
-use Rattle.std.specs.Prelude.{ℕ, zero, suc, ◌+◌, ◌-◌, ◌*◌, ◌/◌, ◌%◌, max, Bool, true, false, ◌&&◌, ◌||◌, not, Option, None, Some, position, unwrap_or, slice_index_or, ◌==◌, nat_lt, nat_le, if◌then◌else◌}
-use Rattle.chess_rules.specs.declared.direction.TheConstants.{JUMPS}
+use Rattle.std.specs.Prelude.{ℕ, zero, suc, ◌+◌, ◌-◌, ◌*◌, ◌/◌, ◌%◌, max, Bool, true, false, ◌&&◌, ◌||◌, Option, None, Some, position, unwrap_or, slice_index_or, ◌==◌, nat_lt, nat_le, if◌then◌else◌}
+use Rattle.std.specs.List.{list_any}
+use Rattle.chess_rules.specs.declared.direction.TheConstants.{DIRECTIONS, JUMPS}
 use Rattle.chess_rules.specs.declared.direction.Shift.{Shift}
 use Rattle.chess_rules.specs.declared.direction.Shift.TheVariants.{Down, Stay, Up}
 use Rattle.chess_rules.specs.declared.direction.Direction.{Direction}
@@ -10,11 +11,9 @@ use Rattle.chess_rules.specs.declared.piece.Kind.{Kind}
 use Rattle.chess_rules.specs.declared.piece.Kind.TheVariants.{King, Queen, Rook, Bishop, Knight, Pawn}
 use Rattle.chess_rules.specs.declared.piece.Piece.{Piece}
 use Rattle.chess_rules.specs.declared.position.Move.{Move}
-use Rattle.chess_rules.specs.declared.position.Parts.{Parts}
 use Rattle.chess_rules.specs.Square.{Square, square, same_square, gap, is_adjacent, is_jump, in_line, on_diagonal}
 use Rattle.chess_rules.specs.Board.{Board, at, cell_of, is_empty, same_colour, has_piece}
 use Rattle.chess_rules.specs.Attacks.{is_ahead}
-use Rattle.chess_rules.specs.Step.{own, is_target}
 
 -- the square with that place among all, rank by rank from a1
 abbrev pub square_at : ℕ → Square
@@ -77,7 +76,7 @@ fits d s i j = has_room d.files s.file i && has_room d.ranks s.rank j
 abbrev pub stepped : Direction → Square → ℕ → ℕ → Option Square
 stepped d s i j = if fits d s i j then Some (further d s i j) else None
 
--- The table of next squares: for each way, for each square.
+-- The table of ways: for each way, for each square.
 
 abbrev pub shift_number : Shift → ℕ
 shift_number Down = 0
@@ -100,8 +99,20 @@ abbrev pub place_or_none : Option Square → ℕ
 place_or_none None = 64
 place_or_none (Some s) = cell_of s
 
-abbrev pub next_place : ℕ → ℕ
-next_place n = place_or_none (stepped (direction_numbered (n / 64)) (square_at (n % 64)) 1 1)
+-- u lies that way from t, or it is t, where that way leads nowhere
+abbrev pub lies_on : Direction → Square → Square → Bool
+lies_on d t u = is_on_line t u && (direction_number (direction_between t u) == direction_number d)
+
+-- places rise on that way
+abbrev pub rises : Shift → Shift → Bool
+rises f Up = true
+rises f Down = false
+rises Up Stay = true
+rises Stay Stay = false
+rises Down Stay = false
+
+abbrev pub goes_up : Direction → Bool
+goes_up d = rises d.files d.ranks
 
 -- The table of jumps: for each square, for each jump.
 
@@ -128,6 +139,19 @@ first_within b d s (suc n) = go_on b (stepped d s 1 1) (λ t. first_within b d t
 -- the first occupied square on the way from s
 abbrev pub first_on : Board → Direction → Square → Option Square
 first_on b d s = first_within b d s 7
+
+-- that square was found
+abbrev pub is_there : Option Square → Square → Bool
+is_there None s = false
+is_there (Some u) s = same_square u s
+
+-- s is the first occupied square on that way from t
+unfoldable pub is_first_on : Board → Square → Square → Direction → Bool
+is_first_on b t s d = is_there (first_on b d t) s
+
+-- on one of the eight ways
+unfoldable pub is_first : Board → Square → Square → Bool
+is_first b t s = list_any (is_first_on b t s) DIRECTIONS
 
 -- the piece would attack t from s, were all squares between empty
 abbrev pub reaches : Kind → Colour → Square → Square → Bool
@@ -167,11 +191,3 @@ king_square c b = square_at (unwrap_or (position (has_piece c King) b) 0)
 -- where a king stands after a move that may be its own
 abbrev pub king_after : Square → Move → Square
 king_after k m = if same_square m.from k then m.to else k
-
--- a step, neither castling nor en passant, from another square than t: it takes one piece off its square, and no more
-abbrev pub opens_one_line : Parts → Move → Square → Bool
-opens_one_line p m t = not (same_square m.from t) && (not (own p King m.from) && not (is_target p.target m.to))
-
--- the first piece on the way from t that leads through s is of the colour and attacks t
-abbrev pub attacked_through : Board → Colour → Square → Square → Bool
-attacked_through b c s t = is_on_line s t && attacked_along b c t (direction_between t s)

@@ -7,24 +7,57 @@ ghost use Rattle.chess_rules.specs.Board.{at};
 ghost use Rattle.chess_rules.specs.Position.{one_king};
 ghost use Rattle.chess_rules.specs.Attacks as spec;
 ghost use Rattle.chess_rules.specs.Walk as walk;
+ghost use Rattle.chess_rules.specs.Masks as masks;
+ghost use Rattle.chess_rules.specs.Words.{Places};
+ghost use Rattle.chess_rules.specs.declared.piece.Kind.TheVariants.{Pawn};
 
 use crate::board::Board;
-use crate::direction::{DIRECTIONS, Direction, landing};
+use crate::direction::{DIRECTIONS, Direction};
 use crate::piece::{Colour, Kind};
 use crate::square::Square;
+use crate::tables::{ADJACENT, BLACK_PAWNS, DIAGONALS, JUMPS_TO, LINES, WHITE_PAWNS};
+use crate::word::{highest, lowest, single};
 
 // The first occupied square on the way from `from`.
 pub(crate) fn first_on(board: &Board, direction: Direction, from: Square) -> Option<Square>
     ensures { result ≡ walk.first_on board.now direction from }
 {
-    let mut here = from;
-    for _ in 0..7u8 {
-        here = direction.next(here)?;
-        if !board.is_empty(here) {
-            return Some(here);
+    from.lies_on_board();
+    let hits = direction.ray(from) & board.occupied();
+    if hits == 0 {
+        return None;
+    }
+    if direction.goes_up() {
+        return Some(Square::nth(lowest(hits)));
+    }
+    Some(Square::nth(highest(hits)))
+}
+
+// The first occupied square on that way, as a set.
+fn first_hit(board: &Board, direction: Direction, target: Square) -> u64
+    ensures { Places result (λ s. walk.is_first_on board.now target s direction) }
+{
+    match first_on(board, direction, target) {
+        None => 0,
+        Some(origin) => {
+            origin.lies_on_board();
+            single(origin.index())
         }
     }
-    None
+}
+
+// The first occupied squares on the eight ways from the target.
+pub(crate) fn first_hits(board: &Board, target: Square) -> u64
+    ensures { Places result (walk.is_first board.now target) }
+{
+    first_hit(board, DIRECTIONS[0], target)
+        | first_hit(board, DIRECTIONS[1], target)
+        | first_hit(board, DIRECTIONS[2], target)
+        | first_hit(board, DIRECTIONS[3], target)
+        | first_hit(board, DIRECTIONS[4], target)
+        | first_hit(board, DIRECTIONS[5], target)
+        | first_hit(board, DIRECTIONS[6], target)
+        | first_hit(board, DIRECTIONS[7], target)
 }
 
 fn difference(a: u8, b: u8) -> u8
@@ -53,15 +86,6 @@ pub(crate) fn is_adjacent(from: Square, to: Square) -> bool
     let files = difference(from.file(), to.file());
     let ranks = difference(from.rank(), to.rank());
     files <= 1 && ranks <= 1 && (files != 0 || ranks != 0)
-}
-
-// Whether the two are on one rank, file or diagonal, or are one square.
-fn is_on_line(from: Square, to: Square) -> bool
-    ensures { result ≡ walk.is_on_line from to }
-{
-    from.rank() == to.rank()
-        || from.file() == to.file()
-        || difference(from.file(), to.file()) == difference(from.rank(), to.rank())
 }
 
 // Whether a pawn of the colour goes from the first rank to the second one.
@@ -123,36 +147,66 @@ pub(crate) fn attacks(board: &Board, from: Square, to: Square) -> bool
     }
 }
 
-// Whether the first piece on the way from `target` is of the colour and attacks it.
-fn is_attacked_along(board: &Board, by: Colour, target: Square, direction: Direction) -> bool
-    ensures { result ≡ walk.attacked_along board.now by target direction }
+// The squares a knight's jump away.
+pub(crate) fn knights_to(target: Square) -> u64
+    ensures { Places result (λ s. square.is_jump s target) }
 {
-    let Some(origin) = first_on(board, direction, target) else {
-        return false;
-    };
-    match board.at(origin) {
-        None => false,
-        Some(piece) => piece.colour == by && reaches(piece.kind, piece.colour, origin, target),
+    target.lies_on_board();
+    JUMPS_TO[target.index()]
+}
+
+// The squares side by side with it.
+fn adjacent(target: Square) -> u64
+    ensures { Places result (λ s. square.is_adjacent s target) }
+{
+    target.lies_on_board();
+    ADJACENT[target.index()]
+}
+
+// The others of its rank and its file.
+fn lines(target: Square) -> u64
+    ensures { Places result (λ s. square.in_line s target) }
+{
+    target.lies_on_board();
+    LINES[target.index()]
+}
+
+// The others of its diagonals.
+fn diagonals(target: Square) -> u64
+    ensures { Places result (λ s. square.on_diagonal s target) }
+{
+    target.lies_on_board();
+    DIAGONALS[target.index()]
+}
+
+// The squares from which a pawn of the colour attacks it.
+fn pawns_to(by: Colour, target: Square) -> u64
+    ensures { Places result (λ s. walk.reaches Pawn by s target) }
+{
+    target.lies_on_board();
+    match by {
+        Colour::White => WHITE_PAWNS[target.index()],
+        Colour::Black => BLACK_PAWNS[target.index()],
     }
 }
 
-// Whether the first piece on the way from `target` that leads through `from` is of the colour and attacks it.
-pub(crate) fn is_attacked_through(board: &Board, by: Colour, from: Square, target: Square) -> bool
-    ensures { result ≡ walk.attacked_through board.now by from target }
+// The pieces of the colour, but for rooks, bishops and queens, that attack the target.
+fn near_attackers(board: &Board, by: Colour, target: Square) -> u64
+    ensures { Places result (masks.attacks_near board.now by target) }
 {
-    is_on_line(from, target)
-        && is_attacked_along(board, by, target, Direction::between(target, from))
+    (knights_to(target) & board.of_kind(Kind::Knight)
+        | adjacent(target) & board.of_kind(Kind::King)
+        | pawns_to(by, target) & board.of_kind(Kind::Pawn))
+        & board.of_colour(by)
 }
 
-// Whether a knight of the colour is that jump away.
-fn is_attacked_by_jump(board: &Board, by: Colour, target: Square, jump: usize) -> bool
-    requires { jump < 8 }
-    ensures { result ≡ walk.attacked_by_jump board.now by target (walk.jump_numbered jump) }
+// The rooks, bishops and queens of the colour that reach the target, were all squares between empty.
+fn sliders(board: &Board, by: Colour, target: Square) -> u64
+    ensures { Places result (masks.slides board.now by target) }
 {
-    match landing(target, jump) {
-        None => false,
-        Some(origin) => board.has_piece(origin, by, Kind::Knight),
-    }
+    (lines(target) & (board.of_kind(Kind::Rook) | board.of_kind(Kind::Queen))
+        | diagonals(target) & (board.of_kind(Kind::Bishop) | board.of_kind(Kind::Queen)))
+        & board.of_colour(by)
 }
 
 // Whether a piece of the colour attacks the square.
@@ -160,26 +214,19 @@ pub(crate) fn is_attacked(board: &Board, by: Colour, target: Square) -> bool
     ensures { result ≡ spec.is_attacked board.now by target }
 {
     target.lies_on_board();
-    is_attacked_on_a_way(board, by, target) || is_attacked_by_a_knight(board, by, target)
+    if near_attackers(board, by, target) != 0 {
+        return true;
+    }
+    let sliders = sliders(board, by, target);
+    sliders != 0 && sliders & first_hits(board, target) != 0
 }
 
-fn is_attacked_on_a_way(board: &Board, by: Colour, target: Square) -> bool
-    ensures { result ≡ list_any (walk.attacked_along board.now by target) DIRECTIONS }
-{
-    DIRECTIONS.iter().any(|direction| is_attacked_along(board, by, target, *direction))
-}
-
-fn is_attacked_by_a_knight(board: &Board, by: Colour, target: Square) -> bool
-    ensures { result ≡ list_any (λ jump. walk.attacked_by_jump board.now by target (walk.jump_numbered jump)) (range_with_len 0 8) }
-{
-    (0..8).any(|jump| is_attacked_by_jump(board, by, target, jump))
-}
-
-// Whether the colour's one king is attacked.
-pub(crate) fn is_king_attacked(board: &Board, colour: Colour) -> bool
-    requires { IsTrue (one_king board.now colour) }
+// Whether the colour's one king, which stands there, is attacked.
+pub(crate) fn is_king_attacked(board: &Board, colour: Colour, king: Square) -> bool
+    requires one { IsTrue (one_king board.now colour) }
+    requires there { king ≡ walk.king_square colour board.now }
     ensures { result ≡ spec.king_attacked board.now colour }
 {
     board.has_all_cells();
-    is_attacked(board, colour.other(), board.king_square(colour))
+    is_attacked(board, colour.other(), king)
 }

@@ -2,9 +2,10 @@
 
 ghost use Rattle.std.specs.Prelude.{◌≡◌, ◌<◌, ◌≤◌};
 ghost use Rattle.chess_rules.specs.Walk as walk;
+ghost use Rattle.chess_rules.specs.Words.{Places};
 
 use crate::square::Square;
-use crate::tables::{LANDINGS, NEXT};
+use crate::tables::{LANDINGS, RAYS};
 
 // How a file or a rank changes on a way.
 #[derive(Clone, Copy)]
@@ -23,20 +24,6 @@ impl Shift {
             Shift::Down => 0,
             Shift::Stay => 1,
             Shift::Up => 2,
-        }
-    }
-
-    // The file or rank that is so many further, if the board has it.
-    fn of(self, line: u8, steps: u8) -> Option<u8>
-        requires { line < 8 }
-        ensures { result ≡ walk.shifted self line steps }
-    {
-        match self {
-            Shift::Down if steps <= line => Some(line - steps),
-            Shift::Down => None,
-            Shift::Stay => Some(line),
-            Shift::Up if steps <= 7 - line => Some(line + steps),
-            Shift::Up => None,
         }
     }
 
@@ -72,21 +59,24 @@ impl Direction {
         }
     }
 
-    // The square that is so many files and ranks further on this way, if the board has it.
-    pub(crate) fn stepped(self, from: Square, files: u8, ranks: u8) -> Option<Square>
-        ensures { result ≡ walk.stepped self from files ranks }
-    {
-        let file = self.files.of(from.file(), files)?;
-        let rank = self.ranks.of(from.rank(), ranks)?;
-        Square::new(file, rank)
-    }
-
-    // The next square on this way.
-    pub(crate) fn next(self, from: Square) -> Option<Square>
-        ensures { result ≡ walk.stepped self from 1 1 }
+    // The squares that lie this way from there.
+    pub(crate) fn ray(self, from: Square) -> u64
+        ensures { Places result (walk.lies_on self from) }
     {
         from.lies_on_board();
-        Square::at_place(NEXT[64 * self.number() + from.index()])
+        RAYS[64 * self.number() + from.index()]
+    }
+
+    // Whether places rise on this way.
+    pub(crate) fn goes_up(self) -> bool
+        ensures { result ≡ walk.goes_up self }
+    {
+        match (self.files, self.ranks) {
+            (_, Shift::Up) => true,
+            (_, Shift::Down) => false,
+            (Shift::Up, Shift::Stay) => true,
+            (_, Shift::Stay) => false,
+        }
     }
 
     fn number(self) -> usize

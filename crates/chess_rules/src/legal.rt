@@ -29,10 +29,10 @@ pub fn try_pair(position: &Position, mv: Move, probes: &mut Probes) -> Option<Po
     }
 }
 
-/// Whether the move is legal: `try_pair` without the position after it.
-///
-/// It counts as one pair tried.
-pub fn is_legal(position: &Position, mv: Move, probes: &mut Probes) -> bool
+// Whether the move is legal: `try_pair` without the position after it.
+//
+// It counts as one pair tried.
+pub(crate) fn is_legal(position: &Position, mv: Move, probes: &mut Probes) -> bool
     requires { probes.old + 1 < 2 ^ 32 }
     ensures legal { result ≡ spec.is_legal position.now mv }
     ensures count { probes.new ≡ probes.old + 1 }

@@ -6,7 +6,7 @@
 mod attack;
 mod board;
 pub mod candidates;
-mod cell;
+mod contents;
 mod direction;
 pub mod laws;
 pub mod legal;
@@ -19,3 +19,4 @@ mod step;
 mod tables;
 #[cfg(test)]
 mod tests;
+mod word;

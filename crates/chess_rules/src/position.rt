@@ -6,14 +6,16 @@ ghost use Rattle.chess_rules.specs.Attacks.{king_attacked};
 ghost use Rattle.chess_rules.specs.Position as spec;
 ghost use Rattle.chess_rules.specs.Step as step;
 ghost use Rattle.chess_rules.specs.Legal.{legal, is_legal, is_check};
-ghost use Rattle.chess_rules.specs.Walk.{king_square};
+ghost use Rattle.chess_rules.specs.Walk.{king_square as king_square_of};
 ghost use Rattle.chess_rules.specs.Walk as walk;
 
-use crate::attack::{attacks, is_attacked, is_attacked_through, is_king_attacked};
+use crate::attack::{is_attacked, is_king_attacked};
 use crate::board::Board;
+use crate::contents::{has_pawn_on_edge, king_square, kings};
 use crate::piece::{Colour, Kind, Piece, Promotion};
 use crate::square::Square;
-use crate::step::{crossed, is_double_step, is_target};
+use crate::step::{crossed, is_double_step};
+use crate::word::has;
 use std::marker::Model;
 
 /// A move by its origin, its target and what a pawn becomes. Castling is the king's move.
@@ -121,14 +123,15 @@ impl Position {
     pub fn build(parts: &Parts) -> Result<Position, PositionFault>
         ensures { result ≡ spec.built parts.now }
     {
-        let board = Board::of(&parts.board);
-        if board.kings(Colour::White) != 1 || board.kings(Colour::Black) != 1 {
+        if kings(&parts.board, Colour::White) != 1 || kings(&parts.board, Colour::Black) != 1 {
             return Err(PositionFault::Kings);
         }
-        if board.has_pawn_on_edge() {
+        if has_pawn_on_edge(&parts.board) {
             return Err(PositionFault::PawnOnEdge);
         }
-        if is_king_attacked(&board, parts.side.other()) {
+        let board = Board::of(&parts.board);
+        let other_king = king_square(&parts.board, parts.side.other());
+        if is_king_attacked(&board, parts.side.other(), other_king) {
             return Err(PositionFault::KingCapturable);
         }
         if !target_fits(parts.side, parts.target) {
@@ -144,9 +147,9 @@ impl Position {
             target: parts.target,
             half: parts.half,
             full: parts.full,
-            white_king: board.king_square(Colour::White),
-            black_king: board.king_square(Colour::Black),
-            checked: is_king_attacked(&board, parts.side),
+            white_king: king_square(&parts.board, Colour::White),
+            black_king: king_square(&parts.board, Colour::Black),
+            checked: is_king_attacked(&board, parts.side, king_square(&parts.board, parts.side)),
         })
     }
 
@@ -166,7 +169,7 @@ impl Position {
 
     // The square of the colour's king.
     fn king_of(&self, colour: Colour) -> Square
-        ensures { result ≡ king_square colour self.now.board }
+        ensures { result ≡ king_square_of colour self.now.board }
     {
         match colour {
             Colour::White => self.white_king,
@@ -176,7 +179,7 @@ impl Position {
 
     // The square of the king of the side to move.
     pub(crate) fn king(&self) -> Square
-        ensures { result ≡ king_square self.now.side self.now.board }
+        ensures { result ≡ king_square_of self.now.side self.now.board }
     {
         self.king_of(self.side)
     }
@@ -188,15 +191,6 @@ impl Position {
         self.checked
     }
 
-    // Whether a step takes one piece off its square and no more, so that it opens one line to another square at most.
-    fn opens_one_line(&self, mv: &Move, square: Square) -> bool
-        ensures { result ≡ walk.opens_one_line self.now mv.now square }
-    {
-        !mv.from.is(square)
-            && !self.board.has_piece(mv.from, self.side, Kind::King)
-            && !is_target(self.target, mv.to)
-    }
-
     // Whether the step, which leaves that board, attacks the other king.
     fn gives_check(&self, mv: &Move, board: &Board) -> bool
         requires on_board { IsTrue (step.is_on_board mv.now) }
@@ -204,11 +198,7 @@ impl Position {
         ensures { result ≡ king_attacked board.now (other self.now.side) }
     {
         let king = self.king_of(self.side.other());
-        if self.opens_one_line(mv, king) {
-            attacks(board, mv.to, king) || is_attacked_through(board, self.side, mv.from, king)
-        } else {
-            is_attacked(board, self.side, king_after(king, mv))
-        }
+        is_attacked(board, self.side, king_after(king, mv))
     }
 
     // Whether the king of the side to move is safe after its step, which leaves that board.
@@ -218,9 +208,6 @@ impl Position {
         ensures { result ≡ is_legal self.now mv.now }
     {
         let king = self.king();
-        if !self.checked && self.opens_one_line(mv, king) {
-            return !is_attacked_through(board, self.side.other(), mv.from, king);
-        }
         !is_attacked(board, self.side.other(), king_after(king, mv))
     }
 
@@ -366,10 +353,16 @@ fn keeps(mv: &Move, file: u8, rank: u8) -> bool
     !(touches(mv, 4, rank) || touches(mv, file, rank))
 }
 
+// The squares on which kings and rooks begin: a1, e1, h1, a8, e8, h8.
+const HOMES: u64 = 0x9100_0000_0000_0091;
+
 // The castling rights after the move. (FIDE Laws 3.8.2.1; PGN 16.1.3.3)
 fn rights_after(mv: &Move, rights: Rights) -> Rights
     ensures { result ≡ step.rights_after mv.now rights }
 {
+    if !has(HOMES, mv.from.index()) && !has(HOMES, mv.to.index()) {
+        return rights;
+    }
     Rights {
         white_short: rights.white_short && keeps(mv, 7, 0),
         white_long: rights.white_long && keeps(mv, 0, 0),

@@ -35,8 +35,8 @@ impl Probes {
         self.count
     }
 
-    /// One more pair was tried, or was known to be legal untried.
-    pub fn add_one(&mut self)
+    // One more pair is tried.
+    pub(crate) fn add_one(&mut self)
         requires { self.old + 1 < 2 ^ 32 }
         ensures { self.new ≡ self.old + 1 }
     {

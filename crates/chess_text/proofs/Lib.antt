@@ -28,3 +28,4 @@ mod Rows
 mod FormRows
 mod SanRows
 mod ReadRows
+mod LawRows

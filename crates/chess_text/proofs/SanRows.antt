@@ -12,14 +12,14 @@ use Rattle.chess_text.specs.Fen.{read}
 use Rattle.chess_text.specs.San.{san}
 
 -- a square by its letter and its digit
-abbrev named : List ℕ → Square
+abbrev pub named : List ℕ → Square
 named (f ∷ r ∷ []) = square (f - 97) (r - 49)
 named other = square 9 9
 
-abbrev becoming : List ℕ → List ℕ → Option Promotion → Move
+abbrev pub becoming : List ℕ → List ℕ → Option Promotion → Move
 becoming s t q = record { from = named s; to = named t; promotion = q }
 
-abbrev go : List ℕ → List ℕ → Move
+abbrev pub go : List ℕ → List ℕ → Move
 go s t = becoming s t None
 
 abbrev then_play : Option Parts → Move → Option Parts

@@ -16,7 +16,7 @@ use crate::resolve::{Played, is_castling};
 use arrayvec::ArrayVec;
 use chess_rules::candidates::origins;
 use chess_rules::laws::candidates_are_complete;
-use chess_rules::legal::{has_legal_move, in_check, is_legal};
+use chess_rules::legal::{has_legal_move, in_check, try_pair};
 use chess_rules::piece::{Kind, Promotion};
 use chess_rules::position::{Move, Position};
 use chess_rules::probes::Probes;
@@ -27,7 +27,7 @@ use chess_rules::square::Square;
 /// where it takes, and the target. Then `#` on mate, else `+` on check.
 ///
 /// The move is legal, and `next` is the position after it.
-/// For a queen, a rook, a bishop or a knight it counts a pair for each member of `origins`; and where `next` is in check, those of
+/// For a queen, a rook, a bishop or a knight it tries a pair for each member of `origins`; and where `next` is in check, those of
 /// one `has_legal_move`.
 pub fn write_san(position: &Position, played: &Played, probes: &mut Probes) -> ArrayVec<u8, 7>
     requires legal { legal position.now played.now.mv ≡ Some played.now.next }
@@ -225,22 +225,20 @@ fn rivals_of(position: &Position, kind: Kind, mv: &Move, probes: &mut Probes) ->
     found
 }
 
-// Whether the same move is legal from that other square; the move's own origin is counted untried.
+// Whether the same move is legal from that square, and it is another than the move's own. Each pair is tried.
 fn is_rival(position: &Position, mv: &Move, origin: Square, probes: &mut Probes) -> bool
     requires { probes.old + 1 < 2 ^ 32 }
     ensures rival { result ≡ spec.is_rival position.now mv.now origin }
     ensures pairs { probes.new ≡ probes.old + 1 }
 {
-    if origin.file() == mv.from.file() && origin.rank() == mv.from.rank() {
-        probes.add_one();
-        return false;
-    }
     let other = Move {
         from: origin,
         to: mv.to,
         promotion: mv.promotion,
     };
-    is_legal(position, other, probes)
+    let is_own = origin.file() == mv.from.file() && origin.rank() == mv.from.rank();
+    let next = try_pair(position, other, probes);
+    !is_own && next.is_some()
 }
 
 // Adds what tells the origin from the rivals. (PGN 8.2.3.4)

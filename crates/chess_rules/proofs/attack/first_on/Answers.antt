@@ -1,18 +1,25 @@
-use Rattle.std.proofs.Common.{◌+◌, ◌-◌, sym, ◌∙◌, arith}
-use Rattle.chess_rules.proofs.Rays.{walk_on, walk_ends, walk_leaves, left}
+use Rattle.std.proofs.Common.{◌∙◌, ap, sym}
+use Rattle.std.specs.Prelude.{Some}
+use Rattle.std.specs.Int.Bits.{bit_and}
+use Rattle.chess_rules.proofs.FirstOn.{hits, first_of_none, first_of_up, first_of_down}
 use Rattle.chess_rules.proofs.attack.first_on.Goals as goal
 
-pub returns-in_err-here : goal.returns-in_err-here
-returns-in_err-here c =
-    c.from_residual.ensures
-    ∙ (sym (walk_leaves c.args.board.now c.args.direction c.loop.here (7 - (c.loop.counter + 1)) (sym c.next.ensures ∙ c.in_err-here.was)) ∙ (left c.args.board.now c.args.direction c.loop.here c.loop.counter (omega arith) ∙ c.loop.invariant))
+pub returns-then-hits-eq0 : goal.returns-then-hits-eq0
+returns-then-hits-eq0 c =
+    first_of_none c.args.board.now c.args.direction c.args.from (bit_and c.ray.result c.occupied.result)
+    (hits c.args.board.now c.args.direction c.args.from c.ray.result c.occupied.result c.ray.ensures c.occupied.ensures)
+    c.lies_on_board.ensures.file c.lies_on_board.ensures.rank c.if-hits-eq0.true
 
-pub returns-then-not-is_empty : goal.returns-then-not-is_empty
-returns-then-not-is_empty c =
-    sym (walk_ends c.args.board.now c.args.direction c.loop.here _ (7 - (c.loop.counter + 1)) (sym c.next.ensures ∙ c.in_ok-here.was) (sym c.is_empty.ensures ∙ c.if-not-is_empty.true))
-    ∙ (left c.args.board.now c.args.direction c.loop.here c.loop.counter (omega arith) ∙ c.loop.invariant)
+pub returns-then-goes_up : goal.returns-then-goes_up
+returns-then-goes_up c =
+    ap Some c.nth.ensures
+    ∙ first_of_up c.args.board.now c.args.direction c.args.from (bit_and c.ray.result c.occupied.result) c.lowest.result
+    (hits c.args.board.now c.args.direction c.args.from c.ray.result c.occupied.result c.ray.ensures c.occupied.ensures)
+    c.lies_on_board.ensures.file c.lies_on_board.ensures.rank (sym c.goes_up.ensures ∙ c.if-goes_up.true) c.lowest.ensures
 
-pub loop-preserved : goal.loop-preserved
-loop-preserved c =
-    sym (walk_on c.args.board.now c.args.direction c.loop.here _ (7 - (c.loop.counter + 1)) (sym c.next.ensures ∙ c.in_ok-here.was) (sym c.is_empty.ensures ∙ c.if-not-is_empty.false))
-    ∙ (left c.args.board.now c.args.direction c.loop.here c.loop.counter (omega arith) ∙ c.loop.invariant)
+pub returns : goal.returns
+returns c =
+    ap Some c.nth-2.ensures
+    ∙ first_of_down c.args.board.now c.args.direction c.args.from (bit_and c.ray.result c.occupied.result) c.highest.result
+    (hits c.args.board.now c.args.direction c.args.from c.ray.result c.occupied.result c.ray.ensures c.occupied.ensures)
+    c.lies_on_board.ensures.file c.lies_on_board.ensures.rank (sym c.goes_up.ensures ∙ c.if-goes_up.false) c.highest.ensures

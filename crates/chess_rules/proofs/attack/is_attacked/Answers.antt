@@ -1,14 +1,33 @@
-use Rattle.std.proofs.Common.{sym, ◌∙◌}
-use Rattle.chess_rules.proofs.Squares.{true_or, false_or}
-use Rattle.chess_rules.proofs.Reach.{is_attacked_found}
+use Rattle.std.proofs.Common.{◌<◌, not, sym, ◌∙◌, ap, arith}
+use Rattle.std.specs.Prelude.{◌==◌}
+use Rattle.std.specs.Int.Bits.{bit_and}
+use Rattle.std.proofs.lemmas.Nat.{and_le_l}
+use Rattle.chess_rules.specs.Masks.{attacks_near, slides}
+use Rattle.chess_rules.specs.Walk.{is_first}
+use Rattle.chess_rules.proofs.Attackers.{attacked_near, far_test, none_slides, not_attacked}
+use Rattle.chess_rules.proofs.Sets.{none_passes, one_passes, places_and}
 use Rattle.chess_rules.proofs.attack.is_attacked.Goals as goal
 
-pub returns-then-is_attacked_on_a_way : goal.returns-then-is_attacked_on_a_way
-returns-then-is_attacked_on_a_way c =
-    sym (is_attacked_found c.args.board.now c.args.by c.args.target c.lies_on_board.ensures.file c.lies_on_board.ensures.rank
-    ∙ true_or _ _ c.is_attacked_on_a_way.result c.is_attacked_on_a_way.ensures c.if-is_attacked_on_a_way.true)
+pub returns-then-near_attackers-ne0 : goal.returns-then-near_attackers-ne0
+returns-then-near_attackers-ne0 c =
+    let b = c.args.board.now in
+    let some : 0 < c.near_attackers.result = grind (arith, c.if-near_attackers-ne0.true) in
+    sym (attacked_near b c.args.by c.args.target c.lies_on_board.ensures.file c.lies_on_board.ensures.rank
+    (one_passes c.near_attackers.result (attacks_near b c.args.by c.args.target) c.near_attackers.ensures some c.near_attackers.type_inv))
 
-pub returns-else-is_attacked_on_a_way : goal.returns-else-is_attacked_on_a_way
-returns-else-is_attacked_on_a_way c =
-    sym (is_attacked_found c.args.board.now c.args.by c.args.target c.lies_on_board.ensures.file c.lies_on_board.ensures.rank
-    ∙ false_or _ _ c.is_attacked_on_a_way.result c.is_attacked_by_a_knight.result c.is_attacked_on_a_way.ensures c.if-is_attacked_on_a_way.false c.is_attacked_by_a_knight.ensures)
+pub returns-then-sliders-ne0 : goal.returns-then-sliders-ne0
+returns-then-sliders-ne0 c =
+    let b = c.args.board.now in
+    far_test b c.args.by c.args.target (bit_and c.sliders-sliders.result c.first_hits.result) c.lies_on_board.ensures.file c.lies_on_board.ensures.rank
+    (none_passes c.near_attackers.result (attacks_near b c.args.by c.args.target) c.near_attackers.ensures c.if-near_attackers-ne0.false)
+    (places_and c.sliders-sliders.result c.first_hits.result (slides b c.args.by c.args.target) (is_first b c.args.target) c.sliders-sliders.ensures c.first_hits.ensures)
+    (omega (arith, and_le_l c.sliders-sliders.result c.first_hits.result, c.sliders-sliders.type_inv))
+
+pub returns-else-sliders-ne0 : goal.returns-else-sliders-ne0
+returns-else-sliders-ne0 c =
+    let b = c.args.board.now in
+    ap (λ n. not (n == 0)) c.if-sliders-ne0.false
+    ∙ sym (not_attacked b c.args.by c.args.target c.lies_on_board.ensures.file c.lies_on_board.ensures.rank
+    (none_passes c.near_attackers.result (attacks_near b c.args.by c.args.target) c.near_attackers.ensures c.if-near_attackers-ne0.false)
+    (none_slides b c.args.by c.args.target
+    (none_passes c.sliders-sliders.result (slides b c.args.by c.args.target) c.sliders-sliders.ensures c.if-sliders-ne0.false)))

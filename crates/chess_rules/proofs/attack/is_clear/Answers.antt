@@ -1,6 +1,6 @@
 use Rattle.std.proofs.Common.{sym, ◌∙◌, ap}
-use Rattle.chess_rules.proofs.Reach.{clear_test, is_there, not_empty}
-use Rattle.chess_rules.specs.Walk.{first_on}
+use Rattle.chess_rules.proofs.Reach.{clear_test, not_empty}
+use Rattle.chess_rules.specs.Walk.{first_on, is_there}
 use Rattle.chess_rules.proofs.attack.is_clear.Goals as goal
 
 pub returns-in-None : goal.returns-in-None

@@ -7,5 +7,5 @@ use Rattle.chess_rules.proofs.attack.is_king_attacked.Goals as goal
 pub returns : goal.returns
 returns c =
     c.is_attacked.ensures
-    ∙ (ap₂ (λ d k. is_attacked c.args.board.now d k) c.other.ensures c.king_square.ensures
-    ∙ sym (king_attacked_there c.args.colour c.args.board.now c.has_all_cells.ensures (equal_from _ 1 c.requires)))
+    ∙ (ap₂ (λ d k. is_attacked c.args.board.now d k) c.other.ensures c.requires.there
+    ∙ sym (king_attacked_there c.args.colour c.args.board.now c.has_all_cells.ensures (equal_from _ 1 c.requires.one)))

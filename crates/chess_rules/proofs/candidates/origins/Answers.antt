@@ -1,23 +1,61 @@
-use Rattle.std.proofs.Common.{sym, subst}
+use Rattle.std.proofs.Common.{◌≡◌, List, sym, ◌∙◌, ap, subst}
+use Rattle.std.specs.Int.Bits.{bit_and}
 use Rattle.std.specs.List.Sorted.{IsPermutation}
+use Rattle.std.proofs.lemmas.List.Sorted.{IsPermutation-refl}
 use Rattle.chess_rules.specs.declared.piece.Kind.{Kind}
+use Rattle.chess_rules.specs.Square.{Square}
 use Rattle.chess_rules.specs.Candidate.{candidates}
-use Rattle.chess_rules.proofs.Found.{on_ways_are, on_ways_apart, by_jumps_are, by_jumps_apart, rides_unless, apart_there}
+use Rattle.chess_rules.specs.Step.{own}
+use Rattle.chess_rules.specs.Words.{members, Places}
+use Rattle.chess_rules.proofs.Found.{apart_there, candidates_apart, rides_unless}
+use Rattle.chess_rules.proofs.Origins.{few_there, knights_are, own_places, riders_are}
 use Rattle.chess_rules.proofs.candidates.origins.Goals as goal
+use Rattle.chess_rules.proofs.candidates.origins.Goals.{After-knights_to, After-first_hits}
+
+knights : (c : After-knights_to) → members (bit_and c.pieces-own.result c.knights_to.result) ≡ candidates c.args.position.now c.args.kind c.args.target
+knights c =
+    let p = c.args.position.now in
+    knights_are p c.args.target c.pieces-own.result c.knights_to.result
+    (subst (λ (k : Kind). Places c.pieces-own.result (own p k)) c.in-Knight.is
+    (own_places p c.args.kind c.side.result c.board.result.now c.pieces-own.result c.side.ensures c.board.ensures c.pieces-own.ensures))
+    c.knights_to.ensures
+    ∙ ap (λ (k : Kind). candidates p k c.args.target) (sym c.in-Knight.is)
+
+riders : (c : After-first_hits) → members (bit_and c.pieces-own.result c.first_hits.result) ≡ candidates c.args.position.now c.args.kind c.args.target
+riders c =
+    let p = c.args.position.now in
+    riders_are p c.args.kind c.args.target c.board-in_default.result.now c.pieces-own.result c.first_hits.result
+    (rides_unless c.args.kind c.in_default.not-Knight) c.lies_on_board.ensures.file c.lies_on_board.ensures.rank c.board-in_default.ensures
+    (own_places p c.args.kind c.side.result c.board.result.now c.pieces-own.result c.side.ensures c.board.ensures c.pieces-own.ensures)
+    c.first_hits.ensures
+
+pub squares_of-requires : goal.squares_of-requires
+squares_of-requires c =
+    few_there c.args.position.now c.args.kind c.args.target (members (bit_and c.pieces-own.result c.knights_to.result))
+    c.lies_on_board.ensures.file c.lies_on_board.ensures.rank (knights c)
+
+pub squares_of-requires-in_default : goal.squares_of-requires-in_default
+squares_of-requires-in_default c =
+    few_there c.args.position.now c.args.kind c.args.target (members (bit_and c.pieces-own.result c.first_hits.result))
+    c.lies_on_board.ensures.file c.lies_on_board.ensures.rank (riders c)
+
+same_list : (xs ys : List Square) → ys ≡ xs → IsPermutation xs ys
+same_list xs ys e = subst (λ (zs : List Square). IsPermutation xs zs) (sym e) (IsPermutation-refl xs)
 
 pub returns-in-Knight-clause-exactly : goal.returns-in-Knight-clause-exactly
 returns-in-Knight-clause-exactly c =
-    subst (λ (k : Kind). IsPermutation (candidates c.args.position.now k c.args.target) c.origins_by_jumps.result.items) (sym c.in-Knight.is)
-    (subst (IsPermutation _) (sym c.origins_by_jumps.ensures)
-    (by_jumps_are c.args.position.now c.args.target c.lies_on_board.ensures.file c.lies_on_board.ensures.rank))
+    same_list (candidates c.args.position.now c.args.kind c.args.target) c.squares_of.result.items (c.squares_of.ensures ∙ knights c.before)
 
 pub returns-in-Knight-clause-once : goal.returns-in-Knight-clause-once
-returns-in-Knight-clause-once c = apart_there _ _ c.origins_by_jumps.ensures (by_jumps_apart c.args.position.now c.args.target)
+returns-in-Knight-clause-once c =
+    apart_there (candidates c.args.position.now c.args.kind c.args.target) c.squares_of.result.items (c.squares_of.ensures ∙ knights c.before)
+    (candidates_apart c.args.position.now c.args.kind c.args.target)
 
 pub returns-in_default-clause-exactly : goal.returns-in_default-clause-exactly
 returns-in_default-clause-exactly c =
-    subst (IsPermutation (candidates c.args.position.now c.args.kind c.args.target)) (sym c.origins_on_ways.ensures)
-    (on_ways_are c.args.position.now c.args.kind c.args.target (rides_unless c.args.kind c.in_default.not-Knight) c.lies_on_board.ensures.file c.lies_on_board.ensures.rank)
+    same_list (candidates c.args.position.now c.args.kind c.args.target) c.squares_of-in_default.result.items (c.squares_of-in_default.ensures ∙ riders c.before)
 
 pub returns-in_default-clause-once : goal.returns-in_default-clause-once
-returns-in_default-clause-once c = apart_there _ _ c.origins_on_ways.ensures (on_ways_apart c.args.position.now c.args.kind c.args.target)
+returns-in_default-clause-once c =
+    apart_there (candidates c.args.position.now c.args.kind c.args.target) c.squares_of-in_default.result.items (c.squares_of-in_default.ensures ∙ riders c.before)
+    (candidates_apart c.args.position.now c.args.kind c.args.target)

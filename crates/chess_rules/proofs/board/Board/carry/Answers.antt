@@ -1,13 +1,23 @@
-use Rattle.std.proofs.Common.{◌≡◌, sym, ◌∙◌, ap}
-use Rattle.std.proofs.lemmas.List.{map-set}
-use Rattle.std.proofs.Math.ListN.{get_or, get_or-map}
-use Rattle.chess_rules.specs.Board.{at, cell_of}
-use Rattle.chess_rules.specs.Cell.{content}
-use Rattle.chess_rules.specs.declared.cell.Cell.TheVariants.{Empty}
+use Rattle.std.proofs.Common.{get_or, set, ◌∙◌, ap₂}
+use Rattle.std.specs.Prelude.{None}
+use Rattle.chess_rules.specs.declared.board.Board.TheInside.{Inside}
+use Rattle.chess_rules.proofs.WordLemmas.{cells_carried, words_carried}
 use Rattle.chess_rules.proofs.board.Board.carry.Goals as goal
+use Rattle.chess_rules.proofs.board.Board.carry.Goals.{After-carried-4}
+
+new : After-carried-4 → Inside
+new c = record { ones = c.carried.result; twos = c.carried-2.result; fours = c.carried-3.result; black = c.carried-4.result }
+
+pub invariant_of-self : goal.invariant_of-self
+unfolding new
+invariant_of-self c =
+    words_carried c.self.inside (new c) c.index-from.result c.index-to.result
+    c.carried.ensures c.carried-2.ensures c.carried-3.ensures c.carried-4.ensures c.index-from.ensures.below c.self.invariant
 
 pub returns : goal.returns
+unfolding new
 returns c =
-    let carried : content (get_or c.self.inside.cells (cell_of c.args.from) Empty) ≡ at c.args.self.now c.args.from =
-    sym (get_or-map content c.self.inside.cells (cell_of c.args.from) Empty) ∙ ap (λ b. at b c.args.from) c.self.view_is in
-    rw (c.index.ensures.value, c.index-2.ensures.value, c.index-3.ensures.value, map-set, map-set, carried, c.self.view_is)
+    let before = c.args.self.now in
+    cells_carried c.self.inside (new c) c.index-from.result c.index-to.result
+    c.carried.ensures c.carried-2.ensures c.carried-3.ensures c.carried-4.ensures before c.index-from.ensures.below c.self.view_is
+    ∙ ap₂ (λ j k. set (set before j None) k (get_or before j None)) c.index-from.ensures.value c.index-to.ensures.value

@@ -1,6 +1,25 @@
-use Rattle.std.proofs.lemmas.List.{map-set}
-use Rattle.chess_rules.proofs.CellLemmas.{content-cell_for}
+use Rattle.std.proofs.Common.{set, ◌∙◌, ap}
+use Rattle.chess_rules.specs.declared.board.Board.TheInside.{Inside}
+use Rattle.chess_rules.proofs.WordLemmas.{cells_put, words_put}
 use Rattle.chess_rules.proofs.board.Board.put.Goals as goal
+use Rattle.chess_rules.proofs.board.Board.put.Goals.{After-with-4}
+
+new : After-with-4 → Inside
+new c = record { ones = c.with.result; twos = c.with-2.result; fours = c.with-3.result; black = c.with-4.result }
+
+pub invariant_of-self : goal.invariant_of-self
+unfolding new
+invariant_of-self c =
+    words_put c.self.inside (new c) c.index-place.result c.args.content
+    c.of-code.result.one c.of-code.result.two c.of-code.result.four c.of-code.result.black
+    c.with.ensures c.with-2.ensures c.with-3.ensures c.with-4.ensures
+    c.of-code.ensures.one c.of-code.ensures.two c.of-code.ensures.four c.of-code.ensures.black c.self.invariant
 
 pub returns : goal.returns
-returns c = rw (c.index.ensures.value, c.of.ensures, map-set, content-cell_for, c.self.view_is)
+unfolding new
+returns c =
+    cells_put c.self.inside (new c) c.index-place.result c.args.content
+    c.of-code.result.one c.of-code.result.two c.of-code.result.four c.of-code.result.black
+    c.with.ensures c.with-2.ensures c.with-3.ensures c.with-4.ensures
+    c.of-code.ensures.one c.of-code.ensures.two c.of-code.ensures.four c.of-code.ensures.black c.args.self.now c.self.view_is
+    ∙ ap (λ n. set c.args.self.now n c.args.content) c.index-place.ensures.value

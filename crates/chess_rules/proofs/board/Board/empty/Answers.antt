@@ -1,0 +1,18 @@
+use Rattle.std.proofs.Common.{ap₂, arith}
+use Rattle.chess_rules.specs.Again.{cells_long}
+use Rattle.chess_rules.specs.Words.{is_code}
+use Rattle.chess_rules.proofs.WordLemmas.{has_zero}
+use Rattle.chess_rules.proofs.board.Board.empty.Goals as goal
+
+pub invariant_of-result : goal.invariant_of-result
+invariant_of-result c =
+    record {
+      ones = omega arith;
+      twos = omega arith;
+      fours = omega arith;
+      black = omega arith;
+      codes = λ i low. ap₂ (λ x y. is_code x x y y) (has_zero i) (has_zero i);
+    }
+
+pub returns : goal.returns
+returns c = cells_long (record { ones = 0; twos = 0; fours = 0; black = 0 })

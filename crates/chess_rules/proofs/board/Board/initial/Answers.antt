@@ -1,0 +1,27 @@
+use Rattle.std.proofs.Common.{refl, arith, ◌≡◌, true}
+use Rattle.std.specs.List.{list_all, range_with_len}
+use Rattle.chess_rules.specs.declared.board.Board.TheInside.{Inside}
+use Rattle.chess_rules.specs.Words.{has, cells, is_code}
+use Rattle.chess_rules.proofs.Squares.{each_of_range}
+use Rattle.chess_rules.proofs.board.Board.initial.Goals as goal
+
+abbrev first : Inside
+first = record { ones = 3242310256730111788; twos = 8502796096475496566; fours = 11024811887802974361; black = 18446462598732840960 }
+
+first_codes : list_all (λ i. is_code (has first.ones i) (has first.twos i) (has first.fours i) (has first.black i)) (range_with_len 0 64) ≡ true
+unfolding has
+first_codes = refl
+
+pub invariant_of-result : goal.invariant_of-result
+invariant_of-result c =
+    record {
+      ones = omega arith;
+      twos = omega arith;
+      fours = omega arith;
+      black = omega arith;
+      codes = λ i low. each_of_range (λ i. is_code (has first.ones i) (has first.twos i) (has first.fours i) (has first.black i)) 0 64 i first_codes (omega arith) (omega arith);
+    }
+
+pub returns : goal.returns
+unfolding has cells
+returns c = refl

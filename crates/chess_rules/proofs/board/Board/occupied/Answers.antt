@@ -1,0 +1,15 @@
+use Rattle.std.proofs.Common.{◌||◌, ◌∙◌, ap}
+use Rattle.std.specs.Prelude.{is_some}
+use Rattle.std.specs.Int.Bits.{bit_or}
+use Rattle.chess_rules.specs.Words.{has}
+use Rattle.chess_rules.proofs.WordLemmas.{has_or, is_occupied, marks}
+use Rattle.chess_rules.proofs.board.Board.occupied.Goals as goal
+
+pub returns : goal.returns
+returns c =
+    let w = c.self.inside in
+    marks w c.args.self.now _ is_some c.self.view_is
+    (λ i low.
+    has_or (bit_or w.ones w.twos) w.fours i
+    ∙ (ap (λ v. v || has w.fours i) (has_or w.ones w.twos i)
+    ∙ is_occupied (has w.ones i) (has w.twos i) (has w.fours i) (has w.black i)))

@@ -1,0 +1,5 @@
+use Rattle.chess_rules.proofs.Extremes.{lowest_place}
+use Rattle.chess_rules.proofs.word.lowest.Goals as goal
+
+pub returns : goal.returns
+returns c = lowest_place c.args.word c.requires c.ranges.word.fits

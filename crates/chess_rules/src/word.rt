@@ -1,0 +1,56 @@
+//! Words of 64 bits, each a set of squares: bit i belongs to the square with place i.
+
+ghost use Rattle.std.specs.Prelude.{◌≡◌, ◌<◌, ◌^◌};
+ghost use Rattle.chess_rules.specs.Words as spec;
+ghost use Rattle.chess_rules.specs.Words.{Carries, IsHighest, IsLowest, Sets};
+
+// Whether the set has the place.
+pub(crate) fn has(word: u64, place: usize) -> bool
+    requires { place < 64 }
+    ensures { result ≡ spec.has word place }
+{
+    word >> place & 1 == 1
+}
+
+// The set of one place.
+pub(crate) fn single(place: usize) -> u64
+    requires { place < 64 }
+    ensures { result ≡ 2 ^ place }
+{
+    1 << place
+}
+
+// The set with the place or without it.
+pub(crate) fn with(word: u64, place: usize, value: bool) -> u64
+    requires { place < 64 }
+    ensures { Sets word result place value }
+{
+    let bit = single(place);
+    if value { word | bit } else { word & !bit }
+}
+
+// The set where what one place had went to another.
+pub(crate) fn carried(word: u64, from: usize, to: usize) -> u64
+    requires from { from < 64 }
+    requires to { to < 64 }
+    ensures { Carries word result from to }
+{
+    let value = has(word, from);
+    with(with(word, from, false), to, value)
+}
+
+// The first place of a set that has one.
+pub(crate) fn lowest(word: u64) -> usize
+    requires { 0 < word }
+    ensures { IsLowest word result }
+{
+    word.trailing_zeros() as usize
+}
+
+// The last place of a set that has one.
+pub(crate) fn highest(word: u64) -> usize
+    requires { 0 < word }
+    ensures { IsHighest word result }
+{
+    63 - word.leading_zeros() as usize
+}
