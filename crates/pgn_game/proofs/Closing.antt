@@ -1,14 +1,19 @@
--- What writing a marker comes to.
-use Rattle.std.proofs.Common.{◌≡◌, ℕ, List, [], ◌∷◌, ◌++◌, length, drop, Option, refl, sym, ap, subst, ◌∙◌, append_assoc, length-append, arith}
+-- What putting a marker comes to, and a token of movetext whose section cannot be written.
+use Rattle.std.proofs.Common.{◌≡◌, ℕ, List, [], ◌∷◌, ◌++◌, length, drop, Option, Bor, refl, sym, ap, subst, ◌∙◌, append_assoc, length-append, arith}
 use Rattle.std.specs.Prelude.{IsTrue, codes, Ok, Err, All}
 use Rattle.std.proofs.Math.Seq.{drop-append-add, drop-append_seam}
 use Rattle.std.proofs.KnownBytes.{Appends-trans}
 use Rattle.std.specs.Io.KnownBytes.{Appends}
 use Rattle.chess_rules.specs.declared.position.Move.{Move}
 use Rattle.pgn_layout.specs.declared.sink.WriteFault.{WriteFault}
-use Rattle.pgn_layout.specs.Device.{AppendsFront, Counts}
+use Rattle.pgn_layout.specs.Device.{AppendsFront, one_more}
 use Rattle.pgn_layout.specs.Lines.{IsToken, lines_of, full_lines, last_line, text_of as text_of_lines}
 use Rattle.pgn_layout.specs.Layout.{Layout, holding, Put, EndGame, text_at, line_at}
+use Rattle.pgn_game.specs.declared.accept.Accepted.TheVariants.{Finished}
+use Rattle.pgn_game.specs.declared.accept.Stopped.TheVariants.{Unwritten}
+use Rattle.pgn_game.specs.declared.judged.Judged.TheVariants.{Entry as InText}
+use Rattle.pgn_game.specs.declared.judged.Entry.{Entry}
+use Rattle.pgn_game.specs.declared.judged.Entry.TheVariants.{Number, Item as PutItem, Marker}
 use Rattle.pgn_game.specs.declared.mode.Mode.{Mode}
 use Rattle.pgn_game.specs.declared.stage.Stage.{Stage}
 use Rattle.pgn_game.specs.declared.stage.Stage.TheVariants.{Between, AfterBracket, AfterName, AfterValue, AfterTags, InMovetext}
@@ -19,12 +24,17 @@ use Rattle.pgn_game.specs.Here.{Level as ModelLevel, Levels as ModelLevels, dept
 use Rattle.pgn_game.specs.TagSection.{tag_section}
 use Rattle.pgn_game.specs.FaultTable.{levels_in, result_for}
 use Rattle.pgn_game.specs.Text.{tokens_out, full_text, torn_at, torn_for}
+use Rattle.pgn_game.specs.Begun.{whole}
 use Rattle.pgn_game.specs.Movetext.{Level}
-use Rattle.pgn_game.specs.Reading.{Reading, IsBehind}
-use Rattle.pgn_game.specs.Handling.{IsOpen, is_before_text, is_outside_pairs, section_due, BeginsText, FinishesText, game_of, gain_of_marker}
+use Rattle.pgn_game.specs.Reading.{Reading, IsBehind, plies_behind}
+use Rattle.pgn_game.specs.Judging.{EntryFits, IsOpen, after_entry, game_of, is_open, item_of}
+use Rattle.pgn_game.specs.Putting.{Device}
+use Rattle.pgn_game.specs.Handling.{BeginsText, Puts, gain_to, section_due}
 use Rattle.pgn_game.proofs.Appending.{front_of_more, front_after}
+use Rattle.pgn_game.proofs.Adding.{from_to}
 use Rattle.pgn_game.proofs.Items.{game_ends}
-use Rattle.pgn_game.proofs.Putting.{no_text, open_stage, open_fresh, section_is}
+use Rattle.pgn_game.proofs.Judging.{open_agrees}
+use Rattle.pgn_game.proofs.Putting.{gain_is, lines_gain, no_text, open_stage, plies_before, section_is, unwritten}
 use Rattle.pgn_game.proofs.InText.{depth_is, position_is}
 
 -- the lines of a game whose items are these, and an empty line
@@ -44,23 +54,23 @@ part_at stage ps name items = record { stage = stage; pairs = ps; name = name; i
 nothing_full : (mode : Mode) (ps : List Pair) (items : List Item) (rest : List ℕ) → items ≡ [] → full_text mode (start_of ps) items ++ rest ≡ rest
 nothing_full mode ps items rest none = ap (λ (l : List ℕ). l ++ rest) (ap (λ (is : List Item). full_text mode (start_of ps) is) none ∙ no_text mode (start_of ps))
 
-gain_at : (mode : Mode) (stage : Stage) (ps : List Pair) (name : List ℕ) (items : List Item) (lines rest : List ℕ) → IsTrue (is_outside_pairs stage) → (IsTrue (is_before_text stage) → items ≡ [])
+gain_at : (mode : Mode) (stage : Stage) (ps : List Pair) (name : List ℕ) (items : List Item) (lines rest : List ℕ) → IsTrue (is_open stage) → (stage ≡ AfterTags → items ≡ [])
     → lines ≡ full_text mode (start_of ps) items ++ rest
     → drop (length (torn_at stage mode (part_at stage ps name items))) (tag_section mode (codes "*") ps ++ lines) ≡ section_due stage mode ps ++ rest
-gain_at mode Between ps name items lines rest at fresh is = ap (λ l. tag_section mode (codes "*") ps ++ l) (is ∙ nothing_full mode ps items rest (fresh (cc)))
+gain_at mode Between ps name items lines rest at fresh is = absurd (cc)
 gain_at mode AfterBracket ps name items lines rest at fresh is = absurd (cc)
 gain_at mode AfterName ps name items lines rest at fresh is = absurd (cc)
 gain_at mode AfterValue ps name items lines rest at fresh is = absurd (cc)
-gain_at mode AfterTags ps name items lines rest at fresh is = ap (λ l. tag_section mode (codes "*") ps ++ l) (is ∙ nothing_full mode ps items rest (fresh (cc)))
+gain_at mode AfterTags ps name items lines rest at fresh is = ap (λ l. tag_section mode (codes "*") ps ++ l) (is ∙ nothing_full mode ps items rest (fresh refl))
 gain_at mode InMovetext ps name items lines rest at fresh is =
     let section = tag_section mode (codes "*") ps in
     let full = full_text mode (start_of ps) items in
     ap (λ n. drop n (section ++ lines)) (length-append section full) ∙ drop-append-add section lines (length full)
     ∙ ap (drop (length full)) is ∙ drop-append_seam full rest
 
-gain_of : (p : Profile) (part : Part) (marker : List ℕ) → p.missing_result ≡ counts_as_unknown → IsTrue (is_outside_pairs part.stage) → (IsTrue (is_before_text part.stage) → part.items ≡ [])
+gain_of : (p : Profile) (part : Part) (marker : List ℕ) → p.missing_result ≡ counts_as_unknown → IsTrue (is_open part.stage) → (part.stage ≡ AfterTags → part.items ≡ [])
     → All IsToken (tokens_out p.mode (start_of part.pairs) part.items) → IsToken marker
-    → gain_of_marker p part marker ≡ section_due part.stage p.mode part.pairs ++ ending (line_of p.mode part.pairs part.items) marker
+    → gain_to p part (whole (game_of part marker)) ≡ section_due part.stage p.mode part.pairs ++ ending (line_of p.mode part.pairs part.items) marker
 gain_of p part marker unknown at fresh each token =
     let lines = text_of_lines (lines_of (tokens_out p.mode (start_of part.pairs) part.items ++ marker ∷ [])) in
     let ts = tokens_out p.mode (start_of part.pairs) part.items in
@@ -71,12 +81,12 @@ gain_of p part marker unknown at fresh each token =
     ∙ append_assoc (text_of_lines (full_lines (lines_of ts))) (text_at (last_line (lines_of ts)) (Put marker)) (text_at (line_at (last_line (lines_of ts)) (Put marker)) EndGame))
 
 -- what is due for a marker, of a reader that holds the part
-due_is : (old : Reading) (part : Part) (marker : List ℕ) → old.profile.missing_result ≡ counts_as_unknown → IsTrue (is_outside_pairs old.stage) → IsToken marker → IsOpen old part
-    → section_due old.stage old.profile.mode old.tags.held ++ ending old.layout.line marker ≡ gain_of_marker old.profile part marker
+due_is : (old : Reading) (part : Part) (marker : List ℕ) → old.profile.missing_result ≡ counts_as_unknown → IsTrue (is_open old.stage) → IsToken marker → IsOpen old part
+    → section_due old.stage old.profile.mode old.tags.held ++ ending old.layout.line marker ≡ gain_to old.profile part (whole (game_of part marker))
 due_is old part marker unknown at token is =
     ap (λ (l : List ℕ). l ++ ending old.layout.line marker) (section_is old part is)
     ∙ ap (λ (l : Layout). section_due part.stage old.profile.mode part.pairs ++ ending l.line marker) is.held.line
-    ∙ sym (gain_of old.profile part marker unknown (open_stage old part is at) (open_fresh old part is) is.held.tokens token)
+    ∙ sym (gain_of old.profile part marker unknown (open_stage old part is at) (λ e. is.fresh (is.stage ∙ e)) is.held.tokens token)
 
 -- At depth 0 the moves that lead here are those outside variations.
 at_depth_0 : (ls : ModelLevels) (around : List ModelLevel) → ls.around ≡ around → length around ≡ 0 → (outermost ls.present ls.around).trail ≡ ls.present.trail
@@ -102,75 +112,81 @@ behind old part marker outside is =
       probed = is.probed;
     }
 
+-- what a token of movetext adds behind the section
+abbrev rest_of : Reading → Part → Entry → List ℕ
+rest_of old part Number = lines_gain old.profile.mode part.pairs part.items []
+rest_of old part (PutItem i) = lines_gain old.profile.mode part.pairs part.items (item_of i ∷ [])
+rest_of old part (Marker marker) = ending old.layout.line marker.now
+
+entry_gain : (levels : ℕ) (old : Reading) (part : Part) (e : Entry) → EntryFits levels old.text e → old.profile.missing_result ≡ counts_as_unknown → IsTrue (is_open old.stage)
+    → IsOpen old part → section_due old.stage old.profile.mode old.tags.held ++ rest_of old part e ≡ gain_to old.profile part (after_entry e part)
+entry_gain levels old part Number fits unknown at is = gain_is old part [] unknown at is
+entry_gain levels old part (PutItem i) fits unknown at is = gain_is old part (item_of i ∷ []) unknown at is
+entry_gain levels old part (Marker marker) fits unknown at is = due_is old part marker.now unknown at fits.0 is
+
+-- The section could not be written.
+pub puts_unbegun : (levels : ℕ) (old new : Reading) (e : Entry) (f : WriteFault) (d : Device) → IsTrue (is_open old.stage) → EntryFits levels old.text e
+    → BeginsText {A = Unit} old new (Err f) d → Puts old (InText e) new (Err Unwritten) d
+puts_unbegun levels old new e f d at fits begins =
+    unwritten old new (InText e) d (record { profile = begins.profile; plies = omega (arith, begins.earlier, begins.plies); probes = omega (arith, begins.probes) })
+    begins.counted (λ part agrees.
+    let is = open_agrees old part agrees at in
+    subst (AppendsFront d.before d.after) (entry_gain levels old part e fits begins.unknown at is) (front_of_more d.before d.after _ (rest_of old part e) begins.text))
+
 -- How the game ends, once its section is written.
-pub record EndsText (old begun : Reading) (marker : List ℕ) : Type 0 where
-  pub unknown : old.profile.missing_result ≡ counts_as_unknown
-  pub begins : begun ≡ record old { stage = InMovetext }
+pub record EndsText (old begun : Reading) (marker : List ℕ) (a b : Option (List ℕ)) (n m : ℕ) : Type 0 where
+  pub begins : BeginsText {A = Unit} {E = WriteFault} old begun (Ok tt) (from_to a b n m)
   pub outside : old.text.levels.around ≡ []
   pub token : IsToken marker
-  pub at : IsTrue (is_outside_pairs old.stage)
+  pub at : IsTrue (is_open old.stage)
 
 abbrev of_line : (old begun : Reading) → begun ≡ record old { stage = InMovetext } → begun.layout.line ≡ old.layout.line
 of_line old begun e = ap (λ (r : Reading). r.layout.line) e
 
-pub ends_well : (old begun new : Reading) (marker : List ℕ) (a b d c : Option (List ℕ)) (n m : ℕ) → EndsText old begun marker
-    → Appends a b (section_due old.stage old.profile.mode old.tags.held) → Appends b d (text_at begun.layout.line (Put marker))
-    → Appends d c (text_at (line_at begun.layout.line (Put marker)) EndGame) → new ≡ record begun { stage = Between; layout = new.layout } → new.layout ≡ holding [] → m ≡ n
-    → FinishesText {A = Unit} {E = WriteFault} old marker new (Ok tt) a c n m
-ends_well old begun new marker a b d c n m ends first put last rest empty counted =
-    let same : new ≡ finished_reader old = rest ∙ ap (λ (l : Layout). record begun { stage = Between; layout = l }) empty ∙ ap finished_reader ends.begins in
+pub ends_well : (old begun new : Reading) (marker : Bor (List ℕ)) (a b d c : Option (List ℕ)) (n m k : ℕ) → EndsText old begun marker.now a b n m
+    → Appends b d (text_at begun.layout.line (Put marker.now)) → Appends d c (text_at (line_at begun.layout.line (Put marker.now)) EndGame)
+    → new ≡ record begun { stage = Between; layout = new.layout } → new.layout ≡ holding [] → k ≡ m
+    → Puts old (InText (Marker marker)) new (Ok Finished) (from_to a c n k)
+ends_well old begun new marker a b d c n m k ends put last rest empty counted =
+    let same : new ≡ finished_reader old = rest ∙ ap (λ (l : Layout). record begun { stage = Between; layout = l }) empty ∙ ap finished_reader ends.begins.begun in
+    let earlier : new.earlier_plies ≡ old.earlier_plies = ap (λ (r : Reading). r.earlier_plies) same in
+    let plies : new.text.plies ≡ old.text.plies = ap (λ (r : Reading). r.text.plies) same in
     record {
-      finishes = λ part op. (
-        subst (λ (r : Reading). IsBehind r (game_of part marker)) (sym same) (behind old part marker ends.outside op),
-        subst (Appends a c) (ap (λ (l : List ℕ). section_due old.stage old.profile.mode old.tags.held ++ ending l marker) (of_line old begun ends.begins)
-            ∙ due_is old part marker ends.unknown ends.at ends.token op)
-            (Appends-trans a b c _ _ first (Appends-trans b d c _ _ put last)),
-      );
-      profile = ap (λ (r : Reading). r.profile) same;
-      stage = ap (λ (r : Reading). r.stage) same;
+      goes = λ part agrees.
+          let is = open_agrees old part agrees ends.at in
+          record {
+            leads = subst (λ (r : Reading). IsBehind r (game_of part marker.now)) (sym same) (behind old part marker.now ends.outside is);
+            plies = ap (λ (s : Stage). plies_behind s new.earlier_plies new.text.plies) (ap (λ (r : Reading). r.stage) same)
+                ∙ omega (arith, earlier, plies, is.held.plies, plies_before old ends.at);
+            appended = subst (Appends a c) (ap (λ (l : List ℕ). section_due old.stage old.profile.mode old.tags.held ++ ending l marker.now) (of_line old begun ends.begins.begun)
+                ∙ due_is old part marker.now ends.begins.unknown ends.at ends.token is)
+                (Appends-trans a b c _ _ ends.begins.text (Appends-trans b d c _ _ put last));
+          };
+      keeps = record {
+        profile = ap (λ (r : Reading). r.profile) same;
+        plies = omega (arith, earlier, plies);
+        probes = omega (arith, ap (λ (r : Reading). r.most_probes) same);
+      };
+      stays = tt;
       going = ap (λ (r : Reading). r.layout.has_failed) same;
-      counted = counted;
-      earlier = ap (λ (r : Reading). r.earlier_plies) same;
-      plies = ap (λ (r : Reading). r.text.plies) same;
-      probes = ap (λ (r : Reading). r.most_probes) same;
+      finished = (refl, ap (λ (r : Reading). r.stage) same);
+      counted = counted ∙ ends.begins.counted;
     }
 
--- a reader whose layout has failed
-pub record KeepsRest (old new : Reading) : Type 0 where
-  pub profile : new.profile ≡ old.profile
-  pub earlier : new.earlier_plies ≡ old.earlier_plies
-  pub plies : new.text.plies ≡ old.text.plies
-  pub probes : new.most_probes ≡ old.most_probes
-
-pub ends_ill : (old begun new : Reading) (marker : List ℕ) (f : WriteFault) (a b c : Option (List ℕ)) (n m : ℕ) → EndsText old begun marker
-    → Appends a b (section_due old.stage old.profile.mode old.tags.held) → AppendsFront b c (ending begun.layout.line marker) → KeepsRest old new → Counts {A = Unit} {E = WriteFault} (Err f) n m
-    → FinishesText {A = Unit} {E = WriteFault} old marker new (Err f) a c n m
-ends_ill old begun new marker f a b c n m ends first front keeps counted =
-    record {
-      finishes = λ part op.
-          subst (AppendsFront a c) (ap (λ (l : List ℕ). section_due old.stage old.profile.mode old.tags.held ++ ending l marker) (of_line old begun ends.begins)
-          ∙ due_is old part marker ends.unknown ends.at ends.token op)
-          (front_after a b c _ _ first front);
-      profile = keeps.profile;
-      stage = tt;
-      going = tt;
-      counted = counted;
-      earlier = keeps.earlier;
-      plies = keeps.plies;
-      probes = keeps.probes;
-    }
-
--- The section could not be written.
-pub ends_unbegun : (old new : Reading) (marker : List ℕ) (f : WriteFault) (a b : Option (List ℕ)) (n m : ℕ) → IsTrue (is_outside_pairs old.stage) → IsToken marker
-    → BeginsText {A = Unit} old new (Err f) a b n m → FinishesText {A = Unit} {E = WriteFault} old marker new (Err f) a b n m
-ends_unbegun old new marker f a b n m at token begins =
-    record {
-      finishes = λ part op. subst (AppendsFront a b) (due_is old part marker begins.unknown at token op) (front_of_more a b _ (ending old.layout.line marker) begins.text);
-      profile = begins.profile;
-      stage = tt;
-      going = tt;
-      counted = begins.counted;
-      earlier = begins.earlier;
-      plies = begins.plies;
-      probes = begins.probes;
-    }
+-- a write failed behind the section
+pub ends_ill : (old begun new : Reading) (marker : Bor (List ℕ)) (a b c : Option (List ℕ)) (n m k : ℕ) → EndsText old begun marker.now a b n m
+    → AppendsFront b c (ending begun.layout.line marker.now) → new ≡ record begun { layout = new.layout } → k ≡ one_more m
+    → Puts old (InText (Marker marker)) new (Err Unwritten) (from_to a c n k)
+ends_ill old begun new marker a b c n m k ends front rest counted =
+    let begins = ends.begins in
+    unwritten old new (InText (Marker marker)) (from_to a c n k)
+    (record {
+      profile = ap (λ (r : Reading). r.profile) rest ∙ begins.profile;
+      plies = omega (arith, ap (λ (r : Reading). r.earlier_plies) rest, ap (λ (r : Reading). r.text.plies) rest, begins.earlier, begins.plies);
+      probes = omega (arith, ap (λ (r : Reading). r.most_probes) rest, begins.probes);
+    })
+    (counted ∙ ap one_more begins.counted) (λ part agrees.
+    let is = open_agrees old part agrees ends.at in
+    subst (AppendsFront a c) (ap (λ (l : List ℕ). section_due old.stage old.profile.mode old.tags.held ++ ending l marker.now) (of_line old begun begins.begun)
+    ∙ due_is old part marker.now begins.unknown ends.at ends.token is)
+    (front_after a b c _ _ begins.text front))

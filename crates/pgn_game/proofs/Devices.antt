@@ -5,105 +5,71 @@ use Rattle.pgn_game.specs.declared.reason.Reason.TheVariants.{Lexical, ExpectedN
 use Rattle.pgn_game.specs.declared.reason.Fault.{Fault}
 use Rattle.pgn_game.specs.declared.whole.Totals.{Totals}
 use Rattle.pgn_game.specs.Feeding.{CountsReason, CountsFault}
-use Rattle.pgn_game.specs.Converting.{CountsWithin, CountsPiece, CountsDevices, CountsResult, CountsWriting, CountsSink}
-
--- a fault of a piece
-pub devices_of_piece : (r : Reason) (s t o n : ℕ) → t ≡ s → CountsWithin r o n → CountsDevices r s t o n
-devices_of_piece (Lexical x) s t o n same h = (same, h)
-devices_of_piece ExpectedName s t o n same h = (same, h)
-devices_of_piece BadTagName s t o n same h = (same, h)
-devices_of_piece DuplicateTag s t o n same h = (same, h)
-devices_of_piece TooManyTags s t o n same h = (same, h)
-devices_of_piece ExpectedValue s t o n same h = (same, h)
-devices_of_piece BadResult s t o n same h = (same, h)
-devices_of_piece (BadFen field) s t o n same h = (same, h)
-devices_of_piece TagLineTooLong s t o n same h = (same, h)
-devices_of_piece ExpectedBracket s t o n same h = (same, h)
-devices_of_piece SetUpWithoutFen s t o n same h = (same, h)
-devices_of_piece ReducedFen s t o n same h = (same, h)
-devices_of_piece TagInMovetext s t o n same h = (same, h)
-devices_of_piece NotAMove s t o n same h = (same, h)
-devices_of_piece IllegalMove s t o n same h = (same, h)
-devices_of_piece AmbiguousMove s t o n same h = (same, h)
-devices_of_piece MoveLimit s t o n same h = (same, h)
-devices_of_piece NoMoveBefore s t o n same h = (same, h)
-devices_of_piece TooDeep s t o n same h = (same, h)
-devices_of_piece UnmatchedClose s t o n same h = (same, h)
-devices_of_piece MarkerInVariation s t o n same h = (same, h)
-devices_of_piece ResultDiffers s t o n same h = (same, h)
-devices_of_piece UnexpectedEnd s t o n same h = (same, h)
-devices_of_piece ReadFault s t o n same h = absurd h
-devices_of_piece WriteFault s t o n same h = (same, h)
-devices_of_piece InputTooLong s t o n same h = (same, h)
-devices_of_piece Changed s t o n same h = absurd h
+use Rattle.pgn_game.specs.Converting.{CountsDevices, CountsResult, CountsWriting, CountsSink}
 
 -- a fault of the converter
-pub within_of_fault : (r : Reason) (o n : ℕ) → CountsReason r o n → CountsWithin r o n
-within_of_fault (Lexical x) o n h = h
-within_of_fault ExpectedName o n h = h
-within_of_fault BadTagName o n h = h
-within_of_fault DuplicateTag o n h = h
-within_of_fault TooManyTags o n h = h
-within_of_fault ExpectedValue o n h = h
-within_of_fault BadResult o n h = h
-within_of_fault (BadFen field) o n h = h
-within_of_fault TagLineTooLong o n h = h
-within_of_fault ExpectedBracket o n h = h
-within_of_fault SetUpWithoutFen o n h = h
-within_of_fault ReducedFen o n h = h
-within_of_fault TagInMovetext o n h = h
-within_of_fault NotAMove o n h = h
-within_of_fault IllegalMove o n h = h
-within_of_fault AmbiguousMove o n h = h
-within_of_fault MoveLimit o n h = h
-within_of_fault NoMoveBefore o n h = h
-within_of_fault TooDeep o n h = h
-within_of_fault UnmatchedClose o n h = h
-within_of_fault MarkerInVariation o n h = h
-within_of_fault ResultDiffers o n h = h
-within_of_fault UnexpectedEnd o n h = h
-within_of_fault ReadFault o n h = h
-within_of_fault WriteFault o n h = h
-within_of_fault InputTooLong o n h = absurd h
-within_of_fault Changed o n h = h
+pub devices_of : (r : Reason) (s t o n : ℕ) → t ≡ s → CountsReason r o n → CountsDevices r s t o n
+devices_of (Lexical x) s t o n same h = (same, h)
+devices_of ExpectedName s t o n same h = (same, h)
+devices_of BadTagName s t o n same h = (same, h)
+devices_of DuplicateTag s t o n same h = (same, h)
+devices_of TooManyTags s t o n same h = (same, h)
+devices_of ExpectedValue s t o n same h = (same, h)
+devices_of BadResult s t o n same h = (same, h)
+devices_of (BadFen field) s t o n same h = (same, h)
+devices_of TagLineTooLong s t o n same h = (same, h)
+devices_of ExpectedBracket s t o n same h = (same, h)
+devices_of SetUpWithoutFen s t o n same h = (same, h)
+devices_of ReducedFen s t o n same h = (same, h)
+devices_of TagInMovetext s t o n same h = (same, h)
+devices_of NotAMove s t o n same h = (same, h)
+devices_of IllegalMove s t o n same h = (same, h)
+devices_of AmbiguousMove s t o n same h = (same, h)
+devices_of MoveLimit s t o n same h = (same, h)
+devices_of NoMoveBefore s t o n same h = (same, h)
+devices_of TooDeep s t o n same h = (same, h)
+devices_of UnmatchedClose s t o n same h = (same, h)
+devices_of MarkerInVariation s t o n same h = (same, h)
+devices_of ResultDiffers s t o n same h = (same, h)
+devices_of UnexpectedEnd s t o n same h = (same, h)
+devices_of ReadFault s t o n same h = absurd h
+devices_of WriteFault s t o n same h = (same, h)
+devices_of InputTooLong s t o n same h = (same, h)
+devices_of Changed s t o n same h = absurd h
 
-pub writing_of_piece : (r : Reason) (o n : ℕ) → CountsWithin r o n → CountsWriting r o n
-writing_of_piece (Lexical x) o n h = h
-writing_of_piece ExpectedName o n h = h
-writing_of_piece BadTagName o n h = h
-writing_of_piece DuplicateTag o n h = h
-writing_of_piece TooManyTags o n h = h
-writing_of_piece ExpectedValue o n h = h
-writing_of_piece BadResult o n h = h
-writing_of_piece (BadFen field) o n h = h
-writing_of_piece TagLineTooLong o n h = h
-writing_of_piece ExpectedBracket o n h = h
-writing_of_piece SetUpWithoutFen o n h = h
-writing_of_piece ReducedFen o n h = h
-writing_of_piece TagInMovetext o n h = h
-writing_of_piece NotAMove o n h = h
-writing_of_piece IllegalMove o n h = h
-writing_of_piece AmbiguousMove o n h = h
-writing_of_piece MoveLimit o n h = h
-writing_of_piece NoMoveBefore o n h = h
-writing_of_piece TooDeep o n h = h
-writing_of_piece UnmatchedClose o n h = h
-writing_of_piece MarkerInVariation o n h = h
-writing_of_piece ResultDiffers o n h = h
-writing_of_piece UnexpectedEnd o n h = h
-writing_of_piece ReadFault o n h = absurd h
-writing_of_piece WriteFault o n h = h
-writing_of_piece InputTooLong o n h = h
-writing_of_piece Changed o n h = absurd h
-
-pub counts_piece : (r : Result Unit Fault) (o n : ℕ) → CountsFault r o n → CountsPiece r o n
-counts_piece (Ok x) o n h = h
-counts_piece (Err f) o n h = within_of_fault f.reason o n h
+pub writing_of : (r : Reason) (o n : ℕ) → CountsReason r o n → CountsWriting r o n
+writing_of (Lexical x) o n h = h
+writing_of ExpectedName o n h = h
+writing_of BadTagName o n h = h
+writing_of DuplicateTag o n h = h
+writing_of TooManyTags o n h = h
+writing_of ExpectedValue o n h = h
+writing_of BadResult o n h = h
+writing_of (BadFen field) o n h = h
+writing_of TagLineTooLong o n h = h
+writing_of ExpectedBracket o n h = h
+writing_of SetUpWithoutFen o n h = h
+writing_of ReducedFen o n h = h
+writing_of TagInMovetext o n h = h
+writing_of NotAMove o n h = h
+writing_of IllegalMove o n h = h
+writing_of AmbiguousMove o n h = h
+writing_of MoveLimit o n h = h
+writing_of NoMoveBefore o n h = h
+writing_of TooDeep o n h = h
+writing_of UnmatchedClose o n h = h
+writing_of MarkerInVariation o n h = h
+writing_of ResultDiffers o n h = h
+writing_of UnexpectedEnd o n h = h
+writing_of ReadFault o n h = absurd h
+writing_of WriteFault o n h = h
+writing_of InputTooLong o n h = h
+writing_of Changed o n h = absurd h
 
 pub counts_end : (r : Result Totals Fault) (s t o n : ℕ) → t ≡ s → CountsFault r o n → CountsResult r s t o n
 counts_end (Ok x) s t o n same h = (same, h)
-counts_end (Err f) s t o n same h = devices_of_piece f.reason s t o n same (within_of_fault f.reason o n h)
+counts_end (Err f) s t o n same h = devices_of f.reason s t o n same h
 
 pub counts_sink : (r : Result Totals Fault) (o n : ℕ) → CountsFault r o n → CountsSink r o n
 counts_sink (Ok x) o n h = h
-counts_sink (Err f) o n h = writing_of_piece f.reason o n (within_of_fault f.reason o n h)
+counts_sink (Err f) o n h = writing_of f.reason o n h

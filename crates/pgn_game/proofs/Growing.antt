@@ -25,7 +25,7 @@ abbrev pub after_test : Profile → Begun → Token → List Token → Option Re
 after_test p b t ts (Some reason) = read_as b (Some (record { at = t.at; reason = reason }))
 after_test p b t ts None = read_from p (begun_after b t) ts
 
-read_from-test : (p : Profile) (b : Begun) (t : Token) (ts : List Token) → read_from p b (t ∷ ts) ≡ after_test p b t ts (refusal p b.part t.kind)
+pub read_from-test : (p : Profile) (b : Begun) (t : Token) (ts : List Token) → read_from p b (t ∷ ts) ≡ after_test p b t ts (refusal p b.part t.kind)
 read_from-test p b t ts =
     elim (refusal p b.part t.kind)
     as (λ o. elim o [ Some reason ↦ read_as b (Some (record { at = t.at; reason = reason })) | None ↦ read_from p (begun_after b t) ts ] ≡ after_test p b t ts o) [

@@ -1,16 +1,18 @@
 -- Steps in turn in a piece.
-use Rattle.std.proofs.Common.{◌≡◌, ℕ, ◌+◌, ◌<◌, false, List, [], ◌∷◌, ◌++◌, length, take, drop, Option, None, Some, refl, sym, ap, subst, ◌∙◌, append_assoc, append-nil, length-append, length-take-le, le_refl, take_all, drop_of_length-le, inl, inr, arith}
+use Rattle.std.proofs.Common.{◌≡◌, ℕ, ◌+◌, ◌-◌, ◌<◌, ◌≤◌, ◌^◌, zero, suc, false, List, [], ◌∷◌, ◌++◌, length, take, drop, Option, None, Some, refl, sym, ap, subst, ◌∙◌, append_assoc, append-nil, length-append, length-drop, length-take, length-take-le, le_refl, take_all, drop_of_length-le, inl, inr, arith}
 use Rattle.std.proofs.Math.Seq.{take-add}
-use Rattle.std.proofs.lemmas.List.{take-append-drop, drop-drop}
+use Rattle.std.proofs.lemmas.List.{take-append-drop, take-take, drop-take, drop-drop}
 use Rattle.std.specs.Prelude.{is_some}
 use Rattle.pgn_lexer.specs.Tokens.{Token, EndsAt}
+use Rattle.pgn_lexer.specs.TokensOf.{tokens_of}
 use Rattle.pgn_lexer.specs.Decided.{decided}
 use Rattle.pgn_lexer.specs.Stands.{Follows, IsDecided, first, still}
 use Rattle.pgn_game.specs.declared.reason.Reason.{Reason}
+use Rattle.pgn_game.specs.declared.reason.Reason.TheVariants.{InputTooLong}
 use Rattle.pgn_game.specs.declared.reason.Fault.{Fault}
 use Rattle.pgn_game.specs.declared.converter.Stepped.TheVariants.{NeedMore, More, Finished, Failed}
 use Rattle.pgn_game.specs.Profile.{Profile}
-use Rattle.pgn_game.specs.Feeding.{AtHand, Converter, Stands, AreNext, FedAll, FedGame, FedToFault, CountsReason}
+use Rattle.pgn_game.specs.Feeding.{AtHand, Converter, Stands, AreNext, FedAll, FedGame, FedToFault, StopsIn, too_long, CountsReason}
 use Rattle.pgn_game.specs.Stepping.{AfterStep, next_at, SoFar}
 use Rattle.pgn_game.proofs.Growing.{gains_none, gains_more, stops_more, games_still}
 use Rattle.pgn_game.proofs.OneToken.{still_none-none}
@@ -140,8 +142,9 @@ module _ (p : Profile) (u : List ℕ) (b : Option ℕ) (given : List Token) (pie
       still_some b (x ∷ xs) h = refl
 
   -- a marker
-  pub fed_game : (new : Converter) (used : ℕ) → AfterStep p (u ++ take at piece) so.tokens (drop at piece) new used Finished c d → FedGame p u given piece (at + used) new a d
-  fed_game new used (t, took, (g, one, hand)) =
+  pub fed_game : (new : Converter) (used : ℕ) → length u + length piece ≤ 2 ^ 62
+      → AfterStep p (u ++ take at piece) so.tokens (drop at piece) new used Finished c d → FedGame p u given piece (at + used) new a d
+  fed_game new used short (t, took, (g, one, hand)) =
       let place : length (u ++ take at piece) + used ≡ length u + (at + used) =
       omega (arith, length-append u (take at piece), length-take-le at piece (omega arith)) in
       record {
@@ -149,6 +152,8 @@ module _ (p : Profile) (u : List ℕ) (b : Option ℕ) (given : List Token) (pie
         marker = t;
         game = g;
         stands = stands_further new used _ took.stands;
+        at_limit = λ h. decided_at_end (u ++ take (at + used) piece) _ (subst (λ xs. IsDecided (u ++ take (at + used) piece) xs (so.tokens ++ t ∷ []))
+            (drop_of_length-le piece (omega (arith, h, short, length-append u (take (at + used) piece), length-take (at + used) piece))) (decided_further used _ took.decided));
         decided = decided_further used _ took.decided;
         ends = subst (EndsAt t.kind t.at) place took.ends;
         no_game = so.no_game;
@@ -174,6 +179,103 @@ module _ (p : Profile) (u : List ℕ) (b : Option ℕ) (given : List Token) (pie
       still_some : (b : Option ℕ) (xs : List ℕ) → 0 < length xs → still b xs ≡ None
       still_some b [] h = absurd (omega arith)
       still_some b (x ∷ xs) h = refl
+
+-- ---- a front of the piece
+
+pub follows_front : (b : Option ℕ) (piece : List ℕ) (n : ℕ) → Follows b piece → Follows b (take n piece)
+follows_front None piece n h = tt
+follows_front (Some c) [] n h = subst (Follows (Some c)) (sym (take_all n [] (omega arith))) tt
+follows_front (Some c) (x ∷ xs) zero h = tt
+follows_front (Some c) (x ∷ xs) (suc n) h = h
+
+-- a converter that stands before any byte stands before this one
+pub stands_before_any : (p : Profile) (c : Converter) (u : List ℕ) (b : Option ℕ) (given : List Token) → Stands p c u None given → Stands p c u b given
+stands_before_any p c u b given stands =
+    record {
+      lexer = record { count = stands.lexer.count; before = stands.lexer.before; tokens = λ s k. stands.lexer.tokens s tt };
+      has_read = stands.has_read;
+    }
+
+before_more : (p : Profile) (c : Converter) (u : List ℕ) (given : List Token) (xs : List ℕ) (n : ℕ) → Stands p c u (first (take n xs)) given → Stands p c u (first xs) given
+before_more p c u given [] n stands = subst (λ ys. Stands p c u (first ys) given) (take_all n [] (omega arith)) stands
+before_more p c u given (x ∷ xs) zero stands = stands_before_any p c u (Some x) given stands
+before_more p c u given (x ∷ xs) (suc n) stands = stands
+
+decided_before : (u : List ℕ) (given : List Token) (xs : List ℕ) (n : ℕ) → IsDecided u (take n xs) given → IsDecided u xs given
+decided_before u given [] n h = subst (λ ys. IsDecided u ys given) (take_all n [] (omega arith)) h
+decided_before u given (x ∷ xs) zero h = inl (decided_at_end u given h)
+decided_before u given (x ∷ xs) (suc n) h = h
+
+-- it is shorter than the piece
+pub limit_left : (piece : List ℕ) (n : ℕ) → length (take n piece) < length piece → n < length piece
+limit_left piece n h = omega (arith, h, length-take n piece)
+
+pub front_used : (piece : List ℕ) (n used : ℕ) → used ≤ length (take n piece) → used ≤ n
+front_used piece n used h = omega (arith, h, length-take n piece)
+
+module _ (p : Profile) (u : List ℕ) (b : Option ℕ) (given : List Token) (piece : List ℕ) (n : ℕ) (a c : Option (List ℕ)) where
+  -- it is the whole piece
+  pub front_all : (now : Converter) → length piece ≤ n → FedAll p u b given (take n piece) now a c → FedAll p u b given piece now a c
+  front_all now end fed = subst (λ xs. FedAll p u b given xs now a c) (take_all n piece end) fed
+
+  -- a game ends in it
+  pub front_game : (new : Converter) (used : ℕ) → used ≤ n → FedGame p u given (take n piece) used new a c → FedGame p u given piece used new a c
+  front_game new used within fed =
+      let same : take used (take n piece) ≡ take used piece = take-take used n piece within in
+      let more : n ≡ used + (n - used) = omega (arith, within) in
+      let rest : drop used (take n piece) ≡ take (n - used) (drop used piece) =
+      ap (λ k. drop used (take k piece)) more ∙ drop-take used (n - used) piece in
+      let ts = fed.tokens ++ fed.marker ∷ [] in
+      record {
+        tokens = fed.tokens;
+        marker = fed.marker;
+        game = fed.game;
+        stands = before_more p new (u ++ take used piece) ts (drop used piece) (n - used)
+            (subst (λ xs. Stands p new (u ++ take used piece) (first xs) ts) rest
+            (subst (λ xs. Stands p new (u ++ xs) (first (drop used (take n piece))) ts) same fed.stands));
+        at_limit = λ h. fed.at_limit (ap (λ xs. length (u ++ xs)) same ∙ h) ∙ ap (λ xs. decided (u ++ xs)) same;
+        decided = decided_before (u ++ take used piece) ts (drop used piece) (n - used)
+            (subst (λ xs. IsDecided (u ++ take used piece) xs ts) rest
+            (subst (λ xs. IsDecided (u ++ xs) (drop used (take n piece)) ts) same fed.decided));
+        ends = fed.ends;
+        no_game = fed.no_game;
+        one_game = fed.one_game;
+        at_hand = fed.at_hand;
+        gains = fed.gains;
+      }
+
+  -- a token of it is refused, or a write failed
+  pub front_fault : (f : Fault) → Follows b piece → FedToFault p u b given (take n piece) f a c → FedToFault p u b given piece f a c
+  front_fault f begins to =
+      let fed = to.fed in
+      record {
+        fed = record {
+          tokens = fed.tokens;
+          next = λ s follows.
+              let whole : (u ++ piece) ++ s ≡ (u ++ take n piece) ++ (drop n piece ++ s) =
+              ap (λ xs. (u ++ xs) ++ s) (sym (take-append-drop n piece)) ∙ ap (λ xs. xs ++ s) (sym (append_assoc u (take n piece) (drop n piece)))
+              ∙ append_assoc (u ++ take n piece) (drop n piece) s in
+              let begun = fed.next (drop n piece ++ s) (goes_on piece n s begins follows) in
+              (begun.0, ap tokens_of whole ∙ begun.1);
+          stops = fed.stops;
+        };
+        no_game = to.no_game;
+      }
+    where
+      goes_on : (xs : List ℕ) (n : ℕ) (s : List ℕ) → Follows b xs → Follows (still b xs) s → Follows (still b (take n xs)) (drop n xs ++ s)
+      goes_on [] n s begins follows =
+          subst (λ ys. Follows (still b ys) (drop n [] ++ s)) (sym (take_all n [] (omega arith)))
+          (subst (λ ys. Follows b (ys ++ s)) (sym (drop_of_length-le [] (omega arith))) follows)
+      goes_on (x ∷ xs) zero s begins follows = follows_from b x xs (x ∷ xs ++ s) begins refl
+      goes_on (x ∷ xs) (suc n) s begins follows = tt
+
+  -- the piece goes on past place 2^62
+  pub front_too_long : (now : Converter) (AtToken : Fault → Type 0) → length u + n ≡ 2 ^ 62 → n < length piece → FedAll p u b given (take n piece) now a c
+      → StopsIn u piece AtToken (λ front. (c' : Converter) × FedAll p u b given front c' a c) (record { at = 2 ^ 62; reason = InputTooLong })
+  front_too_long now AtToken place more fed =
+      too_long (take n piece) (drop n piece) (sym (take-append-drop n piece))
+      (omega (arith, place, length-append u (take n piece), length-take-le n piece (omega (arith, more))))
+      (omega (arith, length-drop n piece, more)) (now, fed)
 
 -- what a step counts, after steps that counted nothing
 pub counts_step : (r : Reason) (x y z : ℕ) → y ≡ x → CountsReason r y z → CountsReason r x z

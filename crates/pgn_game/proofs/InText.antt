@@ -1,75 +1,31 @@
 -- What the tokens of movetext are refused for, and where they lead, for a part that is open.
-use Rattle.std.proofs.Common.{◌≡◌, ℕ, suc, Bool, true, false, ◌&&◌, ◌||◌, not, List, [], ◌∷◌, length, map, nat_le, Option, None, Some, Bor, refl, sym, ap, subst, ◌∙◌}
+use Rattle.std.proofs.Common.{◌≡◌, ℕ, suc, Bool, true, false, ◌&&◌, ◌||◌, not, List, [], ◌∷◌, length, map, nat_le, Option, None, Some, Bor, refl, sym, ap, subst, ◌∙◌, arith}
 use Rattle.std.specs.Option.{option_copied}
-use Rattle.std.specs.List.{list_any}
 use Rattle.std.specs.Prelude.{IsTrue, IsFalse, is_some, ◌==◌, Result, Ok, Err, bytes_eq, codes, unwrap_or}
 use Rattle.chess_rules.specs.declared.position.Parts.{Parts}
 use Rattle.chess_text.specs.declared.resolve.Played.{Played}
 use Rattle.chess_text.specs.declared.resolve.SanFault.{SanFault}
 use Rattle.chess_text.specs.declared.resolve.SanFault.TheVariants.{NoMove, Ambiguous}
-use Rattle.pgn_layout.specs.declared.sink.WriteFault.{WriteFault}
 use Rattle.pgn_lexer.specs.Tokens.{Kind, symbol}
 use Rattle.pgn_lexer.specs.Scanned.{kind_of}
 use Rattle.pgn_lexer.specs.declared.token.TokenKind.{TokenKind}
 use Rattle.pgn_lexer.specs.declared.token.TokenKind.TheVariants as variants
-use Rattle.pgn_game.specs.declared.accept.Accepted.{Accepted}
-use Rattle.pgn_game.specs.declared.accept.Stopped.{Stopped}
 use Rattle.pgn_game.specs.declared.reason.Reason.{Reason}
 use Rattle.pgn_game.specs.declared.reason.Reason.TheVariants.{NotAMove, IllegalMove, AmbiguousMove, MoveLimit, MarkerInVariation, ResultDiffers}
-use Rattle.pgn_game.specs.declared.stage.Stage.TheVariants.{Between}
 use Rattle.pgn_game.specs.Profile.{Profile, Missing, counts_as_unknown}
 use Rattle.pgn_game.specs.Chess.{move_of}
 use Rattle.pgn_game.specs.Pairs.{Pair, value_of}
 use Rattle.pgn_game.specs.Game as games
 use Rattle.pgn_game.specs.Game.{Item, Part}
 use Rattle.pgn_game.specs.Here.{Level as ModelLevel, depth, start_of, replayed, without_last}
-use Rattle.pgn_game.specs.FaultTable.{refusal, is_comment, is_left_bracket, is_end, marker_of, is_number, is_score, is_no_form, is_no_move, is_many_moves, is_one_move, is_at_limit, levels_in, position_in, result_for}
+use Rattle.pgn_game.specs.FaultTable.{marker_of, is_number, is_score, is_no_form, is_no_move, is_many_moves, is_one_move, is_at_limit, levels_in, position_in, result_for}
 use Rattle.pgn_game.specs.Finding.{found_in}
-use Rattle.pgn_game.specs.Begun.{Next, going, whole, next, in_text, item_of, items_of}
-use Rattle.pgn_game.specs.Text.{is_move}
+use Rattle.pgn_game.specs.Begun.{Next, going, whole, in_text, item_of, items_of}
 use Rattle.pgn_game.specs.Movetext.{Levels, before_last, level_held}
 use Rattle.pgn_game.specs.Reading.{Reading, is_outside_the_table}
-use Rattle.pgn_game.specs.Handling.{Comes, IsOpen, Puts, is_outside_pairs, with_items, game_of, more_of}
-use Rattle.pgn_game.proofs.Refusing.{or_else, hit, pass, IsMovetext, text_refusal, refusal_in_text, next_in_text}
-use Rattle.pgn_game.proofs.Putting.{Adding, comes_quiet, open_stage}
-
--- a token of movetext, from a reader at its stage
-pub record ComesInText (old : Reading) (k : TokenKind) : Type 0 where
-  pub stage : IsTrue (is_outside_pairs old.stage)
-  pub bracket : is_left_bracket (kind_of k) ≡ false
-  pub over : is_end (kind_of k) ≡ false
-  pub outside : old.stage ≡ Between → is_comment (kind_of k) ≡ false
-
-in_text_of : (old : Reading) (k : TokenKind) (part : Part) → ComesInText old k → IsOpen old part → IsMovetext part k
-in_text_of old k part comes is = record {
-  stage = open_stage old part is comes.stage;
-  bracket = comes.bracket;
-  over = comes.over;
-  outside = λ e. comes.outside (is.stage ∙ e);
-  set_up = is.set_up;
-}
-
--- a token that is refused, for each part that is open
-pub refused_in_text : (old : Reading) (k : TokenKind) (reason : Reason) → ComesInText old k → ((part : Part) → IsOpen old part → text_refusal old.profile part (kind_of k) ≡ Some reason)
-    → (part : Part) → IsOpen old part → refusal old.profile part (kind_of k) ≡ Some reason
-refused_in_text old k reason comes why part is = refusal_in_text old.profile part k (in_text_of old k part comes is) ∙ why part is
-
--- a token that adds items
-pub adding : (old : Reading) (k : TokenKind) (more : List Item) → ComesInText old k → ((part : Part) → IsOpen old part → text_refusal old.profile part (kind_of k) ≡ None)
-    → ((part : Part) → IsOpen old part → in_text part (kind_of k) ≡ going (with_items part more)) → Adding old (kind_of k) more
-adding old k more comes free leads part is = (
-  refusal_in_text old.profile part k (in_text_of old k part comes is) ∙ free part is,
-  next_in_text part k (in_text_of old k part comes is) ∙ leads part is,
-)
-
--- a token that nothing refuses, and whose items were put; none of them is a move
-pub comes_with : (old new : Reading) (k j : TokenKind) (more : List Item) (r : Result Unit WriteFault) (answer : Result Accepted Stopped) (a b : Option (List ℕ)) (n m : ℕ) → ComesInText old k → k ≡ j
-    → ((part : Part) → IsOpen old part → text_refusal old.profile part (kind_of j) ≡ None) → ((part : Part) → in_text part (kind_of j) ≡ going (with_items part more)) → list_any is_move more ≡ false
-    → Puts old more new r a b n m → answer ≡ more_of r → Comes (IsOpen old) old (kind_of k) new answer a b n m
-comes_with old new k j more r answer a b n m comes same free leads none puts answers =
-    comes_quiet old new (kind_of k) more r answer a b n m comes.stage puts
-    (adding old k more comes (λ part is. ap (λ (x : TokenKind). text_refusal old.profile part (kind_of x)) same ∙ free part is)
-    (λ part is. ap (λ (x : TokenKind). in_text part (kind_of x)) same ∙ leads part)) none answers
+use Rattle.pgn_game.specs.declared.stage.Stage.{Stage}
+use Rattle.pgn_game.specs.Judging.{IsOpen, found_of, is_open, game_of, or_else, text_refusal, with_items}
+use Rattle.pgn_game.proofs.Refusing.{hit, pass}
 
 -- The levels.
 
@@ -259,22 +215,6 @@ marker_refusal p part (variants.Word t) marker is = absurd (cc)
 marker_refusal p part variants.CommentClose marker is = absurd (cc)
 marker_refusal p part variants.End marker is = absurd (cc)
 
--- a marker is a token of movetext
-pub marker_comes : (old : Reading) (k : TokenKind) (marker : List ℕ) → IsTrue (is_outside_pairs old.stage) → marker_of (kind_of k) ≡ Some marker → ComesInText old k
-marker_comes old variants.Asterisk marker at is = record { stage = at; bracket = refl; over = refl; outside = λ e. refl }
-marker_comes old (variants.Symbol t) marker at is = record { stage = at; bracket = refl; over = refl; outside = λ e. refl }
-marker_comes old variants.LeftBracket marker at is = absurd (cc)
-marker_comes old variants.RightBracket marker at is = absurd (cc)
-marker_comes old variants.LeftParen marker at is = absurd (cc)
-marker_comes old variants.RightParen marker at is = absurd (cc)
-marker_comes old variants.Period marker at is = absurd (cc)
-marker_comes old (variants.Str t) marker at is = absurd (cc)
-marker_comes old (variants.Glyph n) marker at is = absurd (cc)
-marker_comes old variants.CommentOpen marker at is = absurd (cc)
-marker_comes old (variants.Word t) marker at is = absurd (cc)
-marker_comes old variants.CommentClose marker at is = absurd (cc)
-marker_comes old variants.End marker at is = absurd (cc)
-
 -- whether a marker differs from the value for Result, or from `*`
 abbrev pub differs : Option (List ℕ) → List ℕ → Bool
 differs value marker = not (bytes_eq marker (unwrap_or value (codes "*")))
@@ -307,18 +247,8 @@ marker_free old k marker part is none unknown test =
 abbrev leads_to : Part → Kind → Option (List ℕ) → Next
 leads_to part k o = elim o [ Some m ↦ whole (game_of part m) | None ↦ going (with_items part (items_of part k)) ]
 
-marker_whole : (part : Part) (k : Kind) (marker : List ℕ) → marker_of k ≡ Some marker → in_text part k ≡ whole (game_of part marker)
+pub marker_whole : (part : Part) (k : Kind) (marker : List ℕ) → marker_of k ≡ Some marker → in_text part k ≡ whole (game_of part marker)
 marker_whole part k marker is = ap (leads_to part k) is
-
-pub marker_next : (old : Reading) (k : TokenKind) (marker : List ℕ) (part : Part) → ComesInText old k → IsOpen old part → marker_of (kind_of k) ≡ Some marker
-    → next part (kind_of k) ≡ whole (game_of part marker)
-marker_next old k marker part comes is marker_is = next_in_text part k (in_text_of old k part comes is) ∙ marker_whole part (kind_of k) marker marker_is
-
-pub marker_passes : (old : Reading) (k : TokenKind) (marker : List ℕ) (part : Part) → ComesInText old k → IsOpen old part → marker_of (kind_of k) ≡ Some marker
-    → depth (levels_in part) ≡ 0 → old.profile.missing_result ≡ counts_as_unknown → differs (value_of part.pairs (codes "Result")) marker ≡ false
-    → refusal old.profile part (kind_of k) ≡ None
-marker_passes old k marker part comes is marker_is none unknown test =
-    refusal_in_text old.profile part k (in_text_of old k part comes is) ∙ marker_free old k marker part marker_is none unknown test
 
 -- the test of a reader that knows the unknown value
 unwrap_copied : (o : Option (Bor (List ℕ))) (d : Bor (List ℕ)) → (unwrap_or o d).now ≡ unwrap_or (option_copied o) d.now
@@ -333,3 +263,29 @@ test_of held value d known marker test tags same found star is tested =
     tested ∙ ap (λ (n : List ℕ). not (bytes_eq marker n)) (ap (λ (x : Bor (List ℕ)). x.now) is ∙ unwrap_copied value d ∙ ap (unwrap_or (option_copied value)) star)
     ∙ ap (λ (o : Option (List ℕ)). differs o marker) (found ∙ ap (λ (ps : List Pair). value_of ps (codes "Result")) same)
     )
+
+pub none_around : {A : Type 0} (ls : List A) → length ls ≡ 0 → ls ≡ []
+none_around [] e = refl
+none_around (l ∷ ls) e = absurd (omega (arith, e))
+
+-- A symbol that was sought is neither a marker nor a number; one that was not is one of them.
+pub sought : (stage : Stage) (here : Parts) (s : List ℕ) (r : Result Played Reason) → Some r ≡ found_of (is_open stage && not (is_score s || is_number s)) here s
+    → (is_number s ≡ false) × (is_score s ≡ false) × (r ≡ found_in here (move_of here s))
+sought stage here s r e = by_tests (is_open stage) (is_score s) (is_number s) refl refl e
+  where
+    by_tests : (at_text score number : Bool) → is_score s ≡ score → is_number s ≡ number → Some r ≡ found_of (at_text && not (score || number)) here s
+        → (is_number s ≡ false) × (is_score s ≡ false) × (r ≡ found_in here (move_of here s))
+    by_tests true false false is number e = (number, is, cc)
+    by_tests true false true is number e = absurd (cc)
+    by_tests true true number is other e = absurd (cc)
+    by_tests false score number is other e = absurd (cc)
+
+pub unsought : (stage : Stage) (here : Parts) (s : List ℕ) → IsTrue (is_open stage) → is_score s ≡ false
+    → None ≡ found_of (is_open stage && not (is_score s || is_number s)) here s → is_number s ≡ true
+unsought stage here s at other e = by_tests (is_open stage) (is_score s) (is_number s) refl at other e
+  where
+    by_tests : (at_text score number : Bool) → is_number s ≡ number → at_text ≡ true → score ≡ false → None ≡ found_of (at_text && not (score || number)) here s → is_number s ≡ true
+    by_tests at_text score true is at other e = is
+    by_tests true false false is at other e = absurd (cc)
+    by_tests true true false is at other e = absurd (cc)
+    by_tests false score false is at other e = absurd (cc)

@@ -82,7 +82,7 @@ full_lines-front (l ∷ m ∷ ls) =
     (rest.0, ap (λ x. (l ++ 10 ∷ []) ++ x) rest.1 ∙ sym (append_assoc (l ++ 10 ∷ []) (text_of_lines (full_lines (m ∷ ls))) rest.0))
 
 -- Items.
-placed-append : (start : Parts) (ls : Levels) (xs ys : List Item) → placed_from start ls (xs ++ ys) ≡ placed_from start ls xs ++ placed_from start (fold levels_after ls xs) ys
+pub placed-append : (start : Parts) (ls : Levels) (xs ys : List Item) → placed_from start ls (xs ++ ys) ≡ placed_from start ls xs ++ placed_from start (fold levels_after ls xs) ys
 placed-append start ls [] ys = refl
 placed-append start ls (x ∷ xs) ys = ap (λ l. record { position = here start ls; depth = depth ls; item = x } ∷ l) (placed-append start (levels_after ls x) xs ys)
 

@@ -1,3 +1,4 @@
+mod Accepting
 mod Adding
 mod Appending
 mod AtEnd
@@ -11,11 +12,14 @@ mod HeldLevels
 mod InPiece
 mod InText
 mod Items
+mod Judging
+mod LegalMoves
+mod LegalRows
 mod MoveRows
-mod Moves
 mod NextGrows
 mod OneToken
 mod Ordering
+mod Pairing
 mod Passing
 mod Putting
 mod Refusing

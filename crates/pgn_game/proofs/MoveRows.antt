@@ -274,3 +274,24 @@ position_does_not_carry_over = (refl, refl)
 second_game_refused : Gives plain (codes "1. e4 * 1. e4 Ke7 *") (fault 14 IllegalMove) (head ++ codes "1. e4 *\n\n" ++ head)
 unfolding refusal roster move_of play text_of_move position_of first_position squares agreeing digits
 second_game_refused = (refl, refl)
+
+-- a line holds 79 bytes, and no more (PGN 8.2.1)
+line_of_79_bytes : Gives plain (codes "1. e4 {" ++ replicate 71 119 ++ codes "} *") (played 1)
+    (head ++ codes "1. e4 { " ++ replicate 71 119 ++ codes "\n} *\n\n")
+unfolding refusal roster move_of play text_of_move position_of first_position squares agreeing digits
+line_of_79_bytes = (refl, refl)
+
+line_of_80_bytes : Gives plain (codes "1. e4 {" ++ replicate 72 119 ++ codes "} *") (played 1)
+    (head ++ codes "1. e4 {\n" ++ replicate 72 119 ++ codes " } *\n\n")
+unfolding refusal roster move_of play text_of_move position_of first_position squares agreeing digits
+line_of_80_bytes = (refl, refl)
+
+last_line_of_79_bytes : Gives plain (codes "1. e4 {" ++ replicate 67 119 ++ codes "} *") (played 1)
+    (head ++ codes "1. e4 { " ++ replicate 67 119 ++ codes " } *\n\n")
+unfolding refusal roster move_of play text_of_move position_of first_position squares agreeing digits
+last_line_of_79_bytes = (refl, refl)
+
+last_line_of_80_bytes : Gives plain (codes "1. e4 {" ++ replicate 68 119 ++ codes "} *") (played 1)
+    (head ++ codes "1. e4 { " ++ replicate 68 119 ++ codes " }\n*\n\n")
+unfolding refusal roster move_of play text_of_move position_of first_position squares agreeing digits
+last_line_of_80_bytes = (refl, refl)

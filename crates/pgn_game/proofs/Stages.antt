@@ -1,16 +1,14 @@
 -- What the handlers of the stages show of tokens and of the pairs.
-use Rattle.std.proofs.Common.{◌≡◌, ℕ, Bool, false, None, refl, sym, ap, subst, ◌∙◌}
+use Rattle.std.proofs.Common.{◌≡◌, Bool, false, refl, sym, ap, ◌∙◌}
 use Rattle.pgn_lexer.specs.Scanned.{kind_of}
 use Rattle.pgn_lexer.specs.declared.token.TokenKind.{TokenKind}
 use Rattle.pgn_lexer.specs.declared.token.TokenKind.TheVariants as variants
-use Rattle.pgn_game.specs.declared.stage.Stage.{Stage}
-use Rattle.pgn_game.specs.declared.stage.Stage.TheVariants.{Between, AfterTags, InMovetext}
+use Rattle.pgn_game.specs.declared.stage.Stage.TheVariants.{AfterTags}
 use Rattle.pgn_game.specs.Game.{Part}
 use Rattle.pgn_game.specs.Holding.{TagPairs}
 use Rattle.pgn_game.specs.FaultTable.{is_left_bracket, is_end, lacks_fen}
-use Rattle.pgn_game.specs.Reading.{Reading, Agrees, AreSound}
-use Rattle.std.specs.Prelude.{IsTrue}
-use Rattle.pgn_game.proofs.Moves.{is_quiet, held_at}
+use Rattle.pgn_game.specs.Reading.{Reading, Agrees}
+use Rattle.pgn_game.proofs.Judging.{held_at}
 
 -- a token that is no `[`, and one that is not the end
 pub no_bracket : (k : TokenKind) → (k ≡ variants.LeftBracket → ⊥) → is_left_bracket (kind_of k) ≡ false
@@ -42,17 +40,6 @@ no_end variants.CommentOpen other = refl
 no_end (variants.Word t) other = refl
 no_end variants.CommentClose other = refl
 no_end variants.End other = absurd (other refl)
-
--- between games nothing stands written
-pub quiet_between : (stage : Stage) → stage ≡ Between → IsTrue (is_quiet stage)
-quiet_between stage at = subst (λ (s : Stage). IsTrue (is_quiet s)) (sym at) refl
-
--- after the pairs and in movetext no name waits for its value
-pub whole_after : (most : ℕ) (stage : Stage) (tags : TagPairs) → stage ≡ AfterTags → AreSound most stage tags → tags.begun ≡ None
-whole_after most stage tags at sound = subst (λ (s : Stage). AreSound most s tags) at sound
-
-pub whole_within : (most : ℕ) (stage : Stage) (tags : TagPairs) → stage ≡ InMovetext → AreSound most stage tags → tags.begun ≡ None
-whole_within most stage tags at sound = subst (λ (s : Stage). AreSound most s tags) at sound
 
 -- the pairs held are those of the part, so SetUp asks for the same
 pub lacks_of : (old : Reading) (part : Part) (lacks : Bool) → Agrees old part → old.stage ≡ AfterTags → lacks_fen old.tags.held ≡ lacks → lacks_fen part.pairs ≡ lacks

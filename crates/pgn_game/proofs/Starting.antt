@@ -1,6 +1,6 @@
 -- Where a game begins, from its pairs.
 use Rattle.std.proofs.Common.{◌≡◌, ℕ, ◌&&◌, Bool, true, false, not, List, [], ◌∷◌, Option, None, Some, refl, sym, ap, ◌∙◌}
-use Rattle.std.specs.Prelude.{codes, bytes_eq, is_some, unwrap_or, Result, Ok, Err}
+use Rattle.std.specs.Prelude.{codes, bytes_eq, is_ok, is_some, unwrap_or, IsTrue, Result, Ok, Err}
 use Rattle.chess_rules.specs.declared.position.Parts.{Parts}
 use Rattle.chess_text.specs.declared.fen.FenFault.{FenFault}
 use Rattle.chess_text.specs.Fen.{read as read_text}
@@ -9,7 +9,7 @@ use Rattle.pgn_game.specs.Chess.{position_of}
 use Rattle.pgn_game.specs.Pairs.{Pair, value_of, has_pair, comes_before, insert_pair}
 use Rattle.pgn_game.specs.Here.{start_of, start_by, position_or_first}
 use Rattle.pgn_game.specs.FaultTable.{field_of, fen_field}
-use Rattle.pgn_game.specs.Handling.{start_told}
+use Rattle.pgn_game.specs.Judging.{start_told}
 use Rattle.pgn_game.proofs.Exporting.{pick, value_of-cons, value_of-insert, bytes_eq-true, bytes_eq-refl}
 
 not_picked : (b : Bool) (v : List ℕ) (o : Option (List ℕ)) → is_some (pick b v o) ≡ false → (b ≡ false) × (is_some o ≡ false)
@@ -86,3 +86,11 @@ faults_by true (Err fault) field told = (refl, cc)
 pub start_faults : (name value : List ℕ) (field : ℕ) → start_told name value ≡ Err field
     → ((bytes_eq name (codes "FEN") && is_some (fen_field value)) ≡ true) × (unwrap_or (fen_field value) 0 ≡ field)
 start_faults name value field told = faults_by (bytes_eq name (codes "FEN")) (position_of value) field told
+
+-- so a pair that is no FEN or a good one
+pub start_fine : (name value : List ℕ) → IsTrue (is_ok (start_told name value)) → (bytes_eq name (codes "FEN") && is_some (fen_field value)) ≡ false
+start_fine name value fine = by_told (start_told name value) refl fine
+  where
+    by_told : (r : Result (Option Parts) ℕ) → start_told name value ≡ r → IsTrue (is_ok r) → (bytes_eq name (codes "FEN") && is_some (fen_field value)) ≡ false
+    by_told (Ok start) e fine = start_passes name value start e
+    by_told (Err field) e fine = absurd (cc)

@@ -27,7 +27,8 @@ use Rattle.pgn_game.specs.FaultTable.{refusal, is_comment, in_name, is_result, i
 use Rattle.pgn_game.specs.Begun.{Next, next, going, whole}
 use Rattle.pgn_game.specs.Spells.{AreDropped, pair, SpellsPairs, no_pair, next_pair, by_name, IsSetUp, Stands, number, period, glyph, comment_open, word, comment_close, Names, nothing_played, has_played, SpellsText, no_more, token, move, variation, BeginsBare, IsResult, SpellsGame, SpellsGames, no_game, next_game}
 use Rattle.pgn_game.proofs.Runs.{at, Runs, ends, goes, finishes}
-use Rattle.pgn_game.proofs.Passing.{or_else, test_failed, rest_passed, opening, opening_between, naming, valuing, is_textual, after_tags, leads_after_tags, between, leads_between, varying, unvarying, starring, symbol_fault, symbolic}
+use Rattle.pgn_game.specs.Judging.{or_else}
+use Rattle.pgn_game.proofs.Passing.{test_failed, rest_passed, opening, opening_between, naming, valuing, is_textual, after_tags, leads_after_tags, between, leads_between, varying, unvarying, starring, symbol_fault, symbolic}
 use Rattle.pgn_game.proofs.Collecting.{with_pairs, Takes, taken}
 use Rattle.pgn_game.proofs.Texting.{levels_more, differs, result_is, marked, other_score, symbol_next}
 

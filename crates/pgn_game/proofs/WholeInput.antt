@@ -1,7 +1,6 @@
 -- Conversions of whole inputs.
-use Rattle.std.proofs.Common.{◌≡◌, ℕ, ◌+◌, ◌^◌, ◌<◌, ◌≤◌, List, [], ◌∷◌, ◌++◌, length, take, drop, Option, None, Some, Result, Ok, Err, IfSome, OnOk, refl, sym, ap, subst, ◌∙◌, append-nil, append_assoc, length-append, length-take-le, length-drop, arith}
+use Rattle.std.proofs.Common.{◌≡◌, ℕ, ◌^◌, ◌<◌, ◌≤◌, List, [], ◌∷◌, ◌++◌, length, Option, None, Some, Result, Ok, Err, IfSome, OnOk, refl, sym, ap, subst, ◌∙◌, append-nil, append_assoc}
 use Rattle.std.specs.Prelude.{map, sum}
-use Rattle.std.proofs.lemmas.List.{take-append-drop}
 use Rattle.std.proofs.KnownBytes.{Consumes-nil, Consumes-trans}
 use Rattle.std.specs.Io.KnownBytes.{Appends, Consumes, Keeps, IsAtEnd}
 use Rattle.pgn_lexer.specs.Tokens.{Token}
@@ -16,71 +15,11 @@ use Rattle.pgn_game.specs.Here.{plies_of}
 use Rattle.pgn_game.specs.Reading.{whole_plies}
 use Rattle.pgn_game.specs.Begun.{nothing_begun, Read, read, written, due, refused as is_refused, totals, verdict_of}
 use Rattle.pgn_game.specs.Due.{Gains}
-use Rattle.pgn_game.specs.Feeding.{Converter, Stands, Stops, refused, unwritten, StopsWriting, FedFault, AfterFeedAll, Finishes}
-use Rattle.pgn_game.specs.Converting.{IsConverted, IsTotalled, ReadsNoMore, FailsOn, Fails, FedWithin, FedTooMuch, StopsWithin, AfterWithin, AfterSome, AfterEnd, ReadSoFar, Converts, ConvertsSlice}
+use Rattle.pgn_game.specs.Feeding.{Converter, Stands, Stops, refused, unwritten, StopsWriting, StopsIn, at_token, too_long, FedFault, FedWhole, ReadsUpTo, Finishes}
+use Rattle.pgn_game.specs.Converting.{IsConverted, IsTotalled, ReadsNoMore, FailsOn, Fails, AfterEnd, ReadSoFar, Converts, ConvertsSlice}
 use Rattle.pgn_game.specs.Converting as converting
 use Rattle.pgn_game.proofs.Growing.{torn-none, gains_none, gains_more, stops_more, stops_from}
 use Rattle.pgn_game.proofs.OneToken.{still_none-none}
-
--- a piece without a byte
-pub fed_nothing : (p : Profile) (u : List ℕ) (given : List Token) (piece : List ℕ) (c : Converter) (o : Option (List ℕ)) → length piece ≡ 0 → Stands p c u None given → given ≡ decided u
-    → FedWithin p u given piece c o o
-fed_nothing p u given [] c o none stands is_decided =
-    record {
-      tokens = given;
-      stands = subst (λ xs. Stands p c xs None given) (sym (append-nil u)) stands;
-      decided = is_decided ∙ ap decided (sym (append-nil u));
-      gains = gains_none p given o;
-    }
-fed_nothing p u given (x ∷ xs) c o none stands is_decided = absurd (omega (arith, none))
-
--- a piece with some
-pub fed_some : (p : Profile) (u : List ℕ) (given : List Token) (piece : List ℕ) (new : Converter) (r : Result Unit Fault) (a c : Option (List ℕ)) → 0 < length piece
-    → AfterFeedAll p u None given piece new r a c → AfterSome p u given piece new r a c
-fed_some p u given piece new (Ok x) a c some (tokens, stands, is_decided, gains) =
-    record {
-      tokens = tokens;
-      stands = subst (λ b. Stands p new (u ++ piece) b tokens) (still_none-none piece) stands;
-      decided = is_decided some;
-      gains = gains;
-    }
-fed_some p u given piece new (Err f) a c some fed = fed
-
-pub within : (p : Profile) (u : List ℕ) (given : List Token) (piece : List ℕ) (new : Converter) (r : Result Unit Fault) (a c : Option (List ℕ)) → AfterSome p u given piece new r a c
-    → AfterWithin p u given piece new r a c
-within p u given piece new (Ok x) a c fed = fed
-within p u given piece new (Err f) a c fed = converting.fed f fed
-
--- a fault in a front of the piece is one in the piece
-pub fault_in_front : (p : Profile) (u : List ℕ) (given : List Token) (piece : List ℕ) (n : ℕ) (f : Fault) (a c : Option (List ℕ)) → FedFault p u None given (take n piece) f a c
-    → FedFault p u None given piece f a c
-fault_in_front p u given piece n f a c fed =
-    record {
-      tokens = fed.tokens;
-      next = λ s follows.
-          let whole : (u ++ piece) ++ s ≡ (u ++ take n piece) ++ (drop n piece ++ s) =
-          ap (λ xs. (u ++ xs) ++ s) (sym (take-append-drop n piece)) ∙ ap (λ xs. xs ++ s) (sym (append_assoc u (take n piece) (drop n piece)))
-          ∙ append_assoc (u ++ take n piece) (drop n piece) s in
-          let begun = fed.next (drop n piece ++ s) (subst (λ b. Follows b (drop n piece ++ s)) (sym (still_none-none (take n piece))) tt) in
-          (begun.0, ap tokens_of whole ∙ begun.1);
-      stops = fed.stops;
-    }
-
--- the piece goes on past the last place
-pub too_much : (p : Profile) (u : List ℕ) (given : List Token) (piece : List ℕ) (n : ℕ) (new : Converter) (a c : Option (List ℕ)) → length u + n ≡ 2 ^ 62 → n < length piece
-    → FedWithin p u given (take n piece) new a c → FedTooMuch p u given piece a c
-too_much p u given piece n new a c place more fed =
-    record {
-      front = take n piece;
-      rest = drop n piece;
-      tokens = fed.tokens;
-      cut = sym (take-append-drop n piece);
-      place = omega (arith, place, length-append u (take n piece), length-take-le n piece (omega (arith, more)));
-      some = omega (arith, length-drop n piece, more);
-      decided = fed.decided;
-      passes = fed.stands.has_read.passes;
-      gains = fed.gains;
-    }
 
 verdict_passes : (r : Read) → r.fault ≡ None → verdict_of r ≡ totals (record { games = length r.begun.games; plies = sum (map plies_of r.begun.games) })
 verdict_passes r e = ap (λ (o : Option Fault). elim o [ Some f ↦ is_refused f | None ↦ totals (record { games = length r.begun.games; plies = sum (map plies_of r.begun.games) }) ]) e
@@ -109,7 +48,7 @@ read_none p c left o stands =
     record { bytes = []; tokens = []; consumed = Consumes-nil left; stands = stands; decided = refl; gains = gains_none p [] o }
 
 pub read_more : (p : Profile) (left_old left left_new : Option (List ℕ)) (now new : Converter) (a c d : Option (List ℕ)) (piece : List ℕ) (so : ReadSoFar p left_old left now a c)
-    → Consumes left left_new piece → FedWithin p so.bytes so.tokens piece new c d → ReadSoFar p left_old left_new new a d
+    → Consumes left left_new piece → FedWhole p so.bytes so.tokens piece new c d → ReadSoFar p left_old left_new new a d
 read_more p left_old left left_new now new a c d piece so consumed fed =
     record {
       bytes = so.bytes ++ piece;
@@ -180,8 +119,10 @@ known_whole (Some s) (Some rest) u P h end here = subst P (sym (h ∙ ap (λ l. 
 
 -- a piece stopped it
 pub stops_in_piece : (p : Profile) (left_old left left_new : Option (List ℕ)) (now : Converter) (a c d : Option (List ℕ)) (piece : List ℕ) (f : Fault) (so : ReadSoFar p left_old left now a c)
-    → Consumes left left_new piece → StopsWithin p so.bytes so.tokens piece c d f → Fails p left_old left_new a d f
-stops_in_piece p left_old left left_new now a c d piece f so consumed (converting.fed g fed) =
+    → Consumes left left_new piece
+    → StopsIn so.bytes piece (λ fault. FedFault p so.bytes None so.tokens piece fault c d) (λ front. ReadsUpTo p so.tokens (so.bytes ++ front) c d) f
+    → Fails p left_old left_new a d f
+stops_in_piece p left_old left left_new now a c d piece f so consumed (at_token g fed) =
     by_stops (stops_more p [] so.tokens fed.tokens g a c d so.gains fed.stops)
   where
     all : Consumes left_old left_new (so.bytes ++ piece)
@@ -198,12 +139,12 @@ stops_in_piece p left_old left left_new now a c d piece f so consumed (convertin
         let here = goes [] in
         let cut : tokens_of (so.bytes ++ piece) ≡ fed.tokens ++ here.0 = ap tokens_of (sym (append-nil (so.bytes ++ piece))) ∙ here.1 in
         converting.unwritten (so.bytes ++ piece) at all (subst (λ ts. StopsWriting p [] ts at a d) (sym cut) (further_writing p [] fed.tokens here.0 at a d writing))
-stops_in_piece p left_old left left_new now a c d piece f so consumed (converting.too_long much) =
+stops_in_piece p left_old left left_new now a c d piece f so consumed (too_long front rest cut place some before) =
     let all = Consumes-trans left_old left left_new so.bytes piece so.consumed consumed in
-    let cut : so.bytes ++ piece ≡ (so.bytes ++ much.front) ++ much.rest = ap (λ xs. so.bytes ++ xs) much.cut ∙ sym (append_assoc so.bytes much.front much.rest) in
-    subst (λ n. Fails p left_old left_new a d (record { at = n; reason = InputTooLong })) much.place
-    (converting.too_long (so.bytes ++ much.front) much.rest (subst (Consumes left_old left_new) cut all) much.place much.some
-    (no_more p (so.bytes ++ much.front) much.tokens a d much.decided much.passes (gains_more p [] so.tokens much.tokens a c d so.gains much.gains)))
+    let text : so.bytes ++ piece ≡ (so.bytes ++ front) ++ rest = ap (λ xs. so.bytes ++ xs) cut ∙ sym (append_assoc so.bytes front rest) in
+    subst (λ n. Fails p left_old left_new a d (record { at = n; reason = InputTooLong })) place
+    (converting.too_long (so.bytes ++ front) rest (subst (Consumes left_old left_new) text all) place some
+    (no_more p (so.bytes ++ front) before.tokens a d before.decided before.passes (gains_more p [] so.tokens before.tokens a c d so.gains before.gains)))
 
 -- the source's end
 pub ends_here : (p : Profile) (left_old left left_new : Option (List ℕ)) (now : Converter) (a c d : Option (List ℕ)) (r : Result Totals Fault) (so : ReadSoFar p left_old left now a c)
@@ -224,8 +165,9 @@ ends_here p left_old left left_new now a c d (Err f) so consumed end stops = by_
     by_stops (unwritten at writing) = converting.unwritten so.bytes at all writing
 
 -- a slice, fed from the start on
-pub slice_stops : (p : Profile) (f : Fault) (text : List ℕ) (a c : Option (List ℕ)) → StopsWithin p [] [] text a c f → FailsOn p text a c f
-slice_stops p f text a c (converting.fed g fed) = by_stops fed.stops
+pub slice_stops : (p : Profile) (f : Fault) (text : List ℕ) (a c : Option (List ℕ))
+    → StopsIn [] text (λ fault. FedFault p [] None [] text fault a c) (λ front. ReadsUpTo p [] front a c) f → FailsOn p text a c f
+slice_stops p f text a c (at_token g fed) = by_stops fed.stops
   where
     goes : (s : List ℕ) → (rest : List Token) × (tokens_of (text ++ s) ≡ fed.tokens ++ rest)
     goes s = fed.next s (subst (λ b. Follows b s) (sym (still_none-none text)) tt)
@@ -237,11 +179,11 @@ slice_stops p f text a c (converting.fed g fed) = by_stops fed.stops
     by_stops (refused h fault gains) = converting.FailsOn.refused h (refused_text p text fed.tokens here.0 h a c here.1 fault gains)
     by_stops (unwritten at writing) =
         converting.FailsOn.unwritten at (subst (λ ts. StopsWriting p [] ts at a c) (sym here.1) (further_writing p [] fed.tokens here.0 at a c writing))
-slice_stops p f text a c (converting.too_long much) =
-    subst (λ n. FailsOn p text a c (record { at = n; reason = InputTooLong })) much.place
-    (converting.FailsOn.too_long much.front much.rest much.cut much.place much.some (no_more p much.front much.tokens a c much.decided much.passes much.gains))
+slice_stops p f text a c (too_long front rest cut place some before) =
+    subst (λ n. FailsOn p text a c (record { at = n; reason = InputTooLong })) place
+    (converting.FailsOn.too_long front rest cut place some (no_more p front before.tokens a c before.decided before.passes before.gains))
 
-pub slice_ends : (p : Profile) (text : List ℕ) (now : Converter) (a c d : Option (List ℕ)) (r : Result Totals Fault) (fed : FedWithin p [] [] text now a c) → AfterEnd p text fed.tokens r c d
+pub slice_ends : (p : Profile) (text : List ℕ) (now : Converter) (a c d : Option (List ℕ)) (r : Result Totals Fault) (fed : FedWhole p [] [] text now a c) → AfterEnd p text fed.tokens r c d
     → ConvertsSlice p text r a d
 slice_ends p text now a c d (Ok t) fed (is_verdict, probes, gains) =
     record { converted = (is_verdict, appended p (tokens_of text) a d (gains_more p [] fed.tokens (tokens_of text) a c d fed.gains gains)); probes = probes }

@@ -6,13 +6,13 @@ use Rattle.pgn_lexer.specs.Tokens.{Token}
 use Rattle.pgn_lexer.specs.TokensOf.{tokens_of}
 use Rattle.pgn_lexer.specs.Decided.{decided}
 use Rattle.pgn_game.specs.declared.reason.Reason.{Reason}
-use Rattle.pgn_game.specs.declared.reason.Reason.TheVariants.{ReadFault, WriteFault, InputTooLong, Changed}
+use Rattle.pgn_game.specs.declared.reason.Reason.TheVariants.{ReadFault, WriteFault, InputTooLong}
 use Rattle.pgn_game.specs.declared.reason.Fault.{Fault}
 use Rattle.pgn_game.specs.declared.whole.Totals.{Totals}
 use Rattle.pgn_game.specs.Profile.{Profile}
 use Rattle.pgn_game.specs.Begun.{read, due, output, Verdict, refused as is_refused, totals, verdict}
 use Rattle.pgn_game.specs.Due.{Gains}
-use Rattle.pgn_game.specs.Feeding.{Converter, play_moves, Stands, StopsWriting, Stops, FedFault}
+use Rattle.pgn_game.specs.Feeding.{Converter, play_moves, Stands, StopsWriting, Stops}
 
 -- the verdict that has these numbers
 abbrev pub verdict_in : Totals → Verdict
@@ -82,56 +82,6 @@ CountsWriting _ old new = new ≡ old
 abbrev pub CountsSink : {A : Type 0} → Result A Fault → ℕ → ℕ → Type 0
 CountsSink (Ok t) old new = new ≡ old
 CountsSink (Err f) old new = CountsWriting f.reason old new
-
--- The piece, or what of it stands before place 2^62, was fed to a converter that had read all that the bytes u decide.
-pub record FedWithin (p : Profile) (u : List ℕ) (given : List Token) (piece : List ℕ) (new : Converter) (before after : Option (List ℕ)) : Type 0 where
-  pub tokens : List Token
-  pub stands : Stands p new (u ++ piece) None tokens
-  pub decided : tokens ≡ decided (u ++ piece)
-  pub gains : Gains p given tokens before after
-
--- the byte at place 2^62 is in the piece, and what stands before it was fed
-pub record FedTooMuch (p : Profile) (u : List ℕ) (given : List Token) (piece : List ℕ) (before after : Option (List ℕ)) : Type 0 where
-  pub front : List ℕ
-  pub rest : List ℕ
-  pub tokens : List Token
-  pub cut : piece ≡ front ++ rest
-  pub place : length (u ++ front) ≡ 2 ^ 62
-  pub some : 0 < length rest
-  pub decided : tokens ≡ decided (u ++ front)
-  pub passes : (read p tokens).fault ≡ None
-  pub gains : Gains p given tokens before after
-
-pub data StopsWithin (p : Profile) (u : List ℕ) (given : List Token) (piece : List ℕ) (before after : Option (List ℕ)) : Fault → Type 0 where
-  fed : (f : Fault) → FedFault p u None given piece f before after → StopsWithin p u given piece before after f
-  too_long : FedTooMuch p u given piece before after → StopsWithin p u given piece before after (record { at = 2 ^ 62; reason = InputTooLong })
-
-abbrev pub AfterWithin : Profile → List ℕ → List Token → List ℕ → Converter → Result Unit Fault → Option (List ℕ) → Option (List ℕ) → Type 0
-AfterWithin p u given piece new (Ok done) before after = FedWithin p u given piece new before after
-AfterWithin p u given piece new (Err f) before after = StopsWithin p u given piece before after f
-
-abbrev pub FeedsWithin : Converter → List ℕ → Converter → Result Unit Fault → Option (List ℕ) → Option (List ℕ) → Type 0
-FeedsWithin old piece new result before after =
-    (p : Profile) (u : List ℕ) (given : List Token) → Stands p old u None given → given ≡ decided u → AfterWithin p u given piece new result before after
-
-abbrev pub AfterSome : Profile → List ℕ → List Token → List ℕ → Converter → Result Unit Fault → Option (List ℕ) → Option (List ℕ) → Type 0
-AfterSome p u given piece new (Ok done) before after = FedWithin p u given piece new before after
-AfterSome p u given piece new (Err f) before after = FedFault p u None given piece f before after
-
-abbrev pub FeedsSome : Converter → List ℕ → Converter → Result Unit Fault → Option (List ℕ) → Option (List ℕ) → Type 0
-FeedsSome old piece new result before after =
-    (p : Profile) (u : List ℕ) (given : List Token) → Stands p old u None given → given ≡ decided u → AfterSome p u given piece new result before after
-
--- a piece counts nothing but a write that fails; 50 and 53 are never answered to one
-abbrev pub CountsWithin : Reason → ℕ → ℕ → Type 0
-CountsWithin WriteFault old new = new ≡ one_more old
-CountsWithin ReadFault old new = ⊥
-CountsWithin Changed old new = ⊥
-CountsWithin _ old new = new ≡ old
-
-abbrev pub CountsPiece : Result Unit Fault → ℕ → ℕ → Type 0
-CountsPiece (Ok done) old new = new ≡ old
-CountsPiece (Err f) old new = CountsWithin f.reason old new
 
 -- How a conversion ends behind the bytes u, which are then the whole input.
 abbrev pub AfterEnd : Profile → List ℕ → List Token → Result Totals Fault → Option (List ℕ) → Option (List ℕ) → Type 0

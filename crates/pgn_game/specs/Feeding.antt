@@ -140,12 +140,15 @@ pub record FedAll (p : Profile) (u : List ℕ) (b : Option ℕ) (given : List To
   pub none_at_hand : new.at_hand ≡ None
   pub gains : Gains p given tokens before after
 
--- The used bytes end with a marker: it finished a game, which is at hand, and no token before it did; what they gain was written.
+-- The used bytes end with a marker: it finished a game, which is at hand, and no token before it
+-- did; what they gain was written. A byte at place 2^62 is never looked at.
 pub record FedGame (p : Profile) (u : List ℕ) (given : List Token) (piece : List ℕ) (used : ℕ) (new : Converter) (before after : Option (List ℕ)) : Type 0 where
   pub tokens : List Token
   pub marker : Token
   pub game : Game
   pub stands : Stands p new (u ++ take used piece) (first (drop used piece)) (tokens ++ marker ∷ [])
+  pub at_limit : length (u ++ take used piece) ≡ 2 ^ 62
+      → tokens ++ marker ∷ [] ≡ decided (u ++ take used piece)
   pub decided : IsDecided (u ++ take used piece) (drop used piece) (tokens ++ marker ∷ [])
   pub ends : EndsAt marker.kind marker.at (length u + used)
   pub no_game : (read p tokens).begun.games ≡ (read p given).begun.games
@@ -169,25 +172,68 @@ pub record FedToFault (p : Profile) (u : List ℕ) (b : Option ℕ) (given : Lis
   pub fed : FedFault p u b given piece f before after
   pub no_game : games_before fed.stops ≡ (read p given).begun.games
 
-abbrev pub AfterFeed : Profile → List ℕ → Option ℕ → List Token → List ℕ → Converter → Result Fed Fault → Option (List ℕ) → Option (List ℕ) → Type 0
+-- How reading stops in a piece that follows the bytes u: at one of its tokens; or because the byte
+-- at place 2^62 is in it, and then `Before` says what was read and written of the bytes before that
+-- place.
+pub data StopsIn (u piece : List ℕ) (AtToken : Fault → Type 0) (Before : List ℕ → Type 0) :
+    Fault → Type 0 where
+  at_token : (f : Fault) → AtToken f → StopsIn u piece AtToken Before f
+  too_long : (front rest : List ℕ) → piece ≡ front ++ rest → length (u ++ front) ≡ 2 ^ 62
+      → 0 < length rest → Before front
+      → StopsIn u piece AtToken Before (record { at = 2 ^ 62; reason = InputTooLong })
+
+abbrev pub AfterFeed : Profile → List ℕ → Option ℕ → List Token → List ℕ → Converter
+    → Result Fed Fault → Option (List ℕ) → Option (List ℕ) → Type 0
 AfterFeed p u b given piece new (Ok All) before after = FedAll p u b given piece new before after
-AfterFeed p u b given piece new (Ok (GameEnd used)) before after = FedGame p u given piece used new before after
-AfterFeed p u b given piece new (Err f) before after = FedToFault p u b given piece f before after
+AfterFeed p u b given piece new (Ok (GameEnd used)) before after =
+    FedGame p u given piece used new before after
+AfterFeed p u b given piece new (Err f) before after =
+    StopsIn u piece (λ fault. FedToFault p u b given piece fault before after)
+    (λ front. (now : Converter) × FedAll p u b given front now before after) f
 
 -- What `feed` does to a converter that stands after any bytes.
 abbrev pub Feeds : Converter → List ℕ → Converter → Result Fed Fault → Option (List ℕ) → Option (List ℕ) → Type 0
 Feeds old piece new result before after =
     (p : Profile) (u : List ℕ) (b : Option ℕ) (given : List Token) → Stands p old u b given → Follows b piece → AfterFeed p u b given piece new result before after
 
--- How a call that feeds the whole piece ends, however many games are finished in it.
-abbrev pub AfterFeedAll : Profile → List ℕ → Option ℕ → List Token → List ℕ → Converter → Result Unit Fault → Option (List ℕ) → Option (List ℕ) → Type 0
-AfterFeedAll p u b given piece new (Ok done) before after =
-    (tokens : List Token) × Stands p new (u ++ piece) (still b piece) tokens × (0 < length piece → tokens ≡ decided (u ++ piece)) × Gains p given tokens before after
-AfterFeedAll p u b given piece new (Err f) before after = FedFault p u b given piece f before after
+-- Unless a game is finished no game is counted, and none is at hand.
+abbrev pub KeepsGames : Converter → Converter → Result Fed Fault → Type 0
+KeepsGames old new (Ok (GameEnd used)) = Unit {0}
+KeepsGames old new (Ok All) = (new.games ≡ old.games) × (new.at_hand ≡ None)
+KeepsGames old new (Err f) = (new.games ≡ old.games) × (new.at_hand ≡ None)
 
-abbrev pub FeedsAll : Converter → List ℕ → Converter → Result Unit Fault → Option (List ℕ) → Option (List ℕ) → Type 0
+-- The whole piece was used, however many games are finished in it: all tokens that are decided then
+-- were read, and what they gain was written.
+pub record FedWhole (p : Profile) (u : List ℕ) (given : List Token) (piece : List ℕ) (new : Converter)
+    (before after : Option (List ℕ)) : Type 0 where
+  pub tokens : List Token
+  pub stands : Stands p new (u ++ piece) None tokens
+  pub decided : tokens ≡ decided (u ++ piece)
+  pub gains : Gains p given tokens before after
+
+-- all tokens that the bytes u decide were read, none is refused, and what they gain was written
+pub record ReadsUpTo (p : Profile) (given : List Token) (u : List ℕ)
+    (before after : Option (List ℕ)) : Type 0 where
+  pub tokens : List Token
+  pub decided : tokens ≡ decided u
+  pub passes : (read p tokens).fault ≡ None
+  pub gains : Gains p given tokens before after
+
+-- how a call ends that feeds the whole piece
+abbrev pub AfterFeedAll : Profile → List ℕ → List Token → List ℕ → Converter
+    → Result Unit Fault → Option (List ℕ) → Option (List ℕ) → Type 0
+AfterFeedAll p u given piece new (Ok done) before after = FedWhole p u given piece new before after
+AfterFeedAll p u given piece new (Err f) before after =
+    StopsIn u piece (λ fault. FedFault p u None given piece fault before after)
+    (λ front. ReadsUpTo p given (u ++ front) before after) f
+
+-- What `feed_all` does to a converter that has read all that the bytes u decide.
+abbrev pub FeedsAll : Converter → List ℕ → Converter → Result Unit Fault
+    → Option (List ℕ) → Option (List ℕ) → Type 0
 FeedsAll old piece new result before after =
-    (p : Profile) (u : List ℕ) (b : Option ℕ) (given : List Token) → Stands p old u b given → Follows b piece → AfterFeedAll p u b given piece new result before after
+    (p : Profile) (u : List ℕ) (given : List Token)
+    → Stands p old u None given → given ≡ decided u
+    → AfterFeedAll p u given piece new result before after
 
 -- how much of the piece was used
 abbrev pub used_of : Fed → List ℕ → ℕ
@@ -231,12 +277,12 @@ KeepsFault new (Err f) = new.fault ≡ Some f
 abbrev pub Again : {A S : Type 0} → Converter → Converter → Result A Fault → S → S → Type 0
 Again old new result out_old out_new = (f : Fault) → old.fault ≡ Some f → (result ≡ Err f) × (new ≡ old) × (out_new ≡ out_old)
 
--- 51 is first answered where the sink counts one failure more, and nowhere else does it count one. 50, 52 and 53 are no converter's
--- own: they are answered by calls over a whole input.
+-- A write fault is first answered where the sink counts one failure more, and nowhere else does it
+-- count one. A read that failed and an input that changed are no converter's own: calls over a
+-- whole input answer them.
 abbrev pub CountsReason : Reason → ℕ → ℕ → Type 0
 CountsReason WriteFault old new = new ≡ one_more old
 CountsReason ReadFault old new = ⊥
-CountsReason InputTooLong old new = ⊥
 CountsReason Changed old new = ⊥
 CountsReason _ old new = new ≡ old
 

@@ -1,6 +1,7 @@
 pub mod Inlet
 pub mod Reason
 pub mod Pairs
+pub mod Judging
 pub mod Handling
 pub mod Holding
 pub mod Profile
@@ -15,6 +16,7 @@ pub mod FaultTable
 pub mod Finding
 pub mod Text
 pub mod Begun
+pub mod Tried
 pub mod Due
 pub mod Reading
 pub mod Feeding
@@ -22,5 +24,6 @@ pub mod Stepping
 pub mod Size
 pub mod Converting
 pub mod Laws
+pub mod MovesAreLegal
 pub mod Spells
 pub mod UniqueReading

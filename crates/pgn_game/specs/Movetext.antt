@@ -1,8 +1,6 @@
 -- What is held of movetext while it is read: the levels, how many moves outside variations there are, and whether a move was written last.
-use Rattle.std.specs.Prelude.{◌≡◌, ℕ, ◌<◌, ◌≤◌, Bool, true, false, List, [], ◌∷◌, ◌++◌, map, length, drop, Option, None, Some, All, Result, MatchResult}
-use Rattle.std.specs.Io.KnownBytes.{Appends}
+use Rattle.std.specs.Prelude.{◌≡◌, ℕ, ◌<◌, ◌≤◌, Bool, true, false, List, [], ◌∷◌, map, length, Option, None, Some, All}
 use Rattle.chess_rules.specs.declared.position.Parts.{Parts}
-use Rattle.pgn_layout.specs.Device.{AppendsFront}
 use Rattle.pgn_layout.specs.Lines.{IsToken, lines_of, last_line}
 use Rattle.pgn_layout.specs.Layout.{Layout, holding}
 use Rattle.pgn_game.specs.declared.levels.Level.{Level as CodeLevel}
@@ -10,7 +8,7 @@ use Rattle.pgn_game.specs.declared.mode.Mode.{Mode}
 use Rattle.pgn_game.specs.Chess.{first_position}
 use Rattle.pgn_game.specs.Game.{Item}
 use Rattle.pgn_game.specs.Here.{Level as ModelLevel, Levels as ModelLevels, levels_of, first_level, replayed, without_last, main_moves}
-use Rattle.pgn_game.specs.Text.{Placed, placed_from, is_move, written_items, tokens_out, full_text}
+use Rattle.pgn_game.specs.Text.{Placed, placed_from, is_move, written_items, tokens_out}
 
 -- a level: the present position, and the one before its last move, if it has one
 pub record Level : Type 0 where
@@ -59,6 +57,11 @@ pub record Movetext : Type 0 where
 abbrev pub begins_at : Parts → Movetext
 begins_at start = record { levels = only_level start; plies = 0; is_after_move = false }
 
+-- so where a FEN told that position, and else as before
+abbrev pub begun_at : Option Parts → Movetext → Movetext
+begun_at None text = text
+begun_at (Some start) text = begins_at start
+
 -- The levels of the definitions, as they are held: positions for moves.
 abbrev pub before_last : Parts → ModelLevel → Option Parts
 before_last start l = elim l.holds_move [ true ↦ Some (replayed start (without_last l.trail)) | false ↦ None ]
@@ -81,19 +84,3 @@ pub record HoldsItems (mode : Mode) (start : Parts) (items : List Item) (text : 
   pub is_after_move : text.is_after_move ≡ ends_in_move false (written_items mode (placed_from start first_level items))
   pub tokens : All IsToken (tokens_out mode start items)
   pub line : layout ≡ holding (last_line (lines_of (tokens_out mode start items)))
-
--- what an item adds to the lines that are full
-abbrev pub item_text : Mode → Parts → List Item → Item → List ℕ
-item_text mode start items i = drop (length (full_text mode start items)) (full_text mode start (items ++ i ∷ []))
-
--- One item more: it is held, and what it adds was appended; or a front of that where a write failed.
-abbrev pub AddsItem : {A E : Type 0} → Mode → Parts → List Item → Item → Movetext → Layout → Result A E → Option (List ℕ) → Option (List ℕ) → Type 0
-AddsItem mode start items i text layout result before after =
-    MatchResult result
-    (λ _. HoldsItems mode start (items ++ i ∷ []) text layout × Appends before after (item_text mode start items i))
-    (λ _. AppendsFront before after (item_text mode start items i))
-
--- so for all items that are held
-abbrev pub Adds : {A E : Type 0} → Mode → Item → Movetext → Layout → Movetext → Layout → Result A E → Option (List ℕ) → Option (List ℕ) → Type 0
-Adds mode i text layout new_text new_layout result before after =
-    (start : Parts) (items : List Item) → HoldsItems mode start items text layout → AddsItem mode start items i new_text new_layout result before after

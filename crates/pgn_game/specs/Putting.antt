@@ -1,62 +1,127 @@
--- What the parts of writing movetext come to.
-use Rattle.std.specs.Prelude.{◌≡◌, ℕ, ◌+◌, Bool, true, false, List, [], ◌∷◌, ◌++◌, ◌==◌, map, length, Some, Option, Result, OnOk}
-use Rattle.chess_rules.specs.declared.position.Move.{Move}
+-- **Bookkeeping**: what putting an item of movetext does to the levels, to the layout and to the sink.
+use Rattle.std.specs.Prelude.{◌≡◌, ℕ, ◌+◌, ◌≤◌, Bool, true, false, ◌&&◌, List, [], ◌∷◌, ◌++◌, ◌==◌, map, length, drop, Some, Option, IfSome, Result, MatchResult, OnOk, All}
+use Rattle.std.specs.Io.KnownBytes.{Appends}
 use Rattle.chess_rules.specs.declared.position.Parts.{Parts}
-use Rattle.pgn_layout.specs.Device.{Writes}
+use Rattle.pgn_layout.specs.Device.{AppendsFront, Counts, Writes}
+use Rattle.pgn_layout.specs.Lines.{IsToken}
 use Rattle.pgn_layout.specs.Layout.{Layout, Put, laid_from, holding}
+use Rattle.pgn_game.specs.declared.judged.Item.{Item as CodeItem}
+use Rattle.pgn_game.specs.declared.judged.Item.TheVariants.{Move, Open, Close}
 use Rattle.pgn_game.specs.declared.mode.Mode.{Mode}
 use Rattle.pgn_game.specs.declared.mode.Mode.TheVariants.{Full, Reduced}
-use Rattle.pgn_game.specs.Chess.{text_of_move, is_black_to_move}
+use Rattle.pgn_game.specs.Chess.{is_black_to_move}
 use Rattle.pgn_game.specs.Game.{Item}
-use Rattle.pgn_game.specs.Here.{Levels, levels_after}
-use Rattle.pgn_game.specs.Text.{is_move, number_before, tokens_at}
-use Rattle.pgn_game.specs.Movetext.{Movetext}
+use Rattle.pgn_game.specs.Text.{is_move, number_before, tokens_at, full_text}
+use Rattle.pgn_game.specs.Movetext.{Movetext, Levels, HoldsItems, IsBackIn, level_at}
+use Rattle.pgn_game.specs.Judging.{item_of}
+
+-- A sink before and after a call: the bytes that it has taken, if it says so, and its count of failures.
+pub record Device : Type 0 where
+  pub before : Option (List ℕ)
+  pub after : Option (List ℕ)
+  pub failures : ℕ
+  pub failures_after : ℕ
+
+-- the device that goes from one state of a sink to another
+abbrev pub device : {S : Type 0} → (S → Option (List ℕ)) → (S → ℕ) → S → S → Device
+device taken failures old new =
+    record {
+      before = taken old;
+      after = taken new;
+      failures = failures old;
+      failures_after = failures new;
+    }
 
 -- tokens are put in turn: what goes out, and the line that is held then
-pub record Puts {A E : Type 0} (tokens : List (List ℕ)) (layout new_layout : Layout) (result : Result A E) (before after : Option (List ℕ)) : Type 0 where
-  pub text : Writes before after result (laid_from layout.line (map Put tokens)).written
+pub record Puts {A E : Type 0} (tokens : List (List ℕ)) (layout new_layout : Layout)
+    (result : Result A E) (d : Device) : Type 0 where
+  pub text : Writes d.before d.after result (laid_from layout.line (map Put tokens)).written
   pub line : OnOk result (new_layout ≡ holding (laid_from layout.line (map Put tokens)).line)
+  pub each : All IsToken tokens
+  pub counted : Counts result d.failures d.failures_after
 
--- an item of this one token that is no move, and opens and closes no variation
-pub record IsAnnotation (i : Item) (token : List ℕ) : Type 0 where
-  pub tokens : (is_after_move : Bool) (p : Parts) → tokens_at is_after_move p i ≡ token ∷ []
-  pub no_move : is_move i ≡ false
-  pub stays : (ls : Levels) → ls ≡ levels_after ls i
-
--- the tokens of an item that is no move and has one token
-abbrev pub tokens_in : Mode → List ℕ → List (List ℕ)
-tokens_in Full token = token ∷ []
-tokens_in Reduced token = []
-
--- whether a move was written last, when such an item was written or left out
-abbrev pub after_other : Mode → Bool → Bool
-after_other Full is_after_move = false
-after_other Reduced is_after_move = is_after_move
-
--- whether moves are written at this depth
-abbrev pub writes_moves : Mode → ℕ → Bool
-writes_moves Full depth = true
-writes_moves Reduced depth = depth == 0
-
--- how many moves outside variations a move at this depth is
-abbrev pub counted_at : ℕ → ℕ
-counted_at depth = elim (depth == 0) [ true ↦ 1 | false ↦ 0 ]
-
--- a move was played to this position
-abbrev pub after_play : Movetext → Parts → Movetext
-after_play text next = record {
-  levels = record {
-    present = record { present = next; before = Some text.levels.present.present };
-    around = text.levels.around;
-  };
-  plies = text.plies + counted_at (length text.levels.around);
-  is_after_move = text.is_after_move;
-}
+-- whether an item is written at this depth: in reduced mode only a move outside variations (PGN 3.2.4)
+abbrev pub writes : Mode → ℕ → Item → Bool
+writes Full depth i = true
+writes Reduced depth i = is_move i && (depth == 0)
 
 -- the number of the move that comes, where one is due
 abbrev pub number_due : Movetext → List (List ℕ)
-number_due text = number_before text.is_after_move (is_black_to_move text.levels.present.present) text.levels.present.present.full
+number_due text =
+    let here = text.levels.present.present in
+    number_before text.is_after_move (is_black_to_move here) here.full
 
--- and the tokens of that move
-abbrev pub move_tokens : Movetext → Move → List (List ℕ)
-move_tokens text m = number_due text ++ text_of_move text.levels.present.present m ∷ []
+-- the tokens of the item that comes, and those of them that are written
+abbrev pub tokens_due : Movetext → Item → List (List ℕ)
+tokens_due text i = tokens_at text.is_after_move text.levels.present.present i
+
+abbrev pub tokens_if : Bool → Movetext → Item → List (List ℕ)
+tokens_if written text i = elim written [ true ↦ tokens_due text i | false ↦ [] ]
+
+-- whether a move was written last, once the item is written or left out
+abbrev pub after_move_if : Bool → Movetext → Item → Bool
+after_move_if written text i = elim written [ true ↦ is_move i | false ↦ text.is_after_move ]
+
+abbrev pub written_text : Mode → Movetext → Item → Movetext
+written_text mode text i =
+    record text { is_after_move = after_move_if (writes mode (length text.levels.around) i) text i }
+
+-- how many moves outside variations an item at this depth is
+abbrev pub counted_at : ℕ → ℕ
+counted_at depth = elim (depth == 0) [ true ↦ 1 | false ↦ 0 ]
+
+abbrev pub plies_in : Item → ℕ → ℕ
+plies_in i depth = elim (is_move i) [ true ↦ counted_at depth | false ↦ 0 ]
+
+-- the levels that it leads to
+abbrev pub LeadsLevels : CodeItem → Levels → Levels → Type 0
+LeadsLevels (Move played) old new =
+    new ≡ record {
+      present = record { present = played.now.next; before = Some old.present.present };
+      around = old.around;
+    }
+LeadsLevels Open old new =
+    IfSome old.present.before
+    (λ start. new ≡ record { present = level_at start; around = old.present ∷ old.around })
+LeadsLevels Close old new = IsBackIn old.around new
+LeadsLevels _ old new = new ≡ old
+
+-- An item is written, or left out. Where a write failed, nothing changes.
+pub record WritesItem {A E : Type 0} (mode : Mode) (i : Item) (text : Movetext) (layout : Layout)
+    (new_text : Movetext) (new_layout : Layout) (result : Result A E) (d : Device) : Type 0 where
+  pub puts : Puts (tokens_if (writes mode (length text.levels.around) i) text i)
+      layout new_layout result d
+  pub ends : MatchResult result (λ _. new_text ≡ written_text mode text i) (λ _. new_text ≡ text)
+
+-- how many pairs are tried at most to write an item
+abbrev pub Rises : ℕ → ℕ → Type 0
+Rises old new = (old ≤ new) × (new ≤ old + 1032)
+
+-- Movetext goes on with an item, which may be written before.
+pub record GoesOn (i : CodeItem) (old new : Movetext) : Type 0 where
+  pub levels : LeadsLevels i old.levels new.levels
+  pub plies : new.plies ≡ old.plies + plies_in (item_of i) (length old.levels.around)
+  pub is_after_move : new.is_after_move ≡ old.is_after_move
+
+-- what an item adds to the lines that are full
+abbrev pub item_text : Mode → Parts → List Item → Item → List ℕ
+item_text mode start items i =
+    drop (length (full_text mode start items)) (full_text mode start (items ++ i ∷ []))
+
+-- One item more: it is held, and what it adds was appended, or a front of that where a write failed.
+abbrev pub AddsItem : {A E : Type 0} → Mode → Parts → List Item → Item → Movetext → Layout
+    → Result A E → Device → Type 0
+AddsItem mode start items i text layout result d =
+    MatchResult result
+    (λ _. HoldsItems mode start (items ++ i ∷ []) text layout
+    × Appends d.before d.after (item_text mode start items i))
+    (λ _. AppendsFront d.before d.after (item_text mode start items i))
+
+-- so for all items that are held
+pub record Adds {A E : Type 0} (mode : Mode) (i : Item) (text : Movetext) (layout : Layout)
+    (new_text : Movetext) (new_layout : Layout) (result : Result A E) (d : Device) : Type 0 where
+  pub adds : (start : Parts) (items : List Item) → HoldsItems mode start items text layout
+      → AddsItem mode start items i new_text new_layout result d
+  pub going : OnOk result (new_layout.has_failed ≡ false)
+  pub plies : new_text.plies ≤ text.plies + 1
+  pub counted : Counts result d.failures d.failures_after

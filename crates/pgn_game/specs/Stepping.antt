@@ -1,5 +1,5 @@
 -- What one token does to a converter, in the piece and after it.
-use Rattle.std.specs.Prelude.{◌≡◌, ℕ, ◌+◌, ◌*◌, ◌<◌, ◌≤◌, ◌↔◌, Bool, true, false, IsTrue, List, [], ◌∷◌, ◌++◌, length, take, drop, Option, None, Some, Result, Ok, Err}
+use Rattle.std.specs.Prelude.{◌≡◌, ℕ, ◌+◌, ◌*◌, ◌<◌, ◌≤◌, ◌^◌, ◌↔◌, Bool, true, false, IsTrue, List, [], ◌∷◌, ◌++◌, length, take, drop, Option, None, Some, Result, Ok, Err}
 use Rattle.pgn_lexer.specs.Tokens.{Token, EndsAt}
 use Rattle.pgn_lexer.specs.TokensOf.{tokens_of}
 use Rattle.pgn_lexer.specs.Decided.{decided}
@@ -12,13 +12,15 @@ use Rattle.pgn_game.specs.declared.accept.Accepted.{Accepted}
 use Rattle.pgn_game.specs.declared.accept.Accepted.TheVariants as accepted
 use Rattle.pgn_game.specs.declared.accept.Stopped.{Stopped}
 use Rattle.pgn_game.specs.declared.accept.Stopped.TheVariants as stopped
+use Rattle.pgn_game.specs.declared.converter.Fed.{Fed}
+use Rattle.pgn_game.specs.declared.converter.Fed.TheVariants.{All, Game as GameEnd}
 use Rattle.pgn_game.specs.declared.converter.Stepped.{Stepped}
 use Rattle.pgn_game.specs.declared.converter.Stepped.TheVariants.{NeedMore, More, Finished, Ended, Failed}
 use Rattle.pgn_game.specs.Profile.{Profile}
 use Rattle.pgn_game.specs.Game.{Game}
 use Rattle.pgn_game.specs.Begun.{read}
 use Rattle.pgn_game.specs.Due.{Gains}
-use Rattle.pgn_game.specs.Feeding.{Converter, held_by, hand_of, IsLast, HasRead, Stands, Stops, games_before, FedToFault, CountsReason}
+use Rattle.pgn_game.specs.Feeding.{Converter, held_by, hand_of, IsLast, HasRead, Stands, Stops, games_before, FedAll, FedGame, FedToFault, CountsReason}
 
 -- the games read with one token more: none more, or one
 abbrev pub SameGames : Profile → List Token → List Token → Type 0
@@ -148,6 +150,21 @@ abbrev pub next_at : Option ℕ → List ℕ → ℕ → Option ℕ
 next_at b [] at = b
 next_at b (c ∷ piece) at = first (drop at (c ∷ piece))
 
+-- what a piece comes to that ends before place 2^62
+abbrev pub AfterFront : Profile → List ℕ → Option ℕ → List Token → List ℕ → Converter
+    → Result Fed Fault → Option (List ℕ) → Option (List ℕ) → Type 0
+AfterFront p u b given piece new (Ok All) before after = FedAll p u b given piece new before after
+AfterFront p u b given piece new (Ok (GameEnd used)) before after =
+    FedGame p u given piece used new before after
+AfterFront p u b given piece new (Err f) before after = FedToFault p u b given piece f before after
+
+abbrev pub FeedsFront : Converter → List ℕ → Converter → Result Fed Fault
+    → Option (List ℕ) → Option (List ℕ) → Type 0
+FeedsFront old piece new result before after =
+    (p : Profile) (u : List ℕ) (b : Option ℕ) (given : List Token)
+    → Stands p old u b given → Follows b piece
+    → AfterFront p u b given piece new result before after
+
 -- what was read of a piece up to a place, no game finished in it
 pub record SoFar (p : Profile) (u : List ℕ) (b : Option ℕ) (given : List Token) (piece : List ℕ) (at : ℕ) (now : Converter) (before after : Option (List ℕ)) : Type 0 where
   pub tokens : List Token
@@ -162,12 +179,16 @@ FeedsSoFar old piece at now before after =
     (p : Profile) (u : List ℕ) (b : Option ℕ) (given : List Token) → Stands p old u b given → Follows b piece → SoFar p u b given piece at now before after
 
 -- what was read of a piece up to a place, however many games were finished in it
-pub record AllSoFar (p : Profile) (u : List ℕ) (b : Option ℕ) (given : List Token) (piece : List ℕ) (at : ℕ) (now : Converter) (before after : Option (List ℕ)) : Type 0 where
+pub record AllSoFar (p : Profile) (u : List ℕ) (given : List Token) (piece : List ℕ) (at : ℕ)
+    (now : Converter) (before after : Option (List ℕ)) : Type 0 where
   pub tokens : List Token
-  pub stands : Stands p now (u ++ take at piece) (next_at b piece at) tokens
-  pub decided : 0 < at → IsDecided (u ++ take at piece) (drop at piece) tokens
+  pub stands : Stands p now (u ++ take at piece) (first (drop at piece)) tokens
+  pub at_limit : length (u ++ take at piece) ≡ 2 ^ 62 → tokens ≡ decided (u ++ take at piece)
+  pub decided : IsDecided (u ++ take at piece) (drop at piece) tokens
   pub gains : Gains p given tokens before after
 
 abbrev pub FeedsAllSoFar : Converter → List ℕ → ℕ → Converter → Option (List ℕ) → Option (List ℕ) → Type 0
 FeedsAllSoFar old piece at now before after =
-    (p : Profile) (u : List ℕ) (b : Option ℕ) (given : List Token) → Stands p old u b given → Follows b piece → AllSoFar p u b given piece at now before after
+    (p : Profile) (u : List ℕ) (given : List Token)
+    → Stands p old u None given → given ≡ decided u
+    → AllSoFar p u given piece at now before after

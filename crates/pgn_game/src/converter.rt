@@ -1,13 +1,13 @@
 //! Converts games that come in any pieces.
-ghost use Rattle.std.specs.Prelude.{◌≡◌, ℕ, List, is_some, is_ok, ◌+◌, ◌-◌, ◌≤◌, ◌<◌, ◌^◌, [], true, false, None, Some, IfOk, OnOk, OnErr, length};
+ghost use Rattle.std.specs.Prelude.{◌≡◌, ℕ, List, is_some, is_ok, ◌+◌, ◌-◌, ◌≤◌, ◌<◌, ◌^◌, [], true, false, None, Some, IfOk, OnOk, OnErr, length, take};
 ghost use Rattle.std.specs.Option.{option_copied};
 ghost use Rattle.pgn_lexer.specs.Tokens.{Token};
 ghost use Rattle.pgn_lexer.specs.Stands.{first, HasLeft};
-ghost use Rattle.pgn_game.specs.declared.reason.Reason.TheVariants.{Lexical};
+ghost use Rattle.pgn_game.specs.declared.reason.Reason.TheVariants.{InputTooLong, Lexical};
 ghost use Rattle.pgn_game.specs.declared.converter.Stepped.TheVariants.{NeedMore, Failed};
 ghost use Rattle.pgn_game.specs.Profile.{Profile};
-ghost use Rattle.pgn_game.specs.Stepping.{AfterStep, AfterClosing, StepAdvances, CloseAdvances, CountsStep, stepped_of, games_after, fault_of_step, closed_with, is_game as is_of_game, is_ended as is_of_end};
-ghost use Rattle.pgn_game.specs.Feeding.{HasRead, Stands, Feeds, FeedsAll, Ends, Again, KeepsFault, CountsFault, Advances, profile_of, used_of, value_at_hand, plies_at_hand, position_at_hand};
+ghost use Rattle.pgn_game.specs.Stepping.{FeedsFront, AfterStep, AfterClosing, StepAdvances, CloseAdvances, CountsStep, stepped_of, games_after, fault_of_step, closed_with, is_game as is_of_game, is_ended as is_of_end};
+ghost use Rattle.pgn_game.specs.Feeding.{HasRead, Stands, Feeds, KeepsGames, FeedsAll, Ends, Again, KeepsFault, CountsFault, Advances, profile_of, used_of, value_at_hand, plies_at_hand, position_at_hand};
 ghost use Rattle.pgn_game.specs.Reading.{whole_plies};
 
 use crate::accept::{Accepted, Stopped};
@@ -19,6 +19,9 @@ use chess_rules::position::Position;
 use pgn_layout::Sink;
 use pgn_lexer::{LexFault, Lexer, Outcome};
 use std::marker::Model;
+
+/// The first place that no byte of an input may have.
+const LONGEST: u64 = 1 << 62;
 
 /// What a piece came to.
 #[derive(Clone, Copy, Debug, PartialEq, Eq)]
@@ -93,52 +96,60 @@ impl<const T: usize, const L: usize> Converter<T, L> {
         }
     }
 
-    /// Converts the piece up to the end of the next game. After `Game(used)` the next piece that is not empty has to begin with the
-    /// rest of this one. A marker that is a symbol is known only at the byte after it, so `Game(0)` is possible.
+    /// Converts the piece up to the end of the next game, and reports how much of it was used.
     ///
-    /// Answers the fault of the first token that is refused as soon as that is known, with all written that is due for the tokens before
-    /// it; or 51 where a write failed. Each later call answers the same and writes nothing.
+    /// After `Game(used)` the next piece that is not empty has to begin with the rest of this one. A
+    /// marker that is a symbol is known only at the byte after it, so `Game(0)` is possible.
+    ///
+    /// # Errors
+    ///
+    /// - The fault of the first token that is refused, as soon as that is known.
+    /// - `Reason::InputTooLong` where a byte stands at place 2^62.
+    /// - `Reason::WriteFault` where a write failed.
+    ///
+    /// In the first two cases everything that is due for the tokens before it is written. Each later
+    /// call reports the same fault and writes nothing.
     pub fn feed<W: Sink>(&mut self, piece: &[u8], out: &mut W) -> Result<Fed, Fault>
         requires going { self.old.is_finished ≡ false }
-        requires short { self.old.fault ≡ None → self.old.lexer.count + length piece.now ≤ 2 ^ 62 }
         ensures used { IfOk result (λ fed. used_of fed piece.now ≤ length piece.now) }
-        ensures feeds { Feeds self.old piece.now self.new result (W.taken out.old) (W.taken out.new) }
-        ensures count { IfOk result (λ fed. self.new.lexer.count ≡ self.old.lexer.count + used_of fed piece.now) }
+        ensures feeds { Feeds self.old piece.now self.new result
+            (W.taken out.old) (W.taken out.new) }
+        ensures count { IfOk result (λ fed.
+            self.new.lexer.count ≡ self.old.lexer.count + used_of fed piece.now) }
+        ensures short { OnOk result (self.new.lexer.count ≤ 2 ^ 62) }
         ensures advances { IfOk result (λ fed. Advances self.old.lexer self.new.lexer fed) }
         ensures going { self.new.is_finished ≡ false }
         ensures fault { KeepsFault self.new result }
-        ensures games { OnErr result (self.new.games ≡ self.old.games) }
+        ensures games { KeepsGames self.old self.new result }
         ensures probes { self.old.reading.most_probes ≤ self.new.reading.most_probes }
-        ensures hand { OnErr result (self.new.at_hand ≡ None) }
         ensures again { Again self.old self.new result out.old out.new }
-        ensures counted { self.old.fault ≡ None → CountsFault result (W.failures out.old) (W.failures out.new) }
+        ensures counted { self.old.fault ≡ None
+            → CountsFault result (W.failures out.old) (W.failures out.new) }
     {
         if let Some(fault) = self.fault {
             return Err(fault);
         }
-        self.is_at_hand = false;
-        let mut at = 0;
-        while at < piece.len() {
-            let step = self.step(&piece[at..], out);
-            at += step.used;
-            match step.outcome {
-                Stepped::NeedMore => return Ok(Fed::All),
-                Stepped::More => {}
-                Stepped::Finished => return Ok(Fed::Game(at)),
-                Stepped::Ended => return Ok(Fed::All),
-                Stepped::Failed(fault) => return Err(fault),
+        let front = within_limit(self.lexer.count(), piece);
+        match self.feed_front(front, out)? {
+            Fed::Game(used) => Ok(Fed::Game(used)),
+            Fed::All => {
+                if front.len() < piece.len() {
+                    return Err(too_long(&mut self.fault));
+                }
+                Ok(Fed::All)
             }
         }
-        Ok(Fed::All)
     }
 
     /// Converts the whole piece, however many games are finished in it.
     pub(crate) fn feed_all<W: Sink>(&mut self, piece: &[u8], out: &mut W) -> Result<(), Fault>
         requires going { self.old.is_finished ≡ false }
         requires no_fault { self.old.fault ≡ None }
-        requires short { self.old.lexer.count + length piece.now ≤ 2 ^ 62 }
-        ensures feeds { FeedsAll self.old piece.now self.new result (W.taken out.old) (W.taken out.new) }
-        ensures count { OnOk result (self.new.lexer.count ≡ self.old.lexer.count + length piece.now) }
+        ensures feeds { FeedsAll self.old piece.now self.new result
+            (W.taken out.old) (W.taken out.new) }
+        ensures count { OnOk result
+            (self.new.lexer.count ≡ self.old.lexer.count + length piece.now) }
+        ensures short { OnOk result (self.new.lexer.count ≤ 2 ^ 62) }
         ensures going { self.new.is_finished ≡ false }
         ensures fault { KeepsFault self.new result }
         ensures counted { CountsFault result (W.failures out.old) (W.failures out.new) }
@@ -256,6 +267,39 @@ impl<const T: usize, const L: usize> Converter<T, L> {
         self.is_finished
     }
 
+    /// Converts a piece that ends before place 2^62, up to the end of the next game.
+    fn feed_front<W: Sink>(&mut self, piece: &[u8], out: &mut W) -> Result<Fed, Fault>
+        requires going { self.old.is_finished ≡ false }
+        requires no_fault { self.old.fault ≡ None }
+        requires short { self.old.lexer.count + length piece.now ≤ 2 ^ 62 }
+        ensures used { IfOk result (λ fed. used_of fed piece.now ≤ length piece.now) }
+        ensures feeds { FeedsFront self.old piece.now self.new result
+            (W.taken out.old) (W.taken out.new) }
+        ensures count { IfOk result (λ fed.
+            self.new.lexer.count ≡ self.old.lexer.count + used_of fed piece.now) }
+        ensures advances { IfOk result (λ fed. Advances self.old.lexer self.new.lexer fed) }
+        ensures going { self.new.is_finished ≡ false }
+        ensures fault { KeepsFault self.new result }
+        ensures games { KeepsGames self.old self.new result }
+        ensures probes { self.old.reading.most_probes ≤ self.new.reading.most_probes }
+        ensures counted { CountsFault result (W.failures out.old) (W.failures out.new) }
+    {
+        self.is_at_hand = false;
+        let mut at = 0;
+        while at < piece.len() {
+            let step = self.step(&piece[at..], out);
+            at += step.used;
+            match step.outcome {
+                Stepped::NeedMore => return Ok(Fed::All),
+                Stepped::More => {}
+                Stepped::Finished => return Ok(Fed::Game(at)),
+                Stepped::Ended => return Ok(Fed::All),
+                Stepped::Failed(fault) => return Err(fault),
+            }
+        }
+        Ok(Fed::All)
+    }
+
     /// Takes the next token of the piece.
     fn step<W: Sink>(&mut self, piece: &[u8], out: &mut W) -> Step
         requires going { self.old.fault ≡ None }
@@ -324,6 +368,29 @@ impl<const T: usize, const L: usize> Converter<T, L> {
             Outcome::Fault(fault) => fail(lexical(fault), &mut self.fault),
         }
     }
+}
+
+// The bytes of the piece before place 2^62, where so many bytes came before the piece.
+fn within_limit(count: u64, piece: &[u8]) -> &[u8]
+    requires { count ≤ 2 ^ 62 }
+    ensures { result.now ≡ take (2 ^ 62 - count) piece.now }
+{
+    let room = LONGEST - count;
+    if piece.len() as u64 <= room {
+        return piece;
+    }
+    &piece[..room as usize]
+}
+
+// Keeps the fault of an input that goes on past its last place.
+fn too_long(kept: &mut Option<Fault>) -> Fault
+    ensures fault { result ≡ record { at = 2 ^ 62; reason = InputTooLong } }
+    ensures kept { kept.new ≡ Some result }
+{
+    let at = LONGEST;
+    let reason = Reason::InputTooLong;
+    *kept = Some(Fault { at, reason });
+    Fault { at, reason }
 }
 
 // What an answer of the reader to a token at this place comes to: a game finished is counted, a fault is kept.

@@ -4,6 +4,7 @@ ghost use Rattle.chess_rules.specs.Legal.{legal};
 ghost use Rattle.pgn_game.specs.Chess.{move_of};
 ghost use Rattle.pgn_game.specs.FaultTable.{is_at_limit as at_limit};
 ghost use Rattle.pgn_game.specs.Finding.{found_in};
+ghost use Rattle.pgn_game.specs.Tried.{Costs};
 
 use crate::reason::Reason;
 use chess_rules::piece::Colour;
@@ -18,6 +19,7 @@ pub fn find_move(position: &Position, text: &[u8], probes: &mut Probes) -> Resul
     requires { probes.old ≡ 0 }
     ensures found { result ≡ found_in position.now (move_of position.now text.now) }
     ensures legal { IfOk result (λ played. legal position.now played.mv ≡ Some played.next) }
+    ensures tried { Costs position.now text.now probes.new }
     ensures bound { probes.new ≤ 8 }
     ensures some { OnOk result (0 < probes.new) }
 {

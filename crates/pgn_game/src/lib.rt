@@ -4,6 +4,7 @@
 mod accept;
 mod converter;
 mod find;
+mod judged;
 mod kinds;
 pub mod laws;
 mod levels;
@@ -17,8 +18,6 @@ mod section;
 mod source;
 mod stage;
 mod tags;
-#[cfg(test)]
-mod tests;
 mod whole;
 
 pub use converter::{Converter, Fed};

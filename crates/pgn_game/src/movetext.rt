@@ -1,16 +1,16 @@
 //! The movetext of a game, item by item: it is written as it comes.
-ghost use Rattle.std.specs.Prelude.{◌≡◌, ◌+◌, ◌-◌, ◌^◌, ◌<◌, ◌≤◌, false, Some, OnOk, is_some, length, IsTrue, true, codes, All};
-ghost use Rattle.chess_rules.specs.Legal.{legal};
-ghost use Rattle.pgn_layout.specs.Device.{Counts};
-ghost use Rattle.pgn_layout.specs.Lines.{IsToken};
+ghost use Rattle.std.specs.Prelude.{◌≡◌, ◌+◌, ◌-◌, ◌^◌, ◌<◌, ◌≤◌, false, is_some, length};
 ghost use Rattle.pgn_game.specs.Chess.{first_position};
 ghost use Rattle.pgn_game.specs.Game as games;
-ghost use Rattle.pgn_game.specs.Movetext.{begins_at, Adds};
-ghost use Rattle.pgn_game.specs.Putting.{Puts, tokens_in, after_other, writes_moves, after_play, number_due, move_tokens};
+ghost use Rattle.pgn_game.specs.Movetext.{begins_at, begun_at};
+ghost use Rattle.pgn_game.specs.Judging.{IsLegal, ItemFits, item_of};
+ghost use Rattle.pgn_game.specs.Putting.{Adds, GoesOn, Puts, Rises, WritesItem};
+ghost use Rattle.pgn_game.specs.Putting.{device, number_due, tokens_due, writes};
 
+use crate::judged::Item;
 use crate::levels::Levels;
 use crate::mode::Mode;
-use crate::number::{black_number, white_number};
+use crate::number::{black_number, glyph_number, white_number};
 use chess_rules::piece::Colour;
 use chess_rules::position::Position;
 use chess_rules::probes::Probes;
@@ -32,7 +32,11 @@ impl<const L: usize> Model for Movetext<L> {
 
     ghost Value = { Seen };
 
-    ghost view = { λ m. record { levels = m.levels; plies = m.plies; is_after_move = m.is_after_move } };
+    ghost view = { λ m. record {
+      levels = m.levels;
+      plies = m.plies;
+      is_after_move = m.is_after_move;
+    } };
 }
 
 impl<const L: usize> Movetext<L> {
@@ -55,6 +59,16 @@ impl<const L: usize> Movetext<L> {
         self.levels.begin(start);
         self.plies = 0;
         self.is_after_move = false;
+    }
+
+    /// No item, from the position of a FEN; without one nothing changes.
+    pub fn begin_at(&mut self, start: Option<Position>)
+        ensures { self.new ≡ begun_at start self.old }
+    {
+        match start {
+            Some(start) => self.begin(start),
+            None => {}
+        }
     }
 
     /// The position here.
@@ -86,142 +100,111 @@ impl<const L: usize> Movetext<L> {
         self.plies
     }
 
-    /// Plays a legal move, and writes it with its number where one is due. In reduced mode moves inside variations are not written.
-    pub fn put_move<W: Sink>(
+    /// Puts an item: writes it, a move with its number where one is needed, and moves the levels.
+    /// In reduced mode only moves outside variations are written (PGN 3.2.4).
+    pub fn put<W: Sink>(
         &mut self,
         mode: Mode,
-        played: &Played,
+        item: &Item<'_>,
         probes: &mut Probes,
         layout: &mut Layout,
         out: &mut W,
     ) -> Result<(), WriteFault>
-        requires legal { legal self.old.levels.present.present played.now.mv ≡ Some played.now.next }
-        requires room { probes.old + 1032 < 2 ^ 32 }
+        requires fits { ItemFits L self.old item.now }
         requires few { self.old.plies < 2 ^ 64 - 1 }
+        requires room { probes.old + 1032 < 2 ^ 32 }
         requires going { layout.old.has_failed ≡ false }
-        ensures adds { Adds mode (games.move played.now.mv) self.old layout.old self.new layout.new result (W.taken out.old) (W.taken out.new) }
-        ensures going { OnOk result (layout.new.has_failed ≡ false) }
-        ensures counted { Counts result (W.failures out.old) (W.failures out.new) }
-        ensures plies { self.new.plies ≤ self.old.plies + 1 }
-        ensures rises { probes.old ≤ probes.new }
-        ensures bound { probes.new ≤ probes.old + 1032 }
+        ensures adds { Adds mode (item_of item.now) self.old layout.old self.new layout.new result
+            (device W.taken W.failures out.old out.new) }
+        ensures probes { Rises probes.old probes.new }
     {
-        if self.is_written(mode) {
-            self.write_move(played, probes, layout, out)?;
-        }
-        self.play(played.next);
+        self.write(mode, item, probes, layout, out)?;
+        self.go_on(item);
         Ok(())
     }
 
-    /// Puts the one token of an item that is no move, but not in reduced mode (PGN 3.2.4).
-    pub fn put_other<W: Sink>(
+    // Writes an item, unless the mode leaves it out.
+    fn write<W: Sink>(
         &mut self,
         mode: Mode,
-        token: &[u8],
+        item: &Item<'_>,
+        probes: &mut Probes,
         layout: &mut Layout,
         out: &mut W,
     ) -> Result<(), WriteFault>
-        requires token { IsToken token.now }
+        requires fits { ItemFits L self.old item.now }
+        requires room { probes.old + 1032 < 2 ^ 32 }
         requires going { layout.old.has_failed ≡ false }
-        ensures puts { Puts (tokens_in mode token.now) layout.old layout.new result (W.taken out.old) (W.taken out.new) }
-        ensures text { self.new ≡ record self.old { is_after_move = after_other mode self.old.is_after_move } }
-        ensures going { OnOk result (layout.new.has_failed ≡ false) }
-        ensures counted { Counts result (W.failures out.old) (W.failures out.new) }
-        ensures plies { self.new.plies ≡ self.old.plies }
+        ensures writes { WritesItem mode (item_of item.now) self.old layout.old self.new layout.new
+            result (device W.taken W.failures out.old out.new) }
+        ensures probes { Rises probes.old probes.new }
     {
-        if mode == Mode::Reduced {
+        if !self.is_written(mode, item) {
             return Ok(());
         }
-        self.is_after_move = false;
-        layout.put(token, out)
+        self.write_tokens(item, probes, layout, out)?;
+        self.is_after_move = item.is_move();
+        Ok(())
     }
 
-    /// Opens a variation, which replaces the last move (PGN 8.2.5). In reduced mode no parenthesis is written.
-    pub fn open_variation<W: Sink>(
-        &mut self,
-        mode: Mode,
+    // Whether an item is written here: in reduced mode only a move outside variations (PGN 3.2.4).
+    fn is_written(&self, mode: Mode, item: &Item<'_>) -> bool
+        ensures { result ≡ writes mode (length self.now.levels.around) (item_of item.now) }
+    {
+        mode == Mode::Full || (item.is_move() && self.levels.depth() == 0)
+    }
+
+    // Writes the tokens of an item.
+    fn write_tokens<W: Sink>(
+        &self,
+        item: &Item<'_>,
+        probes: &mut Probes,
         layout: &mut Layout,
         out: &mut W,
     ) -> Result<(), WriteFault>
-        requires holds_move { IsTrue (is_some self.old.levels.present.before) }
-        requires room { length self.old.levels.around + 1 < L }
+        requires fits { ItemFits L self.now item.now }
+        requires room { probes.old + 1032 < 2 ^ 32 }
         requires going { layout.old.has_failed ≡ false }
-        ensures adds { Adds mode games.open_variation self.old layout.old self.new layout.new result (W.taken out.old) (W.taken out.new) }
-        ensures going { OnOk result (layout.new.has_failed ≡ false) }
-        ensures counted { Counts result (W.failures out.old) (W.failures out.new) }
-        ensures plies { self.new.plies ≡ self.old.plies }
+        ensures puts { Puts (tokens_due self.now (item_of item.now)) layout.old layout.new result
+            (device W.taken W.failures out.old out.new) }
+        ensures probes { Rises probes.old probes.new }
     {
-        self.levels.open();
-        self.put_other(mode, b"(", layout, out)
-    }
-
-    /// Closes a variation: play goes on where it stood before it (PGN 8.2.5). In reduced mode no parenthesis is written.
-    pub fn close_variation<W: Sink>(
-        &mut self,
-        mode: Mode,
-        layout: &mut Layout,
-        out: &mut W,
-    ) -> Result<(), WriteFault>
-        requires inside { 0 < length self.old.levels.around }
-        requires going { layout.old.has_failed ≡ false }
-        ensures adds { Adds mode games.close_variation self.old layout.old self.new layout.new result (W.taken out.old) (W.taken out.new) }
-        ensures going { OnOk result (layout.new.has_failed ≡ false) }
-        ensures counted { Counts result (W.failures out.old) (W.failures out.new) }
-        ensures plies { self.new.plies ≡ self.old.plies }
-    {
-        self.levels.close();
-        self.put_other(mode, b")", layout, out)
-    }
-
-    // Whether moves are written here: in reduced mode only those outside variations (PGN 3.2.4).
-    fn is_written(&self, mode: Mode) -> bool
-        ensures { result ≡ writes_moves mode (length self.now.levels.around) }
-    {
-        mode == Mode::Full || self.levels.depth() == 0
-    }
-
-    // Plays a move to this position, and counts it outside variations.
-    fn play(&mut self, next: Position)
-        requires { self.old.plies < 2 ^ 64 - 1 }
-        ensures { self.new ≡ after_play self.old next }
-    {
-        if self.levels.depth() == 0 {
-            self.plies += 1;
+        match item {
+            Item::Move(played) => self.write_move(played, probes, layout, out),
+            Item::Glyph(glyph) => layout.put(glyph_number(*glyph).as_slice(), out),
+            Item::CommentOpen => layout.put(b"{", out),
+            Item::Word(word) => layout.put(word, out),
+            Item::CommentClose => layout.put(b"}", out),
+            Item::Open => layout.put(b"(", out),
+            Item::Close => layout.put(b")", out),
         }
-        self.levels.play(next);
     }
 
-    // Writes a legal move, with its number where one is due.
+    // Writes a legal move, with its number where one is needed.
     fn write_move<W: Sink>(
-        &mut self,
+        &self,
         played: &Played,
         probes: &mut Probes,
         layout: &mut Layout,
         out: &mut W,
     ) -> Result<(), WriteFault>
-        requires legal { legal self.old.levels.present.present played.now.mv ≡ Some played.now.next }
+        requires legal { IsLegal self.now.levels.present.present played.now }
         requires room { probes.old + 1032 < 2 ^ 32 }
         requires going { layout.old.has_failed ≡ false }
-        ensures puts { Puts (move_tokens self.old played.now.mv) layout.old layout.new result (W.taken out.old) (W.taken out.new) }
-        ensures tokens { All IsToken (move_tokens self.old played.now.mv) }
-        ensures text { OnOk result (self.new ≡ record self.old { is_after_move = true }) }
-        ensures plies { self.new.plies ≡ self.old.plies }
-        ensures counted { Counts result (W.failures out.old) (W.failures out.new) }
-        ensures rises { probes.old ≤ probes.new }
-        ensures bound { probes.new ≤ probes.old + 1032 }
+        ensures puts { Puts (tokens_due self.now (games.move played.now.mv)) layout.old layout.new
+            result (device W.taken W.failures out.old out.new) }
+        ensures probes { Rises probes.old probes.new }
     {
         let san = write_san(self.levels.present(), played, probes);
         self.put_number(layout, out)?;
-        self.is_after_move = true;
         layout.put(san.as_slice(), out)
     }
 
-    // Writes the number of the move that comes, where one is due (PGN 8.2.2.2).
+    // Writes the number of the next move, where one is needed (PGN 8.2.2.2).
     fn put_number<W: Sink>(&self, layout: &mut Layout, out: &mut W) -> Result<(), WriteFault>
         requires going { layout.old.has_failed ≡ false }
-        ensures puts { Puts (number_due self.now) layout.old layout.new result (W.taken out.old) (W.taken out.new) }
-        ensures tokens { All IsToken (number_due self.now) }
-        ensures counted { Counts result (W.failures out.old) (W.failures out.new) }
+        ensures puts { Puts (number_due self.now) layout.old layout.new result
+            (device W.taken W.failures out.old out.new) }
     {
         let position = self.levels.present();
         match position.side() {
@@ -232,6 +215,25 @@ impl<const L: usize> Movetext<L> {
                 }
                 layout.put(black_number(position.full()).as_slice(), out)
             }
+        }
+    }
+
+    // Moves the levels by an item, and counts a move outside variations.
+    fn go_on(&mut self, item: &Item<'_>)
+        requires fits { ItemFits L self.old item.now }
+        requires few { self.old.plies < 2 ^ 64 - 1 }
+        ensures { GoesOn item.now self.old self.new }
+    {
+        match item {
+            Item::Move(played) => {
+                if self.levels.depth() == 0 {
+                    self.plies += 1;
+                }
+                self.levels.play(played.next);
+            }
+            Item::Open => self.levels.open(),
+            Item::Close => self.levels.close(),
+            _ => {}
         }
     }
 }

@@ -1,7 +1,7 @@
-//! Reads games token by token, and writes what is due.
-ghost use Rattle.std.specs.Prelude.{◌≡◌, ◌+◌, ◌-◌, ◌≤◌, ◌<◌, ◌^◌, ◌&&◌, ◌∷◌, ◌++◌, [], true, false, not, None, Some, IsTrue, ◌↔◌, OnOk, Ok, Err, bytes_eq, codes, length, is_some, max};
+//! Reads games token by token: judges what a token means, and puts it.
+ghost use Rattle.std.specs.Prelude.{◌≡◌, ◌+◌, ◌-◌, ◌≤◌, ◌<◌, ◌^◌, ◌&&◌, ◌∷◌, [], false, not, None};
+ghost use Rattle.std.specs.Prelude.{Some, IsTrue, ◌↔◌, OnOk, bytes_eq, codes, length, max};
 ghost use Rattle.std.specs.Option.{option_copied};
-ghost use Rattle.chess_rules.specs.Legal.{legal};
 ghost use Rattle.pgn_lexer.specs.declared.token.TokenKind.{TokenKind};
 ghost use Rattle.pgn_lexer.specs.Tokens.{HasLength, left_bracket, left_paren, right_paren, symbol};
 ghost use Rattle.pgn_lexer.specs.Scanned.{kind_of};
@@ -9,23 +9,28 @@ ghost use Rattle.pgn_layout.specs.Lines.{IsToken};
 ghost use Rattle.pgn_layout.specs.Layout.{holding};
 ghost use Rattle.pgn_game.specs.Pairs.{value_of};
 ghost use Rattle.pgn_game.specs.Chess.{first_position};
-ghost use Rattle.pgn_game.specs.Game as games;
-ghost use Rattle.pgn_game.specs.Game.{Item};
 ghost use Rattle.pgn_game.specs.TagSection.{exported};
-ghost use Rattle.pgn_game.specs.declared.stage.Stage.TheVariants.{Between, AfterBracket, AfterName, AfterValue, AfterTags, InMovetext};
+ghost use Rattle.pgn_game.specs.declared.stage.Stage.TheVariants.{Between, AfterBracket, AfterName};
+ghost use Rattle.pgn_game.specs.declared.stage.Stage.TheVariants.{AfterValue, AfterTags};
+ghost use Rattle.pgn_game.specs.declared.stage.Stage.TheVariants.{InMovetext};
+ghost use Rattle.pgn_game.specs.declared.judged.Judged.TheVariants.{Entry as InText};
 ghost use Rattle.pgn_game.specs.Profile.{counts_as_unknown};
 ghost use Rattle.pgn_game.specs.Movetext.{begins_at};
 ghost use Rattle.pgn_game.specs.Reading.{Accepts, Agrees, Stays, FinishesAtMarker, CountsWrites};
-ghost use Rattle.pgn_game.specs.Putting.{IsAnnotation};
-ghost use Rattle.pgn_game.specs.Handling.{Begins, BeginsText, Comes, ComesSilently, FinishesText, IsOpen, IsReady, Puts, finished_of, is_before_text, is_outside_pairs, more_of, start_told as told};
-ghost use Rattle.pgn_game.specs.FaultTable.{is_left_bracket, is_end, is_comment as is_of_comment, is_result as is_any_result, is_score as is_of_score, is_number as is_of_number, is_reduced, lacks_fen as set_up_lacks_fen, marker_of};
+ghost use Rattle.pgn_game.specs.Judging.{Counts, Finds, Fits, Judges, JudgesEntry, is_open};
+ghost use Rattle.pgn_game.specs.Judging.{start_told as told};
+ghost use Rattle.pgn_game.specs.Putting.{device};
+ghost use Rattle.pgn_game.specs.Handling.{BeginsText, Puts, begins, readied};
+ghost use Rattle.pgn_game.specs.FaultTable.{is_result as is_any_result, is_score as is_of_score};
+ghost use Rattle.pgn_game.specs.FaultTable.{is_number as is_of_number, is_reduced};
+ghost use Rattle.pgn_game.specs.FaultTable.{lacks_fen as set_up_lacks_fen, marker_of};
 
 use crate::accept::{Accepted, Stopped};
 use crate::find::find_move;
-use crate::kinds::{is_comment, is_number, is_result, is_score, is_tag_name};
+use crate::judged::{Entry, Item, Judged};
+use crate::kinds::{is_comment, is_end, is_number, is_result, is_score, is_tag_name};
 use crate::mode::Mode;
 use crate::movetext::Movetext;
-use crate::number::glyph_number;
 use crate::pair::TEXT_LENGTH;
 use crate::reason::Reason;
 use crate::section::{exported_value, write_section};
@@ -39,7 +44,8 @@ use pgn_layout::{Layout, Sink, WriteFault, fits_tag_line};
 use pgn_lexer::TokenKind;
 use std::marker::Model;
 
-/// The part of a game that stands: at most `T` tag pairs, at most `L` levels of movetext, and the line that is not full yet.
+/// The current game: at most `T` tag pairs, at most `L` levels of movetext, and the line that is
+/// not full yet.
 #[derive(Drop)]
 pub struct Reader<const T: usize, const L: usize> {
     mode: Mode,
@@ -59,7 +65,12 @@ impl<const T: usize, const L: usize> Model for Reader<T, L> {
     ghost Value = { Reading };
 
     ghost view = { λ r. record {
-      profile = record { tags = T; depth = L - 1; mode = r.mode; missing_result = counts_as_unknown };
+      profile = record {
+        tags = T;
+        depth = L - 1;
+        mode = r.mode;
+        missing_result = counts_as_unknown;
+      };
       stage = r.stage;
       tags = r.tags;
       text = r.text;
@@ -76,7 +87,12 @@ impl<const T: usize, const L: usize> Reader<T, L> {
     pub fn new(mode: Mode) -> Self
         requires { 1 ≤ L }
         ensures { result ≡ record {
-          profile = record { tags = T; depth = L - 1; mode = mode; missing_result = counts_as_unknown };
+          profile = record {
+            tags = T;
+            depth = L - 1;
+            mode = mode;
+            missing_result = counts_as_unknown;
+          };
           stage = Between;
           tags = record { held = []; begun = None };
           text = begins_at first_position;
@@ -96,12 +112,13 @@ impl<const T: usize, const L: usize> Reader<T, L> {
         }
     }
 
-    /// The value that the tag section of the game before has under this name, its defaults included.
+    /// The value of a name in the tag section of the game before, its defaults included.
     pub fn value(&self, name: &[u8]) -> Option<&[u8]>
         requires { self.now.stage ≡ Between }
-        ensures { option_copied result ≡ value_of (exported self.now.profile.mode (42 ∷ []) self.now.tags.held) name.now }
+        ensures { option_copied result
+            ≡ value_of (exported self.now.profile.mode (42 ∷ []) self.now.tags.held) name.now }
     {
-        exported_value(self.mode, &self.tags, name)
+        exported_value(self.mode, self.tags.pairs(), name)
     }
 
     /// How many moves outside variations the game has so far, or had.
@@ -140,305 +157,74 @@ impl<const T: usize, const L: usize> Reader<T, L> {
         self.stage == Stage::Between
     }
 
-    /// Takes one token, and writes what it adds to the text of its game. After an `Err` nothing more is to be taken.
+    /// Takes one token, and writes what it adds to the text of its game. After an `Err` no call may
+    /// follow.
     pub fn accept<W: Sink>(&mut self, kind: TokenKind<'_>, out: &mut W) -> Result<Accepted, Stopped>
         requires going { self.old.layout.has_failed ≡ false }
         requires few { self.old.earlier_plies + self.old.text.plies < 2 ^ 64 - 1 }
         requires token { HasLength (kind_of kind) }
-        ensures accepts { Accepts self.old (kind_of kind.entry) self.new result (W.taken out.old) (W.taken out.new) }
+        ensures accepts { Accepts self.old (kind_of kind.entry) self.new result
+            (W.taken out.old) (W.taken out.new) }
         ensures profile { self.new.profile ≡ self.old.profile }
         ensures stays { Stays self.old self.new result }
         ensures going { OnOk result (self.new.layout.has_failed ≡ false) }
         ensures finished { FinishesAtMarker (kind_of kind.entry) self.new result }
         ensures counted { CountsWrites result (W.failures out.old) (W.failures out.new) }
-        ensures plies { self.new.earlier_plies + self.new.text.plies ≤ self.old.earlier_plies + self.old.text.plies + 1 }
+        ensures plies { self.new.earlier_plies + self.new.text.plies
+            ≤ self.old.earlier_plies + self.old.text.plies + 1 }
         ensures probes { self.old.most_probes ≤ self.new.most_probes }
     {
-        match self.stage {
-            Stage::Between => self.accept_between(kind, out),
-            Stage::AfterBracket => self.accept_name(kind),
-            Stage::AfterName => self.accept_value(kind),
-            Stage::AfterValue => self.accept_bracket(kind),
-            Stage::AfterTags => self.accept_after_tags(kind, out),
-            Stage::InMovetext => self.accept_in_movetext(kind, out),
+        self.make_ready(kind);
+        let mut probes = Probes::new();
+        let found = self.find(kind, &mut probes);
+        match self.judge(kind, &found) {
+            Ok(judged) => self.put(&judged, &mut probes, out),
+            Err(reason) => Err(Stopped::Refused(reason)),
         }
     }
 
-    // Between games: comments and the end are passed over.
-    fn accept_between<W: Sink>(
-        &mut self,
-        kind: TokenKind<'_>,
-        out: &mut W,
-    ) -> Result<Accepted, Stopped>
-        requires going { self.old.layout.has_failed ≡ false }
-        requires few { self.old.earlier_plies + self.old.text.plies < 2 ^ 64 - 1 }
-        requires token { HasLength (kind_of kind) }
-        requires stage { self.old.stage ≡ Between }
-        ensures comes { Comes (Agrees self.old) self.old (kind_of kind.entry) self.new result
-            (W.taken out.old) (W.taken out.new) (W.failures out.old) (W.failures out.new) }
-        ensures stays { Stays self.old self.new result }
+    // Begins a game, if this is its first token. A game without tag pairs is one whose tag pairs
+    // are complete, so the stage is the one after them.
+    fn make_ready(&mut self, kind: TokenKind<'_>)
+        requires { self.old.earlier_plies + self.old.text.plies < 2 ^ 64 }
+        ensures { self.new ≡ readied self.old (kind_of kind.entry) }
     {
-        if is_comment(kind) {
-            return Ok(Accepted::More);
+        if !self.is_between() || is_comment(kind) || is_end(kind) {
+            return;
         }
-        match kind {
-            TokenKind::End => Ok(Accepted::More),
-            TokenKind::LeftBracket => {
-                self.begin();
-                self.open_pair()
-            }
-            _ => {
-                self.begin();
-                self.accept_movetext(kind, out)
-            }
-        }
-    }
-
-    // A game begins: nothing is left of the one before.
-    fn begin(&mut self)
-        requires stage { self.old.stage ≡ Between }
-        requires few { self.old.earlier_plies + self.old.text.plies < 2 ^ 64 }
-        ensures { self.new ≡ record self.old {
-          tags = record { held = []; begun = None };
-          text = begins_at first_position;
-          earlier_plies = self.old.earlier_plies + self.old.text.plies;
-        } }
-    {
         self.earlier_plies += self.text.plies();
         self.tags.clear();
         self.text.begin(Position::initial());
-    }
-
-    // After a whole tag pair: another one, or movetext.
-    fn accept_after_tags<W: Sink>(
-        &mut self,
-        kind: TokenKind<'_>,
-        out: &mut W,
-    ) -> Result<Accepted, Stopped>
-        requires going { self.old.layout.has_failed ≡ false }
-        requires few { self.old.text.plies < 2 ^ 64 - 1 }
-        requires token { HasLength (kind_of kind) }
-        requires stage { self.old.stage ≡ AfterTags }
-        requires whole { self.old.tags.begun ≡ None }
-        ensures comes { Comes (Agrees self.old) self.old (kind_of kind.entry) self.new result
-            (W.taken out.old) (W.taken out.new) (W.failures out.old) (W.failures out.new) }
-        ensures begins { Begins self.new result }
-    {
-        match kind {
-            TokenKind::End => Err(Stopped::Refused(Reason::UnexpectedEnd)),
-            TokenKind::LeftBracket => self.open_pair(),
-            _ => {
-                if self.lacks_fen() {
-                    return Err(Stopped::Refused(Reason::SetUpWithoutFen));
-                }
-                self.accept_movetext(kind, out)
-            }
-        }
-    }
-
-    // Whether SetUp says 1, and there is no FEN (PGN 9.7).
-    fn lacks_fen(&self) -> bool
-        requires { self.now.tags.begun ≡ None }
-        ensures { result ≡ set_up_lacks_fen self.now.tags.held }
-    {
-        self.tags.value(b"SetUp").unwrap_or(b"") == b"1".as_slice()
-            && self.tags.value(b"FEN").is_none()
-    }
-
-    // In movetext.
-    fn accept_in_movetext<W: Sink>(
-        &mut self,
-        kind: TokenKind<'_>,
-        out: &mut W,
-    ) -> Result<Accepted, Stopped>
-        requires going { self.old.layout.has_failed ≡ false }
-        requires few { self.old.text.plies < 2 ^ 64 - 1 }
-        requires token { HasLength (kind_of kind) }
-        requires stage { self.old.stage ≡ InMovetext }
-        requires whole { self.old.tags.begun ≡ None }
-        ensures comes { Comes (Agrees self.old) self.old (kind_of kind.entry) self.new result
-            (W.taken out.old) (W.taken out.new) (W.failures out.old) (W.failures out.new) }
-        ensures begins { Begins self.new result }
-    {
-        match kind {
-            TokenKind::End => Err(Stopped::Refused(Reason::UnexpectedEnd)),
-            TokenKind::LeftBracket => Err(Stopped::Refused(Reason::TagInMovetext)),
-            _ => self.accept_movetext(kind, out),
-        }
-    }
-
-    // A `[`, where the pairs have room for one more.
-    fn open_pair(&mut self) -> Result<Accepted, Stopped>
-        requires going { self.old.layout.has_failed ≡ false }
-        requires stage { IsTrue (is_before_text self.old.stage) }
-        ensures comes { ComesSilently (IsReady self.old) self.old left_bracket self.new result }
-        ensures begins { Begins self.new result }
-    {
-        if self.tags.is_full() {
-            return Err(Stopped::Refused(Reason::TooManyTags));
-        }
-        self.stage = Stage::AfterBracket;
-        Ok(Accepted::More)
-    }
-
-    // The name of a pair, or a comment before it.
-    fn accept_name(&mut self, kind: TokenKind<'_>) -> Result<Accepted, Stopped>
-        requires going { self.old.layout.has_failed ≡ false }
-        requires stage { self.old.stage ≡ AfterBracket }
-        ensures comes { ComesSilently (Agrees self.old) self.old (kind_of kind.entry) self.new result }
-        ensures begins { Begins self.new result }
-    {
-        if is_comment(kind) {
-            return Ok(Accepted::More);
-        }
-        let TokenKind::Symbol(name) = kind else {
-            return Err(Stopped::Refused(Reason::ExpectedName));
-        };
-        if !is_tag_name(name) {
-            return Err(Stopped::Refused(Reason::BadTagName));
-        }
-        if self.tags.value(name).is_some() {
-            return Err(Stopped::Refused(Reason::DuplicateTag));
-        }
-        if name.len() > TEXT_LENGTH {
-            return Err(Stopped::Refused(Reason::TagLineTooLong));
-        }
-        if is_reduced_fen(self.mode, name) {
-            return Err(Stopped::Refused(Reason::ReducedFen));
-        }
-        self.tags.begin(name);
-        self.stage = Stage::AfterName;
-        Ok(Accepted::More)
-    }
-
-    // The value of a pair, or a comment before it.
-    fn accept_value(&mut self, kind: TokenKind<'_>) -> Result<Accepted, Stopped>
-        requires going { self.old.layout.has_failed ≡ false }
-        requires stage { self.old.stage ≡ AfterName }
-        ensures comes { ComesSilently (Agrees self.old) self.old (kind_of kind.entry) self.new result }
-        ensures begins { Begins self.new result }
-    {
-        if is_comment(kind) {
-            return Ok(Accepted::More);
-        }
-        let TokenKind::Str(value) = kind else {
-            return Err(Stopped::Refused(Reason::ExpectedValue));
-        };
-        if is_bad_result(self.tags.begun(), value) {
-            return Err(Stopped::Refused(Reason::BadResult));
-        }
-        let start = match start_told(self.tags.begun(), value) {
-            Ok(start) => start,
-            Err(field) => return Err(Stopped::Refused(Reason::BadFen(field))),
-        };
-        if !fits_tag_line(self.tags.begun(), value) {
-            return Err(Stopped::Refused(Reason::TagLineTooLong));
-        }
-        self.tags.complete(value);
-        if let Some(start) = start {
-            self.text.begin(start);
-        }
-        self.stage = Stage::AfterValue;
-        Ok(Accepted::More)
-    }
-
-    // The `]` of a pair, or a comment before it.
-    fn accept_bracket(&mut self, kind: TokenKind<'_>) -> Result<Accepted, Stopped>
-        requires going { self.old.layout.has_failed ≡ false }
-        requires stage { self.old.stage ≡ AfterValue }
-        ensures comes { ComesSilently (Agrees self.old) self.old (kind_of kind.entry) self.new result }
-        ensures begins { Begins self.new result }
-    {
-        if is_comment(kind) {
-            return Ok(Accepted::More);
-        }
-        let TokenKind::RightBracket = kind else {
-            return Err(Stopped::Refused(Reason::ExpectedBracket));
-        };
         self.stage = Stage::AfterTags;
-        Ok(Accepted::More)
     }
 
-    // A token of movetext: any but `[` and the end.
-    fn accept_movetext<W: Sink>(
-        &mut self,
-        kind: TokenKind<'_>,
-        out: &mut W,
-    ) -> Result<Accepted, Stopped>
-        requires going { self.old.layout.has_failed ≡ false }
-        requires few { self.old.text.plies < 2 ^ 64 - 1 }
-        requires token { HasLength (kind_of kind) }
-        requires stage { IsTrue (is_outside_pairs self.old.stage) }
-        requires whole { self.old.tags.begun ≡ None }
-        requires no_bracket { is_left_bracket (kind_of kind) ≡ false }
-        requires no_end { is_end (kind_of kind) ≡ false }
-        requires no_comment { self.old.stage ≡ Between → is_of_comment (kind_of kind) ≡ false }
-        ensures comes { Comes (IsOpen self.old) self.old (kind_of kind.entry) self.new result
-            (W.taken out.old) (W.taken out.new) (W.failures out.old) (W.failures out.new) }
-        ensures begins { Begins self.new result }
+    // The move that a symbol names, or why it names none, where movetext can begin or goes on. A
+    // marker and a number name no move. The pairs that were tried are counted.
+    fn find(&mut self, kind: TokenKind<'_>, probes: &mut Probes) -> Option<Result<Played, Reason>>
+        requires none { probes.old ≡ 0 }
+        ensures found { Finds self.new (kind_of kind.entry) result }
+        ensures counted { Counts self.old self.new }
+        ensures few { probes.new ≤ 8 }
     {
-        match kind {
-            TokenKind::Symbol(text) => self.accept_symbol(text, out),
-            TokenKind::Asterisk => self.accept_marker(b"*", out),
-            TokenKind::Period => more(self.begin_movetext(out)),
-            TokenKind::Glyph(glyph) => more(self.put_annotation(
-                glyph_number(glyph).as_slice(),
-                out,
-            )),
-            TokenKind::CommentOpen => more(self.put_annotation(b"{", out)),
-            TokenKind::Word(word) => more(self.put_annotation(word, out)),
-            TokenKind::CommentClose => more(self.put_annotation(b"}", out)),
-            TokenKind::LeftParen => self.accept_open(out),
-            TokenKind::RightParen => self.accept_close(out),
-            TokenKind::RightBracket => Err(Stopped::Refused(Reason::NotAMove)),
-            TokenKind::Str(_) => Err(Stopped::Refused(Reason::NotAMove)),
-            TokenKind::LeftBracket => Err(Stopped::Refused(Reason::NotAMove)),
-            TokenKind::End => Err(Stopped::Refused(Reason::NotAMove)),
+        let TokenKind::Symbol(text) = kind else {
+            return None;
+        };
+        if !self.is_open() || is_score(text) || is_number(text) {
+            return None;
         }
+        let found = find_move(self.text.present(), text, probes);
+        self.count_probes(probes);
+        Some(found)
     }
 
-    // A symbol in movetext: a marker, a number, which begins movetext and decides nothing (PGN 8.2.2.1), or a move.
-    fn accept_symbol<W: Sink>(&mut self, text: &[u8], out: &mut W) -> Result<Accepted, Stopped>
-        requires going { self.old.layout.has_failed ≡ false }
-        requires few { self.old.text.plies < 2 ^ 64 - 1 }
-        requires stage { IsTrue (is_outside_pairs self.old.stage) }
-        requires whole { self.old.tags.begun ≡ None }
-        ensures comes { Comes (IsOpen self.old) self.old (symbol text.now) self.new result
-            (W.taken out.old) (W.taken out.new) (W.failures out.old) (W.failures out.new) }
-        ensures begins { Begins self.new result }
+    // Whether movetext can begin, or goes on.
+    fn is_open(&self) -> bool
+        ensures { result ≡ is_open self.now.stage }
     {
-        if is_score(text) {
-            return self.accept_marker(text, out);
-        }
-        if is_number(text) {
-            return more(self.begin_movetext(out));
-        }
-        self.accept_move(text, out)
-    }
-
-    // A move (PGN 8.2.3).
-    fn accept_move<W: Sink>(&mut self, text: &[u8], out: &mut W) -> Result<Accepted, Stopped>
-        requires going { self.old.layout.has_failed ≡ false }
-        requires few { self.old.text.plies < 2 ^ 64 - 1 }
-        requires stage { IsTrue (is_outside_pairs self.old.stage) }
-        requires whole { self.old.tags.begun ≡ None }
-        requires no_score { is_of_score text.now ≡ false }
-        requires no_number { is_of_number text.now ≡ false }
-        ensures comes { Comes (IsOpen self.old) self.old (symbol text.now) self.new result
-            (W.taken out.old) (W.taken out.new) (W.failures out.old) (W.failures out.new) }
-        ensures begins { Begins self.new result }
-    {
-        let mut probes = Probes::new();
-        match find_move(self.text.present(), text, &mut probes) {
-            Err(reason) => {
-                self.count_probes(&probes);
-                Err(Stopped::Refused(reason))
-            }
-            Ok(played) => {
-                let put = self.put_move(&played, &mut probes, out);
-                self.count_probes(&probes);
-                more(put)
-            }
+        match self.stage {
+            Stage::AfterTags => true,
+            Stage::InMovetext => true,
+            _ => false,
         }
     }
 
@@ -452,170 +238,327 @@ impl<const T: usize, const L: usize> Reader<T, L> {
         }
     }
 
+    // Judges a token: what it means, or the row of the fault table that refuses it.
+    fn judge<'a>(
+        &self,
+        kind: TokenKind<'a>,
+        found: &'a Option<Result<Played, Reason>>,
+    ) -> Result<Judged<'a>, Reason>
+        requires found { Finds self.now (kind_of kind) found.now }
+        requires ready { begins self.now.stage (kind_of kind) ≡ false }
+        requires token { HasLength (kind_of kind) }
+        ensures { Judges T L self.now (kind_of kind.entry) result }
+    {
+        match self.stage {
+            Stage::Between => Ok(Judged::Passed),
+            Stage::AfterBracket => self.judge_name(kind),
+            Stage::AfterName => self.judge_value(kind),
+            Stage::AfterValue => self.judge_bracket(kind),
+            Stage::AfterTags => self.judge_after_tags(kind, found),
+            Stage::InMovetext => self.judge_in_movetext(kind, found),
+        }
+    }
+
+    // The name of a pair, or a comment before it.
+    fn judge_name<'a>(&self, kind: TokenKind<'a>) -> Result<Judged<'a>, Reason>
+        requires stage { self.now.stage ≡ AfterBracket }
+        ensures { Judges T L self.now (kind_of kind.entry) result }
+    {
+        if is_comment(kind) {
+            return Ok(Judged::Passed);
+        }
+        let TokenKind::Symbol(name) = kind else {
+            return Err(Reason::ExpectedName);
+        };
+        if !is_tag_name(name) {
+            return Err(Reason::BadTagName);
+        }
+        if self.tags.value(name).is_some() {
+            return Err(Reason::DuplicateTag);
+        }
+        if name.len() > TEXT_LENGTH {
+            return Err(Reason::TagLineTooLong);
+        }
+        if is_reduced_fen(self.mode, name) {
+            return Err(Reason::ReducedFen);
+        }
+        Ok(Judged::Name(name))
+    }
+
+    // The value of a pair, or a comment before it.
+    fn judge_value<'a>(&self, kind: TokenKind<'a>) -> Result<Judged<'a>, Reason>
+        requires stage { self.now.stage ≡ AfterName }
+        ensures { Judges T L self.now (kind_of kind.entry) result }
+    {
+        if is_comment(kind) {
+            return Ok(Judged::Passed);
+        }
+        let TokenKind::Str(value) = kind else {
+            return Err(Reason::ExpectedValue);
+        };
+        let name = self.tags.begun();
+        if is_bad_result(name, value) {
+            return Err(Reason::BadResult);
+        }
+        if let Err(field) = start_told(name, value) {
+            return Err(Reason::BadFen(field));
+        }
+        if !fits_tag_line(name, value) {
+            return Err(Reason::TagLineTooLong);
+        }
+        Ok(Judged::Value(value))
+    }
+
+    // The `]` of a pair, or a comment before it.
+    fn judge_bracket<'a>(&self, kind: TokenKind<'a>) -> Result<Judged<'a>, Reason>
+        requires stage { self.now.stage ≡ AfterValue }
+        ensures { Judges T L self.now (kind_of kind.entry) result }
+    {
+        if is_comment(kind) {
+            return Ok(Judged::Passed);
+        }
+        match kind {
+            TokenKind::RightBracket => Ok(Judged::PairClose),
+            _ => Err(Reason::ExpectedBracket),
+        }
+    }
+
+    // After a whole tag pair, or before a game's first: another one, or movetext.
+    fn judge_after_tags<'a>(
+        &self,
+        kind: TokenKind<'a>,
+        found: &'a Option<Result<Played, Reason>>,
+    ) -> Result<Judged<'a>, Reason>
+        requires found { Finds self.now (kind_of kind) found.now }
+        requires stage { self.now.stage ≡ AfterTags }
+        requires token { HasLength (kind_of kind) }
+        ensures { Judges T L self.now (kind_of kind.entry) result }
+    {
+        match kind {
+            TokenKind::End => Err(Reason::UnexpectedEnd),
+            TokenKind::LeftBracket => {
+                if self.tags.is_full() {
+                    return Err(Reason::TooManyTags);
+                }
+                Ok(Judged::PairOpen)
+            }
+            _ => {
+                if self.lacks_fen() {
+                    return Err(Reason::SetUpWithoutFen);
+                }
+                self.judge_entry(kind, found)
+            }
+        }
+    }
+
+    // Whether SetUp says 1, and there is no FEN (PGN 9.7).
+    fn lacks_fen(&self) -> bool
+        requires { IsTrue (is_open self.now.stage) }
+        ensures { result ≡ set_up_lacks_fen self.now.tags.held }
+    {
+        self.tags.value(b"SetUp").unwrap_or(b"") == b"1".as_slice()
+            && self.tags.value(b"FEN").is_none()
+    }
+
+    // In movetext.
+    fn judge_in_movetext<'a>(
+        &self,
+        kind: TokenKind<'a>,
+        found: &'a Option<Result<Played, Reason>>,
+    ) -> Result<Judged<'a>, Reason>
+        requires found { Finds self.now (kind_of kind) found.now }
+        requires stage { self.now.stage ≡ InMovetext }
+        requires token { HasLength (kind_of kind) }
+        ensures { Judges T L self.now (kind_of kind.entry) result }
+    {
+        match kind {
+            TokenKind::End => Err(Reason::UnexpectedEnd),
+            TokenKind::LeftBracket => Err(Reason::TagInMovetext),
+            _ => self.judge_entry(kind, found),
+        }
+    }
+
+    // A token where movetext can begin or go on: any but `[` and the end, which are judged before.
+    fn judge_entry<'a>(
+        &self,
+        kind: TokenKind<'a>,
+        found: &'a Option<Result<Played, Reason>>,
+    ) -> Result<Judged<'a>, Reason>
+        requires found { Finds self.now (kind_of kind) found.now }
+        requires stage { IsTrue (is_open self.now.stage) }
+        requires token { HasLength (kind_of kind) }
+        ensures { JudgesEntry T L self.now (kind_of kind.entry) result }
+    {
+        match kind {
+            TokenKind::Symbol(text) => self.judge_symbol(text, found),
+            TokenKind::Asterisk => self.judge_marker(b"*"),
+            TokenKind::Period => Ok(Judged::Entry(Entry::Number)),
+            TokenKind::Glyph(glyph) => Ok(Judged::Entry(Entry::Item(Item::Glyph(glyph)))),
+            TokenKind::CommentOpen => Ok(Judged::Entry(Entry::Item(Item::CommentOpen))),
+            TokenKind::Word(word) => Ok(Judged::Entry(Entry::Item(Item::Word(word)))),
+            TokenKind::CommentClose => Ok(Judged::Entry(Entry::Item(Item::CommentClose))),
+            TokenKind::LeftParen => self.judge_open(),
+            TokenKind::RightParen => self.judge_close(),
+            _ => Err(Reason::NotAMove),
+        }
+    }
+
+    // A symbol in movetext: a marker, a move number (PGN 8.2.2.1), or a move (PGN 8.2.3).
+    fn judge_symbol<'a>(
+        &self,
+        text: &'a [u8],
+        found: &'a Option<Result<Played, Reason>>,
+    ) -> Result<Judged<'a>, Reason>
+        requires found { Finds self.now (symbol text.now) found.now }
+        requires stage { IsTrue (is_open self.now.stage) }
+        ensures { JudgesEntry T L self.now (symbol text.now) result }
+    {
+        match found {
+            Some(found) => match found {
+                Ok(played) => Ok(Judged::Entry(Entry::Item(Item::Move(played)))),
+                Err(reason) => Err(*reason),
+            },
+            None => {
+                if is_score(text) {
+                    return self.judge_marker(text);
+                }
+                Ok(Judged::Entry(Entry::Number))
+            }
+        }
+    }
+
     // A `(`: a variation begins (PGN 8.2.5).
-    fn accept_open<W: Sink>(&mut self, out: &mut W) -> Result<Accepted, Stopped>
-        requires going { self.old.layout.has_failed ≡ false }
-        requires stage { IsTrue (is_outside_pairs self.old.stage) }
-        requires whole { self.old.tags.begun ≡ None }
-        ensures comes { Comes (IsOpen self.old) self.old left_paren self.new result
-            (W.taken out.old) (W.taken out.new) (W.failures out.old) (W.failures out.new) }
-        ensures begins { Begins self.new result }
+    fn judge_open<'a>(&self) -> Result<Judged<'a>, Reason>
+        requires stage { IsTrue (is_open self.now.stage) }
+        ensures { JudgesEntry T L self.now left_paren result }
     {
         if !self.text.holds_move() {
-            return Err(Stopped::Refused(Reason::NoMoveBefore));
+            return Err(Reason::NoMoveBefore);
         }
         if self.text.depth() + 1 >= L {
-            return Err(Stopped::Refused(Reason::TooDeep));
+            return Err(Reason::TooDeep);
         }
-        more(self.open_variation(out))
+        Ok(Judged::Entry(Entry::Item(Item::Open)))
     }
 
     // A `)`: the variation ends (PGN 8.2.5).
-    fn accept_close<W: Sink>(&mut self, out: &mut W) -> Result<Accepted, Stopped>
-        requires going { self.old.layout.has_failed ≡ false }
-        requires stage { IsTrue (is_outside_pairs self.old.stage) }
-        requires whole { self.old.tags.begun ≡ None }
-        ensures comes { Comes (IsOpen self.old) self.old right_paren self.new result
-            (W.taken out.old) (W.taken out.new) (W.failures out.old) (W.failures out.new) }
-        ensures begins { Begins self.new result }
+    fn judge_close<'a>(&self) -> Result<Judged<'a>, Reason>
+        requires stage { IsTrue (is_open self.now.stage) }
+        ensures { JudgesEntry T L self.now right_paren result }
     {
         if self.text.depth() == 0 {
-            return Err(Stopped::Refused(Reason::UnmatchedClose));
+            return Err(Reason::UnmatchedClose);
         }
-        more(self.close_variation(out))
+        Ok(Judged::Entry(Entry::Item(Item::Close)))
     }
 
     // The marker of a game (PGN 8.2.6).
-    fn accept_marker<W: Sink>(&mut self, marker: &[u8], out: &mut W) -> Result<Accepted, Stopped>
-        requires going { self.old.layout.has_failed ≡ false }
-        requires stage { IsTrue (is_outside_pairs self.old.stage) }
-        requires whole { self.old.tags.begun ≡ None }
+    fn judge_marker<'a>(&self, marker: &'a [u8]) -> Result<Judged<'a>, Reason>
+        requires stage { IsTrue (is_open self.now.stage) }
         requires token { IsToken marker.now }
-        ensures comes { (k : TokenKind) → marker_of (kind_of k) ≡ Some marker.now → Comes (IsOpen self.old) self.old (kind_of k) self.new result
-            (W.taken out.old) (W.taken out.new) (W.failures out.old) (W.failures out.new) }
-        ensures begins { Begins self.new result }
+        ensures { (k : TokenKind) → marker_of (kind_of k) ≡ Some marker.now
+            → JudgesEntry T L self.now (kind_of k) result }
     {
         if self.text.depth() > 0 {
-            return Err(Stopped::Refused(Reason::MarkerInVariation));
+            return Err(Reason::MarkerInVariation);
         }
         if marker != self.tags.value(b"Result").unwrap_or(b"*") {
-            return Err(Stopped::Refused(Reason::ResultDiffers));
+            return Err(Reason::ResultDiffers);
         }
-        finished(self.finish_game(marker, out))
+        Ok(Judged::Entry(Entry::Marker(marker)))
+    }
+
+    // Puts what a token means: the reader goes on with it, and what it adds is written.
+    fn put<W: Sink>(
+        &mut self,
+        judged: &Judged<'_>,
+        probes: &mut Probes,
+        out: &mut W,
+    ) -> Result<Accepted, Stopped>
+        requires going { self.old.layout.has_failed ≡ false }
+        requires counted { self.old.text.plies < 2 ^ 64 - 1 }
+        requires fits { Fits T L self.old judged.now }
+        requires few { probes.old ≤ 8 }
+        ensures { Puts self.old judged.now self.new result
+            (device W.taken W.failures out.old out.new) }
+    {
+        match judged {
+            Judged::Passed => Ok(Accepted::More),
+            Judged::PairOpen => {
+                self.stage = Stage::AfterBracket;
+                Ok(Accepted::More)
+            }
+            Judged::Name(name) => {
+                self.tags.begin(name);
+                self.stage = Stage::AfterName;
+                Ok(Accepted::More)
+            }
+            Judged::Value(value) => {
+                let start = start_told(self.tags.begun(), value).unwrap_or(None);
+                self.tags.complete(value);
+                self.text.begin_at(start);
+                self.stage = Stage::AfterValue;
+                Ok(Accepted::More)
+            }
+            Judged::PairClose => {
+                self.stage = Stage::AfterTags;
+                Ok(Accepted::More)
+            }
+            Judged::Entry(entry) => self.put_entry(entry, probes, out),
+        }
+    }
+
+    // Puts a token of movetext: its tag section is written first, where movetext begins.
+    fn put_entry<W: Sink>(
+        &mut self,
+        entry: &Entry<'_>,
+        probes: &mut Probes,
+        out: &mut W,
+    ) -> Result<Accepted, Stopped>
+        requires going { self.old.layout.has_failed ≡ false }
+        requires counted { self.old.text.plies < 2 ^ 64 - 1 }
+        requires fits { Fits T L self.old (InText entry.now) }
+        requires few { probes.old ≤ 8 }
+        ensures { Puts self.old (InText entry.now) self.new result
+            (device W.taken W.failures out.old out.new) }
+    {
+        self.begin_movetext(out)?;
+        match entry {
+            Entry::Number => Ok(Accepted::More),
+            Entry::Item(item) => {
+                let put = self
+                    .text
+                    .put(self.mode, item, probes, &mut self.layout, out);
+                self.count_probes(probes);
+                put?;
+                Ok(Accepted::More)
+            }
+            Entry::Marker(marker) => {
+                self.layout.put(marker, out)?;
+                self.layout.end_game(out)?;
+                self.stage = Stage::Between;
+                Ok(Accepted::Finished)
+            }
+        }
     }
 
     // Writes the tag section, where movetext is not begun yet.
     fn begin_movetext<W: Sink>(&mut self, out: &mut W) -> Result<(), WriteFault>
         requires going { self.old.layout.has_failed ≡ false }
-        requires whole { self.old.tags.begun ≡ None }
-        ensures begins { BeginsText self.old self.new result (W.taken out.old) (W.taken out.new) (W.failures out.old) (W.failures out.new) }
+        requires stage { IsTrue (is_open self.old.stage) }
+        ensures begins { BeginsText self.old self.new result
+            (device W.taken W.failures out.old out.new) }
     {
         if self.stage == Stage::InMovetext {
             return Ok(());
         }
-        write_section(self.mode, &self.tags, &mut self.layout, out)?;
+        write_section(self.mode, self.tags.pairs(), &mut self.layout, out)?;
         self.stage = Stage::InMovetext;
         Ok(())
     }
-
-    // Writes a move, and plays it.
-    fn put_move<W: Sink>(
-        &mut self,
-        played: &Played,
-        probes: &mut Probes,
-        out: &mut W,
-    ) -> Result<(), WriteFault>
-        requires going { self.old.layout.has_failed ≡ false }
-        requires stage { IsTrue (is_outside_pairs self.old.stage) }
-        requires whole { self.old.tags.begun ≡ None }
-        requires legal { legal self.old.text.levels.present.present played.now.mv ≡ Some played.now.next }
-        requires few { self.old.text.plies < 2 ^ 64 - 1 }
-        requires counted { probes.old ≤ 8 }
-        ensures puts { Puts self.old (games.move played.now.mv ∷ []) self.new result (W.taken out.old) (W.taken out.new) (W.failures out.old) (W.failures out.new) }
-        ensures rises { probes.old ≤ probes.new }
-        ensures bound { probes.new ≤ 1040 }
-    {
-        self.begin_movetext(out)?;
-        self.text
-            .put_move(self.mode, played, probes, &mut self.layout, out)
-    }
-
-    // Writes the text of an annotation: a glyph, a brace, or a word of a comment.
-    fn put_annotation<W: Sink>(&mut self, text: &[u8], out: &mut W) -> Result<(), WriteFault>
-        requires going { self.old.layout.has_failed ≡ false }
-        requires stage { IsTrue (is_outside_pairs self.old.stage) }
-        requires whole { self.old.tags.begun ≡ None }
-        requires token { IsToken text.now }
-        ensures puts { (i : Item) → IsAnnotation i text.now → Puts self.old (i ∷ []) self.new result (W.taken out.old) (W.taken out.new) (W.failures out.old) (W.failures out.new) }
-        ensures stage { OnOk result (self.new.stage ≡ InMovetext) }
-    {
-        self.begin_movetext(out)?;
-        self.text.put_other(self.mode, text, &mut self.layout, out)
-    }
-
-    // Opens a variation.
-    fn open_variation<W: Sink>(&mut self, out: &mut W) -> Result<(), WriteFault>
-        requires going { self.old.layout.has_failed ≡ false }
-        requires stage { IsTrue (is_outside_pairs self.old.stage) }
-        requires whole { self.old.tags.begun ≡ None }
-        requires holds_move { IsTrue (is_some self.old.text.levels.present.before) }
-        requires room { length self.old.text.levels.around + 1 < L }
-        ensures puts { Puts self.old (games.open_variation ∷ []) self.new result (W.taken out.old) (W.taken out.new) (W.failures out.old) (W.failures out.new) }
-    {
-        self.begin_movetext(out)?;
-        self.text.open_variation(self.mode, &mut self.layout, out)
-    }
-
-    // Closes a variation.
-    fn close_variation<W: Sink>(&mut self, out: &mut W) -> Result<(), WriteFault>
-        requires going { self.old.layout.has_failed ≡ false }
-        requires stage { IsTrue (is_outside_pairs self.old.stage) }
-        requires whole { self.old.tags.begun ≡ None }
-        requires inside { 0 < length self.old.text.levels.around }
-        ensures puts { Puts self.old (games.close_variation ∷ []) self.new result (W.taken out.old) (W.taken out.new) (W.failures out.old) (W.failures out.new) }
-    {
-        self.begin_movetext(out)?;
-        self.text.close_variation(self.mode, &mut self.layout, out)
-    }
-
-    // Writes the marker, and the end of the game.
-    fn finish_game<W: Sink>(&mut self, marker: &[u8], out: &mut W) -> Result<(), WriteFault>
-        requires going { self.old.layout.has_failed ≡ false }
-        requires stage { IsTrue (is_outside_pairs self.old.stage) }
-        requires whole { self.old.tags.begun ≡ None }
-        requires outside { self.old.text.levels.around ≡ [] }
-        requires token { IsToken marker.now }
-        ensures finishes { FinishesText self.old marker.now self.new result (W.taken out.old) (W.taken out.new) (W.failures out.old) (W.failures out.new) }
-    {
-        self.begin_movetext(out)?;
-        self.layout.put(marker, out)?;
-        self.layout.end_game(out)?;
-        self.stage = Stage::Between;
-        Ok(())
-    }
 }
 
-// What a token comes to that was put: the game goes on, unless a write failed.
-fn more(put: Result<(), WriteFault>) -> Result<Accepted, Stopped>
-    ensures { result ≡ more_of put }
-{
-    match put {
-        Ok(()) => Ok(Accepted::More),
-        Err(_) => Err(Stopped::Unwritten),
-    }
-}
-
-// What a marker comes to: the game is finished, unless a write failed.
-fn finished(put: Result<(), WriteFault>) -> Result<Accepted, Stopped>
-    ensures { result ≡ finished_of put }
-{
-    match put {
-        Ok(()) => Ok(Accepted::Finished),
-        Err(_) => Err(Stopped::Unwritten),
-    }
-}
-
-// Where a game begins whose pair this is, if it is a FEN; or the field that is at fault (PGN 9.7.2).
+// Parses the value of a FEN tag, or gives its field at fault; for another tag None (PGN 9.7.2).
 fn start_told(name: &[u8], value: &[u8]) -> Result<Option<Position>, u8>
     ensures { result ≡ told name.now value.now }
 {

@@ -9,7 +9,7 @@ ghost use Rattle.pgn_game.specs.TagSection.{roster, in_roster, exported, other_p
 
 use crate::mode::Mode;
 use crate::pair::TagPair;
-use crate::tags::{TagPairs, place_of};
+use crate::tags::{place_of, value_in};
 use pgn_layout::{Layout, Sink, WriteFault};
 
 /// The name of the pair that says whether a FEN begins the game (PGN 9.7.1).
@@ -20,57 +20,50 @@ const FROM_FEN: &[u8] = b"1";
 
 /// Writes the tag section (PGN 8.1): the roster, in full mode the other pairs, and an empty line. A pair of the roster
 /// that the game has not is written with its value for unknown, Result with `*`. Beside a FEN, SetUp is 1 (PGN 9.7.1).
-pub fn write_section<const T: usize, W: Sink>(
+pub fn write_section<W: Sink>(
     mode: Mode,
-    tags: &TagPairs<T>,
+    pairs: &[TagPair],
     layout: &mut Layout,
     out: &mut W,
 ) -> Result<(), WriteFault>
-    requires whole { tags.now.begun ≡ None }
     requires going { layout.old.has_failed ≡ false }
-    ensures text { Writes (W.taken out.old) (W.taken out.new) result (tag_section mode (42 ∷ []) tags.now.held) }
+    ensures text { Writes (W.taken out.old) (W.taken out.new) result (tag_section mode (42 ∷ []) pairs.now) }
     ensures line { OnOk result (layout.new ≡ layout.old) }
     ensures failed { OnErr result (IsTrue layout.new.has_failed) }
     ensures counted { Counts result (W.failures out.old) (W.failures out.new) }
 {
-    write_roster(tags, layout, out)?;
+    write_roster(pairs, layout, out)?;
     match mode {
         Mode::Reduced => layout.end_tags(out),
         Mode::Full => {
-            write_others(tags, layout, out)?;
+            write_others(pairs, layout, out)?;
             layout.end_tags(out)
         }
     }
 }
 
 /// The value that the tag section has under this name, if any.
-pub fn exported_value<'a, const T: usize>(
-    mode: Mode,
-    tags: &'a TagPairs<T>,
-    name: &[u8],
-) -> Option<&'a [u8]>
-    requires whole { tags.now.begun ≡ None }
-    ensures { option_copied result ≡ value_of (exported mode (42 ∷ []) tags.now.held) name.now }
+pub fn exported_value<'a>(mode: Mode, pairs: &'a [TagPair], name: &[u8]) -> Option<&'a [u8]>
+    ensures { option_copied result ≡ value_of (exported mode (42 ∷ []) pairs.now) name.now }
 {
     let unknown = unknown_value(name);
     if unknown.is_none() && mode == Mode::Reduced {
         return None;
     }
-    match value_with_set_up(tags, name) {
+    match value_with_set_up(pairs, name) {
         Some(value) => Some(value),
         None => unknown,
     }
 }
 
 // The value of a name, with SetUp 1 where there is a FEN (PGN 9.7.1).
-fn value_with_set_up<'a, const T: usize>(tags: &'a TagPairs<T>, name: &[u8]) -> Option<&'a [u8]>
-    requires whole { tags.now.begun ≡ None }
-    ensures value { option_copied result ≡ value_of (with_set_up tags.now.held) name.now }
+fn value_with_set_up<'a>(pairs: &'a [TagPair], name: &[u8]) -> Option<&'a [u8]>
+    ensures value { option_copied result ≡ value_of (with_set_up pairs.now) name.now }
 {
-    if name == SET_UP && has_fen(tags) {
+    if name == SET_UP && has_fen(pairs) {
         return Some(FROM_FEN);
     }
-    tags.value(name)
+    value_in(pairs, name)
 }
 
 // What stands for a missing value of the roster (PGN 8.1.1).
@@ -88,55 +81,51 @@ fn unknown_value(name: &[u8]) -> Option<&'static [u8]>
 }
 
 // Writes the pairs of the roster.
-fn write_roster<const T: usize, W: Sink>(
-    tags: &TagPairs<T>,
+fn write_roster<W: Sink>(
+    pairs: &[TagPair],
     layout: &mut Layout,
     out: &mut W,
 ) -> Result<(), WriteFault>
-    requires whole { tags.now.begun ≡ None }
     requires going { layout.old.has_failed ≡ false }
-    ensures text { Writes (W.taken out.old) (W.taken out.new) result (text_by (roster_line tags.now.held) (roster (42 ∷ []))) }
+    ensures text { Writes (W.taken out.old) (W.taken out.new) result (text_by (roster_line pairs.now) (roster (42 ∷ []))) }
     ensures line { OnOk result (layout.new ≡ layout.old) }
     ensures failed { OnErr result (IsTrue layout.new.has_failed) }
     ensures counted { Counts result (W.failures out.old) (W.failures out.new) }
 {
     for index in 0..7 {
         let (name, unknown) = roster_pair(index);
-        let value = value_or(tags, name, unknown);
+        let value = value_or(pairs, name, unknown);
         layout.tag(name, value, out)?;
     }
     Ok(())
 }
 
 // The value of a name, or else this one.
-fn value_or<'a, const T: usize>(tags: &'a TagPairs<T>, name: &[u8], unknown: &'a [u8]) -> &'a [u8]
-    requires whole { tags.now.begun ≡ None }
+fn value_or<'a>(pairs: &'a [TagPair], name: &[u8], unknown: &'a [u8]) -> &'a [u8]
     requires fits { length name.now + length (escaped unknown.now) ≤ 249 }
-    ensures value { result.now ≡ unwrap_or (value_of tags.now.held name.now) unknown.now }
+    ensures value { result.now ≡ unwrap_or (value_of pairs.now name.now) unknown.now }
     ensures fits { length name.now + length (escaped result.now) ≤ 249 }
 {
-    match tags.value(name) {
+    match value_in(pairs, name) {
         Some(value) => value,
         None => unknown,
     }
 }
 
 // Writes the pairs that are not of the roster, SetUp 1 among them where there is a FEN (PGN 9.7.1).
-fn write_others<const T: usize, W: Sink>(
-    tags: &TagPairs<T>,
+fn write_others<W: Sink>(
+    pairs: &[TagPair],
     layout: &mut Layout,
     out: &mut W,
 ) -> Result<(), WriteFault>
-    requires whole { tags.now.begun ≡ None }
     requires going { layout.old.has_failed ≡ false }
     ensures text { Writes (W.taken out.old) (W.taken out.new) result
-        (tag_lines (other_pairs (with_set_up tags.now.held))) }
+        (tag_lines (other_pairs (with_set_up pairs.now))) }
     ensures line { OnOk result (layout.new ≡ layout.old) }
     ensures failed { OnErr result (IsTrue layout.new.has_failed) }
     ensures counted { Counts result (W.failures out.old) (W.failures out.new) }
 {
-    let pairs = tags.pairs();
-    if !has_fen(tags) {
+    if !has_fen(pairs) {
         return write_pairs(pairs, false, layout, out);
     }
     let (before, after) = pairs.split_at(place_of(pairs, SET_UP));
@@ -146,11 +135,10 @@ fn write_others<const T: usize, W: Sink>(
 }
 
 // Whether there is a FEN.
-fn has_fen<const T: usize>(tags: &TagPairs<T>) -> bool
-    requires whole { tags.now.begun ≡ None }
-    ensures { result ≡ has_pair tags.now.held (codes "FEN") }
+fn has_fen(pairs: &[TagPair]) -> bool
+    ensures { result ≡ has_pair pairs.now (codes "FEN") }
 {
-    tags.value(b"FEN").is_some()
+    value_in(pairs, b"FEN").is_some()
 }
 
 // Writes those of the pairs that are not of the roster, and no SetUp beside the one of a FEN.

@@ -53,12 +53,7 @@ impl<const T: usize> TagPairs<T> {
         ensures value { option_copied result ≡ value_of self.now.held name.now }
         ensures fits { IfSome result (λ value. length name.now + length (escaped value.now) ≤ 249) }
     {
-        for pair in self.pairs.as_slice() {
-            if pair.name() == name {
-                return Some(pair.value());
-            }
-        }
-        None
+        value_in(self.pairs.as_slice(), name)
     }
 
     /// The pairs, in the order of their names.
@@ -112,6 +107,19 @@ impl<const T: usize> TagPairs<T> {
         self.pairs.clear();
         self.has_begun = false;
     }
+}
+
+/// The value of a name among pairs.
+pub fn value_in<'a>(pairs: &'a [TagPair], name: &[u8]) -> Option<&'a [u8]>
+    ensures value { option_copied result ≡ value_of pairs.now name.now }
+    ensures fits { IfSome result (λ value. length name.now + length (escaped value.now) ≤ 249) }
+{
+    for pair in pairs {
+        if pair.name() == name {
+            return Some(pair.value());
+        }
+    }
+    None
 }
 
 /// How many pairs stand before the place of a name.

@@ -1,19 +1,16 @@
 //! Converts a whole input.
-ghost use Rattle.std.specs.Prelude.{◌≡◌, ◌+◌, ◌-◌, ◌≤◌, ◌<◌, ◌^◌, length, false, None, ℕ, List, OnOk, IfSome};
+ghost use Rattle.std.specs.Prelude.{◌≡◌, ◌-◌, ◌≤◌, ◌^◌, length, false, None, ℕ, List, OnOk, IfSome};
 ghost use Rattle.pgn_lexer.specs.Tokens.{Token};
 ghost use Rattle.pgn_game.specs.Profile.{Profile};
-ghost use Rattle.pgn_game.specs.Feeding.{Stands, KeepsFault, CountsFault, profile_of};
+ghost use Rattle.pgn_game.specs.Feeding.{Stands, CountsFault, profile_of};
 ghost use Rattle.pgn_game.specs.Size.{Holds};
-ghost use Rattle.pgn_game.specs.Converting.{Converts, ConvertsSlice, FeedsWithin, FeedsSome, AfterEnd, CountsPiece, CountsResult, CountsSink};
+ghost use Rattle.pgn_game.specs.Converting.{Converts, ConvertsSlice, AfterEnd, CountsResult, CountsSink};
 
 use crate::converter::Converter;
 use crate::mode::Mode;
 use crate::reason::{Fault, Reason};
 use crate::source::Source;
 use pgn_layout::Sink;
-
-/// The first place that no byte of an input may have.
-const LONGEST: u64 = 1 << 62;
 
 /// What was converted.
 #[derive(Clone, Copy, Debug, PartialEq, Eq)]
@@ -26,11 +23,16 @@ pub struct Totals {
     pub most_probes: u32,
 }
 
-/// Converts the games that the source gives, up to its end: reads import format and writes export format (PGN 3).
+/// Converts the games that the source gives from import format to export format (PGN 3).
 ///
-/// A read that gives no byte is the end. Answers the input's first fault, and all that is due for the tokens before it was written; or 50
-/// where a read failed, 51 where a write failed, 52 where a byte stands at place 2^62. Nothing is flushed. A game has at most `T` tag
-/// pairs, and its variations are at most `L - 1` deep.
+/// A read that gives no byte is the end. Nothing is flushed. A game has at most `T` tag pairs, and its
+/// variations are at most `L - 1` deep.
+///
+/// # Errors
+///
+/// - The input's first fault: everything that is due for the tokens before it is written.
+/// - `Reason::ReadFault` where a read failed, `Reason::WriteFault` where a write failed.
+/// - `Reason::InputTooLong` where a byte stands at place 2^62.
 pub fn convert<const T: usize, const L: usize, R: Source, W: Sink>(
     reader: &mut R,
     writer: &mut W,
@@ -55,7 +57,7 @@ pub fn convert<const T: usize, const L: usize, R: Source, W: Sink>(
                 });
             }
             Ok(0) => return end(&mut converter, writer),
-            Ok(n) => feed_within(&mut converter, &buffer[..n], writer)?,
+            Ok(n) => converter.feed_all(&buffer[..n], writer)?,
         }
     }
 }
@@ -73,56 +75,8 @@ pub fn convert_slice<const T: usize, const L: usize, W: Sink>(
     ensures counted { CountsSink result (W.failures writer.old) (W.failures writer.new) }
 {
     let mut converter = Converter::<T, L>::new(mode);
-    feed_within(&mut converter, text, writer)?;
+    converter.feed_all(text, writer)?;
     end(&mut converter, writer)
-}
-
-// Feeds the piece; or, where the byte at place 2^62 is in it, what stands before that.
-fn feed_within<const T: usize, const L: usize, W: Sink>(
-    converter: &mut Converter<T, L>,
-    piece: &[u8],
-    writer: &mut W,
-) -> Result<(), Fault>
-    requires going { converter.old.is_finished ≡ false }
-    requires no_fault { converter.old.fault ≡ None }
-    requires count { converter.old.lexer.count ≤ 2 ^ 62 }
-    ensures feeds { FeedsWithin converter.old piece.now converter.new result (W.taken writer.old) (W.taken writer.new) }
-    ensures count { OnOk result (converter.new.lexer.count ≡ converter.old.lexer.count + length piece.now) }
-    ensures short { OnOk result (converter.new.lexer.count ≤ 2 ^ 62) }
-    ensures going { converter.new.is_finished ≡ false }
-    ensures no_fault { OnOk result (converter.new.fault ≡ None) }
-    ensures counted { CountsPiece result (W.failures writer.old) (W.failures writer.new) }
-{
-    let room = LONGEST - converter.count();
-    if piece.len() as u64 <= room {
-        return feed_some(converter, piece, writer);
-    }
-    feed_some(converter, &piece[..room as usize], writer)?;
-    Err(Fault {
-        at: LONGEST,
-        reason: Reason::InputTooLong,
-    })
-}
-
-// Feeds the piece, if it has any byte.
-fn feed_some<const T: usize, const L: usize, W: Sink>(
-    converter: &mut Converter<T, L>,
-    piece: &[u8],
-    writer: &mut W,
-) -> Result<(), Fault>
-    requires going { converter.old.is_finished ≡ false }
-    requires no_fault { converter.old.fault ≡ None }
-    requires short { converter.old.lexer.count + length piece.now ≤ 2 ^ 62 }
-    ensures feeds { FeedsSome converter.old piece.now converter.new result (W.taken writer.old) (W.taken writer.new) }
-    ensures count { OnOk result (converter.new.lexer.count ≡ converter.old.lexer.count + length piece.now) }
-    ensures going { converter.new.is_finished ≡ false }
-    ensures fault { KeepsFault converter.new result }
-    ensures counted { CountsFault result (W.failures writer.old) (W.failures writer.new) }
-{
-    if piece.is_empty() {
-        return Ok(());
-    }
-    converter.feed_all(piece, writer)
 }
 
 // Ends the input, and tells what was converted.

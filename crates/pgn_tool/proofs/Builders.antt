@@ -29,6 +29,9 @@ rule_action a b action e = ap rule_of e
 pub app_about : (c d : Command) (text : Bor (List ℕ)) → out-Command d ≡ record (out-Command c) { about = Some text } → app_of d ≡ app_of c
 app_about c d text e = ap app_of_fields e
 
+pub app_after_help : (c d : Command) (text : Bor (List ℕ)) → out-Command d ≡ record (out-Command c) { after_help = Some text } → app_of d ≡ app_of c
+app_after_help c d text e = ap app_of_fields e
+
 pub app_version : (c d : Command) (text : Bor (List ℕ)) → out-Command d ≡ record (out-Command c) { version = Some text }
     → app_of d ≡ on_top (λ s. record s { has_version = true }) (app_of c)
 app_version c d text e = ap app_of_fields e

@@ -1,5 +1,5 @@
 -- Games listed one by one.
-use Rattle.std.proofs.Common.{◌≡◌, ℕ, ◌+◌, ◌^◌, ◌<◌, Bool, true, false, List, [], ◌∷◌, ◌++◌, length, take, drop, Option, None, Some, Result, Ok, Err, IfSome, refl, sym, ap, ap₂, subst, ◌∙◌, append-nil, append_assoc, length-append, inl, inr, arith}
+use Rattle.std.proofs.Common.{◌≡◌, ℕ, ◌+◌, Bool, true, false, List, [], ◌∷◌, ◌++◌, length, take, drop, Option, None, Some, Result, Ok, Err, IfSome, refl, sym, ap, ap₂, subst, ◌∙◌, append-nil, append_assoc, length-append, inl, inr, arith}
 use Rattle.std.specs.Prelude.{IsTrue}
 use Rattle.std.specs.Io.KnownBytes.{Appends, Consumes, IsAtEnd, Keeps}
 use Rattle.std.proofs.KnownBytes.{Appends-nil, Appends-trans, Consumes-nil, Consumes-trans}
@@ -18,7 +18,7 @@ use Rattle.pgn_game.specs.declared.reason.Fault.{Fault}
 use Rattle.pgn_game.specs.Game.{Game}
 use Rattle.pgn_game.specs.Begun.{Read, nothing_begun, read}
 use Rattle.pgn_game.specs.Feeding as feeding
-use Rattle.pgn_game.specs.Feeding.{AtHand, Converter, FedAll, FedGame, FedToFault, Finishes, IsLast, Stands, hand_of}
+use Rattle.pgn_game.specs.Feeding.{AtHand, Converter, FedAll, FedGame, FedToFault, Finishes, IsLast, Stands, StopsIn, hand_of}
 use Rattle.pgn_tool.specs.Listing.{AfterLast, AfterPiece, CutsLine, IsListed, Listed, Lists, ListsNoMore, ListsToFault, ReadSoFar, Stops, game_line, hand_line, line_at_hand, lines_from, lines_of, list_profile, list_text, too_long, unread, unwritten}
 use Rattle.pgn_tool.specs.Listing as listing
 use Rattle.pgn_tool.specs.declared.list.Stopped.{Stopped}
@@ -80,6 +80,7 @@ piece_begins u piece c a b so =
         lexer = record { count = so.stands.lexer.count; before = so.stands.lexer.before; tokens = λ s k. so.stands.lexer.tokens s tt };
         has_read = so.stands.has_read;
       };
+      at_limit = so.at_limit;
       decided = decided_here u piece so.tokens so.decided;
       written = so.written;
     })
@@ -105,6 +106,7 @@ module _ (u rest : List ℕ) (old new : Converter) (a b : Option (List ℕ)) (so
         record {
           tokens = tokens_now;
           stands = fed.stands;
+          at_limit = fed.at_limit;
           decided = fed.decided;
           written = subst (Appends a c) (sym next_line) (Appends-trans a b c _ _ so.written wrote);
         }
@@ -141,25 +143,30 @@ module _ (u rest : List ℕ) (old new : Converter) (a b : Option (List ℕ)) (so
           front = subst (Appends a c) (sym cut) (Appends-trans a b c _ _ so.written front);
         }
 
+  -- what was read of a front of the rest is decided
+  front_decided : (front : List ℕ) → (front ≡ [] → so.tokens ≡ decided u) → (c : Converter) (fed : FedAll list_profile u (first rest) so.tokens front c None None)
+      → fed.tokens ≡ decided (u ++ front)
+  front_decided [] none c fed = fed.empty refl ∙ none refl ∙ ap decided (sym (append-nil u))
+  front_decided (x ∷ xs) none c fed = fed.decided (omega arith)
+
   -- the rest had no game
   pub rest_listed : FedAll list_profile u (first rest) so.tokens rest new None None → Listed (u ++ rest) [] new a b
   rest_listed fed =
+      let is = front_decided rest (λ none. decided_last u so.tokens (subst (λ xs. IsDecided u xs so.tokens) none so.decided)) new fed in
       record {
         tokens = fed.tokens;
         stands = subst (λ n. Stands list_profile new (u ++ rest) n fed.tokens) (still_own rest) fed.stands;
-        decided = inl (by_rest rest refl);
+        at_limit = λ h. is;
+        decided = inl is;
         written = subst (λ gs. Appends a b (lines_from 1 gs)) (sym fed.no_game) so.written;
       }
-    where
-      by_rest : (xs : List ℕ) → rest ≡ xs → fed.tokens ≡ decided (u ++ rest)
-      by_rest [] is =
-          fed.empty (ap (length {A = ℕ}) is) ∙ decided_last u so.tokens (subst (λ xs. IsDecided u xs so.tokens) is so.decided)
-          ∙ ap decided (sym (ap (λ xs. u ++ xs) is ∙ append-nil u))
-      by_rest (x ∷ xs) is = fed.decided (subst (λ ys. 0 < length ys) (sym is) (omega arith))
 
-  -- a token of the rest is refused
-  pub rest_refused : (f : Fault) → FedToFault list_profile u (first rest) so.tokens rest f None None → feeding.CountsReason f.reason 0 0 → ListsToFault (u ++ rest) f a b
-  rest_refused f to counted = by_stops to.fed.stops to.no_game counted
+  -- a token of the rest is refused, or the byte at place 2^62 is in it
+  pub rest_stops : (f : Fault) → StopsIn u rest (λ fault. FedToFault list_profile u (first rest) so.tokens rest fault None None)
+      (λ front. (c : Converter) × FedAll list_profile u (first rest) so.tokens front c None None) f
+      → feeding.CountsReason f.reason 0 0
+      → StopsIn u rest (λ fault. ListsToFault (u ++ rest) fault a b) (λ front. ListsNoMore (u ++ front) a b) f
+  rest_stops f (feeding.at_token h to) counted = feeding.at_token h (by_stops to.fed.stops to.no_game counted)
     where
       by_stops : {h : Fault} (stops : feeding.Stops list_profile so.tokens to.fed.tokens None None h)
           → feeding.games_before stops ≡ (read list_profile so.tokens).begun.games → feeding.CountsReason h.reason 0 0 → ListsToFault (u ++ rest) h a b
@@ -171,6 +178,27 @@ module _ (u rest : List ℕ) (old new : Converter) (a b : Option (List ℕ)) (so
             written = subst (λ gs. Appends a b (lines_from 1 gs)) (sym same) so.written;
           }
       by_stops (feeding.unwritten at writing) same counts = absurd (omega (arith, counts))
+  rest_stops f (feeding.too_long front more cut place some (c, fed)) counted =
+      let full : front ≡ [] → so.tokens ≡ decided u =
+      λ none. so.at_limit (ap (length {A = ℕ}) (sym (ap (λ xs. u ++ xs) none ∙ append-nil u)) ∙ place) in
+      let is = front_decided front full c fed in
+      feeding.too_long front more cut place some (record {
+        passes = subst (λ ts. (read list_profile ts).fault ≡ None) is fed.stands.has_read.passes;
+        written = subst (λ ts. Appends a b (lines_of ts)) is (subst (λ gs. Appends a b (lines_from 1 gs)) (sym fed.no_game) so.written);
+      })
+
+-- how the rest of a piece stops is how the piece does
+pub stops_further : (u piece : List ℕ) (at : ℕ) (a b : Option (List ℕ)) (f : Fault)
+    → StopsIn (u ++ take at piece) (drop at piece) (λ fault. ListsToFault ((u ++ take at piece) ++ drop at piece) fault a b)
+    (λ front. ListsNoMore ((u ++ take at piece) ++ front) a b) f
+    → StopsIn u piece (λ fault. ListsToFault (u ++ piece) fault a b) (λ front. ListsNoMore (u ++ front) a b) f
+stops_further u piece at a b f (feeding.at_token h to) =
+    feeding.at_token h (subst (λ xs. ListsToFault xs h a b) (whole u piece at) to)
+stops_further u piece at a b f (feeding.too_long front rest cut place some before) =
+    let text = append_assoc u (take at piece) front in
+    feeding.too_long (take at piece ++ front) rest
+    (sym (take-append-drop at piece) ∙ ap (λ xs. take at piece ++ xs) cut ∙ sym (append_assoc (take at piece) front rest))
+    (sym (ap (length {A = ℕ}) text) ∙ place) some (subst (λ xs. ListsNoMore xs a b) text before)
 
 -- ---- the end
 
@@ -273,7 +301,7 @@ known_whole (Some s) (Some rest) u P h end here = subst P (sym (h ∙ ap (λ l. 
 
 pub read_none : (c : Converter) (left o : Option (List ℕ)) → Stands list_profile c [] None [] → ReadSoFar left left c o o
 read_none c left o stands =
-    record { bytes = []; consumed = Consumes-nil left; listed = record { tokens = []; stands = stands; decided = inl refl; written = Appends-nil o } }
+    record { bytes = []; consumed = Consumes-nil left; listed = record { tokens = []; stands = stands; at_limit = λ h. refl; decided = inl refl; written = Appends-nil o } }
 
 module _ (left_old left : Option (List ℕ)) (c : Converter) (a b : Option (List ℕ)) (so : ReadSoFar left_old left c a b) (left_new : Option (List ℕ)) where
   pub read_fails : (at : ℕ) → Keeps left left_new → at ≡ c.lexer.count → Stops left_old left_new a b (Refused (record { at = at; reason = ReadFault }))
@@ -285,31 +313,28 @@ module _ (left_old left : Option (List ℕ)) (c : Converter) (a b : Option (List
   read_on piece new d consumed listed =
       record { bytes = so.bytes ++ piece; consumed = Consumes-trans left_old left left_new so.bytes piece so.consumed consumed; listed = listed }
 
-  -- a front of the bytes read was fed
-  fed_front : (front rest : List ℕ) → Consumes left left_new (front ++ rest) → Consumes left_old left_new ((so.bytes ++ front) ++ rest)
-  fed_front front rest consumed =
-      subst (Consumes left_old left_new) (sym (append_assoc so.bytes front rest)) (Consumes-trans left_old left left_new so.bytes (front ++ rest) so.consumed consumed)
+  -- what was read in all
+  read_all : (piece : List ℕ) → Consumes left left_new piece → Consumes left_old left_new (so.bytes ++ piece)
+  read_all piece consumed = Consumes-trans left_old left left_new so.bytes piece so.consumed consumed
 
-  pub read_stops_at : (front rest : List ℕ) (new : Converter) (d : Option (List ℕ)) (stopped : Stopped) → Consumes left left_new (front ++ rest)
-      → AfterPiece so.bytes front new (Err stopped) a d → Stops left_old left_new a d stopped
-  read_stops_at front rest new d (Refused f) consumed to =
-      listing.refused f (known_left left_old left_new ((so.bytes ++ front) ++ rest) (λ s. IsListed s (Some f) a d) (fed_front front rest consumed)
+  pub read_stops_at : (piece : List ℕ) (new : Converter) (d : Option (List ℕ)) (stopped : Stopped) → Consumes left left_new piece
+      → AfterPiece so.bytes piece new (Err stopped) a d → Stops left_old left_new a d stopped
+  read_stops_at piece new d (Refused _) consumed (feeding.at_token f to) =
+      listing.refused f (known_left left_old left_new (so.bytes ++ piece) (λ s. IsListed s (Some f) a d) (read_all piece consumed)
       (λ more.
-      let text : ((so.bytes ++ front) ++ rest) ++ more ≡ (so.bytes ++ front) ++ (rest ++ more) = append_assoc (so.bytes ++ front) rest more in
-      let begun = to.next (rest ++ more) in
-      let same : read list_profile (tokens_of (((so.bytes ++ front) ++ rest) ++ more)) ≡ read list_profile to.tokens =
-      ap (λ s. read list_profile (tokens_of s)) text ∙ ap (read list_profile) begun.1 ∙ read_stops list_profile nothing_begun to.tokens begun.0 f to.fault in
+      let begun = to.next more in
+      let same : read list_profile (tokens_of ((so.bytes ++ piece) ++ more)) ≡ read list_profile to.tokens =
+      ap (read list_profile) begun.1 ∙ read_stops list_profile nothing_begun to.tokens begun.0 f to.fault in
       record {
         fault = ap (λ (r : Read). r.fault) same ∙ to.fault;
         written = subst (λ (r : Read). Appends a d (lines_from 1 r.begun.games)) (sym same) to.written;
       }))
-  read_stops_at front rest new d Unwritten consumed to = unwritten (so.bytes ++ front) rest (fed_front front rest consumed) to
-
-  pub read_too_much : (front rest : List ℕ) (new : Converter) (d : Option (List ℕ)) → Consumes left left_new (front ++ rest) → Listed (so.bytes ++ front) [] new a d
-      → length (so.bytes ++ front) ≡ 2 ^ 62 → 0 < length rest → Stops left_old left_new a d (Refused (record { at = 2 ^ 62; reason = InputTooLong }))
-  read_too_much front rest new d consumed listed place some =
+  read_stops_at piece new d (Refused _) consumed (feeding.too_long front rest cut place some before) =
+      let text : so.bytes ++ piece ≡ (so.bytes ++ front) ++ rest = ap (λ xs. so.bytes ++ xs) cut ∙ sym (append_assoc so.bytes front rest) in
       subst (λ n. Stops left_old left_new a d (Refused (record { at = n; reason = InputTooLong }))) place
-      (too_long (so.bytes ++ front) rest (fed_front front rest consumed) place some (no_more (so.bytes ++ front) new a d listed))
+      (too_long (so.bytes ++ front) rest (subst (Consumes left_old left_new) text (read_all piece consumed)) place some before)
+  read_stops_at piece new d Unwritten consumed to =
+      unwritten (so.bytes ++ piece) [] (subst (Consumes left_old left_new) (sym (append-nil (so.bytes ++ piece))) (read_all piece consumed)) to
 
   pub read_ends : (r : Result Unit Stopped) (d : Option (List ℕ)) → Consumes left left_new [] → IsAtEnd left_new → AfterLast so.bytes r a d → Lists left_old left_new r a d
   read_ends r d consumed end after = by_result r after

@@ -1,7 +1,8 @@
 -- What follows of a run from the conversion in it.
-use Rattle.std.proofs.Common.{◌≡◌, ◌∙◌, ℕ, ◌^◌, ◌<◌, ◌≤◌, List, [], ◌++◌, length, ap, subst, sym, arith, append-nil, take, length-append, Option, None, Some}
+use Rattle.std.proofs.Common.{◌≡◌, ◌∙◌, ℕ, ◌^◌, ◌<◌, ◌≤◌, Bool, true, false, List, [], ◌++◌, length, ap, refl, subst, sym, arith, append-nil, take, length-append, Option, None, Some}
+use Rattle.std.proofs.lemmas.Bool.{false≢true}
 use Rattle.std.proofs.Math.Seq.{take-length}
-use Rattle.std.specs.Prelude.{Result, Ok, Err, map, sum}
+use Rattle.std.specs.Prelude.{Result, Ok, Err, is_ok, map, sum, codes, if◌then◌else◌}
 use Rattle.std.specs.Io.KnownBytes.{Appends, Consumes, Keeps}
 use Rattle.pgn_layout.specs.Device.{Counts, Writes, one_more}
 use Rattle.pgn_game.specs.declared.mode.Mode.TheVariants.{Full}
@@ -19,7 +20,7 @@ use Rattle.pgn_tool.specs.declared.list.Stopped.{Stopped}
 use Rattle.pgn_tool.specs.declared.list.Stopped.TheVariants as stopped
 use Rattle.pgn_tool.specs.Listing as lists
 use Rattle.pgn_tool.specs.Listing.{CountsReason, Lists, Stops, list_profile}
-use Rattle.pgn_tool.specs.Running.{Answers, Blames, Concludes, Device, Ends, EndsList, HasFailed, IsCalm, IsSmooth, IsStill, Job, Runs, TellsVerdict, Works, checking, counting_of, exporting, listing, status_of}
+use Rattle.pgn_tool.specs.Running.{Answers, Blames, Concludes, Device, Ends, EndsList, HasFailed, IsCalm, IsSmooth, IsStill, IsUntouched, Job, Runs, Tells, TellsVerdict, Works, checking, counting_of, exporting, line, listing, status_of}
 
 -- ---- devices
 
@@ -46,6 +47,40 @@ front_as r a b c text other same writes keeps = front_on r a b c other (subst (�
 
 pub calm_fails : (d : Device) → IsCalm d → HasFailed d → ⊥
 calm_fails d calm failed = omega (arith, calm.0, calm.1)
+
+-- ---- a run without a fault
+
+-- a flush that did well leaves the count, and one that failed raises it
+pub flush_still : {A E : Type 0} → (r : Result A E) (old mid new : ℕ) → mid ≡ old → Counts r mid new → is_ok r ≡ true → new ≡ old
+flush_still (Ok x) old mid new still counts is = counts ∙ still
+flush_still (Err e) old mid new still counts is = absurd (false≢true is)
+
+pub flush_failed : {A E : Type 0} → (r : Result A E) (old mid new : ℕ) → mid ≡ old → Counts r mid new → is_ok r ≡ false → one_more old ≤ new
+flush_failed (Ok x) old mid new still counts is = absurd (false≢true (sym is))
+flush_failed (Err e) old mid new still counts is = omega (arith, still, counts)
+
+-- the status says whether all was written
+pub concludes_as : (is_written : Bool) (source out err : Device) (status : ℕ) → IsStill source → (is_written ≡ true → IsStill out)
+    → (is_written ≡ false → HasFailed out) → status ≡ (if is_written then 0 else 1) → (is_written ≡ true → IsUntouched err)
+    → (is_written ≡ false → Tells err (line (codes "output cannot be written"))) → Concludes source out err status
+concludes_as true source out err status read still failed is untouched told = record {
+  read = read;
+  ends = omega (arith, is);
+  well = λ zero. (still refl, untouched refl);
+  ill = λ one. absurd (omega (arith, one, is));
+}
+concludes_as false source out err status read still failed is untouched told = record {
+  read = read;
+  ends = omega (arith, is);
+  well = λ zero. absurd (omega (arith, zero, is));
+  ill = λ one. (failed refl, told refl);
+}
+
+-- a text is told where it was written or the sink has failed
+pub tells_as : (is_written : Bool) (d : Device) (text : List ℕ) → (is_written ≡ true → Appends d.before d.after text)
+    → (is_written ≡ false → HasFailed d) → Tells d text
+tells_as true d text written failed = λ calm. written refl
+tells_as false d text written failed = λ calm. absurd (calm_fails d calm (failed refl))
 
 -- ---- a conversion, and a flush after it
 
@@ -92,6 +127,12 @@ pub blames_of : {A E : Type 0} → (reason : Reason) (flushed : Result A E) (sou
 blames_of ReadFault flushed source out mid devices counts = omega (arith, devices.0)
 blames_of WriteFault flushed source out mid devices counts = risen flushed out.failures mid out.failures_after devices.1 counts
 blames_of _ flushed source out mid devices counts = tt
+
+-- the same of a conversion to a sink that never fails
+pub silent_blames : (reason : Reason) (source out : Device) → CountsDevices reason source.failures source.failures_after 0 0 → Blames reason source out
+silent_blames ReadFault source out devices = omega (arith, devices.0)
+silent_blames WriteFault source out devices = absurd (omega (arith, devices.1))
+silent_blames _ source out devices = tt
 
 -- ---- where no device fails
 

@@ -17,7 +17,7 @@ use Rattle.pgn_game.specs.Pairs.{Pair, value_of}
 use Rattle.pgn_game.specs.TagSection.{exported}
 use Rattle.pgn_game.specs.Game.{Game}
 use Rattle.pgn_game.specs.Begun.{read}
-use Rattle.pgn_game.specs.Feeding.{AtHand, Converter, Stands, hand_of, profile_of}
+use Rattle.pgn_game.specs.Feeding.{AtHand, Converter, Stands, StopsIn, hand_of, profile_of}
 use Rattle.pgn_tool.specs.declared.list.Stopped.{Stopped}
 use Rattle.pgn_tool.specs.declared.list.Stopped.TheVariants.{Refused, Unwritten}
 
@@ -121,6 +121,7 @@ CountsList (Err stopped) source_old source_new sink_old sink_new = CountsStopped
 pub record Listed (u rest : List ℕ) (c : Converter) (before now : Option (List ℕ)) : Type 0 where
   pub tokens : List Token
   pub stands : Stands list_profile c u (first rest) tokens
+  pub at_limit : length u ≡ 2 ^ 62 → tokens ≡ decided u
   pub decided : IsDecided u rest tokens
   pub written : Appends before now (lines_of tokens)
 
@@ -134,7 +135,9 @@ pub record ListsToFault (u : List ℕ) (f : Fault) (before after : Option (List 
 -- what a piece comes to that was fed after the bytes u
 abbrev pub AfterPiece : List ℕ → List ℕ → Converter → Result Unit Stopped → Option (List ℕ) → Option (List ℕ) → Type 0
 AfterPiece u piece new (Ok done) before after = Listed (u ++ piece) [] new before after
-AfterPiece u piece new (Err (Refused f)) before after = ListsToFault (u ++ piece) f before after
+AfterPiece u piece new (Err (Refused f)) before after =
+    StopsIn u piece (λ fault. ListsToFault (u ++ piece) fault before after)
+    (λ front. ListsNoMore (u ++ front) before after) f
 AfterPiece u piece new (Err Unwritten) before after = CutsLine (u ++ piece) before after
 
 -- so wherever the lines before the piece began

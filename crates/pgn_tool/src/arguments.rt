@@ -83,6 +83,20 @@ pub fn parse<S: AsStr>(alloc: Global, words: &[S]) -> Result<Task, ParseFault>
     }
 }
 
+// What stands below the help of the program.
+const EXAMPLES: &str = "Examples:
+  pgn_tool export games.pgn > clean.pgn    Write the games in export format
+  pgn_tool check games.pgn                 Count the games, or report the first fault
+  pgn_tool list < games.pgn                One line for each game, with tabs
+
+Without FILE standard input is read. Never write to the file that is read.
+
+Exit status:
+  0  no fault
+  1  a fault of the input or of a device, reported as `byte N: REASON`
+  2  the arguments are rejected
+  3  out of memory";
+
 // The program's command line, as `specs/CommandLine.antt` has it.
 fn command_line<'a>(alloc: Global) -> Result<Command<'a>, AllocError>
     ensures { IfOk result (λ c. app_of c ≡ command_line) }
@@ -90,6 +104,7 @@ fn command_line<'a>(alloc: Global) -> Result<Command<'a>, AllocError>
     Command::new(alloc, "pgn_tool")
         .version(VERSION)
         .about("Converts chess games in Portable Game Notation to export format")
+        .after_help(EXAMPLES)
         .disable_help_subcommand(true)
         .subcommand_required(true)
         .subcommand(export_command(alloc)?)?

@@ -3,16 +3,12 @@ ghost use Rattle.std.specs.Prelude.{◌≡◌, ℕ, ◌+◌, ◌^◌, ◌≤◌,
 ghost use Rattle.pgn_layout.specs.Device.{Counts, Writes};
 ghost use Rattle.pgn_tool.specs.Listing.{CountsList, CountsSink, Lists, ListsLast, ListsPiece, field, line_at_hand, six_fields};
 ghost use Rattle.pgn_game.specs.Feeding.{value_at_hand};
-ghost use Rattle.pgn_tool.specs.declared.list.Stopped.TheVariants.{Refused};
 
 use crate::stream::{LEVELS, TAGS};
 use chess_text::fen::write_fen;
 use itoa::Buffer;
 use pgn_game::{Converter, Fault, Fed, Mode, Nowhere, Reason, Sink, Source, WriteFault};
 use pgn_layout::write_all;
-
-/// The first place that no byte of an input may have.
-const LONGEST: u64 = 1 << 62;
 
 /// Why a list ends before the input does.
 #[derive(Clone, Copy)]
@@ -48,34 +44,25 @@ pub fn list_games<R: Source, O: Sink>(reader: &mut R, out: &mut O) -> Result<(),
     let mut converter = Lister::new(Mode::Full);
     loop {
         match reader.read_some(&mut buffer) {
-            Err(_) => return Err(refused(converter.count(), Reason::ReadFault)),
-            Ok(0) => return list_last(&mut converter, out),
-            Ok(n) => {
-                let piece = &buffer[..n];
-                let room = LONGEST - converter.count();
-                if piece.len() as u64 > room {
-                    list_piece(&mut converter, &piece[..room as usize], out)?;
-                    return Err(refused(LONGEST, Reason::InputTooLong));
-                }
-                list_piece(&mut converter, piece, out)?;
+            Err(_) => {
+                return Err(Stopped::Refused(Fault {
+                    at: converter.count(),
+                    reason: Reason::ReadFault,
+                }));
             }
+            Ok(0) => return list_last(&mut converter, out),
+            Ok(n) => list_piece(&mut converter, &buffer[..n], out)?,
         }
     }
-}
-
-fn refused(at: u64, reason: Reason) -> Stopped
-    ensures { result ≡ Refused (record { at = at; reason = reason }) }
-{
-    Stopped::Refused(Fault { at, reason })
 }
 
 // Lists the games that are finished in the piece.
 fn list_piece<O: Sink>(converter: &mut Lister, piece: &[u8], out: &mut O) -> Result<(), Stopped>
     requires going { converter.old.is_finished ≡ false }
     requires no_fault { converter.old.fault ≡ None }
-    requires short { converter.old.lexer.count + length piece.now ≤ 2 ^ 62 }
     ensures lists { ListsPiece converter.old piece.now converter.new result (O.taken out.old) (O.taken out.new) }
     ensures count { OnOk result (converter.new.lexer.count ≡ converter.old.lexer.count + length piece.now) }
+    ensures short { OnOk result (converter.new.lexer.count ≤ 2 ^ 62) }
     ensures going { converter.new.is_finished ≡ false }
     ensures no_fault { OnOk result (converter.new.fault ≡ None) }
     ensures counted { CountsSink result (O.failures out.old) (O.failures out.new) }

@@ -128,6 +128,8 @@ fn shows_help_and_version(rt: HostRuntime) {
                 "list",
                 "--version",
                 "Usage: pgn_tool <COMMAND>",
+                "pgn_tool export games.pgn > clean.pgn",
+                "2  the arguments are rejected",
             ],
         ),
         (&["pgn_tool", "-h"], &["export", "check"]),
@@ -179,7 +181,7 @@ fn answers_the_same_or_no_memory(rt: HostRuntime) {
     let help = parse(rt.alloc(), &["pgn_tool", "--help"]);
     let helps = match &help {
         Err(ParseFault::Help(text)) => {
-            text.starts_with("Converts") && text.ends_with("Print version\n")
+            text.starts_with("Converts") && text.ends_with("out of memory\n")
         }
         _ => wants_memory(&help),
     };

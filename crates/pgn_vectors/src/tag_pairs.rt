@@ -66,6 +66,16 @@ pub const TAG_PAIRS: &[Vector] = &[
             "[Round \"?\"]\n[White \"?\"]\n[Black \"?\"]\n[Result \"*\"]\n[A \"1\"]\n[b \"2\"]\n\n*\n\n"
         )
     ),
+    Vector {
+        name: "tag-order, reduced",
+        mode: Mode::Reduced,
+        input: "[b \"2\"][Site \"x\\\"y\\\\z\\q\"][A \"1\"] *",
+        output: concat!(
+            "[Event \"?\"]\n[Site \"x\\\"y\\\\z\\\\q\"]\n[Date \"????.??.??\"]\n",
+            "[Round \"?\"]\n[White \"?\"]\n[Black \"?\"]\n[Result \"*\"]\n\n*\n\n"
+        ),
+        verdict: Verdict::Converted { games: 1, plies: 0 },
+    },
     pairs!(
         "names in byte order",
         "[b \"2\"][A \"1\"] *",

@@ -5,5 +5,7 @@ mod cuts;
 mod devices;
 mod hand;
 mod limits;
+mod reasons;
 mod runs;
+mod sources;
 mod tables;

@@ -5,9 +5,6 @@ use crate::{
 use pgn_game::{Converter, Fault, Fed, Mode, Outlet, Reason, Sink, Totals, convert_slice};
 use std::process::Abort;
 
-/// How many bytes a run has at most.
-const LONGEST: u64 = 1 << 60;
-
 /// The section of a game without pairs.
 pub const HEAD: &[u8] =
     b"[Event \"?\"]\n[Site \"?\"]\n[Date \"????.??.??\"]\n[Round \"?\"]\n[White \"?\"]\n[Black \"?\"]\n[Result \"*\"]\n\n";
@@ -91,7 +88,8 @@ pub fn verdict_of(run: Result<Totals, Fault>) -> Verdict {
 pub fn feed<W: Sink>(converter: &mut Usual, piece: &[u8], out: &mut W) -> Result<u64, Fault> {
     let mut rest = piece;
     let mut plies = 0u64;
-    for _ in 0..LONGEST {
+    // A piece ends fewer games than that.
+    for _ in 0..u64::MAX {
         match feed_once(converter, rest, out)? {
             Fed::All => return Ok(plies),
             Fed::Game(used) => {
@@ -105,7 +103,7 @@ pub fn feed<W: Sink>(converter: &mut Usual, piece: &[u8], out: &mut W) -> Result
 
 /// Hands the piece in up to the end of a game.
 pub fn feed_once<W: Sink>(converter: &mut Usual, piece: &[u8], out: &mut W) -> Result<Fed, Fault> {
-    if converter.is_finished() || converter.count() > LONGEST || piece.len() as u64 > LONGEST {
+    if converter.is_finished() {
         return Err(UNCALLED);
     }
     converter.feed(piece, out)

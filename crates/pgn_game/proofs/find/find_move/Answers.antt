@@ -1,9 +1,10 @@
-use Rattle.std.proofs.Common.{◌≡◌, Bool, true, false, List, ℕ, None, Some, sym, ap, ◌∙◌}
-use Rattle.std.specs.Prelude.{Result, Ok, Err, option_map}
+use Rattle.std.proofs.Common.{◌≡◌, Bool, true, false, List, ℕ, ◌+◌, None, Some, sym, ap, subst, ◌∙◌, arith}
+use Rattle.std.specs.Prelude.{Option, Result, Ok, Err, option_map}
 use Rattle.chess_rules.specs.declared.position.Parts.{Parts}
 use Rattle.chess_text.specs.declared.form.Form.{Form}
 use Rattle.chess_text.specs.declared.resolve.Played.{Played}
 use Rattle.chess_text.specs.declared.resolve.SanFault.{SanFault}
+use Rattle.chess_text.specs.declared.resolve.SanFault.TheVariants.{NoMove, Ambiguous}
 use Rattle.chess_text.specs.Form.{form_of}
 use Rattle.chess_text.specs.Reads.{reads}
 use Rattle.pgn_game.specs.declared.reason.Reason.{Reason}
@@ -11,6 +12,7 @@ use Rattle.pgn_game.specs.declared.reason.Reason.TheVariants.{MoveLimit}
 use Rattle.pgn_game.specs.Chess.{move_of}
 use Rattle.pgn_game.specs.FaultTable.{is_at_limit}
 use Rattle.pgn_game.specs.Finding.{found_in}
+use Rattle.pgn_game.specs.Tried.{Costs, CostsForm, CostsAnswer}
 use Rattle.pgn_game.proofs.find.find_move.Goals as goal
 
 no_form : (p : Parts) (s : List ℕ) → None ≡ form_of s → move_of p s ≡ None
@@ -49,3 +51,50 @@ returns-else-is_at_limit-clause-found c =
 pub returns-else-is_at_limit-clause-legal : goal.returns-else-is_at_limit-clause-legal
 returns-else-is_at_limit-clause-legal c =
     ((c.the_one_move_is_read.ensures c.args.position.now c.in-Some.form c.in-Ok.played).0 (sym c.in-Ok.ensures.answer)).1
+
+-- what resolving a form costs
+of_answer : (p : Parts) (s : List ℕ) (f : Form) (r : Result Played SanFault) (n : ℕ)
+    → Some f ≡ form_of s → r ≡ reads p f → CostsAnswer p f r n → Costs p s n
+unfolding Costs
+of_answer p s f r n e h costs =
+    subst (λ (x : Option Form). CostsForm p x n) e
+    (subst (λ (y : Result Played SanFault). CostsAnswer p f y n) h costs)
+
+-- and a text that is no form
+of_no_form : (p : Parts) (s : List ℕ) (n : ℕ) → None ≡ form_of s → n ≡ 0 → Costs p s n
+unfolding Costs
+of_no_form p s n e h = subst (λ (x : Option Form). CostsForm p x n) e h
+
+-- all pairs counted are those of this form
+from_none : (before after pairs : ℕ) → before ≡ 0 → after ≡ before + pairs → after ≡ pairs
+from_none before after pairs none e = omega (arith, none, e)
+
+pub returns-in_default-clause-tried : goal.returns-in_default-clause-tried
+returns-in_default-clause-tried c =
+    of_no_form c.args.position.now c.args.text.now _ c.in_default.ensures c.requires
+
+pub returns-in-Err-NoMove-clause-tried : goal.returns-in-Err-NoMove-clause-tried
+returns-in-Err-NoMove-clause-tried c =
+    let f = c.in-Some.form in
+    let answer = rw c.in-Err-NoMove.field-0-is at c.in-Err-NoMove.ensures.answer in
+    of_answer c.args.position.now c.args.text.now f _ _ c.in-Some.ensures answer
+    (from_none _ _ _ c.requires (c.in-Err-NoMove.ensures.each (λ e. cc)))
+
+pub returns-in-Err-Ambiguous-clause-tried : goal.returns-in-Err-Ambiguous-clause-tried
+returns-in-Err-Ambiguous-clause-tried c =
+    let f = c.in-Some.form in
+    let answer = rw c.in-Err-Ambiguous.field-0-is at c.in-Err-Ambiguous.ensures.answer in
+    of_answer c.args.position.now c.args.text.now f _ _ c.in-Some.ensures answer
+    (omega (arith, c.in-Err-Ambiguous.ensures.two (cc), c.requires), omega (arith, c.in-Err-Ambiguous.ensures.most, c.requires))
+
+pub returns-then-is_at_limit-clause-tried : goal.returns-then-is_at_limit-clause-tried
+returns-then-is_at_limit-clause-tried c =
+    let f = c.in-Some.form in
+    of_answer c.args.position.now c.args.text.now f _ _ c.in-Some.ensures c.in-Ok.ensures.answer
+    (from_none _ _ _ c.requires (c.in-Ok.ensures.each (λ e. cc)))
+
+pub returns-else-is_at_limit-clause-tried : goal.returns-else-is_at_limit-clause-tried
+returns-else-is_at_limit-clause-tried c =
+    let f = c.in-Some.form in
+    of_answer c.args.position.now c.args.text.now f _ _ c.in-Some.ensures c.in-Ok.ensures.answer
+    (from_none _ _ _ c.requires (c.in-Ok.ensures.each (λ e. cc)))

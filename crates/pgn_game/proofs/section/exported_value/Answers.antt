@@ -21,16 +21,16 @@ some_copied None t is e none = absurd (false≢true (is ∙ ap not e))
 some_copied (Some v) t is e none = absurd (cc)
 
 pub returns-then-eq : goal.returns-then-eq
-returns-then-eq g c =
-    let held = c.args.tags.now.held in
+returns-then-eq c =
+    let held = c.args.pairs.now in
     let name = c.args.name.now in
     let none = none_copied c.unknown_value-unknown.result c.is_none.result c.is_none.ensures c.if-is_none.true in
     let reduced : c.args.mode ≡ Reduced = same_true mode.the_type (search rules) _ _ (sym c.eq.ensures ∙ c.if-eq.true) in
     sym (ap (λ (m : Mode). value_of (exported m (42 ∷ []) held) name) reduced ∙ exported_none held name (sym c.unknown_value-unknown.ensures.value ∙ none))
 
 pub returns-in-Some : goal.returns-in-Some
-returns-in-Some g c =
-    let held = c.args.tags.now.held in
+returns-in-Some c =
+    let held = c.args.pairs.now in
     let name = c.args.name.now in
     let other : value_of (roster (42 ∷ [])) name ≡ None → c.args.mode ≡ Reduced → ⊥ = λ none reduced.
     elim c.else-is_none.branch [
@@ -42,8 +42,8 @@ returns-in-Some g c =
     sym (exported_either c.args.mode held name other ∙ ap (λ o. either_of o (value_of (roster (42 ∷ [])) name)) (sym c.in-Some.ensures.value))
 
 pub returns-in-None : goal.returns-in-None
-returns-in-None g c =
-    let held = c.args.tags.now.held in
+returns-in-None c =
+    let held = c.args.pairs.now in
     let name = c.args.name.now in
     let other : value_of (roster (42 ∷ [])) name ≡ None → c.args.mode ≡ Reduced → ⊥ = λ none reduced.
     elim c.else-is_none.branch [

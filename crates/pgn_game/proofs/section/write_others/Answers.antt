@@ -1,4 +1,4 @@
-use Rattle.std.proofs.Common.{◌≡◌, ℕ, true, false, List, ◌++◌, take, drop, ap, sym, ◌∙◌}
+use Rattle.std.proofs.Common.{◌≡◌, ℕ, true, false, List, ◌++◌, take, drop, refl, ap, sym, ◌∙◌}
 use Rattle.std.specs.Prelude.{codes}
 use Rattle.std.proofs.lemmas.Result.{err_from_is_err_and}
 use Rattle.std.proofs.KnownBytes.{Appends-trans}
@@ -24,31 +24,31 @@ both_sides held pairs before after n is place front back some =
 
 pub returns-then-not-has_fen-clause-text : goal.returns-then-not-has_fen-clause-text
 returns-then-not-has_fen-clause-text g c =
-    let held = c.args.tags.now.held in
+    let held = c.args.pairs.now in
     let none : has_pair held (codes "FEN") ≡ false = sym c.has_fen.ensures ∙ c.if-not-has_fen.true in
-    rw (← others_without_fen held none, ← c.pairs-pairs.ensures) c.write_pairs.ensures.text
+    rw (← others_without_fen held none) c.write_pairs.ensures.text
 
 pub split_at-requires : goal.split_at-requires
-split_at-requires g c = rw c.place_of.ensures (place_of-le (codes "SetUp") c.pairs-pairs.result.now)
+split_at-requires g c = rw c.place_of.ensures (place_of-le (codes "SetUp") c.args.pairs.now)
 
 pub returns-in_err-write_pairs-clause-text : goal.returns-in_err-write_pairs-clause-text
 returns-in_err-write_pairs-clause-text g c =
     let p = err_from_is_err_and c.from_residual.result c.from_residual.ensures.1 in
-    let some : has_pair c.args.tags.now.held (codes "FEN") ≡ true = sym c.has_fen.ensures ∙ c.if-not-has_fen.false in
-    rw (p.1, ← both_sides c.args.tags.now.held _ _ _ _ c.pairs-pairs.ensures c.place_of.ensures c.split_at.ensures.front c.split_at.ensures.back some)
+    let some : has_pair c.args.pairs.now (codes "FEN") ≡ true = sym c.has_fen.ensures ∙ c.if-not-has_fen.false in
+    rw (p.1, ← both_sides c.args.pairs.now _ _ _ _ refl c.place_of.ensures c.split_at.ensures.front c.split_at.ensures.back some)
     (front_of_more _ _ _ _ (front_of_more _ _ _ _ c.in_err-write_pairs.ensures.text))
 
 pub returns-in_err-tag-clause-text : goal.returns-in_err-tag-clause-text
 returns-in_err-tag-clause-text g c =
     let p = err_from_is_err_and c.from_residual-in_err-tag.result c.from_residual-in_err-tag.ensures.1 in
-    let some : has_pair c.args.tags.now.held (codes "FEN") ≡ true = sym c.has_fen.ensures ∙ c.if-not-has_fen.false in
+    let some : has_pair c.args.pairs.now (codes "FEN") ≡ true = sym c.has_fen.ensures ∙ c.if-not-has_fen.false in
     let going = ap (λ (l : Layout). l.has_failed) c.in_ok-write_pairs.ensures.line ∙ c.requires.going in
-    rw (p.1, ← both_sides c.args.tags.now.held _ _ _ _ c.pairs-pairs.ensures c.place_of.ensures c.split_at.ensures.front c.split_at.ensures.back some)
+    rw (p.1, ← both_sides c.args.pairs.now _ _ _ _ refl c.place_of.ensures c.split_at.ensures.front c.split_at.ensures.back some)
     (front_of_more _ _ _ _ (front_after _ _ _ _ _ c.in_ok-write_pairs.ensures.text (c.in_err-tag.ensures.text going)))
 
 pub returns-clause-text : goal.returns-clause-text
 returns-clause-text g c =
-    let some : has_pair c.args.tags.now.held (codes "FEN") ≡ true = sym c.has_fen.ensures ∙ c.if-not-has_fen.false in
+    let some : has_pair c.args.pairs.now (codes "FEN") ≡ true = sym c.has_fen.ensures ∙ c.if-not-has_fen.false in
     let going = ap (λ (l : Layout). l.has_failed) c.in_ok-write_pairs.ensures.line ∙ c.requires.going in
-    rw (← both_sides c.args.tags.now.held _ _ _ _ c.pairs-pairs.ensures c.place_of.ensures c.split_at.ensures.front c.split_at.ensures.back some)
+    rw (← both_sides c.args.pairs.now _ _ _ _ refl c.place_of.ensures c.split_at.ensures.front c.split_at.ensures.back some)
     (Writes-append _ _ _ _ _ _ (Appends-trans _ _ _ _ _ c.in_ok-write_pairs.ensures.text (c.in_ok-tag.ensures.text going)) c.write_pairs-3.ensures.text)

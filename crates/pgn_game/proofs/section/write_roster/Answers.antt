@@ -35,19 +35,19 @@ pub returns-in_err-tag-clause-text : goal.returns-in_err-tag-clause-text
 returns-in_err-tag-clause-text g c =
     let p = err_from_is_err_and c.from_residual.result c.from_residual.ensures.1 in
     rw p.1
-    (front_of_line c.args.tags.now.held c.loop-index.index c.roster_pair.result.0.now c.roster_pair.result.1.now c.value_or-value.result.now _ _ _
+    (front_of_line c.args.pairs.now c.loop-index.index c.roster_pair.result.0.now c.roster_pair.result.1.now c.value_or-value.result.now _ _ _
     c.roster_pair.ensures.pair c.value_or-value.ensures.value c.loop-index.invariant.2 (c.in_err-tag.ensures.text (ap (λ (l : Layout). l.has_failed) c.loop-index.invariant.0 ∙ c.requires.going)))
 
 pub loop-index-preserved : goal.loop-index-preserved
 loop-index-preserved g c = (
   c.in_ok-tag.ensures.line ∙ ap (λ (b : Bool). record { line = c.loop-index.layout.line; has_failed = b }) (sym (ap (λ (l : Layout). l.has_failed) c.loop-index.invariant.0 ∙ c.requires.going)) ∙ c.loop-index.invariant.0,
   c.in_ok-tag.ensures.faults.counted (ap (λ (l : Layout). l.has_failed) c.loop-index.invariant.0 ∙ c.requires.going) ∙ c.loop-index.invariant.1,
-  next_line c.args.tags.now.held c.loop-index.index c.roster_pair.result.0.now c.roster_pair.result.1.now c.value_or-value.result.now _ _ _
+  next_line c.args.pairs.now c.loop-index.index c.roster_pair.result.0.now c.roster_pair.result.1.now c.value_or-value.result.now _ _ _
       c.roster_pair.ensures.pair c.value_or-value.ensures.value c.loop-index.invariant.2 (c.in_ok-tag.ensures.text (ap (λ (l : Layout). l.has_failed) c.loop-index.invariant.0 ∙ c.requires.going)),
 )
 
 pub returns-clause-text : goal.returns-clause-text
 returns-clause-text g c =
-    let held = c.args.tags.now.held in
+    let held = c.args.pairs.now in
     let all : take c.loop-index.index (roster (42 ∷ [])) ≡ roster (42 ∷ []) = take_all c.loop-index.index (roster (42 ∷ [])) (omega (arith, seven, c.loop-index-test.false)) in
     subst (λ ps. Appends (g.W.Sink.taken c.args.out.now) (g.W.Sink.taken c.loop-index.out) (text_by (roster_line held) ps)) all c.loop-index.invariant.2

@@ -2,9 +2,8 @@ use Rattle.std.proofs.Common.{◌≡◌, ◌<◌, length, take, refl, ap, subst,
 use Rattle.std.proofs.lemmas.Result.{err_from_is_err_and}
 use Rattle.pgn_game.proofs.WholeInput.{read_none, read_more, unread, stops_in_piece, ends_here, short_input}
 use Rattle.pgn_layout.specs.Device.{one_more}
-use Rattle.pgn_game.specs.Feeding.{CountsFault}
-use Rattle.pgn_game.specs.Converting.{CountsWithin}
-use Rattle.pgn_game.proofs.Devices.{devices_of_piece, counts_end}
+use Rattle.pgn_game.specs.Feeding.{CountsFault, CountsReason}
+use Rattle.pgn_game.proofs.Devices.{devices_of, counts_end}
 use Rattle.pgn_game.proofs.whole.convert.Goals as goal
 
 pub loop-converter-init : goal.loop-converter-init
@@ -48,41 +47,37 @@ returns-in-Ok-eq0-clause-counted g c =
     counts_end c.end.result _ _ _ _ (c.in-Ok-eq0.ensures.failures ∙ c.loop-converter.invariant.source)
     (subst (λ n. CountsFault c.end.result n (g.W.Sink.failures c.end.new.writer)) c.loop-converter.invariant.sink c.end.ensures.counted)
 
-pub feed_within-requires : goal.feed_within-requires
-feed_within-requires g c =
-    (c.requires.memory, (c.loop-converter.invariant.going, (c.loop-converter.invariant.fault, c.loop-converter.invariant.count)))
-
 pub loop-converter-smaller : goal.loop-converter-smaller
 loop-converter-smaller g c =
     let long : length (take c.in-Ok.n c.read_some.new.buffer) ≡ c.in-Ok.n = length-take-le c.in-Ok.n c.read_some.new.buffer c.in-Ok.ensures.bound.0 in
     let some : 0 < c.in-Ok.n = grind (arith, c.in-Ok.n-test) in
-    omega (arith, long, some, c.in_ok-feed_within-in-Ok.ensures.count, c.in_ok-feed_within-in-Ok.ensures.short)
+    omega (arith, long, some, c.in_ok-feed_all-in-Ok.ensures.count, c.in_ok-feed_all-in-Ok.ensures.short)
 
 pub loop-converter-preserved : goal.loop-converter-preserved
 loop-converter-preserved g c =
     let so = c.loop-converter.invariant.read in
     record {
-      count = c.in_ok-feed_within-in-Ok.ensures.short;
+      count = c.in_ok-feed_all-in-Ok.ensures.short;
       room = omega (arith, c.loop-converter.invariant.room, c.read_some.auto.buffer);
-      going = c.feed_within.ensures.going;
-      fault = c.in_ok-feed_within-in-Ok.ensures.no_fault;
+      going = c.feed_all.ensures.going;
+      fault = c.in_ok-feed_all-in-Ok.ensures.fault;
       source = c.in-Ok.ensures.failures ∙ c.loop-converter.invariant.source;
-      sink = c.in_ok-feed_within-in-Ok.ensures.counted ∙ c.loop-converter.invariant.sink;
+      sink = c.in_ok-feed_all-in-Ok.ensures.counted ∙ c.loop-converter.invariant.sink;
       read = read_more _ _ _ _ c.loop-converter.converter _ _ _ _ _ so c.in-Ok.ensures.bytes.0
-          (c.in_ok-feed_within-in-Ok.ensures.feeds _ so.bytes so.tokens so.stands so.decided);
+          (c.in_ok-feed_all-in-Ok.ensures.feeds _ so.bytes so.tokens so.stands so.decided);
     }
 
-pub returns-in_err-feed_within-in-Ok-clause-converts :
-    goal.returns-in_err-feed_within-in-Ok-clause-converts
-returns-in_err-feed_within-in-Ok-clause-converts g c =
+pub returns-in_err-feed_all-in-Ok-clause-converts :
+    goal.returns-in_err-feed_all-in-Ok-clause-converts
+returns-in_err-feed_all-in-Ok-clause-converts g c =
     let so = c.loop-converter.invariant.read in
     let e = err_from_is_err_and c.from_residual.result c.from_residual.ensures.1 in
     rw (e.1, e.2) (stops_in_piece _ _ _ _ c.loop-converter.converter _ _ _ _ _ so c.in-Ok.ensures.bytes.0
-    (c.in_err-feed_within-in-Ok.ensures.feeds _ so.bytes so.tokens so.stands so.decided))
+    (c.in_err-feed_all-in-Ok.ensures.feeds _ so.bytes so.tokens so.stands so.decided))
 
-pub returns-in_err-feed_within-in-Ok-clause-counted :
-    goal.returns-in_err-feed_within-in-Ok-clause-counted
-returns-in_err-feed_within-in-Ok-clause-counted g c =
+pub returns-in_err-feed_all-in-Ok-clause-counted :
+    goal.returns-in_err-feed_all-in-Ok-clause-counted
+returns-in_err-feed_all-in-Ok-clause-counted g c =
     let e = err_from_is_err_and c.from_residual.result c.from_residual.ensures.1 in
-    rw (e.1, e.2) (devices_of_piece _ _ _ _ _ (c.in-Ok.ensures.failures ∙ c.loop-converter.invariant.source)
-    (subst (λ n. CountsWithin c.in_err-feed_within-in-Ok.field-0.0.reason n (g.W.Sink.failures c.feed_within.new.writer)) c.loop-converter.invariant.sink c.in_err-feed_within-in-Ok.ensures.counted))
+    rw (e.1, e.2) (devices_of _ _ _ _ _ (c.in-Ok.ensures.failures ∙ c.loop-converter.invariant.source)
+    (subst (λ n. CountsReason c.in_err-feed_all-in-Ok.field-0.0.reason n (g.W.Sink.failures c.feed_all.new.out)) c.loop-converter.invariant.sink c.in_err-feed_all-in-Ok.ensures.counted))

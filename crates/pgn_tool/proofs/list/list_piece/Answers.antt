@@ -1,7 +1,7 @@
 use Rattle.std.proofs.Common.{◌∙◌, ◌++◌, [], arith, refl, subst, take, drop, length-drop}
 use Rattle.std.proofs.lemmas.List.{take_rest}
-use Rattle.pgn_tool.specs.Listing.{CutsLine, Listed, ListsToFault}
-use Rattle.pgn_tool.proofs.Listed.{game_cut, game_on, own_follows, piece_begins, rest_listed, rest_refused, whole}
+use Rattle.pgn_tool.specs.Listing.{CutsLine, Listed}
+use Rattle.pgn_tool.proofs.Listed.{game_cut, game_on, own_follows, piece_begins, rest_listed, rest_stops, stops_further, whole}
 use Rattle.pgn_tool.proofs.list.list_piece.Goals as goal
 
 pub loop-used-init : goal.loop-used-init
@@ -28,8 +28,8 @@ returns-in-Err-clause-lists g c = λ u before so.
     let now = c.loop-used.invariant.lists u before so in
     let feeds = rw take_rest at c.in-Err.ensures.feeds in
     let rest = drop c.loop-used.at c.args.piece.now in
-    subst (λ xs. ListsToFault xs c.in-Err.fault before (g.O.Sink.taken c.loop-used.out)) (whole u c.args.piece.now c.loop-used.at)
-    (rest_refused (u ++ take c.loop-used.at c.args.piece.now) rest c.loop-used.converter c.feed.new.self before _ now _ (feeds _ _ _ _ now.stands (own_follows rest))
+    stops_further u c.args.piece.now c.loop-used.at before _ _
+    (rest_stops (u ++ take c.loop-used.at c.args.piece.now) rest c.loop-used.converter c.feed.new.self before _ now _ (feeds _ _ _ _ now.stands (own_follows rest))
     (c.in-Err.ensures.counted c.loop-used.invariant.fault))
 
 pub returns-in-Err-write_game-clause-lists : goal.returns-in-Err-write_game-clause-lists

@@ -1,6 +1,20 @@
-use Rattle.std.specs.Prelude.{Err}
-use Rattle.pgn_tool.proofs.Runs.{blames_of, converts_on}
+use Rattle.std.proofs.Common.{◌∙◌, ap, sym}
+use Rattle.std.specs.Prelude.{Err, Ok}
+use Rattle.pgn_tool.proofs.Runs.{blames_of, concludes_as, converts_on, flush_failed, flush_still}
 use Rattle.pgn_tool.proofs.stream.export.Goals as goal
+
+pub returns-in-Ok : goal.returns-in-Ok
+returns-in-Ok g c = record {
+  answer = Ok c.in-Ok.field-0;
+  works = converts_on _ _ (g.R.Source.left c.convert-answer.new.reader) _ _ _ (Ok c.in-Ok.field-0) c.in-Ok.ensures.converts c.flush-flushed.ensures.bytes;
+  ends =
+      concludes_as c.is_ok.result _ _ _ _ c.in-Ok.ensures.counted.0
+      (λ well. flush_still c.flush-flushed.result _ _ _ c.in-Ok.ensures.counted.1 c.flush-flushed.ensures.failures (sym c.is_ok.ensures.value ∙ well))
+      (λ ill. flush_failed c.flush-flushed.result _ _ _ c.in-Ok.ensures.counted.1 c.flush-flushed.ensures.failures (sym c.is_ok.ensures.value ∙ ill))
+      c.conclude.ensures.status
+      (λ well. (ap g.E.Sink.taken (c.conclude.ensures.untouched well), ap g.E.Sink.failures (c.conclude.ensures.untouched well)))
+      c.conclude.ensures.told;
+}
 
 pub returns-in-Err : goal.returns-in-Err
 returns-in-Err g c = record {

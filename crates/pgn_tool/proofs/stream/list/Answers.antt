@@ -1,10 +1,25 @@
-use Rattle.std.proofs.Common.{◌≡◌, ◌∙◌, ap, refl, subst}
-use Rattle.std.specs.Prelude.{Err, Result}
+use Rattle.std.proofs.Common.{◌≡◌, ◌∙◌, ap, refl, subst, sym}
+use Rattle.std.specs.Prelude.{Err, Ok, Result}
 use Rattle.pgn_tool.specs.declared.list.Stopped.{Stopped}
 use Rattle.pgn_tool.specs.declared.list.Stopped.TheVariants.{Refused, Unwritten}
 use Rattle.pgn_tool.specs.Listing.{CountsList, Lists}
-use Rattle.pgn_tool.proofs.Runs.{list_blames, lists_on, risen}
+use Rattle.pgn_tool.proofs.Runs.{concludes_as, flush_failed, flush_still, list_blames, lists_on, risen}
 use Rattle.pgn_tool.proofs.stream.list.Goals as goal
+
+pub returns-in-Ok : goal.returns-in-Ok
+returns-in-Ok g c =
+    let counted = c.in-Ok.ensures.counted in
+    record {
+      answer = Ok tt;
+      lists = lists_on _ (g.R.Source.left c.list_games-answer.new.reader) _ _ _ (Ok tt) c.in-Ok.ensures.lists c.flush-flushed.ensures.bytes;
+      ends =
+          concludes_as c.is_ok.result _ _ _ _ counted.0
+          (λ well. flush_still c.flush-flushed.result _ _ _ counted.1 c.flush-flushed.ensures.failures (sym c.is_ok.ensures.value ∙ well))
+          (λ ill. flush_failed c.flush-flushed.result _ _ _ counted.1 c.flush-flushed.ensures.failures (sym c.is_ok.ensures.value ∙ ill))
+          c.conclude.ensures.status
+          (λ well. (ap g.E.Sink.taken (c.conclude.ensures.untouched well), ap g.E.Sink.failures (c.conclude.ensures.untouched well)))
+          c.conclude.ensures.told;
+    }
 
 pub returns-in-Err-Refused : goal.returns-in-Err-Refused
 returns-in-Err-Refused g c =

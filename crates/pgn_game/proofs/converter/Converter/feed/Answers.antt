@@ -1,141 +1,135 @@
-use Rattle.std.proofs.Common.{◌≡◌, ℕ, ◌-◌, length, take, drop, rules, arith, refl, sym, ap, subst, ◌∙◌, length-drop}
-use Rattle.std.proofs.lemmas.List.{take_rest}
-use Rattle.pgn_lexer.specs.Standing.{waiting}
-use Rattle.pgn_game.specs.Feeding.{Converter, Stands}
-use Rattle.pgn_game.proofs.InPiece.{lets_go, so_far_none, fed_behind, stands_here, so_far_more, fed_all, fed_game, fed_fault, counts_step, none_at_hand}
+use Rattle.std.proofs.Common.{◌≡◌, ◌≤◌, ◌-◌, ◌^◌, None, length, arith, sym, ap, ◌∙◌, le_refl, length-take}
+use Rattle.std.proofs.lemmas.Result.{err_from_is_err_and}
+use Rattle.pgn_game.specs.Feeding.{Converter, at_token}
+use Rattle.pgn_game.proofs.InPiece.{follows_front, front_all, front_game, front_fault, front_too_long, limit_left, front_used}
 use Rattle.pgn_game.proofs.converter.Converter.feed.Goals as goal
 
-pub loop-at-init : goal.loop-at-init
-loop-at-init g c =
-    record {
-      within = omega arith;
-      count = omega (arith, ap (λ (s : Converter). s.lexer.count) c.self.view_is);
-      goes = omega (arith, ap (λ (s : Converter). waiting s.lexer) c.self.view_is);
-      fault = c.in_default.is;
-      games = ap (λ (s : Converter). s.games) c.self.view_is;
-      hand = refl;
-      going = ap (λ (s : Converter). s.is_finished) c.self.view_is ∙ c.requires.going;
-      probes = omega (arith, ap (λ (s : Converter). s.reading.most_probes) c.self.view_is);
-      counted = refl;
+pub returns-in_err-used : goal.returns-in_err-used
+returns-in_err-used g c =
+    let e = err_from_is_err_and c.from_residual.result c.from_residual.ensures.1 in
+    let fed = c.in_err-used.ensures in
+    let feeds = rw c.within_limit-front.ensures at fed.feeds in
+    let none : c.args.self.now.fault ≡ None =
+    ap (λ (s : Converter). s.fault) (sym c.self.view_is) ∙ c.in_default.is in
+    rw (e.1, e.2) (record {
+      used = tt;
       feeds = λ p u b given stands follows.
-          so_far_none p _ u b given c.args.piece.now _ (lets_go p _ u b given (subst (λ (s : Converter). Stands p s u b given) (sym c.self.view_is) stands)) follows;
+          at_token _ (front_fault p u b given c.args.piece.now _ _ _ _ follows
+          (feeds p u b given stands (follows_front b c.args.piece.now _ follows)));
+      count = tt;
+      short = tt;
+      advances = tt;
+      going = c.feed_front.ensures.going;
+      fault = fed.fault;
+      games = fed.games;
+      probes = c.feed_front.ensures.probes;
+      again = λ f is. absurd (cc (none, is));
+      counted = λ free. fed.counted;
+    })
+
+pub returns-in-Game : goal.returns-in-Game
+returns-in-Game g c =
+    let piece = c.args.piece.now in
+    let fed = c.in_ok-used.ensures in
+    let feeds = rw (c.in-Game.is, c.within_limit-front.ensures) at fed.feeds in
+    let within = rw (c.in-Game.is, c.within_limit-front.ensures) at fed.used in
+    let count = rw c.in-Game.is at fed.count in
+    let room = front_used piece _ _ within in
+    let none : c.args.self.now.fault ≡ None =
+    ap (λ (s : Converter). s.fault) (sym c.self.view_is) ∙ c.in_default.is in
+    record {
+      used = omega (arith, within, length-take (2 ^ 62 - c.count.result) piece);
+      feeds = λ p u b given stands follows.
+          front_game p u b given piece _ _ _ c.feed_front.new.self _ room
+          (feeds p u b given stands (follows_front b piece _ follows));
+      count = count;
+      short = omega (
+        arith,
+        count,
+        room,
+        c.count.ensures,
+        c.self.invariant.count c.in_default.is,
+        ap (λ (s : Converter). s.lexer.count) c.self.view_is,
+      );
+      advances = rw c.in-Game.is at fed.advances;
+      going = c.feed_front.ensures.going;
+      fault = fed.fault;
+      games = tt;
+      probes = c.feed_front.ensures.probes;
+      again = λ f is. absurd (cc (none, is));
+      counted = λ free. fed.counted;
     }
 
-pub step-step-requires : goal.step-step-requires
-step-step-requires g c =
-    let rest : length (take (length c.args.piece.now - c.loop-at.at) (drop c.loop-at.at c.args.piece.now)) ≡ length c.args.piece.now - c.loop-at.at =
-    ap (length {A = ℕ}) (take_rest c.args.piece.now c.loop-at.at) ∙ length-drop c.loop-at.at c.args.piece.now in (
-      search rules,
-      (
-        c.loop-at.invariant.fault,
-        (
-          omega (arith, rest, c.loop-at.invariant.count, c.requires.short (ap (λ (s : Converter). s.fault) (sym c.self.view_is) ∙ c.in_default.is), c.loop-at-test.true),
-          (omega (arith, rest, c.loop-at-test.true), c.loop-at.invariant.hand),
-        ),
-      ),
-    )
-
-pub returns-in-NeedMore-clause-feeds : goal.returns-in-NeedMore-clause-feeds
-returns-in-NeedMore-clause-feeds g c p u b given stands follows =
-    let so = c.loop-at.invariant.feeds p u b given stands follows in
-    let after = rw (c.in-NeedMore.is, take_rest) at c.step-step.ensures.after in
-    fed_all p u b given c.args.piece.now c.loop-at.at _ _ _ _ so c.loop-at-test.true _ _
-    (after p _ _ (stands_here p u b given c.args.piece.now c.loop-at.at _ _ _ so c.loop-at-test.true))
-    (none_at_hand _ (rw c.in-NeedMore.is at c.step-step.ensures.hand))
-
-pub returns-in-NeedMore-clause-count : goal.returns-in-NeedMore-clause-count
-returns-in-NeedMore-clause-count g c =
-    let advances = rw (c.in-NeedMore.is, take_rest) at c.step-step.ensures.advances in
-    omega (arith, advances, c.step-step.ensures.count, c.loop-at.invariant.count, length-drop c.loop-at.at c.args.piece.now, c.loop-at-test.true)
-
-pub returns-in-NeedMore-clause-going : goal.returns-in-NeedMore-clause-going
-returns-in-NeedMore-clause-going g c = c.step-step.ensures.going ∙ c.loop-at.invariant.going
-
-pub returns-in-NeedMore-clause-counted : goal.returns-in-NeedMore-clause-counted
-returns-in-NeedMore-clause-counted g c none =
-    let counted = rw c.in-NeedMore.is at c.step-step.ensures.counted in
-    counted ∙ c.loop-at.invariant.counted
-
-pub loop-at-smaller : goal.loop-at-smaller
-loop-at-smaller g c =
-    let advances = rw c.in-More.is at c.step-step.ensures.advances in
-    let used = rw take_rest at c.step-step.ensures.used in
-    omega (arith, advances, used, length-drop c.loop-at.at c.args.piece.now, c.loop-at-test.true)
-
-pub loop-at-preserved : goal.loop-at-preserved
-loop-at-preserved g c =
-    let advances = rw c.in-More.is at c.step-step.ensures.advances in
-    let used = rw take_rest at c.step-step.ensures.used in
-    let counted = rw c.in-More.is at c.step-step.ensures.counted in
-    let fault = rw c.in-More.is at c.step-step.ensures.fault in
-    let after = rw (c.in-More.is, take_rest) at c.step-step.ensures.after in
+pub returns-then-front-piece : goal.returns-then-front-piece
+returns-then-front-piece g c =
+    let piece = c.args.piece.now in
+    let fed = c.in_ok-used.ensures in
+    let feeds = rw (c.in-All.is, c.within_limit-front.ensures) at fed.feeds in
+    let more = rw c.within_limit-front.ensures at c.if-front-piece.true in
+    let kept = rw c.in-All.is at fed.games in
+    let none : c.args.self.now.fault ≡ None =
+    ap (λ (s : Converter). s.fault) (sym c.self.view_is) ∙ c.in_default.is in
     record {
-      within = omega (arith, used, length-drop c.loop-at.at c.args.piece.now, c.loop-at-test.true);
-      count = omega (arith, c.step-step.ensures.count, c.loop-at.invariant.count);
-      goes = omega (arith, advances, c.loop-at.invariant.goes);
-      fault = fault;
-      games = rw c.in-More.is at c.step-step.ensures.games ∙ c.loop-at.invariant.games;
-      hand = none_at_hand _ (rw c.in-More.is at c.step-step.ensures.hand);
-      going = c.step-step.ensures.going ∙ c.loop-at.invariant.going;
-      probes = omega (arith, c.step-step.ensures.probes, c.loop-at.invariant.probes);
-      counted = counted ∙ c.loop-at.invariant.counted;
+      used = tt;
       feeds = λ p u b given stands follows.
-          let so = c.loop-at.invariant.feeds p u b given stands follows in
-          so_far_more p u b given c.args.piece.now c.loop-at.at _ _ _ _ so c.loop-at-test.true _ _
-          (after p _ _ (stands_here p u b given c.args.piece.now c.loop-at.at _ _ _ so c.loop-at-test.true));
+          rw c.too_long.ensures.fault (front_too_long p u b given piece _ _ _ c.feed_front.new.self _
+          (omega (
+            arith,
+            stands.lexer.count,
+            ap (λ (s : Converter). s.lexer.count) c.self.view_is,
+            c.count.ensures,
+            c.self.invariant.count c.in_default.is,
+          ))
+          (limit_left piece _ more) (feeds p u b given stands (follows_front b piece _ follows)));
+      count = tt;
+      short = tt;
+      advances = tt;
+      going = ap (λ (s : Converter). s.is_finished) c.self-2.view_is ∙ c.feed_front.ensures.going;
+      fault = c.too_long.ensures.kept;
+      games = (
+        ap (λ (s : Converter). s.games) c.self-2.view_is ∙ kept.0,
+        ap (λ (s : Converter). s.at_hand) c.self-2.view_is ∙ kept.1,
+      );
+      probes = omega (
+        arith,
+        ap (λ (s : Converter). s.reading.most_probes) c.self-2.view_is,
+        c.feed_front.ensures.probes,
+      );
+      again = λ f is. absurd (cc (none, is));
+      counted = λ free. rw c.too_long.ensures.fault fed.counted;
     }
 
-pub returns-in-Finished-clause-feeds : goal.returns-in-Finished-clause-feeds
-returns-in-Finished-clause-feeds g c p u b given stands follows =
-    let so = c.loop-at.invariant.feeds p u b given stands follows in
-    let after = rw (c.in-Finished.is, take_rest) at c.step-step.ensures.after in
-    fed_game p u b given c.args.piece.now c.loop-at.at _ _ _ _ so c.loop-at-test.true _ _
-    (after p _ _ (stands_here p u b given c.args.piece.now c.loop-at.at _ _ _ so c.loop-at-test.true))
-
-pub returns-in-Finished-clause-count : goal.returns-in-Finished-clause-count
-returns-in-Finished-clause-count g c = omega (arith, c.step-step.ensures.count, c.loop-at.invariant.count)
-
-pub returns-in-Finished-clause-advances : goal.returns-in-Finished-clause-advances
-returns-in-Finished-clause-advances g c =
-    let advances = rw c.in-Finished.is at c.step-step.ensures.advances in
-    omega (arith, advances, c.loop-at.invariant.goes)
-
-pub returns-in-Finished-clause-going : goal.returns-in-Finished-clause-going
-returns-in-Finished-clause-going g c = c.step-step.ensures.going ∙ c.loop-at.invariant.going
-
-pub returns-in-Finished-clause-counted : goal.returns-in-Finished-clause-counted
-returns-in-Finished-clause-counted g c none =
-    let counted = rw c.in-Finished.is at c.step-step.ensures.counted in
-    counted ∙ c.loop-at.invariant.counted
-
-pub returns-in-Failed-clause-feeds : goal.returns-in-Failed-clause-feeds
-returns-in-Failed-clause-feeds g c p u b given stands follows =
-    let so = c.loop-at.invariant.feeds p u b given stands follows in
-    let after = rw (c.in-Failed.is, take_rest) at c.step-step.ensures.after in
-    fed_fault p u b given c.args.piece.now c.loop-at.at _ _ _ _ so c.loop-at-test.true c.step-step.new.self c.step-step.result.used c.in-Failed.fault
-    (after p _ _ (stands_here p u b given c.args.piece.now c.loop-at.at _ _ _ so c.loop-at-test.true))
-
-pub returns-in-Failed-clause-going : goal.returns-in-Failed-clause-going
-returns-in-Failed-clause-going g c = c.step-step.ensures.going ∙ c.loop-at.invariant.going
-
-pub returns-in-Failed-clause-counted : goal.returns-in-Failed-clause-counted
-returns-in-Failed-clause-counted g c none =
-    let counted = rw c.in-Failed.is at c.step-step.ensures.counted in
-    counts_step c.in-Failed.fault.reason _ _ _ c.loop-at.invariant.counted counted
-
-pub returns-clause-feeds : goal.returns-clause-feeds
-returns-clause-feeds g c p u b given stands follows =
-    fed_behind p u b given c.args.piece.now c.loop-at.at _ _ _ (c.loop-at.invariant.feeds p u b given stands follows)
-    (omega (arith, c.loop-at.invariant.within, c.loop-at-test.false)) c.loop-at.invariant.hand
-
-pub returns-clause-count : goal.returns-clause-count
-returns-clause-count g c = omega (arith, c.loop-at.invariant.count, c.loop-at.invariant.within, c.loop-at-test.false)
-
-pub returns-clause-going : goal.returns-clause-going
-returns-clause-going g c = c.loop-at.invariant.going
-
-pub returns-clause-fault : goal.returns-clause-fault
-returns-clause-fault g c = c.loop-at.invariant.fault
-
-pub returns-clause-counted : goal.returns-clause-counted
-returns-clause-counted g c none = c.loop-at.invariant.counted
+pub returns-else-front-piece : goal.returns-else-front-piece
+returns-else-front-piece g c =
+    let piece = c.args.piece.now in
+    let fed = c.in_ok-used.ensures in
+    let feeds = rw (c.in-All.is, c.within_limit-front.ensures) at fed.feeds in
+    let all = rw c.within_limit-front.ensures at c.if-front-piece.false in
+    let whole : length piece ≤ 2 ^ 62 - c.count.result =
+    front_used piece (2 ^ 62 - c.count.result) (length piece) (omega (arith, all)) in
+    let count = rw (c.in-All.is, c.within_limit-front.ensures) at fed.count in
+    let none : c.args.self.now.fault ≡ None =
+    ap (λ (s : Converter). s.fault) (sym c.self.view_is) ∙ c.in_default.is in
+    record {
+      used = le_refl _;
+      feeds = λ p u b given stands follows.
+          front_all p u b given piece _ _ _ c.feed_front.new.self whole
+          (feeds p u b given stands (follows_front b piece _ follows));
+      count = omega (arith, count, whole, length-take (2 ^ 62 - c.count.result) piece);
+      short = omega (
+        arith,
+        count,
+        whole,
+        length-take (2 ^ 62 - c.count.result) piece,
+        c.count.ensures,
+        c.self.invariant.count c.in_default.is,
+        ap (λ (s : Converter). s.lexer.count) c.self.view_is,
+      );
+      advances = tt;
+      going = c.feed_front.ensures.going;
+      fault = fed.fault;
+      games = rw c.in-All.is at fed.games;
+      probes = c.feed_front.ensures.probes;
+      again = λ f is. absurd (cc (none, is));
+      counted = λ free. fed.counted;
+    }

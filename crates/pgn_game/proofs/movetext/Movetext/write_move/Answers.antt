@@ -1,23 +1,20 @@
-use Rattle.std.proofs.Common.{◌∷◌, [], List, ℕ, ap, subst, ◌∙◌}
+use Rattle.std.proofs.Common.{rules, ◌∷◌, [], List, ℕ, ap, subst, ◌∙◌}
 use Rattle.pgn_layout.specs.Layout.{Layout}
 use Rattle.pgn_game.specs.Chess.{text_of_move}
 use Rattle.pgn_game.specs.Movetext.{Movetext}
-use Rattle.pgn_game.specs.Putting.{Puts, number_due}
-use Rattle.pgn_game.proofs.Adding.{puts_after, puts_fail, puts_one, is_text, is_token, tokens_with}
+use Rattle.pgn_game.specs.Putting.{Puts, device, number_due}
+use Rattle.pgn_game.proofs.Adding.{puts_after, puts_fail, is_text, is_token}
 use Rattle.pgn_game.proofs.movetext.Movetext.write_move.Goals as goal
 
 pub returns-in_err-put_number-clause-puts : goal.returns-in_err-put_number-clause-puts
 returns-in_err-put_number-clause-puts g c =
-    puts_fail (number_due c.args.self.now) (text_of_move c.args.self.now.levels.present.present c.args.played.now.mv ∷ [])
-    c.args.layout.now c.put_number.new.layout c.put_number.new.layout _ c.from_residual.result _ _ c.in_err-put_number.ensures.puts c.from_residual.ensures.0
-
-pub returns-in_err-put_number-clause-tokens : goal.returns-in_err-put_number-clause-tokens
-returns-in_err-put_number-clause-tokens g c =
     let p = c.args.self.now.levels.present.present in
     let same = c.present.ensures ∙ ap (λ (t : Movetext). t.levels.present.present) c.self.view_is in
     let text = is_text p c.present.result.now c.args.played.now.mv c.write_san-san.result.items c.write_san-san.ensures.text same in
-    tokens_with (number_due c.args.self.now) (text_of_move p c.args.played.now.mv) c.put_number.ensures.tokens
+    puts_fail (number_due c.args.self.now) (text_of_move p c.args.played.now.mv ∷ [])
+    c.args.layout.now c.put_number.new.layout c.put_number.new.layout _ c.from_residual.result _
     (is_token p c.args.played.now.mv c.write_san-san.result.items text c.write_san-san.ensures.some c.write_san-san.ensures.short)
+    c.in_err-put_number.ensures.puts c.from_residual.ensures.0
 
 pub returns-clause-puts : goal.returns-clause-puts
 returns-clause-puts g c =
@@ -25,16 +22,9 @@ returns-clause-puts g c =
     let number = c.in_ok-put_number.ensures.puts in
     let same = c.present.ensures ∙ ap (λ (t : Movetext). t.levels.present.present) c.self.view_is in
     let text = is_text p c.present.result.now c.args.played.now.mv c.write_san-san.result.items c.write_san-san.ensures.text same in
-    let put : Puts (c.as_slice.result.now ∷ []) c.put_number.new.layout c.put.new.self c.put.result (g.W.Sink.taken c.put_number.new.out) (g.W.Sink.taken c.put.new.out) =
-    puts_one c.as_slice.result.now c.put_number.new.layout c.put.new.self c.put.result _ _ (c.put.ensures.text (ap (λ (l : Layout). l.has_failed) number.line)) c.put.ensures.line in
-    puts_after (number_due c.args.self.now) (text_of_move p c.args.played.now.mv ∷ []) c.args.layout.now c.put_number.new.layout c.put.new.self _ c.put.result _ _ _ number
-    (subst (λ (t : List ℕ). Puts (t ∷ []) c.put_number.new.layout c.put.new.self c.put.result (g.W.Sink.taken c.put_number.new.out) (g.W.Sink.taken c.put.new.out))
+    let going = ap (λ (l : Layout). l.has_failed) number.line in
+    let put : Puts (c.as_slice.result.now ∷ []) c.put_number.new.layout c.put.new.self c.put.result (device g.W.Sink.taken g.W.Sink.failures c.put_number.new.out c.put.new.out) =
+    search rules in
+    puts_after (number_due c.args.self.now) (text_of_move p c.args.played.now.mv ∷ []) c.args.layout.now c.put_number.new.layout c.put.new.self _ c.put.result _ _ _ _ _ _ number
+    (subst (λ (t : List ℕ). Puts (t ∷ []) c.put_number.new.layout c.put.new.self c.put.result (device g.W.Sink.taken g.W.Sink.failures c.put_number.new.out c.put.new.out))
     (c.as_slice.ensures.value ∙ text) put)
-
-pub returns-clause-tokens : goal.returns-clause-tokens
-returns-clause-tokens g c =
-    let p = c.args.self.now.levels.present.present in
-    let same = c.present.ensures ∙ ap (λ (t : Movetext). t.levels.present.present) c.self.view_is in
-    let text = is_text p c.present.result.now c.args.played.now.mv c.write_san-san.result.items c.write_san-san.ensures.text same in
-    tokens_with (number_due c.args.self.now) (text_of_move p c.args.played.now.mv) c.put_number.ensures.tokens
-    (is_token p c.args.played.now.mv c.write_san-san.result.items text c.write_san-san.ensures.some c.write_san-san.ensures.short)

@@ -1,44 +1,24 @@
-use Rattle.pgn_game.proofs.Moves.{stays_begun}
+use Rattle.std.proofs.Common.{◌≡◌, ap, ◌∙◌, arith}
+use Rattle.std.proofs.KnownBytes.{Appends-nil}
+use Rattle.pgn_lexer.specs.Scanned.{kind_of}
+use Rattle.pgn_game.specs.Reading.{Reading}
+use Rattle.pgn_game.specs.Judging.{after}
+use Rattle.pgn_game.proofs.Accepting.{accepted, ready_probes, refused}
 use Rattle.pgn_game.proofs.reader.Reader.accept.Goals as goal
 
-pub returns-in-AfterBracket : goal.returns-in-AfterBracket
-returns-in-AfterBracket g c =
-    let h = c.accept_name.ensures.comes (g.W.Sink.taken c.args.out.now) (g.W.Sink.failures c.args.out.now) in
-    record {
-      accepts = h.answers;
-      profile = h.profile;
-      stays = stays_begun c.args.self.now c.accept_name.new.self c.accept_name.result c.accept_name.ensures.begins;
-      going = h.going;
-      finished = h.finished;
-      counted = h.counted;
-      plies = h.plies;
-      probes = h.probes;
-    }
+pub returns-in-Ok-clause-accepts : goal.returns-in-Ok-clause-accepts
+returns-in-Ok-clause-accepts g c = λ part agrees.
+    accepted c.args.self.now c.make_ready.new.self c.find-found.new.self c.put.new.self part c.args.kind (after c.in-Ok.judged) c.put.result _ agrees c.make_ready.ensures
+    c.find-found.ensures.counted c.in-Ok.ensures.judges c.put.ensures.goes
 
-pub returns-in-AfterName : goal.returns-in-AfterName
-returns-in-AfterName g c =
-    let h = c.accept_value.ensures.comes (g.W.Sink.taken c.args.out.now) (g.W.Sink.failures c.args.out.now) in
-    record {
-      accepts = h.answers;
-      profile = h.profile;
-      stays = stays_begun c.args.self.now c.accept_value.new.self c.accept_value.result c.accept_value.ensures.begins;
-      going = h.going;
-      finished = h.finished;
-      counted = h.counted;
-      plies = h.plies;
-      probes = h.probes;
-    }
+pub returns-in-Ok-clause-probes : goal.returns-in-Ok-clause-probes
+returns-in-Ok-clause-probes g c =
+    let ready : c.make_ready.new.self.most_probes ≡ c.args.self.now.most_probes =
+    ap (λ (r : Reading). r.most_probes) c.make_ready.ensures ∙ ready_probes c.args.self.now (kind_of c.args.kind) in
+    omega (arith, ready, c.find-found.ensures.counted.more, c.put.ensures.keeps.probes)
 
-pub returns-in-AfterValue : goal.returns-in-AfterValue
-returns-in-AfterValue g c =
-    let h = c.accept_bracket.ensures.comes (g.W.Sink.taken c.args.out.now) (g.W.Sink.failures c.args.out.now) in
-    record {
-      accepts = h.answers;
-      profile = h.profile;
-      stays = stays_begun c.args.self.now c.accept_bracket.new.self c.accept_bracket.result c.accept_bracket.ensures.begins;
-      going = h.going;
-      finished = h.finished;
-      counted = h.counted;
-      plies = h.plies;
-      probes = h.probes;
-    }
+pub returns-in-Err-clause-accepts : goal.returns-in-Err-clause-accepts
+returns-in-Err-clause-accepts g c = λ part agrees. (
+  refused c.args.self.now c.make_ready.new.self c.find-found.new.self part c.args.kind c.in-Err.reason agrees c.make_ready.ensures c.find-found.ensures.counted c.in-Err.ensures.judges,
+  Appends-nil _,
+)

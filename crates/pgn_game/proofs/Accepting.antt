@@ -1,0 +1,150 @@
+-- From what a token is judged to mean, and what putting that comes to, to what the reader answers.
+use Rattle.std.proofs.Common.{◌≡◌, ℕ, ◌+◌, ◌<◌, ◌≤◌, Bool, true, false, ◌||◌, not, List, length, drop, Option, None, Some, refl, sym, ap, subst, ◌∙◌, arith}
+use Rattle.std.specs.Prelude.{IsTrue, Result, Ok, Err}
+use Rattle.std.specs.Io.KnownBytes.{Appends}
+use Rattle.pgn_layout.specs.Device.{AppendsFront}
+use Rattle.pgn_lexer.specs.Tokens.{Kind}
+use Rattle.pgn_lexer.specs.Scanned.{kind_of}
+use Rattle.pgn_lexer.specs.declared.token.TokenKind.{TokenKind}
+use Rattle.pgn_game.specs.declared.accept.Accepted.{Accepted}
+use Rattle.pgn_game.specs.declared.accept.Stopped.{Stopped}
+use Rattle.pgn_game.specs.declared.accept.Stopped.TheVariants.{Refused, Unwritten}
+use Rattle.pgn_game.specs.declared.reason.Reason.{Reason}
+use Rattle.pgn_game.specs.declared.stage.Stage.{Stage}
+use Rattle.pgn_game.specs.declared.stage.Stage.TheVariants.{Between, AfterBracket, AfterName, AfterValue, AfterTags, InMovetext}
+use Rattle.pgn_game.specs.Profile.{Profile}
+use Rattle.pgn_game.specs.Game.{Part, no_part}
+use Rattle.pgn_game.specs.Text.{torn}
+use Rattle.pgn_game.specs.FaultTable.{refusal, is_comment, is_end}
+use Rattle.pgn_game.specs.Begun.{Next, at_stage, next}
+use Rattle.pgn_game.specs.Due.{text_next}
+use Rattle.pgn_game.specs.Reading.{Reading, Agrees, Answers, Leads, HoldsText, plies_behind, plies_next, whole_plies}
+use Rattle.pgn_game.specs.Judging.{Counts, judged, outcome_of}
+use Rattle.pgn_game.specs.Putting.{Device}
+use Rattle.pgn_game.specs.Handling.{GoesTo, begins, begun, readied}
+use Rattle.pgn_game.proofs.Refusing.{begins_alike}
+use Rattle.pgn_game.proofs.Judging.{held_at, text_at, part_stage}
+use Rattle.pgn_game.proofs.Pairing.{no_torn}
+
+-- what the table and the step say
+said_ok : (o : Option Reason) (to there : Next) → outcome_of o to ≡ Ok there → (o ≡ None) × (to ≡ there)
+said_ok None to there e = (refl, cc)
+said_ok (Some reason) to there e = absurd (cc)
+
+said_err : (o : Option Reason) (to : Next) (reason : Reason) → outcome_of o to ≡ Err reason → o ≡ Some reason
+said_err None to reason e = absurd (cc)
+said_err (Some r) to reason e = let h : r ≡ reason = cc in ap (λ x. Some x) h
+
+-- The part that a token meets, of a reader that is ready for it.
+pub record Meets (old ready : Reading) (part : Part) (k : Kind) : Type 0 where
+  pub to : Part
+  pub agrees : Agrees ready to
+  pub same : judged old.profile part k ≡ judged old.profile to k
+  pub torn : torn old.profile to ≡ torn old.profile part
+  pub profile : ready.profile ≡ old.profile
+  pub plies : whole_plies ready ≡ whole_plies old
+
+begins_at_first : (old : Reading) (part : Part) (k : TokenKind) → Agrees old part → old.stage ≡ Between → IsTrue (begins Between (kind_of k)) → Meets old (begun old) part (kind_of k)
+begins_at_first old part k agrees at is =
+    let none : part ≡ no_part = held_at old part Between agrees at in
+    let later = at_stage AfterTags no_part in
+    record {
+      to = later;
+      agrees = record { stage = refl; pairs = refl; text = (refl, refl, text_at old part Between agrees at) };
+      same = ap (λ (q : Part). judged old.profile q (kind_of k)) none ∙ begins_alike old.profile k is;
+      torn = no_torn old.profile later AfterTags refl (λ e. absurd (cc)) ∙ sym (no_torn old.profile part Between (part_stage old part Between agrees at) (λ e. absurd (cc)));
+      profile = refl;
+      plies = omega arith ∙ sym (ap (λ (s : Stage). plies_behind s old.earlier_plies old.text.plies) at);
+    }
+
+-- a token begins a game between games alone
+between_of : (s : Stage) (k : Kind) → begins s k ≡ true → (s ≡ Between) × IsTrue (begins Between k)
+between_of Between k is = (refl, is)
+between_of AfterBracket k is = absurd (cc)
+between_of AfterName k is = absurd (cc)
+between_of AfterValue k is = absurd (cc)
+between_of AfterTags k is = absurd (cc)
+between_of InMovetext k is = absurd (cc)
+
+pub meets : (old : Reading) (part : Part) (k : TokenKind) → Agrees old part → Meets old (readied old (kind_of k)) part (kind_of k)
+meets old part k agrees = by_test (begins old.stage (kind_of k)) refl
+  where
+    by_test : (b : Bool) → begins old.stage (kind_of k) ≡ b → Meets old (elim b [ true ↦ begun old | false ↦ old ]) part (kind_of k)
+    by_test true is = let h = between_of old.stage (kind_of k) is in begins_at_first old part k agrees h.0 h.1
+    by_test false is = record { to = part; agrees = agrees; same = refl; torn = refl; profile = refl; plies = refl }
+
+-- a higher count of probes agrees with the same part
+counts_on : (r : Reading) (n : ℕ) (part : Part) (stage : Stage) → r.stage ≡ stage → r.most_probes ≤ n → HoldsText stage r part → HoldsText stage (record r { most_probes = n }) part
+counts_on r n part Between at more h = h
+counts_on r n part AfterBracket at more h = h
+counts_on r n part AfterName at more h = h
+counts_on r n part AfterValue at more h = h
+counts_on r n part AfterTags at more h = h
+counts_on r n part InMovetext at more h = (h.0, λ has. let some : 0 < r.most_probes = h.1 has in omega (arith, some, more))
+
+agrees_on : (r : Reading) (n : ℕ) (part : Part) → r.most_probes ≤ n → Agrees r part → Agrees (record r { most_probes = n }) part
+agrees_on r n part more agrees = record { stage = agrees.stage; pairs = agrees.pairs; text = counts_on r n part r.stage refl more agrees.text }
+
+-- what putting comes to is what the reader answers
+answers_by : (old counted new : Reading) (part to : Part) (k : Kind) (there : Next) (r : Result Accepted Stopped) (d : Device) → counted.profile ≡ old.profile
+    → whole_plies counted ≡ whole_plies old → torn old.profile to ≡ torn old.profile part → (refusal old.profile part k ≡ None) × (next part k ≡ there)
+    → GoesTo counted to there new r d → Answers old part k new r d.before d.after
+answers_by old counted new part to k there (Ok accepted) d profile plies same says goes = record {
+  free = says.0;
+  leads = subst (λ (x : Next). Leads x accepted new) (sym says.1) goes.leads;
+  plies = goes.plies ∙ ap (λ n. n + plies_next there) plies ∙ ap (λ (x : Next). whole_plies old + plies_next x) (sym says.1);
+  appended = subst (Appends d.before d.after) (gain_same old counted part to k there profile same says.1) goes.appended;
+}
+  where
+    gain_same : (old counted : Reading) (part to : Part) (k : Kind) (there : Next) → counted.profile ≡ old.profile → torn old.profile to ≡ torn old.profile part → next part k ≡ there
+        → drop (length (torn counted.profile to)) (text_next counted.profile there) ≡ drop (length (torn old.profile part)) (text_next old.profile (next part k))
+    gain_same old counted part to k there profile same leads =
+        ap (λ (p : Profile). drop (length (torn p to)) (text_next p there)) profile
+        ∙ ap (λ (t : List ℕ). drop (length t) (text_next old.profile there)) same ∙ ap (λ (x : Next). drop (length (torn old.profile part)) (text_next old.profile x)) (sym leads)
+answers_by old counted new part to k there (Err (Refused reason)) d profile plies same says goes = absurd goes
+answers_by old counted new part to k there (Err Unwritten) d profile plies same says goes = (
+  says.0,
+  subst (AppendsFront d.before d.after)
+      (ap (λ (p : Profile). drop (length (torn p to)) (text_next p there)) profile
+      ∙ ap (λ (t : List ℕ). drop (length t) (text_next old.profile there)) same ∙ ap (λ (x : Next). drop (length (torn old.profile part)) (text_next old.profile x)) (sym says.1)) goes,
+)
+
+-- so once its move was sought and the pairs that were tried are counted
+meets_counted : (old ready counted : Reading) (part : Part) (k : TokenKind) → Agrees old part → ready ≡ readied old (kind_of k) → Counts ready counted
+    → Meets old counted part (kind_of k)
+meets_counted old ready counted part k agrees is counts =
+    let m : Meets old ready part (kind_of k) = subst (λ (x : Reading). Meets old x part (kind_of k)) (sym is) (meets old part k agrees) in
+    record {
+      to = m.to;
+      agrees = subst (λ (x : Reading). Agrees x m.to) (sym counts.same) (agrees_on ready counted.most_probes m.to counts.more m.agrees);
+      same = m.same;
+      torn = m.torn;
+      profile = ap (λ (x : Reading). x.profile) counts.same ∙ m.profile;
+      plies = ap whole_plies counts.same ∙ m.plies;
+    }
+
+-- A token that means something is put.
+pub accepted : (old ready counted new : Reading) (part : Part) (k : TokenKind) (after_it : Part → Next) (r : Result Accepted Stopped) (d : Device) → Agrees old part
+    → ready ≡ readied old (kind_of k) → Counts ready counted → ((q : Part) → Agrees counted q → judged counted.profile q (kind_of k) ≡ Ok (after_it q))
+    → ((q : Part) → Agrees counted q → GoesTo counted q (after_it q) new r d) → Answers old part (kind_of k) new r d.before d.after
+accepted old ready counted new part k after_it r d agrees is counts judges goes =
+    let m = meets_counted old ready counted part k agrees is counts in
+    let says = m.same ∙ ap (λ (p : Profile). judged p m.to (kind_of k)) (sym m.profile) ∙ judges m.to m.agrees in
+    answers_by old counted new part m.to (kind_of k) (after_it m.to) r d m.profile m.plies m.torn
+    (said_ok (refusal old.profile part (kind_of k)) (next part (kind_of k)) (after_it m.to) says) (goes m.to m.agrees)
+
+-- One that means nothing is refused.
+pub refused : (old ready counted : Reading) (part : Part) (k : TokenKind) (reason : Reason) → Agrees old part → ready ≡ readied old (kind_of k) → Counts ready counted
+    → ((q : Part) → Agrees counted q → judged counted.profile q (kind_of k) ≡ Err reason) → refusal old.profile part (kind_of k) ≡ Some reason
+refused old ready counted part k reason agrees is counts judges =
+    let m = meets_counted old ready counted part k agrees is counts in
+    said_err (refusal old.profile part (kind_of k)) (next part (kind_of k)) reason (m.same ∙ ap (λ (p : Profile). judged p m.to (kind_of k)) (sym m.profile) ∙ judges m.to m.agrees)
+
+-- being ready tries no pair
+pub ready_probes : (old : Reading) (k : Kind) → (readied old k).most_probes ≡ old.most_probes
+ready_probes old k = elim (begins old.stage k) as (λ b. (elim b as (λ x. Reading) [ true ↦ begun old | false ↦ old ]).most_probes ≡ old.most_probes) [ true ↦ refl | false ↦ refl ]
+
+-- the test of a token that begins a game
+pub begins_is : (s : Stage) (k : Kind) → s ≡ Between → is_comment k ≡ false → is_end k ≡ false → begins s k ≡ true
+begins_is s k at comment over =
+    ap (λ (x : Stage). begins x k) at ∙ ap (λ (b : Bool). not (b || is_end k)) comment ∙ ap (λ (b : Bool). not b) over

@@ -1,0 +1,156 @@
+use Rattle.std.proofs.Common.{◌≡◌, ℕ, ◌+◌, ◌-◌, length, take, drop, rules, arith, refl, sym, ap, subst, ◌∙◌, length-drop, le_refl}
+use Rattle.std.proofs.Math.Nat.{add_assoc}
+use Rattle.std.proofs.lemmas.List.{take_rest}
+use Rattle.pgn_lexer.specs.Standing.{waiting}
+use Rattle.pgn_game.specs.Feeding.{Converter, Stands}
+use Rattle.pgn_game.proofs.InPiece.{lets_go, so_far_none, fed_behind, stands_here, so_far_more, fed_all, fed_game, fed_fault, counts_step, none_at_hand}
+use Rattle.pgn_game.proofs.converter.Converter.feed_front.Goals as goal
+
+pub loop-at-init : goal.loop-at-init
+loop-at-init g c =
+    record {
+      within = omega arith;
+      count = omega (arith, ap (λ (s : Converter). s.lexer.count) c.self.view_is);
+      goes = omega (arith, ap (λ (s : Converter). waiting s.lexer) c.self.view_is);
+      fault = ap (λ (s : Converter). s.fault) c.self.view_is ∙ c.requires.no_fault;
+      games = ap (λ (s : Converter). s.games) c.self.view_is;
+      hand = refl;
+      going = ap (λ (s : Converter). s.is_finished) c.self.view_is ∙ c.requires.going;
+      probes = omega (arith, ap (λ (s : Converter). s.reading.most_probes) c.self.view_is);
+      counted = refl;
+      feeds = λ p u b given stands follows.
+          so_far_none p _ u b given c.args.piece.now _ (lets_go p _ u b given (subst (λ (s : Converter). Stands p s u b given) (sym c.self.view_is) stands)) follows;
+    }
+
+pub step-step-requires : goal.step-step-requires
+step-step-requires g c =
+    let rest : length (take (length c.args.piece.now - c.loop-at.at) (drop c.loop-at.at c.args.piece.now)) ≡ length c.args.piece.now - c.loop-at.at =
+    ap (length {A = ℕ}) (take_rest c.args.piece.now c.loop-at.at) ∙ length-drop c.loop-at.at c.args.piece.now in (
+      search rules,
+      (
+        c.loop-at.invariant.fault,
+        (
+          omega (arith, rest, c.loop-at.invariant.count, c.requires.short, c.loop-at-test.true),
+          (omega (arith, rest, c.loop-at-test.true), c.loop-at.invariant.hand),
+        ),
+      ),
+    )
+
+pub returns-in-NeedMore : goal.returns-in-NeedMore
+returns-in-NeedMore g c =
+    let so = c.loop-at.invariant in
+    let step = c.step-step.ensures in
+    let after = rw (c.in-NeedMore.is, take_rest) at step.after in
+    let advances = rw (c.in-NeedMore.is, take_rest) at step.advances in
+    let counted = rw c.in-NeedMore.is at step.counted in
+    let none = none_at_hand _ (rw c.in-NeedMore.is at step.hand) in
+    record {
+      used = le_refl _;
+      feeds = λ p u b given stands follows.
+          let here = so.feeds p u b given stands follows in
+          fed_all p u b given c.args.piece.now c.loop-at.at _ _ _ _ here c.loop-at-test.true _ _
+          (after p _ _ (stands_here p u b given c.args.piece.now c.loop-at.at _ _ _ here c.loop-at-test.true)) none;
+      count = omega (arith, advances, step.count, so.count, length-drop c.loop-at.at c.args.piece.now, c.loop-at-test.true);
+      advances = tt;
+      going = step.going ∙ so.going;
+      fault = rw c.in-NeedMore.is at step.fault;
+      games = (rw c.in-NeedMore.is at step.games ∙ so.games, none);
+      probes = omega (arith, step.probes, so.probes);
+      counted = counted ∙ so.counted;
+    }
+
+pub loop-at-smaller : goal.loop-at-smaller
+loop-at-smaller g c =
+    let advances = rw c.in-More.is at c.step-step.ensures.advances in
+    let used = rw take_rest at c.step-step.ensures.used in
+    omega (arith, advances, used, length-drop c.loop-at.at c.args.piece.now, c.loop-at-test.true)
+
+pub loop-at-preserved : goal.loop-at-preserved
+loop-at-preserved g c =
+    let advances = rw c.in-More.is at c.step-step.ensures.advances in
+    let used = rw take_rest at c.step-step.ensures.used in
+    let counted = rw c.in-More.is at c.step-step.ensures.counted in
+    let fault = rw c.in-More.is at c.step-step.ensures.fault in
+    let after = rw (c.in-More.is, take_rest) at c.step-step.ensures.after in
+    record {
+      within = omega (arith, used, length-drop c.loop-at.at c.args.piece.now, c.loop-at-test.true);
+      count = omega (arith, c.step-step.ensures.count, c.loop-at.invariant.count);
+      goes = omega (arith, advances, c.loop-at.invariant.goes);
+      fault = fault;
+      games = rw c.in-More.is at c.step-step.ensures.games ∙ c.loop-at.invariant.games;
+      hand = none_at_hand _ (rw c.in-More.is at c.step-step.ensures.hand);
+      going = c.step-step.ensures.going ∙ c.loop-at.invariant.going;
+      probes = omega (arith, c.step-step.ensures.probes, c.loop-at.invariant.probes);
+      counted = counted ∙ c.loop-at.invariant.counted;
+      feeds = λ p u b given stands follows.
+          let so = c.loop-at.invariant.feeds p u b given stands follows in
+          so_far_more p u b given c.args.piece.now c.loop-at.at _ _ _ _ so c.loop-at-test.true _ _
+          (after p _ _ (stands_here p u b given c.args.piece.now c.loop-at.at _ _ _ so c.loop-at-test.true));
+    }
+
+pub returns-in-Finished : goal.returns-in-Finished
+returns-in-Finished g c =
+    let so = c.loop-at.invariant in
+    let step = c.step-step.ensures in
+    let after = rw (c.in-Finished.is, take_rest) at step.after in
+    let advances = rw c.in-Finished.is at step.advances in
+    let used = rw take_rest at step.used in
+    let counted = rw c.in-Finished.is at step.counted in
+    record {
+      used = omega (arith, used, length-drop c.loop-at.at c.args.piece.now, c.loop-at-test.true);
+      feeds = λ p u b given stands follows.
+          let here = so.feeds p u b given stands follows in
+          fed_game p u b given c.args.piece.now c.loop-at.at _ _ _ _ here c.loop-at-test.true _ _
+          (omega (arith, stands.lexer.count, c.requires.short))
+          (after p _ _ (stands_here p u b given c.args.piece.now c.loop-at.at _ _ _ here c.loop-at-test.true));
+      count = step.count ∙ ap (λ n. n + c.step-step.result.used) so.count
+          ∙ add_assoc c.args.self.now.lexer.count c.loop-at.at c.step-step.result.used;
+      advances = omega (arith, advances, so.goes);
+      going = step.going ∙ so.going;
+      fault = rw c.in-Finished.is at step.fault;
+      games = tt;
+      probes = omega (arith, step.probes, so.probes);
+      counted = counted ∙ so.counted;
+    }
+
+pub returns-in-Ended : goal.returns-in-Ended
+returns-in-Ended g c = absurd (rw c.in-Ended.is at c.step-step.ensures.advances)
+
+pub returns-in-Failed : goal.returns-in-Failed
+returns-in-Failed g c =
+    let so = c.loop-at.invariant in
+    let step = c.step-step.ensures in
+    let after = rw (c.in-Failed.is, take_rest) at step.after in
+    let counted = rw c.in-Failed.is at step.counted in
+    record {
+      used = tt;
+      feeds = λ p u b given stands follows.
+          let here = so.feeds p u b given stands follows in
+          fed_fault p u b given c.args.piece.now c.loop-at.at _ _ _ _ here c.loop-at-test.true
+          c.step-step.new.self c.step-step.result.used c.in-Failed.fault
+          (after p _ _ (stands_here p u b given c.args.piece.now c.loop-at.at _ _ _ here c.loop-at-test.true));
+      count = tt;
+      advances = tt;
+      going = step.going ∙ so.going;
+      fault = rw c.in-Failed.is at step.fault;
+      games = (rw c.in-Failed.is at step.games ∙ so.games, none_at_hand _ (rw c.in-Failed.is at step.hand));
+      probes = omega (arith, step.probes, so.probes);
+      counted = counts_step c.in-Failed.fault.reason _ _ _ so.counted counted;
+    }
+
+pub returns : goal.returns
+returns g c =
+    let so = c.loop-at.invariant in
+    record {
+      used = le_refl _;
+      feeds = λ p u b given stands follows.
+          fed_behind p u b given c.args.piece.now c.loop-at.at _ _ _ (so.feeds p u b given stands follows)
+          (omega (arith, so.within, c.loop-at-test.false)) so.hand;
+      count = omega (arith, so.count, so.within, c.loop-at-test.false);
+      advances = tt;
+      going = so.going;
+      fault = so.fault;
+      games = (so.games, so.hand);
+      probes = so.probes;
+      counted = so.counted;
+    }

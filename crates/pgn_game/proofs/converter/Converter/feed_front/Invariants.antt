@@ -1,0 +1,22 @@
+use Rattle.std.proofs.Common.{◌≡◌, ◌≤◌, ◌+◌, ◌-◌, ◌*◌, None, false, length}
+use Rattle.pgn_lexer.specs.Standing.{waiting}
+use Rattle.pgn_game.specs.Stepping.{FeedsSoFar}
+use Rattle.pgn_game.proofs.converter.Converter.feed_front.Given as goal
+
+abbrev pub invariant-loop-at : goal.invariant-loop-at
+invariant-loop-at g l =
+    record {
+      within : l.at ≤ length l.piece;
+      count : l.self.lexer.count ≡ l.fn.self.lexer.count + l.at;
+      goes : waiting l.self.lexer ≤ 2 * l.at + waiting l.fn.self.lexer;
+      fault : l.self.fault ≡ None;
+      games : l.self.games ≡ l.fn.self.games;
+      hand : l.self.at_hand ≡ None;
+      going : l.self.is_finished ≡ false;
+      probes : l.fn.self.reading.most_probes ≤ l.self.reading.most_probes;
+      counted : g.W.Sink.failures l.out ≡ g.W.Sink.failures l.fn.out;
+      feeds : FeedsSoFar l.fn.self l.piece l.at l.self (g.W.Sink.taken l.fn.out) (g.W.Sink.taken l.out);
+    }
+
+abbrev pub decreases-loop-at : goal.decreases-loop-at
+decreases-loop-at g l = 2 * (length l.initial.piece - l.at) + waiting l.self.lexer

@@ -1,0 +1,69 @@
+use Rattle.std.proofs.Common.{◌≡◌, ◌≤◌, length, true, false, refl, sym, ap, ◌∙◌, arith}
+use Rattle.std.proofs.lemmas.Bool.{le-leb, lt-leb, false≢true}
+use Rattle.pgn_lexer.specs.Scanned.{kind_of}
+use Rattle.pgn_lexer.specs.declared.token.TokenKind.{TokenKind}
+use Rattle.pgn_game.specs.declared.judged.Judged.TheVariants.{PairOpen}
+use Rattle.pgn_game.specs.declared.reason.Reason.TheVariants.{SetUpWithoutFen, TooManyTags, UnexpectedEnd}
+use Rattle.pgn_game.specs.declared.stage.Stage.TheVariants.{AfterTags}
+use Rattle.pgn_game.specs.Game.{Part}
+use Rattle.pgn_game.specs.Holding.{TagPairs}
+use Rattle.pgn_game.specs.FaultTable.{refusal}
+use Rattle.pgn_game.specs.Begun.{next}
+use Rattle.pgn_game.specs.Reading.{Reading, Agrees}
+use Rattle.pgn_game.specs.Judging.{is_open}
+use Rattle.pgn_game.proofs.Refusing.{hit, pass, end_after_tags, open_refusal, open_next, refuses_set_up}
+use Rattle.pgn_game.proofs.Stages.{no_bracket, no_end, lacks_of}
+use Rattle.pgn_game.proofs.Judging.{refused, goes, entry_at, free_after_tags, part_stage, held_at}
+use Rattle.pgn_game.proofs.reader.Reader.judge_after_tags.Goals as goal
+
+-- how many pairs the part has
+held_of : (old : Reading) (part : Part) → Agrees old part → old.stage ≡ AfterTags → length old.tags.held ≡ length part.pairs
+held_of old part agrees at = ap (λ (t : TagPairs). length t.held) (held_at old part AfterTags agrees at)
+
+pub returns-in-End : goal.returns-in-End
+returns-in-End g c =
+    let old = c.args.self.now in
+    refused g.row.T g.row.L old (kind_of c.args.kind) UnexpectedEnd refl (λ part agrees.
+    ap (λ (k : TokenKind). refusal old.profile part (kind_of k)) c.in-End.is ∙ end_after_tags old.profile part (part_stage old part AfterTags agrees c.requires.stage))
+
+pub returns-then-is_full : goal.returns-then-is_full
+returns-then-is_full g c =
+    let old = c.args.self.now in
+    let v = c.self.view_is in
+    let most : g.row.T ≡ old.profile.tags = ap (λ (r : Reading). r.profile.tags) v in
+    let full : length c.self.inside.tags.held ≡ g.row.T = c.if-is_full.ensures.full.0 refl in
+    let held : length c.self.inside.tags.held ≡ length old.tags.held = ap (λ (r : Reading). length r.tags.held) v in
+    refused g.row.T g.row.L old (kind_of c.args.kind) TooManyTags refl (λ part agrees.
+    ap (λ (k : TokenKind). refusal old.profile part (kind_of k)) c.in-LeftBracket.is ∙ open_refusal old.profile part (part_stage old part AfterTags agrees c.requires.stage)
+    ∙ hit _ _ _ (le-leb old.profile.tags (length part.pairs) (omega (arith, most, full, held, held_of old part agrees c.requires.stage))))
+
+pub returns-else-is_full : goal.returns-else-is_full
+returns-else-is_full g c =
+    let old = c.args.self.now in
+    let v = c.self.view_is in
+    let most : g.row.T ≡ old.profile.tags = ap (λ (r : Reading). r.profile.tags) v in
+    let full : length c.self.inside.tags.held ≡ g.row.T → ⊥ = λ e. false≢true (c.if-is_full.ensures.full.1 e) in
+    let room : length c.self.inside.tags.held ≤ g.row.T = c.if-is_full.ensures.room in
+    let held : length c.self.inside.tags.held ≡ length old.tags.held = ap (λ (r : Reading). length r.tags.held) v in
+    goes g.row.T g.row.L old (kind_of c.args.kind) PairOpen (c.requires.stage, omega (arith, full, room, held)) (λ e. absurd (cc)) (λ part agrees.
+    let at = part_stage old part AfterTags agrees c.requires.stage in (
+      ap (λ (k : TokenKind). refusal old.profile part (kind_of k)) c.in-LeftBracket.is ∙ open_refusal old.profile part at
+          ∙ pass _ _ _ (lt-leb old.profile.tags (length part.pairs) (omega (arith, most, full, room, held, held_of old part agrees c.requires.stage))),
+      ap (λ (k : TokenKind). next part (kind_of k)) c.in-LeftBracket.is ∙ open_next part at,
+    ))
+
+pub returns-then-lacks_fen : goal.returns-then-lacks_fen
+returns-then-lacks_fen g c =
+    let old = c.args.self.now in
+    refused g.row.T g.row.L old (kind_of c.args.kind) SetUpWithoutFen refl (λ part agrees.
+    refuses_set_up old.profile part c.args.kind (part_stage old part AfterTags agrees c.requires.stage) (no_bracket c.args.kind c.in_default.not-LeftBracket) (no_end c.args.kind c.in_default.not-End)
+    (lacks_of old part true agrees c.requires.stage (sym c.lacks_fen.ensures ∙ c.if-lacks_fen.true)))
+
+pub returns-else-lacks_fen : goal.returns-else-lacks_fen
+returns-else-lacks_fen g c =
+    let old = c.args.self.now in
+    let bracket = no_bracket c.args.kind c.in_default.not-LeftBracket in
+    let over = no_end c.args.kind c.in_default.not-End in
+    entry_at g.row.T g.row.L old c.args.kind _ (ap is_open c.requires.stage) bracket over
+    (λ part agrees. free_after_tags part (lacks_of old part false agrees c.requires.stage (sym c.lacks_fen.ensures ∙ c.if-lacks_fen.false)))
+    c.judge_entry.ensures

@@ -1,0 +1,31 @@
+use Rattle.std.proofs.Common.{◌≡◌, ◌+◌, ℕ, [], None, sym, ap, ◌∙◌, refl}
+use Rattle.chess_rules.specs.Position.{initial}
+use Rattle.pgn_lexer.specs.Scanned.{kind_of}
+use Rattle.pgn_game.specs.declared.stage.Stage.TheVariants.{AfterTags}
+use Rattle.pgn_game.specs.Chess.{first_position}
+use Rattle.pgn_game.specs.Holding.{TagPairs}
+use Rattle.pgn_game.specs.Movetext.{Movetext, begins_at}
+use Rattle.pgn_game.specs.Reading.{Reading}
+use Rattle.pgn_game.specs.Handling.{begun}
+use Rattle.pgn_game.proofs.Accepting.{begins_is}
+use Rattle.pgn_game.proofs.reader.Reader.make_ready.Goals as goal
+
+is_first : initial ≡ first_position
+unfolding first_position
+is_first = refl
+
+begun_by : (old : Reading) (tags : TagPairs) (text : Movetext) (plies : ℕ) → tags ≡ record { held = []; begun = None } → text ≡ begins_at first_position → plies ≡ old.text.plies
+    → record old { stage = AfterTags; tags = tags; text = text; earlier_plies = old.earlier_plies + plies } ≡ begun old
+begun_by old tags text plies clear begins count =
+    ap (λ (t : TagPairs). record old { stage = AfterTags; tags = t; text = text; earlier_plies = old.earlier_plies + plies }) clear
+    ∙ ap (λ (t : Movetext). record old { stage = AfterTags; tags = record { held = []; begun = None }; text = t; earlier_plies = old.earlier_plies + plies }) begins
+    ∙ ap (λ n. record old { stage = AfterTags; tags = record { held = []; begun = None }; text = begins_at first_position; earlier_plies = old.earlier_plies + n }) count
+
+pub returns : goal.returns
+returns g c =
+    let v = c.self.view_is in
+    let is = begins_is c.args.self.now.stage (kind_of c.args.kind) (c.is_between.ensures.0 c.if-not-is_between.false) (sym c.is_comment.ensures ∙ c.if-is_comment.false) (sym c.is_end.ensures ∙ c.if-is_end.false) in
+    rw is
+    (ap (λ (r : Reading). record r { stage = AfterTags; tags = c.clear.new.self; text = c.begin.new.self; earlier_plies = r.earlier_plies + c.plies.result }) v
+    ∙ begun_by c.args.self.now c.clear.new.self c.begin.new.self c.plies.result c.clear.ensures
+    (c.begin.ensures ∙ ap begins_at (c.initial.ensures ∙ is_first)) (c.plies.ensures ∙ ap (λ (r : Reading). r.text.plies) v))

@@ -1,0 +1,23 @@
+use Rattle.std.proofs.Common.{◌≡◌, None, ap, sym, subst, ◌∙◌}
+use Rattle.std.specs.Prelude.{IfSome, Option, Result, ℕ}
+use Rattle.std.specs.Result.{result_unwrap_or}
+use Rattle.chess_rules.specs.declared.position.Parts.{Parts}
+use Rattle.pgn_game.specs.declared.judged.Judged.{Judged}
+use Rattle.pgn_game.specs.declared.stage.Stage.TheVariants.{AfterValue}
+use Rattle.pgn_game.specs.Movetext.{begun_at}
+use Rattle.pgn_game.specs.Reading.{Reading}
+use Rattle.pgn_game.specs.Judging.{Fits}
+use Rattle.pgn_game.proofs.Pairing.{completed, puts_value}
+use Rattle.pgn_game.proofs.reader.Reader.put.Goals as goal
+
+pub returns-in-Value : goal.returns-in-Value
+returns-in-Value g c =
+    let old = c.args.self.now in
+    let v = c.self-in-Value.view_is in
+    let fits = subst (λ (j : Judged). Fits g.row.T g.row.L old j) c.in-Value.is c.requires.fits in
+    rw c.in-Value.is
+    (puts_value g.row.T g.row.L old _ c.in-Value.value c.begun.result.now c.unwrap_or-start.result c.complete.new.self _ _ fits c.requires.going
+    (subst (λ (r : Reading). IfSome r.tags.begun (λ name. c.complete.new.self ≡ completed name c.in-Value.value.now r.tags.held)) v c.complete.ensures)
+    (sym (ap (λ (r : Reading). r.tags.begun) v) ∙ c.begun.ensures)
+    (c.unwrap_or-start.ensures ∙ ap (λ (r : Result (Option Parts) ℕ). result_unwrap_or r None) c.start_told.ensures)
+    (rw c.begin_at.ensures (ap (λ (r : Reading). record r { stage = AfterValue; tags = c.complete.new.self; text = begun_at c.unwrap_or-start.result r.text }) v)))

@@ -1,0 +1,98 @@
+use Rattle.std.proofs.Common.{◌≡◌, max, ℕ, refl, ap, subst, ◌∙◌, arith}
+use Rattle.std.specs.Prelude.{Err}
+use Rattle.std.proofs.Math.Nat.{le-max_left}
+use Rattle.std.proofs.lemmas.Result.{err_from_is_err_and}
+use Rattle.std.specs.Io.KnownBytes.{Appends}
+use Rattle.pgn_layout.specs.Device.{AppendsFront, one_more}
+use Rattle.pgn_layout.specs.Layout.{Layout, Put, EndGame, text_at, line_at}
+use Rattle.pgn_game.specs.declared.judged.Entry.{Entry}
+use Rattle.pgn_game.specs.Reading.{Reading}
+use Rattle.pgn_game.specs.Judging.{EntryFits, IsProbed}
+use Rattle.pgn_game.proofs.Appending.{front_of_more, front_after}
+use Rattle.pgn_game.proofs.Closing.{puts_unbegun, ends_well, ends_ill}
+use Rattle.pgn_game.proofs.Putting.{IsAfterItem, begins_as, puts_number, puts_item, fails_item}
+use Rattle.pgn_game.proofs.reader.Reader.put_entry.Goals as goal
+
+-- the reader after an item, once its probes are counted
+after_item : (begun between new : Reading) (probes : ℕ) → new ≡ record between { most_probes = max between.most_probes probes }
+    → IsAfterItem begun between → IsAfterItem begun new
+after_item begun between new probes is next = record {
+  profile = ap (λ (r : Reading). r.profile) is ∙ next.profile;
+  stage = ap (λ (r : Reading). r.stage) is ∙ next.stage;
+  tags = ap (λ (r : Reading). r.tags) is ∙ next.tags;
+  earlier = ap (λ (r : Reading). r.earlier_plies) is ∙ next.earlier;
+  probes = omega (arith, ap (λ (r : Reading). r.most_probes) is, next.probes, le-max_left between.most_probes probes);
+}
+
+pub returns-in_err-begin_movetext : goal.returns-in_err-begin_movetext
+returns-in_err-begin_movetext g c =
+    let p = err_from_is_err_and c.from_residual.result c.from_residual.ensures.1 in
+    rw (p.1 ∙ ap Err p.2)
+    (puts_unbegun g.row.L c.args.self.now c.begin_movetext.new.self c.args.entry.now c.in_err-begin_movetext.field-0.0 _ c.requires.fits.0 c.requires.fits.1 c.in_err-begin_movetext.ensures.begins)
+
+pub returns-in-Number : goal.returns-in-Number
+returns-in-Number g c =
+    rw c.in-Number.is
+    (puts_number c.args.self.now c.begin_movetext.new.self _ c.requires.fits.0 c.requires.going c.in_ok-begin_movetext.ensures.begins)
+
+pub returns-in_err-put-in-Item : goal.returns-in_err-put-in-Item
+returns-in_err-put-in-Item g c =
+    let old = c.args.self.now in
+    let p = err_from_is_err_and c.from_residual-in_err-put-in-Item.result c.from_residual-in_err-put-in-Item.ensures.1 in
+    let begins = begins_as old _ _ _ c.self.view_is c.in_ok-begin_movetext.ensures.begins in
+    rw (c.in-Item.is, p.1 ∙ ap Err p.2)
+    (fails_item old _ c.count_probes.new.self c.in-Item.item c.in_err-put-in-Item.field-0.0 _ _ _ _ _ _ c.requires.fits.0 begins
+    (after_item _ _ c.count_probes.new.self c.put-put.new.probes c.count_probes.ensures (record { profile = refl; stage = refl; tags = refl; earlier = refl; probes = omega arith }))
+    (rw c.count_probes.ensures c.in_err-put-in-Item.ensures.adds))
+
+pub returns-in_ok-put-in-Item : goal.returns-in_ok-put-in-Item
+returns-in_ok-put-in-Item g c =
+    let old = c.args.self.now in
+    let begins = begins_as old _ _ _ c.self.view_is c.in_ok-begin_movetext.ensures.begins in
+    let put = subst (λ (e : Entry). IsProbed e old.most_probes) c.in-Item.is c.requires.fits.2 in
+    rw c.in-Item.is
+    (puts_item old _ c.count_probes.new.self c.in-Item.item _ _ _ _ _ _ c.requires.fits.0 put begins
+    (after_item _ _ c.count_probes.new.self c.put-put.new.probes c.count_probes.ensures (record { profile = refl; stage = refl; tags = refl; earlier = refl; probes = omega arith }))
+    (rw c.count_probes.ensures c.in_ok-put-in-Item.ensures.adds))
+
+pub returns-in_err-put-in-Marker : goal.returns-in_err-put-in-Marker
+returns-in_err-put-in-Marker g c =
+    let old = c.args.self.now in
+    let marker = c.in-Marker.marker in
+    let p = err_from_is_err_and c.from_residual-in_err-put-in-Marker.result c.from_residual-in_err-put-in-Marker.ensures.1 in
+    let begins = begins_as old _ _ _ c.self-in-Marker.view_is c.in_ok-begin_movetext.ensures.begins in
+    let well = ap (λ (r : Reading). r.layout.has_failed) begins.begun ∙ c.requires.going in
+    let fits = subst (λ (e : Entry). EntryFits g.row.L old.text e) c.in-Marker.is c.requires.fits.1 in
+    let front = front_of_more (g.W.Sink.taken c.begin_movetext.new.out) (g.W.Sink.taken c.put.new.out) _ (text_at (line_at c.self-in-Marker.inside.layout.line (Put marker.now)) EndGame) (c.in_err-put-in-Marker.ensures.text well) in
+    rw (c.in-Marker.is, p.1 ∙ ap Err p.2)
+    (ends_ill old _ _ marker _ _ _ _ _ _ (record { begins = begins; outside = fits.1; token = fits.0; at = c.requires.fits.0 }) front refl (c.in_err-put-in-Marker.ensures.faults.counted well))
+
+pub returns-in_err-end_game-in-Marker : goal.returns-in_err-end_game-in-Marker
+returns-in_err-end_game-in-Marker g c =
+    let old = c.args.self.now in
+    let marker = c.in-Marker.marker in
+    let p = err_from_is_err_and c.from_residual-in_err-end_game-in-Marker.result c.from_residual-in_err-end_game-in-Marker.ensures.1 in
+    let begins = begins_as old _ _ _ c.self-in-Marker.view_is c.in_ok-begin_movetext.ensures.begins in
+    let well = ap (λ (r : Reading). r.layout.has_failed) begins.begun ∙ c.requires.going in
+    let fits = subst (λ (e : Entry). EntryFits g.row.L old.text e) c.in-Marker.is c.requires.fits.1 in
+    let held = c.in_ok-put-in-Marker.ensures.line in
+    let going = ap (λ (l : Layout). l.has_failed) held in
+    let last = subst (AppendsFront (g.W.Sink.taken c.put.new.out) (g.W.Sink.taken c.end_game.new.out)) (ap (λ (l : Layout). text_at l.line EndGame) held) (c.in_err-end_game-in-Marker.ensures.text going) in
+    let front = front_after (g.W.Sink.taken c.begin_movetext.new.out) (g.W.Sink.taken c.put.new.out) (g.W.Sink.taken c.end_game.new.out) _ _ (c.in_ok-put-in-Marker.ensures.text well) last in
+    rw (c.in-Marker.is, p.1 ∙ ap Err p.2)
+    (ends_ill old _ _ marker _ _ _ _ _ _ (record { begins = begins; outside = fits.1; token = fits.0; at = c.requires.fits.0 }) front refl
+    (c.in_err-end_game-in-Marker.ensures.faults.counted going ∙ ap one_more (c.in_ok-put-in-Marker.ensures.faults.counted well)))
+
+pub returns-in_ok-end_game-in-Marker : goal.returns-in_ok-end_game-in-Marker
+returns-in_ok-end_game-in-Marker g c =
+    let old = c.args.self.now in
+    let marker = c.in-Marker.marker in
+    let begins = begins_as old _ _ _ c.self-in-Marker.view_is c.in_ok-begin_movetext.ensures.begins in
+    let well = ap (λ (r : Reading). r.layout.has_failed) begins.begun ∙ c.requires.going in
+    let fits = subst (λ (e : Entry). EntryFits g.row.L old.text e) c.in-Marker.is c.requires.fits.1 in
+    let held = c.in_ok-put-in-Marker.ensures.line in
+    let going = ap (λ (l : Layout). l.has_failed) held in
+    let last = subst (Appends (g.W.Sink.taken c.put.new.out) (g.W.Sink.taken c.end_game.new.out)) (ap (λ (l : Layout). text_at l.line EndGame) held) (c.in_ok-end_game-in-Marker.ensures.text going) in
+    rw c.in-Marker.is
+    (ends_well old _ _ marker _ _ _ _ _ _ _ (record { begins = begins; outside = fits.1; token = fits.0; at = c.requires.fits.0 }) (c.in_ok-put-in-Marker.ensures.text well) last refl c.in_ok-end_game-in-Marker.ensures.line
+    (c.in_ok-end_game-in-Marker.ensures.faults.counted going ∙ c.in_ok-put-in-Marker.ensures.faults.counted well))

@@ -1,0 +1,6 @@
+use Rattle.std.proofs.Common.{◌≡◌, drop}
+use Rattle.pgn_game.specs.Pairs.{value_of}
+use Rattle.pgn_game.proofs.tags.value_in.Given as goal
+
+abbrev pub invariant-loop-pair : goal.invariant-loop-pair
+invariant-loop-pair l = value_of l.pairs l.name ≡ value_of (drop l.pair-index l.pairs) l.name

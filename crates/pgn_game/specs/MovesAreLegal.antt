@@ -1,0 +1,31 @@
+-- **Definition.** The law that each move of a game is legal where it stands.
+use Rattle.std.specs.Prelude.{Bool, true, IsTrue, List}
+use Rattle.std.specs.List.{list_all}
+use Rattle.chess_rules.specs.declared.position.Parts.{Parts}
+use Rattle.chess_rules.specs.Legal.{is_legal}
+use Rattle.pgn_lexer.specs.Tokens.{Token}
+use Rattle.pgn_game.specs.Profile.{Profile}
+use Rattle.pgn_game.specs.Pairs.{Pair}
+use Rattle.pgn_game.specs.Game.{Item, move}
+use Rattle.pgn_game.specs.Here.{start_of, first_level}
+use Rattle.pgn_game.specs.Text.{placed_from}
+use Rattle.pgn_game.specs.Begun.{read}
+
+-- A move has to be legal in this position (FIDE 3). Of another item nothing is asked.
+abbrev pub is_legal_at : Parts → Item → Bool
+is_legal_at position (move m) = is_legal position m
+is_legal_at position _ = true
+
+-- Each move of the items is legal in the position where it stands, inside variations too. That
+-- position is the one after all moves that lead to it, played from where a game with these pairs
+-- begins.
+abbrev pub plays_legally : List Pair → List Item → Bool
+plays_legally pairs items =
+    list_all (λ i. is_legal_at i.position i.item) (placed_from (start_of pairs) first_level items)
+
+-- Each move of the games that are read is legal where it stands, and so is each of the game that is
+-- not whole yet.
+abbrev pub MovesAreLegal : Type 0
+MovesAreLegal = (p : Profile) (ts : List Token)
+    → IsTrue (list_all (λ g. plays_legally g.pairs g.items) (read p ts).begun.games)
+    × IsTrue (plays_legally (read p ts).begun.part.pairs (read p ts).begun.part.items)
