@@ -1,0 +1,251 @@
+"""What the scripts beside the program share: marks in PGN text, files replaced whole, the program.
+
+Each function that reads a file keeps at most a few blocks of it in memory.
+"""
+import argparse
+import os
+import re
+import shutil
+import signal
+import stat
+import subprocess
+import sys
+import tempfile
+
+BLOCK = 1 << 20
+BYTE_ORDER_MARK = b"\xef\xbb\xbf"
+# The status of a script, which are those of the program.
+REFUSED, USAGE, NO_MEMORY, NO_PROGRAM = 1, 2, 3, 127
+
+# Comments, escapes and strings, which hide what is in them, and the markers that end games. A
+# marker is a whole symbol. Each alternative begins with a literal byte, and plain tag sections are
+# matched at once: both keep a search fast.
+MARKS = re.compile(
+    rb"\{[^}]*\}?"
+    rb"|;[^\r\n]*"
+    rb"|%(?<![^\r\n]%)[^\r\n]*"
+    rb'|\[\w+ "[^"\\\r\n]*"\](?:\r?\n\[\w+ "[^"\\\r\n]*"\])*'
+    rb'|"[^"\\\r\n]*(?:\\["\\]?[^"\\\r\n]*)*"?'
+    rb"|1(?<![\w+#=:/-]1)(?:-0|/2-1/2)(?![\w+#=:/-])"
+    rb"|0(?<![\w+#=:/-]0)-1(?![\w+#=:/-])"
+    rb"|\*"
+)
+# Where a comment or an escape ends that began in an earlier block, by its first byte.
+BEFORE_LINE_END = re.compile(rb"(?=[\r\n])")
+CLOSERS = {b"{": re.compile(rb"\}"), b";": BEFORE_LINE_END, b"%": BEFORE_LINE_END}
+LINE_END = re.compile(rb"\r\n?|\n")
+# No marker is longer, with the byte that ends it.
+LONGEST_MARKER = 8
+
+
+class Failure(Exception):
+    """An error with the status that the script ends with."""
+
+    def __init__(self, status, text):
+        super().__init__(text)
+        self.status = status
+
+
+class Stopped(BaseException):
+    """A signal asked the script to stop."""
+
+
+class Parser(argparse.ArgumentParser):
+    """A reader of arguments whose errors are one line."""
+
+    def error(self, message):
+        self.exit(USAGE, "%s: %s (--help shows the usage)\n" % (self.prog, message))
+
+
+def run_script(name, main):
+    """Runs a script's main function, and ends with its status; an error is one line."""
+    def stop(number, _frame):
+        raise Stopped(number)
+
+    for number in (signal.SIGTERM, signal.SIGHUP, signal.SIGINT):
+        signal.signal(number, stop)
+    try:
+        status = main()
+        sys.stdout.flush()
+    except Stopped as stopped:
+        signal.signal(stopped.args[0], signal.SIG_DFL)
+        os.kill(os.getpid(), stopped.args[0])
+        status = REFUSED
+    except Failure as failure:
+        status = report(name, str(failure), failure.status)
+    except BrokenPipeError:
+        status = report(name, "output cannot be written", REFUSED)
+    except MemoryError:
+        status = report(name, "out of memory", NO_MEMORY)
+    except OSError as error:
+        where = "%s: " % error.filename if error.filename else ""
+        status = report(name, where + (error.strerror or str(error)), REFUSED)
+    try:
+        sys.stdout.flush()
+    except OSError:
+        # nothing can be written any more, also when Python ends
+        os.dup2(os.open(os.devnull, os.O_WRONLY), 1)
+        status = status or report(name, "output cannot be written", REFUSED)
+    sys.exit(status)
+
+
+def report(name, text, status):
+    print("%s: %s" % (name, text), file=sys.stderr)
+    return status
+
+
+def open_file(path):
+    """Opens a regular file for reading; others cannot be read twice."""
+    file = open(path, "rb")
+    if not stat.S_ISREG(os.fstat(file.fileno()).st_mode):
+        raise Failure(USAGE, "%s: is not a regular file" % path)
+    return file
+
+
+def program():
+    """The path of the program: the one of this repository, built if needed, or an installed one."""
+    if os.environ.get("PGN_TOOL"):
+        return os.environ["PGN_TOOL"]
+    here = os.path.dirname(os.path.realpath(__file__))
+    root = os.path.dirname(here)
+    if os.path.isdir(root + "/crates/pgn_tool"):
+        words = [here + "/pgn_tool", "--version"]
+        made = subprocess.run(words, stdout=subprocess.DEVNULL, check=False)
+        if made.returncode:
+            raise Failure(NO_PROGRAM, "the program pgn_tool was not built")
+        return root + "/crates/pgn_tool/out/pgn_tool"
+    started = os.path.dirname(os.path.abspath(sys.argv[0]))
+    for folder in (started, here, here + "/../../bin"):
+        if os.access(folder + "/pgn_tool", os.X_OK):
+            return folder + "/pgn_tool"
+    found = shutil.which("pgn_tool")
+    if not found:
+        raise Failure(NO_PROGRAM, "there is no program pgn_tool")
+    return found
+
+
+# ---- PGN text in blocks
+
+
+def marks(file, begin, end):
+    """Yields (begin, end, first byte) of each comment and each marker between two offsets.
+
+    The offset begin is read as the start of an input, outside comments. A comment that is still
+    open at the end is given up to the end.
+    """
+    if os.pread(file.fileno(), 3, begin) == BYTE_ORDER_MARK:
+        begin += 3
+    opened, before, position = None, b"", begin
+    while position < end:
+        text = before + os.pread(file.fileno(), min(BLOCK, end - position), position)
+        base, start = position - len(before), len(before)
+        is_last = base + len(text) >= end
+        if len(text) == start:
+            raise Failure(REFUSED, "the file became shorter while it was read")
+        if opened:
+            close = CLOSERS[opened[1]].search(text, start)
+            if not close and not is_last:
+                before, position = text[-1:], base + len(text)
+                continue
+            start = close.end() if close else len(text)
+            if opened[1] != b"%":
+                yield opened[0], base + start, opened[1]
+            opened = None
+        limit = len(text) if is_last else max(len(text) - LONGEST_MARKER, start)
+        for found in MARKS.finditer(text, start):
+            kind = found[0][:1]
+            if found.start() >= limit:
+                break
+            if found.end() == len(text) and not is_last:
+                if kind in CLOSERS:
+                    opened, limit = (base + found.start(), kind), len(text)
+                elif found.start() > start:
+                    limit = found.start()
+                break
+            limit = max(limit, found.end())
+            if kind not in b'"%[':
+                yield base + found.start(), base + found.end(), kind
+        before, position = text[limit - 1:limit], base + limit
+
+
+def lines(file, begin):
+    """Yields (offset, line with its end) from an offset on; a very long line comes in parts."""
+    rest, at = b"", begin
+    while True:
+        block = os.pread(file.fileno(), BLOCK // 16, at + len(rest))
+        text, used = rest + block, 0
+        for found in LINE_END.finditer(text, max(len(rest) - 1, 0)):
+            if found.end() == len(text) and found[0] == b"\r" and block:
+                break
+            yield at + used, text[used:found.end()]
+            used = found.end()
+        rest, at = text[used:], at + used
+        if rest and (not block or len(rest) >= BLOCK):
+            yield at, rest
+            rest, at = b"", at + len(rest)
+        if not block:
+            return
+
+
+def line_ends(file, begin, end):
+    """How many lines end between two offsets: by LF, by CR, or by both together."""
+    count, at = 0, begin
+    while at < end:
+        text = os.pread(file.fileno(), min(BLOCK, end - at) + 1, at)
+        size = min(len(text), BLOCK, end - at)
+        if not size:
+            break
+        count += text.count(b"\n", 0, size) + text.count(b"\r", 0, size) - text.count(b"\r\n")
+        at += size
+    return count
+
+
+# ---- files that are replaced whole
+
+
+class Replacement:
+    """A temporary file beside a target, which takes its place once all went well.
+
+    A symbolic link is followed, and a file that stands there keeps its mode.
+    """
+
+    def __init__(self, path):
+        self.path = os.path.realpath(path)
+        if os.path.exists(self.path) and not os.path.isfile(self.path):
+            raise Failure(USAGE, "%s: is not a regular file" % path)
+        folder, name = os.path.split(self.path)
+        handle, self.temporary = tempfile.mkstemp(prefix=".%s." % name[:40], dir=folder)
+        self.file = os.fdopen(handle, "w+b")
+
+    def take_place(self):
+        """Puts the new file in the place of the old one."""
+        self.file.flush()
+        os.fsync(self.file.fileno())
+        if os.path.exists(self.path):
+            old = os.stat(self.path)
+            if os.geteuid() == 0:
+                os.fchown(self.file.fileno(), old.st_uid, old.st_gid)
+            mode = stat.S_IMODE(old.st_mode)
+        else:
+            mask = os.umask(0)
+            os.umask(mask)
+            mode = 0o666 & ~mask
+        os.fchmod(self.file.fileno(), mode)
+        self.file.close()
+        os.replace(self.temporary, self.path)
+        self.temporary = None
+
+    def discard(self):
+        """Removes the temporary file, if it has not taken its place."""
+        if self.temporary:
+            self.file.close()
+            os.unlink(self.temporary)
+            self.temporary = None
+
+
+def is_same_file(one, other):
+    """Whether two paths name one file, also by links."""
+    try:
+        return os.path.samefile(one, other)
+    except OSError:
+        return os.path.realpath(one) == os.path.realpath(other)

@@ -1,0 +1,233 @@
+#!/usr/bin/env python3
+"""Tests of the manual page and of the completions: against the program and its sources."""
+import importlib.machinery
+import importlib.util
+import os
+import re
+import shutil
+import sys
+import tempfile
+import unittest
+
+sys.path.insert(0, os.path.dirname(os.path.realpath(__file__)))
+import programs
+from programs import ROOT, run
+
+PAGE = ROOT + "/share/man/man1/pgn_tool.1"
+COMPLETIONS = ROOT + "/share/completions/"
+# What a shell says of a process that signal 11 ended.
+KILLED = (-11, 128 + 11)
+
+
+def text_of(file):
+    with open(file, encoding="utf-8") as lines:
+        return lines.read()
+
+
+def reasons():
+    """Number and words of each reason, read from the source by bin/write_vectors."""
+    path = ROOT + "/bin/write_vectors"
+    loader = importlib.machinery.SourceFileLoader("write_vectors", path)
+    spec = importlib.util.spec_from_loader("write_vectors", loader)
+    module = importlib.util.module_from_spec(spec)
+    loader.exec_module(module)
+    return {number: words for number, words in module.reasons().values()}
+
+
+def section(page, name):
+    return re.search(r"^\.Sh %s\n(.*?)(?=^\.Sh |\Z)" % name, page, re.MULTILINE | re.DOTALL)[1]
+
+
+def help_of(*words):
+    ran = run([programs.need_program(), *words, "--help"])
+    return ran.stdout.decode()
+
+
+def commands():
+    rows = re.search(r"Commands:\n((?:  .*\n)+)", help_of())[1]
+    return re.findall(r"^  (\w+)", rows, re.MULTILINE)
+
+
+def options(*words):
+    rows = help_of(*words).split("Options:\n")[1]
+    return sorted(it for it in re.findall(r"--[\w-]+", rows) if it != "--help")
+
+
+class Folder(unittest.TestCase):
+    def setUp(self):
+        self.folder = tempfile.mkdtemp()
+        self.addCleanup(shutil.rmtree, self.folder)
+
+    def shell(self, script, **more):
+        program = programs.need_program()
+        path = os.path.dirname(program) + ":" + programs.PATH
+        env = dict(os.environ, PATH=path)
+        return run(["bash", "-c", script], cwd=more.pop("cwd", self.folder), env=env, **more)
+
+
+class Page(Folder):
+    def test_every_fault_is_there(self):
+        rows = re.findall(r"^\.It (\d+) Em (.*)$", section(text_of(PAGE), "DIAGNOSTICS"), re.M)
+        found = {int(number): words for number, words in rows}
+        wanted = dict(reasons())
+        wanted[26] = wanted[26] + "N"
+        self.assertEqual(found, wanted)
+        self.assertEqual([int(number) for number, _ in rows], sorted(found))
+
+    def test_every_command_and_option_is_there(self):
+        page = text_of(PAGE)
+        names = section(page, "SYNOPSIS")
+        self.assertEqual(re.findall(r"^\.Cm (\w+)", names, re.M), commands())
+        for command in commands():
+            row = re.search(r"^\.It Cm %s (.*)$" % command, page, re.M)[1]
+            said = ["-" + it for it in re.findall(r"Fl (-[\w-]+)", row)]
+            self.assertEqual(sorted(said), options(command), command)
+
+    def test_no_warnings_of_mandoc(self):
+        programs.need("mandoc")
+        ran = run(["mandoc", "-Tlint", PAGE])
+        lines = (ran.stdout + ran.stderr).decode().splitlines()
+        # A machine without the index of its manual pages is no matter of this page.
+        self.assertEqual([line for line in lines if "mandoc.db" not in line], [])
+
+    def test_no_warnings_of_groff(self):
+        programs.need("groff")
+        if b"DIAGNOSTICS" not in run(["groff", "-P-cbu", "-mandoc", "-Tascii", PAGE]).stdout:
+            programs.not_tried("groff has no mdoc macros")
+        for device in ("ascii", "utf8"):
+            ran = run(["groff", "-ww", "-mandoc", "-T" + device, PAGE])
+            self.assertEqual((ran.returncode, ran.stderr), (0, b""), device)
+
+    def test_the_examples_are_real(self):
+        page = section(text_of(PAGE), "EXAMPLES")
+        shown = re.findall(r"^\.Bd -literal.*?\n(.*?)^\.Ed", page, re.M | re.S)
+        tried = 0
+        for block in shown:
+            for command, output in re.findall(r"^\$ (.*)\n((?:[^$].*\n)*)", block, re.M):
+                if "examples/" in command:
+                    ran = self.shell(command, cwd=ROOT)
+                    self.assertEqual((ran.stdout + ran.stderr).decode(), output, command)
+                    tried += 1
+        self.assertEqual(tried, 3)
+
+    def test_the_example_of_a_compressed_archive(self):
+        programs.need("zstd")
+        self.shell("zstd -q %s/examples/two-games.pgn -o games.pgn.zst" % ROOT)
+        command = re.search(r"^\.Dl \$ (zstd .*)$", text_of(PAGE), re.M)[1]
+        ran = self.shell(command)
+        self.assertRegex(ran.stdout, rb"\A(\S+ [wb] \S+ \S+ \d+ \d+\n){2}\Z")
+
+    def test_the_example_of_parallel(self):
+        programs.need("parallel")
+        block = re.search(r"^\$ (parallel .*?)^\.Ed", text_of(PAGE), re.M | re.S)[1]
+        game = '[Event "x"]\n\n1. e4 {a word} e5 *\n\n'
+        with open(self.folder + "/games.pgn", "w", encoding="utf-8") as file:
+            file.write(game * 2000)
+        command = block.replace("\\e", "\\").replace("10M", "10k")
+        ran = self.shell(command)
+        self.assertEqual((ran.returncode, ran.stdout), (0, b""), ran.stderr)
+        one = self.shell("pgn_tool export games.pgn | cmp - export.pgn")
+        self.assertEqual((one.returncode, one.stderr), (0, b""))
+        self.assertGreater(os.path.getsize(self.folder + "/export.pgn"), 100000)
+
+
+class Statuses(Folder):
+    def status(self, script):
+        return self.shell(script).returncode
+
+    def test_statuses(self):
+        self.assertEqual(self.status("pgn_tool --help"), 0)
+        self.assertEqual(self.status("pgn_tool --version"), 0)
+        self.assertEqual(self.status("echo '*' | pgn_tool check"), 0)
+        self.assertEqual(self.status("echo 'e9' | pgn_tool check"), 1)
+        self.assertEqual(self.status("pgn_tool check --reduced"), 2)
+        ran = self.shell("pgn_tool export $'\\xff'")
+        self.assertEqual((ran.returncode, ran.stderr), (2, b"arguments cannot be read\n"))
+        ran = self.shell("pgn_tool export missing")
+        self.assertEqual((ran.returncode, ran.stderr), (1, b"byte 0: input cannot be read\n"))
+
+    def test_caveats_of_the_file_that_is_read(self):
+        self.assertEqual(self.status("echo '1. e4 *' > F; pgn_tool export F > F"), 0)
+        self.assertEqual(os.path.getsize(self.folder + "/F"), 0)
+        grown = self.shell("for n in $(seq 9000); do echo '1. e4 *'; done > F; ulimit -f 20000;"
+                           " trap '' XFSZ; pgn_tool export F >> F")
+        self.assertEqual(grown.returncode, 1)
+        self.assertIn(b"output cannot be written", grown.stderr)
+        # One export of these games has less than a megabyte.
+        self.assertGreater(os.path.getsize(self.folder + "/F"), 19000 * 1024)
+
+    def test_caveats_of_output(self):
+        game = "for n in $(seq 9000); do echo '1. e4 *'; done | pgn_tool export"
+        ran = self.shell(game + " > /dev/full")
+        self.assertEqual(ran.returncode, 1)
+        # The first block of 64 KiB of output is that of some 700 games, 8 bytes of input each.
+        place = int(re.fullmatch(rb"byte (\d+): output cannot be written\n", ran.stderr)[1])
+        self.assertTrue(600 * 8 < place < 800 * 8, place)
+        ran = self.shell("echo '*' | pgn_tool export > /dev/full")
+        self.assertEqual((ran.returncode, ran.stderr), (1, b"output cannot be written\n"))
+        ran = self.shell("set -o pipefail; (%s) | head -n 1" % game)
+        self.assertEqual(ran.returncode, 1)
+        self.assertIn(b"output cannot be written", ran.stderr)
+
+    def test_the_stack(self):
+        size = int(re.search(r"^\.It stack\n(\d+) KiB", text_of(PAGE), re.M)[1])
+        script = "ulimit -s %d; cd %s/vectors; failed=0; for file in *.in; do" \
+            " for words in export check list; do pgn_tool $words $file >/dev/null 2>&1;" \
+            " [ $? -le 1 ] || failed=1; done; done; exit $failed"
+        self.assertEqual(self.status(script % (size, ROOT)), 0)
+        self.assertIn(self.status("ulimit -s 64; exec pgn_tool --version"), KILLED)
+
+    def test_the_memory(self):
+        programs.need("time")
+        game = '[Event "x"]\\n\\n1. e4 {a word} e5 *\\n\\n'
+        ran = self.shell("for n in $(seq 40000); do printf '%s'; done > F;"
+                         " $(type -P time) -f %%M pgn_tool export F >/dev/null" % game)
+        self.assertEqual(ran.returncode, 0)
+        self.assertLess(int(ran.stderr.split()[-1]), 3000)
+
+
+class Completions(Folder):
+    def words(self, *line):
+        if shutil.which("bash") is None:
+            programs.not_tried("bash is missing")
+        script = 'source %spgn_tool.bash; COMP_WORDS=("$@"); COMP_CWORD=$(($# - 1)); _pgn_tool;' \
+            ' printf "%%s\\n" "${COMPREPLY[@]}"' % COMPLETIONS
+        ran = run(["bash", "-c", script, "sh", *line], cwd=self.folder)
+        self.assertEqual(ran.stderr, b"")
+        return sorted(it for it in ran.stdout.decode().split("\n") if it)
+
+    def test_bash(self):
+        self.assertEqual(self.words("pgn_tool", ""), sorted(commands()))
+        for command in commands():
+            wanted = sorted(["--help"] + options(command))
+            self.assertEqual(self.words("pgn_tool", command, "--"), wanted)
+        self.assertEqual(self.words("pgn_tool", "--"), sorted(["--help"] + options()))
+        open(self.folder + "/some games.pgn", "wb").close()
+        self.assertEqual(self.words("pgn_tool", "check", "some"), ["some games.pgn"])
+        self.assertEqual(self.words("pgn_tool", "export", "--reduced", "s"), ["some games.pgn"])
+
+    def test_fish(self):
+        programs.need("fish")
+        open(self.folder + "/games.pgn", "wb").close()
+        lines = ["pgn_tool "] + ["pgn_tool %s --" % it for it in commands()] + ["pgn_tool list ga"]
+        wanted = [sorted(commands())]
+        wanted += [sorted(["--help"] + options(it)) for it in commands()] + [["games.pgn"]]
+        for line, words in zip(lines, wanted):
+            script = "source %spgn_tool.fish; complete -C '%s'" % (COMPLETIONS, line)
+            env = dict(os.environ, HOME=self.folder, XDG_CONFIG_HOME=self.folder)
+            ran = run(["fish", "-c", script], cwd=self.folder, env=env)
+            found = sorted(it.split("\t")[0] for it in ran.stdout.decode().splitlines())
+            self.assertEqual(found, words, line)
+
+    def test_zsh(self):
+        programs.need("zsh")
+        ran = run(["zsh", "-n", COMPLETIONS + "_pgn_tool"])
+        self.assertEqual((ran.returncode, ran.stderr), (0, b""))
+        text = text_of(COMPLETIONS + "_pgn_tool")
+        self.assertEqual(re.findall(r"^ +'([a-z]+):[a-z]", text, re.M), commands())
+        for option in options() + options("export"):
+            self.assertIn(option, text)
+
+
+if __name__ == "__main__":
+    unittest.main()

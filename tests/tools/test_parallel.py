@@ -1,0 +1,274 @@
+#!/usr/bin/env python3
+"""Tests of the recipe of docs/RECIPES.md that uses all processors, also over ssh."""
+import getpass
+import os
+import shutil
+import socket
+import subprocess
+import sys
+import tempfile
+import unittest
+
+sys.path.insert(0, os.path.dirname(os.path.realpath(__file__)))
+import programs
+from programs import run
+from test_recipes import game, sections
+
+SHORT, WHOLE, STREAM, REMOTE, COUNTS = range(5)
+# The files are small, and so are the blocks: about 50 games.
+BLOCK = ("10M", "8k")
+# What is in a comment and looks like the place of a cut.
+LOOKALIKE = '{ a comment\n\n[Event "x"]\n\nthat holds a tag line }\n'
+
+
+def blocks():
+    return [it.replace(*BLOCK) for it in sections()["Use all processors"]]
+
+
+def functions(block):
+    """The two functions of a block that differ from place to place."""
+    return block[: block.index("\n}\n") + 3]
+
+
+def archive(games=600):
+    """Games as someone might have typed them, of different lengths."""
+    moves = ["1. e4 e5 {a word}", "d4 d5 (Nf6 c4)", "1.c4! Nf6 $1 2. Nc3", "f4 ;rest\ne5 fxe5"]
+    text = '[Event "%d"]\n[Round "%d"]\n\n%s *\n\n'
+    return "".join(text % (it, it * it, moves[it % 4]) for it in range(games))
+
+
+class Spread(unittest.TestCase):
+    """Runs blocks of the recipe on archives, beside one run of the program."""
+
+    def setUp(self):
+        programs.need("parallel")
+        self.folder = tempfile.mkdtemp()
+        self.addCleanup(shutil.rmtree, self.folder)
+
+    def put(self, text, name="games.pgn"):
+        with open(os.path.join(self.folder, name), "w", encoding="utf-8") as file:
+            file.write(text)
+
+    def get(self, name):
+        with open(os.path.join(self.folder, name), "rb") as file:
+            return file.read()
+
+    def shell(self, script, **more):
+        path = os.path.dirname(programs.need_program()) + ":" + programs.PATH
+        return run(["sh", "-c", script], cwd=self.folder, env=dict(os.environ, PATH=path, **more))
+
+    def script(self, kind):
+        """The script that is right in all cases, with these functions."""
+        whole = blocks()[WHOLE]
+        return whole.replace(functions(whole), functions(blocks()[kind]))
+
+    def agrees(self, text, kind=WHOLE, status=0, **more):
+        """The script and one run write the same bytes and messages, with this status."""
+        self.put(text)
+        self.shell("rm -f export.pgn games.pgn.zst")
+        if kind == STREAM:
+            self.shell("zstd -q games.pgn")
+        one = self.shell("pgn_tool export games.pgn")
+        self.assertEqual(one.returncode, status, one.stderr)
+        ran = self.shell(self.script(kind), **more)
+        self.assertEqual((ran.returncode, ran.stderr), (status, one.stderr))
+        self.assertEqual(ran.stdout, b"")
+        self.assertTrue(self.get("export.pgn") == one.stdout, "other bytes")
+        return [line.split(b"\t") for line in self.get("blocks.log").splitlines()[1:]]
+
+
+class OneMachine(Spread):
+    def test_every_block_has_a_test(self):
+        self.assertEqual(len(blocks()), COUNTS + 1)
+
+    def test_the_short_form(self):
+        self.put(archive())
+        ran = self.shell(blocks()[SHORT])
+        self.assertEqual((ran.returncode, ran.stderr), (0, b""))
+        one = self.shell("pgn_tool export games.pgn | cmp - export.pgn")
+        self.assertEqual((one.returncode, one.stderr), (0, b""))
+
+    def test_a_plain_file(self):
+        jobs = self.agrees(archive())
+        self.assertGreater(len(jobs), 3)
+        self.assertTrue(all(job[6:8] == [b"0", b"0"] for job in jobs))
+
+    def test_small_files(self):
+        for text in ("", "1. e4 *", '[Event "a"]\n\n1. e4 *\n\n[Event "b"]\n\n1. d4 *'):
+            self.agrees(text)
+
+    def test_faults_at_their_places(self):
+        text = archive()
+        for event in (0, 250, 599):
+            at = text.index('[Event "%d"]' % event)
+            for fault in ("e9 ", '[Event "'):
+                self.agrees(text[:at] + fault + text[at:], status=1)
+
+    def test_two_faults(self):
+        text = archive()
+        for event in (500, 200):
+            at = text.index('[Event "%d"]' % event)
+            text = text[:at] + "] " + text[at:]
+        self.agrees(text, status=1)
+
+    def test_an_input_that_breaks_off(self):
+        self.agrees(archive() + '[Event "x"]\n\n1. e4', status=1)
+        self.agrees(archive()[:-4], status=1)
+
+    def test_a_cut_inside_a_comment(self):
+        text = archive()
+        for event in (1, 599):
+            at = text.index("\n\n", text.index('[Event "%d"]' % event)) + 2
+            jobs = self.agrees(text[:at] + LOOKALIKE * 300 + text[at:])
+            # A block really ended there and was refused.
+            self.assertTrue(any(job[6] != b"0" for job in jobs), event)
+
+    def test_a_cut_inside_a_comment_and_a_fault_behind_it(self):
+        text = archive()
+        at = text.index("\n\n", text.index('[Event "300"]')) + 2
+        self.agrees(text[:at] + LOOKALIKE * 300 + text[at:] + "e9", status=1)
+
+    def test_games_without_an_event(self):
+        self.agrees(archive().replace("[Event", "[Annotator"))
+
+    def test_lines_of_dos(self):
+        self.put(archive().replace("\n", "\r\n"))
+        self.shell(blocks()[SHORT].replace(r"'\n\n'", r"'\r\n\r\n'"))
+        one = self.shell("pgn_tool export games.pgn | cmp - export.pgn")
+        self.assertEqual((one.returncode, one.stderr), (0, b""))
+
+    def test_a_full_disk(self):
+        self.put(archive(4000))
+        os.symlink("/dev/full", self.folder + "/export.pgn")
+        ran = self.shell(self.script(WHOLE))
+        self.assertEqual((ran.returncode, ran.stderr), (1, b"output cannot be written\n"))
+
+    def test_counts_and_lists(self):
+        text = archive()
+        self.put(text)
+        self.shell("pgn_tool export games.pgn > export.pgn")
+        ran = self.shell(blocks()[COUNTS])
+        lines = ran.stdout.splitlines(True)
+        self.assertEqual((ran.returncode, ran.stderr), (0, b""))
+        # Moves outside variations: 2, 2, 3 and 3 in turn.
+        self.assertEqual(lines[:2], [b"games: 600, plies: 1500\n"] * 2)
+        one = self.shell("pgn_tool list games.pgn")
+        self.assertEqual(b"".join(lines[2:]), one.stdout)
+        self.assertGreater(len(self.get("counts.txt").splitlines()), 3)
+
+    def test_counts_after_a_fault(self):
+        self.put(archive() + "e9")
+        self.shell("pgn_tool export games.pgn > export.pgn")
+        ran = self.shell(blocks()[COUNTS])
+        self.assertNotEqual(ran.returncode, 0)
+        # The output before the fault is counted, and the blocks are not.
+        self.assertEqual(ran.stdout, b"games: 600, plies: 1500\n")
+
+
+class Streams(Spread):
+    def setUp(self):
+        super().setUp()
+        programs.need("zstd")
+
+    def test_a_compressed_file(self):
+        jobs = self.agrees(archive(), STREAM)
+        self.assertGreater(len(jobs), 3)
+
+    def test_faults_at_their_places(self):
+        text = archive()
+        for event in (0, 300, 599):
+            at = text.index('[Event "%d"]' % event)
+            self.agrees(text[:at] + "e9 " + text[at:], STREAM, 1)
+        self.agrees(text[:-4], STREAM, 1)
+
+    def test_a_cut_inside_a_comment(self):
+        text = archive()
+        at = text.index("\n\n", text.index('[Event "300"]')) + 2
+        jobs = self.agrees(text[:at] + LOOKALIKE * 300 + text[at:], STREAM)
+        self.assertTrue(any(job[6] != b"0" for job in jobs))
+
+
+class Server:
+    """A server of ssh on this machine alone, with keys made for one test."""
+
+    def __init__(self, test, path):
+        self.folder = tempfile.mkdtemp()
+        test.addCleanup(shutil.rmtree, self.folder)
+        for name in ("host", "user"):
+            run(["ssh-keygen", "-q", "-t", "ed25519", "-N", "", "-f", self.folder + "/" + name])
+        with socket.socket() as probe:
+            probe.bind(("127.0.0.1", 0))
+            self.port = probe.getsockname()[1]
+        self.write("server", SERVER % {"path": path, "port": self.port, "folder": self.folder})
+        names = {"port": self.port, "folder": self.folder, "user": getpass.getuser()}
+        self.write("client", CLIENT % names)
+        self.client = "ssh -F %s/client" % self.folder
+        words = [programs.found("sshd"), "-D", "-f", self.folder + "/server"]
+        if run(words + ["-t"]).returncode:
+            programs.not_tried("a server of ssh does not start here")
+        with open(self.folder + "/log", "wb") as log:
+            self.process = subprocess.Popen(words, stdin=subprocess.DEVNULL, stdout=log, stderr=log)
+        test.addCleanup(self.stop)
+
+    def write(self, name, text):
+        with open(os.path.join(self.folder, name), "w", encoding="utf-8") as file:
+            file.write(text)
+
+    def answers(self):
+        return run(self.client.split() + ["alpha", "pgn_tool", "--version"]).returncode == 0
+
+    def stop(self):
+        self.process.terminate()
+        self.process.wait()
+
+
+SERVER = """ListenAddress 127.0.0.1
+Port %(port)d
+HostKey %(folder)s/host
+AuthorizedKeysFile %(folder)s/user.pub
+StrictModes no
+UsePAM no
+PidFile none
+SetEnv PATH=%(path)s
+"""
+CLIENT = """Host alpha beta
+  HostName 127.0.0.1
+  Port %(port)d
+  ConnectionAttempts 20
+  User %(user)s
+  IdentityFile %(folder)s/user
+  IdentitiesOnly yes
+  BatchMode yes
+  StrictHostKeyChecking no
+  UserKnownHostsFile %(folder)s/known
+  LogLevel ERROR
+"""
+
+
+class SeveralMachines(Spread):
+    def setUp(self):
+        super().setUp()
+        programs.need("ssh", "sshd", "ssh-keygen")
+        path = os.path.dirname(programs.need_program()) + ":/usr/local/bin:/usr/bin:/bin"
+        self.server = Server(self, path)
+        if not self.server.answers():
+            programs.not_tried("a server of ssh does not start here")
+
+    def test_over_ssh(self):
+        jobs = self.agrees(archive(), REMOTE, PARALLEL_SSH=self.server.client)
+        self.assertTrue({b"alpha", b"beta"} & {job[1] for job in jobs})
+        text = archive()
+        at = text.index('[Event "300"]')
+        broken = text[:at] + "e9 " + text[at:]
+        self.agrees(broken, REMOTE, 1, PARALLEL_SSH=self.server.client)
+
+    def test_a_machine_without_the_program(self):
+        script = self.server.client + ' "$@"; case $* in *beta*) exit 127;; esac'
+        self.server.write("lacking", "#!/bin/sh\n" + script + "\n")
+        os.chmod(self.server.folder + "/lacking", 0o755)
+        jobs = self.agrees(archive(), REMOTE, PARALLEL_SSH=self.server.folder + "/lacking")
+        self.assertTrue(any(job[6] != b"0" for job in jobs))
+
+
+if __name__ == "__main__":
+    unittest.main()

@@ -1,0 +1,344 @@
+#!/usr/bin/env python3
+"""Runs each block of shell of docs/RECIPES.md on a sample, but those that use all processors."""
+import os
+import re
+import shutil
+import sys
+import tempfile
+import unittest
+
+sys.path.insert(0, os.path.dirname(os.path.realpath(__file__)))
+import programs
+from programs import ROOT, run
+
+RECIPES = ROOT + "/docs/RECIPES.md"
+# Their tests are in test_parallel.
+ELSEWHERE = ("Use all processors",)
+
+
+def sections():
+    """The blocks of shell of each section, by its title."""
+    found, title, block = {}, "", None
+    with open(RECIPES, encoding="utf-8") as lines:
+        for line in lines:
+            if block is not None and line == "```\n":
+                block = None
+            elif block is not None:
+                found[title][-1] += line
+            elif line == "```sh\n":
+                block = found.setdefault(title, [])
+                block.append("")
+            elif line.startswith("#"):
+                title = line.strip("# \n")
+    return found
+
+
+def laid_out(words):
+    """Words on lines of at most 79 bytes."""
+    lines = [""]
+    for word in words:
+        if lines[-1] and len((lines[-1] + " " + word).encode()) > 79:
+            lines.append("")
+        lines[-1] = (lines[-1] + " " + word).strip()
+    return "\n".join(lines)
+
+
+def game(moves="1. e4 e5 *", result="*", **tags):
+    """A game as export format has it, with this roster and these moves."""
+    roster = ["Event", "Site", "Date", "Round", "White", "Black"]
+    values = [tags.get(it, "????.??.??" if it == "Date" else "?") for it in roster]
+    lines = ['[%s "%s"]' % pair for pair in zip(roster, values)]
+    return "\n".join(lines + ['[Result "%s"]' % result, "", moves, "", ""])
+
+
+class Recipe(unittest.TestCase):
+    def setUp(self):
+        self.folder = tempfile.mkdtemp()
+        self.addCleanup(shutil.rmtree, self.folder)
+
+    def put(self, name, data):
+        path = os.path.join(self.folder, name)
+        os.makedirs(os.path.dirname(path), exist_ok=True)
+        with open(path, "wb") as file:
+            file.write(data if isinstance(data, bytes) else data.encode())
+
+    def get(self, name):
+        with open(os.path.join(self.folder, name), "rb") as file:
+            return file.read()
+
+    def shell(self, script):
+        program = programs.need_program()
+        path = ":".join([os.path.dirname(program), ROOT + "/bin", programs.PATH])
+        env = dict(os.environ, PATH=path, PGN_TOOL=program)
+        return run(["sh", "-c", script], cwd=self.folder, env=env)
+
+    def recipe(self, title, block=0):
+        return self.shell(sections()[title][block])
+
+    def mend(self, title, text, message, wanted):
+        """The text is refused with the message; what the recipe makes of it has this export."""
+        self.put("games.pgn", text)
+        refused = self.shell("pgn_tool check games.pgn")
+        self.assertEqual((refused.returncode, refused.stderr.decode()), (1, message + "\n"))
+        ran = self.recipe(title)
+        self.assertEqual((ran.returncode, ran.stderr), (0, b""), ran.stdout)
+        exported = self.shell("pgn_tool export mended.pgn")
+        self.assertEqual(exported.stdout.decode(), wanted)
+        return ran.stdout.decode()
+
+    def unmended(self, title, text, message):
+        """What the recipe makes of the text is refused, with this message."""
+        self.put("games.pgn", text)
+        ran = self.recipe(title)
+        self.assertEqual(ran.stderr.decode(), message + "\n")
+
+
+class Whole(Recipe):
+    def test_every_block_has_a_test(self):
+        with open(os.path.realpath(__file__), encoding="utf-8") as lines:
+            text = lines.read()
+        for title, blocks in sections().items():
+            for number in range(len(blocks) if title not in ELSEWHERE else 0):
+                call = r'(recipe|mend)\(\s*"%s"' % re.escape(title)
+                call += r", %d\)" % number if number else ""
+                self.assertTrue(re.search(call, text), (title, number))
+
+    def test_see_where_a_fault_is(self):
+        if not os.path.exists(ROOT + "/bin/pgn_where"):
+            programs.not_tried("bin/pgn_where is missing")
+        self.put("games.pgn", "1. e4 e5\n2. Ke3 *\n")
+        ran = self.recipe("See where a fault is")
+        self.assertEqual((ran.returncode, ran.stderr), (0, b""))
+        self.assertIn(b"Ke3", ran.stdout)
+
+    def test_set_bad_games_aside(self):
+        if not os.path.exists(ROOT + "/bin/pgn_sieve"):
+            programs.not_tried("bin/pgn_sieve is missing")
+        bad = '[Event "bad"]\n\n1. e4 e5 2. Ke3 *\n\n'
+        self.put("games.pgn", game(Event="a") + bad + game(Event="b"))
+        self.recipe("Set bad games aside")
+        self.assertEqual(self.get("good.pgn").decode(), game(Event="a") + game(Event="b"))
+        self.assertIn(bad.strip().encode(), self.get("bad.pgn"))
+
+    def test_compare(self):
+        self.put("a.pgn", "1.e4 e5 *")
+        self.put("b.pgn", "e4 {} *")
+        self.assertEqual(self.recipe("Compare two collections").returncode, 1)
+        self.put("b.pgn", '[Event "?"] 1. e2e4 e7-e5 *')
+        self.assertEqual(self.recipe("Compare two collections").returncode, 1)
+        self.put("b.pgn", '[Event "?"] 1. e2e4 e7e5 *')
+        ran = self.recipe("Compare two collections")
+        self.assertEqual((ran.returncode, ran.stdout), (0, b"same\n"))
+        self.put("a.pgn", "1. e4 e9")
+        self.put("b.pgn", "1. e4 e9")
+        self.assertNotIn(b"same", self.recipe("Compare two collections").stdout)
+
+    def test_sort_by_date(self):
+        dates = ["2001.05.04", "1999.12.31", "1999.12.31", "????.??.??"]
+        games = [game(Date=it, Event=name) for it, name in zip(dates, ['x \\"y\\"', "b", "a", "c"])]
+        self.put("games.pgn", "".join(games))
+        ran = self.recipe("Sort by date")
+        self.assertEqual(ran.stdout, b"games: 4, plies: 8\n" * 2)
+        wanted = games[1] + games[2] + games[0] + games[3]
+        self.assertEqual(self.get("sorted.pgn").decode(), wanted)
+
+    def test_sort_for_a_comparison(self):
+        games = [game(Event=it, Date="1999.01.01") for it in "cab"]
+        for order in ((0, 1, 2), (2, 0, 1)):
+            self.put("games.pgn", "".join(games[it] for it in order))
+            self.shell(sections()["Sort by date"][0].replace("sort -s", "sort"))
+            self.assertEqual(self.get("sorted.pgn").decode(), games[1] + games[2] + games[0])
+
+    def test_sort_by_another_tag(self):
+        games = [game(Event=it, Round="3", Date="1999.01.0%d" % at) for at, it in enumerate("cab")]
+        self.put("games.pgn", "".join(games))
+        script = sections()["Sort by date"][0]
+        script = script.replace("Date", "Event").replace("RSTART + 8", "RSTART + 9")
+        script = script.replace("RLENGTH - 8", "RLENGTH - 9")
+        self.shell(script)
+        self.assertEqual(self.get("sorted.pgn").decode(), games[1] + games[2] + games[0])
+
+    def test_sort_by_players(self):
+        games = [game(White="B", Black="A"), game("1. d4 { a word } *", White="A", Black="B"),
+                 game(White="A", Black="A")]
+        self.put("games.pgn", "".join(games))
+        ran = self.recipe("Sort by date", 1)
+        self.assertEqual(ran.stdout, b"games: 3, plies: 5\n" * 2)
+        self.assertEqual(self.get("sorted.pgn").decode(), games[2] + games[1] + games[0])
+
+    def test_merge(self):
+        self.put("a.pgn", "\ufeff1. e4 *")
+        self.put("b.pgn", "\ufeff1. d4 *")
+        self.assertEqual(self.recipe("Merge collections").returncode, 0)
+        self.assertEqual(self.get("merged.pgn").decode(), game("1. e4 *") + game("1. d4 *"))
+        self.put("a.pgn", "1. e4 {")
+        self.assertEqual(self.recipe("Merge collections").returncode, 1)
+        self.assertEqual(self.get("merged.pgn").decode(), game("1. e4 *") + game("1. d4 *"))
+
+    def test_leave_out(self):
+        games = [game(Event=it) for it in ("a", "b")]
+        self.put("games.pgn", games[0] + games[1] + '[Event "a"] e4 e5 *' + games[1])
+        ran = self.recipe("Leave out games that are there twice")
+        self.assertEqual(ran.stdout, b"games: 4, plies: 8\ngames: 2, plies: 4\n")
+        self.assertEqual(self.get("once.pgn").decode(), games[0] + games[1])
+
+    def test_split(self):
+        games = [game(Round=str(it)) for it in range(2500)]
+        self.put("games.pgn", "".join(games))
+        ran = self.recipe("Split a collection")
+        self.assertEqual(ran.stdout, b"games: 2500, plies: 5000\n" * 2)
+        parts = ["part/%06d.pgn" % it for it in (1, 2, 3)]
+        self.assertEqual(sorted(os.listdir(self.folder + "/part")), [it[5:] for it in parts])
+        self.assertEqual(self.get(parts[0]).decode(), "".join(games[:1000]))
+        self.assertEqual(self.get(parts[2]).decode(), "".join(games[2000:]))
+        one = sections()["Split a collection"][0].replace("size=1000", "size=1")
+        shutil.rmtree(self.folder + "/part")
+        self.put("games.pgn", "".join(games[:3]))
+        self.shell(one)
+        self.assertEqual([self.get(it).decode() for it in parts], games[:3])
+
+    def test_folder(self):
+        self.put("in/a b.pgn", "1. e4 *")
+        self.put("in/c.pgn", "1. e9 *")
+        ran = self.recipe("Convert a whole folder")
+        self.assertEqual(ran.stdout.decode(), "in/c.pgn: byte 3: not a move\n1 with a fault\n")
+        self.assertEqual(self.get("out/a b.pgn").decode(), game("1. e4 *"))
+        self.assertEqual(sorted(os.listdir(self.folder + "/out")), ["a b.pgn", "c.pgn.fault"])
+
+    def test_folder_with_parallel(self):
+        programs.need("parallel")
+        self.put("in/a b.pgn", "1. e4 *")
+        self.put("in/c.pgn", "1. e9 *")
+        ran = self.recipe("Convert a whole folder", 1)
+        self.assertEqual((ran.returncode, ran.stdout), (1, b"in/a b.pgn\tgames: 1, plies: 1\n"))
+        self.assertIn(b"in/c.pgn\tbyte 3: not a move\n", ran.stderr)
+
+    def test_how_far(self):
+        programs.need("pv")
+        self.put("games.pgn", game() * 1000)
+        ran = self.recipe("See how far a long check is")
+        self.assertEqual((ran.returncode, ran.stdout), (0, b"games: 1000, plies: 2000\n"))
+        self.put("games.pgn", "e9")
+        self.assertEqual(self.recipe("See how far a long check is").returncode, 1)
+        os.remove(self.folder + "/games.pgn")
+        ran = self.recipe("See how far a long check is")
+        self.assertEqual((ran.returncode, ran.stdout), (0, b"games: 0, plies: 0\n"))
+        self.assertIn(b"No such file", ran.stderr)
+
+
+class Encodings(Recipe):
+    def test_dos_and_latin(self):
+        text = '[White "Müller"]\r\n\r\n1. e4 {schön} *\r\n\x1a'
+        wanted = game("1. e4 { schön } *", White="Müller")
+        for encoding in ("latin-1", "utf-8"):
+            self.put("games.pgn", text.encode(encoding))
+            self.assertEqual(self.shell("pgn_tool check games.pgn").returncode, 1)
+            self.assertEqual(self.recipe("Read files from DOS and Windows").returncode, 0)
+            self.assertEqual(self.get("export.pgn").decode(), wanted)
+        # Without the recipe the bytes are kept.
+        self.put("games.pgn", text[:-1].encode("latin-1"))
+        kept = self.shell("pgn_tool export games.pgn").stdout
+        self.assertEqual(kept, wanted.encode("latin-1"))
+
+    def test_utf16(self):
+        for encoding in ("utf-16", "utf-16-be"):
+            mark = "" if encoding == "utf-16" else "\ufeff"
+            self.put("games.pgn", (mark + '[White "Müller"]\r\n1. e4 *').encode(encoding))
+            refused = self.shell("pgn_tool check games.pgn")
+            self.assertEqual(refused.stderr, b"byte 0: stray byte\n")
+            self.assertEqual(self.recipe("Read files from DOS and Windows", 1).returncode, 0)
+            self.assertEqual(self.get("export.pgn").decode(), game("1. e4 *", White="Müller"))
+
+
+class Mended(Recipe):
+    def test_null_moves(self):
+        text = '[Event "(a -- b)"]\n1. e4 {(x -- y)} e5 (1... -- 2. d4) 2. Nf3 (2. Z0\nd5) *'
+        wanted = game(
+            "1. e4 { (x -- y) } 1... e5 { 1... -- 2. d4 } 2. Nf3 { 2. Z0 d5 } *", Event="(a -- b)")
+        self.mend("Null moves", text, "byte 45: stray byte", wanted)
+        for text, message in (("1. e4 -- *", "byte 6: stray byte"),
+                              ("1. e4 e5 2. d4 (2. -- {a}) *", "byte 19: stray byte"),
+                              ("1. e4 (1. d4 (1. -- ;)\n)) *", "byte 17: stray byte")):
+            self.unmended("Null moves", text, message)
+
+    def test_long_notation(self):
+        text = '[Event "e2-e4"]\n1. e2-e4 {e2-e4} d7-d5 2. e4xd5 Ng8-f6 3. O-O-O *'
+        self.put("games.pgn", text)
+        ran = self.recipe("Long notation")
+        # A castling that is not legal stays one.
+        message = "byte %d: move is not legal\n" % (text.find("O-O-O") - 3)
+        self.assertEqual(ran.stderr.decode(), message)
+        wanted = game("1. e4 { e2-e4 } 1... d5 2. exd5 Nf6 *", Event="e2-e4")
+        self.mend("Long notation", text.replace(" 3. O-O-O", ""), "byte 19: not a move", wanted)
+        self.unmended("Long notation", "1. e3-e4 *", "byte 3: move is not legal")
+
+    def test_moves_without_letters(self):
+        programs.need("pgn-extract")
+        text = '[Event "a"]\n\n1. e2e4 {x} e7e5 2. g1f3 (2. b1c3) *\n\n' \
+            '[Event "b"]\n\nd2d4 g8f6 *\n'
+        wanted = game("1. e4 e5 2. Nf3 *", Event="a") + game("1. d4 Nf6 *", Event="b")
+        said = self.mend("Moves without letters", text, "byte 33: move is not legal", wanted)
+        self.assertEqual(said, "5\n2\ngames: 2, plies: 5\n")
+        # A game that pgn-extract drops is missing in the counts.
+        self.put("games.pgn", text.replace("g1f3", "g1f4"))
+        said = self.recipe("Moves without letters").stdout.decode()
+        self.assertEqual(said, "5\n2\ngames: 1, plies: 2\n")
+
+    def test_missing_result_tag(self):
+        text = '[Event "a"]\n\n1. e4 {1-0} e5 1-0\n\n[Event "b"]\n[Result "0-1"]\n\n1. d4 0-1\n\n' \
+            '[White "c"]\n1. c4 *\n\n[White "d"]\n1. f4 1/2-1/2'
+        wanted = game("1. e4 { 1-0 } 1... e5 1-0", "1-0", Event="a") \
+            + game("1. d4 0-1", "0-1", Event="b") + game("1. c4 *", White="c") \
+            + game("1. f4 1/2-1/2", "1/2-1/2", White="d")
+        message = "byte 28: result differs from the Result tag"
+        self.mend("Missing Result tag", text, message, wanted)
+
+    def test_missing_result(self):
+        text = '[Event "a"]\n[Result "1-0"]\n\n1. e4 e5\n\n[Event "b"]\n\n1. d4\n\n' \
+            '[Event "c"]\n\n1. c4 *\n'
+        wanted = game("1. e4 e5 1-0", "1-0", Event="a") + game("1. d4 *", Event="b") \
+            + game("1. c4 *", Event="c")
+        said = self.mend("Missing result", text, "byte 38: tag in movetext", wanted)
+        self.assertEqual(said, "3\ngames: 3, plies: 4\n")
+
+    def test_half_signs(self):
+        text = '[Result "½-½"]\n\n1. e4 ½-½\n'
+        wanted = game("1. e4 1/2-1/2", "1/2-1/2")
+        self.mend("Half signs", text, "byte 8: bad result value", wanted)
+
+    def test_quotes_in_tags(self):
+        text = '[Event "The "Open""]\n[Site "a\\"b\\\\"]\n' \
+            '[Round "1"] [White "x"]\n1. e4 *\n'
+        tags = {"Event": 'The \\"Open\\"', "Site": 'a\\"b\\\\', "Round": "1", "White": "x"}
+        wanted = game("1. e4 *", **tags)
+        self.mend("Quotes in tags", text, "byte 13: closing bracket expected", wanted)
+        message = "byte 11: closing bracket expected"
+        self.unmended("Quotes in tags", '[Event "a "b""] [Site "x"]\n*', message)
+
+    def test_long_words(self):
+        letters, accents = "x" * 100, "ü" * 60
+        text = '[Event "{%s}"]\n1. e4 {%s short %s} *' % (letters, letters, accents)
+        place = len('[Event "{%s}"]\n1. e4 {' % letters)
+        words = ["{", "x" * 59, "x" * 41, "short", "ü" * 30, "ü" * 30, "}", "*"]
+        wanted = game(laid_out(["1.", "e4"] + words), Event="{%s}" % letters)
+        message = "byte %d: comment word is too long" % place
+        self.mend("Long words", text, message, wanted)
+        message = "byte 7: comment word is too long"
+        self.unmended("Long words", "1. e4 ;%s\n*" % letters, message)
+
+    def test_long_drawing_commands(self):
+        files = [(a, b) for a in "abc" for b in "de"]
+        marks = ["G%s%d%s%d" % (a, r, b, r + 1) for a, b in files for r in (1, 2, 3, 4, 5)]
+        text = "1. e4 {[%%cal %s] [%%csl Ra1]} *" % ",".join(marks)
+        words = [it for n in (0, 12, 24) for it in ("[%cal", ",".join(marks[n : n + 12]) + "]")]
+        wanted = game(laid_out(["1.", "e4", "{"] + words + ["[%csl", "Ra1]", "}", "*"]))
+        self.mend("Long drawing commands", text, "byte 13: comment word is too long", wanted)
+
+    def test_marks_tabs_and_control_bytes(self):
+        text = '[Event "a\tb"]\n1. e4 {x\x01y} *\n\x1a\n\ufeff[Event "c"]\n1. d4\t*\r\n\x00'
+        wanted = game("1. e4 { x y } *", Event="a b") + game("1. d4 *", Event="c")
+        self.mend("Marks, tabs and control bytes", text, "byte 9: control byte", wanted)
+
+
+if __name__ == "__main__":
+    unittest.main()

@@ -1,0 +1,377 @@
+#!/usr/bin/env python3
+"""Tests of bin/pgn_sieve."""
+import os
+import pty
+import random
+import re
+import shutil
+import signal
+import subprocess
+import sys
+import tempfile
+import time
+import unittest
+
+sys.path.insert(0, os.path.dirname(os.path.realpath(__file__)))
+from programs import ROOT, need_program, run
+
+SIEVE = ROOT + "/bin/pgn_sieve"
+NOTE = re.compile(
+    rb"% byte (\d+): (.*); line (\d+)\n"
+    rb"% bytes (\d+) to (\d+), up to [^\n]*\n(% the fault[^\n]*\n)?")
+
+
+def sound(name, movetext=b"1. e4 e5 2. Nf3 *"):
+    return b'[Event "%s"]\n[White "White of %s"]\n\n%s\n\n' % (name, name, movetext)
+
+
+# (what is wrong, the text of the game, the reason of the fault table, the bytes where the fault is)
+BAD = [
+    ("stray byte", b'[Event "x"]\n\n1. e4 & e5 *\n', b"stray byte", b"& e5"),
+    ("control byte", b'[Event "x"]\n\n1. e4 \x01 e5 *\n', b"control byte", b"\x01"),
+    ("reserved", b'[Event "x"]\n\n1. e4 <2> e5 *\n', b"reserved character", b"<2>"),
+    ("dollar", b'[Event "x"]\n\n1. e4 $ e5 *\n', b"dollar sign without a number", b"$ "),
+    ("glyph", b'[Event "x"]\n\n1. e4 $256 e5 *\n', b"glyph is above 255", b"$256"),
+    ("suffix", b'[Event "x"]\n\n1. e4!!! e5 *\n', b"unknown move suffix", b"!!!"),
+    ("brace", b'[Event "x"]\n\n1. e4 ;a } b\n e5 *\n', b"closing brace in a line comment", b"} b"),
+    ("long word", b'[Event "x"]\n\n1. e4 {' + b"w" * 80 + b"} e5 *\n", b"comment word is too long",
+     b"w" * 80),
+    ("open string", b'[Event "x]\n[Site "y"]\n\n1. e4 *\n', b"string is not closed", b'"x]'),
+    ("broken string", b'[Event "x\nz"]\n[Site "y"]\n\n1. e4 *\n', b"string is not closed", b'"x\n'),
+    ("inner quote", b'[Event "x"]\n[Site "a"b"]\n[Date "?"]\n\n1. e4 *\n',
+     b"closing bracket expected", b'b"]'),
+    ("tag without a name", b'["A"]\n[Site "y"]\n\n1. e4 *\n', b"tag name expected", b'"A"'),
+    ("bad tag name", b'[Event-x "x"]\n[Site "y"]\n\n1. e4 *\n', b"bad tag name", b"Event-x"),
+    ("tag twice", b'[Event "x"]\n[Site "y"]\n[Site "z"]\n\n1. e4 *\n', b"tag is given twice",
+     b'Site "z"'),
+    ("no value", b'[Event]\n[Site "y"]\n\n1. e4 *\n', b"tag value expected", b"]\n[Site"),
+    ("bad result", b'[Event "x"]\n[Result "won"]\n\n1. e4 1-0\n', b"bad result value", b'"won"'),
+    ("bad FEN", b'[Event "x"]\n[FEN "x"]\n[Site "y"]\n\n1. e4 *\n', b"bad FEN, field 1",
+     b'"x"]\n[Site'),
+    ("open bracket", b'[Event "x"\n[Site "y"]\n\n1. e4 *\n', b"closing bracket expected", b"[Site"),
+    ("comment among tags", b'[Event "x"]\n; a note\n[Site "y"]\n\n1. e4 *\n', b"tag in movetext",
+     b'[Site "y"'),
+    ("SetUp", b'[Event "x"]\n[SetUp "1"]\n\n1. e4 *\n', b"SetUp 1 without a FEN tag", b"1. e4 *"),
+    ("not a move", b'[Event "x"]\n\n1. e4 e9 *\n', b"not a move", b"e9"),
+    ("null move", b'[Event "x"]\n\n1. e4 Z0 *\n', b"not a move", b"Z0"),
+    ("illegal move", b'[Event "x"]\n\n1. e4 e5 2. Ke3 *\n', b"move is not legal", b"Ke3"),
+    ("ambiguous", b'[Event "x"]\n\n1. Nf3 e6 2. Nd4 e5 3. c3 e4 4. Na3 e3 5. Nc2 *\n',
+     b"move is ambiguous", b"Nc2"),
+    ("early variation", b'[Event "x"]\n\n(1. e4) *\n', b"variation without a move before it",
+     b"(1."),
+    ("extra parenthesis", b'[Event "x"]\n\n1. e4 ) e5 *\n',
+     b"closing parenthesis without an open one", b") e5"),
+    ("open variation", b'[Event "x"]\n\n1. e4 (1. d4 *\n', b"result inside a variation", b"*\n"),
+    ("result differs", b'[Event "x"]\n[Result "1-0"]\n\n1. e4 0-1\n',
+     b"result differs from the Result tag", b"0-1"),
+    ("no left bracket", b'Event "x"]\n[Site "y"]\n\n1. e4 *\n', b"not a move", b"Event"),
+    ("words before a tag", b'Game [Event "x"]\n[Site "y"]\n\n1. e4 *\n', b"not a move", b"Game"),
+    ("no tags", b"1. e4 e9 *\n", b"not a move", b"e9"),
+]
+
+
+def call(words):
+    """Runs the sieve with the built program."""
+    env = dict(os.environ, PGN_TOOL=need_program())
+    return run([sys.executable, SIEVE, *words], env=env)
+
+
+def export(text):
+    ran = run([need_program(), "export"], input=text)
+    assert ran.returncode == 0, (ran.stderr, text)
+    return ran.stdout
+
+
+class Sieved:
+    """A run of the sieve on a text, and its two outputs."""
+
+    def __init__(self, test, text):
+        need_program()
+        self.folder = tempfile.mkdtemp()
+        test.addCleanup(shutil.rmtree, self.folder)
+        self.paths = [self.folder + it for it in ("/in.pgn", "/good.pgn", "/bad.pgn")]
+        with open(self.paths[0], "wb") as file:
+            file.write(text)
+        self.text = text
+        self.ran = call([*self.paths])
+        self.good, self.bad = (self.read(it) for it in self.paths[1:])
+        found = list(NOTE.finditer(self.bad))
+        ends = [it.start() for it in found[1:]] + [len(self.bad)]
+        # (offset, reason, line, begin, end) as BAD tells, and the text that it has there
+        self.notes = [(int(it[1]), it[2], int(it[3]), int(it[4]), int(it[5])) for it in found]
+        self.pieces = [self.bad[it.end():end] for it, end in zip(found, ends)]
+
+    def read(self, path):
+        with open(path, "rb") as file:
+            return file.read()
+
+    def left(self):
+        """The input without what is in BAD, and without marks that joining left."""
+        parts, at = [], 0
+        for _, _, _, begin, end in self.notes:
+            parts.append(self.text[at:begin])
+            at = end
+        return b"\n".join([*parts, self.text[at:]]).replace(b"\xef\xbb\xbf", b"")
+
+
+class SieveTest(unittest.TestCase):
+    def check(self, done, bad):
+        """Nothing is lost: what is not in BAD is sound, and its export is GOOD."""
+        self.assertEqual(done.ran.stderr, b"")
+        self.assertEqual(done.ran.returncode, 1 if bad else 0)
+        self.assertEqual(done.good, export(done.left()))
+        self.assertEqual([it.rstrip(b"\r\n") for it in done.pieces],
+                         [it.rstrip(b"\r\n") for it in bad])
+        for (at, _, line, begin, end), piece in zip(done.notes, done.pieces):
+            self.assertTrue(piece.startswith(done.text[begin:end]), piece)
+            self.assertEqual(line, len(re.findall(rb"\r\n?|\n", done.text[:at])) + 1)
+
+    def test_sound_archive(self):
+        done = Sieved(self, sound(b"A") + sound(b"B"))
+        self.check(done, [])
+        self.assertEqual(done.bad, b"")
+        self.assertIn(b"good.pgn: 2 games\n", done.ran.stdout)
+        self.assertIn(b"bad.pgn: 0 bad games set aside", done.ran.stdout)
+
+    def test_each_way_to_be_bad_between_sound_games(self):
+        for name, text, reason, place in BAD:
+            with self.subTest(name):
+                before = sound(b"A") + sound(b"B")
+                done = Sieved(self, before + text + b"\n" + sound(b"C"))
+                self.check(done, [text])
+                self.assertEqual(done.notes[0][:2], (len(before) + text.index(place), reason))
+                self.assertEqual(done.good, export(before + sound(b"C")))
+
+    def test_each_way_first_and_last(self):
+        for name, text, reason, _ in BAD:
+            with self.subTest(name):
+                done = Sieved(self, text + b"\n" + sound(b"A") + text)
+                self.check(done, [text, text])
+                self.assertEqual([it[1] for it in done.notes], [reason, reason])
+                self.assertEqual(done.good, export(sound(b"A")))
+
+    def test_all_ways_in_a_row(self):
+        games = [it[1] for it in BAD if it[0] != "no tags"]
+        done = Sieved(self, b"\n".join(games))
+        self.check(done, games)
+        self.assertEqual(done.good, b"")
+        done = Sieved(self, b"".join(sound(b"%d" % n) + it + b"\n" for n, it in enumerate(games)))
+        self.check(done, games)
+
+    def test_line_ends(self):
+        for end in (b"\r\n", b"\r"):
+            games = [it[1].replace(b"\n",
+                                   end) for it in BAD if it[0] not in ("no tags", "open string")]
+            text = b"".join(sound(b"%d" % n).replace(b"\n", end) + it + end for n,
+                            it in enumerate(games))
+            done = Sieved(self, text)
+            self.check(done, games)
+            self.assertEqual(done.good.count(b"[Event"), len(games))
+
+    def test_no_marker(self):
+        for movetext in (b"1. e4 e5", b"1. e4 e5 {why}", b""):
+            bad = b'[Event "x"]\n[Site "y"]\n\n%s\n' % movetext
+            done = Sieved(self, sound(b"A") + bad + b"\n" + sound(b"B") + bad)
+            self.check(done, [bad, bad])
+            self.assertEqual(done.good, export(sound(b"A") + sound(b"B")))
+            self.assertEqual(done.notes[1][:2], (len(done.text), b"unexpected end of input"))
+
+    def test_no_empty_lines(self):
+        one, bad = b'[Event "A"]\n1. e4 e5 1/2-1/2\n', b'[Event "x"]\n1. e4 e9 *\n'
+        one = one.replace(b"1/2-1/2", b"*")
+        done = Sieved(self, one + bad + one + bad + bad + one)
+        self.check(done, [bad, bad, bad])
+        self.assertEqual(done.good, export(one * 3))
+
+    def test_open_comment(self):
+        bad = b'[Event "x"]\n\n1. e4 {never closed e5 *\n'
+        # the comment ends with the file, or in a comment of the next game, or of a later one
+        for rest in (sound(b"B"), sound(b"B", b"1. d4 d5 {yes} 2. c4 *") + sound(b"C"),
+                     sound(b"B") + sound(b"C", b"1. d4 d5 {yes} 2. c4 *") + sound(b"D")):
+            done = Sieved(self, sound(b"A") + bad + b"\n" + rest)
+            self.check(done, [bad])
+            self.assertEqual(done.good, export(sound(b"A") + rest))
+            self.assertIn(b"% the fault is behind these bytes", done.bad)
+
+    def test_brace_in_a_tag_section(self):
+        # the rest of the tag section is no game of its own
+        bad = b'[Event "x"]\n[Si{te "y"]\n[Date "?"]\n[Round "1"]\n\n1. e4 e5 *\n'
+        for rest in (sound(b"B"), sound(b"B", b"1. d4 d5 {yes} 2. c4 *") + sound(b"C")):
+            done = Sieved(self, sound(b"A") + bad + b"\n" + rest)
+            self.check(done, [bad])
+            self.assertEqual(done.good, export(sound(b"A") + rest))
+
+    def test_two_open_comments(self):
+        bad = b'[Event "x"]\n\n1. e4 {never closed e5 *\n'
+        good = sound(b"B", b"1. d4 d5 {yes} 2. c4 *")
+        done = Sieved(self, bad + b"\n" + bad + b"\n" + good + bad)
+        self.check(done, [bad, bad, bad])
+
+    def test_brackets_in_comments_begin_no_game(self):
+        bad = (b'[Event "x"]\n\n1. e4 {[%clk 1:00]\n[%eval 0.1]\n[x]} e5 {a\n\nb}\n'
+               b"2. e9 {[%clk 1:00]\n[x]} *\n")
+        done = Sieved(self, sound(b"A") + bad + sound(b"B", b"1. e4 {\n[%clk 1:00]\n} e5 *"))
+        self.check(done, [bad])
+
+    def test_between_games(self):
+        # junk alone is set aside, comments are dropped before a sound game and go with a bad one
+        text = sound(b"A") + b"\x1a" + sound(b"B") + b"{a note}\n" + sound(b"C") + b"\x1a"
+        done = Sieved(self, text)
+        self.check(done, [b"\x1a", b"\x1a"])
+        self.assertEqual(done.good, export(sound(b"A") + sound(b"B") + sound(b"C")))
+        bad = b'{a note}\n[Event "x"]\n\n1. e9 *\n'
+        self.check(Sieved(self, sound(b"A") + bad + sound(b"B")), [bad])
+        prose = b"Games of the club,\n"
+        self.check(Sieved(self, prose + sound(b"A")), [prose])
+
+    def test_joined_files_with_byte_order_marks(self):
+        part = b"\xef\xbb\xbf" + sound(b"A")
+        done = Sieved(self, part * 3)
+        self.check(done, [])
+        self.assertEqual(done.good, export(sound(b"A") * 3))
+        self.assertIn(b"dropped between games: 2 byte order marks", done.ran.stdout)
+
+    def test_escapes_go_with_the_next_game(self):
+        bad = b'[Event "x"]\n\n1. e9 *\n\n'
+        done = Sieved(self, bad + b"% a line of the next one\n" + bad)
+        self.check(done, [bad, b"% a line of the next one\n" + bad])
+
+    def test_repaired_pieces_are_sound(self):
+        bad = b'[Event "x"]\n\n1. e4 e9 *\n'
+        done = Sieved(self, (sound(b"A") + bad + b"\n") * 3)
+        again = Sieved(self, done.bad.replace(b"e9 *", b"e5 *"))
+        self.check(again, [])
+        self.assertEqual(again.good, export(bad.replace(b"e9", b"e5") * 3))
+
+    def test_good_exports_to_itself(self):
+        many = b"".join(b'[T%02d "v"]\n' % n for n in range(64))
+        done = Sieved(self, sound(b"A") + BAD[0][1] + b"\n" + sound(b"B"))
+        self.assertEqual(export(done.good), done.good)
+        # 64 tag pairs and the roster: 71 tag lines, more than the program reads
+        done = Sieved(self, sound(b"A") + many + b"\n*\n" + BAD[0][1] + b"\n" + sound(b"B"))
+        self.check(done, [BAD[0][1]])
+        self.assertIn(b"good.pgn: 1 game with more than 64 tag lines", done.ran.stdout)
+        self.assertIn(b"first game 2", done.ran.stdout)
+
+    def test_random_damage(self):
+        rng = random.Random(7)
+        base = b"".join(sound(b"%d" % n, it) for n, it in enumerate([
+            b"1. e4 {a [%clk 1:00] b} e5 (1... c5 2. Nf3) 2. Nf3 $1 *",
+            b"; note\n1. d4! d5 2. c4 *",
+            b"%skipped 1-0\n1. Nf3 *", b"{x} *", b"1. e4 e5 2. Bc4 Nc6 3. Qh5 Nf6 4. Qxf7# *"])) * 3
+        bits = (b"{", b"}", b'"', b"[", b"]", b"\n\n", b"\n[", b"*", b"1-0 ", b"\x01", b"", b";",
+                b"%", b"(", b'[Event "z"]\n')
+        for _ in range(60):
+            text = base
+            for _ in range(rng.randrange(1, 6)):
+                at = rng.randrange(len(text))
+                text = text[:at] + rng.choice(bits) + text[at + rng.randrange(3):]
+            done = Sieved(self, text)
+            self.assertEqual(done.ran.stderr, b"", text)
+            self.assertEqual(done.good, export(done.left()), text)
+            self.assertEqual(done.ran.returncode, 1 if done.notes else 0)
+            for (_, _, _, begin, end), piece in zip(done.notes, done.pieces):
+                self.assertTrue(piece.startswith(text[begin:end]), text)
+
+    def test_comment_and_string_across_blocks(self):
+        # blocks are of 2^20 bytes; the shift moves the marks over the edge
+        for shift in range(0, 30, 3):
+            filler = b"{" + (b"w" * 70 + b" 1-0 ") * 14000 + b"w" * shift + b"}"
+            text = sound(b"A", filler + b" 1. e4 *") + sound(b"B", b"1. e4 {1-0} *") * 4
+            text += b'[Event "x"]\n\n1. e9 *\n'
+            done = Sieved(self, text)
+            self.check(done, [b'[Event "x"]\n\n1. e9 *\n'])
+            self.assertIn(b": 5 games", done.ran.stdout)
+
+    def test_refused_files(self):
+        need_program()
+        folder = tempfile.mkdtemp()
+        self.addCleanup(shutil.rmtree, folder)
+        file, link, other = folder + "/a.pgn", folder + "/link.pgn", folder + "/b.pgn"
+        with open(file, "wb") as out:
+            out.write(sound(b"A"))
+        os.link(file, link)
+        for words in ([file, file, other], [file, other, link], [file, other, other], [file],
+                      [file, other, folder],
+                      ["/dev/null", folder + "/g", other], [file, "/dev/null", other]):
+            ran = call([*words])
+            self.assertEqual((ran.returncode, ran.stdout, ran.stderr.count(b"\n")), (2, b"", 1),
+                             (words, ran.stderr))
+        for words in ([folder + "/none", other, other + "2"], [folder, folder + "/g", other],
+                      [file, folder + "/none/g", other]):
+            ran = call([*words])
+            self.assertEqual((ran.returncode, ran.stdout, ran.stderr.count(b"\n")), (1, b"", 1),
+                             (words, ran.stderr))
+        self.assertEqual(sorted(os.listdir(folder)), ["a.pgn", "link.pgn"])
+        with open(file, "rb") as text:
+            self.assertEqual(text.read(), sound(b"A"))
+
+    def test_outputs_keep_their_mode_and_follow_links(self):
+        done = Sieved(self, sound(b"A"))
+        os.chmod(done.paths[1], 0o640)
+        os.symlink("bad.pgn", done.folder + "/link.pgn")
+        ran = call([*done.paths[:2], done.folder + "/link.pgn"])
+        self.assertEqual(ran.returncode, 0)
+        self.assertEqual(os.stat(done.paths[1]).st_mode & 0o777, 0o640)
+        self.assertTrue(os.path.islink(done.folder + "/link.pgn"))
+
+
+class StoppedTest(unittest.TestCase):
+    """A program that never ends stands for a long file."""
+
+    def start(self, script, **more):
+        folder = tempfile.mkdtemp()
+        self.addCleanup(shutil.rmtree, folder)
+        self.paths = [folder + it for it in ("/in.pgn", "/good.pgn", "/bad.pgn")]
+        for path in self.paths:
+            with open(path, "wb") as file:
+                file.write(b"old")
+        with open(folder + "/program", "w", encoding="ascii") as file:
+            file.write("#!/bin/sh\n" + script)
+        os.chmod(folder + "/program", 0o755)
+        self.folder = folder
+        env = dict(os.environ, PGN_TOOL=folder + "/program")
+        return subprocess.Popen([sys.executable, SIEVE, *self.paths], env=env, **more)
+
+    def check_untouched(self):
+        self.assertEqual(sorted(os.listdir(self.folder)),
+                         ["bad.pgn", "good.pgn", "in.pgn", "program"])
+        for path in self.paths:
+            with open(path, "rb") as file:
+                self.assertEqual(file.read(), b"old")
+
+    def test_signals_leave_the_old_files(self):
+        for number in (signal.SIGTERM, signal.SIGINT, signal.SIGHUP):
+            started = self.start("exec >&-\nexec 2>&-\nexec sleep 100\n")
+            until = time.time() + 20
+            while len(os.listdir(self.folder)) < 6 and time.time() < until:
+                time.sleep(0.05)
+            started.send_signal(number)
+            self.assertEqual(started.wait(timeout=20), -number)
+            self.check_untouched()
+
+    def test_failures_of_the_program_leave_the_old_files(self):
+        for script, status, text in (
+                ("echo 'out of memory' >&2; exit 3", 3, b"pgn_sieve: out of memory\n"),
+                ("echo 'byte 5: input cannot be read' >&2; exit 1", 1,
+                 b"pgn_sieve: byte 5: input cannot be read\n"),
+                ("kill -9 $$", 1, b"pgn_sieve: the program ended with status -9\n")):
+            started = self.start(script, stdout=subprocess.PIPE, stderr=subprocess.PIPE)
+            out, err = started.communicate(timeout=20)
+            self.assertEqual((started.returncode, out, err), (status, b"", text))
+            self.check_untouched()
+
+    def test_progress_on_a_terminal_alone(self):
+        head, tail = pty.openpty()
+        self.addCleanup(os.close, head)
+        script = "cat >/dev/null; for n in 1 2 3 4; do echo; sleep 0.5; done\n"
+        started = self.start(script, stdout=subprocess.DEVNULL, stderr=tail)
+        os.close(tail)
+        self.assertEqual(started.wait(timeout=20), 0)
+        self.assertIn(b"0.0 of 0.0 MB, ", os.read(head, 1000))
+        started = self.start(script, stdout=subprocess.PIPE, stderr=subprocess.PIPE)
+        self.assertEqual(started.communicate(timeout=20)[1], b"")
+
+
+if __name__ == "__main__":
+    unittest.main()

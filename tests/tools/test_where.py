@@ -1,0 +1,178 @@
+#!/usr/bin/env python3
+"""Tests of bin/pgn_where."""
+import os
+import shutil
+import subprocess
+import sys
+import tempfile
+import unittest
+
+sys.path.insert(0, os.path.dirname(os.path.realpath(__file__)))
+from programs import ROOT, need_program, run
+
+WHERE = ROOT + "/bin/pgn_where"
+TAGS = b'[Event "Cup"]\n[White "Ann"]\n[Black "Bob"]\n\n'
+
+
+class WhereTest(unittest.TestCase):
+    def setUp(self):
+        self.folder = tempfile.mkdtemp()
+        self.addCleanup(shutil.rmtree, self.folder)
+        self.file = self.folder + "/a.pgn"
+
+    def call(self, words, **more):
+        env = dict(os.environ, PYTHONIOENCODING="utf-8", COLUMNS="80")
+        return run([sys.executable, WHERE, *words], env=env, **more)
+
+    def lines(self, text, offset):
+        """The lines that are printed for a byte of a text, without the file's name."""
+        with open(self.file, "wb") as file:
+            file.write(text)
+        ran = self.call([self.file, str(offset)])
+        self.assertEqual((ran.returncode, ran.stderr), (0, b""), text)
+        return ran.stdout.decode("utf-8").replace(self.file + ": ", "", 1).split("\n")
+
+    def check(self, text, offset, line, column, shown, caret):
+        """The caret is below the character that the caller expects."""
+        lines = self.lines(text, offset)
+        told = "line %d, column %d (byte %d" % (line, column, offset)
+        self.assertTrue(lines[0].startswith(told), lines)
+        self.assertEqual(lines[1:3], [shown, caret])
+        return lines
+
+    def test_example(self):
+        ran = run(["bin/pgn_where", "examples/no-such-move.pgn", "77"])
+        lines = ran.stdout.decode().split("\n")
+        self.assertIn("line 4, column 37", lines[0])
+        self.assertEqual(lines[1][lines[2].index("^"):][:3], "Bd4")
+        self.assertEqual(lines[3], 'game 1: White "Nowak, A.", Black "Silva, J.", Event "?"')
+
+    def test_line_ends(self):
+        for end in (b"\n", b"\r", b"\r\n"):
+            text = end.join((b"ab", b"", b"cde", b""))
+            first = text.index(b"c")
+            for n in range(3):
+                self.check(text, first + n, 3, 1 + n, "cde", " " * n + "^")
+            self.check(text, 1, 1, 2, "ab", " ^")
+            # a line end is behind its line
+            for n in range(len(end)):
+                self.check(text, 2 + n, 1, 3 + n, "ab", "  ^")
+            self.check(text, 2 + len(end), 2, 1, "", "^")
+            self.check(text, len(text), 4, 1, "", "^")
+
+    def test_mixed_line_ends(self):
+        self.check(b"a\r\nb\rc\n\rd", 8, 5, 1, "d", "^")
+        self.check(b"a\n\r\nb", 4, 3, 1, "b", "^")
+
+    def test_end_of_the_file(self):
+        lines = self.check(TAGS + b"1. e4", len(TAGS) + 5, 5, 6, "1. e4", "     ^")
+        self.assertIn("the end of the file", lines[0])
+        self.assertEqual(lines[3], 'game 1: White "Ann", Black "Bob", Event "Cup"')
+        self.assertEqual(self.lines(TAGS + b"*\n", len(TAGS) + 2)[3],
+                         "behind the last game, which is game 1")
+        self.assertEqual(self.lines(b"", 0),
+                         ["line 1, column 1 (byte 0, the end of the file)", "", "^",
+                          "there is no game", ""])
+
+    def test_byte_order_mark(self):
+        text = b"\xef\xbb\xbfe9 *\n"
+        for offset in (0, 1, 2, 3):
+            self.check(text, offset, 1, 1, "e9 *", "^")
+        self.check(text, 4, 1, 2, "e9 *", " ^")
+        self.check(b"\xef\xbb\xbf%1-0\ne9 *", 8, 2, 1, "e9 *", "^")
+
+    def test_encodings(self):
+        name = "[White \"José Łódź\"] x"
+        text = name.encode("utf-8")
+        self.check(text, text.index(b"x"), 1, 21, name, " " * 20 + "^")
+        accent = text.index("é".encode())
+        for inside in (0, 1):
+            self.check(text, accent + inside, 1, 12, name, " " * 11 + "^")
+        latin = "[White \"José\"] x"
+        self.check(latin.encode("latin-1"), 15, 1, 16, latin, " " * 15 + "^")
+        # a line is of one encoding, also where what is not UTF-8 stands behind the byte
+        self.check(b"x \xe9", 0, 1, 1, "x é", "^")
+        # wide characters take two columns of the terminal, combining ones none
+        self.check("局 x".encode(), 4, 1, 3, "局 x", "   ^")
+        self.check("e\u0301 x".encode(), 4, 1, 4, "e\u0301 x", "  ^")
+
+    def test_tabs_and_control_bytes(self):
+        self.check(b"\te4\te9", 4, 1, 5, "\te4\te9", "\t  \t^")
+        self.check(b"a\x00b\x1b[31mc", 2, 1, 3, "a\ufffdb\ufffd[31mc", "  ^")
+        self.check(b"a\x00b", 1, 1, 2, "a\ufffdb", " ^")
+        self.check(b"a\x85b", 2, 1, 3, "a\ufffdb", "  ^")
+
+    def test_long_lines(self):
+        text = b"e4 " * 1000 + b"Kd9" + b" e5" * 1000
+        for offset in (0, 3, 300, 3000, 3001, len(text) - 1, len(text)):
+            lines = self.lines(text, offset)
+            self.assertIn("line 1, column %d " % (offset + 1), lines[0])
+            self.assertLess(len(lines[1]), 80)
+            caret = lines[2].index("^")
+            self.assertEqual(lines[1][caret:caret + 3].rstrip("."),
+                             text[offset:offset + 3].decode()[:len(lines[1]) - caret])
+            self.assertEqual(lines[1].startswith("..."), offset > 70)
+            self.assertEqual(lines[1].endswith("..."), offset < len(text) - 70)
+
+    def test_very_long_line(self):
+        text = "é".encode() * 1200000 + b" Kd9 *"
+        lines = self.lines(text, 2400001)
+        self.assertIn("line 1, column 1200002 ", lines[0])
+        self.assertEqual(lines[1][lines[2].index("^"):], "Kd9 *")
+
+    def test_games(self):
+        other = (b'[White "C"] [Black {of course} "D\\"1"]\n; 1-0\n%0-1\n'
+                 b'[Event "a"b"]\n{1/2-1/2} 1. e4 1-0\n')
+        text = TAGS + b"1. e4 {1-0} 0-0-0 *\n" + other + TAGS
+        at = text.index(b"1. e4 1-0")
+        for offset, line in ((text.index(b"0-0-0"),
+                              'game 1: White "Ann", Black "Bob", Event "Cup"'),
+                             (at, 'game 2: White "C", Black "D"1", Event "a"'),
+                             (at + 6, 'game 2: White "C", Black "D"1", Event "a"'),
+                             (len(text), 'game 3: White "Ann", Black "Bob", Event "Cup"')):
+            self.assertEqual(self.lines(text, offset)[3], line)
+
+    def test_comment_that_is_not_closed(self):
+        text = TAGS + b"1. e4 {why\n\n" + TAGS + b"1-0"
+        lines = self.lines(text, len(text))
+        self.assertEqual(lines[3:5], ["in a comment that begins at line 5, column 7 (byte 49)",
+                                      'game 1: White "Ann", Black "Bob", Event "Cup"'])
+        self.assertNotIn("comment", self.lines(b"{a}e9", 3)[3])
+
+    def test_message(self):
+        program = need_program()
+        with open(self.file, "wb") as file:
+            file.write(TAGS + b"1. e4 {byte 3: no} *\n\n" + TAGS + b"1. e4 e5 2. Ke3 *\n")
+        for task in ("check", "export", "list"):
+            told = subprocess.run([program, task, self.file], stdout=subprocess.PIPE,
+                                  stderr=subprocess.STDOUT, check=False).stdout
+            ran = self.call([self.file], input=told)
+            lines = ran.stdout.decode().split("\n")
+            told = ": line 11, column 13 (byte 120): move is not legal"
+            self.assertTrue(lines[0].endswith(told), lines)
+            self.assertEqual(lines[1][lines[2].index("^"):], "Ke3 *")
+            self.assertTrue(lines[3].startswith("game 2: "))
+
+    def test_errors(self):
+        with open(self.file, "wb") as file:
+            file.write(b"*\n")
+        for words, told, status in (
+                ([], b"", 2), ([self.file, "x"], b"", 2), ([self.file, "-1"], b"", 2),
+                ([self.file, "1", "2"], b"", 2),
+                ([self.file, "3"], b"", 1), ([self.folder + "/none", "3"], b"", 1),
+                ([self.folder, "0"], b"", 1),
+                ([self.file], b"", 1), ([self.file], b"games: 1, plies: 0\n", 1),
+                (["/dev/null", "0"], b"", 2)):
+            ran = self.call(words, input=told)
+            self.assertEqual((ran.returncode, ran.stdout, ran.stderr.count(b"\n")),
+                             (status, b"", 1), (words, ran.stderr))
+        self.assertEqual(self.call(["--help"]).returncode, 0)
+
+    def test_closed_output(self):
+        ran = run(["sh", "-c", '"$0" "$1" examples/two-games.pgn 3 >/dev/full', sys.executable,
+                   WHERE])
+        self.assertEqual((ran.returncode, ran.stderr.count(b"\n")), (1, 1), ran.stderr)
+
+
+if __name__ == "__main__":
+    unittest.main()
