@@ -7,6 +7,8 @@ use Rattle.pgn_lexer.specs.Tokens.{Kind}
 use Rattle.pgn_lexer.specs.Scanned.{kind_of}
 use Rattle.pgn_lexer.specs.declared.token.TokenKind.{TokenKind}
 use Rattle.pgn_game.specs.declared.accept.Accepted.{Accepted}
+use Rattle.pgn_game.specs.declared.accept.Accepted.TheVariants.{More, Finished}
+use Rattle.pgn_game.specs.declared.judged.Judged.{Judged}
 use Rattle.pgn_game.specs.declared.accept.Stopped.{Stopped}
 use Rattle.pgn_game.specs.declared.accept.Stopped.TheVariants.{Refused, Unwritten}
 use Rattle.pgn_game.specs.declared.reason.Reason.{Reason}
@@ -18,10 +20,10 @@ use Rattle.pgn_game.specs.Text.{torn}
 use Rattle.pgn_game.specs.FaultTable.{refusal, is_comment, is_end}
 use Rattle.pgn_game.specs.Begun.{Next, at_stage, next}
 use Rattle.pgn_game.specs.Due.{text_next}
-use Rattle.pgn_game.specs.Reading.{Reading, Agrees, Answers, Leads, HoldsText, plies_behind, plies_next, whole_plies}
-use Rattle.pgn_game.specs.Judging.{Counts, judged, outcome_of}
+use Rattle.pgn_game.specs.Reading.{Reading, Agrees, Answers, Stays, FinishesAtMarker, Leads, HoldsText, plies_behind, plies_next, whole_plies}
+use Rattle.pgn_game.specs.Judging.{Counts, Marks, is_open, judged, outcome_of}
 use Rattle.pgn_game.specs.Putting.{Device}
-use Rattle.pgn_game.specs.Handling.{GoesTo, begins, begun, readied}
+use Rattle.pgn_game.specs.Handling.{GoesTo, FinishesFinal, begins, begun, readied}
 use Rattle.pgn_game.proofs.Refusing.{begins_alike}
 use Rattle.pgn_game.proofs.Judging.{held_at, text_at, part_stage}
 use Rattle.pgn_game.proofs.Pairing.{no_torn}
@@ -148,3 +150,46 @@ ready_probes old k = elim (begins old.stage k) as (λ b. (elim b as (λ x. Readi
 pub begins_is : (s : Stage) (k : Kind) → s ≡ Between → is_comment k ≡ false → is_end k ≡ false → begins s k ≡ true
 begins_is s k at comment over =
     ap (λ (x : Stage). begins x k) at ∙ ap (λ (b : Bool). not (b || is_end k)) comment ∙ ap (λ (b : Bool). not b) over
+
+-- What a reader keeps that is ready for a token and has sought its move.
+pub record KeepsFound (old found : Reading) (k : Kind) : Type 0 where
+  pub profile : found.profile ≡ old.profile
+  pub probes : old.most_probes ≤ found.most_probes
+  pub plies : found.earlier_plies + found.text.plies ≡ old.earlier_plies + old.text.plies
+  pub layout : found.layout ≡ old.layout
+  pub ready : begins found.stage k ≡ false
+  pub stays : found.stage ≡ Between → found ≡ old
+
+keeps_ready : (old : Reading) (k : Kind) → KeepsFound old (readied old k) k
+keeps_ready old k = by_test (begins old.stage k) refl
+  where
+    by_test : (b : Bool) → begins old.stage k ≡ b → KeepsFound old (elim b [ true ↦ begun old | false ↦ old ]) k
+    by_test true is = record { profile = refl; probes = omega arith; plies = omega arith; layout = refl; ready = refl; stays = λ at. absurd (cc) }
+    by_test false is = record { profile = refl; probes = omega arith; plies = refl; layout = refl; ready = is; stays = λ at. refl }
+
+pub keeps_found : (old ready found : Reading) (k : Kind) → ready ≡ readied old k → Counts ready found → KeepsFound old found k
+keeps_found old ready found k is counts =
+    let m : KeepsFound old ready k = subst (λ (x : Reading). KeepsFound old x k) (sym is) (keeps_ready old k) in
+    record {
+      profile = ap (λ (x : Reading). x.profile) counts.same ∙ m.profile;
+      probes = omega (arith, counts.more, m.probes);
+      plies = ap (λ (x : Reading). x.earlier_plies + x.text.plies) counts.same ∙ m.plies;
+      layout = ap (λ (x : Reading). x.layout) counts.same ∙ m.layout;
+      ready = ap (λ (x : Reading). begins x.stage k) counts.same ∙ m.ready;
+      stays = λ at.
+          let between = ap (λ (x : Reading). x.stage) (sym counts.same) ∙ at in
+          counts.closed (ap is_open between) ∙ m.stays between;
+    }
+
+-- so where nothing was put, nothing has changed
+pub stays_found : (old found new : Reading) (k : Kind) (r : Result Accepted Stopped) → KeepsFound old found k → Stays found new r → Stays old new r
+stays_found old found new k (Ok More) keeps stays =
+    λ at. let same = stays at in same ∙ keeps.stays (ap (λ (x : Reading). x.stage) (sym same) ∙ at)
+stays_found old found new k (Ok Finished) keeps stays = tt
+stays_found old found new k (Err stopped) keeps stays = tt
+
+-- what finishes a game is a marker
+pub finishes_at_marker : (k : Kind) (j : Judged) (new : Reading) (r : Result Accepted Stopped) → Marks k j → FinishesFinal j new r → FinishesAtMarker k new r
+finishes_at_marker k j new (Ok More) marks finishes = tt
+finishes_at_marker k j new (Ok Finished) marks finishes = (marks finishes.0, finishes.1)
+finishes_at_marker k j new (Err stopped) marks finishes = tt

@@ -458,3 +458,50 @@ module _ (p : Profile) (u : List ℕ) (given : List Token) (now new : Converter)
         stops = stops_more p given so.tokens (tokens_of u) f a c d so.gains to.stops;
         games = same ∙ so.has_read.games ∙ sym (ap (length {A = Game}) (games_still p given so.tokens (tokens_of u) f a c d so.gains to.stops ∙ to.no_game));
       }
+
+-- after a fault a converter owes nothing
+pub sound_behind_fault : (lexer : Standing) (reading : Reading) (games : ℕ) (is_finished : Bool) (f : Fault) → IsSound lexer reading games false is_finished (Some f)
+sound_behind_fault lexer reading games is_finished f =
+    record {
+      count = λ none. absurd (cc);
+      going = λ none. absurd (cc);
+      few = λ none. absurd (cc);
+      few_plies = λ none. absurd (cc);
+      fewer_plies = λ none is. absurd (cc);
+      between = λ is. absurd (cc);
+      no_fault = λ is. absurd (cc);
+    }
+
+-- behind the last piece a token was waiting, unless it is the end
+pub closes_sooner : (old new : Standing) (after : Reading) (at : ℕ) (k : Kind) (e : Bool) (r : Result Accepted Stopped) → is_end k ≡ e → Nearer e old new
+    → FinishesAtMarker k after r → CloseAdvances old new (closed_with e (stepped_of at r))
+closes_sooner old new after at k true (Ok accepted.More) is_e near marker = tt
+closes_sooner old new after at k false (Ok accepted.More) is_e near marker = near.0
+closes_sooner old new after at k true (Ok accepted.Finished) is_e near marker = absurd (differ (sym is_e ∙ marker_or_end k marker.0))
+  where
+    differ : true ≡ false → ⊥
+    differ e = absurd (cc)
+closes_sooner old new after at k false (Ok accepted.Finished) is_e near marker = near.0
+closes_sooner old new after at k true (Err (stopped.Refused reason)) is_e near marker = tt
+closes_sooner old new after at k false (Err (stopped.Refused reason)) is_e near marker = tt
+closes_sooner old new after at k true (Err stopped.Unwritten) is_e near marker = tt
+closes_sooner old new after at k false (Err stopped.Unwritten) is_e near marker = tt
+
+-- while no game is at hand a converter owes no more
+pub sound_at_none : (lexer : Standing) (reading : Reading) (games : ℕ) (is_at_hand is_finished : Bool) (fault : Option Fault) → IsSound lexer reading games is_at_hand is_finished fault
+    → IsSound lexer reading games false is_finished fault
+sound_at_none lexer reading games is_at_hand is_finished fault sound =
+    record {
+      count = sound.count;
+      going = sound.going;
+      few = sound.few;
+      few_plies = sound.few_plies;
+      fewer_plies = sound.fewer_plies;
+      between = λ is. absurd (cc);
+      no_fault = λ is. absurd (cc);
+    }
+
+-- a fault is kept or not
+pub none_kept : (fault : Option Fault) (f : Fault) → fault ≡ None → fault ≡ Some f → ⊥
+none_kept None f none kept = absurd (cc)
+none_kept (Some other) f none kept = absurd (cc)

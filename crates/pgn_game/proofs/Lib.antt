@@ -26,6 +26,7 @@ mod Refusing
 mod Rows
 mod Runs
 mod Sections
+mod Sizes
 mod Spelled
 mod Spelling
 mod Stages

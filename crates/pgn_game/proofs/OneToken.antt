@@ -1,5 +1,5 @@
 -- One token that the lexer gave, and what the reader answered to it.
-use Rattle.std.proofs.Common.{◌≡◌, ℕ, ◌+◌, ◌<◌, ◌≤◌, ◌⊎◌, inl, inr, Bool, false, true, List, [], ◌∷◌, ◌++◌, length, take, drop, Option, None, Some, Result, Ok, Err, refl, sym, ap, subst, ◌∙◌, append_assoc, append-nil, length-append, arith}
+use Rattle.std.proofs.Common.{◌≡◌, ℕ, ◌+◌, ◌*◌, is_some, ◌<◌, ◌≤◌, ◌⊎◌, inl, inr, Bool, false, true, List, [], ◌∷◌, ◌++◌, length, take, drop, Option, None, Some, Result, Ok, Err, refl, sym, ap, subst, ◌∙◌, append_assoc, append-nil, length-append, arith}
 use Rattle.std.specs.Prelude.{IsTrue, map, sum, ◌||◌}
 use Rattle.std.proofs.lemmas.List.{take-append-drop, map-append}
 use Rattle.std.proofs.lemmas.List.Sums.{sum_by-append, sum_by-cons}
@@ -12,7 +12,7 @@ use Rattle.pgn_lexer.specs.Tokens.{Token, EndsAt}
 use Rattle.pgn_lexer.specs.TokensOf.{tokens_of}
 use Rattle.pgn_lexer.specs.Held.{refusal as refusal_token}
 use Rattle.pgn_lexer.specs.Scanned.{more, token, fault}
-use Rattle.pgn_lexer.specs.Standing.{Standing, coming}
+use Rattle.pgn_lexer.specs.Standing.{Standing, coming, waiting}
 use Rattle.pgn_lexer.specs.Stands.{StandsAfter, Follows, AfterScan, first, still}
 use Rattle.pgn_game.specs.declared.accept.Accepted.{Accepted}
 use Rattle.pgn_game.specs.declared.accept.Accepted.TheVariants as accepted
@@ -30,7 +30,7 @@ use Rattle.pgn_game.specs.Due.{gain, Gains}
 use Rattle.pgn_game.specs.Here.{plies_of}
 use Rattle.pgn_game.specs.Reading.{Reading, Agrees, IsBehind, has_move, whole_plies, plies_next, Leads, Answers}
 use Rattle.pgn_game.specs.Feeding.{AtHand, hand_of, Converter, held_by, held_if, play_moves, HasRead, Stands, Stops, refused, unwritten, StopsWriting, AreNext, games_before}
-use Rattle.pgn_game.specs.Stepping.{SameGames, OneGame, AfterStep, stepped_of, is_game, games_after, fault_of_step}
+use Rattle.pgn_game.specs.Stepping.{SameGames, OneGame, AfterStep, stepped_of, is_game, games_after, fault_of_step, StepAdvances}
 use Rattle.pgn_game.proofs.Growing.{read-passes, read-refuses, due-passes, due-refuses, gains_none, gains_nothing}
 
 pub follows_first : (xs s : List ℕ) → Follows (first xs) (xs ++ s)
@@ -314,3 +314,15 @@ took_fault p old u given piece used f l new o some stands scan =
       };
       no_game = none_before_lexical p given f o stands.has_read.passes;
     }
+
+-- a game is at hand after a step where the step finished one
+pub is_some_held : (b : Bool) (reading : Reading) → is_some (held_if b reading) ≡ b
+is_some_held true reading = refl
+is_some_held false reading = refl
+
+pub advances_token : (old : Standing) (piece : List ℕ) (new : Standing) (used at : ℕ) (r : Result Accepted Stopped) → waiting new < 2 * used + waiting old
+    → StepAdvances old piece new used (stepped_of at r)
+advances_token old piece new used at (Ok accepted.More) sooner = sooner
+advances_token old piece new used at (Ok accepted.Finished) sooner = sooner
+advances_token old piece new used at (Err (stopped.Refused reason)) sooner = tt
+advances_token old piece new used at (Err stopped.Unwritten) sooner = tt

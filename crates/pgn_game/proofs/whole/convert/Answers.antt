@@ -1,4 +1,4 @@
-use Rattle.std.proofs.Common.{◌≡◌, ◌<◌, length, take, refl, ap, subst, ◌∙◌, arith, length-take-le}
+use Rattle.std.proofs.Common.{◌≡◌, ◌<◌, length, take, refl, sym, ap, subst, ◌∙◌, arith, length-take-le}
 use Rattle.std.proofs.lemmas.Result.{err_from_is_err_and}
 use Rattle.pgn_game.proofs.WholeInput.{read_none, read_more, unread, stops_in_piece, ends_here, short_input}
 use Rattle.pgn_layout.specs.Device.{one_more}
@@ -81,3 +81,29 @@ returns-in_err-feed_all-in-Ok-clause-counted g c =
     let e = err_from_is_err_and c.from_residual.result c.from_residual.ensures.1 in
     rw (e.1, e.2) (devices_of _ _ _ _ _ (c.in-Ok.ensures.failures ∙ c.loop-converter.invariant.source)
     (subst (λ n. CountsReason c.in_err-feed_all-in-Ok.field-0.0.reason n (g.W.Sink.failures c.feed_all.new.out)) c.loop-converter.invariant.sink c.in_err-feed_all-in-Ok.ensures.counted))
+
+pub new-converter-requires : goal.new-converter-requires
+new-converter-requires g c = (c.requires.memory, c.requires.levels)
+
+pub feed_all-requires : goal.feed_all-requires
+feed_all-requires g c = (c.requires.memory, (c.loop-converter.invariant.going, c.loop-converter.invariant.fault))
+
+pub count-requires : goal.count-requires
+count-requires g c = c.requires.memory
+
+pub slice_bounds-read_some-end : goal.slice_bounds-read_some-end
+slice_bounds-read_some-end g c = sym c.loop-converter.invariant.room
+
+pub slice_bounds-buffer-end : goal.slice_bounds-buffer-end
+slice_bounds-buffer-end g c = c.in-Ok.ensures.bound.0
+
+pub slice_bounds-feed_all-end : goal.slice_bounds-feed_all-end
+slice_bounds-feed_all-end g c = c.in-Ok.ensures.bound.1
+
+pub returns-in_err-feed_all-in-Ok-clause-short : goal.returns-in_err-feed_all-in-Ok-clause-short
+returns-in_err-feed_all-in-Ok-clause-short g c =
+    let e = err_from_is_err_and c.from_residual.result c.from_residual.ensures.1 in
+    rw e.1 tt
+
+pub returns-in-Err-clause-short : goal.returns-in-Err-clause-short
+returns-in-Err-clause-short g c = tt

@@ -12,3 +12,12 @@ pub returns-clause-converts : goal.returns-clause-converts
 returns-clause-converts g c =
     let fed = c.in_ok-feed_all.ensures.feeds _ _ _ c.new-converter.ensures.stands refl in
     slice_ends _ c.args.text.now _ _ _ _ c.end.result fed (c.end.ensures.ends _ _ _ fed.stands)
+
+pub new-converter-requires : goal.new-converter-requires
+new-converter-requires g c = (c.requires.memory, c.requires.levels)
+
+pub feed_all-requires : goal.feed_all-requires
+feed_all-requires g c = (c.requires.memory, (c.new-converter.ensures.going, c.new-converter.ensures.stands.has_read.no_fault))
+
+pub end-requires : goal.end-requires
+end-requires g c = (c.requires.memory, (c.feed_all.ensures.going, c.in_ok-feed_all.ensures.fault))

@@ -1,6 +1,8 @@
-use Rattle.std.proofs.Common.{◌≡◌, ◌≤◌, ◌-◌, ◌^◌, None, length, arith, sym, ap, ◌∙◌, le_refl, length-take}
+use Rattle.std.proofs.Common.{◌≡◌, ℕ, ◌≤◌, ◌-◌, ◌^◌, None, length, arith, sym, ap, ◌∙◌, le_refl, length-take}
 use Rattle.std.proofs.lemmas.Result.{err_from_is_err_and}
 use Rattle.pgn_game.specs.Feeding.{Converter, at_token}
+use Rattle.pgn_game.proofs.Sizes.{fits_alike}
+use Rattle.pgn_game.proofs.AtEnd.{none_kept, not_at_hand, sound_behind_fault}
 use Rattle.pgn_game.proofs.InPiece.{follows_front, front_all, front_game, front_fault, front_too_long, limit_left, front_used}
 use Rattle.pgn_game.proofs.converter.Converter.feed.Goals as goal
 
@@ -23,7 +25,7 @@ returns-in_err-used g c =
       fault = fed.fault;
       games = fed.games;
       probes = c.feed_front.ensures.probes;
-      again = λ f is. absurd (cc (none, is));
+      again = λ f is. absurd (none_kept _ f none is);
       counted = λ free. fed.counted;
     })
 
@@ -56,7 +58,7 @@ returns-in-Game g c =
       fault = fed.fault;
       games = tt;
       probes = c.feed_front.ensures.probes;
-      again = λ f is. absurd (cc (none, is));
+      again = λ f is. absurd (none_kept _ f none is);
       counted = λ free. fed.counted;
     }
 
@@ -95,7 +97,7 @@ returns-then-front-piece g c =
         ap (λ (s : Converter). s.reading.most_probes) c.self-2.view_is,
         c.feed_front.ensures.probes,
       );
-      again = λ f is. absurd (cc (none, is));
+      again = λ f is. absurd (none_kept _ f none is);
       counted = λ free. rw c.too_long.ensures.fault fed.counted;
     }
 
@@ -130,6 +132,36 @@ returns-else-front-piece g c =
       fault = fed.fault;
       games = rw c.in-All.is at fed.games;
       probes = c.feed_front.ensures.probes;
-      again = λ f is. absurd (cc (none, is));
+      again = λ f is. absurd (none_kept _ f none is);
       counted = λ free. fed.counted;
     }
+
+pub within_limit-front-requires : goal.within_limit-front-requires
+within_limit-front-requires g c = omega (arith, c.count.ensures, c.self.invariant.count c.in_default.is)
+
+pub feed_front-requires : goal.feed_front-requires
+feed_front-requires g c =
+    let piece = c.args.piece.now in
+    let front = ap (length {A = ℕ}) c.within_limit-front.ensures in (
+      search fits_alike,
+      (
+        c.requires.going,
+        (
+          ap (λ (s : Converter). s.fault) (sym c.self.view_is) ∙ c.in_default.is,
+          omega (
+            arith,
+            front,
+            length-take (2 ^ 62 - c.count.result) piece,
+            c.count.ensures,
+            c.self.invariant.count c.in_default.is,
+            ap (λ (s : Converter). s.lexer.count) c.self.view_is,
+          ),
+        ),
+      ),
+    )
+
+pub invariant_of-self : goal.invariant_of-self
+invariant_of-self g c =
+    let kept = rw c.in-All.is at c.in_ok-used.ensures.games in
+    let flag = not_at_hand _ _ (ap (λ (s : Converter). s.at_hand) c.self-2.view_is ∙ kept.1) in
+    rw (c.too_long.ensures.kept, flag) (sound_behind_fault c.self-2.inside.lexer c.self-2.inside.reader c.self-2.inside.games c.self-2.inside.is_finished c.too_long.result)

@@ -1,6 +1,7 @@
 use Rattle.std.proofs.Common.{arith, refl, drop, ◌∙◌, length-drop}
 use Rattle.std.proofs.lemmas.List.{take_rest}
 use Rattle.std.proofs.lemmas.Result.{err_from_is_err_and}
+use Rattle.pgn_game.proofs.Sizes.{fits_alike}
 use Rattle.pgn_game.proofs.OneToken.{follows_own}
 use Rattle.pgn_game.proofs.WholePiece.{all_none, all_more, all_fed, all_stops}
 use Rattle.pgn_game.proofs.converter.Converter.feed_all.Goals as goal
@@ -48,3 +49,61 @@ loop-used-preserved g c =
           all_more p u given c.args.piece.now c.loop-used.at _ _ _ _ so _ _
           (feeds p _ _ _ so.stands (follows_own (drop c.loop-used.at c.args.piece.now)));
     }
+
+pub feed-requires : goal.feed-requires
+feed-requires g c = (search fits_alike, c.loop-used.invariant.going)
+
+pub loop-used-smaller : goal.loop-used-smaller
+loop-used-smaller g c =
+    let advances = rw c.in-Game.is at c.in_ok-feed.ensures.advances in
+    let used = rw (c.in-Game.is, take_rest) at c.in_ok-feed.ensures.used in
+    omega (arith, advances, used, length-drop c.loop-used.at c.args.piece.now, c.loop-used.invariant.within)
+
+pub returns-in-All-clause-count : goal.returns-in-All-clause-count
+returns-in-All-clause-count g c =
+    let count = rw (c.in-All.is, take_rest) at c.in_ok-feed.ensures.count in
+    omega (arith, count, c.loop-used.invariant.count, length-drop c.loop-used.at c.args.piece.now, c.loop-used.invariant.within)
+
+pub returns-in-All-clause-counted : goal.returns-in-All-clause-counted
+returns-in-All-clause-counted g c = c.in_ok-feed.ensures.counted c.loop-used.invariant.fault ∙ c.loop-used.invariant.counted
+
+pub returns-in-All-clause-fault : goal.returns-in-All-clause-fault
+returns-in-All-clause-fault g c = c.in_ok-feed.ensures.fault
+
+pub returns-in-All-clause-going : goal.returns-in-All-clause-going
+returns-in-All-clause-going g c = c.feed.ensures.going
+
+pub returns-in-All-clause-short : goal.returns-in-All-clause-short
+returns-in-All-clause-short g c = c.in_ok-feed.ensures.short
+
+pub returns-in_err-feed-clause-count : goal.returns-in_err-feed-clause-count
+returns-in_err-feed-clause-count g c =
+    let e = err_from_is_err_and c.from_residual.result c.from_residual.ensures.1 in
+    rw e.1 tt
+
+pub returns-in_err-feed-clause-short : goal.returns-in_err-feed-clause-short
+returns-in_err-feed-clause-short g c =
+    let e = err_from_is_err_and c.from_residual.result c.from_residual.ensures.1 in
+    rw e.1 tt
+
+pub returns-in_err-feed-clause-going : goal.returns-in_err-feed-clause-going
+returns-in_err-feed-clause-going g c = c.feed.ensures.going
+
+pub returns-in_err-feed-clause-fault : goal.returns-in_err-feed-clause-fault
+returns-in_err-feed-clause-fault g c =
+    let e = err_from_is_err_and c.from_residual.result c.from_residual.ensures.1 in
+    rw (e.1, e.2) c.in_err-feed.ensures.fault
+
+pub returns-in_err-feed-clause-counted : goal.returns-in_err-feed-clause-counted
+returns-in_err-feed-clause-counted g c =
+    let e = err_from_is_err_and c.from_residual.result c.from_residual.ensures.1 in
+    rw (e.1, e.2, ← c.loop-used.invariant.counted) (c.in_err-feed.ensures.counted c.loop-used.invariant.fault)
+
+pub overflow_add-at : goal.overflow_add-at
+overflow_add-at g c =
+    let used = rw (c.in-Game.is, take_rest) at c.in_ok-feed.ensures.used in
+    let count = rw c.in-Game.is at c.in_ok-feed.ensures.count in
+    omega (arith, used, count, c.in_ok-feed.ensures.short, c.loop-used.invariant.count, length-drop c.loop-used.at c.args.piece.now, c.loop-used.invariant.within)
+
+pub slice_bounds-feed-count : goal.slice_bounds-feed-count
+slice_bounds-feed-count g c = c.loop-used.invariant.within

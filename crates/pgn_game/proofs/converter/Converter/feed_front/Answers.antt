@@ -3,6 +3,8 @@ use Rattle.std.proofs.Math.Nat.{add_assoc}
 use Rattle.std.proofs.lemmas.List.{take_rest}
 use Rattle.pgn_lexer.specs.Standing.{waiting}
 use Rattle.pgn_game.specs.Feeding.{Converter, Stands}
+use Rattle.pgn_game.proofs.Sizes.{fits_alike}
+use Rattle.pgn_game.proofs.AtEnd.{sound_at_none}
 use Rattle.pgn_game.proofs.InPiece.{lets_go, so_far_none, fed_behind, stands_here, so_far_more, fed_all, fed_game, fed_fault, counts_step, none_at_hand}
 use Rattle.pgn_game.proofs.converter.Converter.feed_front.Goals as goal
 
@@ -26,7 +28,7 @@ pub step-step-requires : goal.step-step-requires
 step-step-requires g c =
     let rest : length (take (length c.args.piece.now - c.loop-at.at) (drop c.loop-at.at c.args.piece.now)) ≡ length c.args.piece.now - c.loop-at.at =
     ap (length {A = ℕ}) (take_rest c.args.piece.now c.loop-at.at) ∙ length-drop c.loop-at.at c.args.piece.now in (
-      search rules,
+      search fits_alike,
       (
         c.loop-at.invariant.fault,
         (
@@ -154,3 +156,15 @@ returns g c =
       probes = so.probes;
       counted = so.counted;
     }
+
+pub invariant_of-self : goal.invariant_of-self
+invariant_of-self g c =
+    sound_at_none c.self.inside.lexer c.self.inside.reader c.self.inside.games c.self.inside.is_at_hand c.self.inside.is_finished c.self.inside.fault c.self.invariant
+
+pub overflow_add-at : goal.overflow_add-at
+overflow_add-at g c =
+    let used = rw take_rest at c.step-step.ensures.used in
+    omega (arith, used, c.requires.short, length-drop c.loop-at.at c.args.piece.now, c.loop-at-test.true)
+
+pub slice_bounds-step-count : goal.slice_bounds-step-count
+slice_bounds-step-count g c = c.loop-at.invariant.within

@@ -1,6 +1,7 @@
 use Rattle.std.proofs.Common.{rules, arith, refl, sym, ap, subst, ◌∙◌}
 use Rattle.pgn_game.specs.Feeding.{Converter, Stands}
-use Rattle.pgn_game.proofs.AtEnd.{closed_none, closed_more, closed_game, closed_end, closed_fault}
+use Rattle.pgn_game.proofs.Sizes.{fits_reader}
+use Rattle.pgn_game.proofs.AtEnd.{sound_at_none, closed_none, closed_more, closed_game, closed_end, closed_fault}
 use Rattle.pgn_game.proofs.InPiece.{counts_step}
 use Rattle.pgn_game.specs.Stepping.{AfterClosing}
 use Rattle.pgn_game.specs.declared.converter.Stepped.TheVariants.{Ended}
@@ -94,3 +95,10 @@ returns-in-Ended-clause-probes g c =
 
 pub returns-in-Failed-clause-probes : goal.returns-in-Failed-clause-probes
 returns-in-Failed-clause-probes g c = omega (arith, c.close.ensures.probes, c.loop-is_game.invariant.probes)
+
+pub invariant_of-self : goal.invariant_of-self
+invariant_of-self g c =
+    sound_at_none c.self.inside.lexer c.self.inside.reader c.self.inside.games c.self.inside.is_at_hand c.self.inside.is_finished c.self.inside.fault c.self.invariant
+
+pub is_between-self-inside-requires : goal.is_between-self-inside-requires
+is_between-self-inside-requires g c = search fits_reader

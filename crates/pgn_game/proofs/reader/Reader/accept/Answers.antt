@@ -1,24 +1,64 @@
-use Rattle.std.proofs.Common.{◌≡◌, ap, ◌∙◌, arith}
+use Rattle.std.proofs.Common.{◌≡◌, refl, ap, ◌∙◌, arith}
 use Rattle.std.proofs.KnownBytes.{Appends-nil}
 use Rattle.pgn_lexer.specs.Scanned.{kind_of}
 use Rattle.pgn_game.specs.Reading.{Reading}
 use Rattle.pgn_game.specs.Judging.{after}
-use Rattle.pgn_game.proofs.Accepting.{accepted, ready_probes, refused}
+use Rattle.pgn_game.proofs.Sizes.{reader_alike}
+use Rattle.pgn_game.proofs.Accepting.{accepted, refused, keeps_found, stays_found, finishes_at_marker}
 use Rattle.pgn_game.proofs.reader.Reader.accept.Goals as goal
 
-pub returns-in-Ok-clause-accepts : goal.returns-in-Ok-clause-accepts
-returns-in-Ok-clause-accepts g c = λ part agrees.
-    accepted c.args.self.now c.make_ready.new.self c.find-found.new.self c.put.new.self part c.args.kind (after c.in-Ok.judged) c.put.result _ agrees c.make_ready.ensures
-    c.find-found.ensures.counted c.in-Ok.ensures.judges c.put.ensures.goes
+pub make_ready-requires : goal.make_ready-requires
+make_ready-requires g c = (search reader_alike, omega (arith, c.requires.few))
 
-pub returns-in-Ok-clause-probes : goal.returns-in-Ok-clause-probes
-returns-in-Ok-clause-probes g c =
-    let ready : c.make_ready.new.self.most_probes ≡ c.args.self.now.most_probes =
-    ap (λ (r : Reading). r.most_probes) c.make_ready.ensures ∙ ready_probes c.args.self.now (kind_of c.args.kind) in
-    omega (arith, ready, c.find-found.ensures.counted.more, c.put.ensures.keeps.probes)
+pub find-found-requires : goal.find-found-requires
+find-found-requires g c = (search reader_alike, c.new-probes.ensures)
 
-pub returns-in-Err-clause-accepts : goal.returns-in-Err-clause-accepts
-returns-in-Err-clause-accepts g c = λ part agrees. (
-  refused c.args.self.now c.make_ready.new.self c.find-found.new.self part c.args.kind c.in-Err.reason agrees c.make_ready.ensures c.find-found.ensures.counted c.in-Err.ensures.judges,
-  Appends-nil _,
-)
+pub judge-requires : goal.judge-requires
+judge-requires g c =
+    let keeps = keeps_found c.args.self.now c.make_ready.new.self c.find-found.new.self (kind_of c.args.kind) c.make_ready.ensures c.find-found.ensures.counted in
+    (search reader_alike, (c.find-found.ensures.found, (keeps.ready, c.requires.token)))
+
+pub put-requires : goal.put-requires
+put-requires g c =
+    let keeps = keeps_found c.args.self.now c.make_ready.new.self c.find-found.new.self (kind_of c.args.kind) c.make_ready.ensures c.find-found.ensures.counted in (
+      search reader_alike,
+      (
+        ap (λ l. l.has_failed) keeps.layout ∙ c.requires.going,
+        (omega (arith, keeps.plies, c.requires.few), (c.in-Ok.ensures.fits, c.find-found.ensures.few)),
+      ),
+    )
+
+pub returns-in-Ok : goal.returns-in-Ok
+returns-in-Ok g c =
+    let keeps = keeps_found c.args.self.now c.make_ready.new.self c.find-found.new.self (kind_of c.args.kind) c.make_ready.ensures c.find-found.ensures.counted in
+    let puts = c.put.ensures in
+    record {
+      accepts = λ part agrees.
+          accepted c.args.self.now c.make_ready.new.self c.find-found.new.self c.put.new.self part c.args.kind (after c.in-Ok.judged) c.put.result _ agrees c.make_ready.ensures
+          c.find-found.ensures.counted c.in-Ok.ensures.judges puts.goes;
+      profile = puts.keeps.profile ∙ keeps.profile;
+      stays = stays_found c.args.self.now c.find-found.new.self c.put.new.self (kind_of c.args.kind) c.put.result keeps puts.stays;
+      going = puts.going;
+      finished = finishes_at_marker (kind_of c.args.kind) c.in-Ok.judged c.put.new.self c.put.result c.in-Ok.ensures.marks puts.finished;
+      counted = puts.counted;
+      plies = omega (arith, puts.keeps.plies, keeps.plies);
+      probes = omega (arith, puts.keeps.probes, keeps.probes);
+    }
+
+pub returns-in-Err : goal.returns-in-Err
+returns-in-Err g c =
+    let keeps = keeps_found c.args.self.now c.make_ready.new.self c.find-found.new.self (kind_of c.args.kind) c.make_ready.ensures c.find-found.ensures.counted in
+    record {
+      accepts = λ part agrees. (
+        refused c.args.self.now c.make_ready.new.self c.find-found.new.self part c.args.kind c.in-Err.reason agrees c.make_ready.ensures c.find-found.ensures.counted
+            c.in-Err.ensures.judges,
+        Appends-nil _,
+      );
+      profile = keeps.profile;
+      stays = tt;
+      going = tt;
+      finished = tt;
+      counted = (refl, c.in-Err.ensures.fits);
+      plies = omega (arith, keeps.plies);
+      probes = keeps.probes;
+    }

@@ -1,3 +1,4 @@
+use Rattle.pgn_game.proofs.Sizes.{reader_alike}
 use Rattle.std.proofs.Common.{◌≡◌, ◌+◌, ℕ, [], None, sym, ap, ◌∙◌, refl}
 use Rattle.chess_rules.specs.Position.{initial}
 use Rattle.pgn_lexer.specs.Scanned.{kind_of}
@@ -29,3 +30,6 @@ returns g c =
     (ap (λ (r : Reading). record r { stage = AfterTags; tags = c.clear.new.self; text = c.begin.new.self; earlier_plies = r.earlier_plies + c.plies.result }) v
     ∙ begun_by c.args.self.now c.clear.new.self c.begin.new.self c.plies.result c.clear.ensures
     (c.begin.ensures ∙ ap begins_at (c.initial.ensures ∙ is_first)) (c.plies.ensures ∙ ap (λ (r : Reading). r.text.plies) v))
+
+pub is_between-requires : goal.is_between-requires
+is_between-requires g c = search reader_alike

@@ -1,0 +1,17 @@
+-- Where a converter fits in memory, its reader does.
+use Rattle.std.proofs.Common.{rules, arith}
+use Rattle.std.specs.Mem.{FitsInMemory}
+use Rattle.std.specs.Borrow.{RattleType}
+use Rattle.pgn_game.specs.contracts.converter.Converter.{the_row}
+use Rattle.pgn_game.specs.contracts.reader.Reader.{the_row as reader_row}
+
+pub fits_reader : (T L : RattleType) → FitsInMemory (the_row T L) → FitsInMemory (reader_row T L)
+fits_reader T L fits = search rules
+
+-- a converter of the same bounds fits too
+pub fits_alike : (T L : RattleType) → FitsInMemory (the_row T L) → FitsInMemory (the_row T L)
+fits_alike T L fits = fits
+
+-- and so does a reader
+pub reader_alike : (T L : RattleType) → FitsInMemory (reader_row T L) → FitsInMemory (reader_row T L)
+reader_alike T L fits = fits

@@ -1,0 +1,6 @@
+use Rattle.std.proofs.Common.{ap}
+use Rattle.pgn_game.specs.Feeding.{Converter}
+use Rattle.pgn_game.proofs.converter.Converter.games.Goals as goal
+
+pub returns : goal.returns
+returns g c = ap (λ (s : Converter). s.games) c.self.view_is

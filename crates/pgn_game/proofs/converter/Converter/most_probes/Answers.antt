@@ -1,0 +1,10 @@
+use Rattle.std.proofs.Common.{ℕ, rules, arith, ap, ◌∙◌}
+use Rattle.pgn_game.specs.Feeding.{Converter}
+use Rattle.pgn_game.proofs.Sizes.{fits_reader}
+use Rattle.pgn_game.proofs.converter.Converter.most_probes.Goals as goal
+
+pub most_probes-requires : goal.most_probes-requires
+most_probes-requires g c = search fits_reader
+
+pub returns-clause-value : goal.returns-clause-value
+returns-clause-value g c = c.most_probes.ensures.value ∙ ap (λ (s : Converter). s.reading.most_probes) c.self.view_is

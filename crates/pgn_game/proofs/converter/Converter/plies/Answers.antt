@@ -1,0 +1,18 @@
+use Rattle.std.proofs.Common.{Bool, None, Some, sym, ap, ◌∙◌}
+use Rattle.pgn_game.specs.Feeding.{Converter, held_if, plies_at_hand}
+use Rattle.pgn_game.proofs.Sizes.{fits_reader}
+use Rattle.pgn_game.proofs.converter.Converter.plies.Goals as goal
+
+pub plies-requires : goal.plies-requires
+plies-requires g c = search fits_reader
+
+pub returns-then-self : goal.returns-then-self
+returns-then-self g c =
+    c.plies.ensures
+    ∙ ap (λ (b : Bool). elim (held_if b c.self.inside.reader) [ None ↦ 0 | Some hand ↦ hand.plies ]) (sym c.if-self.true)
+    ∙ ap plies_at_hand c.self.view_is
+
+pub returns : goal.returns
+returns g c =
+    ap (λ (b : Bool). elim (held_if b c.self.inside.reader) [ None ↦ 0 | Some hand ↦ hand.plies ]) (sym c.if-self.false)
+    ∙ ap plies_at_hand c.self.view_is
