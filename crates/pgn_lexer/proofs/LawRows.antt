@@ -8,11 +8,11 @@ use Rattle.pgn_lexer.specs.Lexes as rules
 use Rattle.pgn_lexer.specs.Lexes.{Data, Lexes}
 use Rattle.pgn_lexer.specs.Laws.{LexesOnce}
 
-abbrev t : ℕ → Kind → Token
+abbrev pub t : ℕ → Kind → Token
 t at kind = record { at = at; kind = kind }
 
 -- the end of the text, behind a token
-abbrev ending : ℕ → List Token
+abbrev pub ending : ℕ → List Token
 ending at = t at end ∷ []
 
 -- the place of the first token
@@ -20,7 +20,7 @@ abbrev first_place : List Token → ℕ
 first_place [] = 0
 first_place (t ∷ ts) = t.at
 
-abbrev letters : ℕ → List ℕ
+abbrev pub letters : ℕ → List ℕ
 letters n = replicate n 97
 
 -- By the law all tokens of a text are the same.

@@ -15,6 +15,8 @@ mod Rows
 mod Reaching
 mod Running
 mod Runs
+mod SoundRows
+mod Soundness
 mod Stepping
 mod Steps
 mod Strings

@@ -4,6 +4,7 @@ use Rattle.pgn_lexer.specs.Tokens.{Kind, Token, end, refused}
 use Rattle.pgn_lexer.specs.TokensOf.{tokens_of}
 use Rattle.pgn_lexer.specs.Lexes.{Lexes}
 use Rattle.pgn_lexer.specs.Decided.{decided, known}
+use Rattle.pgn_lexer.specs.Sound.{IsSound}
 
 -- ys begins with xs
 abbrev pub IsPrefix : List Token → List Token → Type 0
@@ -34,3 +35,7 @@ DecidedIsPrefix = (u s : List ℕ) → IsPrefix (decided u) (tokens_of (u ++ s))
 
 abbrev pub KnownIsPrefix : Type 0
 KnownIsPrefix = (u s : List ℕ) (b : ℕ) → IsPrefix (known u b) (tokens_of (u ++ b ∷ s))
+
+-- The tokens of each text are sound: their bytes are as they have to be, and each comment closes.
+abbrev pub TokensAreSound : Type 0
+TokensAreSound = (s : List ℕ) → IsSound (tokens_of s)

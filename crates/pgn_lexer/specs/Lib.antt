@@ -5,6 +5,7 @@ pub mod Laws
 pub mod Lexes
 pub mod Running
 pub mod Scanned
+pub mod Sound
 pub mod Spelling
 pub mod Standing
 pub mod Stands

@@ -20,3 +20,12 @@ pub fn tokens_rise()
 pub fn lexes_once()
     ensures { laws.LexesOnce }
 {}
+
+/// The tokens of each text are sound: their bytes are as they have to be, and comments close.
+///
+/// A symbol begins with a letter or a digit, and has symbol bytes alone. The data of a string have
+/// no control byte (PGN 7). Words are inside comments, and have neither white space nor a closing
+/// brace. Each comment closes, unless the text is rejected (PGN 5).
+pub fn tokens_are_sound()
+    ensures { laws.TokensAreSound }
+{}

@@ -12,7 +12,7 @@ mod laws;
 mod lexer;
 mod token;
 
-pub use laws::{decided_is_prefix, known_is_prefix, lexes_once, tokens_rise};
+pub use laws::{decided_is_prefix, known_is_prefix, lexes_once, tokens_are_sound, tokens_rise};
 pub use lexer::Lexer;
 pub use token::{LexFault, LexReason, Outcome, Scan, Token, TokenKind};
 
