@@ -7,7 +7,7 @@ use Rattle.pgn_layout.specs.Layout.{EndGame, Put, laid_from}
 use Rattle.pgn_layout.specs.Laws.{LinesAreThosePut, TokensDetermineLines}
 
 -- a token of so many bytes
-abbrev letters : ℕ → List ℕ
+abbrev pub letters : ℕ → List ℕ
 letters n = replicate n 97
 
 abbrev token : (t : List ℕ) → 0 < length t → length t ≤ 79 → IsToken t
@@ -32,7 +32,7 @@ few_fit : All IsToken (codes "e4" ∷ codes "e5" ∷ [])
 few_fit = two_fit _ _ (token _ (omega arith) (omega arith)) (token _ (omega arith) (omega arith))
 
 -- Without tokens there is no line.
-no_line : Lines [] []
+pub no_line : Lines [] []
 no_line = record { parts = []; in_order = refl; texts = refl; full = tt }
 
 -- A token of 79 bytes fills its line.
@@ -40,11 +40,11 @@ full_token : Lines (letters 79 ∷ []) (letters 79 ∷ [])
 full_token = record { parts = record { first = letters 79; others = [] } ∷ []; in_order = refl; texts = refl; full = omega arith }
 
 -- 40 bytes, a space and 38 bytes are 79 bytes: one line.
-full_line : Lines (letters 40 ∷ letters 38 ∷ []) ((letters 40 ++ 32 ∷ letters 38) ∷ [])
+pub full_line : Lines (letters 40 ∷ letters 38 ∷ []) ((letters 40 ++ 32 ∷ letters 38) ∷ [])
 full_line = record { parts = record { first = letters 40; others = letters 38 ∷ [] } ∷ []; in_order = refl; texts = refl; full = omega arith }
 
 -- 40 bytes, a space and 39 bytes are 80 bytes: two lines.
-two_lines : Lines (letters 40 ∷ letters 39 ∷ []) (letters 40 ∷ letters 39 ∷ [])
+pub two_lines : Lines (letters 40 ∷ letters 39 ∷ []) (letters 40 ∷ letters 39 ∷ [])
 two_lines = record {
   parts = record { first = letters 40; others = [] } ∷ record { first = letters 39; others = [] } ∷ [];
   in_order = refl;

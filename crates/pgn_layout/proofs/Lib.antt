@@ -1,5 +1,7 @@
 mod Escaping
 mod LawRows
+mod LineTextRows
 mod LinesHold
 mod Putting
+mod TokensInText
 mod Writing

@@ -31,14 +31,14 @@ only_full (l ∷ m ∷ ls) full =
 pub lines_are : (tokens lines : List (List ℕ)) → Lines tokens lines → lines ≡ lines_of tokens
 lines_are tokens lines h = sym h.texts ∙ sym (only_full h.parts h.full) ∙ ap lines_of h.in_order
 
-abbrev alone : List ℕ → Line
+abbrev pub alone : List ℕ → Line
 alone t = record { first = t; others = [] }
 
-abbrev grown : Line → List ℕ → Line
+abbrev pub grown : Line → List ℕ → Line
 grown l t = record { first = l.first; others = l.others ++ t ∷ [] }
 
 -- the tokens of each line
-abbrev parts_from : Line → List (List ℕ) → List Line
+abbrev pub parts_from : Line → List (List ℕ) → List Line
 parts_from l [] = l ∷ []
 parts_from l (t ∷ ts) = elim (has_room (text_on l) t) [ true ↦ parts_from (grown l t) ts | false ↦ l ∷ parts_from (alone t) ts ]
 
@@ -46,12 +46,12 @@ spaced-append : (xs ys : List (List ℕ)) → spaced (xs ++ ys) ≡ spaced xs ++
 spaced-append [] ys = refl
 spaced-append (x ∷ xs) ys = ap (λ l. (32 ∷ x) ++ l) (spaced-append xs ys) ∙ sym (append_assoc (32 ∷ x) (spaced xs) (spaced ys))
 
-text_on-grown : (l : Line) (t : List ℕ) → text_on (grown l t) ≡ text_on l ++ 32 ∷ t
+pub text_on-grown : (l : Line) (t : List ℕ) → text_on (grown l t) ≡ text_on l ++ 32 ∷ t
 text_on-grown l t =
     ap (λ s. l.first ++ s) (spaced-append l.others (t ∷ []) ∙ ap (λ s. spaced l.others ++ s) (append-nil (32 ∷ t)))
     ∙ sym (append_assoc l.first (spaced l.others) (32 ∷ t))
 
-in_order : (l : Line) (ts : List (List ℕ)) → tokens_over (parts_from l ts) ≡ tokens_on l ++ ts
+pub in_order : (l : Line) (ts : List (List ℕ)) → tokens_over (parts_from l ts) ≡ tokens_on l ++ ts
 in_order l [] = refl
 in_order l (t ∷ ts) =
     elim (has_room (text_on l) t)

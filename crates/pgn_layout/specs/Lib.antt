@@ -1,6 +1,7 @@
 pub mod Device
 pub mod TagLine
 pub mod Lines
+pub mod LineText
 pub mod Layout
 pub mod Outlet
 pub mod Laws

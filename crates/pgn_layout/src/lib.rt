@@ -14,7 +14,7 @@ mod tag_line;
 #[cfg(test)]
 mod tests;
 
-pub use laws::{lines_are_those_put, tokens_determine_lines};
+pub use laws::{lines_are_those_put, lines_keep_tokens, tokens_determine_lines};
 pub use layout::Layout;
 pub use nowhere::Nowhere;
 pub use outlet::Outlet;

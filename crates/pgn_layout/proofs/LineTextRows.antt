@@ -1,0 +1,103 @@
+-- Worked rows of the text of lines (PGN 8.2.1): each token is in it, in order, with a space or LF
+-- behind it, and nothing else is.
+use Rattle.std.proofs.Common.{◌≡◌, ℕ, List, [], ◌∷◌, ◌++◌, length, drop, get_or, refl, subst, sym, ap, ◌∙◌, arith}
+use Rattle.std.specs.Prelude.{codes, IsTrue}
+use Rattle.std.proofs.lemmas.Bool.{false≢true}
+use Rattle.pgn_layout.specs.Laws.{LinesKeepTokens, LinesOfKeepTokens}
+use Rattle.pgn_layout.specs.LineText.{is_gap, IsTextOf, no_token, next_token}
+use Rattle.pgn_layout.specs.Lines.{text_of}
+use Rattle.pgn_layout.proofs.LawRows.{letters, full_line, two_lines, no_line}
+
+abbrev few : List (List ℕ)
+few = codes "e4" ∷ codes "e5" ∷ []
+
+-- ---- texts, from the rules alone
+
+-- `e4 e5` and LF, and each on a line of its own
+on_one_line : IsTextOf few (codes "e4 e5\n")
+on_one_line = next_token (codes "e4") 32 _ _ refl (next_token (codes "e5") 10 _ _ refl no_token)
+
+on_two_lines : IsTextOf few (codes "e4\ne5\n")
+on_two_lines = next_token (codes "e4") 10 _ _ refl (next_token (codes "e5") 10 _ _ refl no_token)
+
+-- ---- by the law, of lines
+
+one_line_by_law : LinesKeepTokens
+    → IsTextOf (letters 40 ∷ letters 38 ∷ []) (letters 40 ++ 32 ∷ letters 38 ++ 10 ∷ [])
+one_line_by_law law = law _ _ full_line
+
+two_lines_by_law : LinesKeepTokens
+    → IsTextOf (letters 40 ∷ letters 39 ∷ []) (letters 40 ++ 10 ∷ letters 39 ++ 10 ∷ [])
+two_lines_by_law law = law _ _ two_lines
+
+nothing_by_law : LinesKeepTokens → IsTextOf [] []
+nothing_by_law law = law _ _ no_line
+
+-- also a token that no line can take, which `Lines` has none for
+long_token_by_law : LinesOfKeepTokens → IsTextOf (letters 80 ∷ []) (letters 80 ++ 10 ∷ [])
+long_token_by_law law = law (letters 80 ∷ [])
+
+-- ---- texts that are none
+
+-- what a text of tokens begins with
+record Begins (t s : List ℕ) (ts : List (List ℕ)) : Type 0 where
+  byte : ℕ
+  rest : List ℕ
+  is : s ≡ t ++ byte ∷ rest
+  gap : IsTrue (is_gap byte)
+  more : IsTextOf ts rest
+
+abbrev Opened : List (List ℕ) → List ℕ → Type 0
+Opened [] s = s ≡ []
+Opened (t ∷ ts) s = Begins t s ts
+
+opened : (tokens : List (List ℕ)) (s : List ℕ) → IsTextOf tokens s → Opened tokens s
+opened _ _ no_token = refl
+opened _ _ (next_token t b ts s gap more) =
+    record { byte = b; rest = s; is = refl; gap = gap; more = more }
+
+-- a first token of two bytes has a space or LF behind it
+third_is_gap : (a b c : ℕ) (s : List ℕ) (x y : ℕ) (ts : List (List ℕ))
+    → IsTextOf ((x ∷ y ∷ []) ∷ ts) (a ∷ b ∷ c ∷ s)
+    → (a ≡ x) × (b ≡ y) × IsTrue (is_gap c) × IsTextOf ts s
+third_is_gap a b c s x y ts h =
+    let it = opened _ _ h in
+    let third : c ≡ it.byte = ap (λ l. get_or l 2 0) it.is in (
+      ap (λ l. get_or l 0 0) it.is,
+      ap (λ l. get_or l 1 0) it.is,
+      ap is_gap third ∙ it.gap,
+      subst (IsTextOf ts) (sym (ap (λ l. drop 3 l) it.is)) it.more,
+    )
+
+two_spaces : IsTextOf few (codes "e4  e5\n") → ⊥
+two_spaces h =
+    let rest = (third_is_gap _ _ _ _ _ _ _ h).3 in
+    absurd (omega (arith, (third_is_gap _ _ _ _ _ _ _ rest).0))
+
+no_gap : IsTextOf few (codes "e4e5\n") → ⊥
+no_gap h = false≢true (third_is_gap _ _ _ _ _ _ _ h).2
+
+tabulator : IsTextOf few (codes "e4\te5\n") → ⊥
+tabulator h = false≢true (third_is_gap _ _ _ _ _ _ _ h).2
+
+other_order : IsTextOf few (codes "e5 e4\n") → ⊥
+other_order h = absurd (omega (arith, (third_is_gap _ _ _ _ _ _ _ h).1))
+
+lost_token : IsTextOf few (codes "e4\n") → ⊥
+lost_token h =
+    let rest = opened _ _ (third_is_gap _ _ _ _ _ _ _ h).3 in
+    absurd (omega (arith, ap length rest.is))
+
+no_last_lf : IsTextOf few (codes "e4 e5") → ⊥
+no_last_lf h =
+    let rest = opened _ _ (third_is_gap _ _ _ _ _ _ _ h).3 in
+    absurd (omega (arith, ap length rest.is))
+
+token_too_many : IsTextOf few (codes "e4 e5 *\n") → ⊥
+token_too_many h =
+    let rest = (third_is_gap _ _ _ _ _ _ _ h).3 in
+    absurd (omega (arith, ap length (opened _ _ (third_is_gap _ _ _ _ _ _ _ rest).3)))
+
+-- ---- The law is false without its premise, that the lines are those of the tokens.
+fails_at_other_lines : ((tokens lines : List (List ℕ)) → IsTextOf tokens (text_of lines)) → ⊥
+fails_at_other_lines law = lost_token (law few (codes "e4" ∷ []))
