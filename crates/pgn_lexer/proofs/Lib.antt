@@ -9,6 +9,7 @@ mod Existing
 mod Glyphs
 mod LawRows
 mod Marks
+mod Numbers
 mod Outside
 mod Placing
 mod Rows
@@ -23,3 +24,5 @@ mod Strings
 mod Symbols
 mod Tables
 mod Words
+mod WrittenRead
+mod WrittenRows

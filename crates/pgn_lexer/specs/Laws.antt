@@ -1,10 +1,13 @@
 -- Laws of the definitions.
-use Rattle.std.specs.Prelude.{◌≡◌, ℕ, ◌≤◌, ◌<◌, ◌↔◌, ◌⊎◌, List, [], ◌++◌, ◌∷◌}
+use Rattle.std.specs.Prelude.{◌≡◌, ℕ, ◌≤◌, ◌<◌, ◌^◌, ◌↔◌, ◌⊎◌, IsTrue, List, [], ◌++◌, ◌∷◌, map, decimal}
 use Rattle.pgn_lexer.specs.Tokens.{Kind, Token, end, refused}
 use Rattle.pgn_lexer.specs.TokensOf.{tokens_of}
 use Rattle.pgn_lexer.specs.Lexes.{Lexes}
 use Rattle.pgn_lexer.specs.Decided.{decided, known}
-use Rattle.pgn_lexer.specs.Sound.{IsSound}
+use Rattle.pgn_lexer.specs.Sound.{IsSymbol, IsSound}
+use Rattle.pgn_lexer.specs.Written.{Piece, text_of_pieces, kinds_in, tokens_at, IsReadable}
+use Rattle.pgn_lexer.specs.Bytes.{is_digit}
+use Rattle.std.specs.List.{list_all}
 
 -- ys begins with xs
 abbrev pub IsPrefix : List Token → List Token → Type 0
@@ -39,3 +42,20 @@ KnownIsPrefix = (u s : List ℕ) (b : ℕ) → IsPrefix (known u b) (tokens_of (
 -- The tokens of each text are sound: their bytes are as they have to be, and each comment closes.
 abbrev pub TokensAreSound : Type 0
 TokensAreSound = (s : List ℕ) → IsSound (tokens_of s)
+
+-- Pieces whose text can be read back are read back: the tokens of their text are their tokens, each
+-- at its place, and the end.
+abbrev pub PiecesAreReadBack : Type 0
+PiecesAreReadBack =
+    (ps : List Piece) → IsReadable ps → tokens_of (text_of_pieces ps) ≡ tokens_at 0 ps
+
+-- so in order, without their places
+abbrev pub KindsAreReadBack : Type 0
+KindsAreReadBack =
+    (ps : List Piece) → IsReadable ps
+    → map (λ t. t.kind) (tokens_of (text_of_pieces ps)) ≡ kinds_in ps ++ end ∷ []
+
+-- A number in decimal is a symbol, and has digits alone.
+abbrev pub NumbersAreSymbols : Type 0
+NumbersAreSymbols =
+    (n : ℕ) → n < 2 ^ 64 → IsSymbol (decimal n) × IsTrue (list_all is_digit (decimal n))

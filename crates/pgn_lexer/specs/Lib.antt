@@ -12,3 +12,4 @@ pub mod Stands
 pub mod Taking
 pub mod Tokens
 pub mod TokensOf
+pub mod Written

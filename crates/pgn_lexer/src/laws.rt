@@ -29,3 +29,19 @@ pub fn lexes_once()
 pub fn tokens_are_sound()
     ensures { laws.TokensAreSound }
 {}
+
+/// Written tokens lex back to themselves, each at its place.
+///
+/// The tokens are written with white space between them, or a byte that ends the first: a symbol, a
+/// glyph as `$` and a number, a string with escapes, a comment in braces, and `[ ] ( ) . *`. A `%`
+/// begins no escape there, also not in the first column (PGN 6), since no token outside a comment
+/// begins with it.
+pub fn written_tokens_are_read_back()
+    ensures places { laws.PiecesAreReadBack }
+    ensures kinds { laws.KindsAreReadBack }
+{}
+
+/// A number in decimal is a symbol of digits, as a move number is (PGN 7, 8.2.2).
+pub fn numbers_are_symbols()
+    ensures { laws.NumbersAreSymbols }
+{}

@@ -12,7 +12,10 @@ mod laws;
 mod lexer;
 mod token;
 
-pub use laws::{decided_is_prefix, known_is_prefix, lexes_once, tokens_are_sound, tokens_rise};
+pub use laws::{
+    decided_is_prefix, known_is_prefix, lexes_once, numbers_are_symbols, tokens_are_sound,
+    tokens_rise, written_tokens_are_read_back,
+};
 pub use lexer::Lexer;
 pub use token::{LexFault, LexReason, Outcome, Scan, Token, TokenKind};
 

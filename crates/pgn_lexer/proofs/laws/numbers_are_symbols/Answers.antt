@@ -1,0 +1,5 @@
+use Rattle.pgn_lexer.proofs.Numbers as numbers
+use Rattle.pgn_lexer.proofs.laws.numbers_are_symbols.Goals as goal
+
+pub returns : goal.returns
+returns c = numbers.numbers_are_symbols
