@@ -34,28 +34,28 @@ abbrev drawn : List ℕ → Parts
 drawn s = parts_or_initial (parts_read s)
 
 -- The knight on c3 is pinned.
-abbrev knights : Parts
+abbrev pub knights : Parts
 knights = drawn (codes "4k3/8/8/8/1b6/2N5/8/4K1N1 w - - 0 1")
 
-abbrev queens : Parts
+abbrev pub queens : Parts
 queens = drawn (codes "1k6/8/8/8/4Q2Q/8/8/K6Q w - - 0 1")
 
-abbrev rooks : Parts
+abbrev pub rooks : Parts
 rooks = drawn (codes "r3k2r/8/8/8/8/8/8/R3K2R w KQkq - 0 1")
 
-abbrev promoting : Parts
+abbrev pub promoting : Parts
 promoting = drawn (codes "1r6/P6k/8/8/8/8/8/K7 w - - 0 1")
 
-abbrev g1e2 : Move
+abbrev pub g1e2 : Move
 g1e2 = go (codes "g1") (codes "e2")
 
-abbrev c3e2 : Move
+abbrev pub c3e2 : Move
 c3e2 = go (codes "c3") (codes "e2")
 
 abbrev e4e1 : Move
 e4e1 = go (codes "e4") (codes "e1")
 
-abbrev h4e1 : Move
+abbrev pub h4e1 : Move
 h4e1 = go (codes "h4") (codes "e1")
 
 abbrev h1e1 : Move
@@ -131,7 +131,7 @@ illegal_unnamed = unnamed knights (codes "Nce2") c3e2 (to_square Knight (Some 2)
 
 -- Without a position: the text of a king's move names the move of a second king too.
 
-abbrev kings : Parts
+abbrev pub kings : Parts
 kings = drawn (codes "4k3/8/8/8/8/8/8/K1K5 w - - 0 1")
 
 two_kings : is_position kings ≡ false

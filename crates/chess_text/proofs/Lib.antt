@@ -24,8 +24,10 @@ pub mod Agreeing
 pub mod Written
 pub mod OneMove
 pub mod Names
+pub mod MoveSymbols
 mod Rows
 mod FormRows
 mod SanRows
 mod ReadRows
 mod LawRows
+mod MoveSymbolRows

@@ -7,3 +7,4 @@ pub mod Form
 pub mod Reads
 pub mod San
 pub mod Laws
+pub mod WrittenMove

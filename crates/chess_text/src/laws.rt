@@ -1,6 +1,7 @@
 //! Laws of the definitions of texts: what they promise, whatever the text and the position.
 
 ghost use Rattle.chess_text.specs.Laws.{CanonicalFits, CanonicalIsShortest, CanonicalSpells, FaultIsLowest, FenOnce, FieldsAreSpellings, FormOnce, ReadsFen, ReadsForm, ReadsNone, ReadsTheOne, ReadsTwo, ShorterIsAmbiguous, SingleReading};
+ghost use Rattle.chess_text.specs.WrittenMove.{WrittenMoveIsRead, WrittenMoveIsSymbol};
 
 use chess_rules::laws::one_king_a_side;
 
@@ -76,3 +77,16 @@ pub fn a_written_move_is_read_again()
 pub fn less_is_ambiguous()
     ensures { ShorterIsAmbiguous }
 {}
+
+/// The text that is written for a legal move is a symbol of 1 to 7 bytes that begins with a letter
+/// (PGN 7, 8.2.3). It is no move number and no termination marker (PGN 8.2.2, 8.2.6).
+pub fn a_written_move_is_a_symbol()
+    ensures { WrittenMoveIsSymbol }
+{}
+
+/// The text that is written for a legal move is read as this move, with the position after it.
+pub fn a_written_move_is_read_as_itself()
+    ensures { WrittenMoveIsRead }
+{
+    one_king_a_side();
+}
