@@ -287,9 +287,9 @@ begins_append [] t e = absurd (false≢true e)
 begins_append (c ∷ s) t e = e
 
 marked : (s t : List ℕ) → Unmarked s → Bytes 1 t → IsMoveSymbol (s ++ t)
-marked s t h mark =
+marked s t h last =
     let begins = begins_append s t h.begins in
-    let bytes = bytes_append 6 1 s t h.bytes mark in
+    let bytes = bytes_append 6 1 s t h.bytes last in
     record {
       begins = begins;
       bytes = bytes.all;
