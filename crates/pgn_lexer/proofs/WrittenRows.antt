@@ -1,15 +1,16 @@
 -- Worked rows of written tokens (PGN 3.2, 5, 7, 8.2): texts that are read back, and what goes wrong
 -- where a premise is missing.
-use Rattle.std.proofs.Common.{◌≡◌, ◌≤◌, Bool, true, false, List, [], ◌∷◌, length, map, refl, sym, ap, ◌∙◌, eq-eqb, arith}
+use Rattle.std.proofs.Common.{◌≡◌, ℕ, ◌^◌, ◌<◌, ◌≤◌, Bool, true, false, List, [], ◌∷◌, ◌++◌, length, map, refl, sym, subst, ap, ◌∙◌, eq-eqb, arith}
 use Rattle.std.specs.Fmt.{digits}
-use Rattle.std.specs.List.{AllByRecursion}
-use Rattle.std.specs.Prelude.{codes, ◌==◌}
+use Rattle.std.specs.List.{AllByRecursion, list_all}
+use Rattle.std.specs.Prelude.{codes, decimal, ◌==◌}
+use Rattle.pgn_lexer.specs.Bytes.{is_digit, starts_symbol}
 use Rattle.std.proofs.lemmas.Bool.{false≢true}
 use Rattle.pgn_lexer.specs.Laws.{PiecesAreReadBack, KindsAreReadBack, NumbersAreSymbols}
-use Rattle.pgn_lexer.specs.Sound.{IsSymbol, IsWord, CommentsClose}
+use Rattle.pgn_lexer.specs.Sound.{begins_with, IsSymbol, IsWord, CommentsClose}
 use Rattle.pgn_lexer.specs.Tokens.{Kind, Token, left_bracket, right_bracket, left_paren, right_paren, period, asterisk, symbol, str, glyph, comment_open, word, comment_close, end}
 use Rattle.pgn_lexer.specs.TokensOf.{tokens_of}
-use Rattle.pgn_lexer.specs.Written.{Piece, token, space, text_of_pieces, kinds_in, tokens_at, IsPiece, AreEnded, IsReadable}
+use Rattle.pgn_lexer.specs.Written.{Piece, token, space, text_of_pieces, kinds_in, tokens_at, IsPiece, IsEndedBy, AreEnded, IsReadable}
 use Rattle.pgn_lexer.proofs.LawRows.{t, ending}
 
 abbrev sp : Piece
@@ -215,6 +216,43 @@ white_space_by_law law =
     law (lf ∷ space 13 ∷ space 9 ∷ [])
     (record { pieces = (refl, (refl, (refl, tt))); ended = tt; comments = tt })
 
+-- ---- Sound tokens can be written, with a space after each. What tokens of a text are made of is
+-- enough, if none of them is the end or a refusal.
+
+abbrev spaced : List Kind → List Piece
+spaced [] = []
+spaced (k ∷ ks) = token k ∷ sp ∷ spaced ks
+
+spaced_pieces : (ks : List Kind) → AllByRecursion (λ k. IsPiece (token k)) ks
+    → AllByRecursion IsPiece (spaced ks)
+spaced_pieces [] all = tt
+spaced_pieces (k ∷ ks) all = (all.0, (refl, spaced_pieces ks all.1))
+
+ended_by_space : (k : Kind) (s : List ℕ) → IsEndedBy (32 ∷ s) k
+ended_by_space (symbol text) s = refl
+ended_by_space (glyph n) s = refl
+ended_by_space (word text) s = refl
+ended_by_space _ s = tt
+
+spaced_ended : (ks : List Kind) → AreEnded (spaced ks)
+spaced_ended [] = tt
+spaced_ended (k ∷ ks) = (ended_by_space k (text_of_pieces (spaced ks)), spaced_ended ks)
+
+spaced_kinds : (ks : List Kind) → kinds_in (spaced ks) ≡ ks
+spaced_kinds [] = refl
+spaced_kinds (k ∷ ks) = ap (λ l. k ∷ l) (spaced_kinds ks)
+
+sound_tokens_by_law : KindsAreReadBack → (ks : List Kind)
+    → AllByRecursion (λ k. IsPiece (token k)) ks → CommentsClose false ks
+    → map (λ i. i.kind) (tokens_of (text_of_pieces (spaced ks))) ≡ ks ++ end ∷ []
+sound_tokens_by_law law ks all close =
+    law (spaced ks) (record {
+      pieces = spaced_pieces ks all;
+      ended = spaced_ended ks;
+      comments = subst (CommentsClose false) (sym (spaced_kinds ks)) close;
+    })
+    ∙ ap (λ l. l ++ end ∷ []) (spaced_kinds ks)
+
 -- ---- What is not ended goes on into the next token.
 
 abbrev joined_symbols : List Piece
@@ -343,3 +381,20 @@ number_by_law law = (law 120 (omega arith)).0
 zero_by_law : NumbersAreSymbols → IsSymbol (codes "0")
 unfolding digits
 zero_by_law law = (law 0 (omega arith)).0
+
+-- a text that no number has in decimal
+abbrev IsOfNoNumber : List ℕ → Type 0
+IsOfNoNumber s = (n : ℕ) → n < 2 ^ 64 → decimal n ≡ s → ⊥
+
+no_byte : NumbersAreSymbols → IsOfNoNumber []
+no_byte law n small e =
+    let begins = subst (λ s. begins_with starts_symbol s ≡ true) e (law n small).0.begins in
+    false≢true begins
+
+with_period : NumbersAreSymbols → IsOfNoNumber (codes "1.")
+with_period law n small e =
+    false≢true (subst (λ s. list_all is_digit s ≡ true) e (law n small).1)
+
+a_marker : NumbersAreSymbols → IsOfNoNumber (codes "1-0")
+a_marker law n small e =
+    false≢true (subst (λ s. list_all is_digit s ≡ true) e (law n small).1)

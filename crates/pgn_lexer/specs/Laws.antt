@@ -39,7 +39,8 @@ DecidedIsPrefix = (u s : List ℕ) → IsPrefix (decided u) (tokens_of (u ++ s))
 abbrev pub KnownIsPrefix : Type 0
 KnownIsPrefix = (u s : List ℕ) (b : ℕ) → IsPrefix (known u b) (tokens_of (u ++ b ∷ s))
 
--- The tokens of each text are sound: their bytes are as they have to be, and each comment closes.
+-- The tokens of each text are sound: their bytes are as they have to be, and a comment that is
+-- opened closes, unless the text is rejected.
 abbrev pub TokensAreSound : Type 0
 TokensAreSound = (s : List ℕ) → IsSound (tokens_of s)
 

@@ -54,7 +54,7 @@ CommentsClose true (tokens.comment_close ∷ ks) = CommentsClose false ks
 CommentsClose true (tokens.refused r ∷ ks) = Unit {0}
 CommentsClose true (k ∷ ks) = ⊥
 
--- each token's text is made as it has to be, and each comment closes
+-- each token's text is made as it has to be, and comments are in order
 pub record IsSound (ts : List Token) : Type 0 where
   pub texts : AllByRecursion (λ t. IsSoundKind t.kind) ts
   pub comments : CommentsClose false (map (λ t. t.kind) ts)
