@@ -37,6 +37,10 @@ unfolding squares
 promotion_by_law law =
     law promoting (becoming (codes "a7") (codes "b8") (Some become.Knight)) refl
 
+check_by_law : WrittenMoveIsSymbol → IsMoveSymbol (codes "Q1h2+")
+unfolding squares
+check_by_law law = law queens (go (codes "h1") (codes "h2")) refl
+
 -- ---- texts that are none: of no legal move by the law
 
 abbrev IsOfNoMove : List ℕ → Type 0
