@@ -14,8 +14,6 @@ mod InText
 mod Items
 mod Judging
 mod LegalMoves
-mod LegalRows
-mod MoveRows
 mod NextGrows
 mod OneToken
 mod Ordering
@@ -23,7 +21,6 @@ mod Pairing
 mod Passing
 mod Putting
 mod Refusing
-mod Rows
 mod Runs
 mod Sections
 mod Sizes

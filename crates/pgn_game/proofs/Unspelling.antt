@@ -235,6 +235,16 @@ was_false : (b : Bool) → not b ≡ false → b ≡ true
 was_false true e = refl
 was_false false e = absurd (cc)
 
+-- what a test of two numbers says that failed
+below : (a b : ℕ) → nat_le a b ≡ false → b < a
+below a b e = grind (arith, nat_tests)
+
+within : (a b : ℕ) → nat_lt a b ≡ false → b ≤ a
+within a b e = grind (arith, nat_tests)
+
+no_one : (n : ℕ) → nat_le 1 n ≡ false → n ≡ 0
+no_one n e = grind (arith, nat_tests)
+
 open_step : (p : Profile) (ps : List Pair) (name : List ℕ) (items : List Item) (ks : List Kind) (gs : List Game) → refusal p (at InMovetext ps name items) tokens.left_paren ≡ None
     → Text_left p ps (items ++ games.open_variation ∷ []) ks gs → Text_left p ps items (tokens.left_paren ∷ ks) gs
 open_step p ps name items ks gs free h =
@@ -242,7 +252,7 @@ open_step p ps name items ks gs free h =
     let holds = was_false (levels_of items).present.holds_move (test_failed (not (levels_of items).present.holds_move) NoMoveBefore _ e) in
     let room : nat_le p.depth (depth (levels_of items)) ≡ false =
     test_failed (nat_le p.depth (depth (levels_of items))) TooDeep None (rest_passed (not (levels_of items).present.holds_move) NoMoveBefore _ e) in
-    text_more p ps items (games.open_variation ∷ []) tokens.left_paren ks gs (adds_open p ps items holds (grind (arith, nat_tests))) h
+    text_more p ps items (games.open_variation ∷ []) tokens.left_paren ks gs (adds_open p ps items holds (below p.depth (depth (levels_of items)) room)) h
 
 close_step : (p : Profile) (ps : List Pair) (name : List ℕ) (items : List Item) (ks : List Kind) (gs : List Game) → refusal p (at InMovetext ps name items) tokens.right_paren ≡ None
     → Text_left p ps (items ++ games.close_variation ∷ []) ks gs → Text_left p ps items (tokens.right_paren ∷ ks) gs
@@ -255,7 +265,7 @@ marker_step : (p : Profile) (ps : List Pair) (items : List Item) (k : Kind) (mar
     → nat_le 1 (depth (levels_of items)) ≡ false → (differs p.missing_result (value_of ps (codes "Result")) marker && (depth (levels_of items) == 0)) ≡ false
     → After p (whole (record { pairs = ps; items = items; marker = marker })) ks gs → Text_left p ps items (k ∷ ks) gs
 marker_step p ps items k marker ks gs is shallow same after =
-    let outside : depth (levels_of items) ≡ 0 = grind (arith, nat_tests) in
+    let outside : depth (levels_of items) ≡ 0 = no_one (depth (levels_of items)) shallow in
     record {
       text = [];
       last = k;
@@ -274,7 +284,7 @@ marker_step p ps items k marker ks gs is shallow same after =
     }
   where
     at_zero : (b : Bool) (n : ℕ) → n ≡ 0 → (b && (n == 0)) ≡ false → b ≡ false
-    at_zero true n e h = absurd (let zero_is : (n == 0) ≡ true = grind (arith, nat_tests) in cc)
+    at_zero true n e h = absurd (let zero_is : (n == 0) ≡ true = ap (λ x. x == 0) e in cc)
     at_zero false n e h = refl
 
 symbol_step : (p : Profile) (ps : List Pair) (name : List ℕ) (items : List Item) (s : List ℕ) (ks : List Kind) (gs : List Game)
@@ -390,7 +400,7 @@ value_given p ps name items s ks gs free h =
       behind = ks;
       kinds = refl;
       dropped = refl;
-      room = grind (arith, nat_tests);
+      room = within 249 (length name + length (escaped s)) short;
       result = λ is. was_false (is_result s) (forced (bytes_eq name (codes "Result")) (not (is_result s)) is_marker ((bytes_eq-Decides name (codes "Result")).1 is));
       fen = λ is. position_is (position_of s) (forced (bytes_eq name (codes "FEN")) (is_some (fen_field s)) is_position ((bytes_eq-Decides name (codes "FEN")).1 is));
       bracket = h;
@@ -471,7 +481,7 @@ pair_step p ps ks gs free n =
             ∙ pair_kinds n.xs v.ys b.zs n.name v.value t.tags t.behind;
         pairs = next_pair _ t.tags q t.given (pair n.xs v.ys b.zs n.name v.value n.dropped v.dropped b.dropped) t.pairs;
         takes = (
-          grind (arith, nat_tests),
+          below p.tags (length ps) free,
           n.fresh,
           record { name = n.is_name; room = v.room; result = v.result; fen = λ is. let h = v.fen is in (n.full is, h.0, h.1) },
           t.takes,

@@ -5,14 +5,14 @@ use crate::reason::Reason;
 use pgn_layout::WriteFault;
 
 /// Whether a token finishes its game.
-#[derive(Clone, Copy, Debug, PartialEq, Eq)]
+#[derive(Clone, Copy)]
 pub enum Accepted {
     More,
     Finished,
 }
 
 /// Why a token is not accepted.
-#[derive(Clone, Copy, Debug, PartialEq, Eq)]
+#[derive(Clone, Copy)]
 pub enum Stopped {
     /// By a row of the fault table.
     Refused(Reason),

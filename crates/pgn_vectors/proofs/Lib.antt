@@ -1,0 +1,3 @@
+mod LegalRows
+mod MoveRows
+mod WorkedRows
