@@ -1,7 +1,7 @@
 use Rattle.std.proofs.Common.{rules, arith, refl, sym, ap, subst, ◌∙◌}
 use Rattle.pgn_game.specs.Feeding.{Converter, Stands}
 use Rattle.pgn_game.proofs.Sizes.{fits_reader}
-use Rattle.pgn_game.proofs.AtEnd.{sound_at_none, closed_none, closed_more, closed_game, closed_end, closed_fault}
+use Rattle.pgn_game.proofs.AtEnd.{none_kept, sound_at_none, closed_none, closed_more, closed_game, closed_end, closed_fault}
 use Rattle.pgn_game.proofs.InPiece.{counts_step}
 use Rattle.pgn_game.specs.Stepping.{AfterClosing}
 use Rattle.pgn_game.specs.declared.converter.Stepped.TheVariants.{Ended}
@@ -102,3 +102,43 @@ invariant_of-self g c =
 
 pub is_between-self-inside-requires : goal.is_between-self-inside-requires
 is_between-self-inside-requires g c = search fits_reader
+
+pub loop-is_game-smaller-in-NeedMore : goal.loop-is_game-smaller-in-NeedMore
+loop-is_game-smaller-in-NeedMore g c = absurd (rw c.in-NeedMore.is at c.close.ensures.advances)
+
+pub returns-in-Ended-clause-fault : goal.returns-in-Ended-clause-fault
+returns-in-Ended-clause-fault g c =
+    let fault = rw c.in-Ended.is at c.close.ensures.fault in
+    ap (λ (s : Converter). s.fault) c.self-in-loop-is_game.view_is ∙ fault
+
+pub returns-in-Ended-clause-finished : goal.returns-in-Ended-clause-finished
+returns-in-Ended-clause-finished g c =
+    let finished = rw c.in-Ended.is at c.close.ensures.finished in
+    ap (λ (s : Converter). s.is_finished) c.self-in-loop-is_game.view_is ∙ finished
+
+pub returns-in-Ended-clause-hand : goal.returns-in-Ended-clause-hand
+returns-in-Ended-clause-hand g c = tt
+
+pub returns-in-Ended-clause-again : goal.returns-in-Ended-clause-again
+returns-in-Ended-clause-again g c = λ f is. absurd (none_kept _ f (ap (λ (s : Converter). s.fault) (sym c.self.view_is) ∙ c.in_default.is) is)
+
+pub returns-in-Failed-clause-fault : goal.returns-in-Failed-clause-fault
+returns-in-Failed-clause-fault g c = rw c.in-Failed.is at c.close.ensures.fault
+
+pub returns-in-Failed-clause-hand : goal.returns-in-Failed-clause-hand
+returns-in-Failed-clause-hand g c = c.close.ensures.hand
+
+pub returns-in-Failed-clause-again : goal.returns-in-Failed-clause-again
+returns-in-Failed-clause-again g c = λ f is. absurd (none_kept _ f (ap (λ (s : Converter). s.fault) (sym c.self.view_is) ∙ c.in_default.is) is)
+
+pub returns-in-Some-clause-fault : goal.returns-in-Some-clause-fault
+returns-in-Some-clause-fault g c = ap (λ (s : Converter). s.fault) (sym c.self.view_is) ∙ c.in-Some.is
+
+pub returns-in-Some-clause-finished : goal.returns-in-Some-clause-finished
+returns-in-Some-clause-finished g c = c.requires.going
+
+pub returns-in-Some-clause-counted : goal.returns-in-Some-clause-counted
+returns-in-Some-clause-counted g c = λ none. absurd (none_kept _ c.in-Some.fault none (ap (λ (s : Converter). s.fault) (sym c.self.view_is) ∙ c.in-Some.is))
+
+pub returns-in-Some-clause-probes : goal.returns-in-Some-clause-probes
+returns-in-Some-clause-probes g c = omega arith
