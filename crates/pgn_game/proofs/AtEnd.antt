@@ -309,7 +309,8 @@ counts_closed false Ended old new h = h
 counts_closed true (Failed f) old new h = h
 counts_closed false (Failed f) old new h = h
 
--- A token behind the last piece keeps the counts small. The end takes no byte, but it is the last one.
+-- A token behind the last piece keeps the counts small. The end takes no byte, but it is the last
+-- one.
 pub sound_behind : (old new : Standing) (before after : Reading) (games at : ℕ) (k : Kind) (e : Bool) (r : Result Accepted Stopped) → is_end k ≡ e → Nearer e old new
     → FinishesAtMarker k after r → OnOk r (after.layout.has_failed ≡ false) → old.count ≤ 2 ^ 62 → games + waiting old ≤ 2 * old.count + 2
     → before.earlier_plies + before.text.plies + waiting old ≤ 2 * old.count + 2

@@ -1,4 +1,5 @@
--- The levels of movetext as they are kept, the game's own first, and as contracts see them, the level at hand first.
+-- The levels of movetext as they are kept, the game's own first, and as contracts see them, the
+-- level at hand first.
 use Rattle.std.proofs.Common.{◌≡◌, ℕ, zero, suc, ◌+◌, ◌-◌, ◌<◌, ◌≤◌, List, [], ◌∷◌, ◌++◌, length, take, drop, set, get_or, refl, sym, ap, ◌∙◌, arith, Option, None, Some}
 use Rattle.std.proofs.lemmas.List.{take-append-le, take_all}
 use Rattle.std.specs.Prelude.{IsSome, IfSome}

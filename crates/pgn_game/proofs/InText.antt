@@ -62,7 +62,8 @@ abbrev other_if : Missing → List Pair → Option (List ℕ) → Bool
 other_if missing ps o =
     elim o [ None ↦ false | Some marker ↦ not (bytes_eq marker (unwrap_or (value_of ps (codes "Result")) (result_for missing marker))) ]
 
--- the rows for a symbol, of whether it is a number or a marker, whether it is a marker, and what it comes to as a move
+-- the rows for a symbol, of whether it is a number or a marker, whether it is a marker, and what it
+-- comes to as a move
 abbrev symbol_rows : Profile → Part → List ℕ → Bool → Bool → MoveReading → Option Reason
 symbol_rows p part s word score r =
     or_else (or_false word (is_no_form r)) NotAMove

@@ -1,4 +1,5 @@
--- A token takes nothing back: what stands written of a game begins what stands written of it a token later.
+-- A token takes nothing back: what stands written of a game begins what stands written of it a
+-- token later.
 use Rattle.std.proofs.Common.{◌≡◌, ℕ, List, [], ◌∷◌, ◌++◌, length, drop, None, Some, refl, sym, ap, subst, ◌∙◌, append_assoc}
 use Rattle.std.proofs.Math.Seq.{drop-append_seam}
 use Rattle.pgn_lexer.specs.Tokens.{Kind}

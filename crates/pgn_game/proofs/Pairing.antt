@@ -49,7 +49,8 @@ adds_nothing : (p : Profile) (part to : Part) (o : Option (List ℕ)) → torn p
 adds_nothing p part to o none =
     subst (Appends o o) (sym (ap (drop (length (torn p part))) none ∙ drop_of_length-le {A = ℕ} [] (omega arith))) (Appends-nil o)
 
--- A step goes from a stage in which the game has begun to another one, and to a part that the reader then agrees with.
+-- A step goes from a stage in which the game has begun to another one, and to a part that the
+-- reader then agrees with.
 pub record IsStep (old new : Reading) (part : Part) (next : Next) : Type 0 where
   pub to : Part
   pub leads : going to ≡ next

@@ -244,8 +244,8 @@ pub starring : (p : Profile) (ps : List Pair) (name : List ℕ) (items : List It
 unfolding refusal
 starring p ps name items = refl
 
--- What a symbol is refused for, by what it is: a number, a score, what it comes to as a move, whether the numbers are at their limit, the
--- depth, and whether it differs from the Result.
+-- What a symbol is refused for, by what it is: a number, a score, what it comes to as a move,
+-- whether the numbers are at their limit, the depth, and whether it differs from the Result.
 abbrev pub symbol_fault : Bool → Bool → Option (Result Played SanFault) → Bool → ℕ → Bool → Option Reason
 symbol_fault number score o limit deep other =
     or_else (elim (number || score) [ true ↦ false | false ↦ is_no_form o ]) NotAMove

@@ -125,7 +125,8 @@ agrees_in_text r part stage same tags held probed =
 not_between : (stage : Stage) {P : Type 0} → stage ≡ InMovetext → stage ≡ Between → P
 not_between stage at e = let h : InMovetext ≡ Between = sym at ∙ e in absurd (cc)
 
--- The reader after the section and an item: its movetext and its line have changed, and nothing else but the count of probes.
+-- The reader after the section and an item: its movetext and its line have changed, and nothing
+-- else but the count of probes.
 pub record IsAfterItem (begun new : Reading) : Type 0 where
   pub profile : new.profile ≡ begun.profile
   pub stage : new.stage ≡ begun.stage

@@ -153,7 +153,8 @@ to_read p _ _ _ (finishes part k g ks gs free end leads runs) (t ∷ ts) before 
     (ap (λ (j : Kind). begun_with before (next part j)) kind ∙ ap (begun_with before) leads) (append_assoc before (g ∷ []) gs)
     (to_read p no_part ks gs runs ts (before ++ g ∷ []) rest)
 
--- A list of tokens that ends with the one end, or with a refusal, is read to its end exactly if it runs.
+-- A list of tokens that ends with the one end, or with a refusal, is read to its end exactly if it
+-- runs.
 pub runs_as_read : (p : Profile) (ts : List Token) (gs : List Game) → RisesTo ts
     → Runs p no_part (kinds ts) gs ↔ (((read p ts).fault ≡ None) × ((read p ts).begun.games ≡ gs))
 runs_as_read p ts gs rises = (

@@ -96,7 +96,8 @@ replaces p s t played other room one two =
     (variation 0 behind (tokens.symbol t ∷ []) [] (games.move other.mv ∷ []) [] refl room
     (move 1 first t other [] [] two (no_more 1 (has_played other.mv []))) (no_more 0 behind))
 
--- Nothing else is spelled: a comment that begins movetext without pairs is dropped, and a marker that differs from a missing Result spells nothing.
+-- Nothing else is spelled: a comment that begins movetext without pairs is dropped, and a marker
+-- that differs from a missing Result spells nothing.
 has_no_item : (x : Item) (xs : List Item) → game [] [] ∷ [] ≡ game [] (x ∷ xs) ∷ [] → ⊥
 has_no_item x xs e = let items : ([] ∷ []) ≡ ((x ∷ xs) ∷ []) = ap (map (λ (g : Game). g.items)) e in absurd (cc)
 

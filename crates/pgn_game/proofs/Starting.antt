@@ -28,7 +28,8 @@ value_of-found p (q ∷ qs) none =
           ∙ value_of-found p qs out.1
     ]
 
--- what a pair tells of where its game begins, from whether it is a FEN, and from what its value is read as
+-- what a pair tells of where its game begins, from whether it is a FEN, and from what its value is
+-- read as
 abbrev pub told_by : Bool → Result Parts FenFault → Result (Option Parts) ℕ
 told_by is read = elim is [ false ↦ Ok None | true ↦ elim read [ Ok start ↦ Ok (Some start) | Err fault ↦ Err fault.field ] ]
 

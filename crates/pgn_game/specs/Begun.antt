@@ -50,7 +50,8 @@ in_text part k =
       | None ↦ going (record { stage = InMovetext; pairs = part.pairs; name = part.name; items = part.items ++ items_of part k })
     ]
 
--- What a token that is not refused leads to, stage by stage. Comments before a game and in a pair are dropped, and the end leads nowhere.
+-- What a token that is not refused leads to, stage by stage. Comments before a game and in a pair
+-- are dropped, and the end leads nowhere.
 abbrev pub next_in : Stage → Part → Kind → Next
 next_in Between part tokens.left_bracket = going (at_stage AfterBracket part)
 next_in Between part tokens.comment_open = going part

@@ -1,5 +1,5 @@
--- What games need of chess: where a game begins, and what the text of a move comes to. The names are `unfoldable`, so that goals show
--- them as they are.
+-- What games need of chess: where a game begins, and what the text of a move comes to. The names
+-- are `unfoldable`, so that goals show them as they are.
 use Rattle.std.specs.Prelude.{ℕ, Bool, true, false, List, Option, Result, option_map, unwrap_or}
 use Rattle.chess_rules.specs.declared.piece.Colour.TheVariants.{White, Black}
 use Rattle.chess_rules.specs.declared.position.Move.{Move}
@@ -22,8 +22,8 @@ first_position = initial
 unfoldable pub position_of : List ℕ → Result Parts FenFault
 position_of text = read text
 
--- What a symbol comes to as a move: None, if it has not the pattern of one; else the one legal move that agrees with it and the position
--- after that, or why there is none (PGN 8.2.3).
+-- What a symbol comes to as a move: None, if it has not the pattern of one; else the one legal move
+-- that agrees with it and the position after that, or why there is none (PGN 8.2.3).
 unfoldable pub move_of : Parts → List ℕ → Option (Result Played SanFault)
 move_of p s = option_map (reads p) (form_of s)
 

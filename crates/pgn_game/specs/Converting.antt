@@ -22,8 +22,8 @@ verdict_in t = totals (record { games = t.games; plies = t.plies })
 abbrev pub IsConverted : Profile → List ℕ → Verdict → Option (List ℕ) → Option (List ℕ) → Type 0
 IsConverted p s v before after = (verdict p s ≡ v) × Appends before after (output p s)
 
--- The most pairs tried for one move: at most 1,040, which is 8 for the candidates of its piece, 8 for their rivals, and 1,024 for an answer
--- to a check; and at least one, if any move was played.
+-- The most pairs tried for one move: at most 1,040, which is 8 for the candidates of its piece, 8
+-- for their rivals, and 1,024 for an answer to a check; and at least one, if any move was played.
 pub record CountsProbes (p : Profile) (s : List ℕ) (n : ℕ) : Type 0 where
   pub most : n ≤ 1040
   pub some : IsTrue (play_moves (read p (tokens_of s)).begun.games) → 0 < n
@@ -38,7 +38,8 @@ pub record ReadsNoMore (p : Profile) (u : List ℕ) (before after : Option (List
   pub passes : (read p (decided u)).fault ≡ None
   pub appended : Appends before after (due p (decided u))
 
--- How a conversion of a slice fails: by the text's own fault, or because a write failed; or since the slice is too long.
+-- How a conversion of a slice fails: by the text's own fault, or because a write failed; or since
+-- the slice is too long.
 pub data FailsOn (p : Profile) (text : List ℕ) (before after : Option (List ℕ)) : Fault → Type 0 where
   refused : (f : Fault) → IsConverted p text (is_refused f) before after → FailsOn p text before after f
   unwritten : (at : ℕ) → StopsWriting p [] (tokens_of text) at before after → FailsOn p text before after (record { at = at; reason = WriteFault })
@@ -49,8 +50,8 @@ abbrev pub ConvertsSlice : Profile → List ℕ → Result Totals Fault → Opti
 ConvertsSlice p text (Ok t) before after = IsTotalled p text t before after
 ConvertsSlice p text (Err f) before after = FailsOn p text before after f
 
--- How a conversion fails: by the input's own fault; because a read failed behind the bytes u; because a write failed when the bytes
--- u were read; or since the byte at place 2^62 came.
+-- How a conversion fails: by the input's own fault; because a read failed behind the bytes u;
+-- because a write failed when the bytes u were read; or since the byte at place 2^62 came.
 pub data Fails (p : Profile) (left_old left_new : Option (List ℕ)) (before after : Option (List ℕ)) : Fault → Type 0 where
   refused : (f : Fault) → IfSome left_old (λ s. IsConverted p s (is_refused f) before after) → Fails p left_old left_new before after f
   unread : (u : List ℕ) → Consumes left_old left_new u → ReadsNoMore p u before after → Fails p left_old left_new before after (record { at = length u; reason = ReadFault })
@@ -64,7 +65,8 @@ abbrev pub Converts : Profile → Option (List ℕ) → Option (List ℕ) → Re
 Converts p left_old left_new (Ok t) before after = IfSome left_old (λ s. IsTotalled p s t before after)
 Converts p left_old left_new (Err f) before after = Fails p left_old left_new before after f
 
--- 50 is answered where the source counts one failure more, 51 where the sink does, and nowhere else does one count.
+-- 50 is answered where the source counts one failure more, 51 where the sink does, and nowhere else
+-- does one count.
 abbrev pub CountsDevices : Reason → ℕ → ℕ → ℕ → ℕ → Type 0
 CountsDevices ReadFault source_old source_new sink_old sink_new = (source_new ≡ one_more source_old) × (sink_new ≡ sink_old)
 CountsDevices WriteFault source_old source_new sink_old sink_new = (source_new ≡ source_old) × (sink_new ≡ one_more sink_old)

@@ -188,9 +188,10 @@ pub record Row : Type 0 where
 abbrev pub row : Reason → Bool → Row
 row reason holds = record { holds = holds; reason = reason }
 
--- The table, lowest number first. Of our own are the rules that a name is given once (22), that a game has so many pairs (23), that SetUp 1 asks
--- for a FEN (30), that the reduced format has no FEN (31), that no number passes 99,999 (36), that variations are so deep (38), and that a
--- missing Result counts as `*` (41).
+-- The table, lowest number first. Of our own are the rules that a name is given once (22), that a
+-- game has so many pairs (23), that SetUp 1 asks for a FEN (30), that the reduced format has no FEN
+-- (31), that no number passes 99,999 (36), that variations are so deep (38), and that a missing
+-- Result counts as `*` (41).
 abbrev pub rows : Profile → Part → Kind → List Row
 rows p part k =
     row ExpectedName (is_at AfterBracket part && not (is_symbol k || is_comment k))
@@ -222,7 +223,8 @@ abbrev pub first_holding : List Row → Option Reason
 first_holding [] = None
 first_holding (r ∷ rs) = elim r.holds [ true ↦ Some r.reason | false ↦ first_holding rs ]
 
--- Why a token is refused after this part, if it is. It is `unfoldable`, so that goals show it by its name.
+-- Why a token is refused after this part, if it is. It is `unfoldable`, so that goals show it by
+-- its name.
 unfoldable pub refusal : Profile → Part → Kind → Option Reason
 refusal p part (tokens.refused r) = Some (Lexical r)
 refusal p part k = first_holding (rows p part k)

@@ -25,7 +25,8 @@ use Rattle.pgn_game.specs.Due.{Gains}
 use Rattle.pgn_game.specs.Here.{plies_of, last_position}
 use Rattle.pgn_game.specs.Reading.{Reading, Agrees, has_move, whole_plies}
 
--- what is told of a game that is whole: its pairs, how many moves it has outside variations, and the position after these
+-- what is told of a game that is whole: its pairs, how many moves it has outside variations, and
+-- the position after these
 pub record AtHand : Type 0 where
   pub pairs : List Pair
   pub plies : ℕ
@@ -34,7 +35,8 @@ pub record AtHand : Type 0 where
 abbrev pub hand_of : Game → AtHand
 hand_of g = record { pairs = g.pairs; plies = plies_of g; position = last_position g }
 
--- the lexer, the reader, how many games were finished, the game at hand, whether the input has ended, and the fault
+-- the lexer, the reader, how many games were finished, the game at hand, whether the input has
+-- ended, and the fault
 pub record Converter : Type 0 where
   pub lexer : Standing
   pub reading : Reading
@@ -56,8 +58,9 @@ abbrev pub held_if : Bool → Reading → Option AtHand
 held_if true reading = Some (held_by reading)
 held_if false reading = None
 
--- What a converter keeps to. Before a fault its reader has not failed, and its counts stay small: a byte ends at most two tokens, so
--- the games fit, and the moves; the end is one token more. A game is at hand only between games, and not after a fault.
+-- What a converter keeps to. Before a fault its reader has not failed, and its counts stay small: a
+-- byte ends at most two tokens, so the games fit, and the moves; the end is one token more. A game
+-- is at hand only between games, and not after a fault.
 pub record IsSound (lexer : Standing) (reading : Reading) (games : ℕ) (is_at_hand is_finished : Bool) (fault : Option Fault) : Type 0 where
   pub count : fault ≡ None → lexer.count ≤ 2 ^ 62
   pub going : fault ≡ None → reading.layout.has_failed ≡ false
@@ -67,8 +70,8 @@ pub record IsSound (lexer : Standing) (reading : Reading) (games : ℕ) (is_at_h
   pub between : IsTrue is_at_hand → reading.stage ≡ Between
   pub no_fault : IsTrue is_at_hand → fault ≡ None
 
--- What is told of the game at hand: the value of a name in its tag section, how many moves outside variations it has, and the position
--- after them.
+-- What is told of the game at hand: the value of a name in its tag section, how many moves outside
+-- variations it has, and the position after them.
 abbrev pub value_at_hand : Converter → List ℕ → Option (List ℕ)
 value_at_hand c name = elim c.at_hand [ None ↦ None | Some hand ↦ value_of (exported c.reading.profile.mode (codes "*") hand.pairs) name ]
 
@@ -87,8 +90,8 @@ IsLast (Some hand) games = (earlier : List Game) × (g : Game) × (games ≡ ear
 abbrev pub play_moves : List Game → Bool
 play_moves games = list_any (λ g. has_move g.items) games
 
--- The converter has read these tokens: none is refused, its reader agrees with the part that they leave, and its counts and the game at
--- hand are theirs.
+-- The converter has read these tokens: none is refused, its reader agrees with the part that they
+-- leave, and its counts and the game at hand are theirs.
 pub record HasRead (p : Profile) (c : Converter) (given : List Token) : Type 0 where
   pub profile : c.reading.profile ≡ p
   pub no_fault : c.fault ≡ None
@@ -99,13 +102,15 @@ pub record HasRead (p : Profile) (c : Converter) (given : List Token) : Type 0 w
   pub probed : IsTrue (play_moves (read p given).begun.games) → 0 < c.reading.most_probes
   pub at_hand : IsLast c.at_hand (read p given).begun.games
 
--- The converter stands after the bytes u, of which the lexer has given these tokens; b, where there is one, is known to be next.
+-- The converter stands after the bytes u, of which the lexer has given these tokens; b, where there
+-- is one, is known to be next.
 pub record Stands (p : Profile) (c : Converter) (u : List ℕ) (b : Option ℕ) (given : List Token) : Type 0 where
   pub lexer : StandsAfter c.lexer u b given
   pub has_read : HasRead p c given
 
--- Where a write failed: of what is due for the tokens up to `token`, of which none is refused, a front was written, not all, and at least
--- what is due for those before it. So it is the first token up to which more is due than was written.
+-- Where a write failed: of what is due for the tokens up to `token`, of which none is refused, a
+-- front was written, not all, and at least what is due for those before it. So it is the first
+-- token up to which more is due than was written.
 pub record StopsWriting (p : Profile) (given tokens : List Token) (at : ℕ) (before after : Option (List ℕ)) : Type 0 where
   pub front : List Token
   pub token : Token
@@ -120,8 +125,8 @@ pub record StopsWriting (p : Profile) (given tokens : List Token) (at : ℕ) (be
   pub short : count < length text
   pub appended : Appends before after (take count text)
 
--- How reading stops among these tokens, of which the first were read before: at the one that is refused first, with all
--- written that is due for those before it; or where a write failed.
+-- How reading stops among these tokens, of which the first were read before: at the one that is
+-- refused first, with all written that is due for those before it; or where a write failed.
 pub data Stops (p : Profile) (given tokens : List Token) (before after : Option (List ℕ)) : Fault → Type 0 where
   refused : (f : Fault) → (read p tokens).fault ≡ Some f → Gains p given tokens before after → Stops p given tokens before after f
   unwritten : (at : ℕ) → StopsWriting p given tokens at before after → Stops p given tokens before after (record { at = at; reason = WriteFault })
@@ -130,7 +135,8 @@ pub data Stops (p : Profile) (given tokens : List Token) (before after : Option 
 abbrev pub AreNext : List ℕ → Option ℕ → List Token → Type 0
 AreNext u b tokens = (s : List ℕ) → Follows b s → (rest : List Token) × (tokens_of (u ++ s) ≡ tokens ++ rest)
 
--- The whole piece was used: all tokens that are decided then were read, none finished a game, and what they gain was written.
+-- The whole piece was used: all tokens that are decided then were read, none finished a game, and
+-- what they gain was written.
 pub record FedAll (p : Profile) (u : List ℕ) (b : Option ℕ) (given : List Token) (piece : List ℕ) (new : Converter) (before after : Option (List ℕ)) : Type 0 where
   pub tokens : List Token
   pub stands : Stands p new (u ++ piece) (still b piece) tokens
@@ -245,8 +251,8 @@ abbrev pub Advances : Standing → Standing → Fed → Type 0
 Advances old new All = Unit {0}
 Advances old new (GameEnd used) = waiting new < 2 * used + waiting old
 
--- The text u has ended: all its tokens were read, and what they add to what was due was written. A game is at hand exactly if the
--- call finished one.
+-- The text u has ended: all its tokens were read, and what they add to what was due was written. A
+-- game is at hand exactly if the call finished one.
 pub record Finishes (p : Profile) (u : List ℕ) (given : List Token) (new : Converter) (is_game : Bool) (before after : Option (List ℕ)) : Type 0 where
   pub has_read : HasRead p new (tokens_of u)
   pub game : IsTrue is_game ↔ (length (read p given).begun.games < length (read p (tokens_of u)).begun.games)
@@ -254,7 +260,8 @@ pub record Finishes (p : Profile) (u : List ℕ) (given : List Token) (new : Con
   pub none_at_hand : is_game ≡ false → new.at_hand ≡ None
   pub gains : Gains p given (tokens_of u) before after
 
--- The text u has ended, but one of its tokens is refused, or a write failed; the games before that are counted.
+-- The text u has ended, but one of its tokens is refused, or a write failed; the games before that
+-- are counted.
 pub record FinishesToFault (p : Profile) (u : List ℕ) (given : List Token) (new : Converter) (f : Fault) (before after : Option (List ℕ)) : Type 0 where
   pub stops : Stops p given (tokens_of u) before after f
   pub games : new.games ≡ length (games_before stops)

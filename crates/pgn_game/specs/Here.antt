@@ -1,4 +1,5 @@
--- Where an item of movetext stands: which moves lead to it, and the position that they leave (PGN 8.2.5).
+-- Where an item of movetext stands: which moves lead to it, and the position that they leave (PGN
+-- 8.2.5).
 use Rattle.std.specs.Prelude.{ℕ, Bool, true, false, List, [], ◌∷◌, fold, length, Option, None, Some, Result, Ok, Err, codes}
 use Rattle.chess_rules.specs.declared.position.Move.{Move}
 use Rattle.chess_rules.specs.declared.position.Parts.{Parts}
@@ -20,8 +21,8 @@ start_by (Some text) = position_or_first (position_of text)
 abbrev pub start_of : List Pair → Parts
 start_of ps = start_by (value_of ps (codes "FEN"))
 
--- One level of movetext, the game's own or a variation's: the moves that lead to here from the game's first position, the last one
--- first; and whether the last one was played at this level.
+-- One level of movetext, the game's own or a variation's: the moves that lead to here from the
+-- game's first position, the last one first; and whether the last one was played at this level.
 pub record Level : Type 0 where
   pub trail : List Move
   pub holds_move : Bool
@@ -42,8 +43,8 @@ abbrev pub back_to : List Level → Levels → Levels
 back_to [] ls = ls
 back_to (l ∷ around) ls = record { present = l; around = around }
 
--- A move is played at the level at hand. A variation begins a level without the last move before it, which it replaces. Its end
--- brings back the level around it. Nothing else matters.
+-- A move is played at the level at hand. A variation begins a level without the last move before
+-- it, which it replaces. Its end brings back the level around it. Nothing else matters.
 abbrev pub levels_after : Levels → Item → Levels
 levels_after ls (move m) = record { present = record { trail = m ∷ ls.present.trail; holds_move = true }; around = ls.around }
 levels_after ls open_variation =
@@ -63,7 +64,8 @@ abbrev pub replayed : Parts → List Move → Parts
 replayed start [] = start
 replayed start (m ∷ ms) = play (replayed start ms) m
 
--- the position at the level at hand: all moves that lead to it, replayed from the game's first position
+-- the position at the level at hand: all moves that lead to it, replayed from the game's first
+-- position
 abbrev pub here : Parts → Levels → Parts
 here start ls = replayed start ls.present.trail
 

@@ -97,8 +97,8 @@ start_told name value = elim (bytes_eq name (codes "FEN")) [
 abbrev pub IsLegal : Parts → Played → Type 0
 IsLegal here played = legal here played.mv ≡ Some played.next
 
--- An item can be put on movetext of at most so many levels: a legal move, a token, a variation that can
--- open or close.
+-- An item can be put on movetext of at most so many levels: a legal move, a token, a variation that
+-- can open or close.
 abbrev pub ItemFits : ℕ → Movetext → CodeItem → Type 0
 ItemFits most text (Move played) = IsLegal text.levels.present.present played.now
 ItemFits most text (Word word) = IsToken word.now
@@ -134,8 +134,8 @@ Fits tags levels r PairClose = r.stage ≡ AfterValue
 Fits tags levels r (InText e) =
     IsTrue (is_open r.stage) × EntryFits levels r.text e × IsProbed e r.most_probes
 
--- The move that a symbol names, or why it names none: where movetext can begin or goes on, and of a symbol that is
--- neither a marker nor a number.
+-- The move that a symbol names, or why it names none: where movetext can begin or goes on, and of a
+-- symbol that is neither a marker nor a number.
 abbrev pub found_of : Bool → Parts → List ℕ → Option (Result Played Reason)
 found_of sought here s = elim sought [ true ↦ Some (found_in here (move_of here s)) | false ↦ None ]
 
@@ -163,8 +163,8 @@ is_final _ = false
 abbrev pub Marks : Kind → Judged → Type 0
 Marks k j = IsTrue (is_final j) → IsTrue (is_some (marker_of k))
 
--- What judging a token results in, where the model says this of it after each of these parts: the reader
--- says the same. What it means can be put, or its reason is one of the table.
+-- What judging a token results in, where the model says this of it after each of these parts: the
+-- reader says the same. What it means can be put, or its reason is one of the table.
 pub record Judgement (tags levels : ℕ) (reader : Reading) (is_of : Part → Type 0)
     (says : Part → Result Next Reason) (k : Kind) (r : Result Judged Reason) : Type 0 where
   pub judges : (part : Part) → is_of part → says part ≡ leads part r
@@ -197,8 +197,8 @@ abbrev pub is_other_result : Profile → Part → Kind → Bool
 is_other_result p part k =
     has_other_result p.missing_result part k && (depth (levels_in part) == 0)
 
--- What a token of movetext is refused for, by its kind, each test before the next. A `[` and the end are
--- not for movetext.
+-- What a token of movetext is refused for, by its kind, each test before the next. A `[` and the
+-- end are not for movetext.
 abbrev pub text_refusal : Profile → Part → Kind → Option Reason
 text_refusal p part tokens.left_bracket = Some NotAMove
 text_refusal p part tokens.end = Some NotAMove

@@ -1,4 +1,5 @@
--- What is held of movetext while it is read: the levels, how many moves outside variations there are, and whether a move was written last.
+-- What is held of movetext while it is read: the levels, how many moves outside variations there
+-- are, and whether a move was written last.
 use Rattle.std.specs.Prelude.{◌≡◌, ℕ, ◌<◌, ◌≤◌, Bool, true, false, List, [], ◌∷◌, map, length, Option, None, Some, All}
 use Rattle.chess_rules.specs.declared.position.Parts.{Parts}
 use Rattle.pgn_layout.specs.Lines.{IsToken, lines_of, last_line}
@@ -77,7 +78,8 @@ abbrev pub ends_in_move : Bool → List Placed → Bool
 ends_in_move is_after_move [] = is_after_move
 ends_in_move is_after_move (i ∷ is) = ends_in_move (is_move i.item) is
 
--- The movetext at hand is that of these items, of a game that begins there; and the layout holds their last line.
+-- The movetext at hand is that of these items, of a game that begins there; and the layout holds
+-- their last line.
 pub record HoldsItems (mode : Mode) (start : Parts) (items : List Item) (text : Movetext) (layout : Layout) : Type 0 where
   pub levels : text.levels ≡ levels_held start (levels_of items)
   pub plies : text.plies ≡ length (main_moves items)

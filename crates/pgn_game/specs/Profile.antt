@@ -7,7 +7,8 @@ pub data Missing : Type 0 where
   counts_as_unknown : Missing
   takes_the_marker : Missing
 
--- the most tag pairs of a game, the greatest depth of variations, which parts are written, and what a missing Result is
+-- the most tag pairs of a game, the greatest depth of variations, which parts are written, and what
+-- a missing Result is
 pub record Profile : Type 0 where
   pub tags : ℕ
   pub depth : ℕ

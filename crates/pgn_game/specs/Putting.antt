@@ -1,4 +1,5 @@
--- **Bookkeeping**: what putting an item of movetext does to the levels, to the layout and to the sink.
+-- **Bookkeeping**: what putting an item of movetext does to the levels, to the layout and to the
+-- sink.
 use Rattle.std.specs.Prelude.{◌≡◌, ℕ, ◌+◌, ◌≤◌, Bool, true, false, ◌&&◌, List, [], ◌∷◌, ◌++◌, ◌==◌, map, length, drop, Some, Option, IfSome, Result, MatchResult, OnOk, All}
 use Rattle.std.specs.Io.KnownBytes.{Appends}
 use Rattle.chess_rules.specs.declared.position.Parts.{Parts}
@@ -15,7 +16,8 @@ use Rattle.pgn_game.specs.Text.{is_move, number_before, tokens_at, full_text}
 use Rattle.pgn_game.specs.Movetext.{Movetext, Levels, HoldsItems, IsBackIn, level_at}
 use Rattle.pgn_game.specs.Judging.{item_of}
 
--- A sink before and after a call: the bytes that it has taken, if it says so, and its count of failures.
+-- A sink before and after a call: the bytes that it has taken, if it says so, and its count of
+-- failures.
 pub record Device : Type 0 where
   pub before : Option (List ℕ)
   pub after : Option (List ℕ)
@@ -40,7 +42,8 @@ pub record Puts {A E : Type 0} (tokens : List (List ℕ)) (layout new_layout : L
   pub each : All IsToken tokens
   pub counted : Counts result d.failures d.failures_after
 
--- whether an item is written at this depth: in reduced mode only a move outside variations (PGN 3.2.4)
+-- whether an item is written at this depth: in reduced mode only a move outside variations (PGN
+-- 3.2.4)
 abbrev pub writes : Mode → ℕ → Item → Bool
 writes Full depth i = true
 writes Reduced depth i = is_move i && (depth == 0)
@@ -108,7 +111,8 @@ abbrev pub item_text : Mode → Parts → List Item → Item → List ℕ
 item_text mode start items i =
     drop (length (full_text mode start items)) (full_text mode start (items ++ i ∷ []))
 
--- One item more: it is held, and what it adds was appended, or a front of that where a write failed.
+-- One item more: it is held, and what it adds was appended, or a front of that where a write
+-- failed.
 abbrev pub AddsItem : {A E : Type 0} → Mode → Parts → List Item → Item → Movetext → Layout
     → Result A E → Device → Type 0
 AddsItem mode start items i text layout result d =

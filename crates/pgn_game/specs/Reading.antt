@@ -24,8 +24,8 @@ use Rattle.pgn_game.specs.FaultTable.{refusal, marker_of}
 use Rattle.pgn_game.specs.Begun.{Next, going, whole, next}
 use Rattle.pgn_game.specs.Due.{gain}
 
--- What is asked for, how far the game is, its pairs, its movetext, how many moves outside variations the games before it have, the most
--- pairs tried for a move, and the line of movetext.
+-- What is asked for, how far the game is, its pairs, its movetext, how many moves outside
+-- variations the games before it have, the most pairs tried for a move, and the line of movetext.
 pub record Reading : Type 0 where
   pub profile : Profile
   pub stage : Stage
@@ -35,13 +35,15 @@ pub record Reading : Type 0 where
   pub most_probes : ℕ
   pub layout : Layout
 
--- What holds of the pairs at a stage: a name has begun after a name alone, and after a `[` there is room for one.
+-- What holds of the pairs at a stage: a name has begun after a name alone, and after a `[` there is
+-- room for one.
 abbrev pub AreSound : ℕ → Stage → TagPairs → Type 0
 AreSound most AfterBracket tags = (tags.begun ≡ None) × (length tags.held < most)
 AreSound most AfterName tags = IsSomeAnd tags.begun (λ name. length name ≤ 249)
 AreSound most _ tags = tags.begun ≡ None
 
--- The pairs held are those of the part, and none has the name whose value is to come. Between games they may be those of the game before.
+-- The pairs held are those of the part, and none has the name whose value is to come. Between games
+-- they may be those of the game before.
 abbrev pub HoldsPairs : Stage → TagPairs → Part → Type 0
 HoldsPairs Between tags part = part ≡ no_part
 HoldsPairs AfterName tags part = (tags ≡ record { held = part.pairs; begun = Some part.name }) × (has_pair part.pairs part.name ≡ false)
@@ -51,20 +53,23 @@ HoldsPairs _ tags part = tags ≡ record { held = part.pairs; begun = None }
 abbrev pub has_move : List Item → Bool
 has_move items = list_any is_move items
 
--- The movetext held is that of the part, which before its stage has no item. Between games it may be that of the game before.
+-- The movetext held is that of the part, which before its stage has no item. Between games it may
+-- be that of the game before.
 abbrev pub HoldsText : Stage → Reading → Part → Type 0
 HoldsText Between reading part = reading.layout ≡ holding []
 HoldsText InMovetext reading part =
     HoldsItems reading.profile.mode (start_of part.pairs) part.items reading.text reading.layout × (IsTrue (has_move part.items) → 0 < reading.most_probes)
 HoldsText _ reading part = (part.items ≡ []) × (reading.text ≡ begins_at (start_of part.pairs)) × (reading.layout ≡ holding [])
 
--- The reader agrees with a part: its fields follow from it, but for what was left from the game before.
+-- The reader agrees with a part: its fields follow from it, but for what was left from the game
+-- before.
 pub record Agrees (reading : Reading) (part : Part) : Type 0 where
   pub stage : reading.stage ≡ part.stage
   pub pairs : HoldsPairs reading.stage reading.tags part
   pub text : HoldsText reading.stage reading part
 
--- The reader stands behind a whole game, and still has its pairs, its count of moves and its last position.
+-- The reader stands behind a whole game, and still has its pairs, its count of moves and its last
+-- position.
 pub record IsBehind (reading : Reading) (g : Game) : Type 0 where
   pub agrees : Agrees reading no_part
   pub pairs : reading.tags.held ≡ g.pairs
@@ -99,8 +104,9 @@ pub record IsAccepted (old : Reading) (part : Part) (k : Kind) (new : Reading) (
   pub plies : whole_plies new ≡ whole_plies old + plies_next (next part k)
   pub appended : Appends before after (gain old.profile part k)
 
--- What the reader answers to a token after a part that it agrees with. A token that is not refused leads on, and what it adds is
--- appended, or a front of that where a write failed. A refused one adds nothing.
+-- What the reader answers to a token after a part that it agrees with. A token that is not refused
+-- leads on, and what it adds is appended, or a front of that where a write failed. A refused one
+-- adds nothing.
 abbrev pub Answers : Reading → Part → Kind → Reading → Result Accepted Stopped → Option (List ℕ) → Option (List ℕ) → Type 0
 Answers old part k new (Ok accepted) before after = IsAccepted old part k new accepted before after
 Answers old part k new (Err (Refused reason)) before after = (refusal old.profile part k ≡ Some reason) × Appends before after []
@@ -122,11 +128,13 @@ FinishesAtMarker k new (Ok More) = Unit {0}
 FinishesAtMarker k new (Ok Finished) = IsTrue (is_some (marker_of k)) × (new.stage ≡ Between)
 FinishesAtMarker k new (Err stopped) = Unit {0}
 
--- a reason that no token has: 50 to 53 tell of a device, of the input's length, or of a second reading
+-- a reason that no token has: 50 to 53 tell of a device, of the input's length, or of a second
+-- reading
 abbrev pub is_outside_the_table : Reason → Bool
 is_outside_the_table reason = nat_le 50 (number_of reason)
 
--- A write that fails is counted, and nothing else is; and no token is refused for a reason that none has.
+-- A write that fails is counted, and nothing else is; and no token is refused for a reason that
+-- none has.
 abbrev pub CountsWrites : Result Accepted Stopped → ℕ → ℕ → Type 0
 CountsWrites (Ok accepted) old new = new ≡ old
 CountsWrites (Err (Refused reason)) old new = (new ≡ old) × IsFalse (is_outside_the_table reason)

@@ -1,5 +1,5 @@
--- Which tokens spell which games: a grammar (PGN 18), beside the function that reads them. It knows of no stage, no refusal and no order of
--- reading; the law `UniqueReading` joins the two.
+-- Which tokens spell which games: a grammar (PGN 18), beside the function that reads them. It knows
+-- of no stage, no refusal and no order of reading; the law `UniqueReading` joins the two.
 use Rattle.std.specs.Prelude.{◌≡◌, ℕ, ◌+◌, ◌<◌, ◌≤◌, IsTrue, IsFalse, true, false, List, [], ◌∷◌, ◌++◌, map, length, Option, None, Some, Ok, codes}
 use Rattle.std.specs.List.{AllByRecursion, fold, list_all}
 use Rattle.chess_rules.specs.declared.position.Move.{Move}
@@ -34,8 +34,9 @@ pub data SpellsPairs : List Kind → List Pair → Type 0 where
   no_pair : SpellsPairs [] []
   next_pair : (ks ls : List Kind) (q : Pair) (qs : List Pair) → SpellsPair ks q → SpellsPairs ls qs → SpellsPairs (ks ++ ls) (q ∷ qs)
 
--- Letters, digits and _ make a name, at least one, as every symbol has. Name and escaped value have at most 249 bytes together, so that the
--- line of the pair has at most 255. A Result is a marker; a FEN is one (PGN 16.1), and in the reduced format there is none.
+-- Letters, digits and _ make a name, at least one, as every symbol has. Name and escaped value have
+-- at most 249 bytes together, so that the line of the pair has at most 255. A Result is a marker; a
+-- FEN is one (PGN 16.1), and in the reduced format there is none.
 pub record IsPair (mode : Mode) (q : Pair) : Type 0 where
   pub name : IsTrue (list_all in_name q.name)
   pub room : length q.name + length (escaped q.value) ≤ 249
@@ -62,7 +63,8 @@ IsSetUp ps = value_of ps (codes "SetUp") ≡ Some (codes "1") → IsTrue (has_pa
 
 -- Movetext (PGN 8.2).
 
--- A token that stands anywhere, and the item that it is. Numbers and periods are none: they decide nothing (PGN 8.2.2.1).
+-- A token that stands anywhere, and the item that it is. Numbers and periods are none: they decide
+-- nothing (PGN 8.2.2.1).
 pub data Stands : Kind → List Item → Type 0 where
   number : (s : List ℕ) → IsTrue (is_number s) → Stands (tokens.symbol s) []
   period : Stands tokens.period []
@@ -71,22 +73,25 @@ pub data Stands : Kind → List Item → Type 0 where
   word : (s : List ℕ) → Stands (tokens.word s) (games.word s ∷ [])
   comment_close : Stands tokens.comment_close (games.comment_close ∷ [])
 
--- The symbol, no number and no marker, is the text of one legal move (PGN 8.2.3). No move of Black has the number 99,999.
+-- The symbol, no number and no marker, is the text of one legal move (PGN 8.2.3). No move of Black
+-- has the number 99,999.
 pub record Names (at : Parts) (s : List ℕ) (played : Played) : Type 0 where
   pub no_number : IsFalse (is_number s)
   pub no_marker : IsFalse (is_score s)
   pub one : move_of at s ≡ Some (Ok played)
   pub within : IsFalse (is_at_limit at)
 
--- nothing is played yet: at the beginning of a game, and of a variation, which replaces the last move before it
+-- nothing is played yet: at the beginning of a game, and of a variation, which replaces the last
+-- move before it
 abbrev pub nothing_played : List Move → Level
 nothing_played trail = record { trail = trail; holds_move = false }
 
 abbrev pub has_played : Move → List Move → Level
 has_played m trail = record { trail = m ∷ trail; holds_move = true }
 
--- The tokens of a game, or of one variation, from one place in it to its end: so many variations are open there, and these moves lead
--- there from the first position. A variation stands behind a move, and is movetext itself (PGN 8.2.5).
+-- The tokens of a game, or of one variation, from one place in it to its end: so many variations
+-- are open there, and these moves lead there from the first position. A variation stands behind a
+-- move, and is movetext itself (PGN 8.2.5).
 pub data SpellsText (p : Profile) (first : Parts) : ℕ → Level → List Kind → List Item → Type 0 where
   no_more : (deep : ℕ) (l : Level) → SpellsText p first deep l [] []
   token : (deep : ℕ) (l : Level) (k : Kind) (ks : List Kind) (item items : List Item) → Stands k item → SpellsText p first deep l ks items
@@ -110,7 +115,8 @@ IsResult missing (Some value) marker = marker ≡ value
 IsResult counts_as_unknown None marker = marker ≡ codes "*"
 IsResult takes_the_marker None marker = Unit {0}
 
--- A game: comments that are dropped, pairs, movetext, and a marker outside all variations. Without pairs its first comments are dropped too.
+-- A game: comments that are dropped, pairs, movetext, and a marker outside all variations. Without
+-- pairs its first comments are dropped too.
 pub record SpellsGame (p : Profile) (ks : List Kind) (g : Game) : Type 0 where
   pub before : List Kind
   pub tags : List Kind

@@ -78,7 +78,8 @@ AfterClosing p u given old new Finished before after =
 AfterClosing p u given old new Ended before after = (t : Token) × TookEnd p u given t new before after × StaysBetween old new
 AfterClosing p u given old new (Failed f) before after = ClosedToFault p given (tokens_of u) f before after
 
--- What was read behind the last piece so far, and whether a game was finished there. It is still held while none is begun.
+-- What was read behind the last piece so far, and whether a game was finished there. It is still
+-- held while none is begun.
 pub record ClosedSoFar (p : Profile) (u : List ℕ) (given : List Token) (now : Converter) (is_game : Bool) (before after : Option (List ℕ)) : Type 0 where
   pub tokens : List Token
   pub left : HasLeft now.lexer u tokens
@@ -124,7 +125,8 @@ abbrev pub closed_with : Bool → Stepped → Stepped
 closed_with true More = Ended
 closed_with is_end outcome = outcome
 
--- A step without a token uses the whole piece; one with a token uses a byte, or the token was waiting.
+-- A step without a token uses the whole piece; one with a token uses a byte, or the token was
+-- waiting.
 abbrev pub StepAdvances : Standing → List ℕ → Standing → ℕ → Stepped → Type 0
 StepAdvances old piece new used NeedMore = used ≡ length piece
 StepAdvances old piece new used More = waiting new < 2 * used + waiting old

@@ -30,18 +30,21 @@ is_move _ = false
 abbrev pub is_main_move : Placed → Bool
 is_main_move i = is_move i.item && (i.depth == 0)
 
--- the items that are written: all, or in the reduced format the moves outside variations (PGN 3.2.4)
+-- the items that are written: all, or in the reduced format the moves outside variations (PGN
+-- 3.2.4)
 abbrev pub written_items : Mode → List Placed → List Placed
 written_items Full is = is
 written_items Reduced is = filter is_main_move is
 
--- The number of a move: `n.` before White's; before Black's `n...`, unless a move stands just before it (PGN 8.2.2.2).
+-- The number of a move: `n.` before White's; before Black's `n...`, unless a move stands just
+-- before it (PGN 8.2.2.2).
 abbrev pub number_before : Bool → Bool → ℕ → List (List ℕ)
 number_before is_after_move false n = (decimal n ++ codes ".") ∷ []
 number_before false true n = (decimal n ++ codes "...") ∷ []
 number_before true true n = []
 
--- the tokens of an item: a move with its number, `$` and a number (PGN 8.2.4), a comment's brace or word, a parenthesis
+-- the tokens of an item: a move with its number, `$` and a number (PGN 8.2.4), a comment's brace or
+-- word, a parenthesis
 abbrev pub tokens_at : Bool → Parts → Item → List (List ℕ)
 tokens_at is_after_move p (move m) = number_before is_after_move (is_black_to_move p) p.full ++ text_of_move p m ∷ []
 tokens_at is_after_move p (glyph n) = (36 ∷ decimal n) ∷ []
@@ -83,7 +86,8 @@ abbrev pub torn_for : Missing → Mode → Part → List ℕ
 torn_for counts_as_unknown mode part = torn_at part.stage mode part
 torn_for takes_the_marker mode part = []
 
--- What stands written of a game that is not whole: nothing while it has no movetext; then its tag section and all lines but the last.
--- Where a missing Result takes the marker, the section waits for the marker, and nothing stands written.
+-- What stands written of a game that is not whole: nothing while it has no movetext; then its tag
+-- section and all lines but the last. Where a missing Result takes the marker, the section waits
+-- for the marker, and nothing stands written.
 abbrev pub torn : Profile → Part → List ℕ
 torn p part = torn_for p.missing_result p.mode part

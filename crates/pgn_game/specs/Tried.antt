@@ -22,6 +22,7 @@ abbrev pub CostsForm : Parts → Option Form → ℕ → Type 0
 CostsForm p None n = n ≡ 0
 CostsForm p (Some f) n = CostsAnswer p f (reads p f) n
 
--- For a text in a position n pairs are tried. It is `unfoldable`, so that goals show it by its name.
+-- For a text in a position n pairs are tried. It is `unfoldable`, so that goals show it by its
+-- name.
 unfoldable pub Costs : Parts → List ℕ → ℕ → Type 0
 Costs p s n = CostsForm p (form_of s) n

@@ -49,8 +49,8 @@ struct Step {
     outcome: Stepped,
 }
 
-/// Converts games from import format to export format (PGN 3), in pieces of any length. A game has at most `T` tag pairs, and its
-/// variations are at most `L - 1` deep.
+/// Converts games from import format to export format (PGN 3), in pieces of any length. A game has
+/// at most `T` tag pairs, and its variations are at most `L - 1` deep.
 #[derive(Drop)]
 pub struct Converter<const T: usize, const L: usize> {
     lexer: Lexer,
@@ -98,8 +98,8 @@ impl<const T: usize, const L: usize> Converter<T, L> {
 
     /// Converts the piece up to the end of the next game, and reports how much of it was used.
     ///
-    /// After `Game(used)` the next piece that is not empty has to begin with the rest of this one. A
-    /// marker that is a symbol is known only at the byte after it, so `Game(0)` is possible.
+    /// After `Game(used)` the next piece that is not empty has to begin with the rest of this one.
+    /// A marker that is a symbol is known only at the byte after it, so `Game(0)` is possible.
     ///
     /// # Errors
     ///
@@ -107,8 +107,8 @@ impl<const T: usize, const L: usize> Converter<T, L> {
     /// - `Reason::InputTooLong` where a byte stands at place 2^62.
     /// - `Reason::WriteFault` where a write failed.
     ///
-    /// In the first two cases everything that is due for the tokens before it is written. Each later
-    /// call reports the same fault and writes nothing.
+    /// In the first two cases everything that is due for the tokens before it is written. Each
+    /// later call reports the same fault and writes nothing.
     pub fn feed<W: Sink>(&mut self, piece: &[u8], out: &mut W) -> Result<Fed, Fault>
         requires going { self.old.is_finished ≡ false }
         ensures used { IfOk result (λ fed. used_of fed piece.now ≤ length piece.now) }
@@ -163,8 +163,9 @@ impl<const T: usize, const L: usize> Converter<T, L> {
         }
     }
 
-    /// Ends the input: converts what is left, and tells whether that finished a game. Answers a fault as `feed` does; where the input ends
-    /// in movetext or behind a whole tag pair that is 42, and inside a pair 20, 24 or 28.
+    /// Ends the input: converts what is left, and tells whether that finished a game. Answers a
+    /// fault as `feed` does; where the input ends in movetext or behind a whole tag pair that is
+    /// 42, and inside a pair 20, 24 or 28.
     pub fn finish<W: Sink>(&mut self, out: &mut W) -> Result<bool, Fault>
         requires going { self.old.is_finished ≡ false }
         ensures ends { Ends self.old self.new result (W.taken out.old) (W.taken out.new) }
@@ -173,7 +174,8 @@ impl<const T: usize, const L: usize> Converter<T, L> {
         ensures fault { KeepsFault self.new result }
         ensures hand { OnErr result (self.new.at_hand ≡ None) }
         ensures again { Again self.old self.new result out.old out.new }
-        ensures counted { self.old.fault ≡ None → CountsFault result (W.failures out.old) (W.failures out.new) }
+        ensures counted { self.old.fault ≡ None
+            → CountsFault result (W.failures out.old) (W.failures out.new) }
     {
         if let Some(fault) = self.fault {
             return Err(fault);
@@ -195,8 +197,9 @@ impl<const T: usize, const L: usize> Converter<T, L> {
         }
     }
 
-    /// The value of a name in the tag section of the game at hand, its defaults included. A game is at hand from the call that finished it
-    /// to the next call of `feed` or `finish`; while none is, there is no value.
+    /// The value of a name in the tag section of the game at hand, its defaults included. A game is
+    /// at hand from the call that finished it to the next call of `feed` or `finish`; while none
+    /// is, there is no value.
     pub fn tag(&self, name: &[u8]) -> Option<&[u8]>
         ensures { option_copied result ≡ value_at_hand self.now name.now }
     {
@@ -206,7 +209,8 @@ impl<const T: usize, const L: usize> Converter<T, L> {
         None
     }
 
-    /// How many moves outside variations the game at hand has, each side's counted as one; 0 while none is.
+    /// How many moves outside variations the game at hand has, each side's counted as one; 0 while
+    /// none is.
     pub fn plies(&self) -> u64
         ensures { result ≡ plies_at_hand self.now }
     {
@@ -216,7 +220,8 @@ impl<const T: usize, const L: usize> Converter<T, L> {
         0
     }
 
-    /// The position after the moves of the game at hand that stand outside variations; None while none is.
+    /// The position after the moves of the game at hand that stand outside variations; None while
+    /// none is.
     pub fn position(&self) -> Option<&Position>
         ensures { option_copied result ≡ position_at_hand self.now }
     {
@@ -226,8 +231,8 @@ impl<const T: usize, const L: usize> Converter<T, L> {
         None
     }
 
-    /// The most pairs of an origin and a target that were tried for one move so far, for its SAN and its mark too. It is at most 1,040, and
-    /// at least 1 once a move was played.
+    /// The most pairs of an origin and a target that were tried for one move so far, for its SAN
+    /// and its mark too. It is at most 1,040, and at least 1 once a move was played.
     pub fn most_probes(&self) -> u32
         ensures value { result ≡ self.now.reading.most_probes }
         ensures bound { result ≤ 1040 }
@@ -307,10 +312,13 @@ impl<const T: usize, const L: usize> Converter<T, L> {
         requires some { 0 < length piece.now }
         requires hand { self.old.at_hand ≡ None }
         ensures used { result.used ≤ length piece.now }
-        ensures after { (p : Profile) (u : List ℕ) (given : List Token) → Stands p self.old u (first piece.now) given
-            → AfterStep p u given piece.now self.new result.used result.outcome (W.taken out.old) (W.taken out.new) }
+        ensures after { (p : Profile) (u : List ℕ) (given : List Token)
+            → Stands p self.old u (first piece.now) given
+            → AfterStep p u given piece.now self.new result.used result.outcome
+            (W.taken out.old) (W.taken out.new) }
         ensures count { self.new.lexer.count ≡ self.old.lexer.count + result.used }
-        ensures advances { StepAdvances self.old.lexer piece.now self.new.lexer result.used result.outcome }
+        ensures advances { StepAdvances self.old.lexer piece.now self.new.lexer result.used
+            result.outcome }
         ensures fault { self.new.fault ≡ fault_of_step result.outcome }
         ensures games { self.new.games ≡ games_after result.outcome self.old.games }
         ensures probes { self.old.reading.most_probes ≤ self.new.reading.most_probes }
@@ -344,7 +352,8 @@ impl<const T: usize, const L: usize> Converter<T, L> {
         requires no_fault { self.old.fault ≡ None }
         requires going { self.old.is_finished ≡ false }
         requires hand { self.old.at_hand ≡ None }
-        ensures after { (p : Profile) (u : List ℕ) (given : List Token) → HasLeft self.old.lexer u given → HasRead p self.old given
+        ensures after { (p : Profile) (u : List ℕ) (given : List Token)
+            → HasLeft self.old.lexer u given → HasRead p self.old given
             → AfterClosing p u given self.old self.new result (W.taken out.old) (W.taken out.new) }
         ensures advances { CloseAdvances self.old.lexer self.new.lexer result }
         ensures fault { self.new.fault ≡ fault_of_step result }
@@ -393,7 +402,8 @@ fn too_long(kept: &mut Option<Fault>) -> Fault
     Fault { at, reason }
 }
 
-// What an answer of the reader to a token at this place comes to: a game finished is counted, a fault is kept.
+// What an answer of the reader to a token at this place comes to: a game finished is counted, a
+// fault is kept.
 fn settle(
     at: u64,
     accepted: Result<Accepted, Stopped>,

@@ -11,14 +11,16 @@ pub fn due_grows()
     ensures { laws.DueGrows }
 {}
 
-/// A text spells games, by the grammar, exactly if none of its tokens is refused: those that are read, and no others.
+/// A text spells games, by the grammar, exactly if none of its tokens is refused: those that are
+/// read, and no others.
 pub fn unique_reading()
     ensures { unique.UniqueReading }
 {
     tokens_rise();
 }
 
-/// Each move of the games that are read is legal in the position where it stands, inside variations too (FIDE 3).
+/// Each move of the games that are read is legal in the position where it stands, inside variations
+/// too (FIDE 3).
 pub fn moves_are_legal()
     ensures { legality.MovesAreLegal }
 {

@@ -91,7 +91,10 @@ impl<const L: usize> Levels<L> {
 
     /// Plays a move to this position.
     pub fn play(&mut self, next: Position)
-        ensures { self.new ≡ record { present = record { present = next; before = Some self.old.present.present }; around = self.old.around } }
+        ensures { self.new ≡ record {
+          present = record { present = next; before = Some self.old.present.present };
+          around = self.old.around;
+        } }
     {
         let last = self.levels.len() - 1;
         let level = &mut self.levels[last];

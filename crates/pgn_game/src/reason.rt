@@ -23,7 +23,8 @@ pub enum Reason {
     ExpectedValue,
     /// 25: a Result value is none of the four markers (PGN 8.1.1.7).
     BadResult,
-    /// 26: a FEN value is no position; the field is 1 to 6, or 7 where the six fields break a rule together (PGN 16.1).
+    /// 26: a FEN value is no position; the field is 1 to 6, or 7 where the six fields break a rule
+    /// together (PGN 16.1).
     BadFen(u8),
     /// 27: the pair's line would have more than 255 bytes (PGN 4.3).
     TagLineTooLong,
@@ -185,7 +186,8 @@ pub struct Fault {
 }
 
 impl Fault {
-    /// The fault as a line without its end: `byte N: ` and the reason in words, as in `byte 5: bad FEN, field 1`.
+    /// The fault as a line without its end: `byte N: ` and the reason in words, as in `byte 5: bad
+    /// FEN, field 1`.
     pub fn line(&self) -> ArrayVec<u8, 96>
         ensures { result.items ≡ line_of self.now }
     {

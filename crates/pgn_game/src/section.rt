@@ -18,8 +18,9 @@ const SET_UP: &[u8] = b"SetUp";
 /// Its value where one does.
 const FROM_FEN: &[u8] = b"1";
 
-/// Writes the tag section (PGN 8.1): the roster, in full mode the other pairs, and an empty line. A pair of the roster
-/// that the game has not is written with its value for unknown, Result with `*`. Beside a FEN, SetUp is 1 (PGN 9.7.1).
+/// Writes the tag section (PGN 8.1): the roster, in full mode the other pairs, and an empty line. A
+/// pair of the roster that the game has not is written with its value for unknown, Result with `*`.
+/// Beside a FEN, SetUp is 1 (PGN 9.7.1).
 pub fn write_section<W: Sink>(
     mode: Mode,
     pairs: &[TagPair],
@@ -27,7 +28,8 @@ pub fn write_section<W: Sink>(
     out: &mut W,
 ) -> Result<(), WriteFault>
     requires going { layout.old.has_failed ≡ false }
-    ensures text { Writes (W.taken out.old) (W.taken out.new) result (tag_section mode (42 ∷ []) pairs.now) }
+    ensures text { Writes (W.taken out.old) (W.taken out.new) result
+        (tag_section mode (42 ∷ []) pairs.now) }
     ensures line { OnOk result (layout.new ≡ layout.old) }
     ensures failed { OnErr result (IsTrue layout.new.has_failed) }
     ensures counted { Counts result (W.failures out.old) (W.failures out.new) }
@@ -87,7 +89,8 @@ fn write_roster<W: Sink>(
     out: &mut W,
 ) -> Result<(), WriteFault>
     requires going { layout.old.has_failed ≡ false }
-    ensures text { Writes (W.taken out.old) (W.taken out.new) result (text_by (roster_line pairs.now) (roster (42 ∷ []))) }
+    ensures text { Writes (W.taken out.old) (W.taken out.new) result
+        (text_by (roster_line pairs.now) (roster (42 ∷ []))) }
     ensures line { OnOk result (layout.new ≡ layout.old) }
     ensures failed { OnErr result (IsTrue layout.new.has_failed) }
     ensures counted { Counts result (W.failures out.old) (W.failures out.new) }
@@ -149,7 +152,8 @@ fn write_pairs<W: Sink>(
     out: &mut W,
 ) -> Result<(), WriteFault>
     requires going { layout.old.has_failed ≡ false }
-    ensures text { Writes (W.taken out.old) (W.taken out.new) result (text_by (other_line has_fen) pairs.now) }
+    ensures text { Writes (W.taken out.old) (W.taken out.new) result
+        (text_by (other_line has_fen) pairs.now) }
     ensures line { OnOk result (layout.new ≡ layout.old) }
     ensures failed { OnErr result (IsTrue layout.new.has_failed) }
     ensures counted { Counts result (W.failures out.old) (W.failures out.new) }
@@ -183,7 +187,8 @@ fn write_other<W: Sink>(
 // A name of the roster and its value for unknown, by its place (PGN 8.1.1).
 fn roster_pair(index: usize) -> (&'static [u8], &'static [u8])
     requires { index < 7 }
-    ensures pair { slice_get (roster (42 ∷ [])) index ≡ Some (record { name = result.0.now; value = result.1.now }) }
+    ensures pair { slice_get (roster (42 ∷ [])) index
+        ≡ Some (record { name = result.0.now; value = result.1.now }) }
     ensures fits { length result.0.now + length (escaped result.1.now) ≤ 249 }
 {
     match index {

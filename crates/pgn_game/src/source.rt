@@ -21,8 +21,8 @@ pub trait Source {
     // How many calls have failed; the count stays at the last number of 64 bits.
     ghost failures: { Self → ℕ };
 
-    /// Gives bytes at the buffer's front and tells how many, none only at the end or where there is no room; or fails
-    /// and gives none.
+    /// Gives bytes at the buffer's front and tells how many, none only at the end or where there is
+    /// no room; or fails and gives none.
     fn read_some(&mut self, buffer: &mut [u8]) -> Result<usize, ReadFailed>
         ensures bound { ReadsAtMost result buffer.new }
         ensures bytes { ReadConsumes (left self.old) (left self.new) result buffer.new }

@@ -88,9 +88,13 @@ impl<const T: usize> TagPairs<T> {
 
     /// Gives the name that has begun its value.
     pub fn complete(&mut self, value: &[u8])
-        requires { IsSomeAnd self.old.begun (λ name. length name + length (escaped value.now) ≤ 249) }
+        requires { IsSomeAnd self.old.begun
+            (λ name. length name + length (escaped value.now) ≤ 249) }
         ensures { IfSome self.old.begun (λ name. self.new
-            ≡ record { held = insert_pair (record { name = name; value = value.now }) self.old.held; begun = None }) }
+            ≡ record {
+              held = insert_pair (record { name = name; value = value.now }) self.old.held;
+              begun = None;
+            }) }
     {
         if let Some(begun) = self.pairs.pop() {
             let pair = TagPair::new(begun.name(), value);

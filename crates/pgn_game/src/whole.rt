@@ -19,14 +19,15 @@ pub struct Totals {
     pub games: u64,
     /// How many moves outside variations they have together, each side's counted as one.
     pub plies: u64,
-    /// The most pairs of an origin and a target that were tried for one move, for its SAN and its mark too; at most 1,040.
+    /// The most pairs of an origin and a target that were tried for one move, for its SAN and its
+    /// mark too; at most 1,040.
     pub most_probes: u32,
 }
 
 /// Converts the games that the source gives from import format to export format (PGN 3).
 ///
-/// A read that gives no byte is the end. Nothing is flushed. A game has at most `T` tag pairs, and its
-/// variations are at most `L - 1` deep.
+/// A read that gives no byte is the end. Nothing is flushed. A game has at most `T` tag pairs, and
+/// its variations are at most `L - 1` deep.
 ///
 /// # Errors
 ///
@@ -40,7 +41,8 @@ pub fn convert<const T: usize, const L: usize, R: Source, W: Sink>(
 ) -> Result<Totals, Fault>
     requires levels { 1 ≤ L }
     requires memory { Holds T.row L.row }
-    ensures converts { Converts (profile_of T (L - 1) mode) (R.left reader.old) (R.left reader.new) result
+    ensures converts { Converts (profile_of T (L - 1) mode) (R.left reader.old)
+        (R.left reader.new) result
         (W.taken writer.old) (W.taken writer.new) }
     ensures short { OnOk result (IfSome (R.left reader.old) (λ s. length s ≤ 2 ^ 62)) }
     ensures counted { CountsResult result (R.failures reader.old) (R.failures reader.new)
@@ -70,7 +72,8 @@ pub fn convert_slice<const T: usize, const L: usize, W: Sink>(
 ) -> Result<Totals, Fault>
     requires levels { 1 ≤ L }
     requires memory { Holds T.row L.row }
-    ensures converts { ConvertsSlice (profile_of T (L - 1) mode) text.now result (W.taken writer.old) (W.taken writer.new) }
+    ensures converts { ConvertsSlice (profile_of T (L - 1) mode) text.now result
+        (W.taken writer.old) (W.taken writer.new) }
     ensures short { OnOk result (length text.now ≤ 2 ^ 62) }
     ensures counted { CountsSink result (W.failures writer.old) (W.failures writer.new) }
 {
@@ -86,7 +89,8 @@ fn end<const T: usize, const L: usize, W: Sink>(
 ) -> Result<Totals, Fault>
     requires going { converter.old.is_finished ≡ false }
     requires no_fault { converter.old.fault ≡ None }
-    ensures ends { (p : Profile) (u : List ℕ) (given : List Token) → Stands p converter.old u None given
+    ensures ends { (p : Profile) (u : List ℕ) (given : List Token)
+        → Stands p converter.old u None given
         → AfterEnd p u given result (W.taken writer.old) (W.taken writer.new) }
     ensures counted { CountsFault result (W.failures writer.old) (W.failures writer.new) }
 {

@@ -4,7 +4,8 @@ use Rattle.pgn_layout.specs.Device.{Counts}
 use Rattle.pgn_layout.specs.TagLine.{tag_line}
 use Rattle.pgn_layout.specs.Lines.{has_room}
 
--- what a contract sees of a layout: the line that is not written yet, and whether a write has failed
+-- what a contract sees of a layout: the line that is not written yet, and whether a write has
+-- failed
 pub record Layout : Type 0 where
   pub line : List ℕ
   pub has_failed : Bool
@@ -63,8 +64,9 @@ laid_from line [] = record { written = []; line = line }
 laid_from line (c ∷ cs) =
     record { written = text_at line c ++ (laid_from (line_at line c) cs).written; line = (laid_from (line_at line c) cs).line }
 
--- How a call that writes fails, with the flag of a failure before and after it. After a failure it fails again, and the sink
--- stays as it was. Before one it fails only where the sink counts a failure in this call, and has failed from then on.
+-- How a call that writes fails, with the flag of a failure before and after it. After a failure it
+-- fails again, and the sink stays as it was. Before one it fails only where the sink counts a
+-- failure in this call, and has failed from then on.
 pub record Fails {A E S : Type 0} (failures : S → ℕ) (old new : Bool) (out_old out_new : S) (result : Result A E) : Type 0 where
   pub again : IsTrue old → IsErr result × (out_new ≡ out_old)
   pub counted : old ≡ false → Counts result (failures out_old) (failures out_new)

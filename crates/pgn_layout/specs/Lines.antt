@@ -1,4 +1,5 @@
--- Movetext tokens on lines (PGN 8.2.1): in order, a single space between two, at most 79 bytes a line.
+-- Movetext tokens on lines (PGN 8.2.1): in order, a single space between two, at most 79 bytes a
+-- line.
 use Rattle.std.specs.Prelude.{◌≡◌, ℕ, ◌+◌, ◌<◌, ◌≤◌, Bool, true, false, List, [], ◌∷◌, ◌++◌, map, length, nat_le}
 
 -- the tokens of one line: the first, and those after it
@@ -18,7 +19,8 @@ spaced (t ∷ ts) = (32 ∷ t) ++ spaced ts
 abbrev pub text_on : Line → List ℕ
 text_on l = l.first ++ spaced l.others
 
--- Each line has at most 79 bytes, and one that another follows would pass them with a space and that line's first token.
+-- Each line has at most 79 bytes, and one that another follows would pass them with a space and
+-- that line's first token.
 abbrev pub AreFull : List Line → Type 0
 AreFull [] = Unit {0}
 AreFull (l ∷ []) = length (text_on l) ≤ 79
@@ -29,7 +31,8 @@ abbrev pub tokens_over : List Line → List (List ℕ)
 tokens_over [] = []
 tokens_over (l ∷ ls) = tokens_on l ++ tokens_over ls
 
--- These are the lines of the tokens: the tokens stand on them in order, and each line is as full as it can be.
+-- These are the lines of the tokens: the tokens stand on them in order, and each line is as full as
+-- it can be.
 pub record Lines (tokens : List (List ℕ)) (lines : List (List ℕ)) : Type 0 where
   pub parts : List Line
   pub in_order : tokens_over parts ≡ tokens

@@ -7,8 +7,9 @@ pub fn tokens_determine_lines()
     ensures { TokensDetermineLines }
 {}
 
-/// Law: tokens put in turn from an empty line on are written on their lines. All lines but the last go out as the tokens
-/// come, the last one is held, and goes out at the end of the game with an empty line after it (PGN 8.2.1, 8.2.6).
+/// Law: tokens put in turn from an empty line on are written on their lines. All lines but the last
+/// go out as the tokens come, the last one is held, and goes out at the end of the game with an
+/// empty line after it (PGN 8.2.1, 8.2.6).
 pub fn lines_are_those_put()
     ensures { LinesAreThosePut }
 {}

@@ -18,8 +18,8 @@ const LINE_WITH_LF_LENGTH: usize = LINE_LENGTH + 1;
 
 /// Writes tag pairs, and sets movetext tokens on lines. It holds the line that is not full yet.
 ///
-/// After a call answered [`WriteFault`], a front of its text was written and not all of it, and each later call that takes a sink answers
-/// `WriteFault` again and leaves the sink as it is.
+/// After a call answered [`WriteFault`], a front of its text was written and not all of it, and
+/// each later call that takes a sink answers `WriteFault` again and leaves the sink as it is.
 #[derive(Drop)]
 pub struct Layout {
     line: ArrayVec<u8, LINE_WITH_LF_LENGTH>,
@@ -48,13 +48,18 @@ impl Layout {
         }
     }
 
-    /// Writes a tag pair, `[name "value"]` and LF, with a backslash before each quote and each backslash of the value
-    /// (PGN 7, 8.1). The line has at most 255 bytes. The line of movetext stays as it is.
+    /// Writes a tag pair, `[name "value"]` and LF, with a backslash before each quote and each
+    /// backslash of the value (PGN 7, 8.1). The line has at most 255 bytes. The line of movetext
+    /// stays as it is.
     pub fn tag<W: Sink>(&mut self, name: &[u8], value: &[u8], out: &mut W) -> Result<(), WriteFault>
         requires { length name.now + length (escaped value.now) ≤ 249 }
-        ensures text { self.old.has_failed ≡ false → Writes (W.taken out.old) (W.taken out.new) result (text_at self.old.line (Tag name.now value.now)) }
-        ensures line { OnOk result (self.new ≡ holding (line_at self.old.line (Tag name.now value.now))) }
-        ensures faults { Fails W.failures self.old.has_failed self.new.has_failed out.old out.new result }
+        ensures text { self.old.has_failed ≡ false
+            → Writes (W.taken out.old) (W.taken out.new) result
+            (text_at self.old.line (Tag name.now value.now)) }
+        ensures line { OnOk result
+            (self.new ≡ holding (line_at self.old.line (Tag name.now value.now))) }
+        ensures faults { Fails W.failures self.old.has_failed self.new.has_failed out.old out.new
+            result }
     {
         let line = tag_line(name, value);
         write(&mut self.has_failed, line.as_slice(), out)
@@ -62,21 +67,27 @@ impl Layout {
 
     /// Ends the tag section with an empty line (PGN 8.1). The line of movetext stays as it is.
     pub fn end_tags<W: Sink>(&mut self, out: &mut W) -> Result<(), WriteFault>
-        ensures text { self.old.has_failed ≡ false → Writes (W.taken out.old) (W.taken out.new) result (text_at self.old.line EndTags) }
+        ensures text { self.old.has_failed ≡ false
+            → Writes (W.taken out.old) (W.taken out.new) result (text_at self.old.line EndTags) }
         ensures line { OnOk result (self.new ≡ holding (line_at self.old.line EndTags)) }
-        ensures faults { Fails W.failures self.old.has_failed self.new.has_failed out.old out.new result }
+        ensures faults { Fails W.failures self.old.has_failed self.new.has_failed out.old out.new
+            result }
     {
         let empty_line = b"\n";
         write(&mut self.has_failed, empty_line, out)
     }
 
-    /// Sets a movetext token of 1 to 79 bytes on the line, after a space if it is not the first. Where there is no room,
-    /// the line is written with LF and the token begins the next one (PGN 8.2.1).
+    /// Sets a movetext token of 1 to 79 bytes on the line, after a space if it is not the first.
+    /// Where there is no room, the line is written with LF and the token begins the next one (PGN
+    /// 8.2.1).
     pub fn put<W: Sink>(&mut self, token: &[u8], out: &mut W) -> Result<(), WriteFault>
         requires { IsToken token.now }
-        ensures text { self.old.has_failed ≡ false → Writes (W.taken out.old) (W.taken out.new) result (text_at self.old.line (Put token.now)) }
+        ensures text { self.old.has_failed ≡ false
+            → Writes (W.taken out.old) (W.taken out.new) result
+            (text_at self.old.line (Put token.now)) }
         ensures line { OnOk result (self.new ≡ holding (line_at self.old.line (Put token.now))) }
-        ensures faults { Fails W.failures self.old.has_failed self.new.has_failed out.old out.new result }
+        ensures faults { Fails W.failures self.old.has_failed self.new.has_failed out.old out.new
+            result }
     {
         if self.has_failed {
             return Err(WriteFault);
@@ -95,11 +106,14 @@ impl Layout {
         Ok(())
     }
 
-    /// Ends the game: writes the line with LF, if it holds a token, and an empty line (PGN 8.2.6). The line is then empty.
+    /// Ends the game: writes the line with LF, if it holds a token, and an empty line (PGN 8.2.6).
+    /// The line is then empty.
     pub fn end_game<W: Sink>(&mut self, out: &mut W) -> Result<(), WriteFault>
-        ensures text { self.old.has_failed ≡ false → Writes (W.taken out.old) (W.taken out.new) result (text_at self.old.line EndGame) }
+        ensures text { self.old.has_failed ≡ false
+            → Writes (W.taken out.old) (W.taken out.new) result (text_at self.old.line EndGame) }
         ensures line { OnOk result (self.new ≡ holding (line_at self.old.line EndGame)) }
-        ensures faults { Fails W.failures self.old.has_failed self.new.has_failed out.old out.new result }
+        ensures faults { Fails W.failures self.old.has_failed self.new.has_failed out.old out.new
+            result }
     {
         if self.line.is_empty() {
             return write(&mut self.has_failed, b"\n", out);
@@ -126,7 +140,8 @@ fn append(line: &mut ArrayVec<u8, LINE_WITH_LF_LENGTH>, token: &[u8])
 
 // Writes the text, unless a write has failed.
 fn write<W: Sink>(has_failed: &mut bool, text: &[u8], out: &mut W) -> Result<(), WriteFault>
-    ensures text { has_failed.old ≡ false → Writes (W.taken out.old) (W.taken out.new) result text.now }
+    ensures text { has_failed.old ≡ false
+        → Writes (W.taken out.old) (W.taken out.new) result text.now }
     ensures faults { Fails W.failures has_failed.old has_failed.new out.old out.new result }
 {
     if *has_failed {

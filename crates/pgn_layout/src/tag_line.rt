@@ -10,8 +10,9 @@ const TAG_LINE_LENGTH: usize = 255;
 /// What is left of it for the name and the escaped value, beside `[`, ` "`, `"]` and LF.
 const NAME_AND_VALUE_LENGTH: usize = 249;
 
-/// Whether a tag pair fits on a line of at most 255 bytes, its LF included (PGN 4.3): the name and the value, with a
-/// backslash before each quote and each backslash of the value, have at most 249 bytes together.
+/// Whether a tag pair fits on a line of at most 255 bytes, its LF included (PGN 4.3): the name and
+/// the value, with a backslash before each quote and each backslash of the value, have at most 249
+/// bytes together.
 pub fn fits_tag_line(name: &[u8], value: &[u8]) -> bool
     ensures { IsTrue result ↔ (length name.now + length (escaped value.now) ≤ 249) }
 {
@@ -29,7 +30,8 @@ pub fn fits_tag_line(name: &[u8], value: &[u8]) -> bool
     true
 }
 
-// `[name "value"]` and LF, with a backslash before each quote and backslash of the value (PGN 7, 8.1).
+// `[name "value"]` and LF, with a backslash before each quote and backslash of the value (PGN 7,
+// 8.1).
 pub fn tag_line(name: &[u8], value: &[u8]) -> ArrayVec<u8, TAG_LINE_LENGTH>
     requires { length name.now + length (escaped value.now) ≤ 249 }
     ensures { result.items ≡ line_of_tag name.now value.now }

@@ -5,7 +5,8 @@ use std::io::{self, ErrorKind, Write};
 use std::process::Abort;
 use std::test::Fail;
 
-/// The movetext of the sample game of the standard (PGN 2.3), as it stands there, and an empty line.
+/// The movetext of the sample game of the standard (PGN 2.3), as it stands there, and an empty
+/// line.
 const MOVETEXT: &[u8] =
     b"1. e4 e5 2. Nf3 Nc6 3. Bb5 a6 4. Ba4 Nf6 5. O-O Be7 6. Re1 b5 7. Bb3 d6 8. c3
 O-O 9. h3 Nb8 10. d4 Nbd7 11. c4 c6 12. cxb5 axb5 13. Nc3 Bb7 14. Bg5 b4 15.
@@ -17,7 +18,8 @@ f3 Bc8 34. Kf2 Bf5 35. Ra7 g6 36. Ra6+ Kc5 37. Ke1 Nf4 38. g3 Nxh3 39. Kd2 Kb5
 
 ";
 
-/// Tag pairs with quotes and backslashes, an empty line, and three lines of movetext, as they are to be written.
+/// Tag pairs with quotes and backslashes, an empty line, and three lines of movetext, as they are
+/// to be written.
 const GAME: &[u8] = b"[Event \"F/S Return Match\"]
 [Site \"\\\"a\\\\b\\\"\"]
 [Round \"\"]
@@ -189,8 +191,9 @@ fn keeps_nothing_nowhere(rt: HostRuntime) {
     assert_eq!(rt; Nowhere.flush(), Ok(()));
 }
 
-/// Writes the game with a trouble at the k-th call, for each k until there are no more calls. The text is whole where the
-/// trouble is a short write; else a front of it was taken, and no later call reaches the writer.
+/// Writes the game with a trouble at the k-th call, for each k until there are no more calls. The
+/// text is whole where the trouble is a short write; else a front of it was taken, and no later
+/// call reaches the writer.
 fn meets(rt: &impl Abort, alloc: Global, trouble: Trouble) -> Result<usize, Fail> {
     for trouble_at in 0..10_000 {
         let mut out = Outlet::new(Troubled::new(alloc, trouble, trouble_at));

@@ -154,7 +154,8 @@ common_of-none a b c d e f apart =
     let five = common_heads e f t four.1 in
     apart t one.0 two.0 three.0 four.0 five.0 five.1)
 
--- what is decided, where the tokens of all texts that begin with u are known to begin with those given
+-- what is decided, where the tokens of all texts that begin with u are known to begin with those
+-- given
 pub decided_is : (given : List Token) (u : List ℕ) (comes : List ℕ → List Token) → ((s : List ℕ) → tokens_of (u ++ s) ≡ given ++ comes s)
     → decided u ≡ given ++ common_of (comes []) (comes (49 ∷ [])) (comes (33 ∷ [])) (comes (34 ∷ 34 ∷ [])) (comes (191 ∷ [])) (comes (187 ∷ 191 ∷ []))
 decided_is given u comes tokens =

@@ -22,7 +22,8 @@ use Rattle.pgn_lexer.specs.TokensOf as tokens
 use Rattle.pgn_lexer.specs.TokensOf.{Within, begins_class, begins_first, begins_after, begins_word, begins_brace, begins_line, begins, next, onto, at_end, tokens_from}
 use Rattle.std.proofs.lemmas.List.Sums.{take_while-cons}
 
--- What begins at a place stands there or further on, and is a refusal or a token that is not the last.
+-- What begins at a place stands there or further on, and is a refusal or a token that is not the
+-- last.
 abbrev FoundFrom : ℕ → Found → Type 0
 FoundFrom at spelling.nothing = Unit {0}
 FoundFrom at (gives k) = IsLast k → ⊥

@@ -10,8 +10,8 @@ use Rattle.pgn_lexer.specs.TokensOf.{Within, tokens_from}
 use Rattle.pgn_lexer.specs.Held.{Held, to_come, kind_in, token_of, refusal, IsSound, IsGoing, pending}
 use Rattle.pgn_lexer.specs.Taking.{Taken}
 
--- What comes from a byte b at the place: `front s` where s follows b, and `ended` where the text ends before b;
--- `waits` tokens at most came with no byte more.
+-- What comes from a byte b at the place: `front s` where s follows b, and `ended` where the text
+-- ends before b; `waits` tokens at most came with no byte more.
 pub record Front : Type 0 where
   pub place : ℕ
   pub byte : ℕ

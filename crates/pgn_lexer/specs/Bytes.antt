@@ -35,7 +35,7 @@ continues_symbol b = starts_symbol b || (b == 95) || (b == 43) || (b == 35) || (
 abbrev pub is_suffix : ℕ → Bool
 is_suffix b = (b == 33) || (b == 63)
 
--- A word of a comment has bytes 33 to 126 without the closing brace, and those from 128 on (PGN 5); % { ; are
--- plain there, the first by our choice.
+-- A word of a comment has bytes 33 to 126 without the closing brace, and those from 128 on (PGN 5);
+-- % { ; are plain there, the first by our choice.
 abbrev pub continues_word : ℕ → Bool
 continues_word b = (nat_le 33 b && nat_le b 126 && not (b == 125)) || nat_le 128 b

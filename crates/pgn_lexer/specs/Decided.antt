@@ -49,7 +49,8 @@ common [] us = []
 common (t ∷ ts) [] = []
 common (t ∷ ts) (u ∷ us) = elim (same_token t u) [ true ↦ t ∷ common ts us | false ↦ [] ]
 
--- What the tokens of u alone, and of u with each of five ends after it, all begin with: `1`, `!`, `""`, BF, BB BF.
+-- What the tokens of u alone, and of u with each of five ends after it, all begin with: `1`, `!`,
+-- `""`, BF, BB BF.
 abbrev pub decided : List ℕ → List Token
 decided u =
     common (tokens_of u) (

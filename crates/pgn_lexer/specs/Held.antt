@@ -73,7 +73,8 @@ to_come_in (Failed f) place at text s = refusal f ∷ []
 abbrev pub to_come : ℕ → Held → List ℕ → List Token
 to_come place h s = to_come_in h.mode place h.at h.text s
 
--- what the text and the number of a token so far have, and room for what must still go into the buffer
+-- what the text and the number of a token so far have, and room for what must still go into the
+-- buffer
 abbrev pub HasMore : Mode → List ℕ → Type 0
 HasMore Symbol text = 0 < length text
 HasMore AfterBackslash text = length text < 255

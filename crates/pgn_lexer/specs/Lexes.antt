@@ -1,5 +1,5 @@
--- How a text is cut into white space, escapes and tokens (PGN 5, 6, 7, 10): the rules themselves, on whole runs
--- of bytes.
+-- How a text is cut into white space, escapes and tokens (PGN 5, 6, 7, 10): the rules themselves,
+-- on whole runs of bytes.
 use Rattle.std.specs.Prelude.{◌≡◌, ℕ, ◌+◌, ◌<◌, ◌≤◌, IsTrue, IsFalse, Bool, true, false, not, ◌||◌, nat_le, List, [], ◌∷◌, ◌++◌, length, ◌==◌, codes}
 use Rattle.std.specs.List.{list_all}
 use Rattle.pgn_lexer.specs.declared.token.LexReason.{LexReason}
@@ -36,8 +36,8 @@ is_barred b = nat_le b 31 || (b == 127)
 abbrev pub is_plain : ℕ → Bool
 is_plain b = not (is_barred b || is_escaped b)
 
--- How data are written, and what comes after them: a quote and a backslash have a backslash before them (PGN 7), and
--- a backslash before any other byte is, by our choice, a datum itself.
+-- How data are written, and what comes after them: a quote and a backslash have a backslash before
+-- them (PGN 7), and a backslash before any other byte is, by our choice, a datum itself.
 pub data Data : List ℕ → List ℕ → List ℕ → Type 0 where
   no_data : (s : List ℕ) → Data [] [] s
   plain : (b : ℕ) (raw text s : List ℕ) → IsTrue (is_plain b) → Data raw text s → Data (b ∷ raw) (b ∷ text) s
@@ -62,7 +62,8 @@ pub data IsSuffix : List ℕ → ℕ → Type 0 where
   speculative : IsSuffix (codes "!?") 5
   questionable : IsSuffix (codes "?!") 6
 
--- The run, before s, spells the token (PGN 7): a symbol; data within quotes; $ and digits; a suffix; one byte.
+-- The run, before s, spells the token (PGN 7): a symbol; data within quotes; $ and digits; a
+-- suffix; one byte.
 pub data SpellsToken : List ℕ → List ℕ → Kind → Type 0 where
   symbol : (b : ℕ) (run s : List ℕ) → IsTrue (starts_symbol b) → IsRun continues_symbol run s → length (b ∷ run) ≤ 255
       → SpellsToken (b ∷ run) s (tokens.symbol (b ∷ run))
@@ -77,7 +78,8 @@ is_stray b =
     not (starts_symbol b || is_line_end b || is_blank b || is_suffix b || (b == 37) || (b == 34) || (b == 36) || (b == 123) || (b == 59)
     || (b == 91) || (b == 93) || (b == 40) || (b == 41) || (b == 46) || (b == 42) || ((b == 60) || (b == 62)) || is_control b)
 
--- The text is refused, so many bytes further on. A } in a comment to the end of its line is refused by our choice.
+-- The text is refused, so many bytes further on. A } in a comment to the end of its line is refused
+-- by our choice.
 pub data Refuses : List ℕ → ℕ → LexReason → Type 0 where
   stray : (b : ℕ) (s : List ℕ) → IsTrue (is_stray b) → Refuses (b ∷ s) 0 StrayByte
   control_byte : (b : ℕ) (s : List ℕ) → IsTrue (is_control b) → Refuses (b ∷ s) 0 ControlByte
@@ -93,8 +95,8 @@ pub data Refuses : List ℕ → ℕ → LexReason → Type 0 where
   large_glyph : (d : ℕ) (ds s : List ℕ) → IsTrue (is_digit d) → IsRun is_digit ds s → 255 < number_of (d ∷ ds) → Refuses (36 ∷ d ∷ (ds ++ s)) 0 GlyphRange
   bad_suffix : (run s : List ℕ) → IsRun is_suffix run s → 2 < length run → Refuses (run ++ s) 0 BadSuffix
 
--- Where a place is: outside strings and comments, in the first column or not; or in a comment, which has braces or goes
--- to the end of its line.
+-- Where a place is: outside strings and comments, in the first column or not; or in a comment,
+-- which has braces or goes to the end of its line.
 pub data Where : Type 0 where
   outside : Bool → Where
   comment : Bool → Where

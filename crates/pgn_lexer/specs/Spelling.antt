@@ -13,7 +13,8 @@ use Rattle.pgn_lexer.specs.declared.class.StringClass.TheVariants as strings
 use Rattle.pgn_lexer.specs.Bytes.{is_line_end, is_blank, is_control, starts_symbol, is_suffix, continues_word}
 use Rattle.pgn_lexer.specs.Tokens.{Kind, left_bracket, right_bracket, left_paren, right_paren, period, asterisk, symbol, str, glyph, word}
 
--- What a byte is outside strings and comments: % " $ { ; [ ] ( ) . * < > and the classes (PGN 5, 6, 7, 8.2.3.8).
+-- What a byte is outside strings and comments: % " $ { ; [ ] ( ) . * < > and the classes (PGN 5, 6,
+-- 7, 8.2.3.8).
 abbrev pub class : ℕ → Class
 class b =
     if starts_symbol b then SymbolStart
@@ -86,8 +87,8 @@ number_of ds = number_from 0 ds
 abbrev pub numbered_at : ℕ → ℕ → Found
 numbered_at at n = if nat_le n 255 then gives (glyph n) else stops at GlyphRange
 
--- A glyph has the longest run of digits after its dollar sign (PGN 7), and is at most 255 (PGN 8.2.4). Leading zeros
--- pass by our choice.
+-- A glyph has the longest run of digits after its dollar sign (PGN 7), and is at most 255 (PGN
+-- 8.2.4). Leading zeros pass by our choice.
 abbrev pub glyph_at : ℕ → List ℕ → Found
 glyph_at at [] = stops at LoneDollar
 glyph_at at (d ∷ ds) = numbered_at at (number_of (d ∷ ds))
@@ -110,8 +111,9 @@ abbrev pub datum : ℕ → Reading → Reading
 datum b (closed text) = closed (b ∷ text)
 datum b (broken at reason) = broken at reason
 
--- A string that began at `start`, after n data, at the place `at`; `escaped` says that a backslash stands just
--- before. A backslash takes the quote or backslash after it (PGN 7), and is else, by our choice, a datum itself.
+-- A string that began at `start`, after n data, at the place `at`; `escaped` says that a backslash
+-- stands just before. A backslash takes the quote or backslash after it (PGN 7), and is else, by
+-- our choice, a datum itself.
 abbrev pub reading : ℕ → ℕ → ℕ → Bool → List ℕ → Reading
 reading start at n escaped [] = broken start UnclosedString
 reading start at n false (b ∷ bs) =

@@ -23,8 +23,9 @@ abbrev pub first : List ℕ → Option ℕ
 first [] = None
 first (b ∷ bs) = Some b
 
--- The bytes u were used and the tokens given, and b, where there is one, is known to be next: whatever follows,
--- the tokens of the whole text are those given and then those that the lexer has to give.
+-- The bytes u were used and the tokens given, and b, where there is one, is known to be next:
+-- whatever follows, the tokens of the whole text are those given and then those that the lexer has
+-- to give.
 pub record StandsAfter (l : Standing) (u : List ℕ) (b : Option ℕ) (given : List Token) : Type 0 where
   pub count : l.count ≡ length u
   pub before : AllByRecursion (λ t. t.at < length u) given
@@ -35,12 +36,13 @@ abbrev pub still : Option ℕ → List ℕ → Option ℕ
 still b [] = b
 still b (c ∷ piece) = None
 
--- The tokens given after a token are those that u decides, or those known with the byte that was not used.
+-- The tokens given after a token are those that u decides, or those known with the byte that was
+-- not used.
 abbrev pub IsDecided : List ℕ → List ℕ → List Token → Type 0
 IsDecided u rest given = (given ≡ decided u) ⊎ ((b : ℕ) × (first rest ≡ Some b) × (given ≡ known u b))
 
--- The token given ends there, and no sooner: the bytes of a run, used to their last, do not decide it yet, and those of another
--- token do not without the last one.
+-- The token given ends there, and no sooner: the bytes of a run, used to their last, do not decide
+-- it yet, and those of another token do not without the last one.
 abbrev pub EndsNoSooner : Bool → List ℕ → List ℕ → ℕ → List Token → Type 0
 EndsNoSooner true u piece used given = 0 < used → given ≡ decided (u ++ take used piece)
 EndsNoSooner false u piece used given = 1 < used → given ≡ decided (u ++ take (used - 1) piece)
@@ -61,7 +63,8 @@ abbrev pub Carries : Standing → List ℕ → Standing → ℕ → Scanned → 
 Carries old piece new used seen =
     (u : List ℕ) (b : Option ℕ) (given : List Token) → StandsAfter old u b given → Follows b piece → AfterScan u b given piece new used seen
 
--- What a call gives, of a text that goes on from the lexer's place with the piece and then with any s.
+-- What a call gives, of a text that goes on from the lexer's place with the piece and then with any
+-- s.
 abbrev pub Reads : Standing → List ℕ → Standing → ℕ → Scanned → Type 0
 Reads old piece new used more = (used ≡ length piece) × ((s : List ℕ) → coming old (piece ++ s) ≡ coming new s)
 Reads old piece new used (token t) = (s : List ℕ) → coming old (piece ++ s) ≡ t ∷ coming new (drop used piece ++ s)
@@ -73,8 +76,8 @@ Advances old new used more = Unit {0}
 Advances old new used (token t) = waiting new < 2 * used + waiting old
 Advances old new used (fault f) = Unit {0}
 
--- What a call of `next` does. An empty piece changes nothing and gives no token; after a refusal each call
--- answers it, uses no byte and changes nothing.
+-- What a call of `next` does. An empty piece changes nothing and gives no token; after a refusal
+-- each call answers it, uses no byte and changes nothing.
 pub record Scans (old : Standing) (piece : List ℕ) (new : Standing) (used : ℕ) (seen : Scanned) : Type 0 where
   pub count : new.count ≡ old.count + used
   pub advances : Advances old new used seen
@@ -86,7 +89,8 @@ pub record Scans (old : Standing) (piece : List ℕ) (new : Standing) (used : �
   pub empty : length piece ≡ 0 → (new ≡ old) × ((seen ≡ more) ⊎ ((f : LexFault) × (fault_of old ≡ Some f)))
   pub stays : (f : LexFault) → fault_of old ≡ Some f → (used ≡ 0) × (seen ≡ fault f) × (new ≡ old)
 
--- What a call of `finish` gives: the next of the tokens that are left, the end again and again, or the refusal.
+-- What a call of `finish` gives: the next of the tokens that are left, the end again and again, or
+-- the refusal.
 abbrev pub Gives : Kind → Standing → Standing → Token → Type 0
 Gives end old new t = (coming old [] ≡ t ∷ []) × (new ≡ old)
 Gives _ old new t = (coming old [] ≡ t ∷ coming new []) × (waiting new < waiting old) × (new.count ≡ old.count)

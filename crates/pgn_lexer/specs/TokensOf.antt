@@ -158,6 +158,7 @@ abbrev pub has_mark : List ℕ → Bool
 has_mark (a ∷ b ∷ c ∷ s) = (a == 239) && (b == 187) && (c == 191)
 has_mark _ = false
 
--- The tokens of a whole text. A byte order mark at its start is skipped, and counted in places, by our choice.
+-- The tokens of a whole text. A byte order mark at its start is skipped, and counted in places, by
+-- our choice.
 abbrev pub tokens_of : List ℕ → List Token
 tokens_of s = elim (has_mark s) [ true ↦ tokens_from 3 column (drop 3 s) | false ↦ tokens_from 0 column s ]

@@ -132,7 +132,8 @@ impl Hand {
         }
     }
 
-    /// Uses the piece, which begins at the place, up to the end of the first token. A refused byte is used too.
+    /// Uses the piece, which begins at the place, up to the end of the first token. A refused byte
+    /// is used too.
     #[inline(always)]
     pub(crate) fn run(&mut self, piece: &[u8], place: u64) -> (usize, Found)
         requires room { place + length piece.now ≤ 2 ^ 62 }
@@ -359,7 +360,8 @@ impl Hand {
         }
     }
 
-    /// Gives what the end of the text, at the place, leaves to give; after a token there may be more.
+    /// Gives what the end of the text, at the place, leaves to give; after a token there may be
+    /// more.
     #[tactic(auto, unfolding(crate::specs::Taking::closed))]
     pub(crate) fn close(&mut self, place: u64) -> Last
         ensures { Closes (taking.closed place self.old) self.new result }
@@ -440,7 +442,8 @@ impl Hand {
     }
 
     fn begin_line(&mut self, byte: u8, place: u64) -> Step
-        ensures { Takes (taking.begin_line place self.old byte (spelling.class byte)) self.new result }
+        ensures { Takes (taking.begin_line place self.old byte (spelling.class byte)) self.new
+            result }
     {
         match class_of(byte) {
             Class::Percent => {
@@ -557,7 +560,8 @@ impl Hand {
 
     fn string(&mut self, byte: u8, place: u64) -> Step
         requires { self.old.mode ≡ Mode.Str }
-        ensures { Takes (taking.string place self.old byte (spelling.string_class byte)) self.new result }
+        ensures { Takes (taking.string place self.old byte (spelling.string_class byte)) self.new
+            result }
     {
         match string_class_of(byte) {
             StringClass::Quote => {
@@ -585,7 +589,8 @@ impl Hand {
 
     fn escaped(&mut self, byte: u8, place: u64) -> Step
         requires { self.old.mode ≡ Mode.AfterBackslash }
-        ensures { Takes (taking.escaped place self.old byte (spelling.string_class byte)) self.new result }
+        ensures { Takes (taking.escaped place self.old byte (spelling.string_class byte)) self.new
+            result }
     {
         match string_class_of(byte) {
             StringClass::Quote | StringClass::Backslash => {
@@ -608,7 +613,8 @@ impl Hand {
     }
 
     fn brace(&mut self, byte: u8, place: u64) -> Step
-        ensures { Takes (taking.brace place self.old byte (spelling.comment_class byte)) self.new result }
+        ensures { Takes (taking.brace place self.old byte (spelling.comment_class byte)) self.new
+            result }
     {
         self.at = place;
         match comment_class_of(byte) {
@@ -621,7 +627,8 @@ impl Hand {
 
     fn brace_word(&mut self, byte: u8) -> Step
         requires { self.old.mode ≡ Mode.BraceWord }
-        ensures { Takes (taking.brace_word self.old byte (spelling.comment_class byte)) self.new result }
+        ensures { Takes (taking.brace_word self.old byte (spelling.comment_class byte)) self.new
+            result }
     {
         match comment_class_of(byte) {
             CommentClass::Letter => self.word(byte),
@@ -633,7 +640,8 @@ impl Hand {
     }
 
     fn line(&mut self, byte: u8, place: u64) -> Step
-        ensures { Takes (taking.line place self.old byte (spelling.comment_class byte)) self.new result }
+        ensures { Takes (taking.line place self.old byte (spelling.comment_class byte)) self.new
+            result }
     {
         self.at = place;
         match comment_class_of(byte) {
@@ -647,7 +655,8 @@ impl Hand {
 
     fn line_word(&mut self, byte: u8) -> Step
         requires { self.old.mode ≡ Mode.LineWord }
-        ensures { Takes (taking.line_word self.old byte (spelling.comment_class byte)) self.new result }
+        ensures { Takes (taking.line_word self.old byte (spelling.comment_class byte)) self.new
+            result }
     {
         match comment_class_of(byte) {
             CommentClass::Letter => self.word(byte),

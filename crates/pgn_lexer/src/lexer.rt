@@ -47,17 +47,19 @@ impl Lexer {
         self.count
     }
 
-    /// Uses the piece up to the end of its first token, and gives that. After a token the caller hands in the rest
-    /// of the piece; a byte that came after the token and was not used must come next.
+    /// Uses the piece up to the end of its first token, and gives that. After a token the caller
+    /// hands in the rest of the piece; a byte that came after the token and was not used must come
+    /// next.
     ///
-    /// Answers `NeedMore` where no token ends in the piece: the whole piece is used. Answers `Fault` where the text
-    /// is refused; the bytes used go up to and with the one that showed it. From then on every call answers the same
-    /// and uses no byte. Not to be called after `finish`.
+    /// Answers `NeedMore` where no token ends in the piece: the whole piece is used. Answers
+    /// `Fault` where the text is refused; the bytes used go up to and with the one that showed it.
+    /// From then on every call answers the same and uses no byte. Not to be called after `finish`.
     #[inline(always)]
     pub fn next(&mut self, piece: &[u8]) -> Scan<'_>
         requires { self.old.count + length piece.now ≤ 2 ^ 62 }
         ensures used { result.used ≤ length piece.now }
-        ensures* after { sem 𝓛 (Leaves self.entry (λ new. Scans self.old piece.now new result.used (scanned result.outcome))) }
+        ensures* after { sem 𝓛 (Leaves self.entry
+            (λ new. Scans self.old piece.now new result.used (scanned result.outcome))) }
     {
         let (used, found) = self.hand.run(piece, self.count);
         self.count += used as u64;
@@ -77,8 +79,9 @@ impl Lexer {
         }
     }
 
-    /// Gives the tokens that are left at the end of the text, one a call, and then `End` again and again. Answers
-    /// `Fault` where the text is refused, also for a string or a comment that is not closed, and again from then on.
+    /// Gives the tokens that are left at the end of the text, one a call, and then `End` again and
+    /// again. Answers `Fault` where the text is refused, also for a string or a comment that is not
+    /// closed, and again from then on.
     pub fn finish(&mut self) -> Outcome<'_>
         ensures* after { sem 𝓛 (Leaves self.entry (λ new. Finishes self.old new (scanned result))) }
     {

@@ -47,7 +47,8 @@ fn feed(lexer: &mut Lexer, piece: &[u8], outcomes: &[Outcome<'_>], seen: usize) 
     None
 }
 
-/// Whether the end of the text gives the outcomes that are left, and then the last of them again and again.
+/// Whether the end of the text gives the outcomes that are left, and then the last of them again
+/// and again.
 fn finishes(lexer: &mut Lexer, outcomes: &[Outcome<'_>], seen: usize) -> Option<bool> {
     let last = outcomes.len().checked_sub(1)?;
     let mut next = if seen < last { seen } else { last };

@@ -3,7 +3,8 @@ use crate::rows::{converted, game, pairs, reduced, refused, torn, unknown};
 use crate::{Vector, Verdict};
 use pgn_game::{Fault, LexReason, Mode, Reason};
 
-/// Inputs at the limits, and one byte or token above them. Where a letter is repeated, a whole line has 64 of it.
+/// Inputs at the limits, and one byte or token above them. Where a letter is repeated, a whole line
+/// has 64 of it.
 pub const LIMITS: &[Vector] = &[
     refused!(
         "a symbol of 255 bytes",

@@ -3,7 +3,8 @@ use crate::rows::{refused, refused_from_position};
 use crate::{Vector, Verdict};
 use pgn_game::{Fault, Mode, Reason};
 
-/// Inputs that are refused at the first move from the position of a FEN pair, or at the pair; a name begins with the number of the reason.
+/// Inputs that are refused at the first move from the position of a FEN pair, or at the pair; a
+/// name begins with the number of the reason.
 pub const POSITION_FAULTS: &[Vector] = &[
     refused_from_position!(
         "35, three-queens",

@@ -123,7 +123,8 @@ macro_rules! refused_from_position {
     };
 }
 
-/// An input without pairs that is refused in movetext: the place, the reason, and the lines of movetext that are written.
+/// An input without pairs that is refused in movetext: the place, the reason, and the lines of
+/// movetext that are written.
 macro_rules! torn {
     ($name:literal, $input:expr, $at:literal, $reason:expr $(, $line:literal)*) => {
         Vector {

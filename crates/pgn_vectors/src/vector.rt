@@ -4,7 +4,8 @@ use pgn_game::{Fault, Mode};
 /// How a conversion ends.
 #[derive(Clone, Copy, Debug, PartialEq, Eq)]
 pub enum Verdict {
-    /// All games are converted: how many they are, and how many moves they have together outside variations.
+    /// All games are converted: how many they are, and how many moves they have together outside
+    /// variations.
     Converted { games: u64, plies: u64 },
     /// The input is refused at this place, for this reason.
     Refused(Fault),
