@@ -15,7 +15,7 @@ use Rattle.chess_rules.proofs.Squares.{split_or, first_true, second_true}
 use Rattle.chess_rules.proofs.Between.{equal_from}
 use Rattle.chess_rules.proofs.Steps.{one_kind, pawn_is_no_king, pawn_attack, attacks_as, Castles, castles_means}
 
-no_pawn_moves : (p : Parts) (m : Move) → is_piece_step p m ≡ true → own p Pawn m.from ≡ true → ⊥
+pub no_pawn_moves : (p : Parts) (m : Move) → is_piece_step p m ≡ true → own p Pawn m.from ≡ true → ⊥
 no_pawn_moves p m h pawn =
     opposite (own p Pawn m.from) pawn
     (second_true (has_colour p.side (at p.board m.from)) _
@@ -25,13 +25,13 @@ no_pawn_moves p m h pawn =
     opposite true e g = cc
     opposite false e g = cc
 
-pawn_of_step : (p : Parts) (m : Move) → is_pawn_step p m ≡ true → own p Pawn m.from ≡ true
+pub pawn_of_step : (p : Parts) (m : Move) → is_pawn_step p m ≡ true → own p Pawn m.from ≡ true
 pawn_of_step p m h = first_true (own p Pawn m.from) (is_pawn_way p m && promotion_fits p m) h
 
 en_passant_stands : (p : Parts) (m : Move) → is_en_passant p m ≡ true → ((own p Pawn m.from && promotion_fits p m) && (is_target p.target m.to && is_empty p.board m.to)) ≡ true
 en_passant_stands p m h = first_true _ (attacks p.board m.from m.to && has_piece (other p.side) Pawn (at p.board (captured_pawn m))) h
 
-pawn_of_en_passant : (p : Parts) (m : Move) → is_en_passant p m ≡ true → own p Pawn m.from ≡ true
+pub pawn_of_en_passant : (p : Parts) (m : Move) → is_en_passant p m ≡ true → own p Pawn m.from ≡ true
 pawn_of_en_passant p m h = first_true (own p Pawn m.from) _ (first_true _ (is_target p.target m.to && is_empty p.board m.to) (en_passant_stands p m h))
 
 king_is_no_pawn : (p : Parts) (m : Move) (wing : Wing) → Castles p m wing → own p Pawn m.from ≡ true → ⊥

@@ -144,7 +144,7 @@ by_kind k c b s t = of k
     of Bishop = far (on_diagonal s t && is_clear b s t) _ _ (none_near (is_jump s t) (is_adjacent s t) (reaches Pawn c s t)) (along_cross (in_line s t) (on_diagonal s t) (is_clear b s t))
     of Queen = far ((in_line s t || on_diagonal s t) && is_clear b s t) _ _ (none_near (is_jump s t) (is_adjacent s t) (reaches Pawn c s t)) (along_both (in_line s t) (on_diagonal s t) (is_clear b s t))
 
-by_cell : (c : Colour) (cell : Option Piece) (b : Board) (s t : Square)
+pub by_cell : (c : Colour) (cell : Option Piece) (b : Board) (s t : Square)
     → (has_colour c cell && cell_attacks cell b s t) ≡ (near_with c cell s t || (slides_with c cell s t && (is_some cell && (is_aligned s t && is_clear b s t))))
 by_cell c None b s t =
     no_colour (((is_jump s t && false) || (is_adjacent s t && false)) || (reaches Pawn c s t && false)) ((in_line s t && false) || (on_diagonal s t && false)) false
@@ -211,6 +211,16 @@ none_slides b c t none = by_any (list_any (λ s. slides b c t s && is_first b t 
     by_any : (x : Bool) → list_any (λ s. slides b c t s && is_first b t s) squares ≡ x → list_any (λ s. slides b c t s && is_first b t s) squares ≡ false
     by_any false e = e
     by_any true e = absurd (there (some_square (λ s. slides b c t s && is_first b t s) e))
+
+-- whether there is a slider at all
+pub slider_test : (b : Board) (c : Colour) (t : Square) (w : ℕ) → Places w (slides b c t) → w < 2 ^ 64 → not (w == 0) ≡ list_any (slides b c t) squares
+slider_test b c t w places fits = by_test (w == 0) refl
+  where
+    by_test : (x : Bool) → (w == 0) ≡ x → not (w == 0) ≡ list_any (slides b c t) squares
+    by_test true e = ap not e ∙ sym (none_passes w (slides b c t) places (equal_from w 0 e))
+    by_test false e =
+        let some : 0 < w = grind (arith, nat_tests) in
+        ap not e ∙ sym (one_passes w (slides b c t) places some fits)
 
 -- whether one of the sliders is first on its way
 pub far_test : (b : Board) (c : Colour) (t : Square) (w : ℕ) → t.file < 8 → t.rank < 8 → list_any (attacks_near b c t) squares ≡ false

@@ -28,3 +28,5 @@ pub mod Sets
 pub mod Attackers
 pub mod Origins
 pub mod Homes
+pub mod Plain
+pub mod Steppers

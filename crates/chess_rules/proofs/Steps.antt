@@ -35,11 +35,11 @@ same_or_other White Black = inr refl
 same_or_other Black White = inr refl
 same_or_other Black Black = inl refl
 
-colour_of_piece : (c : Colour) (k : Kind) (cell : Option Piece) → has_piece c k cell ≡ true → has_colour c cell ≡ true
+pub colour_of_piece : (c : Colour) (k : Kind) (cell : Option Piece) → has_piece c k cell ≡ true → has_colour c cell ≡ true
 colour_of_piece c k None h = cc
 colour_of_piece c k (Some x) h = first_true (same_colour c x.colour) _ h
 
-not_both : (c : Colour) (cell : Option Piece) → has_colour c cell ≡ true → has_colour (other c) cell ≡ true → ⊥
+pub not_both : (c : Colour) (cell : Option Piece) → has_colour c cell ≡ true → has_colour (other c) cell ≡ true → ⊥
 not_both c None h g = cc
 not_both White (Some x) h g = by_colour x.colour h g
   where

@@ -11,5 +11,6 @@ pub mod Legal
 pub mod Candidate
 pub mod Laws
 pub mod Walk
+pub mod Plain
 pub mod Kept
 pub mod Pairs

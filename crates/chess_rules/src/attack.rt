@@ -1,8 +1,9 @@
 //! Which squares are attacked, seen from them outward.
 
-ghost use Rattle.std.specs.Prelude.{◌≡◌, ◌<◌, IsTrue, is_some};
+ghost use Rattle.std.specs.Prelude.{◌≡◌, ◌<◌, IsTrue, is_some, false};
 ghost use Rattle.std.specs.List.{list_any, range_with_len};
 ghost use Rattle.chess_rules.specs.Square as square;
+ghost use Rattle.chess_rules.specs.Square.{squares};
 ghost use Rattle.chess_rules.specs.Board.{at};
 ghost use Rattle.chess_rules.specs.Position.{one_king};
 ghost use Rattle.chess_rules.specs.Attacks as spec;
@@ -16,7 +17,7 @@ use crate::direction::{DIRECTIONS, Direction};
 use crate::piece::{Colour, Kind};
 use crate::square::Square;
 use crate::tables::{ADJACENT, BLACK_PAWNS, DIAGONALS, JUMPS_TO, LINES, WHITE_PAWNS};
-use crate::word::{highest, lowest, single};
+use crate::word::{has, highest, lowest, single};
 
 // The first occupied square on the way from `from`.
 pub(crate) fn first_on(board: &Board, direction: Direction, from: Square) -> Option<Square>
@@ -60,32 +61,12 @@ pub(crate) fn first_hits(board: &Board, target: Square) -> u64
         | first_hit(board, DIRECTIONS[7], target)
 }
 
-fn difference(a: u8, b: u8) -> u8
-    ensures { result ≡ square.gap a b }
-{
-    if a < b { b - a } else { a - b }
-}
-
-fn in_line(from: Square, to: Square) -> bool
-    ensures { result ≡ square.in_line from to }
-{
-    (from.rank() == to.rank()) != (from.file() == to.file())
-}
-
-fn on_diagonal(from: Square, to: Square) -> bool
-    ensures { result ≡ square.on_diagonal from to }
-{
-    let files = difference(from.file(), to.file());
-    files == difference(from.rank(), to.rank()) && files != 0
-}
-
 // Whether the two are side by side, on a rank, a file or a diagonal.
 pub(crate) fn is_adjacent(from: Square, to: Square) -> bool
     ensures { result ≡ square.is_adjacent from to }
 {
-    let files = difference(from.file(), to.file());
-    let ranks = difference(from.rank(), to.rank());
-    files <= 1 && ranks <= 1 && (files != 0 || ranks != 0)
+    from.lies_on_board();
+    has(adjacent(to), from.index())
 }
 
 // Whether a pawn of the colour goes from the first rank to the second one.
@@ -100,20 +81,26 @@ pub(crate) fn is_ahead(colour: Colour, rank: u8, ahead: u8) -> bool
     }
 }
 
+// The squares from which such a piece attacks `to`, if all squares between are empty.
+fn reaching(kind: Kind, colour: Colour, to: Square) -> u64
+    ensures { Places result (λ s. walk.reaches kind colour s to) }
+{
+    match kind {
+        Kind::King => adjacent(to),
+        Kind::Queen => lines(to) | diagonals(to),
+        Kind::Rook => lines(to),
+        Kind::Bishop => diagonals(to),
+        Kind::Knight => knights_to(to),
+        Kind::Pawn => pawns_to(colour, to),
+    }
+}
+
 // Whether such a piece on `from` attacks `to`, if all squares between are empty.
 fn reaches(kind: Kind, colour: Colour, from: Square, to: Square) -> bool
     ensures { result ≡ walk.reaches kind colour from to }
 {
-    let files = difference(from.file(), to.file());
-    let ranks = difference(from.rank(), to.rank());
-    match kind {
-        Kind::King => is_adjacent(from, to),
-        Kind::Queen => in_line(from, to) || on_diagonal(from, to),
-        Kind::Rook => in_line(from, to),
-        Kind::Bishop => on_diagonal(from, to),
-        Kind::Knight => (files == 1 && ranks == 2) || (files == 2 && ranks == 1),
-        Kind::Pawn => files == 1 && is_ahead(colour, from.rank(), to.rank()),
-    }
+    from.lies_on_board();
+    has(reaching(kind, colour, to), from.index())
 }
 
 // Whether all squares strictly between are empty; the two are on one rank, file or diagonal, and the first is
@@ -131,19 +118,33 @@ pub(crate) fn is_clear(board: &Board, from: Square, to: Square) -> bool
     }
 }
 
+// Whether a piece of the kind and colour on `from` attacks `to`.
+pub(crate) fn piece_attacks(
+    board: &Board,
+    kind: Kind,
+    colour: Colour,
+    from: Square,
+    to: Square,
+) -> bool
+    requires { IsTrue (is_some (at board.now from)) }
+    ensures { result ≡ spec.kind_attacks kind colour board.now from to }
+{
+    if !reaches(kind, colour, from, to) {
+        return false;
+    }
+    match kind {
+        Kind::Queen | Kind::Rook | Kind::Bishop => is_clear(board, from, to),
+        Kind::King | Kind::Knight | Kind::Pawn => true,
+    }
+}
+
 // Whether the piece on `from`, if there is one, attacks `to`.
 pub(crate) fn attacks(board: &Board, from: Square, to: Square) -> bool
     ensures { result ≡ spec.attacks board.now from to }
 {
-    let Some(piece) = board.at(from) else {
-        return false;
-    };
-    if !reaches(piece.kind, piece.colour, from, to) {
-        return false;
-    }
-    match piece.kind {
-        Kind::Queen | Kind::Rook | Kind::Bishop => is_clear(board, from, to),
-        Kind::King | Kind::Knight | Kind::Pawn => true,
+    match board.at(from) {
+        None => false,
+        Some(piece) => piece_attacks(board, piece.kind, piece.colour, from, to),
     }
 }
 
@@ -207,6 +208,31 @@ fn sliders(board: &Board, by: Colour, target: Square) -> u64
     (lines(target) & (board.of_kind(Kind::Rook) | board.of_kind(Kind::Queen))
         | diagonals(target) & (board.of_kind(Kind::Bishop) | board.of_kind(Kind::Queen)))
         & board.of_colour(by)
+}
+
+// Whether the two are on one rank, file or diagonal.
+pub(crate) fn sees(from: Square, to: Square) -> bool
+    ensures { result ≡ walk.is_aligned from to }
+{
+    from.lies_on_board();
+    has(lines(to) | diagonals(to), from.index())
+}
+
+// Whether the piece on `from`, if there is one, attacks `to` where all squares between are empty.
+pub(crate) fn may_attack(board: &Board, from: Square, to: Square) -> bool
+    ensures { result ≡ false → spec.attacks board.now from to ≡ false }
+{
+    match board.at(from) {
+        None => false,
+        Some(piece) => reaches(piece.kind, piece.colour, from, to),
+    }
+}
+
+// Whether a rook, a bishop or a queen of the colour would reach the target on an empty board.
+pub(crate) fn has_sliders(board: &Board, by: Colour, target: Square) -> bool
+    ensures { result ≡ list_any (masks.slides board.now by target) squares }
+{
+    sliders(board, by, target) != 0
 }
 
 // Whether a piece of the colour attacks the square.

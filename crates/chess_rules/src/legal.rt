@@ -1,19 +1,19 @@
 //! Which moves are legal, and check.
 
-ghost use Rattle.std.specs.Prelude.{◌≡◌, ◌+◌, ◌<◌, ◌≤◌, ◌^◌, true, false, Some, None, if◌then◌else◌};
+ghost use Rattle.chess_rules.specs.Step.{is_on_board};
+ghost use Rattle.std.specs.Prelude.{IsTrue, ◌≡◌, ◌+◌, ◌<◌, ◌≤◌, ◌^◌, true, false};
 ghost use Rattle.chess_rules.specs.Candidate.{pair_count};
 ghost use Rattle.chess_rules.specs.Legal as spec;
-ghost use Rattle.chess_rules.specs.Step as step;
 
-use crate::board::Board;
 use crate::pairs::{any_king_step, any_other};
 use crate::position::{Move, Position};
 use crate::probes::Probes;
-use crate::step::make_step;
+use crate::step::is_step;
 
 /// The position after the move, exactly if it is legal. (FIDE Laws 3.10.1)
 ///
 /// It counts as one pair tried.
+#[inline(always)]
 pub fn try_pair(position: &Position, mv: Move, probes: &mut Probes) -> Option<Position>
     requires { probes.old + 1 < 2 ^ 32 }
     ensures after { result ≡ spec.legal position.now mv }
@@ -21,9 +21,8 @@ pub fn try_pair(position: &Position, mv: Move, probes: &mut Probes) -> Option<Po
 {
     mv.from.lies_on_board();
     mv.to.lies_on_board();
-    let mut board = *position.board();
-    if tried_step(position, &mv, &mut board, probes) && position.is_safe_after(&mv, &board) {
-        Some(position.after(&mv, board))
+    if is_legal(position, mv, probes) {
+        Some(position.after(&mv))
     } else {
         None
     }
@@ -32,26 +31,25 @@ pub fn try_pair(position: &Position, mv: Move, probes: &mut Probes) -> Option<Po
 // Whether the move is legal: `try_pair` without the position after it.
 //
 // It counts as one pair tried.
+#[inline(always)]
 pub(crate) fn is_legal(position: &Position, mv: Move, probes: &mut Probes) -> bool
     requires { probes.old + 1 < 2 ^ 32 }
     ensures legal { result ≡ spec.is_legal position.now mv }
     ensures count { probes.new ≡ probes.old + 1 }
 {
+    probes.add_one();
     mv.from.lies_on_board();
     mv.to.lies_on_board();
-    let mut board = *position.board();
-    tried_step(position, &mv, &mut board, probes) && position.is_safe_after(&mv, &board)
+    allows(position, &mv)
 }
 
-// Makes the move on the position's board, if it is a step of the side to move; the pair is counted.
-fn tried_step(position: &Position, mv: &Move, board: &mut Board, probes: &mut Probes) -> bool
-    requires board { board.old ≡ position.now.board }
-    requires room { probes.old + 1 < 2 ^ 32 }
-    ensures step { step.board_after position.now mv.now ≡ (if result then Some board.new else None) }
-    ensures count { probes.new ≡ probes.old + 1 }
+// Whether the rules allow the move.
+#[inline(never)]
+fn allows(position: &Position, mv: &Move) -> bool
+    requires { IsTrue (is_on_board mv.now) }
+    ensures { result ≡ spec.is_legal position.now mv.now }
 {
-    probes.add_one();
-    make_step(position, mv, board)
+    is_step(position, mv) && position.is_safe_after(mv)
 }
 
 /// Whether the king of the side to move is attacked. (FIDE Laws 3.9.1)

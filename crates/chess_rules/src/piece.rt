@@ -10,7 +10,7 @@ pub enum Colour {
 }
 
 impl Colour {
-    ghost use Rattle.chess_rules.specs.Board.{other};
+    ghost use Rattle.chess_rules.specs.Board.{other, same_colour};
 
     // The other side.
     pub(crate) fn other(self) -> Colour
@@ -20,6 +20,13 @@ impl Colour {
             Colour::White => Colour::Black,
             Colour::Black => Colour::White,
         }
+    }
+
+    // Whether the two are one colour.
+    pub(crate) fn is(self, colour: Colour) -> bool
+        ensures { result ≡ same_colour self colour }
+    {
+        self == colour
     }
 }
 

@@ -1,20 +1,21 @@
 //! Moves and positions.
 
-ghost use Rattle.std.specs.Prelude.{◌≡◌, ◌<◌, ◌≤◌, IsTrue, Some};
+ghost use Rattle.std.specs.Prelude.{◌≡◌, ◌<◌, ◌≤◌, IsTrue, Some, is_some, true};
 ghost use Rattle.chess_rules.specs.Board.{at, other};
 ghost use Rattle.chess_rules.specs.Attacks.{king_attacked};
 ghost use Rattle.chess_rules.specs.Position as spec;
 ghost use Rattle.chess_rules.specs.Step as step;
+ghost use Rattle.chess_rules.specs.Plain.{is_plain as plain_step};
 ghost use Rattle.chess_rules.specs.Legal.{legal, is_legal, is_check};
 ghost use Rattle.chess_rules.specs.Walk.{king_square as king_square_of};
 ghost use Rattle.chess_rules.specs.Walk as walk;
 
-use crate::attack::{is_attacked, is_king_attacked};
+use crate::attack::{has_sliders, is_attacked, is_king_attacked, may_attack, sees};
 use crate::board::Board;
 use crate::contents::{has_pawn_on_edge, king_square, kings};
 use crate::piece::{Colour, Kind, Piece, Promotion};
 use crate::square::Square;
-use crate::step::{crossed, is_double_step};
+use crate::step::{board_after, crossed, is_double_step, is_plain};
 use crate::word::has;
 use std::marker::Model;
 
@@ -192,33 +193,75 @@ impl Position {
     }
 
     // Whether the step, which leaves that board, attacks the other king.
-    fn gives_check(&self, mv: &Move, board: &Board) -> bool
+    //
+    // A step that carries one piece attacks it by that piece, or along the line that it leaves.
+    fn gives_check(&self, mv: &Move, plain: bool, board: &Board) -> bool
+        requires plain { plain ≡ plain_step self.now mv.now }
         requires on_board { IsTrue (step.is_on_board mv.now) }
         requires step { step.board_after self.now mv.now ≡ Some board.now }
         ensures { result ≡ king_attacked board.now (other self.now.side) }
     {
         let king = self.king_of(self.side.other());
+        if plain && !sees(mv.from, king) && !may_attack(board, mv.to, king) {
+            return false;
+        }
         is_attacked(board, self.side, king_after(king, mv))
     }
 
-    // Whether the king of the side to move is safe after its step, which leaves that board.
-    pub(crate) fn is_safe_after(&self, mv: &Move, board: &Board) -> bool
+    // Whether the king of the side to move is safe after its step.
+    pub(crate) fn is_safe_after(&self, mv: &Move) -> bool
         requires on_board { IsTrue (step.is_on_board mv.now) }
-        requires step { step.board_after self.now mv.now ≡ Some board.now }
+        requires step { IsTrue (is_some (step.board_after self.now mv.now)) }
+        ensures { result ≡ is_legal self.now mv.now }
+    {
+        self.keeps_line(mv) || self.is_safe_on_board(mv)
+    }
+
+    // Whether the step surely leaves the king safe: it is not attacked, it does not move, and the
+    // step opens no line to it, or no rook, bishop or queen is on its lines.
+    fn keeps_line(&self, mv: &Move) -> bool
+        requires on_board { IsTrue (step.is_on_board mv.now) }
+        requires step { IsTrue (is_some (step.board_after self.now mv.now)) }
+        ensures { result ≡ true → is_legal self.now mv.now ≡ true }
+    {
+        let king = self.king();
+        if self.checked {
+            return false;
+        }
+        if mv.from.is(king) {
+            return false;
+        }
+        if !is_plain(self, mv) {
+            return false;
+        }
+        if !sees(mv.from, king) {
+            return true;
+        }
+        !has_sliders(&self.board, self.side.other(), king)
+    }
+
+    // Whether the king of the side to move is safe on the board after its step.
+    #[inline(never)]
+    fn is_safe_on_board(&self, mv: &Move) -> bool
+        requires on_board { IsTrue (step.is_on_board mv.now) }
+        requires step { IsTrue (is_some (step.board_after self.now mv.now)) }
         ensures { result ≡ is_legal self.now mv.now }
     {
         let king = self.king();
-        !is_attacked(board, self.side.other(), king_after(king, mv))
+        let board = board_after(self, mv, is_plain(self, mv));
+        !is_attacked(&board, self.side.other(), king_after(king, mv))
     }
 
-    // The position after a legal move, which leaves that board.
-    pub(crate) fn after(&self, mv: &Move, board: Board) -> Position
+    // The position after a legal move.
+    #[inline(never)]
+    pub(crate) fn after(&self, mv: &Move) -> Position
         requires on_board { IsTrue (step.is_on_board mv.now) }
-        requires step { step.board_after self.now mv.now ≡ Some board }
         requires legal { IsTrue (is_legal self.now mv.now) }
         ensures { Some result ≡ legal self.now mv.now }
     {
-        let checked = self.gives_check(mv, &board);
+        let plain = is_plain(self, mv);
+        let board = board_after(self, mv, plain);
+        let checked = self.gives_check(mv, plain, &board);
         Position {
             board,
             side: self.side.other(),

@@ -1,9 +1,11 @@
 //! One step of the side to move: which pairs are one, and the board after it.
 
-ghost use Rattle.std.specs.Prelude.{◌≡◌, ◌<◌, Some, None, if◌then◌else◌};
+ghost use Rattle.std.specs.Prelude.{◌≡◌, ◌<◌, IsTrue, Some, None, if◌then◌else◌, is_some};
+ghost use Rattle.chess_rules.specs.Plain as ways;
+ghost use Rattle.chess_rules.specs.declared.piece.Kind.TheVariants.{King, Pawn};
 ghost use Rattle.chess_rules.specs.Step as spec;
 
-use crate::attack::{attacks, is_ahead, is_attacked, is_clear};
+use crate::attack::{attacks, is_ahead, is_attacked, is_clear, piece_attacks};
 use crate::board::Board;
 use crate::piece::{Colour, Kind, Piece, Promotion};
 use crate::position::{Move, Position};
@@ -300,7 +302,7 @@ fn castle(position: &Position, mv: &Move, rook: u8, crossing: u8, board: &mut Bo
 }
 
 // Makes the move on the position's board, if it is a step of the side to move.
-pub(crate) fn make_step(position: &Position, mv: &Move, board: &mut Board) -> bool
+fn make_step(position: &Position, mv: &Move, board: &mut Board) -> bool
     requires { board.old ≡ position.now.board }
     ensures { spec.board_after position.now mv.now ≡ (if result then Some board.new else None) }
 {
@@ -321,4 +323,97 @@ pub(crate) fn make_step(position: &Position, mv: &Move, board: &mut Board) -> bo
         return true;
     }
     false
+}
+
+// Whether a pawn of the side to move may go so, if the origin has one. (FIDE Laws 3.7)
+fn pawn_goes(position: &Position, mv: &Move) -> bool
+    ensures { result ≡ ways.pawn_goes position.now mv.now }
+{
+    is_pawn_step(position, mv) || is_en_passant(position, mv)
+}
+
+// Whether a piece of this kind on the origin may go so; it is no pawn. (FIDE Laws 3.1)
+fn piece_goes(position: &Position, kind: Kind, mv: &Move) -> bool
+    requires own { IsTrue (spec.own position.now kind mv.now.from) }
+    requires no_pawn { ¬ (kind ≡ Pawn) }
+    ensures { result ≡ spec.is_piece_step position.now mv.now }
+{
+    let board = position.board();
+    let side = position.side();
+    if mv.promotion.is_some() {
+        return false;
+    }
+    if board.has_colour(mv.to, side) {
+        return false;
+    }
+    piece_attacks(board, kind, side, mv.from, mv.to)
+}
+
+// Whether the king on the origin may go so. (FIDE Laws 3.8)
+fn king_goes(position: &Position, mv: &Move) -> bool
+    requires { IsTrue (spec.own position.now King mv.now.from) }
+    ensures { result ≡ ways.king_goes position.now mv.now }
+{
+    piece_goes(position, Kind::King, mv)
+        || castles_short(position, mv)
+        || castles_long(position, mv)
+}
+
+// Whether the move is a step of the side to move.
+pub(crate) fn is_step(position: &Position, mv: &Move) -> bool
+    ensures { result ≡ is_some (spec.board_after position.now mv.now) }
+{
+    let Some(piece) = position.board().at(mv.from) else {
+        return false;
+    };
+    if !position.side().is(piece.colour) {
+        return false;
+    }
+    match piece.kind {
+        Kind::Pawn => pawn_goes(position, mv),
+        Kind::King => king_goes(position, mv),
+        kind => piece_goes(position, kind, mv),
+    }
+}
+
+// Whether a king goes further than to the next file.
+fn king_goes_far(position: &Position, mv: &Move) -> bool
+    ensures { result ≡ ways.king_goes_far position.now mv.now }
+{
+    mv.from.file().abs_diff(mv.to.file()) > 1
+        && position
+            .board()
+            .has_piece(mv.from, position.side(), Kind::King)
+}
+
+// Whether the move, if it is a step, carries one piece and nothing more.
+pub(crate) fn is_plain(position: &Position, mv: &Move) -> bool
+    ensures { result ≡ ways.is_plain position.now mv.now }
+{
+    !is_target(position.target(), mv.to) && !king_goes_far(position, mv)
+}
+
+// The board after en passant or castling.
+#[inline(never)]
+fn rare_board(position: &Position, mv: &Move) -> Board
+    requires { IsTrue (is_some (spec.board_after position.now mv.now)) }
+    ensures { spec.board_after position.now mv.now ≡ Some result }
+{
+    let mut board = *position.board();
+    let _made = make_step(position, mv, &mut board);
+    board
+}
+
+// The board after a step.
+pub(crate) fn board_after(position: &Position, mv: &Move, plain: bool) -> Board
+    requires plain { plain ≡ ways.is_plain position.now mv.now }
+    requires step { IsTrue (is_some (spec.board_after position.now mv.now)) }
+    ensures { spec.board_after position.now mv.now ≡ Some result }
+{
+    if !plain {
+        return rare_board(position, mv);
+    }
+    let mut board = *position.board();
+    carry(position, mv, &mut board);
+    board
 }

@@ -11,19 +11,20 @@ use Rattle.chess_rules.specs.Walk.{king_square}
 use Rattle.chess_rules.specs.Kept.{parts_of, IsKept}
 use Rattle.chess_rules.specs.declared.position.Position.TheInside.{Inside}
 use Rattle.chess_rules.proofs.Leaves.{after_fields, position_after, king_kept, legal_when, safe_from_legal}
+use Rattle.chess_rules.proofs.Plain.{step_when_legal}
 use Rattle.chess_rules.proofs.position.Position.after.Goals as goal
 
 -- the position before the move is one
 before : (a : Inside) (p : Parts) → IsKept a → parts_of a ≡ p → is_position p ≡ true
 before a p kept view = subst (λ (q : Parts). is_position q ≡ true) view kept.position
 
-safe : (c : goal.After-king_after-2) → king_attacked c.args.board (other (other c.args.self.now.side)) ≡ false
-safe c = safe_from_legal c.args.self.now c.args.mv.now c.args.board c.requires.on_board c.requires.step c.requires.legal
+safe : (c : goal.After-king_after-2) → king_attacked c.board_after-board.result (other (other c.args.self.now.side)) ≡ false
+safe c = safe_from_legal c.args.self.now c.args.mv.now c.board_after-board.result c.requires.on_board c.board_after-board.ensures c.requires.legal
 
 -- the parts that are made
-same : (c : goal.After-king_after-2) → parts_of (record { board = c.args.board; side = c.other.result; rights = c.rights_after.result; target = c.target_after.result; half = c.half_after.result; full = c.full_after.result; white_king = c.king_after.result; black_king = c.king_after-2.result; checked = c.gives_check-checked.result }) ≡ after c.args.self.now c.args.mv.now c.args.board
+same : (c : goal.After-king_after-2) → parts_of (record { board = c.board_after-board.result; side = c.other.result; rights = c.rights_after.result; target = c.target_after.result; half = c.half_after.result; full = c.full_after.result; white_king = c.king_after.result; black_king = c.king_after-2.result; checked = c.gives_check-checked.result }) ≡ after c.args.self.now c.args.mv.now c.board_after-board.result
 same c =
-    after_fields c.args.self.now c.args.mv.now c.args.board c.other.result c.rights_after.result c.target_after.result c.half_after.result c.full_after.result
+    after_fields c.args.self.now c.args.mv.now c.board_after-board.result c.other.result c.rights_after.result c.target_after.result c.half_after.result c.full_after.result
     (c.other.ensures ∙ ap (λ p. other p.side) c.self.view_is)
     (c.rights_after.ensures ∙ ap (λ p. rights_after c.args.mv.now p.rights) c.self.view_is)
     c.target_after.ensures c.half_after.ensures
@@ -33,15 +34,18 @@ pub invariant_of-result : goal.invariant_of-result
 invariant_of-result c =
     record {
       position = subst (λ (q : Parts). is_position q ≡ true) (sym (same c))
-          (position_after c.args.self.now c.args.mv.now c.args.board (before c.self.inside c.args.self.now c.self.invariant c.self.view_is) c.requires.on_board c.requires.step (safe c));
-      white_king = king_kept c.args.self.now c.args.mv.now c.args.board White c.self.inside.white_king c.king_after.result
-          (before c.self.inside c.args.self.now c.self.invariant c.self.view_is) c.requires.on_board c.requires.step
+          (position_after c.args.self.now c.args.mv.now c.board_after-board.result (before c.self.inside c.args.self.now c.self.invariant c.self.view_is) c.requires.on_board c.board_after-board.ensures (safe c));
+      white_king = king_kept c.args.self.now c.args.mv.now c.board_after-board.result White c.self.inside.white_king c.king_after.result
+          (before c.self.inside c.args.self.now c.self.invariant c.self.view_is) c.requires.on_board c.board_after-board.ensures
           (c.self.invariant.white_king ∙ ap (λ p. king_square White p.board) c.self.view_is) c.king_after.ensures;
       checked = c.gives_check-checked.ensures ∙ ap is_check (sym (same c));
-      black_king = king_kept c.args.self.now c.args.mv.now c.args.board Black c.self.inside.black_king c.king_after-2.result
-          (before c.self.inside c.args.self.now c.self.invariant c.self.view_is) c.requires.on_board c.requires.step
+      black_king = king_kept c.args.self.now c.args.mv.now c.board_after-board.result Black c.self.inside.black_king c.king_after-2.result
+          (before c.self.inside c.args.self.now c.self.invariant c.self.view_is) c.requires.on_board c.board_after-board.ensures
           (c.self.invariant.black_king ∙ ap (λ p. king_square Black p.board) c.self.view_is) c.king_after-2.ensures;
     }
 
 pub returns : goal.returns
-returns c = ap Some (same c) ∙ sym (legal_when c.args.self.now c.args.mv.now c.args.board c.requires.on_board c.requires.step (safe c))
+returns c = ap Some (same c) ∙ sym (legal_when c.args.self.now c.args.mv.now c.board_after-board.result c.requires.on_board c.board_after-board.ensures (safe c))
+
+pub board_after-board-requires-clause-step : goal.board_after-board-requires-clause-step
+board_after-board-requires-clause-step c = step_when_legal c.args.self.now c.args.mv.now c.requires.legal

@@ -5,6 +5,7 @@ use Rattle.chess_rules.specs.Attacks.{is_attacked}
 use Rattle.chess_rules.specs.Position.{is_position}
 use Rattle.chess_rules.specs.Walk.{king_square, king_after}
 use Rattle.chess_rules.proofs.Leaves.{check_is_seen}
+use Rattle.chess_rules.proofs.Plain.{no_check_when_plain}
 use Rattle.chess_rules.proofs.position.Position.gives_check.Goals as goal
 
 pub returns : goal.returns
@@ -14,3 +15,10 @@ returns c =
     ∙ sym (check_is_seen c.args.self.now c.args.mv.now c.args.board.now c.king_after.result
     (subst (λ (q : Parts). is_position q ≡ true) c.self.view_is c.self.invariant.position) c.requires.on_board c.requires.step
     (c.king_after.ensures ∙ ap (λ k. king_after k c.args.mv.now) (c.king_of-king.ensures ∙ ap (λ d. king_square d c.args.self.now.board) (c.other.ensures ∙ ap (λ p. other p.side) c.self.view_is)))))
+
+pub returns-then-not-may_attack : goal.returns-then-not-may_attack
+returns-then-not-may_attack c =
+    sym (no_check_when_plain c.args.self.now c.args.mv.now c.args.board.now c.king_of-king.result
+    (subst (λ (q : Parts). is_position q ≡ true) c.self.view_is c.self.invariant.position) c.requires.on_board c.requires.step (sym c.requires.plain ∙ c.if-plain.true)
+    (c.king_of-king.ensures ∙ ap (λ d. king_square d c.args.self.now.board) (c.other.ensures ∙ ap (λ p. other p.side) c.self.view_is))
+    (sym c.sees.ensures ∙ c.if-not-sees.true) (c.may_attack.ensures (c.if-not-may_attack.true)))
