@@ -1,6 +1,6 @@
 -- A piece steps only in the ways of its kind.
-use Rattle.std.proofs.Common.{◌≡◌, Bool, true, false, not, ◌&&◌, ◌||◌, refl, sym, ◌∙◌, ap}
-use Rattle.std.specs.Prelude.{Option, None, Some, is_none, is_some, if◌then◌else◌}
+use Rattle.std.proofs.Common.{◌≡◌, arith, Bool, true, false, not, ◌&&◌, ◌||◌, refl, sym, ◌∙◌, ap}
+use Rattle.std.specs.Prelude.{Option, None, Some, is_none, is_some, ◌==◌, if◌then◌else◌}
 use Rattle.std.proofs.lemmas.Bool.{false≢true}
 use Rattle.chess_rules.specs.declared.piece.Colour.{Colour}
 use Rattle.chess_rules.specs.declared.piece.Kind.{Kind}
@@ -8,15 +8,15 @@ use Rattle.chess_rules.specs.declared.piece.Kind.TheVariants.{King, Pawn}
 use Rattle.chess_rules.specs.declared.piece.Piece.{Piece}
 use Rattle.chess_rules.specs.declared.position.Move.{Move}
 use Rattle.chess_rules.specs.declared.position.Parts.{Parts}
-use Rattle.chess_rules.specs.Square.{Square}
-use Rattle.chess_rules.specs.Board.{Board, at, has_colour, has_piece, kind_number, same_colour}
+use Rattle.chess_rules.specs.Square.{Square, gap}
+use Rattle.chess_rules.specs.Board.{Board, at, is_empty, other, has_colour, has_piece, kind_number, same_colour}
 use Rattle.chess_rules.specs.Attacks.{attacks, cell_attacks, kind_attacks}
-use Rattle.chess_rules.specs.Step.{own, is_piece_step, is_pawn_step, is_en_passant, castles_short, castles_long, short_right, long_right, short_wing, long_wing, board_after}
+use Rattle.chess_rules.specs.Step.{own, is_target, is_piece_step, is_pawn_way, is_pawn_step, promotion_fits, is_advance, is_double_step, crossed, is_pawn_capture, captured_pawn, is_en_passant, castles_short, castles_long, short_right, long_right, short_wing, long_wing, board_after}
 use Rattle.chess_rules.proofs.Squares.{first_true, second_true, both_true}
-use Rattle.chess_rules.proofs.Between.{equal_tests}
+use Rattle.chess_rules.proofs.Between.{equal_from, equal_tests}
 use Rattle.chess_rules.proofs.Sound.{to_false}
 use Rattle.chess_rules.proofs.Reach.{kinds_same, colours_same}
-use Rattle.chess_rules.proofs.Steps.{one_kind, colour_of_piece, castles_means}
+use Rattle.chess_rules.proofs.Steps.{one_kind, colour_of_piece, castles_means, pawn_attack}
 use Rattle.chess_rules.proofs.Apart.{no_pawn_moves, pawn_of_step, pawn_of_en_passant}
 
 -- The five ways, one by one.
@@ -152,3 +152,53 @@ attack_is_step p m k stands no_pawn plain free =
     sym (attacks_by p.side k (at p.board m.from) p.board m.from m.to stands)
     ∙ left_open (has_colour p.side (at p.board m.from)) (own p Pawn m.from) (is_none m.promotion) (attacks p.board m.from m.to) (has_colour p.side (at p.board m.to))
     (colour_of_piece p.side k (at p.board m.from) stands) (no_way p m k Pawn (own p Pawn m.from) stands no_pawn (λ h. h)) plain free
+
+-- A pawn's step.
+
+no_fit : (stands way fits empty hits : Bool) → fits ≡ false → false ≡ ((stands && (way && fits)) || (((stands && fits) && empty) && hits))
+no_fit true true true empty hits h = cc
+no_fit true false true empty hits h = cc
+no_fit false way true empty hits h = cc
+no_fit true true false empty hits h = refl
+no_fit true false false empty hits h = refl
+no_fit false way false empty hits h = refl
+
+ahead : (stands fits adv dbl att col empty there : Bool) → stands ≡ true → fits ≡ true → att ≡ false
+    → (adv || dbl) ≡ ((stands && ((adv || (dbl || (att && col))) && fits)) || (((stands && fits) && empty) && (att && there)))
+ahead true true true dbl false col empty there e f g = refl
+ahead true true false true false col empty there e f g = refl
+ahead true true false false false col true there e f g = refl
+ahead true true false false false col false there e f g = refl
+ahead false fits adv dbl att col empty there e f g = cc
+ahead true false adv dbl att col empty there e f g = cc
+ahead true true adv dbl true col empty there e f g = cc
+
+aside : (stands fits adv dbl cap passing : Bool) → stands ≡ true → fits ≡ true → adv ≡ false → dbl ≡ false
+    → (cap || passing) ≡ ((stands && ((adv || (dbl || cap)) && fits)) || passing)
+aside true true false false true passing e f g h = refl
+aside true true false false false passing e f g h = refl
+aside false fits adv dbl cap passing e f g h = cc
+aside true false adv dbl cap passing e f g h = cc
+aside true true true dbl cap passing e f g h = cc
+aside true true false true cap passing e f g h = cc
+
+module _ (p : Parts) (m : Move) (pawn : own p Pawn m.from ≡ true) where
+  pub pawn_promotes_wrongly : promotion_fits p m ≡ false → false ≡ (is_pawn_step p m || is_en_passant p m)
+  pawn_promotes_wrongly h =
+      no_fit (own p Pawn m.from) (is_pawn_way p m) (promotion_fits p m) (is_target p.target m.to && is_empty p.board m.to)
+      (attacks p.board m.from m.to && has_piece (other p.side) Pawn (at p.board (captured_pawn m))) h
+
+  pub pawn_ahead : promotion_fits p m ≡ true → m.from.file ≡ m.to.file → (is_advance p m || is_double_step p m) ≡ (is_pawn_step p m || is_en_passant p m)
+  pawn_ahead fits same =
+      ahead (own p Pawn m.from) (promotion_fits p m) (is_advance p m) (is_double_step p m) (attacks p.board m.from m.to)
+      (has_colour (other p.side) (at p.board m.to)) (is_target p.target m.to && is_empty p.board m.to)
+      (has_piece (other p.side) Pawn (at p.board (captured_pawn m))) pawn fits
+      (to_false (attacks p.board m.from m.to) (λ hits.
+      let one : gap m.from.file m.to.file ≡ 1 = equal_from _ 1 (first_true (gap m.from.file m.to.file == 1) _ (pawn_attack p m pawn hits)) in
+      omega arith))
+
+  pub pawn_aside : promotion_fits p m ≡ true → (m.from.file ≡ m.to.file → ⊥) → (is_pawn_capture p m || is_en_passant p m) ≡ (is_pawn_step p m || is_en_passant p m)
+  pawn_aside fits differ =
+      aside (own p Pawn m.from) (promotion_fits p m) (is_advance p m) (is_double_step p m) (is_pawn_capture p m) (is_en_passant p m) pawn fits
+      (to_false (is_advance p m) (λ h. differ (equal_from _ _ (first_true (m.from.file == m.to.file) _ (first_true _ (is_empty p.board m.to) h)))))
+      (to_false (is_double_step p m) (λ h. differ (equal_from _ _ (first_true (m.from.file == m.to.file) _ (first_true _ (is_empty p.board (crossed m) && is_empty p.board m.to) h)))))

@@ -119,6 +119,7 @@ pub(crate) fn is_clear(board: &Board, from: Square, to: Square) -> bool
 }
 
 // Whether a piece of the kind and colour on `from` attacks `to`.
+#[inline(always)]
 pub(crate) fn piece_attacks(
     board: &Board,
     kind: Kind,

@@ -325,11 +325,32 @@ fn make_step(position: &Position, mv: &Move, board: &mut Board) -> bool
     false
 }
 
-// Whether a pawn of the side to move may go so, if the origin has one. (FIDE Laws 3.7)
+// Whether a pawn may go ahead so. (FIDE Laws 3.7.1, 3.7.2)
+fn pawn_advances(position: &Position, mv: &Move) -> bool
+    ensures { result ≡ ways.pawn_advances position.now mv.now }
+{
+    is_advance(position, mv) || is_double_step(position, mv)
+}
+
+// Whether a pawn may take so. (FIDE Laws 3.7.3)
+fn pawn_takes(position: &Position, mv: &Move) -> bool
+    ensures { result ≡ ways.pawn_takes position.now mv.now }
+{
+    is_pawn_capture(position, mv) || is_en_passant(position, mv)
+}
+
+// Whether a pawn of the side to move, which the origin has, may go so. (FIDE Laws 3.7)
 fn pawn_goes(position: &Position, mv: &Move) -> bool
+    requires { IsTrue (spec.own position.now Pawn mv.now.from) }
     ensures { result ≡ ways.pawn_goes position.now mv.now }
 {
-    is_pawn_step(position, mv) || is_en_passant(position, mv)
+    if !promotion_fits(position, mv) {
+        return false;
+    }
+    if mv.from.file() == mv.to.file() {
+        return pawn_advances(position, mv);
+    }
+    pawn_takes(position, mv)
 }
 
 // Whether a piece of this kind on the origin may go so; it is no pawn. (FIDE Laws 3.1)
