@@ -9,6 +9,7 @@ ghost use Rattle.pgn_game.specs.FaultTable.{is_comment as is_of_comment, is_end 
 use pgn_lexer::TokenKind;
 
 /// Whether the token belongs to a comment (PGN 5).
+#[inline(always)]
 pub fn is_comment(kind: TokenKind<'_>) -> bool
     ensures { result ≡ is_of_comment (kind_of kind.entry) }
 {
@@ -21,6 +22,7 @@ pub fn is_comment(kind: TokenKind<'_>) -> bool
 }
 
 /// Whether the token is the end of the input.
+#[inline(always)]
 pub fn is_end(kind: TokenKind<'_>) -> bool
     ensures { result ≡ is_the_end (kind_of kind.entry) }
 {

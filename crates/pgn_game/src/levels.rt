@@ -68,6 +68,7 @@ impl<const L: usize> Levels<L> {
     }
 
     /// The present position of the level at hand.
+    #[inline(always)]
     pub fn present(&self) -> &Position
         ensures { result.now ≡ self.now.present.present }
     {
@@ -75,6 +76,7 @@ impl<const L: usize> Levels<L> {
     }
 
     /// How many variations are open.
+    #[inline(always)]
     pub fn depth(&self) -> usize
         ensures value { result ≡ length self.now.around }
         ensures room { result + 1 ≤ L }
@@ -83,6 +85,7 @@ impl<const L: usize> Levels<L> {
     }
 
     /// Whether a move was played at the level at hand.
+    #[inline(always)]
     pub fn holds_move(&self) -> bool
         ensures { result ≡ is_some self.now.present.before }
     {
@@ -90,6 +93,7 @@ impl<const L: usize> Levels<L> {
     }
 
     /// Plays a move to this position.
+    #[inline(always)]
     pub fn play(&mut self, next: Position)
         ensures { self.new ≡ record {
           present = record { present = next; before = Some self.old.present.present };

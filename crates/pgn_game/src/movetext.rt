@@ -102,6 +102,7 @@ impl<const L: usize> Movetext<L> {
 
     /// Puts an item: writes it, a move with its number where one is needed, and moves the levels.
     /// In reduced mode only moves outside variations are written (PGN 3.2.4).
+    #[inline(always)]
     pub fn put<W: Sink>(
         &mut self,
         mode: Mode,
@@ -124,6 +125,7 @@ impl<const L: usize> Movetext<L> {
     }
 
     // Writes an item, unless the mode leaves it out.
+    #[inline(always)]
     fn write<W: Sink>(
         &mut self,
         mode: Mode,
@@ -148,6 +150,7 @@ impl<const L: usize> Movetext<L> {
     }
 
     // Whether an item is written here: in reduced mode only a move outside variations (PGN 3.2.4).
+    #[inline(always)]
     fn is_written(&self, mode: Mode, item: &Item<'_>) -> bool
         ensures { result ≡ writes mode (length self.now.levels.around) (item_of item.now) }
     {
@@ -155,6 +158,7 @@ impl<const L: usize> Movetext<L> {
     }
 
     // Writes the tokens of an item.
+    #[inline(always)]
     fn write_tokens<W: Sink>(
         &self,
         item: &Item<'_>,
@@ -181,6 +185,7 @@ impl<const L: usize> Movetext<L> {
     }
 
     // Writes a legal move, with its number where one is needed.
+    #[inline(always)]
     fn write_move<W: Sink>(
         &self,
         played: &Played,
@@ -201,6 +206,7 @@ impl<const L: usize> Movetext<L> {
     }
 
     // Writes the number of the next move, where one is needed (PGN 8.2.2.2).
+    #[inline(always)]
     fn put_number<W: Sink>(&self, layout: &mut Layout, out: &mut W) -> Result<(), WriteFault>
         requires going { layout.old.has_failed ≡ false }
         ensures puts { Puts (number_due self.now) layout.old layout.new result
@@ -219,6 +225,7 @@ impl<const L: usize> Movetext<L> {
     }
 
     // Moves the levels by an item, and counts a move outside variations.
+    #[inline(always)]
     fn go_on(&mut self, item: &Item<'_>)
         requires fits { ItemFits L self.old item.now }
         requires few { self.old.plies < 2 ^ 64 - 1 }

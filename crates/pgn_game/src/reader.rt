@@ -159,6 +159,7 @@ impl<const T: usize, const L: usize> Reader<T, L> {
 
     /// Takes one token, and writes what it adds to the text of its game. After an `Err` no call may
     /// follow.
+    #[inline(always)]
     pub fn accept<W: Sink>(&mut self, kind: TokenKind<'_>, out: &mut W) -> Result<Accepted, Stopped>
         requires going { self.old.layout.has_failed ≡ false }
         requires few { self.old.earlier_plies + self.old.text.plies < 2 ^ 64 - 1 }
@@ -185,6 +186,7 @@ impl<const T: usize, const L: usize> Reader<T, L> {
 
     // Begins a game, if this is its first token. A game without tag pairs is one whose tag pairs
     // are complete, so the stage is the one after them.
+    #[inline(always)]
     fn make_ready(&mut self, kind: TokenKind<'_>)
         requires { self.old.earlier_plies + self.old.text.plies < 2 ^ 64 }
         ensures { self.new ≡ readied self.old (kind_of kind.entry) }
@@ -200,6 +202,7 @@ impl<const T: usize, const L: usize> Reader<T, L> {
 
     // The move that a symbol names, or why it names none, where movetext can begin or goes on. A
     // marker and a number name no move. The pairs that were tried are counted.
+    #[inline(always)]
     fn find(&mut self, kind: TokenKind<'_>, probes: &mut Probes) -> Option<Result<Played, Reason>>
         requires none { probes.old ≡ 0 }
         ensures found { Finds self.new (kind_of kind.entry) result }
@@ -218,6 +221,7 @@ impl<const T: usize, const L: usize> Reader<T, L> {
     }
 
     // Whether movetext can begin, or goes on.
+    #[inline(always)]
     fn is_open(&self) -> bool
         ensures { result ≡ is_open self.now.stage }
     {
@@ -229,6 +233,7 @@ impl<const T: usize, const L: usize> Reader<T, L> {
     }
 
     // Keeps the most probes.
+    #[inline(always)]
     fn count_probes(&mut self, probes: &Probes)
         requires few { probes.now ≤ 1040 }
         ensures { self.new ≡ record self.old { most_probes = max self.old.most_probes probes.now } }
@@ -239,6 +244,7 @@ impl<const T: usize, const L: usize> Reader<T, L> {
     }
 
     // Judges a token: what it means, or the row of the fault table that refuses it.
+    #[inline(always)]
     fn judge<'a>(
         &self,
         kind: TokenKind<'a>,
@@ -361,6 +367,7 @@ impl<const T: usize, const L: usize> Reader<T, L> {
     }
 
     // In movetext.
+    #[inline(always)]
     fn judge_in_movetext<'a>(
         &self,
         kind: TokenKind<'a>,
@@ -379,6 +386,7 @@ impl<const T: usize, const L: usize> Reader<T, L> {
     }
 
     // A token where movetext can begin or go on: any but `[` and the end, which are judged before.
+    #[inline(always)]
     fn judge_entry<'a>(
         &self,
         kind: TokenKind<'a>,
@@ -404,6 +412,7 @@ impl<const T: usize, const L: usize> Reader<T, L> {
     }
 
     // A symbol in movetext: a marker, a move number (PGN 8.2.2.1), or a move (PGN 8.2.3).
+    #[inline(always)]
     fn judge_symbol<'a>(
         &self,
         text: &'a [u8],
@@ -469,6 +478,7 @@ impl<const T: usize, const L: usize> Reader<T, L> {
     }
 
     // Puts what a token means: the reader goes on with it, and what it adds is written.
+    #[inline(always)]
     fn put<W: Sink>(
         &mut self,
         judged: &Judged<'_>,
@@ -509,6 +519,7 @@ impl<const T: usize, const L: usize> Reader<T, L> {
     }
 
     // Puts a token of movetext: its tag section is written first, where movetext begins.
+    #[inline(always)]
     fn put_entry<W: Sink>(
         &mut self,
         entry: &Entry<'_>,

@@ -80,6 +80,7 @@ impl Layout {
     /// Sets a movetext token of 1 to 79 bytes on the line, after a space if it is not the first.
     /// Where there is no room, the line is written with LF and the token begins the next one (PGN
     /// 8.2.1).
+    #[inline(always)]
     pub fn put<W: Sink>(&mut self, token: &[u8], out: &mut W) -> Result<(), WriteFault>
         requires { IsToken token.now }
         ensures text { self.old.has_failed ≡ false
@@ -131,6 +132,7 @@ impl Layout {
 }
 
 // Sets the bytes at the line's end.
+#[inline(always)]
 fn append(line: &mut ArrayVec<u8, LINE_WITH_LF_LENGTH>, token: &[u8])
     requires { length line.old.items + length token.now ≤ 79 }
     ensures { line.new.items ≡ line.old.items ++ token.now }
@@ -139,6 +141,7 @@ fn append(line: &mut ArrayVec<u8, LINE_WITH_LF_LENGTH>, token: &[u8])
 }
 
 // Writes the text, unless a write has failed.
+#[inline(always)]
 fn write<W: Sink>(has_failed: &mut bool, text: &[u8], out: &mut W) -> Result<(), WriteFault>
     ensures text { has_failed.old ≡ false
         → Writes (W.taken out.old) (W.taken out.new) result text.now }
@@ -153,6 +156,7 @@ fn write<W: Sink>(has_failed: &mut bool, text: &[u8], out: &mut W) -> Result<(),
 }
 
 // Writes the line with LF in one write, and makes it empty, also where the write failed.
+#[inline(always)]
 fn write_line<W: Sink>(
     has_failed: &mut bool,
     line: &mut ArrayVec<u8, LINE_WITH_LF_LENGTH>,
