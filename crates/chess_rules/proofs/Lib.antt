@@ -13,8 +13,6 @@ pub mod Steps
 pub mod Leaves
 pub mod Apart
 pub mod Complete
-mod Drawn
-mod Rows
 pub mod Lists
 pub mod Found
 pub mod Counting

@@ -1,3 +1,5 @@
+mod Drawn
 mod LegalRows
 mod MoveRows
+mod PositionRows
 mod WorkedRows
