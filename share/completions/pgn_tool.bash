@@ -4,11 +4,11 @@ _pgn_tool() {
     local word=${COMP_WORDS[COMP_CWORD]} command= choices= i
     for ((i = 1; i < COMP_CWORD; i++)); do
         case ${COMP_WORDS[i]} in
-            export | check | list) command=${COMP_WORDS[i]}; break ;;
+            export | check | list | split) command=${COMP_WORDS[i]}; break ;;
         esac
     done
     case $command in
-        '') choices='export check list' ;;
+        '') choices='export check list split' ;;
     esac
     if [[ $word == -* ]]; then
         case $command in

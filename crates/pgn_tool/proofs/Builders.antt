@@ -61,3 +61,6 @@ not_true false e = refl
 pub is_local : (c : Command) (a : App) → app_of c ≡ a → a.top.is_plain ≡ true → (out-Command c).has_globals ≡ false
 is_local c a e plain =
     not_true _ (and_left _ _ (and_right _ _ (and_right _ _ (ap (λ (x : App). x.top.is_plain) e ∙ plain))))
+
+pub rule_required : (a b : Arg) (flag : Bool) → b ≡ record a { required = flag } → rule_of b ≡ record (rule_of a) { required = flag }
+rule_required a b flag e = ap rule_of e

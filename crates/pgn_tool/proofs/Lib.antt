@@ -1,5 +1,6 @@
 -- Lemmas on the program's command line.
 mod Builders
+mod Games
 mod Leftover
 mod Lines
 mod Listed

@@ -1,12 +1,12 @@
 -- The definitions at words that are written out.
 use Rattle.std.proofs.Common.{◌≡◌, refl, codes, true, false, [], ◌∷◌, Some, None}
 use Rattle.clap.proofs.OnLiterals.{clap_on_literals}
-use Rattle.clap.specs.declared.error.kind.ErrorKind.TheVariants.{ArgumentConflict, DisplayHelp, DisplayVersion, InvalidSubcommand, MissingSubcommand, UnknownArgument}
-use Rattle.pgn_tool.specs.CommandLine.{bare_program, check_command, command_line, export_command, file_rule, list_command, reduced_rule}
-use Rattle.pgn_tool.specs.Requests.{check, export, listing, refusals, request_from, request_in}
+use Rattle.clap.specs.declared.error.kind.ErrorKind.TheVariants.{ArgumentConflict, DisplayHelp, DisplayVersion, InvalidSubcommand, MissingRequiredArgument, MissingSubcommand, UnknownArgument}
+use Rattle.pgn_tool.specs.CommandLine.{bare_program, check_command, command_line, export_command, dir_rule, file_rule, list_command, reduced_rule, split_command}
+use Rattle.pgn_tool.specs.Requests.{check, export, listing, splitting, refusals, request_from, request_in}
 
 unfoldable line_on_words : Unit {0}
-unfolding clap_on_literals command_line bare_program export_command check_command list_command reduced_rule file_rule refusals request_from request_in
+unfolding clap_on_literals command_line bare_program export_command check_command list_command split_command reduced_rule file_rule dir_rule refusals request_from request_in
 line_on_words = tt
 
 export-asks : request_in (codes "pgn_tool" ∷ codes "export" ∷ []) ≡ Some (export false None)
@@ -120,3 +120,20 @@ version-refused = refl
 other-refused : refusals (codes "pgn_tool" ∷ codes "convert" ∷ []) ≡ UnknownArgument ∷ InvalidSubcommand ∷ []
 unfolding line_on_words
 other-refused = refl
+
+split-asks : request_in (codes "pgn_tool" ∷ codes "split" ∷ codes "games" ∷ []) ≡ Some (splitting (codes "games") None)
+unfolding line_on_words
+split-asks = refl
+
+split-refused : refusals (codes "pgn_tool" ∷ codes "split" ∷ codes "games" ∷ []) ≡ []
+unfolding line_on_words
+split-refused = refl
+
+split_file-asks : request_in (codes "pgn_tool" ∷ codes "split" ∷ codes "games" ∷ codes "a.pgn" ∷ [])
+    ≡ Some (splitting (codes "games") (Some (codes "a.pgn")))
+unfolding line_on_words
+split_file-asks = refl
+
+split_alone-refused : refusals (codes "pgn_tool" ∷ codes "split" ∷ []) ≡ MissingRequiredArgument ∷ []
+unfolding line_on_words
+split_alone-refused = refl

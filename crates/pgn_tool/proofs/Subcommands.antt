@@ -12,42 +12,44 @@ use Rattle.clap.specs.declared.builder.command.Command.{Command}
 use Rattle.clap.specs.declared.parser.matches.ArgMatches.{ArgMatches}
 use Rattle.clap.specs.declared.parser.matches.ArgMatches.TheViews.{out-ArgMatches, out-SubCommand}
 use Rattle.clap.proofs.OnLiterals.{clap_on_literals}
-use Rattle.pgn_tool.specs.CommandLine.{bare_program, check_command, command_line, export_command, file_rule, list_command, reduced_rule}
+use Rattle.pgn_tool.specs.CommandLine.{bare_program, check_command, command_line, dir_rule, export_command, file_rule, list_command, reduced_rule, split_command}
 use Rattle.pgn_tool.specs.Requests.{Request, request_from, request_named}
 use Rattle.pgn_tool.proofs.Builders.{is_local}
 
 -- ---- the command line is one whose matches and refusals `clap` defines
 
 pub line_is_simple : is_simple command_line ≡ true
-unfolding clap_on_literals command_line bare_program export_command check_command list_command reduced_rule file_rule
+unfolding clap_on_literals command_line bare_program export_command check_command list_command split_command reduced_rule file_rule dir_rule
 line_is_simple = refl
 
 pub line_is_free : is_simple_and_free command_line ≡ true
-unfolding clap_on_literals command_line bare_program export_command check_command list_command reduced_rule file_rule
+unfolding clap_on_literals command_line bare_program export_command check_command list_command split_command reduced_rule file_rule dir_rule
 line_is_free = refl
 
 pub line_is_plain : command_line.top.is_plain ≡ true
-unfolding command_line bare_program export_command check_command list_command reduced_rule file_rule
+unfolding command_line bare_program export_command check_command list_command split_command reduced_rule file_rule dir_rule
 line_is_plain = refl
 
 pub line_wants_subcommand : command_line.top.subcommand_required ≡ true
-unfolding command_line bare_program export_command check_command list_command reduced_rule file_rule
+unfolding command_line bare_program export_command check_command list_command split_command reduced_rule file_rule dir_rule
 line_wants_subcommand = refl
 
 -- ---- a subcommand that is met is one that makes a request
 
 abbrev is_known : Text → Bool
-is_known name = bytes_eq name (codes "export") || (bytes_eq name (codes "check") || bytes_eq name (codes "list"))
+is_known name = bytes_eq name (codes "export") || (bytes_eq name (codes "check") || (bytes_eq name (codes "list") || bytes_eq name (codes "split")))
 
 known_request : (name : Text) (rows : List Row) → is_known name ≡ true → IsSome (request_named name rows)
-known_request name rows known = go (bytes_eq name (codes "export")) (bytes_eq name (codes "check")) (bytes_eq name (codes "list")) _ _ _ known
+known_request name rows known =
+    go (bytes_eq name (codes "export")) (bytes_eq name (codes "check")) (bytes_eq name (codes "list")) (bytes_eq name (codes "split")) _ _ _ _ known
   where
-    go : (is_export is_check is_list : Bool) (x y z : Request) → (is_export || (is_check || is_list)) ≡ true
-        → IsSome (cond is_export (Some x) (cond is_check (Some y) (cond is_list (Some z) None)))
-    go true is_check is_list x y z known = refl
-    go false true is_list x y z known = refl
-    go false false true x y z known = refl
-    go false false false x y z known = known
+    go : (is_export is_check is_list is_split : Bool) (w x y z : Request) → (is_export || (is_check || (is_list || is_split))) ≡ true
+        → IsSome (cond is_export (Some w) (cond is_check (Some x) (cond is_list (Some y) (cond is_split (Some z) None))))
+    go true is_check is_list is_split w x y z known = refl
+    go false true is_list is_split w x y z known = refl
+    go false false true is_split w x y z known = refl
+    go false false false true w x y z known = refl
+    go false false false false w x y z known = known
 
 and_both : (a b : Bool) → (a && b) ≡ true → (a ≡ true) × (b ≡ true)
 and_both true b e = (refl, e)
@@ -74,7 +76,7 @@ entered_is_known a None known met = absurd (true≢false (sym met))
 entered_is_known a (Some p) known met = found_is_known a.subs _ p.1 known met
 
 line_is_known : list_all (λ s. is_known s.name) (built command_line).subs ≡ true
-unfolding clap_on_literals command_line bare_program export_command check_command list_command reduced_rule file_rule
+unfolding clap_on_literals command_line bare_program export_command check_command list_command split_command reduced_rule file_rule dir_rule
 line_is_known = refl
 
 words_are_known : (words : List Text) → is_some (subcommand_of command_line words) ≡ true → IsSome (request_from (subcommand_of command_line words))
@@ -122,17 +124,21 @@ none_asks (Some p) is_name known = true≢false (sym (ap is_some is_name))
 pub none_met : (m : ArgMatches) → None ≡ subcommand_name_of m → IsSome (request_from (subcommand_rows_of m)) → ⊥
 none_met m is_name known = none_asks (subcommand_rows_of m) (is_name ∙ names_met m) known
 
-pub no_other : (name : Text) (rows : List Row) → name ≢ codes "export" → name ≢ codes "check" → name ≢ codes "list" → IsSome (request_named name rows) → ⊥
-no_other name rows not_export not_check not_list known =
-    go (bytes_eq name (codes "export")) (bytes_eq name (codes "check")) (bytes_eq name (codes "list")) _ _ _ (λ e. not_export ((bytes_eq-Decides _ _).0 e))
-    (λ e. not_check ((bytes_eq-Decides _ _).0 e)) (λ e. not_list ((bytes_eq-Decides _ _).0 e)) known
+pub no_other : (name : Text) (rows : List Row) → name ≢ codes "export" → name ≢ codes "check" → name ≢ codes "list" → name ≢ codes "split"
+    → IsSome (request_named name rows) → ⊥
+no_other name rows not_export not_check not_list not_split known =
+    go (bytes_eq name (codes "export")) (bytes_eq name (codes "check")) (bytes_eq name (codes "list")) (bytes_eq name (codes "split")) _ _ _ _
+    (λ e. not_export ((bytes_eq-Decides _ _).0 e)) (λ e. not_check ((bytes_eq-Decides _ _).0 e))
+    (λ e. not_list ((bytes_eq-Decides _ _).0 e)) (λ e. not_split ((bytes_eq-Decides _ _).0 e)) known
   where
-    go : (is_export is_check is_list : Bool) (x y z : Request) → (is_export ≡ true → ⊥) → (is_check ≡ true → ⊥) → (is_list ≡ true → ⊥)
-        → IsSome (cond is_export (Some x) (cond is_check (Some y) (cond is_list (Some z) None))) → ⊥
-    go true is_check is_list x y z a b c known = a refl
-    go false true is_list x y z a b c known = b refl
-    go false false true x y z a b c known = c refl
-    go false false false x y z a b c known = true≢false (sym known)
+    go : (is_export is_check is_list is_split : Bool) (w x y z : Request) → (is_export ≡ true → ⊥) → (is_check ≡ true → ⊥)
+        → (is_list ≡ true → ⊥) → (is_split ≡ true → ⊥)
+        → IsSome (cond is_export (Some w) (cond is_check (Some x) (cond is_list (Some y) (cond is_split (Some z) None)))) → ⊥
+    go true is_check is_list is_split w x y z a b c d known = a refl
+    go false true is_list is_split w x y z a b c d known = b refl
+    go false false true is_split w x y z a b c d known = c refl
+    go false false false true w x y z a b c d known = d refl
+    go false false false false w x y z a b c d known = true≢false (sym known)
 
 -- ---- a flag
 
@@ -152,3 +158,10 @@ flag_read E (Some t) read none value = go read (value t refl)
     go (Some true) is = ap (λ x. bytes_eq x (codes "true")) (sym is)
     go (Some false) is = ap (λ x. bytes_eq x (codes "true")) (sym is)
     go None is = sym (is_true t is.1.0)
+
+-- ---- a value, or nothing
+
+pub text_read : {B : Type 0} (text : B → Text) (o : Option B) (other : B) (given : Option Text) → option_map text o ≡ given
+    → text (unwrap_or o other) ≡ unwrap_or given (text other)
+text_read text None other given is = ap (λ g. unwrap_or g (text other)) is
+text_read text (Some b) other given is = ap (λ g. unwrap_or g (text other)) is

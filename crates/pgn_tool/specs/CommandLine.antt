@@ -3,6 +3,7 @@
 --     pgn_tool export [--reduced] [FILE]
 --     pgn_tool check [FILE]
 --     pgn_tool list [FILE]
+--     pgn_tool split DIR [FILE]
 --
 -- `clap` adds `--help` to each command, and `--version` to the program, which has a version.
 use Rattle.std.specs.Prelude.{codes, Some, true}
@@ -30,6 +31,16 @@ check_command = with_rule (new_app (codes "check")) file_rule
 unfoldable pub list_command : App
 list_command = with_rule (new_app (codes "list")) file_rule
 
+-- `DIR`
+unfoldable pub dir_rule : Rule
+dir_rule = record (new_rule (codes "dir")) {
+  value_names = 1;
+  required = true;
+}
+
+unfoldable pub split_command : App
+split_command = with_rule (with_rule (new_app (codes "split")) dir_rule) file_rule
+
 -- the program before its subcommands: it wants one, and help is asked for by `--help` alone
 unfoldable pub bare_program : App
 bare_program = on_top (λ s. record s {
@@ -40,4 +51,5 @@ bare_program = on_top (λ s. record s {
 
 unfoldable pub command_line : App
 command_line =
-    with_subcommand (with_subcommand (with_subcommand bare_program export_command.top) check_command.top) list_command.top
+    with_subcommand (with_subcommand (with_subcommand (with_subcommand bare_program
+    export_command.top) check_command.top) list_command.top) split_command.top

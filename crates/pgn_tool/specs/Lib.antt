@@ -4,3 +4,6 @@ pub mod Requests
 pub mod Listing
 pub mod Running
 pub mod Refusing
+pub mod FileName
+pub mod Files
+pub mod Splitting

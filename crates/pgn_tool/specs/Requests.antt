@@ -1,6 +1,6 @@
 -- What the words on a command line ask for, and how an answer tells it.
 use Rattle.std.specs.Prelude.{◌≡◌, ◌≢◌, Bool, true, false, not, List, [], Option, Some, None, Result, Ok, Err}
-use Rattle.std.specs.Prelude.{codes, if◌then◌else◌, option_map, option_and_then, string_bytes}
+use Rattle.std.specs.Prelude.{codes, if◌then◌else◌, option_map, option_and_then, string_bytes, unwrap_or}
 use Rattle.std.specs.List.{list_any}
 use Rattle.std.specs.Option.{option_map_or}
 use Rattle.std.specs.Str.{bytes_eq}
@@ -9,7 +9,7 @@ use Rattle.clap.specs.declared.error.kind.ErrorKind.{ErrorKind}
 use Rattle.clap.specs.declared.error.kind.ErrorKind.TheVariants.{DisplayHelp, DisplayVersion, OutOfMemory}
 use Rattle.pgn_tool.specs.CommandLine.{command_line}
 use Rattle.pgn_tool.specs.declared.arguments.Task.{Task}
-use Rattle.pgn_tool.specs.declared.arguments.Task.TheVariants.{Export, Check, List as ListGames}
+use Rattle.pgn_tool.specs.declared.arguments.Task.TheVariants.{Export, Check, List as ListGames, Split}
 use Rattle.pgn_tool.specs.declared.arguments.ParseFault.{ParseFault}
 use Rattle.pgn_tool.specs.declared.arguments.ParseFault.TheVariants.{Help, Bad, NoMemory}
 
@@ -18,21 +18,28 @@ pub data Request : Type 0 where
   export : Bool → Option Text → Request
   check : Option Text → Request
   listing : Option Text → Request
+  splitting : Text → Option Text → Request
 
 -- the file's name
 abbrev pub file_of : Request → Option Text
 file_of (export reduced file) = file
 file_of (check file) = file
 file_of (listing file) = file
+file_of (splitting dir file) = file
 
 abbrev pub request_of : Task → Request
 request_of (Export reduced file) = export reduced (option_map string_bytes file)
 request_of (Check file) = check (option_map string_bytes file)
 request_of (ListGames file) = listing (option_map string_bytes file)
+request_of (Split dir file) = splitting (string_bytes dir) (option_map string_bytes file)
 
 -- the flag of this id was given
 abbrev pub is_given : Text → List Row → Bool
 is_given id rows = option_map_or (λ text. bytes_eq text (codes "true")) (one_of id rows) false
+
+-- the folder, which is required: words without one are refused
+abbrev pub dir_of : List Row → Text
+dir_of rows = unwrap_or (first_of (codes "dir") rows) []
 
 -- the request that a subcommand of this name makes by its flags and values
 abbrev pub request_named : Text → List Row → Option Request
@@ -41,7 +48,8 @@ request_named name rows =
     then Some (export (is_given (codes "reduced") rows) (first_of (codes "file") rows))
     else (if bytes_eq name (codes "check") then Some (check (first_of (codes "file") rows))
     else (if bytes_eq name (codes "list") then Some (listing (first_of (codes "file") rows))
-    else None))
+    else (if bytes_eq name (codes "split") then Some (splitting (dir_of rows) (first_of (codes "file") rows))
+    else None)))
 
 -- the request of a subcommand that was met, if any
 unfoldable pub request_from : Option (Text × List Row) → Option Request

@@ -1,9 +1,9 @@
 //! The command line: which task the words of a call ask for.
 ghost use Rattle.std.specs.Prelude.{◌≡◌, IfOk, IsSome, false, codes, map, option_map, string_bytes};
 ghost use Rattle.clap.specs.Words.{app_of, first_of, found_of, kind_of, rows_of, rule_of, subcommand_rows_of};
-ghost use Rattle.pgn_tool.specs.CommandLine.{check_command, command_line, export_command, file_rule, list_command};
+ghost use Rattle.pgn_tool.specs.CommandLine.{check_command, command_line, export_command, file_rule, list_command, split_command};
 ghost use Rattle.std.specs.Option.{option_copied};
-ghost use Rattle.pgn_tool.specs.Requests.{AnswersBy, AnswersError, file_of, is_given, refusals, request_from, request_in, request_of};
+ghost use Rattle.pgn_tool.specs.Requests.{AnswersBy, AnswersError, dir_of, file_of, is_given, refusals, request_from, request_in, request_of};
 ghost use Rattle.pgn_tool.specs.declared.arguments.ParseFault.TheVariants.{NoMemory};
 
 use clap::error::ErrorKind;
@@ -33,6 +33,13 @@ pub enum Task {
         /// The file to read; with none, standard input.
         file: Option<String>,
     },
+    /// Write each game to a file of its own.
+    Split {
+        /// The folder that the files are made in.
+        dir: String,
+        /// The file to read; with none, standard input.
+        file: Option<String>,
+    },
 }
 
 impl Task {
@@ -44,6 +51,7 @@ impl Task {
             Task::Export { file, .. } => file.as_deref(),
             Task::Check { file } => file.as_deref(),
             Task::List { file } => file.as_deref(),
+            Task::Split { file, .. } => file.as_deref(),
         }
     }
 }
@@ -88,6 +96,7 @@ const EXAMPLES: &str = "Examples:
   pgn_tool export games.pgn > clean.pgn    Write the games in export format
   pgn_tool check games.pgn                 Count the games, or report the first fault
   pgn_tool list < games.pgn                One line for each game, with tabs
+  pgn_tool split folder games.pgn          Write each game to folder/000001.pgn and so on
 
 Without FILE standard input is read. Never write to the file that is read.
 
@@ -109,7 +118,8 @@ fn command_line<'a>(alloc: Global) -> Result<Command<'a>, AllocError>
         .subcommand_required(true)
         .subcommand(export_command(alloc)?)?
         .subcommand(check_command(alloc)?)?
-        .subcommand(list_command(alloc)?)
+        .subcommand(list_command(alloc)?)?
+        .subcommand(split_command(alloc)?)
 }
 
 fn export_command<'a>(alloc: Global) -> Result<Command<'a>, AllocError>
@@ -141,6 +151,19 @@ fn list_command<'a>(alloc: Global) -> Result<Command<'a>, AllocError>
         .arg(file_argument(alloc))
 }
 
+fn split_command<'a>(alloc: Global) -> Result<Command<'a>, AllocError>
+    ensures { IfOk result (λ c. app_of c ≡ split_command) }
+{
+    let dir = Arg::new(alloc, "dir")
+        .value_name("DIR")
+        .required(true)
+        .help("The folder to write to, which has to exist");
+    Command::new(alloc, "split")
+        .about("Write each game to a file of its own: DIR/000001.pgn and so on")
+        .arg(dir)?
+        .arg(file_argument(alloc))
+}
+
 // The file to read, which each subcommand takes.
 fn file_argument<'a>(alloc: Global) -> Arg<'a>
     ensures rule { rule_of result ≡ file_rule }
@@ -168,6 +191,10 @@ fn task_of(alloc: Global, matches: &ArgMatches<'_>) -> Result<Task, AllocError>
         }),
         "check" => Ok(Task::Check { file }),
         "list" => Ok(Task::List { file }),
+        "split" => Ok(Task::Split {
+            dir: dir_of(alloc, inner)?,
+            file,
+        }),
         _ => unreachable!(),
     }
 }
@@ -176,6 +203,13 @@ fn is_given(matches: &ArgMatches<'_>, id: &str) -> bool
     ensures { result ≡ is_given id.now (rows_of (found_of matches.now)) }
 {
     matches.get_one::<bool>(id).unwrap_or(false)
+}
+
+// The folder. It is required, so `clap` refuses words without one.
+fn dir_of(alloc: Global, matches: &ArgMatches<'_>) -> Result<String, AllocError>
+    ensures { IfOk result (λ dir. string_bytes dir ≡ dir_of (rows_of (found_of matches.now))) }
+{
+    String::from_str(alloc, matches.get_str("dir").unwrap_or(""))
 }
 
 fn file_of(alloc: Global, matches: &ArgMatches<'_>) -> Result<Option<String>, AllocError>

@@ -1,11 +1,17 @@
-//! The program: converts chess games in Portable Game Notation to export format, or checks or lists them.
+//! The program: converts chess games in Portable Game Notation to export format, or checks, lists or splits them.
 #![tactic(auto)]
 
 ghost use Rattle.std.specs.Prelude.{◌≡◌, ◌≤◌};
 
 mod arguments;
+mod files;
+mod folder;
+mod game_sink;
 mod list;
 mod replies;
+mod split;
+#[cfg(test)]
+mod split_tests;
 mod stream;
 #[cfg(test)]
 mod stream_tests;
@@ -13,7 +19,9 @@ mod stream_tests;
 mod tests;
 
 use crate::arguments::{Task, parse};
+use crate::folder::Folder;
 use crate::replies::{answer_fault, refuse_words, want_memory};
+use crate::split::split_to;
 use crate::stream::{refuse, run_stream};
 use pgn_game::{Fault, Inlet, Outlet, Reason, Sink};
 use std::fs::File;
@@ -69,12 +77,16 @@ fn run<E: Sink>(rt: HostRuntime, task: &Task, err: &mut E) -> u8
     }
 }
 
-// Runs the task on what the reader gives, to standard output.
+// Runs the task on what the reader gives: to files, or to standard output.
 fn run_on<R: Read + Drop, E: Sink>(rt: HostRuntime, task: &Task, reader: R, err: &mut E) -> u8
     ensures { result ≤ 3 }
 {
+    let mut source = Inlet::new(reader);
+    if let Task::Split { dir, .. } = task {
+        return split_to(&mut source, &mut Folder::new(rt, dir.as_str()), err);
+    }
     match BufWriter::with_capacity(rt.alloc(), OUTPUT_BUFFER, rt.stdout()) {
-        Ok(writer) => run_stream(task, &mut Inlet::new(reader), &mut Outlet::new(writer), err),
+        Ok(writer) => run_stream(task, &mut source, &mut Outlet::new(writer), err),
         Err(_) => want_memory(err),
     }
 }

@@ -2,7 +2,7 @@
 ghost use Rattle.std.specs.Prelude.{◌≡◌, ℕ, ◌+◌, ◌-◌, ◌≤◌, List, ◌++◌, length, true, false, codes, if◌then◌else◌};
 ghost use Rattle.std.specs.Io.KnownBytes.{Appends};
 ghost use Rattle.pgn_game.specs.Reason.{line_of};
-ghost use Rattle.pgn_tool.specs.Running.{Answers, HasFailed, HasFront, IsSmooth, IsStill, Runs, Tells, checking, counting_line, device, exporting, job_of, line, listing, mode_for};
+ghost use Rattle.pgn_tool.specs.Running.{Answers, HasFailed, HasFront, IsSmooth, IsStill, Runs, Tells, checking, counting_line, device, exporting, is_for_stream, job_of, line, listing, mode_for};
 
 use crate::arguments::Task;
 use crate::list::{Stopped, list_games};
@@ -22,13 +22,16 @@ pub const LEVELS: usize = 33;
 /// 1: a fault was met, whose line `err` has; or `out` could not take a line of `check` or `list`, or be flushed, and `err`
 /// says so. Of an export, what is due before the fault was written; of a list, the lines of the games before it; of a check, nothing.
 ///
-/// The first fault is told alone, and a failure of `err` changes no status.
+/// The first fault is told alone, and a failure of `err` changes no status. The caller's condition
+/// is that the task is one of `export`, `check` and `list`.
 pub fn run_stream<R: Source, O: Sink, E: Sink>(
     task: &Task,
     reader: &mut R,
     out: &mut O,
     err: &mut E,
 ) -> u8
+    requires { is_for_stream task.now ≡ true }
+
     // Where no device fails: the status, what is written and what is told are those of the text.
     ensures answers { (s : List ℕ)
         → IsSmooth s (device R.left R.failures reader.old reader.new) (device O.taken O.failures out.old out.new)
@@ -47,6 +50,7 @@ pub fn run_stream<R: Source, O: Sink, E: Sink>(
         Task::Export { reduced, .. } => export(export_mode(*reduced), reader, out, err),
         Task::Check { .. } => check(reader, out, err),
         Task::List { .. } => list(reader, out, err),
+        Task::Split { .. } => unreachable!(),
     }
 }
 

@@ -78,9 +78,37 @@ fn reads_list(rt: HostRuntime) -> Result<(), Fail> {
 }
 
 #[test]
+fn reads_split(rt: HostRuntime) -> Result<(), Fail> {
+    let alloc = rt.alloc();
+    let rows: [(&[&str], &str, Option<&str>); 3] = [
+        (&["pgn_tool", "split", "games"], "games", None),
+        (
+            &["pgn_tool", "split", "games", "a.pgn"],
+            "games",
+            Some("a.pgn"),
+        ),
+        (&["pgn_tool", "split", "--", "-d", "-"], "-d", Some("-")),
+    ];
+    for (words, dir, file) in rows {
+        let dir = String::from_str(alloc, dir)?;
+        let file = owned(alloc, file)?;
+        assert!(rt;
+            parse(alloc, words) == Ok(Task::Split { dir, file }),
+            "at {words:?}"
+        );
+    }
+    Ok(())
+}
+
+#[test]
 fn refuses_other_words(rt: HostRuntime) {
-    let rows: [(&[&str], &str); 10] = [
+    let rows: [(&[&str], &str); 12] = [
         (&["pgn_tool", "list", "a", "b"], "unexpected argument 'b'"),
+        (&["pgn_tool", "split"], "<DIR>"),
+        (
+            &["pgn_tool", "split", "a", "b", "c"],
+            "unexpected argument 'c'",
+        ),
         (&[], "requires a subcommand"),
         (&["pgn_tool"], "requires a subcommand"),
         (&["pgn_tool", "export", "a", "b"], "unexpected argument 'b'"),
@@ -119,7 +147,11 @@ fn refuses_other_words(rt: HostRuntime) {
 
 #[test]
 fn shows_help_and_version(rt: HostRuntime) {
-    let rows: [(&[&str], &[&str]); 6] = [
+    let rows: [(&[&str], &[&str]); 7] = [
+        (
+            &["pgn_tool", "split", "--help"],
+            &["Usage: pgn_tool split", "<DIR>", "[FILE]", "000001.pgn"],
+        ),
         (
             &["pgn_tool", "--help"],
             &[

@@ -2,7 +2,7 @@ use Rattle.std.proofs.Common.{◌≡◌, ◌∙◌, refl, ap, ap₂, true}
 use Rattle.std.proofs.lemmas.Result.{IfOk-weaker}
 use Rattle.clap.specs.Words.{App, app_of, with_subcommand}
 use Rattle.clap.specs.Simple.{Shape, on_top}
-use Rattle.pgn_tool.specs.CommandLine.{bare_program, check_command, command_line, export_command, list_command}
+use Rattle.pgn_tool.specs.CommandLine.{bare_program, check_command, command_line, export_command, list_command, split_command}
 use Rattle.pgn_tool.proofs.Builders.{app_about, app_after_help, app_help_subcommand, app_required, app_version, is_local}
 use Rattle.pgn_tool.proofs.arguments.command_line.Goals as goal
 
@@ -18,6 +18,10 @@ list_is_plain : list_command.top.is_plain ≡ true
 unfolding list_command
 list_is_plain = refl
 
+split_is_plain : split_command.top.is_plain ≡ true
+unfolding split_command
+split_is_plain = refl
+
 pub returns : goal.returns
 unfolding command_line bare_program
 returns c =
@@ -31,5 +35,7 @@ returns c =
     let list_is = c.in_ok-list_command.ensures in
     let first = c.in_ok-subcommand.ensures.shape (is_local _ _ export_is export_is_plain) ∙ ap₂ with_subcommand bare (ap (λ (a : App). a.top) export_is) in
     let second = c.in_ok-subcommand-2.ensures.shape (is_local _ _ check_is check_is_plain) ∙ ap₂ with_subcommand first (ap (λ (a : App). a.top) check_is) in
-    IfOk-weaker c.subcommand-3.result _ _
-    (λ made h. h.shape (is_local _ _ list_is list_is_plain) ∙ ap₂ with_subcommand second (ap (λ (a : App). a.top) list_is)) c.subcommand-3.ensures
+    let third = c.in_ok-subcommand-3.ensures.shape (is_local _ _ list_is list_is_plain) ∙ ap₂ with_subcommand second (ap (λ (a : App). a.top) list_is) in
+    let split_is = c.in_ok-split_command.ensures in
+    IfOk-weaker c.subcommand-4.result _ _
+    (λ made h. h.shape (is_local _ _ split_is split_is_plain) ∙ ap₂ with_subcommand third (ap (λ (a : App). a.top) split_is)) c.subcommand-4.ensures

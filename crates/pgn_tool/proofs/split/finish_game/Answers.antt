@@ -1,0 +1,22 @@
+use Rattle.std.proofs.Common.{rules, subst}
+use Rattle.pgn_game.specs.Feeding.{Ends}
+use Rattle.pgn_tool.specs.Files.{told}
+use Rattle.pgn_tool.proofs.split.finish_game.Goals as goal
+
+pub returns : goal.returns
+returns g c =
+    let call = c.finish_sink-turn in
+    let taken = g.F.Out.Sink.taken in
+    let log = g.F.GameFiles.log in
+    record {
+      answer = call.new.answer;
+      refusal = call.result.refusal;
+      failed = call.result.failures;
+      settles = c.settle.ensures;
+      turned = search rules;
+      counted = call.ensures.counted;
+      ends =
+          subst (λ files. Ends c.args.converter.now call.new.converter call.new.answer
+          (told taken (log c.args.files.now) c.args.file.now) (told taken (log files) call.new.file))
+          (search rules) (rw c.new-lent.ensures.now at call.ensures.ends);
+    }

@@ -1,0 +1,16 @@
+use Rattle.std.proofs.Common.{◌≡◌, ◌≤◌, ◌-◌, ◌^◌, None, false, length}
+use Rattle.pgn_tool.specs.Splitting.{IsWell}
+use Rattle.pgn_tool.proofs.split.split_source.Given as goal
+
+abbrev pub invariant-loop-converter : goal.invariant-loop-converter
+invariant-loop-converter g l =
+    record {
+      count : l.converter.lexer.count ≤ 2 ^ 62;
+      room : length l.buffer ≡ 4096;
+      going : l.converter.is_finished ≡ false;
+      fault : l.converter.fault ≡ None;
+      well : IsWell g.F.Out.Sink.taken g.F.Out.Sink.failures (g.F.GameFiles.log l.files) l.file;
+    }
+
+abbrev pub decreases-loop-converter : goal.decreases-loop-converter
+decreases-loop-converter g l = 2 ^ 62 - l.converter.lexer.count

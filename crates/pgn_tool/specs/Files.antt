@@ -1,0 +1,68 @@
+-- **Definition.** The files that games are written to: what was done with them, step by step.
+use Rattle.std.specs.Prelude.{◌≡◌, ℕ, Bool, true, false, List, [], ◌∷◌, ◌++◌, Option, None, Some, Result, Ok, Err, is_some}
+use Rattle.pgn_tool.specs.declared.files.CreateFault.{CreateFault}
+use Rattle.pgn_tool.specs.declared.files.CreateFault.TheVariants.{Refused, NoMemory}
+
+-- File n was made, or was refused, or there was no memory for it. A file was closed: the bytes that
+-- it had taken, where it tells them, and how many of its calls had failed.
+pub data Event : Type 0 where
+  made : ℕ → Event
+  refused : ℕ → Event
+  without_memory : ℕ → Event
+  closed : Option (List ℕ) → ℕ → Event
+
+-- a file that was not made
+abbrev pub event_of_fault : ℕ → CreateFault → Event
+event_of_fault n Refused = refused n
+event_of_fault n NoMemory = without_memory n
+
+-- what making file n resulted in
+abbrev pub event_of : {A : Type 0} → ℕ → Result A CreateFault → Event
+event_of n (Ok out) = made n
+event_of n (Err fault) = event_of_fault n fault
+
+-- a log with more steps at its end, where it is told
+abbrev pub added : Option (List Event) → List Event → Option (List Event)
+added None steps = None
+added (Some log) steps = Some (log ++ steps)
+
+-- The bytes of the open file: none before it is made, and then those that it has taken. They are
+-- told where the log is.
+abbrev pub told : {A : Type 0} → (A → Option (List ℕ)) → Option (List Event) → Option A → Option (List ℕ)
+told taken None file = None
+told taken (Some log) None = Some []
+told taken (Some log) (Some out) = taken out
+
+-- a new file has no bytes
+abbrev pub IsNew : Option (List Event) → Option (List ℕ) → Type 0
+IsNew None bytes = Unit {0}
+IsNew (Some log) bytes = bytes ≡ Some []
+
+-- how many calls of the open file failed
+abbrev pub failures_in : {A : Type 0} → (A → ℕ) → Option A → ℕ
+failures_in failures None = 0
+failures_in failures (Some out) = failures out
+
+-- there are bytes
+abbrev pub is_text : Option (List ℕ) → Bool
+is_text None = false
+is_text (Some []) = false
+is_text (Some (byte ∷ bytes)) = true
+
+-- the open file has bytes, where the log is told
+abbrev pub has_text : {A : Type 0} → (A → Option (List ℕ)) → Option (List Event) → Option A → Bool
+has_text taken None file = true
+has_text taken (Some log) None = false
+has_text taken (Some log) (Some out) = is_text (taken out)
+
+-- What a call that writes game n does with files: nothing where its file was open before; else it
+-- may make the file, or be refused.
+abbrev pub steps : (was_open is_open : Bool) → Option CreateFault → ℕ → List Event
+steps was_open is_open (Some fault) n = event_of_fault n fault ∷ []
+steps false true None n = made n ∷ []
+steps _ _ None n = []
+
+-- the open file is closed
+abbrev pub closing : {A : Type 0} → (A → Option (List ℕ)) → (A → ℕ) → Option A → List Event
+closing taken failures None = []
+closing taken failures (Some out) = closed (taken out) (failures out) ∷ []

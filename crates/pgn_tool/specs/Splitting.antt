@@ -1,0 +1,71 @@
+-- **Bookkeeping.** What one call of the converter does to the files of games.
+use Rattle.std.specs.Prelude.{◌≡◌, ℕ, ◌+◌, ◌^◌, ◌<◌, ◌≤◌, Bool, true, false, List, length, Option, None, Some, Result, Ok, Err, IfOk, OnOk, is_ok, is_some}
+use Rattle.pgn_layout.specs.Device.{one_more}
+use Rattle.pgn_game.specs.declared.reason.Fault.{Fault}
+use Rattle.pgn_game.specs.declared.converter.Fed.{Fed}
+use Rattle.pgn_game.specs.Feeding.{Advances, Converter, CountsFault, Ends, Feeds, KeepsFault, used_of}
+use Rattle.pgn_tool.specs.declared.files.CreateFault.{CreateFault}
+use Rattle.pgn_tool.specs.declared.files.CreateFault.TheVariants as creating
+use Rattle.pgn_tool.specs.declared.split.Unsplit.{Unsplit}
+use Rattle.pgn_tool.specs.declared.split.Unsplit.TheVariants.{Refused, NoMemory}
+use Rattle.pgn_tool.specs.Files.{Event, added, failures_in, has_text, steps, told}
+
+-- the open file has no failure, and has bytes
+pub record IsWell {A : Type 0} (taken : A → Option (List ℕ)) (failures : A → ℕ)
+    (log : Option (List Event)) (file : Option A) : Type 0 where
+  pub clean : failures_in failures file ≡ 0
+  pub begun : is_some file ≡ true → has_text taken log file ≡ true
+
+-- What a call does that writes game `number`: the log and the open file before it and after it, why
+-- a file was not made, and how many writes failed.
+pub record Turned {A : Type 0} (taken : A → Option (List ℕ)) (failures : A → ℕ) (number : ℕ)
+    (log : Option (List Event)) (file : Option A) (log_after : Option (List Event)) (file_after : Option A)
+    (refusal : Option CreateFault) (failed : ℕ) : Type 0 where
+  pub logged : log_after ≡ added log (steps (is_some file) (is_some file_after) refusal number)
+  pub stays : is_some file ≡ true → is_some file_after ≡ true
+  pub shut : is_some refusal ≡ true → is_some file_after ≡ false
+  pub clean : refusal ≡ None → failed ≡ failures_in failures file_after
+  pub risen : is_some refusal ≡ true → 0 < failed
+  pub begun : failed ≡ 0 → is_some file_after ≡ true → has_text taken log_after file_after ≡ true
+
+-- what a call of `feed` says besides what it reads and writes
+pub record FeedResult (old : Converter) (piece : List ℕ) (new : Converter) (answer : Result Fed Fault) : Type 0 where
+  pub used : IfOk answer (λ fed. used_of fed piece ≤ length piece)
+  pub count : IfOk answer (λ fed. new.lexer.count ≡ old.lexer.count + used_of fed piece)
+  pub short : OnOk answer (new.lexer.count ≤ 2 ^ 62)
+  pub advances : IfOk answer (λ fed. Advances old.lexer new.lexer fed)
+  pub going : new.is_finished ≡ false
+  pub fault : KeepsFault new answer
+
+-- want of memory comes before the write fault that it causes
+abbrev pub settled : {A : Type 0} → Option CreateFault → Result A Fault → Result A Unsplit
+settled (Some creating.NoMemory) (Err fault) = Err NoMemory
+settled refusal (Err fault) = Err (Refused fault)
+settled refusal (Ok x) = Ok x
+
+-- A game was fed a piece: what the converter answered, and what it did to the files.
+pub record GameFed {A : Type 0} (taken : A → Option (List ℕ)) (failures : A → ℕ)
+    (old : Converter) (piece : List ℕ) (new : Converter)
+    (log : Option (List Event)) (file : Option A) (log_after : Option (List Event)) (file_after : Option A)
+    (result : Result Fed Unsplit) : Type 0 where
+  pub answer : Result Fed Fault
+  pub refusal : Option CreateFault
+  pub failed : ℕ
+  pub settles : result ≡ settled refusal answer
+  pub turned : Turned taken failures (one_more old.games) log file log_after file_after refusal failed
+  pub counted : CountsFault answer 0 failed
+  pub fed : FeedResult old piece new answer
+  pub feeds : Feeds old piece new answer (told taken log file) (told taken log_after file_after)
+
+-- A game was finished with the end of the input.
+pub record GameEnded {A : Type 0} (taken : A → Option (List ℕ)) (failures : A → ℕ)
+    (old : Converter) (new : Converter)
+    (log : Option (List Event)) (file : Option A) (log_after : Option (List Event)) (file_after : Option A)
+    (result : Result Bool Unsplit) : Type 0 where
+  pub answer : Result Bool Fault
+  pub refusal : Option CreateFault
+  pub failed : ℕ
+  pub settles : result ≡ settled refusal answer
+  pub turned : Turned taken failures (one_more old.games) log file log_after file_after refusal failed
+  pub counted : CountsFault answer 0 failed
+  pub ends : Ends old new answer (told taken log file) (told taken log_after file_after)

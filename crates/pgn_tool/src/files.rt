@@ -1,0 +1,34 @@
+//! The files that games are written to.
+use pgn_game::Sink;
+
+/// Why a file is not made.
+#[derive(Clone, Copy, Debug, PartialEq, Eq)]
+pub enum CreateFault {
+    /// The system refuses it.
+    Refused,
+    /// There is no memory for its name or for opening it.
+    NoMemory,
+}
+
+/// Makes the files that games are written to, one for each game.
+pub trait GameFiles {
+    ghost use Rattle.std.specs.Prelude.{◌≡◌, ℕ, List, [], ◌∷◌, Option, IfOk};
+    ghost use Rattle.pgn_tool.specs.Files.{Event, IsNew, added, closed, event_of};
+
+    /// A file that is being written. Dropping it lets it go.
+    type Out: Sink + Drop;
+
+    // What was done with files so far, in order, where that is told.
+    ghost log: { Self → Option (List Event) };
+
+    /// Makes the file of the game with this number, from 1. A file of that name is replaced.
+    fn create(&mut self, number: u64) -> Result<Self::Out, CreateFault>
+        ensures log { log self.new ≡ added (log self.old) (event_of number result ∷ []) }
+        ensures empty { IfOk result (λ out. IsNew (log self.old) (Self.Out.taken out)) }
+        ensures fresh { IfOk result (λ out. Self.Out.failures out ≡ 0) };
+
+    /// Lets the file go.
+    fn close(&mut self, out: Self::Out)
+        ensures { log self.new ≡ added (log self.old)
+            (closed (Self.Out.taken out) (Self.Out.failures out) ∷ []) };
+}

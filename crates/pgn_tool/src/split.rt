@@ -1,0 +1,252 @@
+//! Writes each game to a file of its own.
+ghost use Rattle.std.specs.Prelude.{◌≡◌, ◌+◌, ◌^◌, ◌≤◌, false, None, OnOk, is_some, length};
+ghost use Rattle.pgn_layout.specs.Device.{one_more};
+ghost use Rattle.pgn_game.specs.Feeding.{CountsFault, Ends, Feeds};
+ghost use Rattle.pgn_tool.specs.Files.{added, closing, told};
+ghost use Rattle.pgn_tool.specs.Splitting.{FeedResult, GameEnded, GameFed, IsWell, Turned, settled};
+
+use crate::files::{CreateFault, GameFiles};
+use crate::game_sink::{Before, GameSink, Turn};
+use crate::replies::want_memory;
+use crate::stream::{LEVELS, TAGS, refuse};
+use pgn_game::{Converter, Fault, Fed, Mode, Reason, Sink, Source};
+use std::marker::{Brand, PhantomData};
+
+/// Why a split ends before the input does.
+#[derive(Clone, Copy, Debug, PartialEq, Eq)]
+pub enum Unsplit {
+    /// A fault was met.
+    Refused(Fault),
+    /// There was no memory for making a file.
+    NoMemory,
+}
+
+type Splitter = Converter<TAGS, LEVELS>;
+
+/// Writes each game that the source gives to a file of its own, and returns the exit status.
+///
+/// Games are numbered from 1. The file of a game is made at its first byte and closed at its end.
+/// Nothing is flushed.
+///
+/// - 0: there was no fault. `err` is not touched.
+/// - 1: there was a fault, and `err` has its line. The game at fault keeps what `export` would
+///   have written of it.
+/// - 3: there was no memory for making a file, and `err` says so.
+///
+/// A file that is refused counts as a write that failed.
+pub fn split_to<R: Source, F: GameFiles, E: Sink>(reader: &mut R, files: &mut F, err: &mut E) -> u8
+    ensures status { result ≤ 3 }
+{
+    let mut file = None;
+    let answer = split_source(reader, files, &mut file);
+    close(files, &mut file);
+    match answer {
+        Ok(()) => 0,
+        Err(Unsplit::Refused(fault)) => refuse(fault, err),
+        Err(Unsplit::NoMemory) => want_memory(err),
+    }
+}
+
+// Splits what the source gives, up to its end.
+fn split_source<R: Source, F: GameFiles>(
+    reader: &mut R,
+    files: &mut F,
+    file: &mut Option<F::Out>,
+) -> Result<(), Unsplit>
+    requires { file.old ≡ None }
+{
+    let mut buffer = [0; 4096];
+    let mut converter = Splitter::new(Mode::Full);
+    loop {
+        match reader.read_some(&mut buffer) {
+            Err(_) => {
+                return Err(Unsplit::Refused(Fault {
+                    at: converter.count(),
+                    reason: Reason::ReadFault,
+                }));
+            }
+            Ok(0) => return split_last(&mut converter, files, file),
+            Ok(n) => split_piece(&mut converter, &buffer[..n], files, file)?,
+        }
+    }
+}
+
+// Splits the piece. The file of the last game stays open unless the game is whole.
+fn split_piece<F: GameFiles>(
+    converter: &mut Splitter,
+    piece: &[u8],
+    files: &mut F,
+    file: &mut Option<F::Out>,
+) -> Result<(), Unsplit>
+    requires going { converter.old.is_finished ≡ false }
+    requires no_fault { converter.old.fault ≡ None }
+    requires well { IsWell F.Out.taken F.Out.failures (F.log files.old) file.old }
+    ensures going { converter.new.is_finished ≡ false }
+    ensures count { OnOk result
+        (converter.new.lexer.count ≡ converter.old.lexer.count + length piece.now) }
+    ensures short { OnOk result (converter.new.lexer.count ≤ 2 ^ 62) }
+    ensures no_fault { OnOk result (converter.new.fault ≡ None) }
+    ensures well { OnOk result (IsWell F.Out.taken F.Out.failures (F.log files.new) file.new) }
+{
+    let mut at = 0;
+    loop {
+        match feed_game(converter, &piece[at..], files, file)? {
+            Fed::All => return Ok(()),
+            Fed::Game(used) => at += used,
+        }
+        close(files, file);
+    }
+}
+
+// Ends the input. The file of the last game stays open.
+fn split_last<F: GameFiles>(
+    converter: &mut Splitter,
+    files: &mut F,
+    file: &mut Option<F::Out>,
+) -> Result<(), Unsplit>
+    requires going { converter.old.is_finished ≡ false }
+    requires no_fault { converter.old.fault ≡ None }
+    requires well { IsWell F.Out.taken F.Out.failures (F.log files.old) file.old }
+{
+    finish_game(converter, files, file)?;
+    Ok(())
+}
+
+// Closes the file, if one is open.
+fn close<F: GameFiles>(files: &mut F, file: &mut Option<F::Out>)
+    ensures shut { file.new ≡ None }
+    ensures log { F.log files.new
+        ≡ added (F.log files.old) (closing F.Out.taken F.Out.failures file.old) }
+{
+    if let Some(out) = file.take() {
+        files.close(out);
+    }
+}
+
+// Feeds the piece up to the end of the next game, into the file of that game.
+fn feed_game<F: GameFiles>(
+    converter: &mut Splitter,
+    piece: &[u8],
+    files: &mut F,
+    file: &mut Option<F::Out>,
+) -> Result<Fed, Unsplit>
+    requires going { converter.old.is_finished ≡ false }
+    requires no_fault { converter.old.fault ≡ None }
+    requires well { IsWell F.Out.taken F.Out.failures (F.log files.old) file.old }
+    ensures { GameFed F.Out.taken F.Out.failures converter.old piece.now converter.new
+        (F.log files.old) file.old (F.log files.new) file.new result }
+{
+    let number = converter.games().saturating_add(1);
+    let mut answer = Ok(Fed::All);
+    let lent = Turn::new(files, number);
+    let turn = feed_sink::<Brand, F>(converter, piece, lent, file, &mut answer);
+    settle(answer, turn.refusal)
+}
+
+// Ends the input, and writes what is left of the last game into its file.
+fn finish_game<F: GameFiles>(
+    converter: &mut Splitter,
+    files: &mut F,
+    file: &mut Option<F::Out>,
+) -> Result<bool, Unsplit>
+    requires going { converter.old.is_finished ≡ false }
+    requires no_fault { converter.old.fault ≡ None }
+    requires well { IsWell F.Out.taken F.Out.failures (F.log files.old) file.old }
+    ensures { GameEnded F.Out.taken F.Out.failures converter.old converter.new
+        (F.log files.old) file.old (F.log files.new) file.new result }
+{
+    let number = converter.games().saturating_add(1);
+    let mut answer = Ok(false);
+    let lent = Turn::new(files, number);
+    let turn = finish_sink::<Brand, F>(converter, lent, file, &mut answer);
+    settle(answer, turn.refusal)
+}
+
+// Want of memory comes before the write fault that it causes.
+fn settle<A: Copy>(answer: Result<A, Fault>, refusal: Option<CreateFault>) -> Result<A, Unsplit>
+    ensures { result ≡ settled refusal answer }
+{
+    match answer {
+        Ok(done) => Ok(done),
+        Err(fault) => match refusal {
+            Some(CreateFault::NoMemory) => Err(Unsplit::NoMemory),
+            _ => Err(Unsplit::Refused(fault)),
+        },
+    }
+}
+
+// `feed`, into the sink over the file of this game.
+fn feed_sink<'a, K: Before, F: GameFiles>(
+    converter: &mut Splitter,
+    piece: &[u8],
+    turn: Turn<'a, F>,
+    file: &mut Option<F::Out>,
+    answer: &mut Result<Fed, Fault>,
+) -> Turn<'a, F>
+    requires going { converter.old.is_finished ≡ false }
+    requires no_fault { converter.old.fault ≡ None }
+    requires name { turn.files.ghost_name ≡ K.name }
+    requires number { turn.number ≡ K.number }
+    requires fresh { (turn.refusal ≡ None) × (turn.failures ≡ 0) }
+    requires log { F.log turn.files.now ≡ K.log }
+    requires open { is_some file.old ≡ K.is_open }
+    requires well { IsWell F.Out.taken F.Out.failures K.log file.old }
+    ensures same { result.files.ghost_name ≡ turn.entry.files.ghost_name }
+    ensures turned { Turned F.Out.taken F.Out.failures K.number K.log file.old
+        (F.log result.files.now) file.new result.refusal result.failures }
+    ensures counted { CountsFault answer.new 0 result.failures }
+    ensures fed { FeedResult converter.old piece.now converter.new answer.new }
+    ensures feeds { Feeds converter.old piece.now converter.new answer.new
+        (told F.Out.taken K.log file.old) (told F.Out.taken (F.log result.files.now) file.new) }
+{
+    let mut sink = GameSink::<'a, K, F> {
+        turn,
+        file: file.take(),
+        of: PhantomData,
+    };
+    *answer = converter.feed(piece, &mut sink);
+    let GameSink {
+        turn: lent,
+        file: left,
+        ..
+    } = sink;
+    *file = left;
+    lent
+}
+
+// `finish`, into the sink over the file of this game.
+fn finish_sink<'a, K: Before, F: GameFiles>(
+    converter: &mut Splitter,
+    turn: Turn<'a, F>,
+    file: &mut Option<F::Out>,
+    answer: &mut Result<bool, Fault>,
+) -> Turn<'a, F>
+    requires going { converter.old.is_finished ≡ false }
+    requires no_fault { converter.old.fault ≡ None }
+    requires name { turn.files.ghost_name ≡ K.name }
+    requires number { turn.number ≡ K.number }
+    requires fresh { (turn.refusal ≡ None) × (turn.failures ≡ 0) }
+    requires log { F.log turn.files.now ≡ K.log }
+    requires open { is_some file.old ≡ K.is_open }
+    requires well { IsWell F.Out.taken F.Out.failures K.log file.old }
+    ensures same { result.files.ghost_name ≡ turn.entry.files.ghost_name }
+    ensures turned { Turned F.Out.taken F.Out.failures K.number K.log file.old
+        (F.log result.files.now) file.new result.refusal result.failures }
+    ensures counted { CountsFault answer.new 0 result.failures }
+    ensures ends { Ends converter.old converter.new answer.new
+        (told F.Out.taken K.log file.old) (told F.Out.taken (F.log result.files.now) file.new) }
+{
+    let mut sink = GameSink::<'a, K, F> {
+        turn,
+        file: file.take(),
+        of: PhantomData,
+    };
+    *answer = converter.finish(&mut sink);
+    let GameSink {
+        turn: lent,
+        file: left,
+        ..
+    } = sink;
+    *file = left;
+    lent
+}

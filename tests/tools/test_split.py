@@ -1,0 +1,172 @@
+#!/usr/bin/env python3
+"""Tests of `pgn_tool split` with real files, folders and devices, and of FILE and its absence."""
+import os
+import shutil
+import subprocess
+import sys
+import tempfile
+import unittest
+
+sys.path.insert(0, os.path.dirname(os.path.realpath(__file__)))
+from programs import need, need_program, not_tried, run
+
+HEAD = (b'[Event "?"]\n[Site "?"]\n[Date "????.??.??"]\n[Round "?"]\n[White "?"]\n[Black "?"]\n'
+        b'[Result "*"]\n\n')
+UNKNOWN = HEAD + b"*\n\n"
+UNWRITTEN = b"byte %d: output cannot be written\n"
+
+
+class SplitTest(unittest.TestCase):
+    def setUp(self):
+        self.program = need_program()
+        self.folder = tempfile.mkdtemp()
+        self.addCleanup(shutil.rmtree, self.folder, True)
+
+    def split(self, text, *words, folder=None, **more):
+        return run([self.program, "split", folder or self.folder, *words], input=text, **more)
+
+    def files(self):
+        found = {}
+        for name in os.listdir(self.folder):
+            with open(os.path.join(self.folder, name), "rb") as file:
+                found[name] = file.read()
+        return found
+
+    def check(self, ran, status, err, files):
+        self.assertEqual((ran.returncode, ran.stdout, ran.stderr), (status, b"", err))
+        self.assertEqual(self.files(), files)
+
+    def test_two_games(self):
+        self.check(self.split(b"* *"), 0, b"", {"000001.pgn": UNKNOWN, "000002.pgn": UNKNOWN})
+
+    def test_file(self):
+        with tempfile.NamedTemporaryFile() as games:
+            games.write(b"1. e4 e5 *")
+            games.flush()
+            ran = self.split(b"* * *", games.name)
+        self.check(ran, 0, b"", {"000001.pgn": HEAD + b"1. e4 e5 *\n\n"})
+
+    def test_missing_file(self):
+        ran = self.split(b"*", self.folder + "/missing")
+        self.check(ran, 1, b"byte 0: input cannot be read\n", {})
+
+    def test_folder_as_file(self):
+        self.check(self.split(b"*", self.folder), 1, b"byte 0: input cannot be read\n", {})
+
+    def test_no_games(self):
+        for folder in (self.folder, self.folder + "/missing"):
+            self.check(self.split(b"{nothing}\n", folder=folder), 0, b"", {})
+
+    def test_fault(self):
+        self.check(self.split(b"* 1. e4"), 1, b"byte 7: unexpected end of input\n",
+                   {"000001.pgn": UNKNOWN, "000002.pgn": HEAD})
+
+    def test_fault_before_movetext(self):
+        self.check(self.split(b"* 1-0"), 1, b"byte 2: result differs from the Result tag\n",
+                   {"000001.pgn": UNKNOWN})
+
+    def test_old_files(self):
+        for name in ("000001.pgn", "000003.pgn", "other"):
+            with open(os.path.join(self.folder, name), "wb") as file:
+                file.write(b"old " * 100)
+        old = b"old " * 100
+        self.check(self.split(b"* *"), 0, b"", {"000001.pgn": UNKNOWN, "000002.pgn": UNKNOWN,
+                                                "000003.pgn": old, "other": old})
+
+    def test_missing_folder(self):
+        ran = self.split(b" *", folder=self.folder + "/missing")
+        self.check(ran, 1, UNWRITTEN % 1, {})
+
+    def test_no_folder(self):
+        with tempfile.NamedTemporaryFile() as other:
+            ran = self.split(b"*", folder=other.name)
+        self.check(ran, 1, UNWRITTEN % 0, {})
+
+    def test_folder_that_is_not_writable(self):
+        os.chmod(self.folder, 0o555)
+        words = [self.program, "split", self.folder]
+        if os.geteuid() == 0:
+            need("setpriv")
+            os.chmod(os.path.dirname(self.folder), 0o755 | os.stat(
+                os.path.dirname(self.folder)).st_mode)
+            words = ["setpriv", "--reuid=65534", "--clear-groups"] + words
+            if run(words[:3] + ["test", "-x", self.program]).returncode != 0:
+                not_tried("another user cannot run the program")
+        ran = run(words, input=b"*")
+        self.check(ran, 1, UNWRITTEN % 0, {})
+
+    def test_second_file_is_refused(self):
+        os.mkdir(self.folder + "/000002.pgn")
+        ran = self.split(b"* * *")
+        self.assertEqual((ran.returncode, ran.stdout, ran.stderr), (1, b"", UNWRITTEN % 2))
+        self.assertEqual(sorted(os.listdir(self.folder)), ["000001.pgn", "000002.pgn"])
+
+    def test_full_device(self):
+        if not os.path.exists("/dev/full"):
+            not_tried("/dev/full is missing")
+        os.symlink("/dev/full", self.folder + "/000002.pgn")
+        ran = self.split(b"* 1. e4 *")
+        self.assertEqual((ran.returncode, ran.stderr), (1, UNWRITTEN % 2))
+
+    def test_limit_of_a_file(self):
+        # a signal would end the program: it is ignored, and the write fails
+        ran = self.split(b"* 1. e4 {" + b"word " * 300 + b"} *", preexec_fn=limit_files)
+        self.assertEqual(ran.returncode, 1)
+        self.assertTrue(ran.stderr.endswith(b": output cannot be written\n"), ran.stderr)
+        files = self.files()
+        self.assertEqual(files["000001.pgn"], UNKNOWN)
+        self.assertEqual(len(files["000002.pgn"]), 512)
+
+    def test_closed_standard_streams(self):
+        ran = subprocess.run(["sh", "-c", 'exec "$@" >&- 2>&-', "sh", self.program, "split",
+                              self.folder], input=b"*", check=False)
+        self.assertEqual(ran.returncode, 0)
+        self.assertEqual(self.files(), {"000001.pgn": UNKNOWN})
+
+
+def limit_files():
+    import resource
+    import signal
+    signal.signal(signal.SIGXFSZ, signal.SIG_IGN)
+    resource.setrlimit(resource.RLIMIT_FSIZE, (512, 512))
+
+
+class InputTest(unittest.TestCase):
+    """FILE is what is read; without it, standard input."""
+
+    def setUp(self):
+        self.program = need_program()
+
+    def test_file_and_standard_input(self):
+        with tempfile.NamedTemporaryFile() as games:
+            games.write(b"* * *")
+            games.flush()
+            for words, text in ((["check", games.name], b"games: 3, plies: 0\n"),
+                                (["check"], b"games: 1, plies: 0\n")):
+                ran = run([self.program, *words], input=b"*")
+                self.assertEqual((ran.returncode, ran.stdout, ran.stderr), (0, text, b""))
+
+    def test_file_that_cannot_be_opened(self):
+        for command in ("export", "check", "list"):
+            for name in ("/missing/file", "/"):
+                ran = run([self.program, command, name], input=b"*")
+                self.assertEqual((ran.returncode, ran.stdout, ran.stderr),
+                                 (1, b"", b"byte 0: input cannot be read\n"))
+
+    def test_closed_standard_input(self):
+        for command in ("export", "check", "list"):
+            ran = run(["sh", "-c", 'exec "$@" <&-', "sh", self.program, command])
+            self.assertEqual((ran.returncode, ran.stdout, ran.stderr),
+                             (1, b"", b"byte 0: input cannot be read\n"))
+
+    def test_full_standard_output(self):
+        if not os.path.exists("/dev/full"):
+            not_tried("/dev/full is missing")
+        for command in ("export", "check", "list", "--help"):
+            with open("/dev/full", "wb") as full:
+                ran = run([self.program, command], input=b"*", stdout=full)
+            self.assertEqual((ran.returncode, ran.stderr), (1, b"output cannot be written\n"))
+
+
+if __name__ == "__main__":
+    unittest.main()
