@@ -9,4 +9,5 @@ mod Refusals
 mod Rows
 mod RunRows
 mod Runs
+mod Splits
 mod Subcommands

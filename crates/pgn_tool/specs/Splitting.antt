@@ -1,13 +1,17 @@
 -- **Bookkeeping.** What one call of the converter does to the files of games.
-use Rattle.std.specs.Prelude.{◌≡◌, ℕ, ◌+◌, ◌^◌, ◌<◌, ◌≤◌, Bool, true, false, List, length, Option, None, Some, Result, Ok, Err, IfOk, OnOk, is_ok, is_some}
+use Rattle.std.specs.Prelude.{◌≡◌, ℕ, ◌+◌, ◌^◌, ◌<◌, ◌≤◌, Bool, true, false, List, length, codes, Option, None, Some, Result, Ok, Err, IfOk, OnOk, is_ok, is_some}
 use Rattle.pgn_layout.specs.Device.{one_more}
+use Rattle.pgn_game.specs.declared.reason.Reason.{Reason}
+use Rattle.pgn_game.specs.declared.reason.Reason.TheVariants.{ReadFault}
 use Rattle.pgn_game.specs.declared.reason.Fault.{Fault}
+use Rattle.pgn_game.specs.Reason.{line_of}
 use Rattle.pgn_game.specs.declared.converter.Fed.{Fed}
 use Rattle.pgn_game.specs.Feeding.{Advances, Converter, CountsFault, Ends, Feeds, KeepsFault, used_of}
 use Rattle.pgn_tool.specs.declared.files.CreateFault.{CreateFault}
 use Rattle.pgn_tool.specs.declared.files.CreateFault.TheVariants as creating
 use Rattle.pgn_tool.specs.declared.split.Unsplit.{Unsplit}
 use Rattle.pgn_tool.specs.declared.split.Unsplit.TheVariants.{Refused, NoMemory}
+use Rattle.pgn_tool.specs.Running.{Device, IsUntouched, Tells, line}
 use Rattle.pgn_tool.specs.Files.{Event, added, failures_in, has_text, steps, told}
 
 -- the open file has no failure, and has bytes
@@ -69,3 +73,27 @@ pub record GameEnded {A : Type 0} (taken : A → Option (List ℕ)) (failures : 
   pub turned : Turned taken failures (one_more old.games) log file log_after file_after refusal failed
   pub counted : CountsFault answer 0 failed
   pub ends : Ends old new answer (told taken log file) (told taken log_after file_after)
+
+-- ---- how a split ends
+
+-- a read fault is answered where the source counts one failure more, and nowhere else does it
+abbrev pub CountsSource : Reason → ℕ → ℕ → Type 0
+CountsSource ReadFault old new = new ≡ one_more old
+CountsSource _ old new = new ≡ old
+
+abbrev pub CountsSplit : {A : Type 0} → Result A Unsplit → ℕ → ℕ → Type 0
+CountsSplit (Ok done) old new = new ≡ old
+CountsSplit (Err (Refused f)) old new = CountsSource f.reason old new
+CountsSplit (Err NoMemory) old new = new ≡ old
+
+-- the status, and what is written to standard error
+abbrev pub EndsSplit : Result Unit Unsplit → Device → ℕ → Type 0
+EndsSplit (Ok done) err status = (status ≡ 0) × IsUntouched err
+EndsSplit (Err (Refused f)) err status = (status ≡ 1) × Tells err (line (line_of f))
+EndsSplit (Err NoMemory) err status = (status ≡ 3) × Tells err (line (codes "out of memory"))
+
+-- A run of `split`: how it ended, which device is to blame, and what it reports.
+pub record RunsSplit (source err : Device) (status : ℕ) : Type 0 where
+  pub answer : Result Unit Unsplit
+  pub counted : CountsSplit answer source.failures source.failures_after
+  pub ends : EndsSplit answer err status

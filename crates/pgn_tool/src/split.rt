@@ -3,7 +3,8 @@ ghost use Rattle.std.specs.Prelude.{◌≡◌, ◌+◌, ◌^◌, ◌≤◌, fals
 ghost use Rattle.pgn_layout.specs.Device.{one_more};
 ghost use Rattle.pgn_game.specs.Feeding.{CountsFault, Ends, Feeds};
 ghost use Rattle.pgn_tool.specs.Files.{added, closing, told};
-ghost use Rattle.pgn_tool.specs.Splitting.{FeedResult, GameEnded, GameFed, IsWell, Turned, settled};
+ghost use Rattle.pgn_tool.specs.Running.{device};
+ghost use Rattle.pgn_tool.specs.Splitting.{CountsSplit, RunsSplit, FeedResult, GameEnded, GameFed, IsWell, Turned, settled};
 
 use crate::files::{CreateFault, GameFiles};
 use crate::game_sink::{Before, GameSink, Turn};
@@ -36,6 +37,9 @@ type Splitter = Converter<TAGS, LEVELS>;
 /// A file that is refused counts as a write that failed.
 pub fn split_to<R: Source, F: GameFiles, E: Sink>(reader: &mut R, files: &mut F, err: &mut E) -> u8
     ensures status { result ≤ 3 }
+    ensures untouched { result ≡ 0 → err.new ≡ err.old }
+    ensures runs { RunsSplit (device R.left R.failures reader.old reader.new)
+        (device E.taken E.failures err.old err.new) result }
 {
     let mut file = None;
     let answer = split_source(reader, files, &mut file);
@@ -54,6 +58,7 @@ fn split_source<R: Source, F: GameFiles>(
     file: &mut Option<F::Out>,
 ) -> Result<(), Unsplit>
     requires { file.old ≡ None }
+    ensures counted { CountsSplit result (R.failures reader.old) (R.failures reader.new) }
 {
     let mut buffer = [0; 4096];
     let mut converter = Splitter::new(Mode::Full);
@@ -87,6 +92,7 @@ fn split_piece<F: GameFiles>(
     ensures short { OnOk result (converter.new.lexer.count ≤ 2 ^ 62) }
     ensures no_fault { OnOk result (converter.new.fault ≡ None) }
     ensures well { OnOk result (IsWell F.Out.taken F.Out.failures (F.log files.new) file.new) }
+    ensures counted { CountsSplit result 0 0 }
 {
     let mut at = 0;
     loop {
@@ -107,6 +113,7 @@ fn split_last<F: GameFiles>(
     requires going { converter.old.is_finished ≡ false }
     requires no_fault { converter.old.fault ≡ None }
     requires well { IsWell F.Out.taken F.Out.failures (F.log files.old) file.old }
+    ensures counted { CountsSplit result 0 0 }
 {
     finish_game(converter, files, file)?;
     Ok(())

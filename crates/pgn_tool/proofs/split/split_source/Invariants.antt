@@ -9,6 +9,7 @@ invariant-loop-converter g l =
       room : length l.buffer ≡ 4096;
       going : l.converter.is_finished ≡ false;
       fault : l.converter.fault ≡ None;
+      source : g.R.Source.failures l.reader ≡ g.R.Source.failures l.fn.reader;
       well : IsWell g.F.Out.Sink.taken g.F.Out.Sink.failures (g.F.GameFiles.log l.files) l.file;
     }
 
