@@ -1,5 +1,6 @@
 -- **Definition.** The files that games are written to: what was done with them, step by step.
-use Rattle.std.specs.Prelude.{◌≡◌, ℕ, Bool, true, false, List, [], ◌∷◌, ◌++◌, Option, None, Some, Result, Ok, Err, is_some}
+use Rattle.std.specs.Prelude.{◌≡◌, ℕ, Bool, true, false, List, [], ◌∷◌, ◌++◌, Option, None, Some, Result, Ok, Err}
+use Rattle.pgn_layout.specs.Device.{one_more}
 use Rattle.pgn_tool.specs.declared.files.CreateFault.{CreateFault}
 use Rattle.pgn_tool.specs.declared.files.CreateFault.TheVariants.{Refused, NoMemory}
 
@@ -66,3 +67,20 @@ steps _ _ None n = []
 abbrev pub closing : {A : Type 0} → (A → Option (List ℕ)) → (A → ℕ) → Option A → List Event
 closing taken failures None = []
 closing taken failures (Some out) = closed (taken out) (failures out) ∷ []
+
+-- ---- the files of a run
+
+-- files that were made, written and closed in turn, with these texts; n were made before them
+abbrev pub whole_files : ℕ → List (List ℕ) → List Event
+whole_files n [] = []
+whole_files n (text ∷ texts) = made (one_more n) ∷ closed (Some text) 0 ∷ whole_files (one_more n) texts
+
+-- how many were made with them
+abbrev pub number_after : ℕ → List (List ℕ) → ℕ
+number_after n [] = n
+number_after n (text ∷ texts) = number_after (one_more n) texts
+
+-- the file that is open
+abbrev pub opened : Bool → ℕ → List Event
+opened false n = []
+opened true n = made (one_more n) ∷ []

@@ -1,10 +1,10 @@
 //! Writes each game to a file of its own.
-ghost use Rattle.std.specs.Prelude.{◌≡◌, ◌+◌, ◌^◌, ◌≤◌, false, None, OnOk, is_some, length};
+ghost use Rattle.std.specs.Prelude.{◌≡◌, ◌+◌, ◌^◌, ◌≤◌, false, None, List, Option, OnOk, is_some, length, if◌then◌else◌};
 ghost use Rattle.pgn_layout.specs.Device.{one_more};
 ghost use Rattle.pgn_game.specs.Feeding.{CountsFault, Ends, Feeds};
-ghost use Rattle.pgn_tool.specs.Files.{added, closing, told};
+ghost use Rattle.pgn_tool.specs.Files.{Event, added, closing, told};
 ghost use Rattle.pgn_tool.specs.Running.{device};
-ghost use Rattle.pgn_tool.specs.Splitting.{CountsSplit, RunsSplit, FeedResult, GameEnded, GameFed, IsWell, Turned, settled};
+ghost use Rattle.pgn_tool.specs.Splitting.{CountsSplit, FeedResult, FilesAfter, FilesSoFar, GameEnded, GameFed, IsWell, RunsSplit, Turned, settled};
 
 use crate::files::{CreateFault, GameFiles};
 use crate::game_sink::{Before, GameSink, Turn};
@@ -38,12 +38,13 @@ type Splitter = Converter<TAGS, LEVELS>;
 pub fn split_to<R: Source, F: GameFiles, E: Sink>(reader: &mut R, files: &mut F, err: &mut E) -> u8
     ensures status { result ≤ 3 }
     ensures untouched { result ≡ 0 → err.new ≡ err.old }
-    ensures runs { RunsSplit (device R.left R.failures reader.old reader.new)
+    ensures runs { RunsSplit (F.log files.old) (F.log files.new) (device R.left R.failures reader.old reader.new)
         (device E.taken E.failures err.old err.new) result }
 {
     let mut file = None;
-    let answer = split_source(reader, files, &mut file);
-    close(files, &mut file);
+    let mut count = 0;
+    let answer = split_source(reader, files, &mut file, &mut count);
+    close(files, &mut file, &mut count);
     match answer {
         Ok(()) => 0,
         Err(Unsplit::Refused(fault)) => refuse(fault, err),
@@ -56,8 +57,11 @@ fn split_source<R: Source, F: GameFiles>(
     reader: &mut R,
     files: &mut F,
     file: &mut Option<F::Out>,
+    count: &mut u64,
 ) -> Result<(), Unsplit>
-    requires { file.old ≡ None }
+    requires none { file.old ≡ None }
+    requires from { count.old ≡ 0 }
+    ensures files { FilesAfter F.Out.taken F.Out.failures (F.log files.old) result (F.log files.new) file.new count.new }
     ensures counted { CountsSplit result (R.failures reader.old) (R.failures reader.new) }
 {
     let mut buffer = [0; 4096];
@@ -70,8 +74,8 @@ fn split_source<R: Source, F: GameFiles>(
                     reason: Reason::ReadFault,
                 }));
             }
-            Ok(0) => return split_last(&mut converter, files, file),
-            Ok(n) => split_piece(&mut converter, &buffer[..n], files, file)?,
+            Ok(0) => return split_last(&mut converter, files, file, *count),
+            Ok(n) => split_piece(&mut converter, &buffer[..n], files, file, count)?,
         }
     }
 }
@@ -82,6 +86,7 @@ fn split_piece<F: GameFiles>(
     piece: &[u8],
     files: &mut F,
     file: &mut Option<F::Out>,
+    count: &mut u64,
 ) -> Result<(), Unsplit>
     requires going { converter.old.is_finished ≡ false }
     requires no_fault { converter.old.fault ≡ None }
@@ -93,14 +98,16 @@ fn split_piece<F: GameFiles>(
     ensures no_fault { OnOk result (converter.new.fault ≡ None) }
     ensures well { OnOk result (IsWell F.Out.taken F.Out.failures (F.log files.new) file.new) }
     ensures counted { CountsSplit result 0 0 }
+    ensures files { (before : Option (List Event)) → FilesSoFar before (F.log files.old) file.old count.old
+        → FilesAfter F.Out.taken F.Out.failures before result (F.log files.new) file.new count.new }
 {
     let mut at = 0;
     loop {
-        match feed_game(converter, &piece[at..], files, file)? {
+        match feed_game(converter, &piece[at..], files, file, *count)? {
             Fed::All => return Ok(()),
             Fed::Game(used) => at += used,
         }
-        close(files, file);
+        close(files, file, count);
     }
 }
 
@@ -109,24 +116,29 @@ fn split_last<F: GameFiles>(
     converter: &mut Splitter,
     files: &mut F,
     file: &mut Option<F::Out>,
+    count: u64,
 ) -> Result<(), Unsplit>
     requires going { converter.old.is_finished ≡ false }
     requires no_fault { converter.old.fault ≡ None }
     requires well { IsWell F.Out.taken F.Out.failures (F.log files.old) file.old }
     ensures counted { CountsSplit result 0 0 }
+    ensures files { (before : Option (List Event)) → FilesSoFar before (F.log files.old) file.old count
+        → FilesAfter F.Out.taken F.Out.failures before result (F.log files.new) file.new count }
 {
-    finish_game(converter, files, file)?;
+    finish_game(converter, files, file, count)?;
     Ok(())
 }
 
-// Closes the file, if one is open.
-fn close<F: GameFiles>(files: &mut F, file: &mut Option<F::Out>)
+// Closes the file, if one is open, and counts it.
+fn close<F: GameFiles>(files: &mut F, file: &mut Option<F::Out>, count: &mut u64)
     ensures shut { file.new ≡ None }
     ensures log { F.log files.new
         ≡ added (F.log files.old) (closing F.Out.taken F.Out.failures file.old) }
+    ensures count { count.new ≡ (if is_some file.old then one_more count.old else count.old) }
 {
     if let Some(out) = file.take() {
         files.close(out);
+        *count = count.saturating_add(1);
     }
 }
 
@@ -136,14 +148,15 @@ fn feed_game<F: GameFiles>(
     piece: &[u8],
     files: &mut F,
     file: &mut Option<F::Out>,
+    count: u64,
 ) -> Result<Fed, Unsplit>
     requires going { converter.old.is_finished ≡ false }
     requires no_fault { converter.old.fault ≡ None }
     requires well { IsWell F.Out.taken F.Out.failures (F.log files.old) file.old }
-    ensures { GameFed F.Out.taken F.Out.failures converter.old piece.now converter.new
+    ensures { GameFed F.Out.taken F.Out.failures count converter.old piece.now converter.new
         (F.log files.old) file.old (F.log files.new) file.new result }
 {
-    let number = converter.games().saturating_add(1);
+    let number = count.saturating_add(1);
     let mut answer = Ok(Fed::All);
     let lent = Turn::new(files, number);
     let turn = feed_sink::<Brand, F>(converter, piece, lent, file, &mut answer);
@@ -155,14 +168,15 @@ fn finish_game<F: GameFiles>(
     converter: &mut Splitter,
     files: &mut F,
     file: &mut Option<F::Out>,
+    count: u64,
 ) -> Result<bool, Unsplit>
     requires going { converter.old.is_finished ≡ false }
     requires no_fault { converter.old.fault ≡ None }
     requires well { IsWell F.Out.taken F.Out.failures (F.log files.old) file.old }
-    ensures { GameEnded F.Out.taken F.Out.failures converter.old converter.new
+    ensures { GameEnded F.Out.taken F.Out.failures count converter.old converter.new
         (F.log files.old) file.old (F.log files.new) file.new result }
 {
-    let number = converter.games().saturating_add(1);
+    let number = count.saturating_add(1);
     let mut answer = Ok(false);
     let lent = Turn::new(files, number);
     let turn = finish_sink::<Brand, F>(converter, lent, file, &mut answer);

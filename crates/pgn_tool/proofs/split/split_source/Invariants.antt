@@ -1,5 +1,5 @@
 use Rattle.std.proofs.Common.{◌≡◌, ◌≤◌, ◌-◌, ◌^◌, None, false, length}
-use Rattle.pgn_tool.specs.Splitting.{IsWell}
+use Rattle.pgn_tool.specs.Splitting.{FilesSoFar, IsWell}
 use Rattle.pgn_tool.proofs.split.split_source.Given as goal
 
 abbrev pub invariant-loop-converter : goal.invariant-loop-converter
@@ -10,6 +10,7 @@ invariant-loop-converter g l =
       going : l.converter.is_finished ≡ false;
       fault : l.converter.fault ≡ None;
       source : g.R.Source.failures l.reader ≡ g.R.Source.failures l.fn.reader;
+      so : FilesSoFar (g.F.GameFiles.log l.fn.files) (g.F.GameFiles.log l.files) l.file l.count;
       well : IsWell g.F.Out.Sink.taken g.F.Out.Sink.failures (g.F.GameFiles.log l.files) l.file;
     }
 
