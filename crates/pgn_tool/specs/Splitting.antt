@@ -147,7 +147,8 @@ EndsSplit (Ok done) err status = (status ≡ 0) × IsUntouched err
 EndsSplit (Err (Refused f)) err status = (status ≡ 1) × Tells err (line (line_of f))
 EndsSplit (Err NoMemory) err status = (status ≡ 3) × Tells err (line (codes "out of memory"))
 
--- A run of `split`: how it ended, which files it made, which device is to blame, and what it reports.
+-- A run of `split`: how it ended, which files it made, whether the source is to blame, and what it
+-- reports.
 pub record RunsSplit (before after : Option (List Event)) (source err : Device) (status : ℕ) : Type 0 where
   pub answer : Result Unit Unsplit
   pub files : SplitFiles before after answer

@@ -1,4 +1,5 @@
-//! The program: converts chess games in Portable Game Notation to export format, or checks, lists or splits them.
+//! The program: converts chess games in Portable Game Notation to export format, or checks, lists
+//! or splits them.
 #![tactic(auto)]
 
 ghost use Rattle.std.specs.Prelude.{◌≡◌, ◌≤◌};

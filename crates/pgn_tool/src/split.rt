@@ -38,7 +38,8 @@ type Splitter = Converter<TAGS, LEVELS>;
 pub fn split_to<R: Source, F: GameFiles, E: Sink>(reader: &mut R, files: &mut F, err: &mut E) -> u8
     ensures status { result ≤ 3 }
     ensures untouched { result ≡ 0 → err.new ≡ err.old }
-    ensures runs { RunsSplit (F.log files.old) (F.log files.new) (device R.left R.failures reader.old reader.new)
+    ensures runs { RunsSplit (F.log files.old) (F.log files.new)
+        (device R.left R.failures reader.old reader.new)
         (device E.taken E.failures err.old err.new) result }
 {
     let mut file = None;
@@ -61,7 +62,8 @@ fn split_source<R: Source, F: GameFiles>(
 ) -> Result<(), Unsplit>
     requires none { file.old ≡ None }
     requires from { count.old ≡ 0 }
-    ensures files { FilesAfter F.Out.taken F.Out.failures (F.log files.old) result (F.log files.new) file.new count.new }
+    ensures files { FilesAfter F.Out.taken F.Out.failures (F.log files.old) result
+        (F.log files.new) file.new count.new }
     ensures counted { CountsSplit result (R.failures reader.old) (R.failures reader.new) }
 {
     let mut buffer = [0; 4096];
@@ -98,7 +100,8 @@ fn split_piece<F: GameFiles>(
     ensures no_fault { OnOk result (converter.new.fault ≡ None) }
     ensures well { OnOk result (IsWell F.Out.taken F.Out.failures (F.log files.new) file.new) }
     ensures counted { CountsSplit result 0 0 }
-    ensures files { (before : Option (List Event)) → FilesSoFar before (F.log files.old) file.old count.old
+    ensures files { (before : Option (List Event))
+        → FilesSoFar before (F.log files.old) file.old count.old
         → FilesAfter F.Out.taken F.Out.failures before result (F.log files.new) file.new count.new }
 {
     let mut at = 0;
@@ -122,7 +125,8 @@ fn split_last<F: GameFiles>(
     requires no_fault { converter.old.fault ≡ None }
     requires well { IsWell F.Out.taken F.Out.failures (F.log files.old) file.old }
     ensures counted { CountsSplit result 0 0 }
-    ensures files { (before : Option (List Event)) → FilesSoFar before (F.log files.old) file.old count
+    ensures files { (before : Option (List Event))
+        → FilesSoFar before (F.log files.old) file.old count
         → FilesAfter F.Out.taken F.Out.failures before result (F.log files.new) file.new count }
 {
     finish_game(converter, files, file, count)?;

@@ -295,11 +295,14 @@ fn reports_each_write_that_fails(rt: HostRuntime) {
             let Some(last) = made.pages.pop() else {
                 panic!(rt; "no file at write {fails_at}");
             };
+            let Some(text) = full.get(earlier) else {
+                panic!(rt; "a fourth file at write {fails_at}");
+            };
             let taken = last.taken.as_slice();
             assert!(rt; ran.is(1, place(files, taken.len())), "at write {fails_at}");
-            assert!(rt; made.has(&full[..earlier]), "at write {fails_at}");
-            assert!(rt; full[earlier].starts_with(taken), "at write {fails_at}");
-            assert!(rt; taken.len() < full[earlier].len(), "at write {fails_at}");
+            assert!(rt; made.has(front(&full, earlier)), "at write {fails_at}");
+            assert!(rt; text.starts_with(taken), "at write {fails_at}");
+            assert!(rt; taken.len() < text.len(), "at write {fails_at}");
             assert!(rt; last.calls == fails_at.saturating_add(1));
         }
         assert!(rt; failed > 20);
@@ -314,10 +317,27 @@ fn writes_a_byte_at_a_time(rt: HostRuntime) {
     assert!(rt; ran.is(0, b"") && made.has(&[MOVES, UNKNOWN, MOVES]));
 }
 
+// The first texts.
+fn front<'a>(texts: &'a [&'a [u8]], count: usize) -> &'a [&'a [u8]] {
+    let count = count.min(texts.len());
+    &texts[..count]
+}
+
+// How many games are whole when so many bytes were read.
+fn whole_games(bytes: usize) -> usize {
+    match bytes {
+        0..9 => 0,
+        9..11 => 1,
+        11..21 => 2,
+        _ => 3,
+    }
+}
+
 // Read a byte at a time: the marker at byte 8 is read before byte 9, that at 10 before 11, and
 // the tag section at 12 when the number before the period has ended.
 #[test]
 fn reports_each_read_that_fails(rt: HostRuntime) {
+    let full: [&[u8]; 3] = [MOVES, UNKNOWN, MOVES];
     for error in [ErrorKind::BrokenPipe, ErrorKind::Interrupted] {
         for fails_at in 0..23usize {
             let mut made = empty_shelf(rt.alloc());
@@ -334,19 +354,16 @@ fn reports_each_read_that_fails(rt: HostRuntime) {
                 continue;
             }
             let line = format!(in rt.alloc(); "byte {fails_at}: input cannot be read\n");
-            let files: &[&[u8]] = match fails_at {
-                0 | 1 => &[],
-                2..9 => &[HEAD],
-                9 | 10 => &[MOVES],
-                11..14 => &[MOVES, UNKNOWN],
-                14..21 => &[MOVES, UNKNOWN, HEAD],
-                _ => &[MOVES, UNKNOWN, MOVES],
-            };
+            let is_told = line.is_ok_and(|text| ran.is(1, text.as_bytes()));
+            assert!(rt; is_told, "at read {fails_at}");
+            if (2..9).contains(&fails_at) || (14..21).contains(&fails_at) {
+                let torn = made.pages.pop();
+                assert!(rt; torn.is_some_and(|page| page.taken.as_slice() == HEAD));
+            }
             assert!(rt;
-                line.is_ok_and(|text| ran.is(1, text.as_bytes())),
+                made.has(front(&full, whole_games(fails_at))),
                 "at read {fails_at}"
             );
-            assert!(rt; made.has(files), "at read {fails_at}");
         }
     }
 }

@@ -118,6 +118,10 @@ impl Ran {
 }
 
 fn run(task: &Task, reader: Reader, out: Writer, err: Writer) -> Ran {
+    if let Task::Split { .. } = task {
+        let status = u8::MAX;
+        return Ran { status, out, err };
+    }
     let mut out = Outlet::new(out);
     let mut err = Outlet::new(err);
     let status = run_stream(task, &mut Inlet::new(reader), &mut out, &mut err);
