@@ -1,4 +1,5 @@
--- The first occupied square on a way is the lowest or the highest place of the occupied squares that lie on it.
+-- The first occupied square on a way is the lowest or the highest place of the occupied squares
+-- that lie on it.
 use Rattle.std.proofs.Common.{◌≡◌, ℕ, zero, suc, ◌<◌, ◌≤◌, Bool, true, false, not, ◌&&◌, ◌||◌, ◌⊎◌, inl, inr, get_or, refl, sym, ◌∙◌, ap, ap₂, subst, arith}
 use Rattle.std.specs.Prelude.{◌==◌, Option, None, Some, is_none, is_some, nat_lt, if◌then◌else◌}
 use Rattle.std.specs.Int.Bits.{bit_and}

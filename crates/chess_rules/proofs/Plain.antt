@@ -75,7 +75,8 @@ no_slide c cell a b s t none = on_board a ∙ sym (on_board b)
     on_board : (d : Board) → (has_colour c cell && cell_attacks cell d s t) ≡ (near_with c cell s t || false)
     on_board d = by_cell c cell d s t ∙ ap (λ x. near_with c cell s t || (x && (is_some cell && (is_aligned s t && is_clear d s t)))) none
 
--- Where a piece leaves no line to k, and the piece that arrives does not attack k, k is attacked no more than before.
+-- Where a piece leaves no line to k, and the piece that arrives does not attack k, k is attacked no
+-- more than before.
 module _ (b : Board) (from to k : Square) (cell : Option Piece) (c : Colour) (long : length b ≡ 64) (on_from : OnBoard from) (on_to : OnBoard to) (on_k : OnBoard k) where
   left : Board
   left = put b from None
@@ -228,7 +229,8 @@ safe_when_plain p m b k position on h plain is calm_before apart unseen =
         (none_or_all p.side (arriving p m) arrives) unseen
         (ap (λ x. x && attacks (carried p m) m.to k) (not_other p.side (arriving p m) arrives)) before
 
--- the other king is not attacked, if the piece that arrives does not attack it, and it sees no square that is left
+-- the other king is not attacked, if the piece that arrives does not attack it, and it sees no
+-- square that is left
 pub no_check_when_plain : (p : Parts) (m : Move) (b : Board) (k : Square) → is_position p ≡ true → is_on_board m ≡ true → board_after p m ≡ Some b → is_plain p m ≡ true
     → k ≡ king_square (other p.side) p.board → is_aligned m.from k ≡ false → attacks b m.to k ≡ false → king_attacked b (other p.side) ≡ false
 no_check_when_plain p m b k position on h plain is unseen harmless =

@@ -1,4 +1,5 @@
--- Whether a pair is legal does not depend on what a pawn becomes: the piece that arrives is no king and is there, whichever it is.
+-- Whether a pair is legal does not depend on what a pawn becomes: the piece that arrives is no king
+-- and is there, whichever it is.
 use Rattle.std.proofs.Common.{◌≡◌, ℕ, ◌<◌, Bool, true, false, not, ◌&&◌, ◌||◌, inl, inr, refl, sym, ◌∙◌, ap, ap₂, subst, arith, length}
 use Rattle.std.specs.Prelude.{Option, None, Some, is_none, is_some, option_map, ◌==◌, if◌then◌else◌}
 use Rattle.std.specs.List.{list_any, list_all}
@@ -26,7 +27,8 @@ use Rattle.chess_rules.proofs.Steps.{other-other, one_kind, pawn_is_no_king, cas
 use Rattle.chess_rules.proofs.Leaves.{on_board_means, way_of, Legal, legal_means}
 use Rattle.chess_rules.proofs.Lists.{to_false, passes}
 
--- Two boards that differ in pieces of one colour alone, none of them a king, attack that colour's king alike.
+-- Two boards that differ in pieces of one colour alone, none of them a king, attack that colour's
+-- king alike.
 
 pub record CellsAlike (c : Colour) (x y : Option Piece) : Type 0 where
   pub king : has_piece c King x ≡ has_piece c King y

@@ -1,5 +1,5 @@
--- A piece on the rank, file or diagonal of a square sees it over empty squares exactly if it is the first piece on
--- a way from that square.
+-- A piece on the rank, file or diagonal of a square sees it over empty squares exactly if it is the
+-- first piece on a way from that square.
 use Rattle.std.proofs.Common.{◌≡◌, ℕ, ◌+◌, ◌<◌, Bool, true, false, not, ◌&&◌, ◌||◌, ◌⊎◌, inl, inr, refl, sym, ◌∙◌, ap₂, subst, arith, ap}
 use Rattle.std.specs.Prelude.{◌==◌}
 use Rattle.std.proofs.lemmas.Bool.Decides.{nat_tests}

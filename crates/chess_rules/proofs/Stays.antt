@@ -1,4 +1,5 @@
--- What a move leaves on the board: one king of each colour, each where it is said to be, and no pawn on rank 1 or 8.
+-- What a move leaves on the board: one king of each colour, each where it is said to be, and no
+-- pawn on rank 1 or 8.
 use Rattle.std.proofs.Common.{◌≡◌, ◌≢◌, ℕ, ◌+◌, Bool, true, false, inl, inr, refl, sym, ◌∙◌, ap, subst, arith, length, cond}
 use Rattle.std.specs.Prelude.{Option, None, if◌then◌else◌}
 use Rattle.chess_rules.specs.declared.piece.Colour.{Colour}
@@ -20,7 +21,8 @@ use Rattle.chess_rules.proofs.Sound.{Sound, is_edge, no_pawn_there}
 abbrev pub arriving : Parts → Move → Option Piece
 arriving p m = promoted p.side m.promotion (at p.board m.from)
 
--- no king stands on the target; a king arrives exactly if one leaves; no pawn arrives on rank 1 or 8
+-- no king stands on the target; a king arrives exactly if one leaves; no pawn arrives on rank 1 or
+-- 8
 pub record Lands (p : Parts) (m : Move) : Type 0 where
   pub on_from : OnBoard m.from
   pub on_to : OnBoard m.to

@@ -1,4 +1,5 @@
--- How many pairs there are: the king's single steps and the others, target by target, and at most sixteen for each.
+-- How many pairs there are: the king's single steps and the others, target by target, and at most
+-- sixteen for each.
 use Rattle.std.proofs.Common.{◌≡◌, ℕ, zero, suc, ◌+◌, ◌*◌, ◌<◌, ◌≤◌, Bool, true, false, not, cond, ◌&&◌, List, [], ◌∷◌, map, length, inl, inr, refl, sym, ◌∙◌, ap, ap₂, subst, arith}
 use Rattle.std.specs.Prelude.{Option, None, Some, if◌then◌else◌}
 use Rattle.std.specs.List.{list_any, sum_by, filter_map, cons_option, range_with_len, IsDistinct}

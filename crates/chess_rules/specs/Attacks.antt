@@ -18,8 +18,8 @@ abbrev pub is_ahead : Colour → ℕ → ℕ → Bool
 is_ahead White rank ahead = ahead == rank + 1
 is_ahead Black rank ahead = rank == ahead + 1
 
--- A piece of the kind and colour that stands on s attacks t: king (FIDE 3.8.1), queen (3.4), rook (3.3),
--- bishop (3.2), knight (3.6), pawn (3.7.3).
+-- A piece of the kind and colour that stands on s attacks t: king (FIDE 3.8.1), queen (3.4), rook
+-- (3.3), bishop (3.2), knight (3.6), pawn (3.7.3).
 abbrev pub kind_attacks : Kind → Colour → Board → Square → Square → Bool
 kind_attacks King c b s t = is_adjacent s t
 kind_attacks Queen c b s t = (in_line s t || on_diagonal s t) && is_clear b s t

@@ -1,5 +1,5 @@
--- The squares from which a piece may reach a square, seen from that square. No standard has this: it is our own way to
--- find moves, and a law says that it misses none.
+-- The squares from which a piece may reach a square, seen from that square. No standard has this:
+-- it is our own way to find moves, and a law says that it misses none.
 use Rattle.std.specs.Prelude.{ℕ, Bool, ◌&&◌, ◌||◌, List, [], ◌∷◌, filter, length, sum_by}
 use Rattle.chess_rules.specs.declared.piece.Kind.{Kind}
 use Rattle.chess_rules.specs.declared.piece.Kind.TheVariants.{King, Queen, Rook, Bishop, Knight, Pawn}
@@ -8,7 +8,8 @@ use Rattle.chess_rules.specs.Square.{Square, squares, is_jump, in_line, on_diago
 use Rattle.chess_rules.specs.Attacks.{is_clear}
 use Rattle.chess_rules.specs.Step.{own}
 
--- a knight is a jump away; another piece is on a rank, a file or a diagonal with t, and all between is empty
+-- a knight is a jump away; another piece is on a rank, a file or a diagonal with t, and all between
+-- is empty
 abbrev pub sees : Kind → Parts → Square → Square → Bool
 sees Knight p s t = is_jump s t
 sees _ p s t = (in_line s t || on_diagonal s t) && is_clear p.board s t

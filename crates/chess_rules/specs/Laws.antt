@@ -17,8 +17,8 @@ use Rattle.chess_rules.specs.Candidate.{is_candidate, candidates}
 abbrev pub CasesApart : Type 0
 CasesApart = (p : Parts) (m : Move) → count_by (λ holds. holds) (cases p m) ≤ 1
 
--- What comes after a legal move is determined: `legal` is a function. That it could be one, whatever the order of its cases,
--- is what CasesApart says.
+-- What comes after a legal move is determined: `legal` is a function. That it could be one,
+-- whatever the order of its cases, is what CasesApart says.
 abbrev pub OneAfter : Type 0
 OneAfter = (p q r : Parts) (m : Move) → legal p m ≡ Some q → legal p m ≡ Some r → q ≡ r
 

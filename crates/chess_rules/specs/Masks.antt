@@ -41,7 +41,8 @@ near_with c cell s t =
     (((is_jump s t && has_kind Knight cell) || (is_adjacent s t && has_kind King cell)) || (reaches Pawn c s t && has_kind Pawn cell))
     && has_colour c cell
 
--- a rook, a bishop or a queen of the colour, that would attack t from s, were all squares between empty
+-- a rook, a bishop or a queen of the colour, that would attack t from s, were all squares between
+-- empty
 abbrev pub slides_with : Colour → Option Piece → Square → Square → Bool
 slides_with c cell s t =
     ((in_line s t && (has_kind Rook cell || has_kind Queen cell)) || (on_diagonal s t && (has_kind Bishop cell || has_kind Queen cell)))

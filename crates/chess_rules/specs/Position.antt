@@ -22,7 +22,8 @@ abbrev pub pawn_on_edge : Board → Bool
 pawn_on_edge b =
     list_any (λ s. ((s.rank == 0) || (s.rank == 7)) && is_pawn (at b s)) squares
 
--- the en passant target lies on rank 6 with White to move, on rank 3 with Black to move (PGN 16.1.3.4)
+-- the en passant target lies on rank 6 with White to move, on rank 3 with Black to move (PGN
+-- 16.1.3.4)
 abbrev pub target_rank : Colour → ℕ
 target_rank White = 5
 target_rank Black = 2
@@ -42,7 +43,8 @@ position_fault p =
     else if not (nat_le p.half 99999 && nat_le p.full 99999) then Some NumberRange
     else None
 
--- Parts that break no rule are a position. A board has 64 cells; parts that a program hands in always do.
+-- Parts that break no rule are a position. A board has 64 cells; parts that a program hands in
+-- always do.
 abbrev pub is_position : Parts → Bool
 is_position p = (length p.board == 64) && is_none (position_fault p)
 

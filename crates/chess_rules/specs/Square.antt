@@ -47,7 +47,8 @@ between_on_rank s u t = (s.rank == t.rank) && ((u.rank == s.rank) && inside s.fi
 abbrev pub between_on_file : Square → Square → Square → Bool
 between_on_file s u t = (s.file == t.file) && ((u.file == s.file) && inside s.rank u.rank t.rank)
 
--- s and t are on one diagonal, s and u are on one, and both the file and the rank of u lie strictly between
+-- s and t are on one diagonal, s and u are on one, and both the file and the rank of u lie strictly
+-- between
 abbrev pub between_on_diagonal : Square → Square → Square → Bool
 between_on_diagonal s u t =
     (on_diagonal s t && on_diagonal s u) && (inside s.file u.file t.file && inside s.rank u.rank t.rank)

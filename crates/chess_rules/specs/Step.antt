@@ -1,4 +1,5 @@
--- One step of the side to move, and the parts after it. Whether its king is safe is said in Legal. (FIDE 3)
+-- One step of the side to move, and the parts after it. Whether its king is safe is said in Legal.
+-- (FIDE 3)
 use Rattle.std.specs.Prelude.{ℕ, ◌+◌, ◌/◌, min, Bool, false, ◌&&◌, ◌||◌, not, Option, None, Some, ◌==◌, is_none, is_some, List, [], ◌∷◌, option_map, if◌then◌else◌}
 use Rattle.chess_rules.specs.declared.piece.Colour.{Colour}
 use Rattle.chess_rules.specs.declared.piece.Colour.TheVariants.{White, Black}
@@ -14,8 +15,8 @@ use Rattle.chess_rules.specs.Square.{Square, square, on_board, same_square}
 use Rattle.chess_rules.specs.Board.{Board, man, at, put, is_empty, other, has_colour, has_piece}
 use Rattle.chess_rules.specs.Attacks.{attacks, is_attacked, is_ahead, is_clear}
 
--- the rank on which the colour's king and rooks begin, that of its pawns, that after their double step, and
--- that where they are promoted
+-- the rank on which the colour's king and rooks begin, that of its pawns, that after their double
+-- step, and that where they are promoted
 abbrev pub home_rank : Colour → ℕ
 home_rank White = 0
 home_rank Black = 7
@@ -36,8 +37,8 @@ last_rank Black = 0
 abbrev pub own : Parts → Kind → Square → Bool
 own p k s = has_piece p.side k (at p.board s)
 
--- A king, queen, rook, bishop or knight goes to a square that it attacks and that holds no piece of its side.
--- (FIDE 3.1, 3.2 to 3.6, 3.8.1)
+-- A king, queen, rook, bishop or knight goes to a square that it attacks and that holds no piece of
+-- its side. (FIDE 3.1, 3.2 to 3.6, 3.8.1)
 abbrev pub is_piece_step : Parts → Move → Bool
 is_piece_step p m =
     ((has_colour p.side (at p.board m.from) && not (own p Pawn m.from)) && is_none m.promotion)
@@ -83,16 +84,15 @@ is_target (Some u) t = same_square u t
 abbrev pub captured_pawn : Move → Square
 captured_pawn m = square m.to.file m.from.rank
 
--- A pawn goes to the en passant target, an empty square that it attacks, while a pawn of the other side stands beside
--- its origin, on the target's file.
--- (FIDE 3.7.3.1, 3.7.3.2)
+-- A pawn goes to the en passant target, an empty square that it attacks, while a pawn of the other
+-- side stands beside its origin, on the target's file. (FIDE 3.7.3.1, 3.7.3.2)
 abbrev pub is_en_passant : Parts → Move → Bool
 is_en_passant p m =
     ((own p Pawn m.from && promotion_fits p m) && (is_target p.target m.to && is_empty p.board m.to))
     && (attacks p.board m.from m.to && has_piece (other p.side) Pawn (at p.board (captured_pawn m)))
 
--- a wing of the board: the files of its rook, of the king's end, and of the square that the king crosses and
--- the rook ends on
+-- a wing of the board: the files of its rook, of the king's end, and of the square that the king
+-- crosses and the rook ends on
 pub record Wing : Type 0 where
   pub rook : ℕ
   pub end : ℕ
@@ -128,9 +128,9 @@ stand_ready p rook = (own p King (home p 4) && own p Rook (home p rook)) && is_c
 abbrev pub is_unattacked : Parts → ℕ → Bool
 is_unattacked p file = not (is_attacked p.board (other p.side) (home p file))
 
--- The king goes from its home square two squares towards a rook of its side on its home square. The right is held, all
--- squares between king and rook are empty, and the other side attacks none of those that the king leaves, crosses and
--- reaches. (FIDE 3.8.2, 3.8.2.1, 3.8.2.2)
+-- The king goes from its home square two squares towards a rook of its side on its home square. The
+-- right is held, all squares between king and rook are empty, and the other side attacks none of
+-- those that the king leaves, crosses and reaches. (FIDE 3.8.2, 3.8.2.1, 3.8.2.2)
 abbrev pub castles : Parts → Move → Bool → Wing → Bool
 castles p m right wing =
     ((right && is_none m.promotion) && is_king_move p m wing.end)
@@ -171,7 +171,8 @@ castled p m rook crossing = put (put (carried p m) (home p rook) None) (home p c
 abbrev pub touches : Move → ℕ → ℕ → Bool
 touches m file rank = same_square m.from (square file rank) || same_square m.to (square file rank)
 
--- a right stays while neither the king's nor the rook's home square is touched (FIDE 3.8.2.1; PGN 16.1.3.3)
+-- a right stays while neither the king's nor the rook's home square is touched (FIDE 3.8.2.1; PGN
+-- 16.1.3.3)
 abbrev pub keeps : Move → ℕ → ℕ → Bool
 keeps m file rank = not (touches m 4 rank || touches m file rank)
 
@@ -221,8 +222,8 @@ is_on_board m = on_board m.from && on_board m.to
 abbrev pub cases : Parts → Move → List Bool
 cases p m = is_piece_step p m ∷ is_pawn_step p m ∷ is_en_passant p m ∷ castles_short p m ∷ castles_long p m ∷ []
 
--- The board after m, if it is a step of the side to move. No move is a step in two ways (a law says so), so that the order
--- does not matter.
+-- The board after m, if it is a step of the side to move. No move is a step in two ways (a law says
+-- so), so that the order does not matter.
 abbrev pub board_after : Parts → Move → Option Board
 board_after p m =
     if is_piece_step p m || is_pawn_step p m then Some (carried p m)

@@ -103,8 +103,8 @@ fn reaches(kind: Kind, colour: Colour, from: Square, to: Square) -> bool
     has(reaching(kind, colour, to), from.index())
 }
 
-// Whether all squares strictly between are empty; the two are on one rank, file or diagonal, and the first is
-// occupied.
+// Whether all squares strictly between are empty; the two are on one rank, file or diagonal, and
+// the first is occupied.
 pub(crate) fn is_clear(board: &Board, from: Square, to: Square) -> bool
     requires aligned { IsTrue (walk.is_aligned from to) }
     requires occupied { IsTrue (is_some (at board.now from)) }
@@ -202,7 +202,8 @@ fn near_attackers(board: &Board, by: Colour, target: Square) -> u64
         & board.of_colour(by)
 }
 
-// The rooks, bishops and queens of the colour that reach the target, were all squares between empty.
+// The rooks, bishops and queens of the colour that reach the target, were all squares between
+// empty.
 fn sliders(board: &Board, by: Colour, target: Square) -> u64
     ensures { Places result (masks.slides board.now by target) }
 {

@@ -11,8 +11,9 @@ use crate::square::Square;
 use crate::word::{carried, has, with};
 use std::marker::Model;
 
-// Each square has a bit in each word: three bits of the code of the piece that stands there, and whether it is black.
-// Codes are pawn 1, knight 2, bishop 3, rook 4, queen 5, king 6; an empty square has no bit set.
+// Each square has a bit in each word: three bits of the code of the piece that stands there, and
+// whether it is black. Codes are pawn 1, knight 2, bishop 3, rook 4, queen 5, king 6; an empty
+// square has no bit set.
 #[derive(Clone, Copy)]
 pub(crate) struct Board {
     ones: u64,

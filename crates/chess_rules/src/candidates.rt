@@ -16,8 +16,8 @@ use crate::square::Square;
 use crate::word::{lowest, with};
 use arrayvec::ArrayVec;
 
-/// The squares with a piece of that kind, of the side to move, that is the first piece on a rank, a file or a diagonal
-/// from the target, or for a knight a jump away.
+/// The squares with a piece of that kind, of the side to move, that is the first piece on a rank, a
+/// file or a diagonal from the target, or for a knight a jump away.
 ///
 /// From no other square has such a piece a legal move to the target.
 pub fn origins(position: &Position, kind: Kind, target: Square) -> ArrayVec<Square, 8>
@@ -60,7 +60,8 @@ fn if_own(position: &Position, kind: Kind, square: Option<Square>) -> Option<Squ
     }
 }
 
-// The square the jump of that number away from the target, if a knight of the side to move stands there.
+// The square the jump of that number away from the target, if a knight of the side to move stands
+// there.
 pub(crate) fn origin_by(position: &Position, target: Square, jump: usize) -> Option<Square>
     requires { jump < 8 }
     ensures { result ≡ spec.origin_by position.now target (jump_numbered jump) }

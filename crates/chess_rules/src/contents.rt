@@ -69,7 +69,8 @@ pub(crate) fn has_pawn_on_edge(contents: &[Option<Piece>; 64]) -> bool
 
 fn has_pawn_on(contents: &[Option<Piece>; 64], rank: u8) -> bool
     requires { rank < 8 }
-    ensures { result ≡ list_any (λ file. is_pawn (spec.at contents.now (square file rank))) (range_with_len 0 8) }
+    ensures { result ≡ list_any (λ file. is_pawn (spec.at contents.now (square file rank)))
+        (range_with_len 0 8) }
 {
     (0..8).any(|file| is_pawn_at(contents, file, rank))
 }

@@ -2,7 +2,8 @@
 
 ghost use Rattle.chess_rules.specs.Laws.{CandidatesComplete, CasesApart, FewCandidates, LeavesPosition, OneAfter, OneKing, PromotionsAlike};
 
-/// No move is a step in two ways: as a piece's, as a pawn's, en passant, or castling on either wing.
+/// No move is a step in two ways: as a piece's, as a pawn's, en passant, or castling on either
+/// wing.
 pub fn cases_are_apart()
     ensures { CasesApart }
 {}
@@ -12,13 +13,14 @@ pub fn one_position_after()
     ensures { OneAfter }
 {}
 
-/// A legal move leaves a position: no king is taken, each side keeps one, and no pawn comes to stand on rank 1 or 8.
+/// A legal move leaves a position: no king is taken, each side keeps one, and no pawn comes to
+/// stand on rank 1 or 8.
 pub fn a_legal_move_leaves_a_position()
     ensures { LeavesPosition }
 {}
 
-/// The origin of each legal move, castling, en passant, double step and promotion included, is a candidate of its kind
-/// for its target.
+/// The origin of each legal move, castling, en passant, double step and promotion included, is a
+/// candidate of its kind for its target.
 pub fn candidates_are_complete()
     ensures { CandidatesComplete }
 {}

@@ -59,10 +59,11 @@ pub fn in_check(position: &Position) -> bool
     position.is_checked()
 }
 
-/// Whether the side to move has a legal move; without one it is mated or stalemated. (FIDE Laws 1.4, 5.1.1, 5.2.1)
+/// Whether the side to move has a legal move; without one it is mated or stalemated. (FIDE Laws
+/// 1.4, 5.1.1, 5.2.1)
 ///
-/// It counts the pairs that it tries: at most 1,024, and where no move is legal one for each kind, target and
-/// member of `origins`.
+/// It counts the pairs that it tries: at most 1,024, and where no move is legal one for each kind,
+/// target and member of `origins`.
 pub fn has_legal_move(position: &Position, probes: &mut Probes) -> bool
     requires { probes.old + 1024 < 2 ^ 32 }
     ensures found { result ≡ spec.has_legal_move position.now }

@@ -65,7 +65,8 @@ fn king_step(position: &Position, target: Square) -> Option<Square>
     }
 }
 
-// Whether a piece of the side to move stands there that is no knight, and no king whose step was tried.
+// Whether a piece of the side to move stands there that is no knight, and no king whose step was
+// tried.
 fn is_left(position: &Position, near: bool, origin: Square) -> bool
     ensures { result ≡ spec.is_left position.now near origin }
 {
@@ -133,7 +134,8 @@ fn any_left(position: &Position, target: Square, probes: &mut Probes) -> bool
 fn any_on_ways(position: &Position, near: bool, target: Square, probes: &mut Probes) -> bool
     requires { probes.old + spec.count_on_ways position.now near target < 2 ^ 32 }
     ensures found { result ≡ spec.any_on_ways position.now near target }
-    ensures count { Counts result probes.old probes.new (spec.count_on_ways position.now near target) }
+    ensures count { Counts result probes.old probes.new
+        (spec.count_on_ways position.now near target) }
 {
     for way in DIRECTIONS.iter() {
         let origin = left_on(position, near, target, *way);

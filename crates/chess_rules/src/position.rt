@@ -36,7 +36,8 @@ pub struct Rights {
     pub black_long: bool,
 }
 
-/// The parts of a position. What stands on a square is at `8 * rank + file` of the board. (PGN 16.1.3)
+/// The parts of a position. What stands on a square is at `8 * rank + file` of the board. (PGN
+/// 16.1.3)
 #[derive(Clone, Copy, PartialEq, Eq, Debug)]
 pub struct Parts {
     pub board: [Option<Piece>; 64],

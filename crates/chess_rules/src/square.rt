@@ -42,7 +42,8 @@ impl Default for Square {
 impl Square {
     /// The square on this file and rank; None unless both are 0 to 7.
     pub fn new(file: u8, rank: u8) -> Option<Square>
-        ensures { result ≡ (if nat_lt file 8 && nat_lt rank 8 then Some (spec.square file rank) else None) }
+        ensures { result
+            ≡ (if nat_lt file 8 && nat_lt rank 8 then Some (spec.square file rank) else None) }
     {
         if file < 8 && rank < 8 {
             Some(Square {

@@ -254,7 +254,8 @@ fn kind_of(promotion: Promotion) -> Kind
     }
 }
 
-// Carries the piece from the origin to the target, where a promotion puts another. (FIDE Laws 3.7.3.3)
+// Carries the piece from the origin to the target, where a promotion puts another. (FIDE Laws
+// 3.7.3.3)
 fn carry(position: &Position, mv: &Move, board: &mut Board)
     requires { board.old ≡ position.now.board }
     ensures { board.new ≡ spec.carried position.now mv.now }

@@ -1,7 +1,8 @@
-//! Tables of squares and of sets of squares: the prover compares each entry with the rule that it states.
+//! Tables of squares and of sets of squares: the prover compares each entry with the rule that it
+//! states.
 
-// For each of nine shifts of file and rank (down, stay, up, the file's first), and each square: the squares that lie
-// that way from there. The middle one leads nowhere and has the square itself.
+// For each of nine shifts of file and rank (down, stay, up, the file's first), and each square: the
+// squares that lie that way from there. The middle one leads nowhere and has the square itself.
 pub(crate) static RAYS: [u64; 576] = [
     0x0000000000000000,
     0x0000000000000000,

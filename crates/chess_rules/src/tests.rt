@@ -1,4 +1,5 @@
-//! Outside values: well-known move counts, and worked positions of castling, en passant, promotion and check.
+//! Outside values: well-known move counts, and worked positions of castling, en passant, promotion
+//! and check.
 
 mod candidates;
 

@@ -90,7 +90,8 @@ six_written p text five =
     ap (λ t. t ++ 32 ∷ decimal p.full) five.whole
     ∙ six_joined (placement_text p.board) (side_text p.side) (rights_text p.rights) (target_text p.target) (decimal p.half) (decimal p.full)
 
--- 71 bytes for the board, 1 for the side, 4 for the rights, 2 for the target, 5 for each number, and five spaces
+-- 71 bytes for the board, 1 for the side, 4 for the rights, 2 for the target, 5 for each number,
+-- and five spaces
 pub length-fen_text : (p : Parts) → p.half ≤ 99999 → p.full ≤ 99999 → length (fen_text p) ≤ 93
 length-fen_text p half full =
     let five : FiveWritten p (placement_text p.board ++ 32 ∷ side_text p.side ++ 32 ∷ rights_text p.rights ++ 32 ∷ target_text p.target ++ 32 ∷ decimal p.half) =

@@ -13,7 +13,8 @@ use Rattle.chess_text.specs.Field.{side_text, side_of, rights_text, rights_of, t
 
 -- What a FEN is: six texts joined by single spaces, each a spelling of its part. (16.1.3)
 
--- eight ranks joined by slashes, rank 8 first, each digits and letters for exactly 8 squares (16.1.3.1)
+-- eight ranks joined by slashes, rank 8 first, each digits and letters for exactly 8 squares
+-- (16.1.3.1)
 pub record SpellsBoard (s : List ℕ) (b : Board) : Type 0 where
   pub rank_texts : List (List ℕ)
   pub joined : s ≡ join_with_byte 47 rank_texts
@@ -47,7 +48,8 @@ abbrev pub rest : ℕ → List ℕ → List ℕ
 rest zero s = s
 rest (suc k) s = rest k (after_first is_space s)
 
--- Field k from 1 to 5 is what stands before the next space, field 6 all the rest; a field that is missing is empty.
+-- Field k from 1 to 5 is what stands before the next space, field 6 all the rest; a field that is
+-- missing is empty.
 abbrev pub field : ℕ → List ℕ → List ℕ
 field k s = if k == 6 then rest 5 s else before_first is_space (rest (k - 1) s)
 

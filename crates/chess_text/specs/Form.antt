@@ -1,5 +1,5 @@
--- What a move's text tells by itself, before a position gives it a meaning: the pattern of standard algebraic notation, and what
--- is accepted beside it. (PGN 8.2.3)
+-- What a move's text tells by itself, before a position gives it a meaning: the pattern of standard
+-- algebraic notation, and what is accepted beside it. (PGN 8.2.3)
 use Rattle.std.specs.Prelude.{◌≡◌, ℕ, ◌-◌, Bool, true, false, ◌&&◌, List, [], ◌∷◌, ◌++◌, Option, None, Some, length, take, find, slice_index, is_some, bytes_eq, codes, ◌==◌, nat_le, nat_lt, if◌then◌else◌, IsTrue, ◌||◌}
 use Rattle.std.specs.List.{list_all, list_any}
 use Rattle.chess_rules.specs.declared.piece.Kind.{Kind}
@@ -15,7 +15,8 @@ use Rattle.chess_text.specs.Letter.{letter, kinds, file_letter, rank_digit, squa
 abbrev pub promotion_letter : Promotion → ℕ
 promotion_letter q = letter (kind_of q)
 
--- What the text of a form is: [KQRBNP]? [a-h]? [1-8]? x? [a-h][1-8] (=?[QRBN])? [+#]*, or castling and then marks.
+-- What the text of a form is: [KQRBNP]? [a-h]? [1-8]? x? [a-h][1-8] (=?[QRBN])? [+#]*, or castling
+-- and then marks.
 
 -- the ways to write each part
 abbrev pub letter_texts : Kind → List (List ℕ)
@@ -40,7 +41,8 @@ castle_texts true = codes "O-O-O" ∷ codes "0-0-0" ∷ []
 abbrev pub is_among : List ℕ → List (List ℕ) → Bool
 is_among s texts = list_any (bytes_eq s) texts
 
--- the letter, the hints, a capture's x, the target and the promotion, in this order (8.2.3.2 to 8.2.3.4)
+-- the letter, the hints, a capture's x, the target and the promotion, in this order (8.2.3.2 to
+-- 8.2.3.4)
 pub record SpellsMan (s : List ℕ) (k : Kind) (file rank : Option ℕ) (to : Square) (promotion : Option Promotion) : Type 0 where
   pub letters : List ℕ
   pub capture : List ℕ

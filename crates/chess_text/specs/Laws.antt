@@ -63,7 +63,8 @@ spelled s =
     is_some (placement_of (field 1 s)) ∷ is_some (side_of (field 2 s)) ∷ is_some (rights_of (field 3 s))
     ∷ is_some (target_of (field 4 s)) ∷ is_some (number_of (field 5 s)) ∷ is_some (number_of (field 6 s)) ∷ []
 
--- the field at fault is the one after the spellings that come before any other; so it is 7 where all six are spellings
+-- the field at fault is the one after the spellings that come before any other; so it is 7 where
+-- all six are spellings
 abbrev pub FaultIsLowest : Type 0
 FaultIsLowest = (s : List ℕ) (fault : FenFault) → read s ≡ Err fault → fault.field ≡ prefix_len (λ b. b) (spelled s) + 1
 
@@ -108,7 +109,8 @@ steps_apart s = [] ∷ (file_letter s.file ∷ []) ∷ (rank_digit s.rank ∷ []
 abbrev pub text_with : Parts → Kind → Move → List ℕ → List ℕ
 text_with p k m apart = ((letter k ∷ []) ++ apart ++ capture_text p m ++ square_text m.to) ++ mark (legal p m)
 
--- Nothing shorter would do: with an earlier step than the one that is written, the text names the move and another one.
+-- Nothing shorter would do: with an earlier step than the one that is written, the text names the
+-- move and another one.
 abbrev pub ShorterIsAmbiguous : Type 0
 ShorterIsAmbiguous =
     (p : Parts) (k : Kind) (m : Move) (i j : ℕ)

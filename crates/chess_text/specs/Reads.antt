@@ -34,7 +34,8 @@ same_promotion _ _ = false
 abbrev pub is_castling : Parts → Move → Bool
 is_castling p m = castles_short p m || castles_long p m
 
--- The form says this of the move. Only a form of castling names castling, and no form of the king does.
+-- The form says this of the move. Only a form of castling names castling, and no form of the king
+-- does.
 abbrev pub describes : Parts → Form → Move → Bool
 describes p (Castle long) m = if long then castles_long p m else castles_short p m
 describes p (Man k file rank to promotion) m =
@@ -55,7 +56,8 @@ abbrev pub played : Bool → Parts → Move → Option Played
 played false p m = None
 played true p m = with_next m (legal p m)
 
--- the king's move of castling: from the e file to the g file or, on the long wing, to the c file (FIDE 3.8.2)
+-- the king's move of castling: from the e file to the g file or, on the long wing, to the c file
+-- (FIDE 3.8.2)
 abbrev pub castling_move : Colour → Bool → Move
 castling_move c long =
     record {
@@ -67,7 +69,8 @@ castling_move c long =
 abbrev pub move_from : Square → Option Promotion → Square → Move
 move_from to promotion s = record { from = s; to = to; promotion = promotion }
 
--- Where a form's moves are looked for: the one castling, or the moves from every square. The laws on `reads` speak of all moves, so no other agrees.
+-- Where a form's moves are looked for: the one castling, or the moves from every square. The laws
+-- on `reads` speak of all moves, so no other agrees.
 abbrev pub possible : Parts → Form → List Move
 possible p (Castle long) = castling_move p.side long ∷ []
 possible p (Man k file rank to promotion) = map (move_from to promotion) squares

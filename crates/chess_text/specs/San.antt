@@ -33,7 +33,8 @@ on_file s others = list_any (λ r. r.file == s.file) others
 abbrev pub on_rank : Square → List Square → Bool
 on_rank s others = list_any (λ r. r.rank == s.rank) others
 
--- Nothing, if there is no rival; else the file, if no rival is on it; else the rank, if no rival is on it; else both. (8.2.3.4)
+-- Nothing, if there is no rival; else the file, if no rival is on it; else the rank, if no rival is
+-- on it; else both. (8.2.3.4)
 abbrev pub apart_by : Square → Bool → Bool → Bool → List ℕ
 apart_by s any file rank =
     if not any then [] else if not file then file_letter s.file ∷ [] else if not rank then rank_digit s.rank ∷ [] else square_text s
@@ -120,8 +121,8 @@ piece_pairs (Some x) p m = kind_pairs x.kind p m
 abbrev pub apart_pairs : Parts → Move → ℕ
 apart_pairs p m = piece_pairs (at p.board m.from) p m
 
--- From n pairs tried to m: none without check; with it, as `has_legal_move` tells, at most 1,024, and on mate one for each kind,
--- target and candidate.
+-- From n pairs tried to m: none without check; with it, as `has_legal_move` tells, at most 1,024,
+-- and on mate one for each kind, target and candidate.
 pub record MarkPairs (q : Parts) (n m : ℕ) : Type 0 where
   pub rises : n ≤ m
   pub most : m ≤ n + 1024

@@ -15,15 +15,17 @@ use itoa::Buffer;
 /// A text that spells no position.
 #[derive(Clone, Copy, PartialEq, Eq, Debug)]
 pub struct FenFault {
-    /// The lowest of the six fields that is no spelling, or 7 where all are and the position breaks a rule.
+    /// The lowest of the six fields that is no spelling, or 7 where all are and the position breaks
+    /// a rule.
     pub field: u8,
 }
 
 /// The position that the text spells. (PGN 16.1.3)
 ///
-/// The text has six fields, separated by one space each; what follows the fifth space is the sixth. Beside the standard's own
-/// spellings, digits may stand side by side in the first field, and zeros before the numbers, which have 1 to 5 digits.
-/// Otherwise the lowest field that is no spelling is answered; 7 where the six make no position (`Position::build`).
+/// The text has six fields, separated by one space each; what follows the fifth space is the sixth.
+/// Beside the standard's own spellings, digits may stand side by side in the first field, and zeros
+/// before the numbers, which have 1 to 5 digits. Otherwise the lowest field that is no spelling is
+/// answered; 7 where the six make no position (`Position::build`).
 pub fn read_fen(text: &[u8]) -> Result<Position, FenFault>
     ensures { result ≡ read text.now }
 {
@@ -102,7 +104,8 @@ fn field_length(text: &[u8]) -> usize
     text.len()
 }
 
-/// The canonical text of the position: the longest runs of empty squares, and no leading zeros. (PGN 16.1.3)
+/// The canonical text of the position: the longest runs of empty squares, and no leading zeros.
+/// (PGN 16.1.3)
 ///
 /// It has at most 93 bytes.
 pub fn write_fen(position: &Position) -> ArrayVec<u8, 93>

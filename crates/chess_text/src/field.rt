@@ -1,4 +1,5 @@
-//! Side, castling rights, en passant target and numbers, as fields of a FEN. (PGN 16.1.3.2 to 16.1.3.6)
+//! Side, castling rights, en passant target and numbers, as fields of a FEN. (PGN 16.1.3.2 to
+//! 16.1.3.6)
 
 ghost use Rattle.std.specs.Prelude.{◌≡◌, ◌∷◌, []};
 ghost use Rattle.chess_text.specs.Field as spec;

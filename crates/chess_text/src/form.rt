@@ -27,9 +27,10 @@ pub enum Form {
 
 /// The form that the text spells; None where it spells none. (PGN 8.2.3)
 ///
-/// In this order, each at most once and all but the target free to be missing: a letter of `KQRBNP`, where none is a pawn; the
-/// origin's file; its rank; `x`; the target; a letter of `QRBN`, with or without `=`. Or one of `O-O`, `O-O-O`, `0-0`, `0-0-0`.
-/// Any number of `+` and `#` may follow, and no space stands anywhere.
+/// In this order, each at most once and all but the target free to be missing: a letter of
+/// `KQRBNP`, where none is a pawn; the origin's file; its rank; `x`; the target; a letter of
+/// `QRBN`, with or without `=`. Or one of `O-O`, `O-O-O`, `0-0`, `0-0-0`. Any number of `+` and `#`
+/// may follow, and no space stands anywhere.
 pub fn read_form(text: &[u8]) -> Option<Form>
     ensures { result ≡ spec.form_of text.now }
 {

@@ -5,7 +5,8 @@ ghost use Rattle.chess_text.specs.WrittenMove.{WrittenMoveIsRead, WrittenMoveIsS
 
 use chess_rules::laws::one_king_a_side;
 
-/// What is read of a text is the position that it spells: six texts, joined by single spaces, that spell the six parts.
+/// What is read of a text is the position that it spells: six texts, joined by single spaces, that
+/// spell the six parts.
 pub fn reading_is_spelling()
     ensures { ReadsFen }
 {}
@@ -40,7 +41,8 @@ pub fn canonical_text_is_shortest()
     ensures { CanonicalIsShortest }
 {}
 
-/// What is read of a move's text is the form that it spells by the pattern, with a target and hints on the board.
+/// What is read of a move's text is the form that it spells by the pattern, with a target and hints
+/// on the board.
 pub fn reading_a_form_is_spelling()
     ensures { ReadsForm }
 {}
@@ -72,8 +74,8 @@ pub fn a_written_move_is_read_again()
     one_king_a_side();
 }
 
-/// Nothing shorter than what is written tells an officer's origin apart: with an earlier step of the order none, file, rank,
-/// square the text names another move too.
+/// Nothing shorter than what is written tells an officer's origin apart: with an earlier step of
+/// the order none, file, rank, square the text names another move too.
 pub fn less_is_ambiguous()
     ensures { ShorterIsAmbiguous }
 {}

@@ -64,7 +64,8 @@ fn read_rank(text: &[u8]) -> Option<[Option<Piece>; 8]>
 
 // Adds the squares that the byte stands for, if it stands for any and the rank has as many left.
 fn push_item(cells: &mut ArrayVec<Option<Piece>, 8>, byte: u8) -> bool
-    ensures fits { result ≡ (is_item byte && nat_le (length cells.old.items + length (cells_at byte)) 8) }
+    ensures fits { result
+        ≡ (is_item byte && nat_le (length cells.old.items + length (cells_at byte)) 8) }
     ensures added { OnTrue result (cells.new.items ≡ cells.old.items ++ cells_at byte) }
 {
     if is_run(byte) {

@@ -39,17 +39,19 @@ pub enum SanFault {
 
 /// The one legal move that agrees with the form, and the position after it. (PGN 8.2.3)
 ///
-/// A legal move agrees if it has the kind, the target and the promotion of the form, and its origin the file and the rank
-/// that are told. Castling agrees with the form of that castling and with no other. `NoMove` is answered exactly where no
-/// legal move agrees, `Ambiguous` exactly where two or more do.
+/// A legal move agrees if it has the kind, the target and the promotion of the form, and its origin
+/// the file and the rank that are told. Castling agrees with the form of that castling and with no
+/// other. `NoMove` is answered exactly where no legal move agrees, `Ambiguous` exactly where two or
+/// more do.
 ///
-/// It counts the pairs that it tries, also on an error: one for castling, and for another form one for each member of
-/// `origins`, whether the hints allow it or not; where two moves agree, at least two of them. That is at most 8, and 8 must
-/// still fit in the count.
+/// It counts the pairs that it tries, also on an error: one for castling, and for another form one
+/// for each member of `origins`, whether the hints allow it or not; where two moves agree, at least
+/// two of them. That is at most 8, and 8 must still fit in the count.
 pub fn resolve(position: &Position, form: &Form, probes: &mut Probes) -> Result<Played, SanFault>
     requires { probes.old + 8 < 2 ^ 32 }
     ensures answer { result ≡ spec.reads position.now form.now }
-    ensures each { result ≢ Err Ambiguous → probes.new ≡ probes.old + spec.pair_count position.now form.now }
+    ensures each { result ≢ Err Ambiguous
+        → probes.new ≡ probes.old + spec.pair_count position.now form.now }
     ensures two { result ≡ Err Ambiguous → probes.old + 2 ≤ probes.new }
     ensures most { probes.new ≤ probes.old + spec.pair_count position.now form.now }
     ensures some { OnOk result (probes.old < probes.new) }
@@ -93,7 +95,8 @@ fn has_king(position: &Position, square: Square) -> bool
     }
 }
 
-// Whether the legal move is castling: no other takes a king further than to the next file. (FIDE Laws 3.8)
+// Whether the legal move is castling: no other takes a king further than to the next file. (FIDE
+// Laws 3.8)
 pub(crate) fn is_castling(position: &Position, mv: &Move) -> bool
     requires { IsTrue (is_legal position.now mv.now) }
     ensures { result ≡ spec.is_castling position.now mv.now }
@@ -149,10 +152,12 @@ fn is_fit(hint: Option<u8>, number: u8) -> bool
     }
 }
 
-// The move with the position after it, if it is legal, no castling, and begins where the hints allow.
+// The move with the position after it, if it is legal, no castling, and begins where the hints
+// allow.
 fn try_man(position: &Position, hints: Hints, mv: Move, probes: &mut Probes) -> Option<Played>
     requires { probes.old + 1 < 2 ^ 32 }
-    ensures played { result ≡ spec.played (spec.man_fits position.now hints.file hints.rank mv) position.now mv }
+    ensures played { result ≡ spec.played (spec.man_fits position.now hints.file hints.rank mv)
+        position.now mv }
     ensures count { probes.new ≡ probes.old + 1 }
 {
     let Some(next) = try_pair(position, mv, probes) else {
@@ -175,8 +180,10 @@ fn resolve_man(
     probes: &mut Probes,
 ) -> Result<Played, SanFault>
     requires { probes.old + 8 < 2 ^ 32 }
-    ensures answer { result ≡ spec.reads position.now (Man kind hints.file hints.rank to promotion) }
-    ensures each { result ≢ Err Ambiguous → probes.new ≡ probes.old + length (candidates position.now kind to) }
+    ensures answer { result ≡ spec.reads position.now
+        (Man kind hints.file hints.rank to promotion) }
+    ensures each { result ≢ Err Ambiguous
+        → probes.new ≡ probes.old + length (candidates position.now kind to) }
     ensures two { result ≡ Err Ambiguous → probes.old + 2 ≤ probes.new }
     ensures most { probes.new ≤ probes.old + length (candidates position.now kind to) }
     ensures some { OnOk result (probes.old < probes.new) }

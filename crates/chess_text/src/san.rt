@@ -22,20 +22,22 @@ use chess_rules::position::{Move, Position};
 use chess_rules::probes::Probes;
 use chess_rules::square::Square;
 
-/// The text of the move (PGN 8.2.3): castling is `O-O` or `O-O-O`; a pawn's move is the target, after the file and `x` where it takes, and before
-/// `=` and the piece that it becomes; another piece's move is its letter, as much of its origin as tells it from others that could go there, `x`
-/// where it takes, and the target. Then `#` on mate, else `+` on check.
+/// The text of the move (PGN 8.2.3): castling is `O-O` or `O-O-O`; a pawn's move is the target,
+/// after the file and `x` where it takes, and before `=` and the piece that it becomes; another
+/// piece's move is its letter, as much of its origin as tells it from others that could go there,
+/// `x` where it takes, and the target. Then `#` on mate, else `+` on check.
 ///
-/// The move is legal, and `next` is the position after it.
-/// For a queen, a rook, a bishop or a knight it tries a pair for each member of `origins`; and where `next` is in check, those of
-/// one `has_legal_move`.
+/// The move is legal, and `next` is the position after it. For a queen, a rook, a bishop or a
+/// knight it tries a pair for each member of `origins`; and where `next` is in check, those of one
+/// `has_legal_move`.
 pub fn write_san(position: &Position, played: &Played, probes: &mut Probes) -> ArrayVec<u8, 7>
     requires legal { legal position.now played.now.mv ≡ Some played.now.next }
     requires room { probes.old + 1032 < 2 ^ 32 }
     ensures text { result.items ≡ spec.san position.now played.now.mv }
     ensures some { 0 < length result.items }
     ensures short { length result.items ≤ 7 }
-    ensures pairs { MarkPairs played.now.next (probes.old + spec.apart_pairs position.now played.now.mv) probes.new }
+    ensures pairs { MarkPairs played.now.next
+        (probes.old + spec.apart_pairs position.now played.now.mv) probes.new }
     ensures bound { probes.new ≤ probes.old + 1032 }
 {
     let mut text = unmarked(position, &played.mv, probes);
@@ -134,7 +136,8 @@ fn pawn_text(position: &Position, mv: &Move) -> ArrayVec<u8, 7>
 // Adds the origin's file and `x` of a pawn that changes its file. (PGN 8.2.3.3)
 fn push_pawn_capture(text: &mut ArrayVec<u8, 7>, mv: &Move)
     requires { length text.old.items ≤ 5 }
-    ensures text { text.new.items ≡ text.old.items ++ spec.pawn_capture (not (mv.now.from.file == mv.now.to.file)) mv.now }
+    ensures text { text.new.items ≡ text.old.items
+        ++ spec.pawn_capture (not (mv.now.from.file == mv.now.to.file)) mv.now }
     ensures short { length text.new.items ≤ length text.old.items + 2 }
 {
     if mv.from.file() != mv.to.file() {
@@ -206,8 +209,10 @@ impl Rivals {
 fn rivals_of(position: &Position, kind: Kind, mv: &Move, probes: &mut Probes) -> Rivals
     requires { probes.old + 8 < 2 ^ 32 }
     ensures any { result.any ≡ list_any (λ s. true) (spec.rivals position.now kind mv.now) }
-    ensures file { result.on_file ≡ spec.on_file mv.now.from (spec.rivals position.now kind mv.now) }
-    ensures rank { result.on_rank ≡ spec.on_rank mv.now.from (spec.rivals position.now kind mv.now) }
+    ensures file { result.on_file ≡ spec.on_file mv.now.from
+        (spec.rivals position.now kind mv.now) }
+    ensures rank { result.on_rank ≡ spec.on_rank mv.now.from
+        (spec.rivals position.now kind mv.now) }
     ensures pairs { probes.new ≡ probes.old + length (candidates position.now kind mv.now.to) }
     ensures few { probes.new ≤ probes.old + 8 }
 {
@@ -225,7 +230,8 @@ fn rivals_of(position: &Position, kind: Kind, mv: &Move, probes: &mut Probes) ->
     found
 }
 
-// Whether the same move is legal from that square, and it is another than the move's own. Each pair is tried.
+// Whether the same move is legal from that square, and it is another than the move's own. Each pair
+// is tried.
 fn is_rival(position: &Position, mv: &Move, origin: Square, probes: &mut Probes) -> bool
     requires { probes.old + 1 < 2 ^ 32 }
     ensures rival { result ≡ spec.is_rival position.now mv.now origin }
@@ -244,7 +250,8 @@ fn is_rival(position: &Position, mv: &Move, origin: Square, probes: &mut Probes)
 // Adds what tells the origin from the rivals. (PGN 8.2.3.4)
 fn push_told_apart(text: &mut ArrayVec<u8, 7>, from: Square, rivals: Rivals)
     requires { length text.old.items ≤ 5 }
-    ensures text { text.new.items ≡ text.old.items ++ spec.apart_by from rivals.any rivals.on_file rivals.on_rank }
+    ensures text { text.new.items ≡ text.old.items
+        ++ spec.apart_by from rivals.any rivals.on_file rivals.on_rank }
     ensures short { length text.new.items ≤ length text.old.items + 2 }
 {
     if rivals.any && (!rivals.on_file || rivals.on_rank) {

@@ -1,4 +1,5 @@
-//! Outside values: the standard's own texts, positions that are in wide use for tests, and texts that are none.
+//! Outside values: the standard's own texts, positions that are in wide use for tests, and texts
+//! that are none.
 
 mod resolve;
 mod san;

@@ -1,4 +1,5 @@
--- What a lexer still has to give at the end of the input: at most one token that can finish a game, and behind that one the end alone.
+-- What a lexer still has to give at the end of the input: at most one token that can finish a game,
+-- and behind that one the end alone.
 use Rattle.std.proofs.Common.{ℕ, Bool, true, false, List, [], ◌∷◌}
 use Rattle.std.specs.Prelude.{if◌then◌else◌}
 use Rattle.pgn_lexer.specs.declared.hand.Mode.{Mode}

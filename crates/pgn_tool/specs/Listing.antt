@@ -42,7 +42,8 @@ hand_line number mode hand =
     six_fields (decimal number) (value_told mode hand.pairs (codes "White")) (value_told mode hand.pairs (codes "Black"))
     (value_told mode hand.pairs (codes "Result")) (decimal hand.plies) (fen_text hand.position)
 
--- the line of a game: its number, White, Black, Result, how many moves it has outside variations, and the position after these
+-- the line of a game: its number, White, Black, Result, how many moves it has outside variations,
+-- and the position after these
 abbrev pub game_line : ℕ → Game → List ℕ
 game_line number g = hand_line number Full (hand_of g)
 
@@ -74,7 +75,8 @@ pub record IsListed (s : List ℕ) (found : Option Fault) (before after : Option
   pub fault : (read list_profile (tokens_of s)).fault ≡ found
   pub written : Appends before after (list_text s)
 
--- After the bytes u, of which nothing is refused, no more are read: the lines of the games that they decide are written.
+-- After the bytes u, of which nothing is refused, no more are read: the lines of the games that
+-- they decide are written.
 pub record ListsNoMore (u : List ℕ) (before after : Option (List ℕ)) : Type 0 where
   pub passes : (read list_profile (decided u)).fault ≡ None
   pub written : Appends before after (lines_of (decided u))
@@ -85,8 +87,8 @@ pub record CutsLine (u : List ℕ) (before after : Option (List ℕ)) : Type 0 w
   pub short : count < length (list_text u)
   pub front : Appends before after (take count (list_text u))
 
--- How a list stops: at the input's own fault; because a read failed behind the bytes u; since the byte at place 2^62 came; or because
--- a line could not be written when the bytes u were read.
+-- How a list stops: at the input's own fault; because a read failed behind the bytes u; since the
+-- byte at place 2^62 came; or because a line could not be written when the bytes u were read.
 pub data Stops (left_old left_new : Option (List ℕ)) (before after : Option (List ℕ)) : Stopped → Type 0 where
   refused : (f : Fault) → IfSome left_old (λ s. IsListed s (Some f) before after) → Stops left_old left_new before after (Refused f)
   unread : (u : List ℕ) → Consumes left_old left_new u → ListsNoMore u before after
@@ -106,7 +108,8 @@ CountsReason ReadFault old new = new ≡ one_more old
 CountsReason WriteFault old new = ⊥
 CountsReason _ old new = new ≡ old
 
--- the same of a list, which ends at a line where the sink counts one failure more; nowhere else does one count
+-- the same of a list, which ends at a line where the sink counts one failure more; nowhere else
+-- does one count
 abbrev pub CountsStopped : Stopped → ℕ → ℕ → ℕ → ℕ → Type 0
 CountsStopped (Refused f) source_old source_new sink_old sink_new = CountsReason f.reason source_old source_new × (sink_new ≡ sink_old)
 CountsStopped Unwritten source_old source_new sink_old sink_new = (source_new ≡ source_old) × (sink_new ≡ one_more sink_old)
@@ -117,7 +120,8 @@ CountsList (Err stopped) source_old source_new sink_old sink_new = CountsStopped
 
 -- ---- on the way
 
--- The converter stands after the bytes u, before the bytes of `rest`, and from `before` on the lines of the games so far were written.
+-- The converter stands after the bytes u, before the bytes of `rest`, and from `before` on the
+-- lines of the games so far were written.
 pub record Listed (u rest : List ℕ) (c : Converter) (before now : Option (List ℕ)) : Type 0 where
   pub tokens : List Token
   pub stands : Stands list_profile c u (first rest) tokens

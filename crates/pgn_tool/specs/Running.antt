@@ -81,8 +81,8 @@ status_of (totals c) = 0
 
 -- ---- devices
 
--- A device at the beginning and the end of a run: the bytes that a source has left or a sink has taken, where it tells them, and
--- how often it has failed.
+-- A device at the beginning and the end of a run: the bytes that a source has left or a sink has
+-- taken, where it tells them, and how often it has failed.
 pub record Device : Type 0 where
   pub before : Option (List ℕ)
   pub after : Option (List ℕ)
@@ -130,7 +130,8 @@ pub record Answers (job : Job) (s : List ℕ) (out err : Device) (status : ℕ) 
   pub written : Appends out.before out.after (text_for job s)
   pub told : TellsVerdict err (verdict (profile_for job) s)
 
--- What the source gives is the text s, short enough for its places, and neither it nor standard output fails.
+-- What the source gives is the text s, short enough for its places, and neither it nor standard
+-- output fails.
 pub record IsSmooth (s : List ℕ) (source out : Device) : Type 0 where
   pub gives : source.before ≡ Some s
   pub short : length s ≤ 2 ^ 62
@@ -173,7 +174,8 @@ Works (exporting mode) answer source out = Converts (profile_of 64 32 mode) sour
 Works checking answer source out = Converts (profile_of 64 32 Full) source.before source.after answer None None × Counts answer out
 Works listing answer source out = ⊥
 
--- A run that converts: a conversion with its answer, and how it ends. Of an export, standard output has what the conversion wrote.
+-- A run that converts: a conversion with its answer, and how it ends. Of an export, standard output
+-- has what the conversion wrote.
 pub record RunsConversion (job : Job) (source out err : Device) (status : ℕ) : Type 0 where
   pub answer : Result Totals Fault
   pub works : Works job answer source out

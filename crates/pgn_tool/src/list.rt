@@ -32,13 +32,16 @@ struct Line<'a> {
 
 type Lister = Converter<TAGS, LEVELS>;
 
-/// Writes a line for each game that the source gives, up to its end: its number from 1, White, Black, Result, how many moves it has
-/// outside variations, and the position after these, with a tab between them.
+/// Writes a line for each game that the source gives, up to its end: its number from 1, White,
+/// Black, Result, how many moves it has outside variations, and the position after these, with a
+/// tab between them.
 ///
 /// On a fault the lines of the games before it were written. Nothing is flushed.
 pub fn list_games<R: Source, O: Sink>(reader: &mut R, out: &mut O) -> Result<(), Stopped>
-    ensures lists { Lists (R.left reader.old) (R.left reader.new) result (O.taken out.old) (O.taken out.new) }
-    ensures counted { CountsList result (R.failures reader.old) (R.failures reader.new) (O.failures out.old) (O.failures out.new) }
+    ensures lists { Lists (R.left reader.old) (R.left reader.new) result (O.taken out.old)
+        (O.taken out.new) }
+    ensures counted { CountsList result (R.failures reader.old) (R.failures reader.new)
+        (O.failures out.old) (O.failures out.new) }
 {
     let mut buffer = [0; 4096];
     let mut converter = Lister::new(Mode::Full);
@@ -60,8 +63,10 @@ pub fn list_games<R: Source, O: Sink>(reader: &mut R, out: &mut O) -> Result<(),
 fn list_piece<O: Sink>(converter: &mut Lister, piece: &[u8], out: &mut O) -> Result<(), Stopped>
     requires going { converter.old.is_finished ≡ false }
     requires no_fault { converter.old.fault ≡ None }
-    ensures lists { ListsPiece converter.old piece.now converter.new result (O.taken out.old) (O.taken out.new) }
-    ensures count { OnOk result (converter.new.lexer.count ≡ converter.old.lexer.count + length piece.now) }
+    ensures lists { ListsPiece converter.old piece.now converter.new result (O.taken out.old)
+        (O.taken out.new) }
+    ensures count { OnOk result
+        (converter.new.lexer.count ≡ converter.old.lexer.count + length piece.now) }
     ensures short { OnOk result (converter.new.lexer.count ≤ 2 ^ 62) }
     ensures going { converter.new.is_finished ≡ false }
     ensures no_fault { OnOk result (converter.new.fault ≡ None) }
@@ -98,7 +103,8 @@ fn list_last<O: Sink>(converter: &mut Lister, out: &mut O) -> Result<(), Stopped
 
 // Writes the line of the game at hand; nothing while none is.
 fn write_game<O: Sink>(converter: &Lister, out: &mut O) -> Result<(), WriteFault>
-    ensures written { Writes (O.taken out.old) (O.taken out.new) result (line_at_hand converter.now) }
+    ensures written { Writes (O.taken out.old) (O.taken out.new) result
+        (line_at_hand converter.now) }
     ensures failures { Counts result (O.failures out.old) (O.failures out.new) }
 {
     let Some(position) = converter.position() else {
@@ -127,7 +133,8 @@ fn value<'a>(converter: &'a Lister, name: &[u8]) -> &'a [u8]
 
 // Writes the fields with a tab after each but the last, and LF.
 fn write_line<O: Sink>(line: &Line<'_>, out: &mut O) -> Result<(), WriteFault>
-    ensures written { Writes (O.taken out.old) (O.taken out.new) result (six_fields line.now.number.now line.now.white.now line.now.black.now
+    ensures written { Writes (O.taken out.old) (O.taken out.new) result
+        (six_fields line.now.number.now line.now.white.now line.now.black.now
         line.now.result.now line.now.plies.now line.now.position.now) }
     ensures failures { Counts result (O.failures out.old) (O.failures out.new) }
 {

@@ -8,7 +8,8 @@ use crate::stream::{conclude, tell};
 use pgn_game::Sink;
 use pgn_layout::write_all;
 
-/// Answers words that are no task: help on `out`, status 0; a mistake on `err`, status 2; want of memory, status 3.
+/// Answers words that are no task: help on `out`, status 0; a mistake on `err`, status 2; want of
+/// memory, status 3.
 pub fn answer_fault<O: Sink, E: Sink>(fault: &ParseFault, out: &mut O, err: &mut E) -> u8
     ensures { AnswersFault fault.now (device O.taken O.failures out.old out.new)
         (device E.taken E.failures err.old err.new) result }

@@ -18,9 +18,10 @@ pub const LEVELS: usize = 33;
 
 /// Carries out the task on what the source gives, and answers the exit status.
 ///
-/// 0: no fault was met. `out` has what the task writes, and is flushed once, at the end; `err` has nothing.
-/// 1: a fault was met, whose line `err` has; or `out` could not take a line of `check` or `list`, or be flushed, and `err`
-/// says so. Of an export, what is due before the fault was written; of a list, the lines of the games before it; of a check, nothing.
+/// 0: no fault was met. `out` has what the task writes, and is flushed once, at the end; `err` has
+/// nothing. 1: a fault was met, whose line `err` has; or `out` could not take a line of `check` or
+/// `list`, or be flushed, and `err` says so. Of an export, what is due before the fault was
+/// written; of a list, the lines of the games before it; of a check, nothing.
 ///
 /// The first fault is told alone, and a failure of `err` changes no status. The caller's condition
 /// is that the task is one of `export`, `check` and `list`.
@@ -34,8 +35,10 @@ pub fn run_stream<R: Source, O: Sink, E: Sink>(
 
     // Where no device fails: the status, what is written and what is told are those of the text.
     ensures answers { (s : List ℕ)
-        → IsSmooth s (device R.left R.failures reader.old reader.new) (device O.taken O.failures out.old out.new)
-        → Answers (job_of task.now) s (device O.taken O.failures out.old out.new) (device E.taken E.failures err.old err.new) result }
+        → IsSmooth s (device R.left R.failures reader.old reader.new)
+        (device O.taken O.failures out.old out.new)
+        → Answers (job_of task.now) s (device O.taken O.failures out.old out.new)
+        (device E.taken E.failures err.old err.new) result }
 
     // Where a device fails the status is 1.
     ensures status { result ≤ 1 }
@@ -43,7 +46,8 @@ pub fn run_stream<R: Source, O: Sink, E: Sink>(
     ensures out_kept { result ≡ 0 → O.failures out.new ≡ O.failures out.old }
 
     // What stands written and is told then.
-    ensures runs { Runs (job_of task.now) (device R.left R.failures reader.old reader.new) (device O.taken O.failures out.old out.new)
+    ensures runs { Runs (job_of task.now) (device R.left R.failures reader.old reader.new)
+        (device O.taken O.failures out.old out.new)
         (device E.taken E.failures err.old err.new) result }
 {
     match task {
@@ -63,7 +67,8 @@ fn export_mode(reduced: bool) -> Mode
 
 // Writes the games in export format.
 fn export<R: Source, O: Sink, E: Sink>(mode: Mode, reader: &mut R, out: &mut O, err: &mut E) -> u8
-    ensures { Runs (exporting mode) (device R.left R.failures reader.old reader.new) (device O.taken O.failures out.old out.new)
+    ensures { Runs (exporting mode) (device R.left R.failures reader.old reader.new)
+        (device O.taken O.failures out.old out.new)
         (device E.taken E.failures err.old err.new) result }
 {
     let answer = convert::<TAGS, LEVELS, R, O>(reader, out, mode);
@@ -76,7 +81,8 @@ fn export<R: Source, O: Sink, E: Sink>(mode: Mode, reader: &mut R, out: &mut O, 
 
 // Writes how many games and moves there are.
 fn check<R: Source, O: Sink, E: Sink>(reader: &mut R, out: &mut O, err: &mut E) -> u8
-    ensures { Runs checking (device R.left R.failures reader.old reader.new) (device O.taken O.failures out.old out.new)
+    ensures { Runs checking (device R.left R.failures reader.old reader.new)
+        (device O.taken O.failures out.old out.new)
         (device E.taken E.failures err.old err.new) result }
 {
     match convert::<TAGS, LEVELS, R, Nowhere>(reader, &mut Nowhere, Mode::Full) {
@@ -93,7 +99,8 @@ fn check<R: Source, O: Sink, E: Sink>(reader: &mut R, out: &mut O, err: &mut E) 
 
 // Writes a line for each game.
 fn list<R: Source, O: Sink, E: Sink>(reader: &mut R, out: &mut O, err: &mut E) -> u8
-    ensures { Runs listing (device R.left R.failures reader.old reader.new) (device O.taken O.failures out.old out.new)
+    ensures { Runs listing (device R.left R.failures reader.old reader.new)
+        (device O.taken O.failures out.old out.new)
         (device E.taken E.failures err.old err.new) result }
 {
     let answer = list_games(reader, out);
@@ -107,10 +114,12 @@ fn list<R: Source, O: Sink, E: Sink>(reader: &mut R, out: &mut O, err: &mut E) -
 
 // Writes the line of the totals and flushes, and tells whether both were done.
 fn write_totals<O: Sink>(totals: Totals, out: &mut O) -> bool
-    ensures written { result ≡ true → Appends (O.taken out.old) (O.taken out.new) (counting_line totals.games totals.plies) }
+    ensures written { result ≡ true → Appends (O.taken out.old) (O.taken out.new)
+        (counting_line totals.games totals.plies) }
     ensures kept { result ≡ true → O.failures out.new ≡ O.failures out.old }
     ensures failed { result ≡ false → HasFailed (device O.taken O.failures out.old out.new) }
-    ensures front { HasFront (device O.taken O.failures out.old out.new) (counting_line totals.games totals.plies) }
+    ensures front { HasFront (device O.taken O.failures out.old out.new)
+        (counting_line totals.games totals.plies) }
 {
     let written = write_all(out, counting_line(totals).as_slice());
     let flushed = out.flush();
