@@ -8,3 +8,6 @@ most_probes-requires g c = search fits_reader
 
 pub returns-clause-value : goal.returns-clause-value
 returns-clause-value g c = c.most_probes.ensures.value ∙ ap (λ (s : Converter). s.reading.most_probes) c.self.view_is
+
+pub returns-clause-bound : goal.returns-clause-bound
+returns-clause-bound g c = c.most_probes.ensures.bound

@@ -1,0 +1,5 @@
+use Rattle.pgn_game.proofs.Sizes.{fits_reader}
+use Rattle.pgn_game.proofs.converter.Converter.position.Goals as goal
+
+pub position-requires : goal.position-requires
+position-requires g c = search fits_reader
