@@ -6,7 +6,7 @@ ghost use Rattle.chess_text.specs.Form as spec;
 use chess_rules::piece::{Kind, Promotion};
 use chess_rules::square::Square;
 
-/// What the letters of a move tell (PGN 8.2.3).
+/// What the letters of a move say (PGN 8.2.3).
 #[derive(Clone, Copy, Debug, PartialEq, Eq)]
 pub enum Form {
     /// Castling, to the queen's side if it is long.
@@ -16,9 +16,9 @@ pub enum Form {
     /// A move of one piece.
     Man {
         kind: Kind,
-        /// The origin's file, 0 to 7, if it is told.
+        /// The origin's file, 0 to 7, if it is given.
         file: Option<u8>,
-        /// The origin's rank, 0 to 7, if it is told.
+        /// The origin's rank, 0 to 7, if it is given.
         rank: Option<u8>,
         to: Square,
         promotion: Option<Promotion>,

@@ -40,7 +40,7 @@ pub enum SanFault {
 /// The one legal move that agrees with the form, and the position after it. (PGN 8.2.3)
 ///
 /// A legal move agrees if it has the kind, the target and the promotion of the form, and its origin
-/// the file and the rank that are told. Castling agrees with the form of that castling and with no
+/// the file and the rank that are given. Castling agrees with the form of that castling and with no
 /// other. `NoMove` is answered exactly where no legal move agrees, `Ambiguous` exactly where two or
 /// more do.
 ///

@@ -1,4 +1,4 @@
-//! What one token comes to.
+//! The reader's answer to one token.
 ghost use Rattle.std.specs.Prelude.{◌≡◌};
 
 use crate::reason::Reason;

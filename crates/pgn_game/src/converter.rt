@@ -23,16 +23,16 @@ use std::marker::Model;
 /// The first place that no byte of an input may have.
 const LONGEST: u64 = 1 << 62;
 
-/// What a piece came to.
+/// What `Converter::feed` did with a piece.
 #[derive(Clone, Copy, Debug, PartialEq, Eq)]
 pub enum Fed {
-    /// The whole piece was used, and no game was finished.
+    /// The whole piece was used, and it finished no game.
     All,
-    /// A game was finished, and this many bytes of the piece were used.
+    /// The piece finished a game, and this many of its bytes were used.
     Game(usize),
 }
 
-/// What a step came to.
+/// The result of one step.
 #[derive(Clone, Copy)]
 enum Stepped {
     NeedMore,
@@ -42,7 +42,7 @@ enum Stepped {
     Failed(Fault),
 }
 
-/// What a step came to, and how many bytes of the piece it used.
+/// The result of one step, and how many bytes of the piece it used.
 #[derive(Clone, Copy)]
 struct Step {
     used: usize,
@@ -80,7 +80,7 @@ impl<const T: usize, const L: usize> Model for Converter<T, L> {
 }
 
 impl<const T: usize, const L: usize> Converter<T, L> {
-    /// A converter before the first byte.
+    /// Returns a converter that has read nothing.
     pub fn new(mode: Mode) -> Self
         requires { 1 ≤ L }
         ensures stands { Stands (profile_of T (L - 1) mode) result [] None [] }
@@ -103,12 +103,12 @@ impl<const T: usize, const L: usize> Converter<T, L> {
     ///
     /// # Errors
     ///
-    /// - The fault of the first token that is refused, as soon as that is known.
-    /// - `Reason::InputTooLong` where a byte stands at place 2^62.
-    /// - `Reason::WriteFault` where a write failed.
+    /// - The fault of the first token that is refused, as soon as the bytes decide it.
+    /// - `Reason::InputTooLong` if the input has a byte at place 2^62.
+    /// - `Reason::WriteFault` if a write failed, at the token whose text is not all written.
     ///
-    /// In the first two cases everything that is due for the tokens before it is written. Each
-    /// later call reports the same fault and writes nothing.
+    /// After the first two the output is complete up to the token before. Each later call reports
+    /// the same fault and writes nothing.
     pub fn feed<W: Sink>(&mut self, piece: &[u8], out: &mut W) -> Result<Fed, Fault>
         requires going { self.old.is_finished ≡ false }
         ensures used { IfOk result (λ fed. used_of fed piece.now ≤ length piece.now) }
@@ -163,9 +163,13 @@ impl<const T: usize, const L: usize> Converter<T, L> {
         }
     }
 
-    /// Ends the input: converts what is left, and tells whether that finished a game. Answers a
-    /// fault as `feed` does; where the input ends in movetext or behind a whole tag pair that is
-    /// 42, and inside a pair 20, 24 or 28.
+    /// Ends the input: converts what is left, and reports whether that finished a game.
+    ///
+    /// # Errors
+    ///
+    /// As `feed`. An input that ends in movetext or after a tag pair is `Reason::UnexpectedEnd`;
+    /// one that ends inside a tag pair is `Reason::ExpectedName`, `Reason::ExpectedValue` or
+    /// `Reason::ExpectedBracket`.
     pub fn finish<W: Sink>(&mut self, out: &mut W) -> Result<bool, Fault>
         requires going { self.old.is_finished ≡ false }
         ensures ends { Ends self.old self.new result (W.taken out.old) (W.taken out.new) }
@@ -197,9 +201,10 @@ impl<const T: usize, const L: usize> Converter<T, L> {
         }
     }
 
-    /// The value of a name in the tag section of the game at hand, its defaults included. A game is
-    /// at hand from the call that finished it to the next call of `feed` or `finish`; while none
-    /// is, there is no value.
+    /// Returns the value of a tag of the game just finished, roster defaults included.
+    ///
+    /// A game counts as just finished from the call that finished it to the next call of `feed` or
+    /// `finish`. At any other time the result is `None`.
     pub fn tag(&self, name: &[u8]) -> Option<&[u8]>
         ensures { option_copied result ≡ value_at_hand self.now name.now }
     {
@@ -209,8 +214,8 @@ impl<const T: usize, const L: usize> Converter<T, L> {
         None
     }
 
-    /// How many moves outside variations the game at hand has, each side's counted as one; 0 while
-    /// none is.
+    /// Returns the number of plies of the game just finished, without its variations; 0 at any
+    /// other time.
     pub fn plies(&self) -> u64
         ensures { result ≡ plies_at_hand self.now }
     {
@@ -220,8 +225,8 @@ impl<const T: usize, const L: usize> Converter<T, L> {
         0
     }
 
-    /// The position after the moves of the game at hand that stand outside variations; None while
-    /// none is.
+    /// Returns the position at the end of the game just finished, after its moves outside
+    /// variations; `None` at any other time.
     pub fn position(&self) -> Option<&Position>
         ensures { option_copied result ≡ position_at_hand self.now }
     {
@@ -231,8 +236,9 @@ impl<const T: usize, const L: usize> Converter<T, L> {
         None
     }
 
-    /// The most pairs of an origin and a target that were tried for one move so far, for its SAN
-    /// and its mark too. It is at most 1,040, and at least 1 once a move was played.
+    /// Returns the most pairs of an origin and a target that were tried for one move so far, the
+    /// writing of its SAN and its mark included: at most 1,040, and at least 1 once a move was
+    /// played.
     pub fn most_probes(&self) -> u32
         ensures value { result ≡ self.now.reading.most_probes }
         ensures bound { result ≤ 1040 }
@@ -251,21 +257,21 @@ impl<const T: usize, const L: usize> Converter<T, L> {
         self.reader.earlier_plies()
     }
 
-    /// How many bytes were used.
+    /// Returns the number of bytes used so far.
     pub fn count(&self) -> u64
         ensures { result ≡ self.now.lexer.count }
     {
         self.lexer.count()
     }
 
-    /// How many games were finished so far.
+    /// Returns the number of games finished so far.
     pub fn games(&self) -> u64
         ensures { result ≡ self.now.games }
     {
         self.games
     }
 
-    /// Whether `finish` has answered Ok.
+    /// Whether `finish` has returned `Ok`.
     pub fn is_finished(&self) -> bool
         ensures { result ≡ self.now.is_finished }
     {
@@ -402,8 +408,8 @@ fn too_long(kept: &mut Option<Fault>) -> Fault
     Fault { at, reason }
 }
 
-// What an answer of the reader to a token at this place comes to: a game finished is counted, a
-// fault is kept.
+// Turns the reader's answer to a token at this place into a step: counts a finished game, keeps a
+// fault.
 fn settle(
     at: u64,
     accepted: Result<Accepted, Stopped>,
@@ -469,7 +475,7 @@ fn is_ended(outcome: Stepped) -> bool
     }
 }
 
-// The end of the input, where the game goes on with it, is told from other tokens.
+// The result of a step at the end of the input: `More` with the end itself is `Ended`.
 fn close_with(is_end: bool, outcome: Stepped) -> Stepped
     ensures { result ≡ closed_with is_end outcome }
 {

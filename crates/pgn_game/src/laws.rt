@@ -6,7 +6,7 @@ ghost use Rattle.pgn_game.specs.UniqueReading as unique;
 use chess_text::laws::the_one_move_is_read;
 use pgn_lexer::tokens_rise;
 
-/// What is due for tokens is a front of what is due for these and more.
+/// What must be written by now for some tokens is a front of what must be for these and more.
 pub fn due_grows()
     ensures { laws.DueGrows }
 {}

@@ -67,7 +67,7 @@ impl<const L: usize> Levels<L> {
         self.levels[0] = Level::at(start);
     }
 
-    /// The present position of the level at hand.
+    /// The position of the current level.
     #[inline(always)]
     pub fn present(&self) -> &Position
         ensures { result.now ≡ self.now.present.present }
@@ -84,7 +84,7 @@ impl<const L: usize> Levels<L> {
         self.levels.len() - 1
     }
 
-    /// Whether a move was played at the level at hand.
+    /// Whether a move was played at the current level.
     #[inline(always)]
     pub fn holds_move(&self) -> bool
         ensures { result ≡ is_some self.now.present.before }
@@ -106,7 +106,7 @@ impl<const L: usize> Levels<L> {
         level.present = next;
     }
 
-    /// Opens a variation, which begins before the last move of the level at hand.
+    /// Opens a variation, which begins before the last move of the current level.
     pub fn open(&mut self)
         requires before { IsSome self.old.present.before }
         requires room { length self.old.around + 1 < L }
@@ -119,7 +119,7 @@ impl<const L: usize> Levels<L> {
         }
     }
 
-    /// Closes the variation at hand: the level around it goes on.
+    /// Closes the current variation: the level around it goes on.
     pub fn close(&mut self)
         requires { 0 < length self.old.around }
         ensures { IsBackIn self.old.around self.new }

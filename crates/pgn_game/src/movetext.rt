@@ -19,7 +19,7 @@ use chess_text::san::write_san;
 use pgn_layout::{Layout, Sink, WriteFault};
 use std::marker::Model;
 
-/// The levels, and what is told of the moves so far.
+/// The levels, and what is counted of the moves so far.
 #[derive(Drop)]
 pub struct Movetext<const L: usize> {
     levels: Levels<L>,
@@ -86,7 +86,7 @@ impl<const L: usize> Movetext<L> {
         self.levels.depth()
     }
 
-    /// Whether a move was played at the level at hand.
+    /// Whether a move was played at the current level.
     pub fn holds_move(&self) -> bool
         ensures { result ≡ is_some self.now.levels.present.before }
     {

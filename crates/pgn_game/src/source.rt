@@ -11,18 +11,18 @@ use std::marker::Model;
 #[derive(Clone, Copy, Debug, PartialEq, Eq)]
 pub struct ReadFailed;
 
-/// What gives the bytes that are read, in order.
+/// Gives the bytes of an input, in order.
 ///
-/// A call either does its work, or fails, gives no byte and is counted. Nothing is tried again.
+/// A call that fails gives no byte and is counted. Nothing is tried again.
 pub trait Source {
-    // The bytes that are left, where the source tells them.
+    // The bytes that are left, if the source reports them.
     ghost left: { Self → Option (List ℕ) };
 
     // How many calls have failed; the count stays at the last number of 64 bits.
     ghost failures: { Self → ℕ };
 
-    /// Gives bytes at the buffer's front and tells how many, none only at the end or where there is
-    /// no room; or fails and gives none.
+    /// Reads bytes into the front of the buffer, and returns how many: 0 only at the end or if the
+    /// buffer is empty.
     fn read_some(&mut self, buffer: &mut [u8]) -> Result<usize, ReadFailed>
         ensures bound { ReadsAtMost result buffer.new }
         ensures bytes { ReadConsumes (left self.old) (left self.new) result buffer.new }

@@ -12,15 +12,15 @@ use crate::reason::{Fault, Reason};
 use crate::source::Source;
 use pgn_layout::Sink;
 
-/// What was converted.
+/// Counts of what was converted.
 #[derive(Clone, Copy, Debug, PartialEq, Eq)]
 pub struct Totals {
-    /// How many games.
+    /// The number of games.
     pub games: u64,
-    /// How many moves outside variations they have together, each side's counted as one.
+    /// The number of their plies together, without variations.
     pub plies: u64,
-    /// The most pairs of an origin and a target that were tried for one move, for its SAN and its
-    /// mark too; at most 1,040.
+    /// The most pairs of an origin and a target that were tried for one move, the writing of its
+    /// SAN and its mark included; at most 1,040.
     pub most_probes: u32,
 }
 
@@ -31,9 +31,10 @@ pub struct Totals {
 ///
 /// # Errors
 ///
-/// - The input's first fault: everything that is due for the tokens before it is written.
-/// - `Reason::ReadFault` where a read failed, `Reason::WriteFault` where a write failed.
-/// - `Reason::InputTooLong` where a byte stands at place 2^62.
+/// - The input's first fault. The output is complete up to the token before it.
+/// - `Reason::ReadFault` if a read failed, at the number of bytes read.
+/// - `Reason::WriteFault` if a write failed, at the token whose text is not all written.
+/// - `Reason::InputTooLong` if the input has a byte at place 2^62.
 pub fn convert<const T: usize, const L: usize, R: Source, W: Sink>(
     reader: &mut R,
     writer: &mut W,
@@ -82,7 +83,7 @@ pub fn convert_slice<const T: usize, const L: usize, W: Sink>(
     end(&mut converter, writer)
 }
 
-// Ends the input, and tells what was converted.
+// Ends the input, and counts what was converted.
 fn end<const T: usize, const L: usize, W: Sink>(
     converter: &mut Converter<T, L>,
     writer: &mut W,

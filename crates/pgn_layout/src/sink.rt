@@ -17,7 +17,7 @@ pub trait Sink {
     // How many calls have failed; the count stays at the last number of 64 bits.
     ghost failures: { Self → ℕ };
 
-    /// Takes the first bytes and tells how many, at least one; or fails and takes none.
+    /// Takes some of the first bytes and returns how many, at least one; or fails and takes none.
     fn write_some(&mut self, bytes: &[u8]) -> Result<usize, WriteFault>
         requires { 0 < length bytes.now }
         ensures bytes { WriteAppends (taken self.old) (taken self.new) result bytes.now }

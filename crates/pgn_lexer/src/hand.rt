@@ -23,7 +23,7 @@ pub(crate) enum SuffixRun {
     Questionable,
 }
 
-/// What the next byte stands within.
+/// What the next byte is inside of.
 #[derive(Clone, Copy)]
 pub(crate) enum Mode {
     /// Before the first byte of the text.
@@ -93,7 +93,7 @@ pub(crate) enum Found {
     /// The whole piece was used.
     Nothing,
     Token(Form),
-    /// The text is refused, as the mode tells.
+    /// The text is refused, as the mode says.
     Fault,
 }
 
