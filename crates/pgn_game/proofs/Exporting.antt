@@ -27,7 +27,7 @@ bytes_eq-sym xs ys =
     same_bool (bytes_eq xs ys) (bytes_eq ys xs) (λ e. bytes_eq-refl ys xs (sym (bytes_eq-true xs ys e))) (λ e. bytes_eq-refl xs ys (sym (bytes_eq-true ys xs e)))
 
 -- the value with a default, of a pair of the roster
-abbrev with_default : List Pair → Pair → Pair
+abbrev pub with_default : List Pair → Pair → Pair
 with_default ps d = record { name = d.name; value = unwrap_or (value_of ps d.name) d.value }
 
 abbrev pub pick : Bool → List ℕ → Option (List ℕ) → Option (List ℕ)
@@ -35,7 +35,7 @@ pick true v o = Some v
 pick false v o = o
 
 -- a value, or what stands for it where there is one
-abbrev defaulted : Option (List ℕ) → Option (List ℕ) → Option (List ℕ)
+abbrev pub defaulted : Option (List ℕ) → Option (List ℕ) → Option (List ℕ)
 defaulted value None = None
 defaulted value (Some unknown) = Some (unwrap_or value unknown)
 
@@ -60,7 +60,7 @@ pick_default : (ps : List Pair) (d name : List ℕ) (v : List ℕ) (b : Bool) (r
 pick_default ps d name v true rest same = ap (λ n. Some (unwrap_or (value_of ps n) v)) (same refl)
 pick_default ps d name v false rest same = refl
 
-value_of-defaults : (ps ds : List Pair) (name : List ℕ) → value_of (map (with_default ps) ds) name ≡ defaulted (value_of ps name) (value_of ds name)
+pub value_of-defaults : (ps ds : List Pair) (name : List ℕ) → value_of (map (with_default ps) ds) name ≡ defaulted (value_of ps name) (value_of ds name)
 value_of-defaults ps [] name = refl
 value_of-defaults ps (d ∷ ds) name =
     value_of-cons (with_default ps d) (map (with_default ps) ds) name
@@ -72,7 +72,7 @@ pick_either : (b : Bool) (v : List ℕ) (o p : Option (List ℕ)) → pick b v (
 pick_either true v o p = refl
 pick_either false v o p = refl
 
-value_of-append : (ps qs : List Pair) (name : List ℕ) → value_of (ps ++ qs) name ≡ either_of (value_of ps name) (value_of qs name)
+pub value_of-append : (ps qs : List Pair) (name : List ℕ) → value_of (ps ++ qs) name ≡ either_of (value_of ps name) (value_of qs name)
 value_of-append [] qs name = refl
 value_of-append (p ∷ ps) qs name =
     value_of-cons p (ps ++ qs) name ∙ ap (pick (bytes_eq p.name name) p.value) (value_of-append ps qs name)
@@ -88,15 +88,15 @@ is_named p ps name =
     ap is_some (value_of-cons p ps name) ∙ some_pick (bytes_eq p.name name) p.value (value_of ps name)
     ∙ ap (λ b. b || is_some (value_of ps name)) (bytes_eq-sym p.name name)
 
-abbrev any_named : List ℕ → List Pair → Bool
+abbrev pub any_named : List ℕ → List Pair → Bool
 any_named name [] = false
 any_named name (p ∷ ps) = bytes_eq name p.name || any_named name ps
 
-any_named-value : (name : List ℕ) (ps : List Pair) → any_named name ps ≡ is_some (value_of ps name)
+pub any_named-value : (name : List ℕ) (ps : List Pair) → any_named name ps ≡ is_some (value_of ps name)
 any_named-value name [] = refl
 any_named-value name (p ∷ ps) = ap (λ b. bytes_eq name p.name || b) (any_named-value name ps) ∙ sym (is_named p ps name)
 
-or_seven : (a b c d e f g : Bool) → (a || b || c || d || e || f || g) ≡ (a || (b || (c || (d || (e || (f || (g || false)))))))
+pub or_seven : (a b c d e f g : Bool) → (a || b || c || d || e || f || g) ≡ (a || (b || (c || (d || (e || (f || (g || false)))))))
 or_seven true b c d e f g = refl
 or_seven false true c d e f g = refl
 or_seven false false true d e f g = refl

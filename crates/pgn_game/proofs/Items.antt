@@ -86,7 +86,7 @@ pub placed-append : (start : Parts) (ls : Levels) (xs ys : List Item) → placed
 placed-append start ls [] ys = refl
 placed-append start ls (x ∷ xs) ys = ap (λ l. record { position = here start ls; depth = depth ls; item = x } ∷ l) (placed-append start (levels_after ls x) xs ys)
 
-filter-append : {A : Type 0} (p : A → Bool) (xs ys : List A) → filter p (xs ++ ys) ≡ filter p xs ++ filter p ys
+pub filter-append : {A : Type 0} (p : A → Bool) (xs ys : List A) → filter p (xs ++ ys) ≡ filter p xs ++ filter p ys
 filter-append p [] ys = refl
 filter-append p (x ∷ xs) ys =
     elim (p x) as (λ v. cond v (x ∷ filter p (xs ++ ys)) (filter p (xs ++ ys)) ≡ cond v (x ∷ filter p xs) (filter p xs) ++ filter p ys) [
@@ -98,7 +98,7 @@ written-append : (mode : Mode) (xs ys : List Placed) → written_items mode (xs 
 written-append Full xs ys = refl
 written-append Reduced xs ys = filter-append is_main_move xs ys
 
-tokens_from-append : (b : Bool) (xs ys : List Placed) → tokens_from b (xs ++ ys) ≡ tokens_from b xs ++ tokens_from (ends_in_move b xs) ys
+pub tokens_from-append : (b : Bool) (xs ys : List Placed) → tokens_from b (xs ++ ys) ≡ tokens_from b xs ++ tokens_from (ends_in_move b xs) ys
 tokens_from-append b [] ys = refl
 tokens_from-append b (x ∷ xs) ys =
     ap (λ l. tokens_at b x.position x.item ++ l) (tokens_from-append (is_move x.item) xs ys)

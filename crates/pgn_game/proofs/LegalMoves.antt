@@ -98,7 +98,7 @@ more_items pairs items more h k =
 
 module _ (one_read : ReadsTheOne) where
   -- what a text names is legal
-  named_is_legal : (p : Parts) (s : List ℕ) (x : Played) → move_of p s ≡ Some (Ok x)
+  pub named_is_legal : (p : Parts) (s : List ℕ) (x : Played) → move_of p s ≡ Some (Ok x)
       → legal p x.mv ≡ Some x.next
   unfolding move_of
   named_is_legal p s x e = by_form (form_of s) e

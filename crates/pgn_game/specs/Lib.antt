@@ -27,3 +27,5 @@ pub mod Laws
 pub mod MovesAreLegal
 pub mod Spells
 pub mod UniqueReading
+pub mod Filled
+pub mod FixedPoint

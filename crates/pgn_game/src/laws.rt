@@ -1,10 +1,16 @@
 //! Laws of the definitions that the contracts cite. The functions do nothing.
 ghost use Rattle.pgn_game.specs.Laws as laws;
 ghost use Rattle.pgn_game.specs.MovesAreLegal as legality;
+ghost use Rattle.pgn_game.specs.FixedPoint as fixed;
 ghost use Rattle.pgn_game.specs.UniqueReading as unique;
 
-use chess_text::laws::the_one_move_is_read;
-use pgn_lexer::tokens_rise;
+use chess_rules::laws::a_legal_move_leaves_a_position;
+use chess_text::laws::{
+    a_written_move_is_a_symbol, a_written_move_is_read_as_itself, reading_is_spelling,
+    the_one_move_is_read,
+};
+use pgn_layout::lines_keep_tokens;
+use pgn_lexer::{numbers_are_symbols, tokens_are_sound, tokens_rise, written_tokens_are_read_back};
 
 /// What must be written by now for some tokens is a front of what must be for these and more.
 pub fn due_grows()
@@ -25,4 +31,23 @@ pub fn moves_are_legal()
     ensures { legality.MovesAreLegal }
 {
     the_one_move_is_read();
+}
+
+/// The export text of games is read back as these games with their defaults filled in.
+///
+/// The games are those of some text, within the same numbers of pairs and variations, and the tag
+/// section of each has no more lines than a game may have pairs: at least the seven of the roster.
+/// In the reduced format the games are cut down to what is written (PGN 3.2.4).
+pub fn text_spells()
+    ensures { fixed.TextSpells }
+{
+    the_one_move_is_read();
+    a_legal_move_leaves_a_position();
+    a_written_move_is_a_symbol();
+    a_written_move_is_read_as_itself();
+    numbers_are_symbols();
+    reading_is_spelling();
+    lines_keep_tokens();
+    tokens_are_sound();
+    written_tokens_are_read_back();
 }
