@@ -127,7 +127,7 @@ is_the_end tokens.comment_close h = absurd (cc)
 is_the_end tokens.end h = refl
 is_the_end (tokens.refused r) h = absurd (cc)
 
-end_passes : (p : Profile) (b : Begun) (k : Kind) → is_end k ≡ true → refusal p b.part k ≡ None → (begun_with b.games (next b.part k)).part.stage ≡ Between
+pub end_passes : (p : Profile) (b : Begun) (k : Kind) → is_end k ≡ true → refusal p b.part k ≡ None → (begun_with b.games (next b.part k)).part.stage ≡ Between
 end_passes p b k e none =
     let k_is = is_the_end k e in
     subst (λ j. (begun_with b.games (next b.part j)).part.stage ≡ Between) (sym k_is)

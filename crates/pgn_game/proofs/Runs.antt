@@ -44,10 +44,10 @@ passed : (p : Profile) (b : Begun) (t : Token) (ts : List Token) (o : Option Rea
 passed p b t ts (Some reason) e = absurd (cc)
 passed p b t ts None e = refl
 
-first_passes : (p : Profile) (b : Begun) (t : Token) (ts : List Token) → (read_from p b (t ∷ ts)).fault ≡ None → refusal p b.part t.kind ≡ None
+pub first_passes : (p : Profile) (b : Begun) (t : Token) (ts : List Token) → (read_from p b (t ∷ ts)).fault ≡ None → refusal p b.part t.kind ≡ None
 first_passes p b t ts e = passed p b t ts (refusal p b.part t.kind) (ap (λ (r : Read). r.fault) (sym (read_from-test p b t ts)) ∙ e)
 
-goes_on : (p : Profile) (b : Begun) (t : Token) (ts : List Token) → refusal p b.part t.kind ≡ None → read_from p b (t ∷ ts) ≡ read_from p (begun_after b t) ts
+pub goes_on : (p : Profile) (b : Begun) (t : Token) (ts : List Token) → refusal p b.part t.kind ≡ None → read_from p b (t ∷ ts) ≡ read_from p (begun_after b t) ts
 goes_on p b t ts none = read_from-test p b t ts ∙ ap (after_test p b t ts) none
 
 -- From reading to the relation.

@@ -21,7 +21,7 @@ use Rattle.pgn_game.specs.Converting as converting
 use Rattle.pgn_game.proofs.Growing.{torn-none, gains_none, gains_more, stops_more, stops_from}
 use Rattle.pgn_game.proofs.OneToken.{still_none-none}
 
-verdict_passes : (r : Read) → r.fault ≡ None → verdict_of r ≡ totals (record { games = length r.begun.games; plies = sum (map plies_of r.begun.games) })
+pub verdict_passes : (r : Read) → r.fault ≡ None → verdict_of r ≡ totals (record { games = length r.begun.games; plies = sum (map plies_of r.begun.games) })
 verdict_passes r e = ap (λ (o : Option Fault). elim o [ Some f ↦ is_refused f | None ↦ totals (record { games = length r.begun.games; plies = sum (map plies_of r.begun.games) }) ]) e
 
 verdict_refused : (r : Read) (f : Fault) → r.fault ≡ Some f → verdict_of r ≡ is_refused f

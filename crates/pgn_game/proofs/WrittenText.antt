@@ -68,7 +68,8 @@ abbrev pub InPlaceOf : List Kind → List Kind → Type 0
 InPlaceOf js ks =
     (c : Bool) (more then : List Kind) → ((d : Bool) → CommentsClose d more → CommentsClose d then) → CommentsClose c (ks ++ more) → CommentsClose c (js ++ then)
 
--- The kinds of these tokens, as they are put on lines, spell the items, in the place of the kinds that did.
+-- The kinds of these tokens, as they are put on lines, spell the items, in the place of the kinds
+-- that did.
 pub record Rewritten (p : Profile) (first : Parts) (deep : ℕ) (l : Level) (ks : List Kind) (items : List Item) (ts : List (List ℕ)) : Type 0 where
   pub kinds : List Kind
   pub spells : SpellsText p first deep l kinds items

@@ -1,14 +1,19 @@
 -- **Definition.** Export is a normal form: the text of games is read back as these games with their
 -- defaults filled in, and exporting it again changes nothing.
-use Rattle.std.specs.Prelude.{◌≡◌, ◌↔◌, ℕ, ◌≤◌, List, length, map, sum}
+use Rattle.std.specs.Prelude.{◌≡◌, ◌↔◌, ◌⊎◌, ℕ, ◌≤◌, ◌^◌, List, length, map, sum, Option, Some, Result, Ok, Err}
 use Rattle.std.specs.List.{AllByRecursion}
+use Rattle.std.specs.Io.KnownBytes.{Appends}
 use Rattle.pgn_lexer.specs.TokensOf.{tokens_of}
+use Rattle.pgn_game.specs.declared.reason.Fault.{Fault}
+use Rattle.pgn_game.specs.declared.reason.Reason.TheVariants.{ReadFault, WriteFault}
+use Rattle.pgn_game.specs.declared.whole.Totals.{Totals}
 use Rattle.pgn_game.specs.Profile.{Profile}
 use Rattle.pgn_game.specs.Game.{Game}
 use Rattle.pgn_game.specs.Here.{plies_of}
 use Rattle.pgn_game.specs.Text.{text_of}
-use Rattle.pgn_game.specs.Begun.{output, verdict, totals}
+use Rattle.pgn_game.specs.Begun.{Counted, output, verdict, totals}
 use Rattle.pgn_game.specs.Spells.{Spells}
+use Rattle.pgn_game.specs.Converting.{Converts, ConvertsSlice}
 use Rattle.pgn_game.specs.Filled.{exported_pairs, filled}
 
 -- The tag section that is written has no more lines than a game may have pairs.
@@ -33,9 +38,41 @@ abbrev pub SameText : Type 0
 SameText = (p : Profile) (gs hs : List Game) → AreExportable p gs → AreExportable p hs
     → (text_of p gs ≡ text_of p hs) ↔ (map (filled p.mode) gs ≡ map (filled p.mode) hs)
 
--- Converting an export text writes the same text, without a fault: it has as many games and moves.
+-- how many games, and how many moves outside variations they have together
+abbrev pub counted : List Game → Counted
+counted gs = record { games = length gs; plies = sum (map plies_of gs) }
+
+-- Converting an export text writes the same text, without a fault, and counts as many games and
+-- moves.
 abbrev pub FixedPoint : Type 0
 FixedPoint = (p : Profile) (gs : List Game) → AreExportable p gs
-    → (output p (text_of p gs) ≡ text_of p gs)
-    × (verdict p (text_of p gs)
-    ≡ totals (record { games = length gs; plies = sum (map plies_of gs) }))
+    → (output p (text_of p gs) ≡ text_of p gs) × (verdict p (text_of p gs) ≡ totals (counted gs))
+
+-- These totals are those of the games, and their export text was written.
+abbrev pub IsWrittenAgain : Profile → List Game → Totals → Option (List ℕ) → Option (List ℕ) → Type 0
+IsWrittenAgain p gs t before after =
+    (t.games ≡ length gs) × (t.plies ≡ sum (map plies_of gs)) × Appends before after (text_of p gs)
+
+-- A conversion of the export text of games, with the numbers and the mode that it was made with,
+-- writes the same text. It fails only where a write fails.
+abbrev pub SliceIsKept : Profile → List Game → Result Totals Fault → Option (List ℕ) → Option (List ℕ) → Type 0
+SliceIsKept p gs (Ok t) before after = IsWrittenAgain p gs t before after
+SliceIsKept p gs (Err f) before after = f.reason ≡ WriteFault
+
+-- the same, from a source: it may fail where a read fails too
+abbrev pub SourceIsKept : Profile → List Game → Result Totals Fault → Option (List ℕ) → Option (List ℕ) → Type 0
+SourceIsKept p gs (Ok t) before after = IsWrittenAgain p gs t before after
+SourceIsKept p gs (Err f) before after = (f.reason ≡ ReadFault) ⊎ (f.reason ≡ WriteFault)
+
+-- So the contract of `convert_slice` says of an export text of at most 2^62 bytes.
+abbrev pub ExportIsKept : Type 0
+ExportIsKept = (p : Profile) (gs : List Game) (r : Result Totals Fault) (before after : Option (List ℕ))
+    → AreExportable p gs → length (text_of p gs) ≤ 2 ^ 62
+    → ConvertsSlice p (text_of p gs) r before after → SliceIsKept p gs r before after
+
+-- And so the contract of `convert` says, where the source has such a text left.
+abbrev pub ExportIsKeptOfSource : Type 0
+ExportIsKeptOfSource = (p : Profile) (gs : List Game) (r : Result Totals Fault)
+    (left_old left_new before after : Option (List ℕ))
+    → AreExportable p gs → length (text_of p gs) ≤ 2 ^ 62 → left_old ≡ Some (text_of p gs)
+    → Converts p left_old left_new r before after → SourceIsKept p gs r before after

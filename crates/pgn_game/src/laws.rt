@@ -51,3 +51,54 @@ pub fn text_spells()
     tokens_are_sound();
     written_tokens_are_read_back();
 }
+
+/// Two lists of games have the same export text exactly if they are the same games, once their
+/// defaults are filled in. So a difference of exports is a difference of games.
+pub fn same_text()
+    ensures { fixed.SameText }
+{
+    the_one_move_is_read();
+    a_legal_move_leaves_a_position();
+    a_written_move_is_a_symbol();
+    a_written_move_is_read_as_itself();
+    numbers_are_symbols();
+    reading_is_spelling();
+    lines_keep_tokens();
+    tokens_are_sound();
+    written_tokens_are_read_back();
+    tokens_rise();
+    unique_reading();
+}
+
+/// Exporting an export changes nothing: the output for an export text is this text, and there is no
+/// fault.
+///
+/// This holds with the mode and the numbers of pairs and variations that the export was made with.
+/// As many games and moves are counted.
+pub fn fixed_point()
+    ensures { fixed.FixedPoint }
+{
+    the_one_move_is_read();
+    a_legal_move_leaves_a_position();
+    a_written_move_is_a_symbol();
+    a_written_move_is_read_as_itself();
+    numbers_are_symbols();
+    reading_is_spelling();
+    lines_keep_tokens();
+    tokens_are_sound();
+    written_tokens_are_read_back();
+    tokens_rise();
+    unique_reading();
+}
+
+/// What `convert_slice` and `convert` do with an export text of at most 2^62 bytes, by their
+/// contracts: they write it again as it is, and answer its numbers of games and moves.
+///
+/// They fail only where a device fails, with `Reason::WriteFault` or, from a source,
+/// `Reason::ReadFault`.
+pub fn an_export_is_kept()
+    ensures slice { fixed.ExportIsKept }
+    ensures source { fixed.ExportIsKeptOfSource }
+{
+    fixed_point();
+}

@@ -1,0 +1,8 @@
+use Rattle.pgn_game.proofs.ExportAgain as again
+use Rattle.pgn_game.proofs.laws.an_export_is_kept.Goals as goal
+
+pub returns-clause-slice : goal.returns-clause-slice
+returns-clause-slice c = again.slice_is_kept c.fixed_point.ensures
+
+pub returns-clause-source : goal.returns-clause-source
+returns-clause-source c = again.source_is_kept c.fixed_point.ensures
