@@ -1,5 +1,5 @@
 -- An export text is read as its games with their defaults filled in, so it is written again as it is.
-use Rattle.std.proofs.Common.{◌≡◌, ℕ, ◌+◌, ◌≤◌, ◌^◌, inl, inr, true, List, [], ◌∷◌, ◌++◌, length, map, refl, sym, ap, subst, ◌∙◌, arith, length-append, append-nil, Option, None, Some}
+use Rattle.std.proofs.Common.{◌≡◌, ℕ, ◌≤◌, ◌^◌, inl, inr, true, List, [], ◌∷◌, ◌++◌, length, map, refl, sym, ap, subst, ◌∙◌, arith, length-append, append-nil, Option, None, Some}
 use Rattle.std.specs.Prelude.{sum, IfSome, Ok, Err}
 use Rattle.std.specs.Io.KnownBytes.{Appends, Consumes}
 use Rattle.std.proofs.lemmas.List.{length-map}
@@ -20,7 +20,7 @@ use Rattle.pgn_game.specs.Game.{Game, Part}
 use Rattle.pgn_game.specs.Here.{plies_of}
 use Rattle.pgn_game.specs.Profile.{Profile}
 use Rattle.pgn_game.specs.Spells.{Spells}
-use Rattle.pgn_game.specs.Text.{text_of, torn}
+use Rattle.pgn_game.specs.Text.{text_of}
 use Rattle.pgn_game.specs.UniqueReading.{UniqueReading}
 use Rattle.pgn_game.proofs.AtEnd.{end_passes}
 use Rattle.pgn_game.proofs.Pairing.{no_torn}

@@ -12,6 +12,7 @@ mod ExportedGames
 mod ExportedPairs
 mod ExportedText
 mod Exporting
+mod FilledRows
 mod Growing
 mod HeldLevels
 mod InPiece

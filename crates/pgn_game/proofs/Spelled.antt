@@ -16,16 +16,16 @@ use Rattle.pgn_game.specs.Spells.{Spells, SpellsText, Names, pair, no_pair, next
 use Rattle.pgn_game.proofs.Runs.{kinds, runs_as_read}
 use Rattle.pgn_game.proofs.Spelling.{games_run}
 
-abbrev plain : Profile
+abbrev pub plain : Profile
 plain = record { tags = 64; depth = 32; mode = Full; missing_result = counts_as_unknown }
 
-abbrev game : List Pair → List Item → Game
+abbrev pub game : List Pair → List Item → Game
 game ps items = record { pairs = ps; items = items; marker = codes "*" }
 
 no_input : Spells plain (tokens_of []) []
 no_input = no_game [] refl
 
-marker_alone : Spells plain (tokens_of (codes "*")) (game [] [] ∷ [])
+pub marker_alone : Spells plain (tokens_of (codes "*")) (game [] [] ∷ [])
 marker_alone = next_game (tokens.asterisk ∷ []) (tokens.end ∷ []) (game [] []) [] (record {
   before = [];
   tags = [];

@@ -49,25 +49,28 @@ FixedPoint = (p : Profile) (gs : List Game) → AreExportable p gs
     → (output p (text_of p gs) ≡ text_of p gs) × (verdict p (text_of p gs) ≡ totals (counted gs))
 
 -- These totals are those of the games, and their export text was written.
-abbrev pub IsWrittenAgain : Profile → List Game → Totals → Option (List ℕ) → Option (List ℕ) → Type 0
+abbrev pub IsWrittenAgain : Profile → List Game → Totals → Option (List ℕ) → Option (List ℕ)
+    → Type 0
 IsWrittenAgain p gs t before after =
     (t.games ≡ length gs) × (t.plies ≡ sum (map plies_of gs)) × Appends before after (text_of p gs)
 
 -- A conversion of the export text of games, with the numbers and the mode that it was made with,
 -- writes the same text. It fails only where a write fails.
-abbrev pub SliceIsKept : Profile → List Game → Result Totals Fault → Option (List ℕ) → Option (List ℕ) → Type 0
+abbrev pub SliceIsKept : Profile → List Game → Result Totals Fault → Option (List ℕ)
+    → Option (List ℕ) → Type 0
 SliceIsKept p gs (Ok t) before after = IsWrittenAgain p gs t before after
 SliceIsKept p gs (Err f) before after = f.reason ≡ WriteFault
 
 -- the same, from a source: it may fail where a read fails too
-abbrev pub SourceIsKept : Profile → List Game → Result Totals Fault → Option (List ℕ) → Option (List ℕ) → Type 0
+abbrev pub SourceIsKept : Profile → List Game → Result Totals Fault → Option (List ℕ)
+    → Option (List ℕ) → Type 0
 SourceIsKept p gs (Ok t) before after = IsWrittenAgain p gs t before after
 SourceIsKept p gs (Err f) before after = (f.reason ≡ ReadFault) ⊎ (f.reason ≡ WriteFault)
 
 -- So the contract of `convert_slice` says of an export text of at most 2^62 bytes.
 abbrev pub ExportIsKept : Type 0
-ExportIsKept = (p : Profile) (gs : List Game) (r : Result Totals Fault) (before after : Option (List ℕ))
-    → AreExportable p gs → length (text_of p gs) ≤ 2 ^ 62
+ExportIsKept = (p : Profile) (gs : List Game) (r : Result Totals Fault)
+    (before after : Option (List ℕ)) → AreExportable p gs → length (text_of p gs) ≤ 2 ^ 62
     → ConvertsSlice p (text_of p gs) r before after → SliceIsKept p gs r before after
 
 -- And so the contract of `convert` says, where the source has such a text left.

@@ -24,7 +24,7 @@ abbrev two_deep : Profile
 two_deep = record { tags = 4; depth = 2; mode = Full; missing_result = counts_as_unknown }
 
 -- one game with so many moves outside variations
-abbrev played : ℕ → Verdict
+abbrev pub played : ℕ → Verdict
 played plies = totals (record { games = 1; plies = plies })
 
 one_move : Gives plain (codes "1. e4 *") (played 1) (head ++ codes "1. e4 *\n\n")

@@ -1,0 +1,191 @@
+-- Worked rows of games with their defaults filled in (PGN 3.2.4, 8.1.1, 9.7), of texts that are
+-- written again as they are, and of what goes wrong where a premise of the laws is missing.
+use Rattle.std.proofs.Common.{◌≡◌, ℕ, List, [], ◌∷◌, ◌++◌, refl, arith}
+use Rattle.std.specs.Prelude.{codes, replicate, None}
+use Rattle.std.specs.Fmt.{digits}
+use Rattle.chess_rules.specs.Square.{square, squares}
+use Rattle.chess_text.specs.Reads.{agreeing}
+use Rattle.pgn_lexer.specs.TokensOf.{tokens_of}
+use Rattle.pgn_lexer.specs.declared.token.LexReason.TheVariants as lexical
+use Rattle.pgn_game.specs.declared.mode.Mode.TheVariants.{Full, Reduced}
+use Rattle.pgn_game.specs.declared.reason.Reason.TheVariants.{Lexical, NotAMove, TooManyTags}
+use Rattle.pgn_game.specs.Profile.{Profile, counts_as_unknown, takes_the_marker}
+use Rattle.pgn_game.specs.Begun.{Verdict}
+use Rattle.pgn_game.specs.Chess.{first_position, position_of, move_of, text_of_move, play}
+use Rattle.pgn_game.specs.FaultTable.{refusal}
+use Rattle.pgn_game.specs.Filled.{filled}
+use Rattle.pgn_game.specs.FixedPoint.{TextSpells}
+use Rattle.pgn_game.specs.Game as games
+use Rattle.pgn_game.specs.Game.{Item, Game}
+use Rattle.pgn_game.specs.Pairs.{Pair}
+use Rattle.pgn_game.specs.Spells.{Spells}
+use Rattle.pgn_game.specs.TagSection.{roster}
+use Rattle.pgn_game.specs.Text.{text_of}
+use Rattle.pgn_game.proofs.MoveRows.{played}
+use Rattle.pgn_game.proofs.Rows.{plain, reduced, Gives, counted, fault, unknown, head}
+use Rattle.pgn_game.proofs.Spelled.{marker_alone}
+
+abbrev pair : List ℕ → List ℕ → Pair
+pair name value = record { name = name; value = value }
+
+abbrev game : List Pair → List Item → List ℕ → Game
+game pairs items marker = record { pairs = pairs; items = items; marker = marker }
+
+abbrev fen : Pair
+fen = pair (codes "FEN") (codes "4k3/8/8/8/8/8/8/4K3 w - - 0 1")
+
+abbrev checked : Profile
+checked = record { tags = 64; depth = 32; mode = Full; missing_result = takes_the_marker }
+
+-- The pairs of a game that has none, in the order of their names.
+no_pairs : filled Full (game [] [] (codes "*"))
+    ≡ game
+    (pair (codes "Black") (codes "?") ∷ pair (codes "Date") (codes "????.??.??")
+    ∷ pair (codes "Event") (codes "?") ∷ pair (codes "Result") (codes "*")
+    ∷ pair (codes "Round") (codes "?") ∷ pair (codes "Site") (codes "?")
+    ∷ pair (codes "White") (codes "?") ∷ []) [] (codes "*")
+unfolding roster
+no_pairs = refl
+
+-- A missing Result is the marker.
+marker_is_result : filled Full (game (pair (codes "White") (codes "A") ∷ []) [] (codes "1-0"))
+    ≡ game
+    (pair (codes "Black") (codes "?") ∷ pair (codes "Date") (codes "????.??.??")
+    ∷ pair (codes "Event") (codes "?") ∷ pair (codes "Result") (codes "1-0")
+    ∷ pair (codes "Round") (codes "?") ∷ pair (codes "Site") (codes "?")
+    ∷ pair (codes "White") (codes "A") ∷ []) [] (codes "1-0")
+unfolding roster
+marker_is_result = refl
+
+-- Beside a FEN there is SetUp 1, whatever the SetUp was.
+abbrev with_fen : List Pair
+with_fen =
+    pair (codes "Black") (codes "?") ∷ pair (codes "Date") (codes "????.??.??")
+    ∷ pair (codes "Event") (codes "?") ∷ fen ∷ pair (codes "Result") (codes "*")
+    ∷ pair (codes "Round") (codes "?") ∷ pair (codes "SetUp") (codes "1")
+    ∷ pair (codes "Site") (codes "?") ∷ pair (codes "White") (codes "?") ∷ []
+
+set_up_is_added : (filled Full (game (fen ∷ []) [] (codes "*"))).pairs ≡ with_fen
+unfolding roster
+set_up_is_added = refl
+
+set_up_is_mended :
+    (filled Full (game (fen ∷ pair (codes "SetUp") (codes "0") ∷ []) [] (codes "*"))).pairs
+    ≡ with_fen
+unfolding roster
+set_up_is_mended = refl
+
+-- Without a FEN it stays as it is.
+set_up_alone : (filled Full (game (pair (codes "SetUp") (codes "0") ∷ []) [] (codes "*"))).pairs
+    ≡ pair (codes "Black") (codes "?") ∷ pair (codes "Date") (codes "????.??.??")
+    ∷ pair (codes "Event") (codes "?") ∷ pair (codes "Result") (codes "*")
+    ∷ pair (codes "Round") (codes "?") ∷ pair (codes "SetUp") (codes "0")
+    ∷ pair (codes "Site") (codes "?") ∷ pair (codes "White") (codes "?") ∷ []
+unfolding roster
+set_up_alone = refl
+
+-- The game `1. e4 $1 {good} (1. d4) e5`: in the reduced format the roster and two moves are left.
+abbrev e4 : Item
+e4 = games.move (record { from = square 4 1; to = square 4 3; promotion = None })
+
+abbrev d4 : Item
+d4 = games.move (record { from = square 3 1; to = square 3 3; promotion = None })
+
+abbrev e5 : Item
+e5 = games.move (record { from = square 4 6; to = square 4 4; promotion = None })
+
+abbrev annotated : Game
+annotated =
+    game (pair (codes "ECO") (codes "C20") ∷ [])
+    (e4 ∷ games.glyph 1 ∷ games.comment_open ∷ games.word (codes "good") ∷ games.comment_close
+    ∷ games.open_variation ∷ d4 ∷ games.close_variation ∷ e5 ∷ []) (codes "*")
+
+all_items : (filled Full annotated).items ≡ annotated.items
+all_items = refl
+
+main_line : (filled Reduced annotated).items ≡ e4 ∷ e5 ∷ []
+main_line = refl
+
+roster_alone : (filled Reduced annotated).pairs ≡ (filled Full (game [] [] (codes "*"))).pairs
+unfolding roster
+roster_alone = refl
+
+-- Texts that are written again as they are.
+abbrev IsKept : Profile → Verdict → List ℕ → Type 0
+IsKept p v text = Gives p text v text
+
+kept_marker : IsKept plain (counted 1) (head ++ codes "*\n\n")
+unfolding refusal roster
+kept_marker = (refl, refl)
+
+kept_fen : IsKept plain (counted 1)
+    (unknown
+    ++ codes "[Result \"*\"]\n[FEN \"4k3/8/8/8/8/8/8/4K3 w - - 0 1\"]\n[SetUp \"1\"]\n\n*\n\n")
+unfolding refusal roster position_of squares
+kept_fen = (refl, refl)
+
+kept_movetext : IsKept plain (played 2) (head ++ codes "1. e4 $1 { good } ( 1. d4 ) 1... e5 *\n\n")
+unfolding refusal roster move_of play text_of_move first_position squares agreeing digits
+kept_movetext = (refl, refl)
+
+kept_main_line : IsKept reduced (played 2) (head ++ codes "1. e4 e5 *\n\n")
+unfolding refusal roster move_of play text_of_move first_position squares agreeing digits
+kept_main_line = (refl, refl)
+
+-- A word of 79 letters has a line of its own; a word may begin with %, at the start of a line too.
+kept_words : IsKept plain (counted 1)
+    (head ++ codes "{\n" ++ replicate 79 97 ++ codes "\n%b } { %c } *\n\n")
+unfolding refusal roster
+kept_words = (refl, refl)
+
+kept_result : IsKept checked (counted 1) (unknown ++ codes "[Result \"1-0\"]\n\n1-0\n\n")
+unfolding refusal roster
+kept_result = (refl, refl)
+
+-- Where a game may have fewer pairs than its tag section has lines, its text is refused.
+abbrev seven_pairs : Profile
+seven_pairs = record { tags = 7; depth = 0; mode = Full; missing_result = counts_as_unknown }
+
+abbrev eighth_line : List ℕ
+eighth_line = unknown ++ codes "[Result \"*\"]\n[A \"1\"]\n\n*\n\n"
+
+no_room : Gives seven_pairs (codes "[A \"1\"] *") (counted 1) eighth_line
+unfolding refusal roster
+no_room = (refl, refl)
+
+too_many : Gives seven_pairs eighth_line (fault 92 TooManyTags) []
+unfolding refusal roster
+too_many = (refl, refl)
+
+-- So are games that no text spells: with a name that begins with _, and a word outside comments.
+abbrev odd_name : Game
+odd_name = game (pair (codes "_a") (codes "1") ∷ []) [] (codes "*")
+
+odd_name_text :
+    text_of plain (odd_name ∷ []) ≡ unknown ++ codes "[Result \"*\"]\n[_a \"1\"]\n\n*\n\n"
+unfolding roster
+odd_name_text = refl
+
+odd_name_refused :
+    Gives plain (text_of plain (odd_name ∷ [])) (fault 93 (Lexical lexical.StrayByte)) []
+unfolding refusal roster
+odd_name_refused = (refl, refl)
+
+abbrev bare_word : Game
+bare_word = game [] (games.word (codes "a") ∷ []) (codes "*")
+
+bare_word_text : text_of plain (bare_word ∷ []) ≡ head ++ codes "a *\n\n"
+unfolding roster
+bare_word_text = refl
+
+bare_word_refused : Gives plain (text_of plain (bare_word ∷ [])) (fault 93 NotAMove) []
+unfolding refusal roster move_of
+bare_word_refused = (refl, refl)
+
+-- The law on one game: the text of the game that `*` spells spells the game with its defaults.
+by_law : TextSpells → Spells plain (tokens_of (head ++ codes "*\n\n"))
+    (filled Full (game [] [] (codes "*")) ∷ [])
+unfolding roster
+by_law law =
+    law plain (game [] [] (codes "*") ∷ [])
+    (record { source = codes "*"; spelled = marker_alone; room = (omega arith, tt) })
