@@ -12,7 +12,6 @@ mod ExportedGames
 mod ExportedPairs
 mod ExportedText
 mod Exporting
-mod FilledRows
 mod Growing
 mod HeldLevels
 mod InPiece
@@ -34,8 +33,8 @@ mod Refusing
 mod Runs
 mod Sections
 mod Sizes
-mod Spelled
 mod SpelledGames
+mod Spelled
 mod Spelling
 mod Stages
 mod Starting

@@ -1,4 +1,5 @@
 mod Drawn
+mod FilledRows
 mod LegalRows
 mod MoveRows
 mod PositionRows

@@ -5,6 +5,7 @@ use Rattle.std.specs.Prelude.{codes, replicate, None}
 use Rattle.std.specs.Fmt.{digits}
 use Rattle.chess_rules.specs.Square.{square, squares}
 use Rattle.chess_text.specs.Reads.{agreeing}
+use Rattle.pgn_lexer.specs.Tokens as tokens
 use Rattle.pgn_lexer.specs.TokensOf.{tokens_of}
 use Rattle.pgn_lexer.specs.declared.token.LexReason.TheVariants as lexical
 use Rattle.pgn_game.specs.declared.mode.Mode.TheVariants.{Full, Reduced}
@@ -18,12 +19,11 @@ use Rattle.pgn_game.specs.FixedPoint.{TextSpells}
 use Rattle.pgn_game.specs.Game as games
 use Rattle.pgn_game.specs.Game.{Item, Game}
 use Rattle.pgn_game.specs.Pairs.{Pair}
-use Rattle.pgn_game.specs.Spells.{Spells}
+use Rattle.pgn_game.specs.Spells.{Spells, no_pair, no_game, next_game, no_more, nothing_played}
 use Rattle.pgn_game.specs.TagSection.{roster}
 use Rattle.pgn_game.specs.Text.{text_of}
-use Rattle.pgn_game.proofs.MoveRows.{played}
-use Rattle.pgn_game.proofs.Rows.{plain, reduced, Gives, counted, fault, unknown, head}
-use Rattle.pgn_game.proofs.Spelled.{marker_alone}
+use Rattle.pgn_vectors.proofs.MoveRows.{played}
+use Rattle.pgn_vectors.proofs.WorkedRows.{plain, reduced, Gives, counted, fault, unknown, head}
 
 abbrev pair : List ℕ → List ℕ → Pair
 pair name value = record { name = name; value = value }
@@ -181,6 +181,28 @@ bare_word_text = refl
 bare_word_refused : Gives plain (text_of plain (bare_word ∷ [])) (fault 93 NotAMove) []
 unfolding refusal roster move_of
 bare_word_refused = (refl, refl)
+
+marker_alone : Spells plain (tokens_of (codes "*")) (game [] [] (codes "*") ∷ [])
+marker_alone =
+    next_game (tokens.asterisk ∷ []) (tokens.end ∷ []) (game [] [] (codes "*")) []
+    (record {
+      before = [];
+      tags = [];
+      text = [];
+      last = tokens.asterisk;
+      given = [];
+      tokens = refl;
+      dropped = refl;
+      pairs = no_pair;
+      keeps = record { count = omega arith; each = tt; distinct = tt };
+      sorted = refl;
+      set_up = λ e. absurd (cc);
+      bare = λ e. tt;
+      items = no_more 0 (nothing_played []);
+      marker = refl;
+      result = refl;
+    })
+    (no_game [] refl)
 
 -- The law on one game: the text of the game that `*` spells spells the game with its defaults.
 by_law : TextSpells → Spells plain (tokens_of (head ++ codes "*\n\n"))
