@@ -1,6 +1,6 @@
 -- An export text is read as its games with their defaults filled in, so it is written again as it is.
-use Rattle.std.proofs.Common.{◌≡◌, ℕ, ◌≤◌, ◌^◌, inl, inr, true, List, [], ◌∷◌, ◌++◌, length, map, refl, sym, ap, subst, ◌∙◌, arith, length-append, append-nil, Option, None, Some}
-use Rattle.std.specs.Prelude.{sum, IfSome, Ok, Err}
+use Rattle.std.proofs.Common.{◌≡◌, ℕ, ◌+◌, ◌≤◌, ◌^◌, inl, inr, Bool, true, false, cond, List, [], ◌∷◌, ◌++◌, length, map, refl, sym, ap, subst, ◌∙◌, arith, length-append, append-nil, Option, None, Some}
+use Rattle.std.specs.Prelude.{sum, IfSome, Ok, Err, filter, not, bytes_eq, codes}
 use Rattle.std.specs.Io.KnownBytes.{Appends, Consumes}
 use Rattle.std.proofs.lemmas.List.{length-map}
 use Rattle.pgn_lexer.specs.Laws.{IsLast, RisesTo, TokensRise}
@@ -15,10 +15,16 @@ use Rattle.pgn_game.specs.Converting.{FailsOn, Fails}
 use Rattle.pgn_game.specs.Converting as converting
 use Rattle.pgn_game.specs.FaultTable.{refusal, is_end}
 use Rattle.pgn_game.specs.Filled.{filled}
-use Rattle.pgn_game.specs.FixedPoint.{AreExportable, TextSpells, SameText, counted, IsWrittenAgain, SliceIsKept, SourceIsKept, FixedPoint, ExportIsKept, ExportIsKeptOfSource}
+use Rattle.pgn_game.specs.FixedPoint.{AreExportable, TextSpells, SameText, counted, IsWrittenAgain, SliceIsKept, SourceIsKept, FixedPoint, ExportIsKept, ExportIsKeptOfSource, games_in, IsExportable, ExportingTwice, SameOutput, FewPairsHaveRoom}
 use Rattle.pgn_game.specs.Game.{Game, Part}
 use Rattle.pgn_game.specs.Here.{plies_of}
+use Rattle.pgn_game.specs.declared.mode.Mode.{Mode}
+use Rattle.pgn_game.specs.declared.mode.Mode.TheVariants.{Full, Reduced}
+use Rattle.pgn_game.specs.Pairs.{Pair, has_pair}
 use Rattle.pgn_game.specs.Profile.{Profile}
+use Rattle.pgn_game.specs.TagSection.{roster, in_roster, roster_pairs, with_set_up, other_pairs, exported}
+use Rattle.pgn_game.proofs.Collecting.{length-insert}
+use Rattle.pgn_game.proofs.Exporting.{set_up, set_up_if, without_set_up}
 use Rattle.pgn_game.specs.Spells.{Spells}
 use Rattle.pgn_game.specs.Text.{text_of}
 use Rattle.pgn_game.specs.UniqueReading.{UniqueReading}
@@ -138,3 +144,62 @@ source_is_kept fixed p gs (Ok t) left_old left_new before after h short left don
     (some_text left_old (text_of p gs) (λ s. converting.IsTotalled p s t before after) left done)
 source_is_kept fixed p gs (Err f) left_old left_new before after h short left fails =
     source_fails p (text_of p gs) gs f left_old left_new before after (fixed p gs h).1 short left fails
+
+-- The same of inputs: each without a fault is the text of its games.
+module _ (unique : UniqueReading) (rise : TokensRise) where
+  spelled_in : (p : Profile) (s : List ℕ) → IsExportable p s → Spells p (tokens_of s) (games_in p s)
+  spelled_in p s h = (unique p s (games_in p s)).1 (h.no_fault, refl)
+
+  exportable : (p : Profile) (s : List ℕ) → IsExportable p s → AreExportable p (games_in p s)
+  exportable p s h = record { source = s; spelled = spelled_in p s h; room = h.room }
+
+  output_of : (p : Profile) (s : List ℕ) → IsExportable p s → output p s ≡ text_of p (games_in p s)
+  output_of p s h = output_is unique rise p s (games_in p s) (spelled_in p s h)
+
+  verdict_of_games : (p : Profile) (s : List ℕ) → IsExportable p s → verdict p s ≡ totals (counted (games_in p s))
+  verdict_of_games p s h = verdict_is unique rise p s (games_in p s) (spelled_in p s h)
+
+  pub exporting_twice : FixedPoint → ExportingTwice
+  exporting_twice fixed p s h =
+      let again = fixed p (games_in p s) (exportable p s h) in
+      let out = output_of p s h in
+      (ap (output p) out ∙ again.0 ∙ sym out, ap (verdict p) out ∙ again.1 ∙ sym (verdict_of_games p s h))
+
+  pub same_output : SameText → SameOutput
+  same_output same p s t h k =
+      let texts = same p (games_in p s) (games_in p t) (exportable p s h) (exportable p t k) in (
+        λ e. texts.0 (sym (output_of p s h) ∙ e ∙ output_of p t k),
+        λ e. output_of p s h ∙ texts.1 e ∙ sym (output_of p t k),
+      )
+
+-- Room for tag lines.
+filter_shortens : (f : Pair → Bool) (ps : List Pair) → length (filter f ps) ≤ length ps
+filter_shortens f [] = omega arith
+filter_shortens f (p ∷ ps) =
+    let more = filter_shortens f ps in
+    elim (f p) as (λ b. length (cond b (p ∷ filter f ps) (filter f ps)) ≤ length (p ∷ ps)) [ true ↦ omega arith | false ↦ omega arith ]
+
+one_set_up : (ps : List Pair) → length (with_set_up ps) ≤ length ps + 1
+one_set_up ps =
+    elim (has_pair ps (codes "FEN")) as (λ b. length (set_up_if b ps) ≤ length ps + 1) [
+      | true ↦
+          let more = length-insert set_up (without_set_up ps) in
+          let fewer = filter_shortens (λ p. not (bytes_eq p.name (codes "SetUp"))) ps in
+          omega arith
+      | false ↦ omega arith
+    ]
+
+seven_lines : (m : List ℕ) (ps : List Pair) → length (roster_pairs m ps) ≡ 7
+unfolding roster
+seven_lines m ps = refl
+
+exported_length : (mode : Mode) (m : List ℕ) (ps : List Pair) → length (exported mode m ps) ≤ length ps + 8
+exported_length Full m ps =
+    let seven = seven_lines m ps in
+    let others = filter_shortens (λ p. not (in_roster p.name)) (with_set_up ps) in
+    let one = one_set_up ps in
+    omega (arith, length-append (roster_pairs m ps) (other_pairs (with_set_up ps)))
+exported_length Reduced m ps = let seven = seven_lines m ps in omega arith
+
+pub few_pairs_have_room : FewPairsHaveRoom
+few_pairs_have_room p g few = let lines = exported_length p.mode g.marker g.pairs in omega arith

@@ -1,6 +1,6 @@
 -- **Definition.** Export is a normal form: the text of games is read back as these games with their
 -- defaults filled in, and exporting it again changes nothing.
-use Rattle.std.specs.Prelude.{◌≡◌, ◌↔◌, ◌⊎◌, ℕ, ◌≤◌, ◌^◌, List, length, map, sum, Option, Some, Result, Ok, Err}
+use Rattle.std.specs.Prelude.{◌≡◌, ◌↔◌, ◌⊎◌, ℕ, ◌+◌, ◌≤◌, ◌^◌, List, length, map, sum, Option, None, Some, Result, Ok, Err}
 use Rattle.std.specs.List.{AllByRecursion}
 use Rattle.std.specs.Io.KnownBytes.{Appends}
 use Rattle.pgn_lexer.specs.TokensOf.{tokens_of}
@@ -11,7 +11,7 @@ use Rattle.pgn_game.specs.Profile.{Profile}
 use Rattle.pgn_game.specs.Game.{Game}
 use Rattle.pgn_game.specs.Here.{plies_of}
 use Rattle.pgn_game.specs.Text.{text_of}
-use Rattle.pgn_game.specs.Begun.{Counted, output, verdict, totals}
+use Rattle.pgn_game.specs.Begun.{Counted, read, output, verdict, totals}
 use Rattle.pgn_game.specs.Spells.{Spells}
 use Rattle.pgn_game.specs.Converting.{Converts, ConvertsSlice}
 use Rattle.pgn_game.specs.Filled.{exported_pairs, filled}
@@ -79,3 +79,31 @@ ExportIsKeptOfSource = (p : Profile) (gs : List Game) (r : Result Totals Fault)
     (left_old left_new before after : Option (List ℕ))
     → AreExportable p gs → length (text_of p gs) ≤ 2 ^ 62 → left_old ≡ Some (text_of p gs)
     → Converts p left_old left_new r before after → SourceIsKept p gs r before after
+
+-- The same, said of inputs.
+
+-- the games of an input
+abbrev pub games_in : Profile → List ℕ → List Game
+games_in p s = (read p (tokens_of s)).begun.games
+
+-- An input that is converted without a fault, and with room for the tag lines of each game.
+pub record IsExportable (p : Profile) (s : List ℕ) : Type 0 where
+  pub no_fault : (read p (tokens_of s)).fault ≡ None
+  pub room : AllByRecursion (HasRoom p) (games_in p s)
+
+-- The output for such an input is converted to itself, and ends as the input did.
+abbrev pub ExportingTwice : Type 0
+ExportingTwice = (p : Profile) (s : List ℕ) → IsExportable p s
+    → (output p (output p s) ≡ output p s) × (verdict p (output p s) ≡ verdict p s)
+
+-- Two such inputs have the same output exactly if their games are the same, with their defaults
+-- filled in.
+abbrev pub SameOutput : Type 0
+SameOutput = (p : Profile) (s t : List ℕ) → IsExportable p s → IsExportable p t
+    → (output p s ≡ output p t)
+    ↔ (map (filled p.mode) (games_in p s) ≡ map (filled p.mode) (games_in p t))
+
+-- There is room for the tag lines of a game with eight pairs fewer than a game may have: seven lines
+-- are the roster's, and one may be a SetUp.
+abbrev pub FewPairsHaveRoom : Type 0
+FewPairsHaveRoom = (p : Profile) (g : Game) → length g.pairs + 8 ≤ p.tags → HasRoom p g

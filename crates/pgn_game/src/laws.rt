@@ -96,9 +96,31 @@ pub fn fixed_point()
 ///
 /// They fail only where a device fails, with `Reason::WriteFault` or, from a source,
 /// `Reason::ReadFault`.
-pub fn an_export_is_kept()
+pub fn export_is_kept()
     ensures slice { fixed.ExportIsKept }
     ensures source { fixed.ExportIsKeptOfSource }
 {
     fixed_point();
 }
+
+/// Export is a normal form of inputs. Converting the output for an input once more changes nothing,
+/// and two inputs have the same output exactly if they have the same games.
+///
+/// The inputs are converted without a fault, in the same mode and with the same numbers of pairs
+/// and variations, and there is room for the tag lines of each game. Games are the same if they are
+/// so with their defaults filled in.
+pub fn exporting_twice()
+    ensures twice { fixed.ExportingTwice }
+    ensures same { fixed.SameOutput }
+{
+    tokens_rise();
+    unique_reading();
+    same_text();
+    fixed_point();
+}
+
+/// A game has room for its tag lines if it has eight pairs fewer than a game may have: the roster
+/// adds at most seven lines, and a FEN one.
+pub fn few_pairs_have_room()
+    ensures { fixed.FewPairsHaveRoom }
+{}

@@ -1,5 +1,5 @@
 use Rattle.pgn_game.proofs.ExportAgain as again
-use Rattle.pgn_game.proofs.laws.an_export_is_kept.Goals as goal
+use Rattle.pgn_game.proofs.laws.export_is_kept.Goals as goal
 
 pub returns-clause-slice : goal.returns-clause-slice
 returns-clause-slice c = again.slice_is_kept c.fixed_point.ensures
