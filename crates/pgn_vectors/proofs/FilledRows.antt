@@ -1,6 +1,6 @@
 -- Worked rows of games with their defaults filled in (PGN 3.2.4, 8.1.1, 9.7), of texts that are
 -- written again as they are, and of what goes wrong where a premise of the laws is missing.
-use Rattle.std.proofs.Common.{◌≡◌, ℕ, List, [], ◌∷◌, ◌++◌, refl, arith}
+use Rattle.std.proofs.Common.{◌≡◌, ℕ, List, [], ◌∷◌, ◌++◌, length, refl, arith}
 use Rattle.std.specs.Prelude.{codes, replicate, None}
 use Rattle.std.specs.Fmt.{digits}
 use Rattle.chess_rules.specs.Square.{square, squares}
@@ -11,11 +11,12 @@ use Rattle.pgn_lexer.specs.declared.token.LexReason.TheVariants as lexical
 use Rattle.pgn_game.specs.declared.mode.Mode.TheVariants.{Full, Reduced}
 use Rattle.pgn_game.specs.declared.reason.Reason.TheVariants.{Lexical, NotAMove, TooManyTags}
 use Rattle.pgn_game.specs.Profile.{Profile, counts_as_unknown, takes_the_marker}
-use Rattle.pgn_game.specs.Begun.{Verdict}
+use Rattle.pgn_game.specs.declared.reason.Fault.{Fault}
+use Rattle.pgn_game.specs.Begun.{Counted, Verdict, refused, totals, output, verdict}
 use Rattle.pgn_game.specs.Chess.{first_position, position_of, move_of, text_of_move, play}
 use Rattle.pgn_game.specs.FaultTable.{refusal}
-use Rattle.pgn_game.specs.Filled.{filled}
-use Rattle.pgn_game.specs.FixedPoint.{TextSpells}
+use Rattle.pgn_game.specs.Filled.{exported_pairs, filled}
+use Rattle.pgn_game.specs.FixedPoint.{HasRoom, AreExportable, TextSpells, FixedPoint, IsExportable, ExportingTwice, FewPairsHaveRoom}
 use Rattle.pgn_game.specs.Game as games
 use Rattle.pgn_game.specs.Game.{Item, Game}
 use Rattle.pgn_game.specs.Pairs.{Pair}
@@ -182,6 +183,58 @@ bare_word_refused : Gives plain (text_of plain (bare_word ∷ [])) (fault 93 Not
 unfolding refusal roster move_of
 bare_word_refused = (refl, refl)
 
+-- So no count of games is answered for them.
+not_kept : (p : Profile) (s : List ℕ) (f : Fault) (c : Counted) → verdict p s ≡ refused f
+    → verdict p s ≡ totals c → ⊥
+not_kept p s f c e h = cc
+
+no_room_not_kept : (c : Counted) → verdict seven_pairs eighth_line ≡ totals c → ⊥
+no_room_not_kept c = not_kept seven_pairs eighth_line _ c too_many.0
+
+odd_name_not_kept : (c : Counted) → verdict plain (text_of plain (odd_name ∷ [])) ≡ totals c → ⊥
+odd_name_not_kept c = not_kept plain (text_of plain (odd_name ∷ [])) _ c odd_name_refused.0
+
+bare_word_not_kept : (c : Counted) → verdict plain (text_of plain (bare_word ∷ [])) ≡ totals c → ⊥
+bare_word_not_kept c = not_kept plain (text_of plain (bare_word ∷ [])) _ c bare_word_refused.0
+
+-- Seven lines are always written, so fewer than seven pairs are too few for any game.
+abbrev six_pairs : Profile
+six_pairs = record { tags = 6; depth = 0; mode = Reduced; missing_result = counts_as_unknown }
+
+six_are_few : Gives six_pairs (codes "*") (counted 1) (head ++ codes "*\n\n")
+unfolding refusal roster
+six_are_few = (refl, refl)
+
+seventh_line : Gives six_pairs (head ++ codes "*\n\n") (fault 79 TooManyTags) []
+unfolding refusal roster
+seventh_line = (refl, refl)
+
+-- A FEN alone has nine lines: the roster, itself and its SetUp.
+abbrev eight_pairs : Profile
+eight_pairs = record { tags = 8; depth = 0; mode = Full; missing_result = counts_as_unknown }
+
+nine_lines : length (exported_pairs Full (game (fen ∷ []) [] (codes "*"))) ≡ 9
+unfolding roster
+nine_lines = refl
+
+no_room_for_nine : HasRoom eight_pairs (game (fen ∷ []) [] (codes "*")) → ⊥
+no_room_for_nine h = let nine = nine_lines in absurd (omega arith)
+
+-- Games that have the same text: a default may be written out; in the reduced format the other
+-- pairs, glyphs, comments and variations make no difference.
+default_written_out : filled Full (game [] [] (codes "*"))
+    ≡ filled Full (game (pair (codes "White") (codes "?") ∷ []) [] (codes "*"))
+unfolding roster
+default_written_out = refl
+
+same_in_reduced : filled Reduced annotated ≡ filled Reduced (game [] (e4 ∷ e5 ∷ []) (codes "*"))
+unfolding roster
+same_in_reduced = refl
+
+same_output : output plain (codes "[White \"?\"] *") ≡ output plain (codes "*")
+unfolding refusal roster
+same_output = refl
+
 marker_alone : Spells plain (tokens_of (codes "*")) (game [] [] (codes "*") ∷ [])
 marker_alone =
     next_game (tokens.asterisk ∷ []) (tokens.end ∷ []) (game [] [] (codes "*")) []
@@ -204,10 +257,27 @@ marker_alone =
     })
     (no_game [] refl)
 
--- The law on one game: the text of the game that `*` spells spells the game with its defaults.
-by_law : TextSpells → Spells plain (tokens_of (head ++ codes "*\n\n"))
+-- The laws on one game, that of `*`.
+alone : AreExportable plain (game [] [] (codes "*") ∷ [])
+unfolding roster
+alone = record { source = codes "*"; spelled = marker_alone; room = (omega arith, tt) }
+
+spells_by_law : TextSpells → Spells plain (tokens_of (head ++ codes "*\n\n"))
     (filled Full (game [] [] (codes "*")) ∷ [])
 unfolding roster
-by_law law =
-    law plain (game [] [] (codes "*") ∷ [])
-    (record { source = codes "*"; spelled = marker_alone; room = (omega arith, tt) })
+spells_by_law law = law plain (game [] [] (codes "*") ∷ []) alone
+
+kept_by_law : FixedPoint → IsKept plain (counted 1) (head ++ codes "*\n\n")
+unfolding roster
+kept_by_law law = let h = law plain (game [] [] (codes "*") ∷ []) alone in (h.1, h.0)
+
+read_well : IsExportable plain (codes "*")
+unfolding refusal roster
+read_well = record { no_fault = refl; room = (omega arith, tt) }
+
+twice_by_law : ExportingTwice → output plain (output plain (codes "*")) ≡ head ++ codes "*\n\n"
+unfolding refusal roster
+twice_by_law law = (law plain (codes "*") read_well).0
+
+room_by_law : FewPairsHaveRoom → HasRoom eight_pairs (game [] [] (codes "*"))
+room_by_law law = law eight_pairs (game [] [] (codes "*")) (omega arith)
