@@ -135,6 +135,13 @@ class FmtTest(unittest.TestCase):
         self.check(self.call("--diff", "bad.pgn"), 1, b"",
                    b"pgn_fmt: bad.pgn: byte 15: not a move\n")
 
+    def test_checked_is_handed_on(self):
+        # it stands for a program that has the flag
+        self.write("program", b'#!/bin/sh\n[ "$1 $2" = "export --checked" ] && cat "$3"\n')
+        os.chmod(self.folder + "/program", 0o755)
+        self.check(self.call("--checked", "loose.pgn", program=self.folder + "/program"), 0, LOOSE)
+        self.assertEqual(self.call("--checked").returncode, 2)
+
     def test_errors(self):
         for words, status in ((["--check"], 2), (["--write"], 2), (["--diff"], 2),
                               (["--chek", "tidy.pgn"], 2),

@@ -1,7 +1,7 @@
 //! Each vector, in each way to convert it.
 use crate::tests::runs::{LONE_MARKER, Usual, agrees, converted, feed, finish, tables};
 use crate::{FAULTS, Vector, Verdict};
-use pgn_game::{Fault, Inlet, Outlet, Reason, Totals, convert};
+use pgn_game::{Fault, Inlet, Mode, Outlet, Reason, Totals, convert};
 use std::process::Abort;
 use std::test::Fail;
 
@@ -88,6 +88,18 @@ fn converts_each_output_to_itself(rt: HostRuntime) {
     for table in tables() {
         gives_itself(&rt, table, &mut text);
     }
+}
+
+// Two games as they are exported, each with the result that its Result tag says.
+const TWO_RESULTS: &[u8] =
+    b"[Event \"?\"]\n[Site \"?\"]\n[Date \"????.??.??\"]\n[Round \"?\"]\n[White \"?\"]\n[Black \"?\"]\n[Result \"1-0\"]\n\n1-0\n\n[Event \"?\"]\n[Site \"?\"]\n[Date \"????.??.??\"]\n[Round \"?\"]\n[White \"?\"]\n[Black \"?\"]\n[Result \"0-1\"]\n\n0-1\n\n".as_slice();
+
+#[test]
+fn converts_two_exported_results_to_themselves(rt: HostRuntime) {
+    let mut text = Vec::new(rt.alloc());
+    let run = converted(TWO_RESULTS, Mode::Full, &mut text);
+    assert!(rt; text.as_slice() == TWO_RESULTS);
+    assert!(rt; run.is_ok());
 }
 
 /// The result, which is that of the vector behind `* `, is a fault at the same token.
