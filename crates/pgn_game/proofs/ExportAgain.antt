@@ -1,4 +1,5 @@
--- An export text is read as its games with their defaults filled in, so it is written again as it is.
+-- An export text is read as its games with their defaults filled in, so it is written again as it
+-- is.
 use Rattle.std.proofs.Common.{◌≡◌, ℕ, ◌+◌, ◌≤◌, ◌^◌, inl, inr, Bool, true, false, cond, List, [], ◌∷◌, ◌++◌, length, map, refl, sym, ap, subst, ◌∙◌, arith, length-append, append-nil, Option, None, Some}
 use Rattle.std.specs.Prelude.{sum, IfSome, Ok, Err, filter, not, bytes_eq, codes}
 use Rattle.std.specs.Io.KnownBytes.{Appends, Consumes}

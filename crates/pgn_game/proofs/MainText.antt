@@ -1,5 +1,5 @@
--- The movetext that is written, of all items or of the moves outside variations: it spells the items
--- that are kept, and these are written in the same way again.
+-- The movetext that is written, of all items or of the moves outside variations: it spells the
+-- items that are kept, and these are written in the same way again.
 use Rattle.std.proofs.Common.{◌≡◌, ℕ, suc, ◌+◌, Bool, true, false, cond, List, [], ◌∷◌, ◌++◌, length, map, refl, sym, ap, subst, ◌∙◌, arith}
 use Rattle.std.specs.Prelude.{◌==◌, filter, fold, IsTrue}
 use Rattle.std.specs.List.{AllByRecursion}

@@ -103,7 +103,7 @@ SameOutput = (p : Profile) (s t : List ℕ) → IsExportable p s → IsExportabl
     → (output p s ≡ output p t)
     ↔ (map (filled p.mode) (games_in p s) ≡ map (filled p.mode) (games_in p t))
 
--- There is room for the tag lines of a game with eight pairs fewer than a game may have: seven lines
--- are the roster's, and one may be a SetUp.
+-- There is room for the tag lines of a game with eight pairs fewer than a game may have: seven
+-- lines are the roster's, and one may be a SetUp.
 abbrev pub FewPairsHaveRoom : Type 0
 FewPairsHaveRoom = (p : Profile) (g : Game) → length g.pairs + 8 ≤ p.tags → HasRoom p g

@@ -179,7 +179,8 @@ fn count_pairs(position: &Position) -> u32 {
     pairs
 }
 
-// The side to move is in check or not, and has a legal move or none; also with colours swapped, and mirrored.
+// The side to move is in check or not, and has a legal move or none; also with colours swapped, and
+// mirrored.
 fn assert_state(
     rt: &impl std::process::Abort,
     parts: &Parts,

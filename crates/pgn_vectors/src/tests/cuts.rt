@@ -29,7 +29,8 @@ fn cuts_tokens_of_more_than_one_byte(rt: HostRuntime) {
     }
 }
 
-/// The first bytes come to a front of the output, and with the end behind them to what they come to as a slice.
+/// The first bytes come to a front of the output, and with the end behind them to what they come to
+/// as a slice.
 fn ends_at(rt: &impl Abort, vector: &Vector, end: usize, text: &mut Vec<u8>, whole: &mut Vec<u8>) {
     let piece = vector.input.as_bytes().get(..end).unwrap_or_default();
     let mut converter = Usual::new(vector.mode);
