@@ -4,9 +4,10 @@
     bench/make_archive.py --games 20000 --style plain > plain.pgn
     bench/make_archive.py --games 20000 --style annotated > annotated.pgn
 
-The same arguments give the same bytes. The games are played here, by a player that looks one move ahead and likes
-captures, the centre and safe squares. A number of lines (--lines) is played, and each is used for many games, with other
-tags; an annotated line has comments, glyphs and variations, some of them nested.
+The same arguments give the same bytes. A small player of its own plays the games. It looks one move
+ahead, and likes captures, the centre and safe squares. It plays a number of lines (--lines), and
+each is used for many games, with other tags. An annotated line has comments, NAGs and variations,
+some of them nested.
 """
 import argparse
 import random
