@@ -202,8 +202,8 @@ fn near_attackers(board: &Board, by: Colour, target: Square) -> u64
         & board.of_colour(by)
 }
 
-// The rooks, bishops and queens of the colour that reach the target, were all squares between
-// empty.
+// The rooks, bishops and queens of the colour that would reach the target if all squares between
+// were empty.
 fn sliders(board: &Board, by: Colour, target: Square) -> u64
     ensures { Places result (masks.slides board.now by target) }
 {
@@ -220,7 +220,7 @@ pub(crate) fn sees(from: Square, to: Square) -> bool
     has(lines(to) | diagonals(to), from.index())
 }
 
-// Whether the piece on `from`, if there is one, attacks `to` where all squares between are empty.
+// Whether the piece on `from`, if there is one, attacks `to` if all squares between are empty.
 pub(crate) fn may_attack(board: &Board, from: Square, to: Square) -> bool
     ensures { result ≡ false → spec.attacks board.now from to ≡ false }
 {
@@ -249,7 +249,7 @@ pub(crate) fn is_attacked(board: &Board, by: Colour, target: Square) -> bool
     sliders != 0 && sliders & first_hits(board, target) != 0
 }
 
-// Whether the colour's one king, which stands there, is attacked.
+// Whether the colour's one king, on that square, is attacked.
 pub(crate) fn is_king_attacked(board: &Board, colour: Colour, king: Square) -> bool
     requires one { IsTrue (one_king board.now colour) }
     requires there { king ≡ walk.king_square colour board.now }

@@ -1,4 +1,4 @@
-//! The board: what stands on each of the 64 squares, in four words.
+//! The board: the piece on each of the 64 squares, in four words.
 
 ghost use Rattle.std.specs.Prelude.{◌≡◌, ◌<◌, ◌&&◌, is_some, length};
 ghost use Rattle.chess_rules.specs.Board as spec;
@@ -11,8 +11,8 @@ use crate::square::Square;
 use crate::word::{carried, has, with};
 use std::marker::Model;
 
-// Each square has a bit in each word: three bits of the code of the piece that stands there, and
-// whether it is black. Codes are pawn 1, knight 2, bishop 3, rook 4, queen 5, king 6; an empty
+// Each square has a bit in each word: three bits of the code of its piece, and whether the piece is
+// black. Codes are pawn 1, knight 2, bishop 3, rook 4, queen 5, king 6; an empty
 // square has no bit set.
 #[derive(Clone, Copy)]
 pub(crate) struct Board {
@@ -198,7 +198,7 @@ impl Board {
         };
     }
 
-    // Carries what stands on one square to another.
+    // Moves the content of one square to another.
     pub(crate) fn carry(&mut self, from: Square, to: Square)
         ensures { self.new ≡ spec.put (spec.put self.old from None) to (spec.at self.old from) }
     {
@@ -247,7 +247,7 @@ impl Board {
         board
     }
 
-    // What every board keeps; it does nothing.
+    // States the invariant of every board; it does nothing.
     pub(crate) fn has_all_cells(&self)
         ensures { length self.now ≡ 64 }
     {

@@ -16,10 +16,11 @@ use crate::square::Square;
 use crate::word::{lowest, with};
 use arrayvec::ArrayVec;
 
-/// The squares with a piece of that kind, of the side to move, that is the first piece on a rank, a
-/// file or a diagonal from the target, or for a knight a jump away.
+/// Returns the squares from which a piece of the kind, of the side to move, sees the target.
 ///
-/// From no other square has such a piece a legal move to the target.
+/// Such a piece is the first on a rank, a file or a diagonal from the target, or for a knight a
+/// jump away. From no other square has a piece of the kind a legal move to the target. There are at
+/// most 8, each once.
 pub fn origins(position: &Position, kind: Kind, target: Square) -> ArrayVec<Square, 8>
     ensures exactly { IsPermutation (candidates position.now kind target) result.items }
     ensures once { AllPairs ◌≢◌ result.items }
@@ -48,7 +49,7 @@ fn squares_of(set: u64) -> ArrayVec<Square, 8>
     squares
 }
 
-// The square, if a piece of the kind, of the side to move, stands there.
+// The square, if it has a piece of the kind, of the side to move.
 fn if_own(position: &Position, kind: Kind, square: Option<Square>) -> Option<Square>
     ensures { result ≡ spec.if_own position.now kind square }
 {
@@ -60,8 +61,8 @@ fn if_own(position: &Position, kind: Kind, square: Option<Square>) -> Option<Squ
     }
 }
 
-// The square the jump of that number away from the target, if a knight of the side to move stands
-// there.
+// The square that is the jump of that number away from the target, if it has a knight of the side
+// to move.
 pub(crate) fn origin_by(position: &Position, target: Square, jump: usize) -> Option<Square>
     requires { jump < 8 }
     ensures { result ≡ spec.origin_by position.now target (jump_numbered jump) }

@@ -1,4 +1,4 @@
-//! What stands on the squares, from a1, b1 to h8, as parts are handed in.
+//! Tests of the board of `Parts`: the content of each square, from a1, b1 to h8.
 
 ghost use Rattle.std.specs.Prelude.{◌≡◌, ◌<◌, IfSome, None, position};
 ghost use Rattle.std.specs.List.{list_any, range_with_len};
@@ -40,7 +40,7 @@ pub(crate) fn kings(contents: &[Option<Piece>; 64], colour: Colour) -> usize
         .count()
 }
 
-// The square of the colour's first king; a1 where there is none.
+// The square of the colour's first king; a1 if there is none.
 pub(crate) fn king_square(contents: &[Option<Piece>; 64], colour: Colour) -> Square
     ensures { result ≡ walk.king_square colour contents.now }
 {
@@ -50,7 +50,7 @@ pub(crate) fn king_square(contents: &[Option<Piece>; 64], colour: Colour) -> Squ
     }
 }
 
-// Where the colour's first king stands.
+// The place of the colour's first king.
 fn king_place(contents: &[Option<Piece>; 64], colour: Colour) -> Option<usize>
     ensures place { result ≡ position (spec.has_piece colour King) contents.now }
     ensures below { IfSome result (λ i. i < 64) }
@@ -60,7 +60,7 @@ fn king_place(contents: &[Option<Piece>; 64], colour: Colour) -> Option<usize>
         .position(|content| is_king_of(*content, colour))
 }
 
-// Whether a pawn stands on rank 1 or 8.
+// Whether a pawn is on rank 1 or 8.
 pub(crate) fn has_pawn_on_edge(contents: &[Option<Piece>; 64]) -> bool
     ensures { result ≡ pawn_on_edge contents.now }
 {

@@ -1,9 +1,11 @@
-//! Laws of the definitions of play: what the rules promise, whatever the position.
+//! Laws of the definitions of play: what the rules promise for all positions. The functions do
+//! nothing.
 
 ghost use Rattle.chess_rules.specs.Laws.{CandidatesComplete, CasesApart, FewCandidates, LeavesPosition, OneAfter, OneKing, PromotionsAlike};
 
-/// No move is a step in two ways: as a piece's, as a pawn's, en passant, or castling on either
-/// wing.
+/// No move is a step in two of the five ways.
+///
+/// The ways are a piece's step, a pawn's step, en passant, and castling on either wing.
 pub fn cases_are_apart()
     ensures { CasesApart }
 {}
@@ -13,14 +15,16 @@ pub fn one_position_after()
     ensures { OneAfter }
 {}
 
-/// A legal move leaves a position: no king is taken, each side keeps one, and no pawn comes to
-/// stand on rank 1 or 8.
+/// A legal move leads to a position.
+///
+/// No king is taken, each side keeps one, and no pawn arrives on rank 1 or 8.
 pub fn a_legal_move_leaves_a_position()
     ensures { LeavesPosition }
 {}
 
-/// The origin of each legal move, castling, en passant, double step and promotion included, is a
-/// candidate of its kind for its target.
+/// The origin of each legal move is a candidate of its kind for its target.
+///
+/// Castling, en passant, double steps and promotions are included.
 pub fn candidates_are_complete()
     ensures { CandidatesComplete }
 {}
@@ -30,12 +34,12 @@ pub fn candidates_are_few()
     ensures { FewCandidates }
 {}
 
-/// In a position a pair is legal with one promotion exactly if it is legal with each other one.
+/// In a position, a pair is legal with all four promotions or with none.
 pub fn promotions_are_alike()
     ensures { PromotionsAlike }
 {}
 
-/// In a position a king of one colour stands on one square alone.
+/// In a position, each side has its king on one square.
 pub fn one_king_a_side()
     ensures { OneKing }
 {}

@@ -10,9 +10,9 @@ use crate::position::{Move, Position};
 use crate::probes::Probes;
 use crate::step::is_step;
 
-/// The position after the move, exactly if it is legal. (FIDE Laws 3.10.1)
+/// Returns the position after the move, or `None` if the move is not legal. (FIDE Laws 3.10.1)
 ///
-/// It counts as one pair tried.
+/// This counts as one pair tried, and the count must have room for it.
 #[inline(always)]
 pub fn try_pair(position: &Position, mv: Move, probes: &mut Probes) -> Option<Position>
     requires { probes.old + 1 < 2 ^ 32 }
@@ -52,18 +52,18 @@ fn allows(position: &Position, mv: &Move) -> bool
     is_step(position, mv) && position.is_safe_after(mv)
 }
 
-/// Whether the king of the side to move is attacked. (FIDE Laws 3.9.1)
+/// Whether the king of the side to move is in check. (FIDE Laws 3.9.1)
 pub fn in_check(position: &Position) -> bool
     ensures { result ≡ spec.is_check position.now }
 {
     position.is_checked()
 }
 
-/// Whether the side to move has a legal move; without one it is mated or stalemated. (FIDE Laws
-/// 1.4, 5.1.1, 5.2.1)
+/// Whether the side to move has a legal move. (FIDE Laws 1.4, 5.1.1, 5.2.1)
 ///
-/// It counts the pairs that it tries: at most 1,024, and where no move is legal one for each kind,
-/// target and member of `origins`.
+/// Without one it is mated or stalemated. This counts the pairs that it tries: at most 1,024, and
+/// the count must have room for them. If no move is legal, it counts one for each kind, target and
+/// member of `origins`.
 pub fn has_legal_move(position: &Position, probes: &mut Probes) -> bool
     requires { probes.old + 1024 < 2 ^ 32 }
     ensures found { result ≡ spec.has_legal_move position.now }

@@ -1,6 +1,6 @@
 //! The rules of play: squares, pieces, positions, attacks and legality, by the FIDE Laws of Chess.
 //!
-//! No call takes memory.
+//! No call allocates.
 #![tactic(auto)]
 
 mod attack;

@@ -14,7 +14,7 @@ use crate::probes::Probes;
 use crate::square::Square;
 use crate::step::last_rank;
 
-// What a pawn becomes where the pair is tried: all four promotions are legal, or none.
+// What a pawn becomes if the pair is tried: all four promotions are legal, or none.
 fn one_promotion(position: &Position, from: Square, to: Square) -> Option<Promotion>
     ensures { result ≡ spec.one_promotion position.now from to }
 {
@@ -53,7 +53,7 @@ fn hits(position: &Position, origin: Option<Square>, target: Square, probes: &mu
     }
 }
 
-// The king of the side to move, if it stands side by side with the target.
+// The king of the side to move, if it is next to the target.
 fn king_step(position: &Position, target: Square) -> Option<Square>
     ensures { result ≡ spec.king_step position.now target }
 {
@@ -65,7 +65,7 @@ fn king_step(position: &Position, target: Square) -> Option<Square>
     }
 }
 
-// Whether a piece of the side to move stands there that is no knight, and no king whose step was
+// Whether there is a piece of the side to move that is no knight, and no king with a step that was
 // tried.
 fn is_left(position: &Position, near: bool, origin: Square) -> bool
     ensures { result ≡ spec.is_left position.now near origin }
@@ -80,7 +80,7 @@ fn is_left(position: &Position, near: bool, origin: Square) -> bool
     }
 }
 
-// The first piece on that way from the target, if it is left.
+// The first piece in that direction from the target, if it is left to try.
 fn left_on(position: &Position, near: bool, target: Square, way: Direction) -> Option<Square>
     ensures { result ≡ spec.left_on position.now near target way }
 {
@@ -107,7 +107,7 @@ pub(crate) fn any_king_step(position: &Position, probes: &mut Probes) -> bool
     false
 }
 
-// Whether another pair is legal.
+// Whether a pair is legal that is no single step of the king.
 pub(crate) fn any_other(position: &Position, probes: &mut Probes) -> bool
     requires { probes.old + spec.count_others position.now < 2 ^ 32 }
     ensures found { result ≡ spec.any_other position.now }
@@ -121,7 +121,7 @@ pub(crate) fn any_other(position: &Position, probes: &mut Probes) -> bool
     false
 }
 
-// Whether a pair that is left for the target is legal.
+// Whether a pair that is left to try for the target is legal.
 fn any_left(position: &Position, target: Square, probes: &mut Probes) -> bool
     requires { probes.old + spec.count_left position.now target < 2 ^ 32 }
     ensures found { result ≡ spec.any_left position.now target }

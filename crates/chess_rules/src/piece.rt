@@ -22,7 +22,7 @@ impl Colour {
         }
     }
 
-    // Whether the two are one colour.
+    // Whether the two are the same colour.
     pub(crate) fn is(self, colour: Colour) -> bool
         ensures { result ≡ same_colour self colour }
     {

@@ -19,11 +19,16 @@ use crate::step::{board_after, crossed, is_double_step, is_plain};
 use crate::word::has;
 use std::marker::Model;
 
-/// A move by its origin, its target and what a pawn becomes. Castling is the king's move.
+/// A move: its origin, its target and what a pawn becomes.
+///
+/// Castling is the king's move, as e1 to g1.
 #[derive(Clone, Copy, PartialEq, Eq, Debug)]
 pub struct Move {
+    /// The origin: the square that the piece leaves.
     pub from: Square,
+    /// The target: the square that the piece goes to.
     pub to: Square,
+    /// What a pawn becomes on the last rank; `None` for every other move.
     pub promotion: Option<Promotion>,
 }
 
@@ -36,34 +41,40 @@ pub struct Rights {
     pub black_long: bool,
 }
 
-/// The parts of a position. What stands on a square is at `8 * rank + file` of the board. (PGN
-/// 16.1.3)
+/// The six parts of a position, as a FEN has them. (PGN 16.1.3)
 #[derive(Clone, Copy, PartialEq, Eq, Debug)]
 pub struct Parts {
+    /// The piece on each square, from a1, b1 to h8: at `8 * rank + file`.
     pub board: [Option<Piece>; 64],
+    /// The side to move.
     pub side: Colour,
+    /// The castling rights.
     pub rights: Rights,
+    /// The en passant target: after a pawn's double step the square that it crossed.
     pub target: Option<Square>,
+    /// The halfmove clock.
     pub half: u32,
+    /// The fullmove number.
     pub full: u32,
 }
 
-/// The first rule of a position that parts break.
+/// Why parts are no position: the first rule that they break.
 #[derive(Clone, Copy, PartialEq, Eq, Debug)]
 pub enum PositionFault {
     /// A side has no king, or more than one.
     Kings,
-    /// A pawn stands on rank 1 or 8.
+    /// A pawn is on rank 1 or 8.
     PawnOnEdge,
     /// The side to move attacks the other king.
     KingCapturable,
-    /// The target is not on rank 6 with White to move, or rank 3 with Black to move.
+    /// The en passant target is not on rank 6 with White to move, or rank 3 with Black to move.
     TargetRank,
     /// The halfmove clock or the fullmove number is above 99,999.
     NumberRange,
 }
 
-/// A position: parts that keep the rules of a position. (FIDE Laws 2, 3.9; PGN 16.1.3)
+/// A position: parts that break none of the rules of `PositionFault`. (FIDE Laws 2, 3.9; PGN
+/// 16.1.3)
 #[derive(Clone, Copy)]
 pub struct Position {
     board: Board,
@@ -97,7 +108,7 @@ impl Model for Position {
 }
 
 impl Position {
-    /// The usual first position. (FIDE Laws 2.3)
+    /// Returns the usual first position. (FIDE Laws 2.3)
     pub fn initial() -> Position
         ensures { result ≡ spec.initial }
     {
@@ -119,9 +130,11 @@ impl Position {
         }
     }
 
-    /// The position of the parts.
+    /// Returns the position with these parts.
     ///
-    /// Otherwise the first rule that they break, in the order of `PositionFault`.
+    /// # Errors
+    ///
+    /// The first rule that the parts break, in the order of `PositionFault`.
     pub fn build(parts: &Parts) -> Result<Position, PositionFault>
         ensures { result ≡ spec.built parts.now }
     {
@@ -162,7 +175,7 @@ impl Position {
         &self.board
     }
 
-    // What every position keeps; it does nothing.
+    // States the invariant of every position; it does nothing.
     pub(crate) fn keeps_rules(&self)
         ensures { IsTrue (spec.is_position self.now) }
     {
@@ -218,8 +231,8 @@ impl Position {
         self.keeps_line(mv) || self.is_safe_on_board(mv)
     }
 
-    // Whether the step surely leaves the king safe: it is not attacked, it does not move, and the
-    // step opens no line to it, or no rook, bishop or queen is on its lines.
+    // Whether a quick test shows that the step leaves the king safe: the king is not attacked and
+    // does not move, and the step opens no line to it, or no rook, bishop or queen is on its lines.
     fn keeps_line(&self, mv: &Move) -> bool
         requires on_board { IsTrue (step.is_on_board mv.now) }
         requires step { IsTrue (is_some (step.board_after self.now mv.now)) }
@@ -298,35 +311,35 @@ impl Position {
         }
     }
 
-    /// What stands on the square.
+    /// Returns the piece on the square, if there is one.
     pub fn at(&self, square: Square) -> Option<Piece>
         ensures { result ≡ at self.now.board square }
     {
         self.board.at(square)
     }
 
-    /// Whose move it is.
+    /// Returns the side to move.
     pub fn side(&self) -> Colour
         ensures { result ≡ self.now.side }
     {
         self.side
     }
 
-    /// The castling rights.
+    /// Returns the castling rights.
     pub fn rights(&self) -> Rights
         ensures { result ≡ self.now.rights }
     {
         self.rights
     }
 
-    /// The en passant target: after a pawn's double step the square that it crossed.
+    /// Returns the en passant target: after a pawn's double step the square that it crossed.
     pub fn target(&self) -> Option<Square>
         ensures { result ≡ self.now.target }
     {
         self.target
     }
 
-    /// The halfmove clock: half moves since the last pawn move or capture, up to 99,999.
+    /// Returns the halfmove clock: plies since the last pawn move or capture, up to 99,999.
     pub fn half(&self) -> u32
         ensures value { result ≡ self.now.half }
         ensures limit { result ≤ 99999 }
@@ -334,7 +347,7 @@ impl Position {
         self.half
     }
 
-    /// The fullmove number, up to 99,999.
+    /// Returns the fullmove number, up to 99,999.
     pub fn full(&self) -> u32
         ensures value { result ≡ self.now.full }
         ensures limit { result ≤ 99999 }
@@ -354,7 +367,7 @@ fn target_fits(side: Colour, target: Option<Square>) -> bool
     }
 }
 
-// Where a king stands after the move: the move may be its own.
+// The square of a king after the move: the move may be its own.
 fn king_after(king: Square, mv: &Move) -> Square
     ensures { result ≡ walk.king_after king mv.now }
 {
@@ -388,7 +401,7 @@ fn touches(mv: &Move, file: u8, rank: u8) -> bool
     mv.from.is(square) || mv.to.is(square)
 }
 
-// Whether the move lets stand a right of the king of that rank and the rook of that file.
+// Whether a castling right of the king of that rank and the rook of that file stays.
 fn keeps(mv: &Move, file: u8, rank: u8) -> bool
     requires file { file < 8 }
     requires rank { rank < 8 }

@@ -1,10 +1,10 @@
-//! How many pairs were tried.
+//! The count of pairs tried for legality.
 
 ghost use Rattle.std.specs.Prelude.{◌≡◌, ◌+◌, ◌<◌, ◌^◌};
 
 use std::marker::Model;
 
-/// Counts the pairs of an origin and a target that were tried for legality.
+/// Counts the pairs of an origin and a target that are tried for legality.
 #[derive(Clone, Copy, PartialEq, Eq, Debug)]
 pub struct Probes {
     count: u32,
@@ -21,21 +21,21 @@ impl Model for Probes {
 }
 
 impl Probes {
-    /// None tried so far.
+    /// Returns a count of 0.
     pub fn new() -> Probes
         ensures { result ≡ 0 }
     {
         Probes { count: 0 }
     }
 
-    /// How many were tried so far.
+    /// Returns how many pairs were tried so far.
     pub fn count(&self) -> u32
         ensures { result ≡ self.now }
     {
         self.count
     }
 
-    // One more pair is tried.
+    // Counts one more pair.
     pub(crate) fn add_one(&mut self)
         requires { self.old + 1 < 2 ^ 32 }
         ensures { self.new ≡ self.old + 1 }

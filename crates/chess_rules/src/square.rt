@@ -31,7 +31,7 @@ impl Model for Square {
 }
 
 impl Default for Square {
-    /// The square a1, the blank of a vector of squares.
+    /// Returns a1, which fills the unused places of a vector of squares.
     fn default() -> Square
         ensures { result ≡ spec.square 0 0 }
     {
@@ -40,7 +40,7 @@ impl Default for Square {
 }
 
 impl Square {
-    /// The square on this file and rank; None unless both are 0 to 7.
+    /// Returns the square on this file and rank, or `None` unless both are 0 to 7.
     pub fn new(file: u8, rank: u8) -> Option<Square>
         ensures { result
             ≡ (if nat_lt file 8 && nat_lt rank 8 then Some (spec.square file rank) else None) }
@@ -54,7 +54,7 @@ impl Square {
         }
     }
 
-    /// The file, from 0 (a) to 7 (h).
+    /// Returns the file, from 0 (a) to 7 (h).
     pub fn file(self) -> u8
         ensures value { result ≡ self.file }
         ensures below { result < 8 }
@@ -62,7 +62,7 @@ impl Square {
         self.index % 8
     }
 
-    /// The rank, from 0 (1) to 7 (8).
+    /// Returns the rank, from 0 (1) to 7 (8).
     pub fn rank(self) -> u8
         ensures value { result ≡ self.rank }
         ensures below { result < 8 }
@@ -96,7 +96,7 @@ impl Square {
         }
     }
 
-    // What every square keeps; it does nothing.
+    // States the invariant of every square; it does nothing.
     pub(crate) fn lies_on_board(self)
         ensures file { self.file < 8 }
         ensures rank { self.rank < 8 }
@@ -104,7 +104,7 @@ impl Square {
         let _ = &self.index;
     }
 
-    // Whether the two are one square.
+    // Whether the two are the same square.
     pub(crate) fn is(self, other: Square) -> bool
         ensures { result ≡ spec.same_square self other }
     {

@@ -1,4 +1,4 @@
-//! One step of the side to move: which pairs are one, and the board after it.
+//! One step (pseudo-legal move) of the side to move: which pairs are one, and the board after it.
 
 ghost use Rattle.std.specs.Prelude.{◌≡◌, ◌<◌, IsTrue, Some, None, if◌then◌else◌, is_some};
 ghost use Rattle.chess_rules.specs.Plain as ways;
@@ -102,7 +102,7 @@ fn is_pawn_capture(position: &Position, mv: &Move) -> bool
     board.has_colour(mv.to, position.side().other()) && attacks(board, mv.from, mv.to)
 }
 
-// Whether a promotion is named exactly where there is one. (FIDE Laws 3.7.3.3)
+// Whether a promotion is named exactly if the move is one. (FIDE Laws 3.7.3.3)
 fn promotion_fits(position: &Position, mv: &Move) -> bool
     ensures { result ≡ spec.promotion_fits position.now mv.now }
 {
@@ -116,7 +116,7 @@ fn is_pawn_way(position: &Position, mv: &Move) -> bool
     is_advance(position, mv) || is_double_step(position, mv) || is_pawn_capture(position, mv)
 }
 
-// Whether a pawn may go so, en passant apart. (FIDE Laws 3.7)
+// Whether a pawn may go so, except for en passant. (FIDE Laws 3.7)
 fn is_pawn_step(position: &Position, mv: &Move) -> bool
     ensures { result ≡ spec.is_pawn_step position.now mv.now }
 {
@@ -126,7 +126,7 @@ fn is_pawn_step(position: &Position, mv: &Move) -> bool
         && is_pawn_way(position, mv)
 }
 
-// Where the pawn stands that is taken in passing.
+// The square of the pawn that is taken in passing.
 fn captured_pawn(mv: &Move) -> Square
     ensures { result ≡ spec.captured_pawn mv.now }
 {
@@ -190,7 +190,7 @@ fn is_king_move(position: &Position, mv: &Move, end: u8) -> bool
     mv.from.is(home(position, 4)) && mv.to.is(home(position, end))
 }
 
-// Whether king and rook stand on their squares, and those between are empty.
+// Whether king and rook are on their squares, and those between are empty.
 fn stand_ready(position: &Position, rook: u8) -> bool
     requires below { rook < 8 }
     requires apart { ¬ (rook ≡ 4) }
@@ -254,7 +254,7 @@ fn kind_of(promotion: Promotion) -> Kind
     }
 }
 
-// Carries the piece from the origin to the target, where a promotion puts another. (FIDE Laws
+// Moves the piece from the origin to the target; a promotion puts another piece there. (FIDE Laws
 // 3.7.3.3)
 fn carry(position: &Position, mv: &Move, board: &mut Board)
     requires { board.old ≡ position.now.board }
@@ -398,7 +398,7 @@ pub(crate) fn is_step(position: &Position, mv: &Move) -> bool
     }
 }
 
-// Whether a king goes further than to the next file.
+// Whether the move takes a king further than to the next file.
 fn king_goes_far(position: &Position, mv: &Move) -> bool
     ensures { result ≡ ways.king_goes_far position.now mv.now }
 {
@@ -408,7 +408,7 @@ fn king_goes_far(position: &Position, mv: &Move) -> bool
             .has_piece(mv.from, position.side(), Kind::King)
 }
 
-// Whether the move, if it is a step, carries one piece and nothing more.
+// Whether the move, if it is a step, moves one piece and does nothing more.
 pub(crate) fn is_plain(position: &Position, mv: &Move) -> bool
     ensures { result ≡ ways.is_plain position.now mv.now }
 {

@@ -29,7 +29,7 @@ pub(crate) fn with(word: u64, place: usize, value: bool) -> u64
     if value { word | bit } else { word & !bit }
 }
 
-// The set where what one place had went to another.
+// The set after the content of one place has moved to another.
 pub(crate) fn carried(word: u64, from: usize, to: usize) -> u64
     requires from { from < 64 }
     requires to { to < 64 }
