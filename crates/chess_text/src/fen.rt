@@ -12,20 +12,24 @@ use arrayvec::ArrayVec;
 use chess_rules::position::{Parts, Position};
 use itoa::Buffer;
 
-/// A text that spells no position.
+/// Why a text spells no position.
 #[derive(Clone, Copy, PartialEq, Eq, Debug)]
 pub struct FenFault {
-    /// The lowest of the six fields that is no spelling, or 7 where all are and the position breaks
-    /// a rule.
+    /// The lowest of the six fields that is no spelling, 1 to 6; 7 if all six are and the position
+    /// breaks a rule.
     pub field: u8,
 }
 
-/// The position that the text spells. (PGN 16.1.3)
+/// Reads a FEN: returns the position that the text spells. (PGN 16.1.3)
 ///
-/// The text has six fields, separated by one space each; what follows the fifth space is the sixth.
-/// Beside the standard's own spellings, digits may stand side by side in the first field, and zeros
-/// before the numbers, which have 1 to 5 digits. Otherwise the lowest field that is no spelling is
-/// answered; 7 where the six make no position (`Position::build`).
+/// The text has six fields with one space between them; what follows the fifth space is the sixth.
+/// Two spellings are accepted beside the standard's. Digits may be side by side in the first field.
+/// The numbers have 1 to 5 digits, leading zeros included.
+///
+/// # Errors
+///
+/// The lowest field that is no spelling, or 7 if the six fields make no position
+/// (`Position::build`).
 pub fn read_fen(text: &[u8]) -> Result<Position, FenFault>
     ensures { result ≡ read text.now }
 {
@@ -72,14 +76,14 @@ fn read_parts(text: &[u8]) -> Result<Parts, FenFault>
     })
 }
 
-// What stands before the first space.
+// The text before the first space.
 fn first_field(text: &[u8]) -> &[u8]
     ensures { result.now ≡ before_first is_space text.now }
 {
     &text[..field_length(text)]
 }
 
-// What follows the first space; nothing where none is.
+// The text after the first space; empty if there is none.
 fn other_fields(text: &[u8]) -> &[u8]
     ensures { result.now ≡ after_first is_space text.now }
 {
@@ -91,7 +95,7 @@ fn other_fields(text: &[u8]) -> &[u8]
     }
 }
 
-// How many bytes stand before the first space.
+// How many bytes come before the first space.
 fn field_length(text: &[u8]) -> usize
     ensures value { result ≡ position_or_len is_space text.now }
     ensures within { result ≤ length text.now }
@@ -104,10 +108,9 @@ fn field_length(text: &[u8]) -> usize
     text.len()
 }
 
-/// The canonical text of the position: the longest runs of empty squares, and no leading zeros.
-/// (PGN 16.1.3)
+/// Writes a FEN: returns the canonical text of the position. (PGN 16.1.3)
 ///
-/// It has at most 93 bytes.
+/// It has the longest runs of empty squares, no leading zeros, and at most 93 bytes.
 pub fn write_fen(position: &Position) -> ArrayVec<u8, 93>
     ensures text { result.items ≡ fen_text position.now }
     ensures short { length result.items ≤ 93 }

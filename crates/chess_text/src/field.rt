@@ -9,7 +9,7 @@ use chess_rules::piece::Colour;
 use chess_rules::position::Rights;
 use chess_rules::square::Square;
 
-// `w` or `b`. (PGN 16.1.3.2)
+// Reads a side: `w` or `b`. (PGN 16.1.3.2)
 pub(crate) fn read_side(text: &[u8]) -> Option<Colour>
     ensures { result ≡ spec.side_of text.now }
 {
@@ -32,7 +32,7 @@ pub(crate) fn side_letter(side: Colour) -> u8
     }
 }
 
-// The letters of the rights held, in the order `KQkq`, or a dash for none. (PGN 16.1.3.3)
+// Reads castling rights: their letters in the order `KQkq`, or a dash for none. (PGN 16.1.3.3)
 pub(crate) fn read_rights(text: &[u8]) -> Option<Rights>
     ensures { result ≡ spec.rights_of text.now }
 {
@@ -72,7 +72,7 @@ pub(crate) fn rights_text(rights: Rights) -> ArrayVec<u8, 4>
     text
 }
 
-// A square of rank 3 or 6, or a dash for none. (PGN 16.1.3.4)
+// Reads an en passant target: a square of rank 3 or 6, or a dash for none. (PGN 16.1.3.4)
 pub(crate) fn read_target(text: &[u8]) -> Option<Option<Square>>
     ensures { result ≡ spec.target_of text.now }
 {
@@ -98,7 +98,7 @@ pub(crate) fn target_text(target: Option<Square>) -> ArrayVec<u8, 2>
     text
 }
 
-// 1 to 5 digits. (PGN 16.1.3.5, 16.1.3.6)
+// Reads a number of 1 to 5 digits. (PGN 16.1.3.5, 16.1.3.6)
 pub(crate) fn read_number(text: &[u8]) -> Option<u32>
     ensures { result ≡ spec.number_of text.now }
 {

@@ -1,4 +1,4 @@
-//! Moves as they are spelled: standard algebraic notation before a position gives it a meaning.
+//! The text of a move by itself: standard algebraic notation before a position gives it a meaning.
 
 ghost use Rattle.std.specs.Prelude.{◌≡◌, ◌≤◌, length};
 ghost use Rattle.chess_text.specs.Form as spec;
@@ -6,7 +6,7 @@ ghost use Rattle.chess_text.specs.Form as spec;
 use chess_rules::piece::{Kind, Promotion};
 use chess_rules::square::Square;
 
-/// What the letters of a move say (PGN 8.2.3).
+/// What the text of a move says by itself, without a position. (PGN 8.2.3)
 #[derive(Clone, Copy, Debug, PartialEq, Eq)]
 pub enum Form {
     /// Castling, to the queen's side if it is long.
@@ -25,12 +25,11 @@ pub enum Form {
     },
 }
 
-/// The form that the text spells; None where it spells none. (PGN 8.2.3)
+/// Returns the form that the text of a move spells, or `None` if it spells none. (PGN 8.2.3)
 ///
-/// In this order, each at most once and all but the target free to be missing: a letter of
-/// `KQRBNP`, where none is a pawn; the origin's file; its rank; `x`; the target; a letter of
-/// `QRBN`, with or without `=`. Or one of `O-O`, `O-O-O`, `0-0`, `0-0-0`. Any number of `+` and `#`
-/// may follow, and no space stands anywhere.
+/// The pattern is `[KQRBNP]? [a-h]? [1-8]? x? [a-h][1-8] (=?[QRBN])? [+#]*`, without spaces. The
+/// parts are the piece (none is a pawn), the origin's file and rank, the capture, the target, the
+/// promotion and the marks. Or it is `O-O`, `O-O-O`, `0-0` or `0-0-0`, and marks.
 pub fn read_form(text: &[u8]) -> Option<Form>
     ensures { result ≡ spec.form_of text.now }
 {
@@ -41,7 +40,7 @@ pub fn read_form(text: &[u8]) -> Option<Form>
     }
 }
 
-// What stands before the marks at the end. (PGN 8.2.3.5)
+// The text before the marks at the end. (PGN 8.2.3.5)
 fn before_marks(text: &[u8]) -> &[u8]
     ensures { result.now ≡ spec.before_marks text.now }
 {
@@ -96,7 +95,7 @@ fn read_man(text: &[u8]) -> Option<Form>
     })
 }
 
-// The last byte, or 0 where there is none.
+// The last byte, or 0 if there is none.
 fn last_byte(text: &[u8]) -> u8
     ensures { result ≡ spec.last_byte text.now }
 {
@@ -107,7 +106,7 @@ fn last_byte(text: &[u8]) -> u8
     }
 }
 
-// What stands before the last byte.
+// The text before the last byte.
 fn front(text: &[u8]) -> &[u8]
     ensures { result.now ≡ spec.front text.now }
 {
@@ -132,7 +131,7 @@ fn rank_of(byte: u8) -> Option<u8>
     }
 }
 
-// What the text says at its end that the pawn becomes.
+// What a pawn becomes, by the end of the text.
 fn promotion_told(text: &[u8]) -> Option<Promotion>
     ensures { result ≡ spec.promotion_told text.now }
 {
@@ -168,7 +167,7 @@ fn target_told(text: &[u8]) -> Option<Square>
     Square::new(file, rank)
 }
 
-// What stands before the target and the `x`.
+// The text before the target and the `x`.
 fn before_target(text: &[u8]) -> &[u8]
     ensures { result.now ≡ spec.before_target text.now }
 {
@@ -200,7 +199,7 @@ fn before_file(text: &[u8]) -> &[u8]
     }
 }
 
-// The kind whose letter the text is; a pawn where it is empty.
+// The kind with this letter; a pawn if the text is empty.
 fn kind_told(text: &[u8]) -> Option<Kind>
     ensures { result ≡ spec.kind_told text.now }
 {

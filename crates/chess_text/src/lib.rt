@@ -1,6 +1,6 @@
 //! Positions and moves as text: FEN and standard algebraic notation, read and written.
 //!
-//! No call takes memory.
+//! No call allocates.
 #![tactic(auto)]
 
 pub mod fen;

@@ -16,12 +16,12 @@ use chess_rules::square::Square;
 
 const EMPTY_RANK: [Option<Piece>; 8] = [None; 8];
 
-// What stands on each square, from a1, b1 to h8.
+// Reads the content of each square, from a1, b1 to h8.
 pub(crate) fn read_placement(text: &[u8]) -> Option<[Option<Piece>; 64]>
     ensures { result ≡ placement_of text.now }
 {
     let mut cells: ArrayVec<Option<Piece>, 64> = ArrayVec::new();
-    // One more than the bytes that are left; 0 where no rank is.
+    // One more than the bytes that are left; 0 if no rank is left.
     let mut left = text.len() + 1;
     while left > 0 {
         let above = &text[..left - 1];
@@ -49,7 +49,7 @@ fn last_rank_start(text: &[u8]) -> usize
     start
 }
 
-// What stands on the squares of a rank, from file a on.
+// Reads the content of the squares of a rank, from file a on.
 fn read_rank(text: &[u8]) -> Option<[Option<Piece>; 8]>
     ensures { result ≡ (if is_rank text.now then Some (cells_of text.now) else None) }
 {
@@ -62,7 +62,7 @@ fn read_rank(text: &[u8]) -> Option<[Option<Piece>; 8]>
     cells.into_inner().ok()
 }
 
-// Adds the squares that the byte stands for, if it stands for any and the rank has as many left.
+// Adds the squares that the byte means, if it means any and the rank has as many left.
 fn push_item(cells: &mut ArrayVec<Option<Piece>, 8>, byte: u8) -> bool
     ensures fits { result
         ≡ (is_item byte && nat_le (length cells.old.items + length (cells_at byte)) 8) }
@@ -132,7 +132,7 @@ fn push_run(text: &mut ArrayVec<u8, 8>, run: u8)
     }
 }
 
-// What stands on the squares of the rank, from file a to file h.
+// The content of the squares of the rank, from file a to file h.
 fn cells_of_rank(position: &Position, rank: u8) -> [Option<Piece>; 8]
     requires { rank < 8 }
     ensures { result ≡ row position.now.board rank }
@@ -149,7 +149,7 @@ fn cells_of_rank(position: &Position, rank: u8) -> [Option<Piece>; 8]
     ]
 }
 
-// What stands on the square.
+// The content of the square.
 fn cell(position: &Position, file: u8, rank: u8) -> Option<Piece>
     requires file { file < 8 }
     requires rank { rank < 8 }

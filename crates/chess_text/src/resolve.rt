@@ -28,25 +28,29 @@ pub struct Played {
     pub next: Position,
 }
 
-/// Why a form names no move.
+/// Why a form names no single move.
 #[derive(Clone, Copy, PartialEq, Eq, Debug)]
 pub enum SanFault {
     /// No legal move agrees with the form.
     NoMove,
-    /// Two legal moves or more agree with it.
+    /// Two or more legal moves agree with the form.
     Ambiguous,
 }
 
-/// The one legal move that agrees with the form, and the position after it. (PGN 8.2.3)
+/// Returns the one legal move that agrees with the form, and the position after it. (PGN 8.2.3)
 ///
-/// A legal move agrees if it has the kind, the target and the promotion of the form, and its origin
-/// the file and the rank that are given. Castling agrees with the form of that castling and with no
-/// other. `NoMove` is answered exactly where no legal move agrees, `Ambiguous` exactly where two or
-/// more do.
+/// A legal move agrees if it has the kind, the target and the promotion of the form, and an origin
+/// on the file and the rank that are given. Castling agrees with the form of that castling and with
+/// no other.
 ///
-/// It counts the pairs that it tries, also on an error: one for castling, and for another form one
-/// for each member of `origins`, whether the hints allow it or not; where two moves agree, at least
-/// two of them. That is at most 8, and 8 must still fit in the count.
+/// This counts the pairs that it tries, also on an error. That is one for castling, and for another
+/// form one for each member of `origins`, also if a hint rules it out. If two moves agree, it is at
+/// least two of them. It is at most 8, and the count must have room for 8.
+///
+/// # Errors
+///
+/// - `NoMove` exactly if no legal move agrees.
+/// - `Ambiguous` exactly if two or more agree.
 pub fn resolve(position: &Position, form: &Form, probes: &mut Probes) -> Result<Played, SanFault>
     requires { probes.old + 8 < 2 ^ 32 }
     ensures answer { result ≡ spec.reads position.now form.now }
@@ -85,7 +89,7 @@ fn castling_move(side: Colour, long: bool) -> Move
     }
 }
 
-// Whether a king of the side to move stands on the square.
+// Whether a king of the side to move is on the square.
 fn has_king(position: &Position, square: Square) -> bool
     ensures { result ≡ own position.now King square }
 {
@@ -126,7 +130,7 @@ fn resolve_castling(
     }
 }
 
-// What is told of an origin.
+// What the text says of the origin (disambiguation).
 #[derive(Clone, Copy)]
 struct Hints {
     file: Option<u8>,
@@ -134,7 +138,7 @@ struct Hints {
 }
 
 impl Hints {
-    // Whether this square may be meant. (PGN 8.2.3.4)
+    // Whether the hints allow this square. (PGN 8.2.3.4)
     fn fit(self, origin: Square) -> bool
         ensures { result ≡ spec.hints_fit self.file self.rank origin }
     {
@@ -142,7 +146,7 @@ impl Hints {
     }
 }
 
-// Whether the number is the one that is told, if one is.
+// Whether the number is the given one, if one is given.
 fn is_fit(hint: Option<u8>, number: u8) -> bool
     ensures { result ≡ spec.hint_fits hint number }
 {

@@ -22,13 +22,18 @@ use chess_rules::position::{Move, Position};
 use chess_rules::probes::Probes;
 use chess_rules::square::Square;
 
-/// The text of the move (PGN 8.2.3): castling is `O-O` or `O-O-O`; a pawn's move is the target,
-/// after the file and `x` where it takes, and before `=` and the piece that it becomes; another
-/// piece's move is its letter, as much of its origin as tells it from others that could go there,
-/// `x` where it takes, and the target. Then `#` on mate, else `+` on check.
+/// Writes SAN: returns the text of a legal move, 1 to 7 bytes. (PGN 8.2.3)
 ///
-/// The move is legal, and `next` is the position after it. For a queen, a rook, a bishop or a
-/// knight it tries a pair for each member of `origins`; and where `next` is in check, those of one
+/// - Castling is `O-O` or `O-O-O`.
+/// - A pawn's move is its target. A capture has the origin's file and `x` before it, a promotion
+///   `=` and the piece after it.
+/// - Another piece's move is its letter, the least disambiguation among the pieces that may legally
+///   go there, `x` for a capture, and the target.
+/// - Mate has `#` at the end, any other check `+`.
+///
+/// The move must be legal, and `next` must be the position after it. This counts the pairs that it
+/// tries, at most 1,032, and the count must have room for them. For a queen, a rook, a bishop or a
+/// knight it tries one for each member of `origins`. If `next` is in check, it adds those of one
 /// `has_legal_move`.
 pub fn write_san(position: &Position, played: &Played, probes: &mut Probes) -> ArrayVec<u8, 7>
     requires legal { legal position.now played.now.mv ≡ Some played.now.next }
@@ -45,7 +50,7 @@ pub fn write_san(position: &Position, played: &Played, probes: &mut Probes) -> A
     text
 }
 
-// Adds the mark of a move that leaves this position. (PGN 8.2.3.5)
+// Adds the mark of a move that leads to this position. (PGN 8.2.3.5)
 fn push_mark(text: &mut ArrayVec<u8, 7>, next: &Position, probes: &mut Probes)
     requires space { length text.old.items ≤ 6 }
     requires room { probes.old + 1024 < 2 ^ 32 }
@@ -178,7 +183,7 @@ fn officer_text(position: &Position, kind: Kind, mv: &Move, probes: &mut Probes)
     text
 }
 
-// What other squares have such a move.
+// The other squares from which such a move is legal (disambiguation).
 #[derive(Clone, Copy)]
 struct Rivals {
     any: bool,
@@ -247,7 +252,7 @@ fn is_rival(position: &Position, mv: &Move, origin: Square, probes: &mut Probes)
     !is_own && next.is_some()
 }
 
-// Adds what tells the origin from the rivals. (PGN 8.2.3.4)
+// Adds the least disambiguation of the origin from the rivals. (PGN 8.2.3.4)
 fn push_told_apart(text: &mut ArrayVec<u8, 7>, from: Square, rivals: Rivals)
     requires { length text.old.items ≤ 5 }
     ensures text { text.new.items ≡ text.old.items
