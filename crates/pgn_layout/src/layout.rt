@@ -13,13 +13,18 @@ use std::marker::Model;
 /// The longest line of movetext, without its LF (PGN 8.2.1).
 const LINE_LENGTH: usize = 79;
 
-/// The same line with its LF.
+/// The length of that line with its LF.
 const LINE_WITH_LF_LENGTH: usize = LINE_LENGTH + 1;
 
-/// Writes tag pairs, and sets movetext tokens on lines. It holds the line that is not full yet.
+/// Writes tag pairs, and sets movetext tokens on lines.
 ///
-/// After a call answered [`WriteFault`], a front of its text was written and not all of it, and
-/// each later call that takes a sink answers `WriteFault` again and leaves the sink as it is.
+/// It keeps the current line, which is not full yet.
+///
+/// # Errors
+///
+/// A call returns [`WriteFault`] if the sink fails. It has then written a prefix of its text, and
+/// not all of it. Each later call that takes a sink returns `WriteFault` again and leaves the sink
+/// as it is.
 #[derive(Drop)]
 pub struct Layout {
     line: ArrayVec<u8, LINE_WITH_LF_LENGTH>,
@@ -38,7 +43,7 @@ impl Model for Layout {
 }
 
 impl Layout {
-    /// An empty line, and no failure yet.
+    /// Returns a layout with an empty line and no failure.
     pub fn new() -> Self
         ensures { result ≡ holding [] }
     {
@@ -48,9 +53,15 @@ impl Layout {
         }
     }
 
-    /// Writes a tag pair, `[name "value"]` and LF, with a backslash before each quote and each
-    /// backslash of the value (PGN 7, 8.1). The line has at most 255 bytes. The line of movetext
-    /// stays as it is.
+    /// Writes a tag pair: `[name "value"]` and LF (PGN 7, 8.1).
+    ///
+    /// In the value a backslash is written before each quote and each backslash. Name and value
+    /// with these must have at most 249 bytes together (`fits_tag_line`), so that the line has at
+    /// most 255. The current line of movetext stays as it is.
+    ///
+    /// # Errors
+    ///
+    /// [`WriteFault`], as for each call of a [`Layout`].
     pub fn tag<W: Sink>(&mut self, name: &[u8], value: &[u8], out: &mut W) -> Result<(), WriteFault>
         requires { length name.now + length (escaped value.now) ≤ 249 }
         ensures text { self.old.has_failed ≡ false
@@ -65,7 +76,13 @@ impl Layout {
         write(&mut self.has_failed, line.as_slice(), out)
     }
 
-    /// Ends the tag section with an empty line (PGN 8.1). The line of movetext stays as it is.
+    /// Ends the tag section with an empty line (PGN 8.1).
+    ///
+    /// The current line of movetext stays as it is.
+    ///
+    /// # Errors
+    ///
+    /// [`WriteFault`], as for each call of a [`Layout`].
     pub fn end_tags<W: Sink>(&mut self, out: &mut W) -> Result<(), WriteFault>
         ensures text { self.old.has_failed ≡ false
             → Writes (W.taken out.old) (W.taken out.new) result (text_at self.old.line EndTags) }
@@ -77,9 +94,14 @@ impl Layout {
         write(&mut self.has_failed, empty_line, out)
     }
 
-    /// Sets a movetext token of 1 to 79 bytes on the line, after a space if it is not the first.
-    /// Where there is no room, the line is written with LF and the token begins the next one (PGN
-    /// 8.2.1).
+    /// Puts a movetext token of 1 to 79 bytes on the line (PGN 8.2.1).
+    ///
+    /// A space comes before it, unless it is the first. If there is no room, the line is written
+    /// with LF, and the token begins the next line.
+    ///
+    /// # Errors
+    ///
+    /// [`WriteFault`], as for each call of a [`Layout`].
     #[inline(always)]
     pub fn put<W: Sink>(&mut self, token: &[u8], out: &mut W) -> Result<(), WriteFault>
         requires { IsToken token.now }
@@ -107,8 +129,13 @@ impl Layout {
         Ok(())
     }
 
-    /// Ends the game: writes the line with LF, if it holds a token, and an empty line (PGN 8.2.6).
-    /// The line is then empty.
+    /// Ends the game: writes the line with LF, if it has a token, and an empty line (PGN 8.2.6).
+    ///
+    /// The current line is then empty.
+    ///
+    /// # Errors
+    ///
+    /// [`WriteFault`], as for each call of a [`Layout`].
     pub fn end_game<W: Sink>(&mut self, out: &mut W) -> Result<(), WriteFault>
         ensures text { self.old.has_failed ≡ false
             → Writes (W.taken out.old) (W.taken out.new) result (text_at self.old.line EndGame) }
@@ -123,7 +150,7 @@ impl Layout {
         write(&mut self.has_failed, b"\n", out)
     }
 
-    /// Forgets the line, and writes nothing.
+    /// Empties the line, and writes nothing.
     pub fn drop_line(&mut self)
         ensures { self.new ≡ record self.old { line = line_at self.old.line DropLine } }
     {
@@ -131,7 +158,7 @@ impl Layout {
     }
 }
 
-// Sets the bytes at the line's end.
+// Adds the bytes at the line's end.
 #[inline(always)]
 fn append(line: &mut ArrayVec<u8, LINE_WITH_LF_LENGTH>, token: &[u8])
     requires { length line.old.items + length token.now ≤ 79 }
@@ -155,7 +182,7 @@ fn write<W: Sink>(has_failed: &mut bool, text: &[u8], out: &mut W) -> Result<(),
     written
 }
 
-// Writes the line with LF in one write, and makes it empty, also where the write failed.
+// Writes the line with LF in one write, and empties it, also if the write failed.
 #[inline(always)]
 fn write_line<W: Sink>(
     has_failed: &mut bool,

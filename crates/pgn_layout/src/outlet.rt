@@ -8,7 +8,8 @@ use std::marker::Model;
 
 /// The sink over any `std::io::Write`.
 ///
-/// A write that takes no byte fails, and so does one that was interrupted: nothing is tried again.
+/// A write that takes no byte has failed, and so has one that was interrupted: nothing is tried
+/// again.
 #[derive(Drop)]
 pub struct Outlet<W> {
     writer: W,
@@ -26,7 +27,7 @@ impl<W> Model for Outlet<W> {
 }
 
 impl<W> Outlet<W> {
-    /// The sink over this writer, with no failure counted.
+    /// Returns the sink over this writer, with no failure counted.
     pub fn new(writer: W) -> Outlet<W>
         ensures { result ≡ record { writer = writer; failures = 0 } }
     {
@@ -36,7 +37,7 @@ impl<W> Outlet<W> {
         }
     }
 
-    /// The writer. What it keeps in a buffer of its own is not flushed.
+    /// Returns the writer, without flushing it.
     pub fn into_inner(self) -> W
         ensures { result ≡ self.writer }
     {

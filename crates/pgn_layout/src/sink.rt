@@ -1,4 +1,4 @@
-//! Where text goes.
+//! Sinks: what takes the output.
 ghost use Rattle.std.specs.Prelude.{◌≡◌, ℕ, ◌<◌, ◌≤◌, List, length, Option, IfOk};
 ghost use Rattle.std.specs.Io.KnownBytes.{Keeps, WriteAppends};
 ghost use Rattle.pgn_layout.specs.Device.{Counts, Writes};
@@ -7,30 +7,44 @@ ghost use Rattle.pgn_layout.specs.Device.{Counts, Writes};
 #[derive(Clone, Copy, Debug, PartialEq, Eq)]
 pub struct WriteFault;
 
-/// What takes the bytes that are written, in order.
+/// Takes the bytes of an output, in order.
 ///
-/// A call either does its work, or fails, takes no byte and is counted. Nothing is tried again.
+/// A call does its work, or it fails, takes no byte and counts one failure. Nothing is tried again.
 pub trait Sink {
-    // The bytes taken so far, where the sink tells them.
+    // The bytes taken so far, if the sink reports them.
     ghost taken: { Self → Option (List ℕ) };
 
-    // How many calls have failed; the count stays at the last number of 64 bits.
+    // How many calls have failed; the count stays at 2^64 - 1.
     ghost failures: { Self → ℕ };
 
-    /// Takes some of the first bytes and returns how many, at least one; or fails and takes none.
+    /// Takes some of the first bytes, at least one, and returns how many.
+    ///
+    /// `bytes` must not be empty.
+    ///
+    /// # Errors
+    ///
+    /// [`WriteFault`] if no byte was taken.
     fn write_some(&mut self, bytes: &[u8]) -> Result<usize, WriteFault>
         requires { 0 < length bytes.now }
         ensures bytes { WriteAppends (taken self.old) (taken self.new) result bytes.now }
         ensures count { IfOk result (λ n. (0 < n) × (n ≤ length bytes.now)) }
         ensures failures { Counts result (failures self.old) (failures self.new) };
 
-    /// Has the bytes taken so far go out; or fails. It takes none.
+    /// Flushes the bytes taken so far.
+    ///
+    /// # Errors
+    ///
+    /// [`WriteFault`] if that failed.
     fn flush(&mut self) -> Result<(), WriteFault>
         ensures bytes { Keeps (taken self.old) (taken self.new) }
         ensures failures { Counts result (failures self.old) (failures self.new) };
 }
 
-/// Writes all the bytes; at the first failure it stops, and a front of them was taken.
+/// Writes all the bytes.
+///
+/// # Errors
+///
+/// [`WriteFault`] at the first failure of the sink. A prefix of the bytes was taken, and not all.
 pub fn write_all<W: Sink>(out: &mut W, bytes: &[u8]) -> Result<(), WriteFault>
     ensures bytes { Writes (W.taken out.old) (W.taken out.new) result bytes.now }
     ensures failures { Counts result (W.failures out.old) (W.failures out.new) }

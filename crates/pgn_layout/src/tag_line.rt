@@ -7,12 +7,13 @@ use arrayvec::ArrayVec;
 /// The longest line of a tag pair, its LF included (PGN 4.3).
 const TAG_LINE_LENGTH: usize = 255;
 
-/// What is left of it for the name and the escaped value, beside `[`, ` "`, `"]` and LF.
+/// The room on it for the name and the escaped value, beside `[`, ` "`, `"]` and LF.
 const NAME_AND_VALUE_LENGTH: usize = 249;
 
-/// Whether a tag pair fits on a line of at most 255 bytes, its LF included (PGN 4.3): the name and
-/// the value, with a backslash before each quote and each backslash of the value, have at most 249
-/// bytes together.
+/// Whether a tag pair fits on a line of at most 255 bytes, its LF included (PGN 4.3).
+///
+/// It fits if name and value have at most 249 bytes together. Each quote and each backslash of the
+/// value counts as two, since a backslash is written before it.
 pub fn fits_tag_line(name: &[u8], value: &[u8]) -> bool
     ensures { IsTrue result ↔ (length name.now + length (escaped value.now) ≤ 249) }
 {
@@ -47,7 +48,7 @@ pub fn tag_line(name: &[u8], value: &[u8]) -> ArrayVec<u8, TAG_LINE_LENGTH>
     line
 }
 
-// Sets the byte at the line's end, after a backslash if it is a quote or a backslash.
+// Adds the byte at the line's end, after a backslash if it is a quote or a backslash.
 fn push_escaped(line: &mut ArrayVec<u8, TAG_LINE_LENGTH>, byte: u8)
     requires { length line.old.items + length (escape_of byte) ≤ 255 }
     ensures { line.new.items ≡ line.old.items ++ escape_of byte }
@@ -60,14 +61,14 @@ fn push_escaped(line: &mut ArrayVec<u8, TAG_LINE_LENGTH>, byte: u8)
     line.push(byte);
 }
 
-// Whether a backslash stands before the byte (PGN 7).
+// Whether a backslash is written before the byte (PGN 7).
 fn is_escaped(byte: u8) -> bool
     ensures { result ≡ needs_escape byte }
 {
     byte == b'"' || byte == b'\\'
 }
 
-// How many bytes stand for the byte in a string.
+// How many bytes are written for the byte in a string.
 fn written_length(byte: u8) -> usize
     ensures { result ≡ length (escape_of byte) }
 {
