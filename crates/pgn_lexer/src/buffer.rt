@@ -1,4 +1,4 @@
-//! The bytes of the token in hand.
+//! The bytes of the current token.
 
 use std::marker::Model;
 

@@ -1,4 +1,4 @@
-//! The token in hand, and what one byte does to it.
+//! The current token, and what one byte does to it.
 
 ghost use Rattle.std.specs.Prelude.{◌≡◌, ℕ, ◌+◌, ◌<◌, ◌≤◌, ◌^◌, [], ◌∷◌, length};
 ghost use Rattle.pgn_lexer.specs.Running.{used_after, found_after};
@@ -54,7 +54,7 @@ pub(crate) enum Mode {
     Failed(LexFault),
 }
 
-/// What a token is, whose place and text stand in the hand.
+/// The kind of a token; its place and its text are in the hand.
 #[derive(Clone, Copy)]
 pub(crate) enum Form {
     Single(Single),
@@ -66,7 +66,7 @@ pub(crate) enum Form {
     CommentClose,
 }
 
-/// What one byte came to.
+/// The result of one byte.
 #[derive(Clone, Copy)]
 pub(crate) enum Step {
     /// It was used, and no token ends.
@@ -75,11 +75,11 @@ pub(crate) enum Step {
     Ends(Form),
     /// It was not used: a token ends before it.
     EndsBefore(Form),
-    /// The text is refused.
+    /// The text is rejected.
     Fault(LexFault),
 }
 
-/// What the end of the text came to.
+/// The result of the end of the text.
 #[derive(Clone, Copy)]
 pub(crate) enum Last {
     End,
@@ -87,17 +87,17 @@ pub(crate) enum Last {
     Fault(LexFault),
 }
 
-/// What a run over a piece came to.
+/// The result of reading a piece.
 #[derive(Clone, Copy)]
 pub(crate) enum Found {
     /// The whole piece was used.
     Nothing,
     Token(Form),
-    /// The text is refused, as the mode says.
+    /// The text is rejected, as the mode says.
     Fault,
 }
 
-/// The token in hand: where it began, and what was read of it.
+/// The current token: its place, and what was read of it.
 #[derive(Drop)]
 pub(crate) struct Hand {
     buffer: Buffer,
@@ -132,7 +132,7 @@ impl Hand {
         }
     }
 
-    /// Uses the piece, which begins at the place, up to the end of the first token. A refused byte
+    /// Uses the piece, which begins at the place, up to the end of the first token. A rejected byte
     /// is used too.
     #[inline(always)]
     pub(crate) fn run(&mut self, piece: &[u8], place: u64) -> (usize, Found)
@@ -148,7 +148,7 @@ impl Hand {
         }
     }
 
-    /// From between tokens on: white space, and the token after it.
+    /// Reads white space between tokens, and the token after it.
     #[inline(always)]
     fn run_outside(&mut self, piece: &[u8], place: u64) -> (usize, Found)
         requires room { place + length piece.now ≤ 2 ^ 62 }
@@ -187,7 +187,7 @@ impl Hand {
         (used, Found::Nothing)
     }
 
-    /// On in a symbol.
+    /// Reads on in a symbol.
     #[inline(always)]
     fn run_symbol(&mut self, piece: &[u8], from: usize) -> (usize, Found)
         requires within { from ≤ length piece.now }
@@ -204,7 +204,7 @@ impl Hand {
         (used, Found::Nothing)
     }
 
-    /// On in a string.
+    /// Reads on in a string.
     #[inline(always)]
     fn run_string(&mut self, piece: &[u8], from: usize, place: u64) -> (usize, Found)
         requires room { place + length piece.now ≤ 2 ^ 62 }
@@ -233,7 +233,7 @@ impl Hand {
         (used, Found::Nothing)
     }
 
-    /// From between the words of a comment in braces on: white space, and the word after it.
+    /// Reads white space in a comment in braces, and the word after it.
     #[inline(always)]
     fn run_brace(&mut self, piece: &[u8], place: u64) -> (usize, Found)
         requires room { place + length piece.now ≤ 2 ^ 62 }
@@ -262,7 +262,7 @@ impl Hand {
         (used, Found::Nothing)
     }
 
-    /// On in a word of a comment in braces.
+    /// Reads on in a word of a comment in braces.
     #[inline(always)]
     fn run_word(&mut self, piece: &[u8], from: usize) -> (usize, Found)
         requires within { from ≤ length piece.now }
@@ -279,8 +279,8 @@ impl Hand {
         (used, Found::Nothing)
     }
 
-    /// On from so many bytes of the piece, in any mode. Few tokens come here, so it stays out of
-    /// line.
+    /// Reads on after so many bytes of the piece, in any mode. Few tokens need it, so it is not
+    /// inlined.
     #[inline(never)]
     fn run_on(&mut self, piece: &[u8], from: usize, place: u64) -> (usize, Found)
         requires room { place + length piece.now ≤ 2 ^ 62 }
@@ -297,7 +297,7 @@ impl Hand {
         (used, Found::Nothing)
     }
 
-    /// The refusal that was met.
+    /// Returns the error that was met.
     pub(crate) fn fault_met(&self) -> LexFault
         ensures { result ≡ fault_met self.now }
     {
@@ -310,7 +310,7 @@ impl Hand {
         }
     }
 
-    /// The token of this form, whose place and text stand in the hand.
+    /// Returns the token of this form, with the place and the text in the hand.
     #[inline(always)]
     pub(crate) fn token(&self, form: Form) -> Token<'_>
         ensures at { result.at ≡ self.now.at }
@@ -334,7 +334,7 @@ impl Hand {
         Token { at: self.at, kind }
     }
 
-    /// Takes the byte at the place.
+    /// Takes the byte at the place: gives it to the handler of the mode.
     #[tactic(auto, unfolding(crate::specs::Taking::taken))]
     pub(crate) fn take(&mut self, byte: u8, place: u64) -> Step
         ensures { Takes (taking.taken place self.old byte) self.new result }
@@ -360,8 +360,8 @@ impl Hand {
         }
     }
 
-    /// Gives what the end of the text, at the place, leaves to give; after a token there may be
-    /// more.
+    /// Ends the text at the place: gives a token that is left, after which there may be more, or
+    /// the end.
     #[tactic(auto, unfolding(crate::specs::Taking::closed))]
     pub(crate) fn close(&mut self, place: u64) -> Last
         ensures { Closes (taking.closed place self.old) self.new result }
@@ -721,7 +721,7 @@ impl Hand {
     }
 }
 
-/// What a run came to that a step ended, after so many bytes.
+/// The result of reading a piece, after so many bytes and the step that ended it.
 fn ended(step: Step, used: usize) -> (usize, Found)
     requires { used < 2 ^ 63 }
     ensures used { result.0 ≡ used_after step used }
@@ -735,7 +735,7 @@ fn ended(step: Step, used: usize) -> (usize, Found)
     }
 }
 
-/// The glyph that a suffix stands for (PGN 8.2.3.8, 10).
+/// The NAG of a suffix (PGN 8.2.3.8, 10).
 fn glyph_of(run: SuffixRun) -> u8
     ensures { result ≡ taking.glyph_of run }
 {

@@ -1,17 +1,17 @@
 //! Laws of the definitions that the contracts cite. The functions do nothing.
 ghost use Rattle.pgn_lexer.specs.Laws as laws;
 
-/// No byte after a text changes the tokens that it decides.
+/// No byte after a text changes the tokens that the text decides.
 pub fn decided_is_prefix()
     ensures { laws.DecidedIsPrefix }
 {}
 
-/// The tokens that are known with one byte more are those of each text that goes on with it.
+/// The tokens known with one more byte begin the tokens of every text that goes on with it.
 pub fn known_is_prefix()
     ensures { laws.KnownIsPrefix }
 {}
 
-/// Each list of tokens ends with the end of the text or with one refusal, and its places rise.
+/// Each list of tokens ends with the end of the text or with one error, and its places rise.
 pub fn tokens_rise()
     ensures { laws.TokensRise }
 {}
@@ -21,7 +21,7 @@ pub fn lexes_once()
     ensures { laws.LexesOnce }
 {}
 
-/// The tokens of each text are sound: their bytes are as they have to be, and comments close.
+/// The tokens of each text are sound: each has the bytes of its kind, and comments close.
 ///
 /// A symbol begins with a letter or a digit, and has symbol bytes alone. The data of a string have
 /// no control byte (PGN 7). Words are inside comments, and have neither white space nor a closing
@@ -32,10 +32,9 @@ pub fn tokens_are_sound()
 
 /// Written tokens lex back to themselves, each at its place.
 ///
-/// The tokens are written with white space between them, or a byte that ends the first: a symbol, a
-/// glyph as `$` and a number, a string with escapes, a comment in braces, and `[ ] ( ) . *`. A `%`
-/// begins no escape there, also not in the first column (PGN 6), since no token outside a comment
-/// begins with it.
+/// White space follows each token, or a byte that ends it. The tokens are a symbol, a NAG as `$`
+/// and a number, a string with escapes, a comment in braces, and `[ ] ( ) . *`. A `%` begins no
+/// escape there, not even in the first column (PGN 6): no token outside a comment begins with it.
 pub fn written_tokens_are_read_back()
     ensures places { laws.PiecesAreReadBack }
     ensures kinds { laws.KindsAreReadBack }

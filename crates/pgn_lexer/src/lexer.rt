@@ -6,7 +6,7 @@ use crate::hand::{Found, Hand, Last};
 use crate::token::{Outcome, Scan, Token, TokenKind};
 use std::marker::Model;
 
-/// Gives the tokens of a text that comes in any pieces.
+/// Reads a text in pieces of any length, and gives its tokens one by one.
 #[derive(Drop)]
 pub struct Lexer {
     hand: Hand,
@@ -29,7 +29,7 @@ impl Lexer {
     ghost use Rattle.pgn_lexer.specs.Standing.{fault_of};
     ghost use Rattle.pgn_lexer.specs.Stands.{StandsAfter, Scans, Finishes, Leaves};
 
-    /// A lexer before the first byte.
+    /// Returns a lexer that has read nothing.
     pub fn new() -> Lexer
         ensures stands { StandsAfter result [] None [] }
         ensures going { fault_of result ≡ None }
@@ -40,20 +40,24 @@ impl Lexer {
         }
     }
 
-    /// How many bytes were used.
+    /// Returns the number of bytes used so far.
     pub fn count(&self) -> u64
         ensures { result ≡ self.now.count }
     {
         self.count
     }
 
-    /// Uses the piece up to the end of its first token, and gives that. After a token the caller
-    /// hands in the rest of the piece; a byte that came after the token and was not used must come
-    /// next.
+    /// Reads the piece up to the end of its first token, and returns that token.
     ///
-    /// Answers `NeedMore` where no token ends in the piece: the whole piece is used. Answers
-    /// `Fault` where the text is refused; the bytes used go up to and with the one that showed it.
-    /// From then on every call answers the same and uses no byte. Not to be called after `finish`.
+    /// After a token, pass the rest of the piece. If a byte after the token was not used, it must
+    /// come next. The result is `NeedMore` if no token ends in the piece; the whole piece is then
+    /// used. The bytes used and the piece must be together at most 2^62. Do not call this after
+    /// `finish`.
+    ///
+    /// # Errors
+    ///
+    /// `Fault` as soon as the bytes show that the text is rejected. The byte that shows it is used.
+    /// Each later call returns the same and uses no byte.
     #[inline(always)]
     pub fn next(&mut self, piece: &[u8]) -> Scan<'_>
         requires { self.old.count + length piece.now ≤ 2 ^ 62 }
@@ -79,9 +83,12 @@ impl Lexer {
         }
     }
 
-    /// Gives the tokens that are left at the end of the text, one a call, and then `End` again and
-    /// again. Answers `Fault` where the text is refused, also for a string or a comment that is not
-    /// closed, and again from then on.
+    /// Ends the text: returns the tokens that are left, one a call, and then `End` at every call.
+    ///
+    /// # Errors
+    ///
+    /// `Fault` if the text is rejected, as for a string or a comment that is not closed. Each later
+    /// call returns the same.
     pub fn finish(&mut self) -> Outcome<'_>
         ensures* after { sem 𝓛 (Leaves self.entry (λ new. Finishes self.old new (scanned result))) }
     {

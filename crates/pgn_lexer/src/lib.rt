@@ -1,8 +1,8 @@
-//! The tokens of a Portable Game Notation text (PGN 7) that comes in any pieces.
+//! The tokens of a Portable Game Notation text (PGN 7), in pieces of any length.
 //!
-//! A [`Lexer`] takes byte after byte. A token's text is borrowed from the lexer's one buffer of 255
-//! bytes, and no call takes memory. White space (PGN 7), escapes (PGN 6) and comments (PGN 5) are
-//! understood; what the tokens mean is left to the caller.
+//! A [`Lexer`] reads byte after byte. The text of a token is borrowed from the lexer's one buffer
+//! of 255 bytes, and no call allocates. White space (PGN 7), escapes (PGN 6) and comments (PGN 5)
+//! are recognised. What the tokens mean is left to the caller.
 #![tactic(auto)]
 
 mod buffer;
