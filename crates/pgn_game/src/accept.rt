@@ -1,4 +1,4 @@
-//! The reader's answer to one token.
+//! The reader's result for one token.
 ghost use Rattle.std.specs.Prelude.{◌≡◌};
 
 use crate::reason::Reason;
@@ -14,9 +14,9 @@ pub enum Accepted {
 /// Why a token is not accepted.
 #[derive(Clone, Copy)]
 pub enum Stopped {
-    /// By a row of the fault table.
+    /// A row of the fault table rejects it.
     Refused(Reason),
-    /// By a write that failed.
+    /// A write failed.
     Unwritten,
 }
 

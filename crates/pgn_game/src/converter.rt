@@ -1,4 +1,4 @@
-//! Converts games that come in any pieces.
+//! Converts games in pieces of any length.
 ghost use Rattle.std.specs.Prelude.{◌≡◌, ℕ, List, is_some, is_ok, ◌+◌, ◌-◌, ◌≤◌, ◌<◌, ◌^◌, [], true, false, None, Some, IfOk, OnOk, OnErr, length, take};
 ghost use Rattle.std.specs.Option.{option_copied};
 ghost use Rattle.pgn_lexer.specs.Tokens.{Token};
@@ -20,7 +20,7 @@ use pgn_layout::Sink;
 use pgn_lexer::{LexFault, Lexer, Outcome};
 use std::marker::Model;
 
-/// The first place that no byte of an input may have.
+/// The most bytes of an input, and so the first place that no byte may have.
 const LONGEST: u64 = 1 << 62;
 
 /// What `Converter::feed` did with a piece.
@@ -49,8 +49,10 @@ struct Step {
     outcome: Stepped,
 }
 
-/// Converts games from import format to export format (PGN 3), in pieces of any length. A game has
-/// at most `T` tag pairs, and its variations are at most `L - 1` deep.
+/// Converts games from import format to export format (PGN 3), in pieces of any length.
+///
+/// A game has at most `T` tag pairs, and its variations are at most `L - 1` deep. `L` is at least
+/// 1.
 #[derive(Drop)]
 pub struct Converter<const T: usize, const L: usize> {
     lexer: Lexer,
@@ -99,13 +101,14 @@ impl<const T: usize, const L: usize> Converter<T, L> {
     /// Converts the piece up to the end of the next game, and reports how much of it was used.
     ///
     /// After `Game(used)` the next piece that is not empty has to begin with the rest of this one.
-    /// A marker that is a symbol is known only at the byte after it, so `Game(0)` is possible.
+    /// A marker that is a symbol is known only at the byte after it, so `Game(0)` is possible. Do
+    /// not call this after `finish` has returned `Ok`.
     ///
     /// # Errors
     ///
-    /// - The fault of the first token that is refused, as soon as the bytes decide it.
+    /// - The fault of the first token that is rejected, as soon as the bytes decide it.
     /// - `Reason::InputTooLong` if the input has a byte at place 2^62.
-    /// - `Reason::WriteFault` if a write failed, at the token whose text is not all written.
+    /// - `Reason::WriteFault` if a write failed, at the first token with text missing.
     ///
     /// After the first two the output is complete up to the token before. Each later call reports
     /// the same fault and writes nothing.
@@ -165,6 +168,8 @@ impl<const T: usize, const L: usize> Converter<T, L> {
 
     /// Ends the input: converts what is left, and reports whether that finished a game.
     ///
+    /// Do not call this again after it has returned `Ok`.
+    ///
     /// # Errors
     ///
     /// As `feed`. An input that ends in movetext or after a tag pair is `Reason::UnexpectedEnd`;
@@ -192,7 +197,7 @@ impl<const T: usize, const L: usize> Converter<T, L> {
                 Stepped::More => {}
                 Stepped::Finished => is_game = true,
                 Stepped::Ended => {
-                    // The end is passed between games alone.
+                    // The end comes only between games.
                     self.is_at_hand = is_game && self.reader.is_between();
                     return Ok(is_game);
                 }
@@ -246,7 +251,7 @@ impl<const T: usize, const L: usize> Converter<T, L> {
         self.reader.most_probes()
     }
 
-    // How many moves outside variations the games have together that were finished.
+    // How many moves outside variations the finished games have together.
     pub(crate) fn whole_plies(&self) -> u64
         requires { self.now.fault ≡ None }
         ensures { result ≡ whole_plies self.now.reading }
@@ -353,7 +358,7 @@ impl<const T: usize, const L: usize> Converter<T, L> {
         }
     }
 
-    /// Takes the next token of those that are left behind the last piece.
+    /// Takes the next token of those that are left after the last piece.
     fn close<W: Sink>(&mut self, out: &mut W) -> Stepped
         requires no_fault { self.old.fault ≡ None }
         requires going { self.old.is_finished ≡ false }
@@ -385,7 +390,7 @@ impl<const T: usize, const L: usize> Converter<T, L> {
     }
 }
 
-// The bytes of the piece before place 2^62, where so many bytes came before the piece.
+// The bytes of the piece before place 2^62, after so many bytes before the piece.
 fn within_limit(count: u64, piece: &[u8]) -> &[u8]
     requires { count ≤ 2 ^ 62 }
     ensures { result.now ≡ take (2 ^ 62 - count) piece.now }
@@ -408,7 +413,7 @@ fn too_long(kept: &mut Option<Fault>) -> Fault
     Fault { at, reason }
 }
 
-// Turns the reader's answer to a token at this place into a step: counts a finished game, keeps a
+// Turns the reader's result for a token at this place into a step: counts a finished game, keeps a
 // fault.
 fn settle(
     at: u64,
@@ -445,7 +450,7 @@ fn fail(fault: Fault, kept: &mut Option<Fault>) -> Stepped
     Stepped::Failed(fault)
 }
 
-// A refusal of the lexer as a fault.
+// A fault of the lexer as a fault of the converter.
 fn lexical(fault: LexFault) -> Fault
     ensures { result ≡ record { at = fault.at; reason = Lexical fault.reason } }
 {

@@ -14,8 +14,11 @@ use chess_text::form::read_form;
 use chess_text::laws::the_one_move_is_read;
 use chess_text::resolve::{Played, SanFault, resolve};
 
-/// The one legal move that the text names in this position (PGN 8.2.3), or the row of the fault
-/// table that refuses it.
+/// Returns the one legal move that the text names in this position (PGN 8.2.3).
+///
+/// # Errors
+///
+/// `NotAMove`, `IllegalMove`, `AmbiguousMove` or `MoveLimit`.
 pub fn find_move(position: &Position, text: &[u8], probes: &mut Probes) -> Result<Played, Reason>
     requires { probes.old ≡ 0 }
     ensures found { result ≡ found_in position.now (move_of position.now text.now) }

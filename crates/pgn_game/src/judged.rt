@@ -1,11 +1,11 @@
-//! What a token means that is not refused.
+//! What an accepted token means.
 ghost use Rattle.std.specs.Prelude.{◌≡◌};
 ghost use Rattle.pgn_game.specs.Text.{is_move as is_of_move};
 ghost use Rattle.pgn_game.specs.Judging.{item_of};
 
 use chess_text::resolve::Played;
 
-/// What a token means: a step of the tag section, or what movetext has.
+/// What a token means: nothing, a step of a tag pair, or an entry of movetext.
 #[derive(Clone, Copy)]
 pub enum Judged<'a> {
     /// A comment outside movetext, or the end between games: nothing.
@@ -37,17 +37,17 @@ pub enum Entry<'a> {
 pub enum Item<'a> {
     /// A legal move, and the position after it (PGN 8.2.3).
     Move(&'a Played),
-    /// A numeric annotation glyph (PGN 8.2.4).
+    /// A NAG (numeric annotation glyph, PGN 8.2.4).
     Glyph(u8),
     /// The brace before a comment (PGN 5).
     CommentOpen,
     /// A word of a comment.
     Word(&'a [u8]),
-    /// The brace behind a comment.
+    /// The brace after a comment.
     CommentClose,
     /// The parenthesis before a variation (PGN 8.2.5).
     Open,
-    /// The parenthesis behind a variation.
+    /// The parenthesis after a variation.
     Close,
 }
 

@@ -12,21 +12,21 @@ use chess_text::laws::{
 use pgn_layout::lines_keep_tokens;
 use pgn_lexer::{numbers_are_symbols, tokens_are_sound, tokens_rise, written_tokens_are_read_back};
 
-/// What must be written by now for some tokens is a front of what must be for these and more.
+/// Output only grows: that for some tokens is a prefix of that for these and more.
 pub fn due_grows()
     ensures { laws.DueGrows }
 {}
 
-/// A text spells games, by the grammar, exactly if none of its tokens is refused: those that are
-/// read, and no others.
+/// By the grammar, a text spells exactly the games that are read, if no token is rejected.
+///
+/// If a token is rejected, the text spells no games.
 pub fn unique_reading()
     ensures { unique.UniqueReading }
 {
     tokens_rise();
 }
 
-/// Each move of the games that are read is legal in the position where it stands, inside variations
-/// too (FIDE 3).
+/// Each move of the games that are read is legal in its position, inside variations too (FIDE 3).
 pub fn moves_are_legal()
     ensures { legality.MovesAreLegal }
 {
@@ -35,9 +35,9 @@ pub fn moves_are_legal()
 
 /// The export text of games is read back as these games with their defaults filled in.
 ///
-/// The games are those of some text, within the same numbers of pairs and variations, and the tag
-/// section of each has no more lines than a game may have pairs: at least the seven of the roster.
-/// In the reduced format the games are cut down to what is written (PGN 3.2.4).
+/// The games come from some text, within the same numbers of pairs and variations. The tag section
+/// of each has no more lines than a game may have pairs, and at least the seven of the roster. In
+/// the reduced format the games are cut down to what is written (PGN 3.2.4).
 pub fn text_spells()
     ensures { fixed.TextSpells }
 {
@@ -52,8 +52,9 @@ pub fn text_spells()
     written_tokens_are_read_back();
 }
 
-/// Two lists of games have the same export text exactly if they are the same games, once their
-/// defaults are filled in. So a difference of exports is a difference of games.
+/// Two lists of games have the same export text exactly if they are equal, defaults filled in.
+///
+/// So a difference of exports is a difference of games.
 pub fn same_text()
     ensures { fixed.SameText }
 {
@@ -70,11 +71,10 @@ pub fn same_text()
     unique_reading();
 }
 
-/// Exporting an export changes nothing: the output for an export text is this text, and there is no
-/// fault.
+/// Exporting an export changes nothing: the output is the same text, without a fault.
 ///
-/// This holds with the mode and the numbers of pairs and variations that the export was made with.
-/// As many games and moves are counted.
+/// This holds in the mode of the export, and with its numbers of pairs and variations. The counts
+/// of games and plies are the same too.
 pub fn fixed_point()
     ensures { fixed.FixedPoint }
 {
@@ -91,11 +91,10 @@ pub fn fixed_point()
     unique_reading();
 }
 
-/// What `convert_slice` and `convert` do with an export text of at most 2^62 bytes, by their
-/// contracts: they write it again as it is, and answer its numbers of games and moves.
+/// By their contracts, `convert_slice` and `convert` write an export text again as it is.
 ///
-/// They fail only where a device fails, with `Reason::WriteFault` or, from a source,
-/// `Reason::ReadFault`.
+/// They return its numbers of games and plies. The text has at most 2^62 bytes. They fail only if a
+/// device fails, with `Reason::WriteFault` or, from a source, `Reason::ReadFault`.
 pub fn export_is_kept()
     ensures slice { fixed.ExportIsKept }
     ensures source { fixed.ExportIsKeptOfSource }
@@ -103,12 +102,11 @@ pub fn export_is_kept()
     fixed_point();
 }
 
-/// Export is a normal form of inputs. Converting the output for an input once more changes nothing,
-/// and two inputs have the same output exactly if they have the same games.
+/// Export is a normal form: two inputs have the same output exactly if their games are the same.
 ///
-/// The inputs are converted without a fault, in the same mode and with the same numbers of pairs
-/// and variations, and there is room for the tag lines of each game. Games are the same if they are
-/// so with their defaults filled in.
+/// Converting an output once more changes nothing. The inputs are converted without a fault, in the
+/// same mode and with the same numbers of pairs and variations, and there is room for the tag lines
+/// of each game. Games are the same if they are equal with their defaults filled in.
 pub fn exporting_twice()
     ensures twice { fixed.ExportingTwice }
     ensures same { fixed.SameOutput }
@@ -119,8 +117,9 @@ pub fn exporting_twice()
     fixed_point();
 }
 
-/// A game has room for its tag lines if it has eight pairs fewer than a game may have: the roster
-/// adds at most seven lines, and a FEN one.
+/// A game has room for its tag lines if it has eight pairs fewer than a game may have.
+///
+/// The roster adds at most seven lines, and a FEN one.
 pub fn few_pairs_have_room()
     ensures { fixed.FewPairsHaveRoom }
 {}

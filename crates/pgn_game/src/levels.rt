@@ -7,7 +7,7 @@ use arrayvec::ArrayVec;
 use chess_rules::position::Position;
 use std::marker::Model;
 
-/// A level: the present position, and the one before its last move, if it has one.
+/// A level: the current position, and the one before its last move, if it has a move.
 #[derive(Clone, Copy)]
 struct Level {
     present: Position,
@@ -15,7 +15,7 @@ struct Level {
 }
 
 impl Level {
-    // No move yet, at this position.
+    // A level at this position, without a move.
     fn at(present: Position) -> Level
         ensures { result ≡ record { present = present; before = None } }
     {
@@ -32,7 +32,7 @@ impl Default for Level {
     }
 }
 
-/// At least one level and at most `L`, the game's own first.
+/// The levels of the current game: at least one and at most `L`, the main line first.
 #[derive(Drop)]
 pub struct Levels<const L: usize> {
     levels: ArrayVec<Level, L>,
@@ -49,7 +49,7 @@ impl<const L: usize> Model for Levels<L> {
 }
 
 impl<const L: usize> Levels<L> {
-    /// The game's own level, at the usual first position.
+    /// Returns the main line alone, at the usual first position.
     pub fn new() -> Self
         requires { 1 ≤ L }
         ensures { result ≡ only_level first_position }
@@ -59,7 +59,7 @@ impl<const L: usize> Levels<L> {
         Levels { levels }
     }
 
-    /// The game's own level alone, at this position.
+    /// Begins a game: the main line alone, at this position.
     pub fn begin(&mut self, start: Position)
         ensures { self.new ≡ only_level start }
     {
@@ -67,7 +67,7 @@ impl<const L: usize> Levels<L> {
         self.levels[0] = Level::at(start);
     }
 
-    /// The position of the current level.
+    /// Returns the position of the current level.
     #[inline(always)]
     pub fn present(&self) -> &Position
         ensures { result.now ≡ self.now.present.present }
@@ -75,7 +75,7 @@ impl<const L: usize> Levels<L> {
         &self.levels[self.levels.len() - 1].present
     }
 
-    /// How many variations are open.
+    /// Returns how many variations are open.
     #[inline(always)]
     pub fn depth(&self) -> usize
         ensures value { result ≡ length self.now.around }
@@ -92,7 +92,7 @@ impl<const L: usize> Levels<L> {
         self.levels[self.levels.len() - 1].before.is_some()
     }
 
-    /// Plays a move to this position.
+    /// Plays a move that leads to this position.
     #[inline(always)]
     pub fn play(&mut self, next: Position)
         ensures { self.new ≡ record {

@@ -1,4 +1,7 @@
 //! Games of Portable Game Notation, from bytes to bytes.
+//!
+//! [`convert`] reads games from a [`Source`] and writes their export format to a [`Sink`]. A
+//! [`Converter`] does it in pieces of any length. No call allocates.
 #![tactic(auto)]
 
 mod accept;

@@ -8,7 +8,7 @@ use itoa::Buffer;
 /// The most bytes of a move number with three periods: ten digits of 32 bits, and the periods.
 pub const NUMBER_LENGTH: usize = 13;
 
-/// White's move number: `n.` (PGN 8.2.2.2).
+/// Returns White's move number: `n.` (PGN 8.2.2.2).
 pub fn white_number(number: u32) -> ArrayVec<u8, NUMBER_LENGTH>
     ensures text { result.items ≡ decimal number ++ codes "." }
     ensures token { IsToken result.items }
@@ -16,7 +16,7 @@ pub fn white_number(number: u32) -> ArrayVec<u8, NUMBER_LENGTH>
     numbered(b"", number, b".")
 }
 
-/// Black's move number: `n...` (PGN 8.2.2.2).
+/// Returns Black's move number: `n...` (PGN 8.2.2.2).
 pub fn black_number(number: u32) -> ArrayVec<u8, NUMBER_LENGTH>
     ensures text { result.items ≡ decimal number ++ codes "..." }
     ensures token { IsToken result.items }
@@ -24,7 +24,7 @@ pub fn black_number(number: u32) -> ArrayVec<u8, NUMBER_LENGTH>
     numbered(b"", number, b"...")
 }
 
-/// A glyph: `$n` (PGN 8.2.4).
+/// Returns a NAG: `$n` (PGN 8.2.4).
 pub fn glyph_number(glyph: u8) -> ArrayVec<u8, NUMBER_LENGTH>
     ensures text { result.items ≡ 36 ∷ decimal glyph }
     ensures token { IsToken result.items }
@@ -46,7 +46,7 @@ fn numbered(before: &[u8], number: u32, after: &[u8]) -> ArrayVec<u8, NUMBER_LEN
     text
 }
 
-// Sets the bytes at the text's end.
+// Adds the bytes at the text's end.
 fn append(text: &mut ArrayVec<u8, NUMBER_LENGTH>, bytes: &[u8])
     requires { length text.old.items + length bytes.now ≤ 13 }
     ensures { text.new.items ≡ text.old.items ++ bytes.now }

@@ -8,7 +8,7 @@ use std::marker::Model;
 /// The most bytes of a name, and of a value: their line has no room for more (PGN 4.3).
 pub const TEXT_LENGTH: usize = 249;
 
-/// A tag pair whose line fits.
+/// A tag pair that fits on its line.
 #[derive(Drop)]
 pub struct TagPair {
     name: ArrayVec<u8, TEXT_LENGTH>,
@@ -28,7 +28,7 @@ impl Model for TagPair {
 }
 
 impl TagPair {
-    /// A name and its value.
+    /// Returns the pair of this name and this value.
     pub fn new(name: &[u8], value: &[u8]) -> Self
         requires { length name.now + length (escaped value.now) ≤ 249 }
         ensures { result ≡ record { name = name.now; value = value.now } }
@@ -39,7 +39,7 @@ impl TagPair {
         }
     }
 
-    /// The name.
+    /// Returns the name.
     pub fn name(&self) -> &[u8]
         ensures name { result.now ≡ self.now.name }
         ensures fits { length self.now.name + length (escaped self.now.value) ≤ 249 }
@@ -47,7 +47,7 @@ impl TagPair {
         self.name.as_slice()
     }
 
-    /// The value.
+    /// Returns the value.
     pub fn value(&self) -> &[u8]
         ensures value { result.now ≡ self.now.value }
         ensures fits { length self.now.name + length (escaped self.now.value) ≤ 249 }

@@ -1,4 +1,4 @@
-//! Why an input is refused, and where.
+//! Why an input is rejected, and where.
 ghost use Rattle.std.specs.Prelude.{◌≡◌, ◌+◌, ◌≤◌, ◌++◌, length};
 ghost use Rattle.pgn_game.specs.Reason.{number_of, words_of, line_of, lexical_number_of, lexical_words_of};
 
@@ -6,47 +6,49 @@ use arrayvec::ArrayVec;
 use itoa::Buffer;
 use pgn_lexer::LexReason;
 
-/// Why an input is refused. Each reason has a number, and a text that `Fault::line` writes.
+/// Why an input is rejected.
+///
+/// Each reason has a number, and words that `Fault::line` writes.
 #[derive(Clone, Copy, Debug, PartialEq, Eq)]
 pub enum Reason {
     /// 1 to 12: bytes that spell no token (PGN 7).
     Lexical(LexReason),
-    /// 20: after `[` no symbol stands (PGN 8.1).
+    /// 20: after `[` comes another token than a symbol (PGN 8.1).
     ExpectedName,
-    /// 21: a tag name has another byte than letters, digits and `_` (PGN 8.1).
+    /// 21: a tag name has a byte other than letters, digits and `_` (PGN 8.1).
     BadTagName,
-    /// 22: the game has a pair of this name already.
+    /// 22: the game already has a pair of this name.
     DuplicateTag,
-    /// 23: the game has as many pairs as the converter holds.
+    /// 23: the game has as many pairs as the converter has room for.
     TooManyTags,
-    /// 24: after a tag name no string stands (PGN 8.1).
+    /// 24: after a tag name comes another token than a string (PGN 8.1).
     ExpectedValue,
     /// 25: a Result value is none of the four markers (PGN 8.1.1.7).
     BadResult,
-    /// 26: a FEN value is no position; the field is 1 to 6, or 7 where the six fields break a rule
+    /// 26: a FEN value is no position; the field is 1 to 6, or 7 if the six fields break a rule
     /// together (PGN 16.1).
     BadFen(u8),
     /// 27: the pair's line would have more than 255 bytes (PGN 4.3).
     TagLineTooLong,
-    /// 28: after a tag value no `]` stands (PGN 8.1).
+    /// 28: after a tag value comes another token than `]` (PGN 8.1).
     ExpectedBracket,
-    /// 30: a SetUp pair says 1, and no FEN pair is there (PGN 9.7).
+    /// 30: a SetUp pair is `1`, and there is no FEN pair (PGN 9.7).
     SetUpWithoutFen,
-    /// 31: a FEN pair where the reduced format is written, which has no place for it (PGN 3.2.4).
+    /// 31: a FEN pair in reduced mode, since that format has no place for it (PGN 3.2.4).
     ReducedFen,
     /// 32: a `[` in movetext.
     TagInMovetext,
-    /// 33: a token in movetext that spells nothing there (PGN 8.2).
+    /// 33: a token that has no meaning in movetext (PGN 8.2).
     NotAMove,
-    /// 34: no legal move is meant (PGN 8.2.3).
+    /// 34: no legal move agrees with the text (PGN 8.2.3).
     IllegalMove,
-    /// 35: more than one legal move is meant (PGN 8.2.3.4).
+    /// 35: more than one legal move agrees with the text (PGN 8.2.3.4).
     AmbiguousMove,
     /// 36: Black's move with the number 99,999.
     MoveLimit,
-    /// 37: a `(` where its level holds no move (PGN 8.2.5).
+    /// 37: a `(` before any move at its level (PGN 8.2.5).
     NoMoveBefore,
-    /// 38: a `(` at the greatest depth that the converter holds (PGN 8.2.5).
+    /// 38: a `(` at the greatest depth that the converter has room for (PGN 8.2.5).
     TooDeep,
     /// 39: a `)` that closes no variation (PGN 8.2.5).
     UnmatchedClose,
@@ -56,18 +58,18 @@ pub enum Reason {
     ResultDiffers,
     /// 42: the input ends in a game (PGN 8.2.6).
     UnexpectedEnd,
-    /// 50: the reader failed.
+    /// 50: a read failed.
     ReadFault,
-    /// 51: the writer failed or took no byte.
+    /// 51: a write failed or took no byte.
     WriteFault,
     /// 52: a byte at place 2^62.
     InputTooLong,
-    /// 53: the second reading of an input differs from the first.
+    /// 53: the second reading of an input differs from the first; no call reports it today.
     Changed,
 }
 
 impl Reason {
-    /// The reason's number, 1 to 53.
+    /// Returns the number of the reason, 1 to 53.
     pub fn number(self) -> u8
         ensures { result ≡ number_of self }
     {
@@ -102,7 +104,7 @@ impl Reason {
         }
     }
 
-    // The reason in words, but for the number of a FEN field.
+    // The reason in words, without the number of a FEN field.
     fn words(self) -> &'static [u8]
         ensures { result.now ≡ words_of self }
     {
@@ -178,7 +180,7 @@ fn lexical_words(reason: LexReason) -> &'static [u8]
     }
 }
 
-/// Where and why an input is refused: the place of a byte, counted from 0, and the reason.
+/// Where and why an input is rejected: a byte offset, from 0, and the reason.
 #[derive(Clone, Copy, Debug, PartialEq, Eq)]
 pub struct Fault {
     pub at: u64,
@@ -186,8 +188,7 @@ pub struct Fault {
 }
 
 impl Fault {
-    /// The fault as a line without its end: `byte N: ` and the reason in words, as in `byte 5: bad
-    /// FEN, field 1`.
+    /// Returns the fault as a line without LF, such as `byte 5: bad FEN, field 1`.
     pub fn line(&self) -> ArrayVec<u8, 96>
         ensures { result.items ≡ line_of self.now }
     {
@@ -204,7 +205,7 @@ impl Fault {
     }
 }
 
-// Sets the text at the line's end.
+// Adds the text at the line's end.
 fn append(line: &mut ArrayVec<u8, 96>, text: &[u8])
     requires { length line.old.items + length text.now ≤ 96 }
     ensures { line.new.items ≡ line.old.items ++ text.now }

@@ -12,15 +12,20 @@ use crate::pair::TagPair;
 use crate::tags::{place_of, value_in};
 use pgn_layout::{Layout, Sink, WriteFault};
 
-/// The name of the pair that says whether a FEN begins the game (PGN 9.7.1).
+/// The name of the pair that says whether a game begins from a FEN (PGN 9.7.1).
 const SET_UP: &[u8] = b"SetUp";
 
-/// Its value where one does.
+/// Its value if a game does.
 const FROM_FEN: &[u8] = b"1";
 
-/// Writes the tag section (PGN 8.1): the roster, in full mode the other pairs, and an empty line. A
-/// pair of the roster that the game has not is written with its value for unknown, Result with `*`.
-/// Beside a FEN, SetUp is 1 (PGN 9.7.1).
+/// Writes the tag section: the roster, in full mode the other pairs, and an empty line (PGN 8.1).
+///
+/// A roster pair that the game lacks has its default, which is `*` for Result. Beside a FEN, SetUp
+/// is 1 (PGN 9.7.1).
+///
+/// # Errors
+///
+/// `WriteFault` if a write failed. A prefix of the section was written.
 pub fn write_section<W: Sink>(
     mode: Mode,
     pairs: &[TagPair],
@@ -44,7 +49,7 @@ pub fn write_section<W: Sink>(
     }
 }
 
-/// The value that the tag section has under this name, if any.
+/// Returns the value of this name in the tag section, if there is one.
 pub fn exported_value<'a>(mode: Mode, pairs: &'a [TagPair], name: &[u8]) -> Option<&'a [u8]>
     ensures { option_copied result ≡ value_of (exported mode (42 ∷ []) pairs.now) name.now }
 {
@@ -58,7 +63,7 @@ pub fn exported_value<'a>(mode: Mode, pairs: &'a [TagPair], name: &[u8]) -> Opti
     }
 }
 
-// The value of a name, with SetUp 1 where there is a FEN (PGN 9.7.1).
+// The value of a name, with SetUp 1 if there is a FEN (PGN 9.7.1).
 fn value_with_set_up<'a>(pairs: &'a [TagPair], name: &[u8]) -> Option<&'a [u8]>
     ensures value { option_copied result ≡ value_of (with_set_up pairs.now) name.now }
 {
@@ -68,7 +73,7 @@ fn value_with_set_up<'a>(pairs: &'a [TagPair], name: &[u8]) -> Option<&'a [u8]>
     value_in(pairs, name)
 }
 
-// What stands for a missing value of the roster (PGN 8.1.1).
+// The default of a missing roster tag (PGN 8.1.1).
 fn unknown_value(name: &[u8]) -> Option<&'static [u8]>
     ensures value { option_copied result ≡ value_of (roster (42 ∷ [])) name.now }
     ensures fits { IfSome result (λ unknown. length name.now + length (escaped unknown.now) ≤ 249) }
@@ -115,7 +120,7 @@ fn value_or<'a>(pairs: &'a [TagPair], name: &[u8], unknown: &'a [u8]) -> &'a [u8
     }
 }
 
-// Writes the pairs that are not of the roster, SetUp 1 among them where there is a FEN (PGN 9.7.1).
+// Writes the pairs outside the roster, SetUp 1 among them if there is a FEN (PGN 9.7.1).
 fn write_others<W: Sink>(
     pairs: &[TagPair],
     layout: &mut Layout,
@@ -144,7 +149,7 @@ fn has_fen(pairs: &[TagPair]) -> bool
     value_in(pairs, b"FEN").is_some()
 }
 
-// Writes those of the pairs that are not of the roster, and no SetUp beside the one of a FEN.
+// Writes those of the pairs that are outside the roster, and no second SetUp beside a FEN.
 fn write_pairs<W: Sink>(
     pairs: &[TagPair],
     has_fen: bool,
@@ -164,7 +169,7 @@ fn write_pairs<W: Sink>(
     Ok(())
 }
 
-// Writes the pair, unless it is of the roster, or a SetUp beside the one of a FEN.
+// Writes the pair, unless it is in the roster, or a second SetUp beside a FEN.
 fn write_other<W: Sink>(
     pair: &TagPair,
     has_fen: bool,
@@ -184,7 +189,7 @@ fn write_other<W: Sink>(
 }
 
 #[tactic(auto, unfolding(crate::specs::TagSection::roster))]
-// A name of the roster and its value for unknown, by its place (PGN 8.1.1).
+// A name of the roster and its default, by its place in the roster (PGN 8.1.1).
 fn roster_pair(index: usize) -> (&'static [u8], &'static [u8])
     requires { index < 7 }
     ensures pair { slice_get (roster (42 ∷ [])) index

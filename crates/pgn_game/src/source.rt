@@ -1,4 +1,4 @@
-//! Where text comes from.
+//! Sources: where input comes from.
 ghost use Rattle.std.specs.Prelude.{◌≡◌, ℕ, List, Option};
 ghost use Rattle.std.specs.Io.{ReadsAtMost};
 ghost use Rattle.std.specs.Io.KnownBytes.{ReadConsumes};
@@ -13,16 +13,21 @@ pub struct ReadFailed;
 
 /// Gives the bytes of an input, in order.
 ///
-/// A call that fails gives no byte and is counted. Nothing is tried again.
+/// A call that fails gives no byte and counts one failure. Nothing is tried again.
 pub trait Source {
     // The bytes that are left, if the source reports them.
     ghost left: { Self → Option (List ℕ) };
 
-    // How many calls have failed; the count stays at the last number of 64 bits.
+    // How many calls have failed; the count stays at 2^64 - 1.
     ghost failures: { Self → ℕ };
 
-    /// Reads bytes into the front of the buffer, and returns how many: 0 only at the end or if the
-    /// buffer is empty.
+    /// Reads bytes into the start of the buffer, and returns how many.
+    ///
+    /// The result is 0 only at the end, or if the buffer is empty.
+    ///
+    /// # Errors
+    ///
+    /// `ReadFailed` if the read failed. No byte was given.
     fn read_some(&mut self, buffer: &mut [u8]) -> Result<usize, ReadFailed>
         ensures bound { ReadsAtMost result buffer.new }
         ensures bytes { ReadConsumes (left self.old) (left self.new) result buffer.new }
@@ -49,7 +54,7 @@ impl<R> Model for Inlet<R> {
 }
 
 impl<R> Inlet<R> {
-    /// The source over this reader, with no failure counted.
+    /// Returns the source over this reader, with no failure counted.
     pub fn new(reader: R) -> Inlet<R>
         ensures { result ≡ record { reader = reader; failures = 0 } }
     {

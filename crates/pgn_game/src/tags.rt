@@ -9,7 +9,7 @@ use crate::pair::TagPair;
 use arrayvec::ArrayVec;
 use std::marker::Model;
 
-/// At most `T` pairs. A name whose value is still to come is the last of them.
+/// The tag pairs of one game, at most `T`. A name that has no value yet is the last of them.
 #[derive(Drop)]
 pub struct TagPairs<const T: usize> {
     pairs: ArrayVec<TagPair, T>,
@@ -28,7 +28,7 @@ impl<const T: usize> Model for TagPairs<T> {
 }
 
 impl<const T: usize> TagPairs<T> {
-    /// No pair.
+    /// Returns no pairs.
     pub fn new() -> Self
         ensures { result ≡ record { held = []; begun = None } }
     {
@@ -47,7 +47,7 @@ impl<const T: usize> TagPairs<T> {
         self.pairs.is_full()
     }
 
-    /// The value of a name.
+    /// Returns the value of a name, if it has one.
     pub fn value(&self, name: &[u8]) -> Option<&[u8]>
         requires { self.now.begun ≡ None }
         ensures value { option_copied result ≡ value_of self.now.held name.now }
@@ -56,7 +56,7 @@ impl<const T: usize> TagPairs<T> {
         value_in(self.pairs.as_slice(), name)
     }
 
-    /// The pairs, in the order of their names.
+    /// Returns the pairs, in the order of their names.
     pub fn pairs(&self) -> &[TagPair]
         requires { self.now.begun ≡ None }
         ensures { result.now ≡ self.now.held }
@@ -64,7 +64,7 @@ impl<const T: usize> TagPairs<T> {
         self.pairs.as_slice()
     }
 
-    /// Holds a name whose value is still to come.
+    /// Adds a name that has no value yet.
     pub fn begin(&mut self, name: &[u8])
         requires whole { self.old.begun ≡ None }
         requires room { length self.old.held < T }
@@ -75,7 +75,7 @@ impl<const T: usize> TagPairs<T> {
         self.has_begun = true;
     }
 
-    /// The name that has begun.
+    /// Returns the name that has no value yet.
     pub fn begun(&self) -> &[u8]
         requires { IsSome self.now.begun }
         ensures { self.now.begun ≡ Some result.now }
@@ -86,7 +86,7 @@ impl<const T: usize> TagPairs<T> {
         }
     }
 
-    /// Gives the name that has begun its value.
+    /// Adds the value of the name that has none yet.
     pub fn complete(&mut self, value: &[u8])
         requires { IsSomeAnd self.old.begun
             (λ name. length name + length (escaped value.now) ≤ 249) }
@@ -104,7 +104,7 @@ impl<const T: usize> TagPairs<T> {
         }
     }
 
-    /// Forgets all pairs.
+    /// Drops all pairs.
     pub fn clear(&mut self)
         ensures { self.new ≡ record { held = []; begun = None } }
     {
@@ -113,7 +113,7 @@ impl<const T: usize> TagPairs<T> {
     }
 }
 
-/// The value of a name among pairs.
+/// Returns the value of a name among pairs, if it has one.
 pub fn value_in<'a>(pairs: &'a [TagPair], name: &[u8]) -> Option<&'a [u8]>
     ensures value { option_copied result ≡ value_of pairs.now name.now }
     ensures fits { IfSome result (λ value. length name.now + length (escaped value.now) ≤ 249) }
@@ -126,7 +126,7 @@ pub fn value_in<'a>(pairs: &'a [TagPair], name: &[u8]) -> Option<&'a [u8]>
     None
 }
 
-/// How many pairs stand before the place of a name.
+/// Returns how many pairs come before a name in their order.
 pub fn place_of(pairs: &[TagPair], name: &[u8]) -> usize
     ensures { result ≡ place_before name.now (pairs.now) }
 {

@@ -12,7 +12,7 @@ use crate::reason::{Fault, Reason};
 use crate::source::Source;
 use pgn_layout::Sink;
 
-/// Counts of what was converted.
+/// Counts of the games that were converted.
 #[derive(Clone, Copy, Debug, PartialEq, Eq)]
 pub struct Totals {
     /// The number of games.
@@ -33,7 +33,7 @@ pub struct Totals {
 ///
 /// - The input's first fault. The output is complete up to the token before it.
 /// - `Reason::ReadFault` if a read failed, at the number of bytes read.
-/// - `Reason::WriteFault` if a write failed, at the token whose text is not all written.
+/// - `Reason::WriteFault` if a write failed, at the first token with text missing.
 /// - `Reason::InputTooLong` if the input has a byte at place 2^62.
 pub fn convert<const T: usize, const L: usize, R: Source, W: Sink>(
     reader: &mut R,
@@ -66,6 +66,10 @@ pub fn convert<const T: usize, const L: usize, R: Source, W: Sink>(
 }
 
 /// Converts the games of a slice, as `convert` does.
+///
+/// # Errors
+///
+/// As `convert`, except that no read can fail.
 pub fn convert_slice<const T: usize, const L: usize, W: Sink>(
     text: &[u8],
     writer: &mut W,
