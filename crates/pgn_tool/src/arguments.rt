@@ -1,4 +1,4 @@
-//! The command line: which task the words of a call ask for.
+//! The command line: which task the arguments ask for.
 ghost use Rattle.std.specs.Prelude.{◌≡◌, IfOk, IsSome, false, codes, map, option_map, string_bytes};
 ghost use Rattle.clap.specs.Words.{app_of, first_of, found_of, kind_of, rows_of, rule_of, subcommand_rows_of};
 ghost use Rattle.pgn_tool.specs.CommandLine.{check_command, command_line, export_command, file_rule, list_command, split_command};
@@ -28,7 +28,7 @@ pub enum Task {
         /// The file to read; with none, standard input.
         file: Option<String>,
     },
-    /// Tell each game on a line.
+    /// Write a line for each game.
     List {
         /// The file to read; with none, standard input.
         file: Option<String>,
@@ -43,7 +43,7 @@ pub enum Task {
 }
 
 impl Task {
-    /// The file to read; with none, standard input.
+    /// Returns the file to read; with none, standard input is read.
     pub fn file(&self) -> Option<&str>
         ensures { option_copied result ≡ file_of (request_of self.now) }
     {
@@ -56,14 +56,14 @@ impl Task {
     }
 }
 
-/// Why the words of a call are no task.
+/// Why the arguments are no task.
 #[derive(Debug, PartialEq, Eq, Drop)]
 pub enum ParseFault {
     /// They ask for help or the version: the text to show.
     Help(String),
-    /// They have a mistake: the text that tells it.
+    /// They have a mistake: the text that says so.
     Bad(String),
-    /// Memory was refused before the words were read.
+    /// An allocation failed before the arguments were read.
     NoMemory,
 }
 
@@ -75,10 +75,13 @@ impl From<AllocError> for ParseFault {
     }
 }
 
-/// Reads the words of a call, of which the first is the program's name.
+/// Reads the arguments, of which the first is the program's name.
 ///
-/// `Help` answers `--help` and `--version`, `Bad` words that are no task. `NoMemory` is answered
-/// only where an allocation failed.
+/// # Errors
+///
+/// - `Help` if they ask for `--help` or `--version`.
+/// - `Bad` if they are no task.
+/// - `NoMemory` only if an allocation failed.
 pub fn parse<S: AsStr>(alloc: Global, words: &[S]) -> Result<Task, ParseFault>
     ensures task { IfOk result (λ task. request_in (map S.text words.now)
         ≡ Some (request_of task)) }
@@ -91,7 +94,7 @@ pub fn parse<S: AsStr>(alloc: Global, words: &[S]) -> Result<Task, ParseFault>
     }
 }
 
-// What stands below the help of the program.
+// The end of the program's help.
 const EXAMPLES: &str = "Examples:
   pgn_tool export games.pgn > clean.pgn    Write the games in export format
   pgn_tool check games.pgn                 Count the games, or report the first fault
@@ -174,7 +177,7 @@ fn file_argument<'a>(alloc: Global) -> Arg<'a>
         .help("The file to read [default: standard input]")
 }
 
-// The task of the subcommand that was met.
+// The task of the subcommand in the arguments.
 fn task_of(alloc: Global, matches: &ArgMatches<'_>) -> Result<Task, AllocError>
     requires { IsSome (request_from (subcommand_rows_of matches.now)) }
     ensures { IfOk result (λ task. request_from (subcommand_rows_of matches.now)
@@ -205,7 +208,7 @@ fn is_given(matches: &ArgMatches<'_>, id: &str) -> bool
     matches.get_one::<bool>(id).unwrap_or(false)
 }
 
-// The folder. It is required, so `clap` refuses words without one.
+// The folder. It is required, so `clap` rejects arguments without one.
 fn dir_of(alloc: Global, matches: &ArgMatches<'_>) -> Result<String, AllocError>
     ensures { IfOk result (λ dir. string_bytes dir ≡ dir_of (rows_of (found_of matches.now))) }
 {
@@ -222,7 +225,7 @@ fn file_of(alloc: Global, matches: &ArgMatches<'_>) -> Result<Option<String>, Al
     }
 }
 
-// What `clap` answers in place of matches.
+// The result of `clap` instead of matches.
 fn fault_of(alloc: Global, error: &Error) -> ParseFault
     ensures { AnswersError (kind_of error.now) result }
 {

@@ -4,7 +4,7 @@ use pgn_game::Sink;
 /// Why a file is not made.
 #[derive(Clone, Copy, Debug, PartialEq, Eq)]
 pub enum CreateFault {
-    /// The system refuses it.
+    /// The system does not make it.
     Refused,
     /// There is no memory for its name or for opening it.
     NoMemory,
@@ -15,19 +15,25 @@ pub trait GameFiles {
     ghost use Rattle.std.specs.Prelude.{◌≡◌, ℕ, List, [], ◌∷◌, Option, IfOk};
     ghost use Rattle.pgn_tool.specs.Files.{Event, IsNew, added, closed, event_of};
 
-    /// A file that is being written. Dropping it lets it go.
+    /// A file that is being written. Dropping it closes it.
     type Out: Sink + Drop;
 
-    // What was done with files so far, in order, where that is told.
+    // What was done with files so far, in order, if that is reported.
     ghost log: { Self → Option (List Event) };
 
-    /// Makes the file of the game with this number, from 1. A file of that name is replaced.
+    /// Makes the file of the game with this number, from 1.
+    ///
+    /// A file of that name is replaced.
+    ///
+    /// # Errors
+    ///
+    /// The reason why the file is not made.
     fn create(&mut self, number: u64) -> Result<Self::Out, CreateFault>
         ensures log { log self.new ≡ added (log self.old) (event_of number result ∷ []) }
         ensures empty { IfOk result (λ out. IsNew (log self.old) (Self.Out.taken out)) }
         ensures fresh { IfOk result (λ out. Self.Out.failures out ≡ 0) };
 
-    /// Lets the file go.
+    /// Closes the file.
     fn close(&mut self, out: Self::Out)
         ensures { log self.new ≡ added (log self.old)
             (closed (Self.Out.taken out) (Self.Out.failures out) ∷ []) };

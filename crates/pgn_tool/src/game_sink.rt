@@ -8,7 +8,7 @@ use crate::files::{CreateFault, GameFiles};
 use pgn_game::{Sink, WriteFault};
 use std::marker::{Brand, PhantomData};
 
-/// The files, lent for one call, and what became of the file of this game.
+/// The files, borrowed for one call, and the state of the file of this game.
 #[derive(Drop)]
 pub struct Turn<'a, F> {
     pub files: &'a mut F,
@@ -18,7 +18,7 @@ pub struct Turn<'a, F> {
 }
 
 impl<'a, F: GameFiles> Turn<'a, F> {
-    /// The files before a call that writes the game with this number.
+    /// Borrows the files for a call that writes the game with this number.
     pub fn new(files: &'a mut F, number: u64) -> Turn<'a, F>
         ensures same { result.files.ghost_name ≡ files.entry.ghost_name }
         ensures now { result.files.now ≡ files.old }
@@ -49,8 +49,8 @@ impl<'a, F: GameFiles> Turn<'a, F> {
     }
 }
 
-/// What holds before the call: the loan, the number of the game, whether its file is open, and what
-/// was done with files.
+/// What holds before the call: the borrow, the number of the game, whether its file is open, and
+/// what was done with files.
 pub trait Before {
     ghost use Rattle.std.specs.Prelude.{ℕ, Bool, List, Option};
     ghost use Rattle.pgn_tool.specs.Files.{Event};
@@ -76,7 +76,7 @@ impl Before for Brand {
     ghost log = { None };
 }
 
-/// The sink over the file of one game. The file is made at its first byte.
+/// The sink over the file of one game, which is made at its first byte.
 #[derive(Drop)]
 pub struct GameSink<'a, K: Before, F: GameFiles> {
     pub turn: Turn<'a, F>,

@@ -1,4 +1,4 @@
-//! Tells each game on a line.
+//! Writes a line for each game.
 ghost use Rattle.std.specs.Prelude.{◌≡◌, ℕ, ◌+◌, ◌^◌, ◌≤◌, List, [], length, false, None, OnOk, unwrap_or};
 ghost use Rattle.pgn_layout.specs.Device.{Counts, Writes};
 ghost use Rattle.pgn_tool.specs.Listing.{CountsList, CountsSink, Lists, ListsLast, ListsPiece, field, line_at_hand, six_fields};
@@ -32,11 +32,15 @@ struct Line<'a> {
 
 type Lister = Converter<TAGS, LEVELS>;
 
-/// Writes a line for each game that the source gives, up to its end: its number from 1, White,
-/// Black, Result, how many moves it has outside variations, and the position after these, with a
-/// tab between them.
+/// Writes a line for each game that the source gives, up to its end.
 ///
-/// On a fault the lines of the games before it were written. Nothing is flushed.
+/// A line has the number of the game from 1, White, Black, Result, the number of its plies outside
+/// variations, and the position after these, with a tab between them. Nothing is flushed.
+///
+/// # Errors
+///
+/// - `Stopped::Refused` at the first fault. The lines of the games finished before it were written.
+/// - `Stopped::Unwritten` if a line could not be written. A prefix of the lines was written.
 pub fn list_games<R: Source, O: Sink>(reader: &mut R, out: &mut O) -> Result<(), Stopped>
     ensures lists { Lists (R.left reader.old) (R.left reader.new) result (O.taken out.old)
         (O.taken out.new) }
@@ -85,7 +89,7 @@ fn list_piece<O: Sink>(converter: &mut Lister, piece: &[u8], out: &mut O) -> Res
     }
 }
 
-// Ends the input, and lists the game that was finished with that.
+// Ends the input, and lists the game that this finishes.
 fn list_last<O: Sink>(converter: &mut Lister, out: &mut O) -> Result<(), Stopped>
     requires going { converter.old.is_finished ≡ false }
     requires no_fault { converter.old.fault ≡ None }
@@ -101,7 +105,7 @@ fn list_last<O: Sink>(converter: &mut Lister, out: &mut O) -> Result<(), Stopped
     }
 }
 
-// Writes the line of the game at hand; nothing while none is.
+// Writes the line of the game just finished, or nothing if there is none.
 fn write_game<O: Sink>(converter: &Lister, out: &mut O) -> Result<(), WriteFault>
     ensures written { Writes (O.taken out.old) (O.taken out.new) result
         (line_at_hand converter.now) }
@@ -124,7 +128,7 @@ fn write_game<O: Sink>(converter: &Lister, out: &mut O) -> Result<(), WriteFault
     write_line(&line, out)
 }
 
-// The value of a tag of the game at hand.
+// The value of a tag of the game just finished.
 fn value<'a>(converter: &'a Lister, name: &[u8]) -> &'a [u8]
     ensures { result.now ≡ unwrap_or (value_at_hand converter.now name.now) [] }
 {

@@ -1,4 +1,4 @@
-//! What is answered where no task is run.
+//! The replies if no task is run.
 ghost use Rattle.std.specs.Prelude.{◌≡◌, codes};
 ghost use Rattle.pgn_tool.specs.Running.{Tells, device, line};
 ghost use Rattle.pgn_tool.specs.Refusing.{AnswersFault, Shows};
@@ -8,8 +8,11 @@ use crate::stream::{conclude, tell};
 use pgn_game::Sink;
 use pgn_layout::write_all;
 
-/// Answers words that are no task: help on `out`, status 0; a mistake on `err`, status 2; want of
-/// memory, status 3.
+/// Replies to arguments that are no task, and returns the exit status.
+///
+/// - Help goes to `out`, with status 0, or 1 if that fails.
+/// - A mistake goes to `err`, with status 2.
+/// - A lack of memory goes to `err`, with status 3.
 pub fn answer_fault<O: Sink, E: Sink>(fault: &ParseFault, out: &mut O, err: &mut E) -> u8
     ensures { AnswersFault fault.now (device O.taken O.failures out.old out.new)
         (device E.taken E.failures err.old err.new) result }
@@ -33,7 +36,7 @@ fn show<O: Sink, E: Sink>(text: &str, out: &mut O, err: &mut E) -> u8
     conclude(written.is_ok(), err)
 }
 
-/// Answers words that cannot be read.
+/// Reports that the arguments cannot be read, and returns status 2.
 pub fn refuse_words<E: Sink>(err: &mut E) -> u8
     ensures status { result ≡ 2 }
     ensures told { Tells (device E.taken E.failures err.old err.new)
@@ -43,7 +46,7 @@ pub fn refuse_words<E: Sink>(err: &mut E) -> u8
     2
 }
 
-/// Answers want of memory.
+/// Reports a lack of memory, and returns status 3.
 pub fn want_memory<E: Sink>(err: &mut E) -> u8
     ensures status { result ≡ 3 }
     ensures told { Tells (device E.taken E.failures err.old err.new)

@@ -30,11 +30,11 @@ type Splitter = Converter<TAGS, LEVELS>;
 /// Nothing is flushed.
 ///
 /// - 0: there was no fault. `err` is not touched.
-/// - 1: there was a fault, and `err` has its line. The game at fault keeps what `export` would
-///   have written of it.
+/// - 1: there was a fault, and `err` has its line. The file of the current game has what `export`
+///   would have written of that game.
 /// - 3: there was no memory for making a file, and `err` says so.
 ///
-/// A file that is refused counts as a write that failed.
+/// A file that cannot be made counts as a write that failed.
 pub fn split_to<R: Source, F: GameFiles, E: Sink>(reader: &mut R, files: &mut F, err: &mut E) -> u8
     ensures status { result ≤ 3 }
     ensures untouched { result ≡ 0 → err.new ≡ err.old }
@@ -82,7 +82,7 @@ fn split_source<R: Source, F: GameFiles>(
     }
 }
 
-// Splits the piece. The file of the last game stays open unless the game is whole.
+// Splits the piece. The file of the last game stays open unless the game is finished.
 fn split_piece<F: GameFiles>(
     converter: &mut Splitter,
     piece: &[u8],
@@ -187,7 +187,7 @@ fn finish_game<F: GameFiles>(
     settle(answer, turn.refusal)
 }
 
-// Want of memory comes before the write fault that it causes.
+// A lack of memory is reported instead of the write fault that it causes.
 fn settle<A: Copy>(answer: Result<A, Fault>, refusal: Option<CreateFault>) -> Result<A, Unsplit>
     ensures { result ≡ settled refusal answer }
 {

@@ -16,15 +16,16 @@ pub const TAGS: usize = 64;
 /// The levels of movetext: the game's own, and variations to depth 32.
 pub const LEVELS: usize = 33;
 
-/// Carries out the task on what the source gives, and answers the exit status.
+/// Carries out a task on what the source gives, and returns the exit status.
 ///
-/// 0: no fault was met. `out` has what the task writes, and is flushed once, at the end; `err` has
-/// nothing. 1: a fault was met, whose line `err` has; or `out` could not take a line of `check` or
-/// `list`, or be flushed, and `err` says so. Of an export, what is due before the fault was
-/// written; of a list, the lines of the games before it; of a check, nothing.
+/// - 0: there was no fault. `out` has what the task writes, and is flushed once, at the end. `err`
+///   is not touched.
+/// - 1: there was a fault, and `err` has its line. Or `out` could not take a line of `check` or
+///   `list`, or could not be flushed, and `err` says so.
 ///
-/// The first fault is told alone, and a failure of `err` changes no status. The caller's condition
-/// is that the task is one of `export`, `check` and `list`.
+/// On a fault, `export` has written every finished game and the complete lines of the current one,
+/// `list` the lines of the finished games, and `check` nothing. Only the first fault is reported. A
+/// failure of `err` changes no status. The task must be `export`, `check` or `list`.
 pub fn run_stream<R: Source, O: Sink, E: Sink>(
     task: &Task,
     reader: &mut R,
@@ -33,19 +34,19 @@ pub fn run_stream<R: Source, O: Sink, E: Sink>(
 ) -> u8
     requires { is_for_stream task.now ≡ true }
 
-    // Where no device fails: the status, what is written and what is told are those of the text.
+    // If no device fails, the text decides the status, the output and the report.
     ensures answers { (s : List ℕ)
         → IsSmooth s (device R.left R.failures reader.old reader.new)
         (device O.taken O.failures out.old out.new)
         → Answers (job_of task.now) s (device O.taken O.failures out.old out.new)
         (device E.taken E.failures err.old err.new) result }
 
-    // Where a device fails the status is 1.
+    // If a device fails, the status is 1.
     ensures status { result ≤ 1 }
     ensures source_kept { result ≡ 0 → R.failures reader.new ≡ R.failures reader.old }
     ensures out_kept { result ≡ 0 → O.failures out.new ≡ O.failures out.old }
 
-    // What stands written and is told then.
+    // What is written and reported then.
     ensures runs { Runs (job_of task.now) (device R.left R.failures reader.old reader.new)
         (device O.taken O.failures out.old out.new)
         (device E.taken E.failures err.old err.new) result }
@@ -112,7 +113,7 @@ fn list<R: Source, O: Sink, E: Sink>(reader: &mut R, out: &mut O, err: &mut E) -
     }
 }
 
-// Writes the line of the totals and flushes, and tells whether both were done.
+// Writes the line of the totals and flushes, and returns whether both succeeded.
 fn write_totals<O: Sink>(totals: Totals, out: &mut O) -> bool
     ensures written { result ≡ true → Appends (O.taken out.old) (O.taken out.new)
         (counting_line totals.games totals.plies) }
@@ -140,7 +141,7 @@ fn counting_line(totals: Totals) -> ArrayVec<u8, 64>
     line
 }
 
-/// The status where no fault was met: 0 if all was written, else 1, and that is told.
+/// Returns the status of a run without a fault: 0 if all was written, else 1, which is reported.
 pub fn conclude<E: Sink>(is_written: bool, err: &mut E) -> u8
     ensures status { result ≡ (if is_written then 0 else 1) }
     ensures untouched { is_written ≡ true → err.new ≡ err.old }
@@ -154,7 +155,7 @@ pub fn conclude<E: Sink>(is_written: bool, err: &mut E) -> u8
     1
 }
 
-/// Tells the fault, and answers the status of a fault.
+/// Reports the fault, and returns the status of a fault.
 pub fn refuse<E: Sink>(fault: Fault, err: &mut E) -> u8
     ensures status { result ≡ 1 }
     ensures told { Tells (device E.taken E.failures err.old err.new) (line (line_of fault)) }
@@ -163,7 +164,7 @@ pub fn refuse<E: Sink>(fault: Fault, err: &mut E) -> u8
     1
 }
 
-/// Writes the words and LF, as far as the sink takes them.
+/// Writes the words and LF, and ignores a failure of the sink.
 pub fn tell<E: Sink>(words: &[u8], err: &mut E)
     requires { length words.now ≤ 96 }
     ensures { Tells (device E.taken E.failures err.old err.new) (line words.now) }
@@ -174,7 +175,7 @@ pub fn tell<E: Sink>(words: &[u8], err: &mut E)
     let _ = write_all(err, text.as_slice());
 }
 
-// Sets the text at the line's end.
+// Adds the text at the line's end.
 fn append<const N: usize>(line: &mut ArrayVec<u8, N>, text: &[u8])
     requires { length line.old.items + length text.now ≤ N }
     ensures { line.new.items ≡ line.old.items ++ text.now }

@@ -1,26 +1,25 @@
-//! What a vector is.
+//! Vectors: inputs with their outputs and verdicts.
 use pgn_game::{Fault, Mode};
 
 /// How a conversion ends.
 #[derive(Clone, Copy, Debug, PartialEq, Eq)]
 pub enum Verdict {
-    /// All games are converted: how many they are, and how many moves they have together outside
-    /// variations.
+    /// All games are converted: the number of games, and of their plies outside variations.
     Converted { games: u64, plies: u64 },
-    /// The input is refused at this place, for this reason.
+    /// The input is rejected at this place, for this reason.
     Refused(Fault),
 }
 
-/// An input, and what it comes to.
+/// An input, its output and its verdict.
 #[derive(Clone, Copy, Debug)]
 pub struct Vector {
-    /// What it shows.
+    /// The name: what the vector shows.
     pub name: &'static str,
-    /// Which parts of its games are written.
+    /// Which parts of the games are written.
     pub mode: Mode,
-    /// All that is read.
+    /// The whole input.
     pub input: &'static str,
-    /// All that is written; for an input that is refused, what is due before its fault.
+    /// The whole output; for an input that is rejected, the output before its fault.
     pub output: &'static str,
     /// How the conversion ends.
     pub verdict: Verdict,

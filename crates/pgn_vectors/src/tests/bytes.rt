@@ -4,7 +4,7 @@ use crate::tests::runs::{HEAD, LONE_MARKER, converted, verdict_of};
 use pgn_game::{Fault, LexReason, Mode, Reason};
 use std::test::Fail;
 
-/// What a byte comes to as the whole input, and the text written.
+/// The verdict of a byte as the whole input, and its output.
 fn expected(byte: u8) -> (Verdict, &'static [u8]) {
     match byte {
         9..=13 | b' ' | b'%' | b';' => (Verdict::Converted { games: 0, plies: 0 }, b""),

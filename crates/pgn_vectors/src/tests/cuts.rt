@@ -5,7 +5,7 @@ use pgn_game::{Fault, Outlet, Totals};
 use std::process::Abort;
 use std::test::Fail;
 
-/// What stands inside the vectors, and is cut at each byte.
+/// Texts inside the vectors that are cut at each byte.
 const PARTS: [&str; 6] = ["1/2-1/2", "$255", "\\\"", "\r\n", "\u{feff}", "0-0-0"];
 
 /// Whether an input of the table contains it.
@@ -29,8 +29,8 @@ fn cuts_tokens_of_more_than_one_byte(rt: HostRuntime) {
     }
 }
 
-/// The first bytes come to a front of the output, and with the end behind them to what they come to
-/// as a slice.
+/// The first bytes give a prefix of the output. With the end after them they give the same as a
+/// slice of them.
 fn ends_at(rt: &impl Abort, vector: &Vector, end: usize, text: &mut Vec<u8>, whole: &mut Vec<u8>) {
     let piece = vector.input.as_bytes().get(..end).unwrap_or_default();
     let mut converter = Usual::new(vector.mode);

@@ -1,11 +1,11 @@
-//! The game at hand, and faults that stay.
+//! The game just finished, and faults that stay.
 use crate::tests::runs::{HEAD, LONE_MARKER, Usual, feed, feed_once, finish};
 use chess_text::fen::write_fen;
 use pgn_game::{Fault, Fed, Mode, Nowhere, Outlet, Reason};
 use std::process::Abort;
 use std::test::Fail;
 
-/// Whether an end was answered, and whether it finished a game.
+/// Whether the input was ended, and whether that finished a game.
 fn end(converter: &mut Usual) -> Option<bool> {
     if converter.is_finished() {
         return None;
@@ -13,19 +13,19 @@ fn end(converter: &mut Usual) -> Option<bool> {
     converter.finish(&mut Nowhere).ok()
 }
 
-/// The value at hand is this.
+/// The game just finished has this value of the tag.
 fn tells(rt: &impl Abort, converter: &Usual, name: &[u8], value: &[u8]) {
     assert!(rt; converter.tag(name) == Some(value), "{name:?}");
 }
 
-/// No game is at hand.
+/// No game has just finished.
 fn tells_nothing(rt: &impl Abort, converter: &Usual) {
     assert!(rt; converter.tag(b"Result").is_none());
     assert_eq!(rt; converter.plies(), 0);
     assert!(rt; converter.position().is_none());
 }
 
-/// The position at hand is this.
+/// The game just finished has this last position.
 fn stands_at(rt: &impl Abort, converter: &Usual, fen: &[u8]) {
     match converter.position() {
         Some(position) => assert!(rt; write_fen(position).as_slice() == fen),
@@ -110,7 +110,7 @@ fn gives_a_game_until_the_next_piece(rt: HostRuntime) {
     assert_eq!(rt; converter.plies(), 3);
     let last = b"rnbqkbnr/pppp1ppp/8/4p3/4P3/5N2/PPPP1PPP/RNBQKB1R b KQkq - 1 2";
     stands_at(&rt, &converter, last);
-    // an empty piece changes nothing but that no game is at hand
+    // after an empty piece no game has just finished, and nothing else changes
     let fed = feed_once(&mut converter, b"", &mut out);
     assert_eq!(rt; fed, Ok(Fed::All));
     tells_nothing(&rt, &converter);

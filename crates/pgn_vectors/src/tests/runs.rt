@@ -1,4 +1,4 @@
-//! Runs of the converter, and what they have to come to.
+//! Runs of the converter, and what they have to give.
 use crate::{
     FAULTS, LIMITS, MAIN_LINES, POSITION_FAULTS, POSITIONS, TAG_PAIRS, VARIATIONS, Vector, Verdict,
 };
@@ -13,7 +13,7 @@ pub const HEAD: &[u8] =
 pub const LONE_MARKER: &[u8] =
     b"[Event \"?\"]\n[Site \"?\"]\n[Date \"????.??.??\"]\n[Round \"?\"]\n[White \"?\"]\n[Black \"?\"]\n[Result \"*\"]\n\n*\n\n";
 
-/// A converter as the program has it, for 64 pairs and 32 variations in one another.
+/// A converter with the limits of the program: 64 pairs, and variations to depth 32.
 pub type Usual = Converter<64, 33>;
 
 /// The tables; each behind a call of its own, so that no proof of a loop sees all their bytes.
@@ -63,7 +63,7 @@ pub fn converted(input: &[u8], mode: Mode, text: &mut Vec<u8>) -> Result<Totals,
     convert_slice::<64, 33, _>(input, &mut Outlet::new(text), mode)
 }
 
-/// The run came to the vector's verdict and output.
+/// The run gave the vector's verdict and output.
 pub fn agrees(rt: &impl Abort, vector: &Vector, run: Result<Totals, Fault>, text: &[u8]) {
     assert_eq!(rt; verdict_of(run), vector.verdict, "{}", vector.name);
     assert!(rt;
@@ -84,7 +84,7 @@ pub fn verdict_of(run: Result<Totals, Fault>) -> Verdict {
     }
 }
 
-/// Hands the piece in, game by game, and tells how many moves the games have that end in it.
+/// Feeds the piece, game by game, and returns how many moves the games have that end in it.
 pub fn feed<W: Sink>(converter: &mut Usual, piece: &[u8], out: &mut W) -> Result<u64, Fault> {
     let mut rest = piece;
     let mut plies = 0u64;
@@ -101,7 +101,7 @@ pub fn feed<W: Sink>(converter: &mut Usual, piece: &[u8], out: &mut W) -> Result
     Ok(plies)
 }
 
-/// Hands the piece in up to the end of a game.
+/// Feeds the piece up to the end of a game.
 pub fn feed_once<W: Sink>(converter: &mut Usual, piece: &[u8], out: &mut W) -> Result<Fed, Fault> {
     if converter.is_finished() {
         return Err(UNCALLED);
@@ -109,7 +109,7 @@ pub fn feed_once<W: Sink>(converter: &mut Usual, piece: &[u8], out: &mut W) -> R
     converter.feed(piece, out)
 }
 
-/// Ends the input, and tells what all came to where the games that ended before have so many moves.
+/// Ends the input, and returns the totals, if the games that ended before have so many moves.
 pub fn finish<W: Sink>(converter: &mut Usual, plies: u64, out: &mut W) -> Result<Totals, Fault> {
     if converter.is_finished() {
         return Err(UNCALLED);
@@ -122,7 +122,7 @@ pub fn finish<W: Sink>(converter: &mut Usual, plies: u64, out: &mut W) -> Result
     })
 }
 
-/// What no run of these tests answers: the call was not made.
+/// What no run of these tests returns: the call was not made.
 const UNCALLED: Fault = Fault {
     at: 0,
     reason: Reason::Changed,

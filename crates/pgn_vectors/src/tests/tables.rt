@@ -65,7 +65,7 @@ fn takes_each_vector_byte_by_byte(rt: HostRuntime) {
     }
 }
 
-/// The output of each input that is converted comes to the same verdict and to itself.
+/// The output of each input that is converted gives the same verdict and the same output.
 fn gives_itself(rt: &impl Abort, table: &[Vector], text: &mut Vec<u8>) {
     for vector in table {
         if let Verdict::Refused(_) = vector.verdict {
@@ -102,7 +102,7 @@ fn converts_two_exported_results_to_themselves(rt: HostRuntime) {
     assert!(rt; run.is_ok());
 }
 
-/// The result, which is that of the vector behind `* `, is a fault at the same token.
+/// The result for the vector behind `* ` is a fault at the same token.
 fn is_refused_behind(rt: &impl Abort, vector: &Vector, run: Result<Totals, Fault>) {
     match vector.verdict {
         Verdict::Refused(fault) => {
