@@ -1,4 +1,4 @@
--- Bookkeeping: the words of the board give the cells, and these the words again.
+-- **Bookkeeping.** The words of the board give the cells, and these the words again.
 use Rattle.std.proofs.Common.{◌≡◌, ℕ, zero, suc, ◌+◌, ◌*◌, ◌/◌, ◌%◌, ◌^◌, ◌<◌, Bool, true, false, List, [], ◌∷◌, length, get_or, refl, ◌∙◌, ap, ap₂, pow-suc, arith}
 use Rattle.std.specs.Prelude.{Option, None, ◌==◌, if◌then◌else◌}
 use Rattle.std.specs.Int.{bit_at}

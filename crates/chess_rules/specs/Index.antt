@@ -1,4 +1,4 @@
--- A square's place among the 64, and back.
+-- **Bookkeeping.** A square's place among the 64, and back.
 use Rattle.std.proofs.Common.{◌≡◌, ℕ, ◌+◌, ◌*◌, ◌/◌, ◌%◌, ap, arith}
 use Rattle.chess_rules.specs.declared.square.Square.TheInside.{Inside}
 

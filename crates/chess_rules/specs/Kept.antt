@@ -1,4 +1,4 @@
--- What a position keeps, and what it says.
+-- **Bookkeeping.** What a position stores, and which parts it has.
 use Rattle.std.specs.Prelude.{◌≡◌, IsTrue}
 use Rattle.std.proofs.Common.{ap, ap₂, sym, ◌∙◌}
 use Rattle.chess_rules.specs.declared.piece.Colour.TheVariants.{White, Black}

@@ -1,4 +1,4 @@
--- What the definitions of play promise.
+-- **Definition.** The laws of play: what the definitions promise.
 use Rattle.std.specs.Prelude.{◌≡◌, ◌≤◌, Some, length, count_by, IsTrue}
 use Rattle.chess_rules.specs.declared.piece.Colour.{Colour}
 use Rattle.chess_rules.specs.declared.piece.Kind.{Kind}

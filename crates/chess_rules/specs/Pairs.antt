@@ -1,5 +1,5 @@
--- Which pairs the code tries, way by way from a target: what the code does, and no definition of
--- the rules.
+-- **Bookkeeping.** Which pairs the code tries, direction by direction from a target. No rule of
+-- play rests on it.
 use Rattle.std.specs.Prelude.{◌≡◌, ◌<◌, ◌≤◌, ℕ, ◌+◌, Bool, true, false, ◌&&◌, ◌||◌, not, Option, None, Some, List, filter_map, sum_by, ◌==◌, if◌then◌else◌}
 use Rattle.std.specs.List.{list_any, range_with_len}
 use Rattle.chess_rules.specs.declared.direction.TheConstants.{DIRECTIONS, JUMPS}

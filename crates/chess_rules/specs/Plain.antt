@@ -1,4 +1,4 @@
--- Bookkeeping: steps that carry one piece and nothing more. No rule of play stands on it.
+-- **Bookkeeping.** Steps that move one piece and do nothing more. No rule of play rests on it.
 use Rattle.std.specs.Prelude.{Bool, ◌&&◌, ◌||◌, not, nat_lt}
 use Rattle.chess_rules.specs.declared.piece.Kind.TheVariants.{King}
 use Rattle.chess_rules.specs.declared.position.Move.{Move}

@@ -1,4 +1,5 @@
--- Walking over the board from square to square: what the code does, and no definition of the rules.
+-- **Bookkeeping.** Walking over the board from square to square, as the code does. No rule of play
+-- rests on it.
 use Rattle.std.specs.Prelude.{ℕ, zero, suc, ◌+◌, ◌-◌, ◌*◌, ◌/◌, ◌%◌, max, Bool, true, false, ◌&&◌, ◌||◌, Option, None, Some, position, unwrap_or, slice_index_or, ◌==◌, nat_lt, nat_le, if◌then◌else◌}
 use Rattle.std.specs.List.{list_any}
 use Rattle.chess_rules.specs.declared.direction.TheConstants.{DIRECTIONS, JUMPS}

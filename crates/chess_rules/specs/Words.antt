@@ -1,5 +1,5 @@
--- Bookkeeping: the four words of the board. Bit i of each belongs to the square with place i. No
--- rule of play stands on it.
+-- **Bookkeeping.** The four words of the board. Bit i of each belongs to the square with place i.
+-- No rule of play rests on it.
 use Rattle.std.specs.Prelude.{◌≡◌, ◌<◌, ℕ, ◌+◌, ◌*◌, ◌^◌, Bool, true, false, ◌&&◌, ◌||◌, not, List, [], ◌∷◌, filter, map, Option, None, Some, ◌==◌, if◌then◌else◌, slice_index_or}
 use Rattle.std.specs.Int.{bit_at}
 use Rattle.std.specs.List.{range_with_len}

@@ -1,4 +1,4 @@
--- What the definitions of texts promise.
+-- **Definition.** The laws of texts: what the definitions promise.
 use Rattle.std.specs.Prelude.{◌≡◌, ◌≢◌, ◌+◌, ◌<◌, ◌≤◌, ◌↔◌, Bool, List, [], ◌∷◌, ◌++◌, ℕ, Option, Some, Ok, Err, length, slice_index_or, is_some, IsTrue}
 use Rattle.std.specs.List.{prefix_len}
 use Rattle.chess_rules.specs.declared.position.Move.{Move}

@@ -1,4 +1,4 @@
--- The ranks of a text, the last one first.
+-- **Bookkeeping.** The ranks of a text, the last one first, as the code reads them.
 use Rattle.std.specs.Prelude.{ℕ, zero, suc, List, [], take}
 use Rattle.chess_text.specs.Placement.{ranks}
 

@@ -1,4 +1,4 @@
--- Tokens read into games, and what is due for them.
+-- **Definition.** Tokens read into games, and the output that must be written for them.
 use Rattle.std.specs.Prelude.{ℕ, true, false, List, [], ◌∷◌, ◌++◌, length, map, sum, Option, None, Some, Result, Ok, Err}
 use Rattle.chess_text.specs.declared.resolve.Played.{Played}
 use Rattle.chess_text.specs.declared.resolve.SanFault.{SanFault}

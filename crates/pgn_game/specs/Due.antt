@@ -1,4 +1,4 @@
--- What is due for tokens: what they add to what was written.
+-- **Definition.** What tokens add to the output.
 use Rattle.std.specs.Prelude.{◌≡◌, ℕ, List, ◌++◌, length, drop, Option}
 use Rattle.std.specs.Io.KnownBytes.{Appends}
 use Rattle.pgn_lexer.specs.Tokens.{Kind, Token}

@@ -1,5 +1,5 @@
--- How tag pairs are held: those that are whole, in order, and last the one whose value is still to
--- come.
+-- **Bookkeeping.** How tag pairs are stored: the complete ones in order, and last the one without a
+-- value yet.
 use Rattle.std.specs.Prelude.{ℕ, ◌+◌, ◌≤◌, ◌<◌, IsTrue, Bool, true, false, List, [], ◌∷◌, length, Option, None, Some}
 use Rattle.pgn_game.specs.Pairs.{Pair, comes_before}
 

@@ -1,4 +1,4 @@
--- What a contract sees of an inlet.
+-- **Definition.** What a contract sees of an inlet.
 use Rattle.std.specs.Prelude.{ℕ, refl}
 use Rattle.std.specs.Coded.{Coded, code_by, coded×, coded_ℕ}
 

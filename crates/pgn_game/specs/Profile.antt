@@ -1,4 +1,4 @@
--- What a run is asked for.
+-- **Definition.** What a run is asked for.
 use Rattle.std.specs.Prelude.{ℕ}
 use Rattle.pgn_game.specs.declared.mode.Mode.{Mode}
 

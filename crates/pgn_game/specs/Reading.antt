@@ -1,4 +1,4 @@
--- What a contract sees of the reader of games, and what it does with one token.
+-- **Bookkeeping.** What a contract sees of the reader of games, and what it does with one token.
 use Rattle.std.specs.Prelude.{◌≡◌, ℕ, ◌+◌, ◌<◌, ◌≤◌, nat_le, false, IsTrue, IsFalse, is_some, Bool, List, [], length, Option, None, Some, IsSomeAnd, Result, Ok, Err}
 use Rattle.std.specs.List.{list_any}
 use Rattle.std.specs.Io.KnownBytes.{Appends}

@@ -1,5 +1,6 @@
--- Which tokens spell which games: a grammar (PGN 18), beside the function that reads them. It knows
--- of no stage, no refusal and no order of reading; the law `UniqueReading` joins the two.
+-- **Definition.** Which tokens spell which games: a grammar (PGN 18), beside the function that
+-- reads them. It knows no stage, no fault and no order of reading; the law `UniqueReading` joins
+-- the two.
 use Rattle.std.specs.Prelude.{◌≡◌, ℕ, ◌+◌, ◌<◌, ◌≤◌, IsTrue, IsFalse, true, false, List, [], ◌∷◌, ◌++◌, map, length, Option, None, Some, Ok, codes}
 use Rattle.std.specs.List.{AllByRecursion, fold, list_all}
 use Rattle.chess_rules.specs.declared.position.Move.{Move}

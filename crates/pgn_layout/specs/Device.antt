@@ -1,4 +1,5 @@
--- What a call does to the bytes that a device tells, and to its count of failures.
+-- **Definition.** What a call does to the bytes that a device reports, and to its count of
+-- failures.
 use Rattle.std.specs.Prelude.{◌≡◌, ℕ, ◌+◌, ◌-◌, ◌^◌, ◌<◌, min, List, length, take, Option, Result, MatchResult}
 use Rattle.std.specs.Io.KnownBytes.{Appends}
 

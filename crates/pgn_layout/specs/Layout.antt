@@ -1,4 +1,4 @@
--- What a layout writes and holds.
+-- **Definition.** What a layout writes, and the line that it keeps.
 use Rattle.std.specs.Prelude.{◌≡◌, ℕ, Bool, true, false, IsTrue, List, [], ◌∷◌, ◌++◌, Result, MatchResult, IsErr}
 use Rattle.pgn_layout.specs.Device.{Counts}
 use Rattle.pgn_layout.specs.TagLine.{tag_line}

@@ -1,5 +1,5 @@
--- Movetext tokens on lines (PGN 8.2.1): in order, a single space between two, at most 79 bytes a
--- line.
+-- **Definition.** Movetext tokens on lines (PGN 8.2.1): in order, a single space between two, at
+-- most 79 bytes a line.
 use Rattle.std.specs.Prelude.{◌≡◌, ℕ, ◌+◌, ◌<◌, ◌≤◌, Bool, true, false, List, [], ◌∷◌, ◌++◌, map, length, nat_le}
 
 -- the tokens of one line: the first, and those after it

@@ -1,4 +1,4 @@
--- What a lexer holds of the token in hand, and the tokens that it still gives.
+-- **Bookkeeping.** What a lexer stores of the current token, and the tokens that it still gives.
 use Rattle.std.specs.Prelude.{◌≡◌, ℕ, ◌+◌, ◌<◌, ◌≤◌, true, false, List, [], ◌∷◌, ◌++◌, take_while, length}
 use Rattle.pgn_lexer.specs.declared.token.LexFault.{LexFault}
 use Rattle.pgn_lexer.specs.declared.token.LexReason.TheVariants.{StrayByte}

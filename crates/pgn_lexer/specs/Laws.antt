@@ -1,4 +1,4 @@
--- Laws of the definitions.
+-- **Definition.** The laws of tokens.
 use Rattle.std.specs.Prelude.{◌≡◌, ℕ, ◌≤◌, ◌<◌, ◌^◌, ◌↔◌, ◌⊎◌, IsTrue, List, [], ◌++◌, ◌∷◌, map, decimal}
 use Rattle.pgn_lexer.specs.Tokens.{Kind, Token, end, refused}
 use Rattle.pgn_lexer.specs.TokensOf.{tokens_of}

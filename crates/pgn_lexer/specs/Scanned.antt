@@ -1,4 +1,4 @@
--- What a call gave, its text a list.
+-- **Definition.** The result of a call, its text a list.
 use Rattle.std.specs.Prelude.{ℕ, Option, None, Some}
 use Rattle.pgn_lexer.specs.declared.token.LexFault.{LexFault}
 use Rattle.pgn_lexer.specs.declared.token.TokenKind.{TokenKind}

@@ -1,4 +1,4 @@
--- How a lexer stands to the bytes that it used, and what a call leaves of that.
+-- **Definition.** What it means that a lexer stands after bytes, and what a call leaves of that.
 use Rattle.std.specs.Prelude.{◌≡◌, ℕ, ◌+◌, ◌-◌, ◌*◌, ◌<◌, ◌⊎◌, List, [], ◌∷◌, ◌++◌, length, take, drop, Option, None, Some, Bool, true, false}
 use Rattle.std.specs.List.{AllByRecursion}
 use Rattle.std.specs.Borrow.{Fml, MutBor}

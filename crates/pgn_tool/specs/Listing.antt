@@ -1,4 +1,4 @@
--- The lines that a list has, and what writing them comes to.
+-- **Definition.** The lines of a list, and the result of writing them.
 use Rattle.std.specs.Prelude.{◌≡◌, ℕ, ◌+◌, ◌^◌, ◌<◌, List, [], ◌∷◌, ◌++◌, length, take, drop, codes, decimal, unwrap_or, Option, None, Some, Result, Ok, Err, IfSome}
 use Rattle.std.specs.Io.KnownBytes.{Appends, Consumes}
 use Rattle.chess_text.specs.Fen.{fen_text}

@@ -1,4 +1,4 @@
--- What the words on a command line ask for, and how an answer tells it.
+-- **Definition.** What the arguments ask for, and how a result says it.
 use Rattle.std.specs.Prelude.{◌≡◌, ◌≢◌, Bool, true, false, not, List, [], Option, Some, None, Result, Ok, Err}
 use Rattle.std.specs.Prelude.{codes, if◌then◌else◌, option_map, option_and_then, string_bytes, unwrap_or}
 use Rattle.std.specs.List.{list_any}
