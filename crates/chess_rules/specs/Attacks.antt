@@ -18,7 +18,7 @@ abbrev pub is_ahead : Colour → ℕ → ℕ → Bool
 is_ahead White rank ahead = ahead == rank + 1
 is_ahead Black rank ahead = rank == ahead + 1
 
--- A piece of the kind and colour that stands on s attacks t: king (FIDE 3.8.1), queen (3.4), rook
+-- A piece of the kind and colour on s attacks t: king (FIDE 3.8.1), queen (3.4), rook
 -- (3.3), bishop (3.2), knight (3.6), pawn (3.7.3).
 abbrev pub kind_attacks : Kind → Colour → Board → Square → Square → Bool
 kind_attacks King c b s t = is_adjacent s t
@@ -32,7 +32,7 @@ abbrev pub cell_attacks : Option Piece → Board → Square → Square → Bool
 cell_attacks None b s t = false
 cell_attacks (Some x) b s t = kind_attacks x.kind x.colour b s t
 
--- the piece on s attacks t, also if it may not move, as a pinned one (FIDE 3.1.2, 3.1.3)
+-- the piece on s attacks t, even if it may not move there, as a pinned piece (FIDE 3.1.2, 3.1.3)
 abbrev pub attacks : Board → Square → Square → Bool
 attacks b s t = cell_attacks (at b s) b s t
 

@@ -14,15 +14,15 @@ Board = List (Option Piece)
 abbrev pub cell_of : Square → ℕ
 cell_of s = 8 * s.rank + s.file
 
--- what stands on a square
+-- the content of a square: a piece, or none
 abbrev pub at : Board → Square → Option Piece
 at b s = slice_index_or b (cell_of s) None
 
--- the board with that on the square
+-- the board with that content of the square
 abbrev pub put : Board → Square → Option Piece → Board
 put b s cell = slice_set b (cell_of s) cell
 
--- a piece, as what stands on a square
+-- a piece, as the content of a square
 abbrev pub man : Colour → Kind → Option Piece
 man c k = Some (record { colour = c; kind = k })
 
@@ -60,7 +60,7 @@ abbrev pub has_piece : Colour → Kind → Option Piece → Bool
 has_piece c k None = false
 has_piece c k (Some x) = same_colour c x.colour && same_kind k x.kind
 
--- how many cells hold the colour's king; a position has one of each colour
+-- how many cells have the colour's king; a position has one of each colour
 abbrev pub kings : Colour → Board → ℕ
 kings c b = count_by (has_piece c King) b
 

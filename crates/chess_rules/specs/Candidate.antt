@@ -8,17 +8,17 @@ use Rattle.chess_rules.specs.Square.{Square, squares, is_jump, in_line, on_diago
 use Rattle.chess_rules.specs.Attacks.{is_clear}
 use Rattle.chess_rules.specs.Step.{own}
 
--- a knight is a jump away; another piece is on a rank, a file or a diagonal with t, and all between
--- is empty
+-- a knight is a jump away; another piece is on a rank, a file or a diagonal with t, and all squares
+-- between are empty
 abbrev pub sees : Kind → Parts → Square → Square → Bool
 sees Knight p s t = is_jump s t
 sees _ p s t = (in_line s t || on_diagonal s t) && is_clear p.board s t
 
--- a piece of the kind, of the side to move, stands on s and sees t
+-- a piece of the kind, of the side to move, is on s and sees t
 abbrev pub is_candidate : Parts → Kind → Square → Square → Bool
 is_candidate p k t s = own p k s && sees k p s t
 
--- all of them
+-- all candidates of a kind for a target
 abbrev pub candidates : Parts → Kind → Square → List Square
 candidates p k t = filter (is_candidate p k t) squares
 

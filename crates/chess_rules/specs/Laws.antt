@@ -13,16 +13,16 @@ use Rattle.chess_rules.specs.Step.{own, cases}
 use Rattle.chess_rules.specs.Legal.{legal, is_legal}
 use Rattle.chess_rules.specs.Candidate.{is_candidate, candidates}
 
--- no move is a step in two ways
+-- no move is a step in two of the five ways
 abbrev pub CasesApart : Type 0
 CasesApart = (p : Parts) (m : Move) → count_by (λ holds. holds) (cases p m) ≤ 1
 
--- What comes after a legal move is determined: `legal` is a function. That it could be one,
--- whatever the order of its cases, is what CasesApart says.
+-- A legal move decides the position after it: `legal` is a function. By CasesApart, the order of
+-- its cases does not matter.
 abbrev pub OneAfter : Type 0
 OneAfter = (p q r : Parts) (m : Move) → legal p m ≡ Some q → legal p m ≡ Some r → q ≡ r
 
--- a legal move leaves a position
+-- a legal move leads to a position
 abbrev pub LeavesPosition : Type 0
 LeavesPosition = (p q : Parts) (m : Move) → IsTrue (is_position p) → legal p m ≡ Some q → IsTrue (is_position q)
 
@@ -42,7 +42,7 @@ PromotionsAlike =
     (p : Parts) (s t : Square) (x y : Promotion)
     → IsTrue (is_position p) → is_legal p (record { from = s; to = t; promotion = Some x }) ≡ is_legal p (record { from = s; to = t; promotion = Some y })
 
--- in a position a king of one colour stands on one square alone
+-- in a position, each side has its king on one square
 abbrev pub OneKing : Type 0
 OneKing =
     (p : Parts) (c : Colour) (s t : Square)

@@ -18,18 +18,18 @@ use Rattle.chess_rules.specs.Attacks.{king_attacked}
 abbrev pub one_king : Board → Colour → Bool
 one_king b c = kings c b == 1
 
--- a pawn stands on rank 1 or 8, where it would have been promoted (FIDE 3.7.3.3)
+-- a pawn is on rank 1 or 8, on which pawns are promoted (FIDE 3.7.3.3)
 abbrev pub pawn_on_edge : Board → Bool
 pawn_on_edge b =
     list_any (λ s. ((s.rank == 0) || (s.rank == 7)) && is_pawn (at b s)) squares
 
--- the en passant target lies on rank 6 with White to move, on rank 3 with Black to move (PGN
+-- the en passant target is on rank 6 with White to move, on rank 3 with Black to move (PGN
 -- 16.1.3.4)
 abbrev pub target_rank : Colour → ℕ
 target_rank White = 5
 target_rank Black = 2
 
--- there is no en passant target, or it lies on that rank
+-- there is no en passant target, or it is on that rank
 abbrev pub target_fits : Colour → Option Square → Bool
 target_fits c None = true
 target_fits c (Some t) = on_board t && (t.rank == target_rank c)
@@ -44,12 +44,12 @@ position_fault p =
     else if not (nat_le p.half 99999 && nat_le p.full 99999) then Some NumberRange
     else None
 
--- Parts that break no rule are a position. A board has 64 cells; parts that a program hands in
--- always do.
+-- Parts that break no rule are a position. A board has 64 cells; the parts of a program always
+-- have as many.
 abbrev pub is_position : Parts → Bool
 is_position p = (length p.board == 64) && is_none (position_fault p)
 
--- what the parts make: a position, or the fault
+-- the position of the parts, or the fault
 abbrev pub built_unless : Option PositionFault → Parts → Result Parts PositionFault
 built_unless None p = Ok p
 built_unless (Some fault) p = Err fault

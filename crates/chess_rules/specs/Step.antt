@@ -15,8 +15,8 @@ use Rattle.chess_rules.specs.Square.{Square, square, on_board, same_square}
 use Rattle.chess_rules.specs.Board.{Board, man, at, put, is_empty, other, has_colour, has_piece}
 use Rattle.chess_rules.specs.Attacks.{attacks, is_attacked, is_ahead, is_clear}
 
--- the rank on which the colour's king and rooks begin, that of its pawns, that after their double
--- step, and that where they are promoted
+-- the rank on which the colour's king and rooks begin, the rank of its pawns, the rank after their
+-- double step, and the rank of promotion
 abbrev pub home_rank : Colour → ℕ
 home_rank White = 0
 home_rank Black = 7
@@ -33,11 +33,11 @@ abbrev pub last_rank : Colour → ℕ
 last_rank White = 7
 last_rank Black = 0
 
--- a piece of the kind, of the side to move, stands on s
+-- a piece of the kind, of the side to move, is on s
 abbrev pub own : Parts → Kind → Square → Bool
 own p k s = has_piece p.side k (at p.board s)
 
--- A king, queen, rook, bishop or knight goes to a square that it attacks and that holds no piece of
+-- A king, queen, rook, bishop or knight goes to a square that it attacks and that has no piece of
 -- its side. (FIDE 3.1, 3.2 to 3.6, 3.8.1)
 abbrev pub is_piece_step : Parts → Move → Bool
 is_piece_step p m =
@@ -53,13 +53,13 @@ abbrev pub is_advance : Parts → Move → Bool
 is_advance p m =
     ((m.from.file == m.to.file) && is_ahead p.side m.from.rank m.to.rank) && is_empty p.board m.to
 
--- two squares forward from where the pawns begin, both empty (FIDE 3.7.2)
+-- two squares forward from the rank of the pawns, both empty (FIDE 3.7.2)
 abbrev pub is_double_step : Parts → Move → Bool
 is_double_step p m =
     ((m.from.file == m.to.file) && ((m.from.rank == pawn_rank p.side) && (m.to.rank == double_rank p.side)))
     && (is_empty p.board (crossed m) && is_empty p.board m.to)
 
--- to a square that it attacks and that holds a piece of the other side (FIDE 3.7.3)
+-- to a square that it attacks and that has a piece of the other side (FIDE 3.7.3)
 abbrev pub is_pawn_capture : Parts → Move → Bool
 is_pawn_capture p m = attacks p.board m.from m.to && has_colour (other p.side) (at p.board m.to)
 
@@ -67,11 +67,11 @@ is_pawn_capture p m = attacks p.board m.from m.to && has_colour (other p.side) (
 abbrev pub promotion_fits : Parts → Move → Bool
 promotion_fits p m = if m.to.rank == last_rank p.side then is_some m.promotion else is_none m.promotion
 
--- one of the three ways in which a pawn goes, en passant apart
+-- one of the three ways in which a pawn goes, except for en passant
 abbrev pub is_pawn_way : Parts → Move → Bool
 is_pawn_way p m = is_advance p m || (is_double_step p m || is_pawn_capture p m)
 
--- a pawn's step, en passant apart (FIDE 3.7)
+-- a pawn's step, except for en passant (FIDE 3.7)
 abbrev pub is_pawn_step : Parts → Move → Bool
 is_pawn_step p m = own p Pawn m.from && (is_pawn_way p m && promotion_fits p m)
 
@@ -80,12 +80,12 @@ abbrev pub is_target : Option Square → Square → Bool
 is_target None t = false
 is_target (Some u) t = same_square u t
 
--- where the pawn stands that is taken en passant: on the origin's rank and the target's file
+-- the square of the pawn that is taken en passant: on the origin's rank and the target's file
 abbrev pub captured_pawn : Move → Square
 captured_pawn m = square m.to.file m.from.rank
 
 -- A pawn goes to the en passant target, an empty square that it attacks, while a pawn of the other
--- side stands beside its origin, on the target's file. (FIDE 3.7.3.1, 3.7.3.2)
+-- side is beside its origin, on the target's file. (FIDE 3.7.3.1, 3.7.3.2)
 abbrev pub is_en_passant : Parts → Move → Bool
 is_en_passant p m =
     ((own p Pawn m.from && promotion_fits p m) && (is_target p.target m.to && is_empty p.board m.to))
@@ -120,7 +120,7 @@ home p file = square file (home_rank p.side)
 abbrev pub is_king_move : Parts → Move → ℕ → Bool
 is_king_move p m end = same_square m.from (home p 4) && same_square m.to (home p end)
 
--- king and rook stand on their home squares, and all between are empty
+-- king and rook are on their home squares, and all squares between are empty
 abbrev pub stand_ready : Parts → ℕ → Bool
 stand_ready p rook = (own p King (home p 4) && own p Rook (home p rook)) && is_clear p.board (home p 4) (home p rook)
 
@@ -129,8 +129,8 @@ abbrev pub is_unattacked : Parts → ℕ → Bool
 is_unattacked p file = not (is_attacked p.board (other p.side) (home p file))
 
 -- The king goes from its home square two squares towards a rook of its side on its home square. The
--- right is held, all squares between king and rook are empty, and the other side attacks none of
--- those that the king leaves, crosses and reaches. (FIDE 3.8.2, 3.8.2.1, 3.8.2.2)
+-- side has the right, and all squares between king and rook are empty. The other side attacks none
+-- of the squares that the king leaves, crosses and reaches. (FIDE 3.8.2, 3.8.2.1, 3.8.2.2)
 abbrev pub castles : Parts → Move → Bool → Wing → Bool
 castles p m right wing =
     ((right && is_none m.promotion) && is_king_move p m wing.end)
@@ -155,7 +155,7 @@ abbrev pub promoted : Colour → Option Promotion → Option Piece → Option Pi
 promoted c None cell = cell
 promoted c (Some q) cell = Some (record { colour = c; kind = kind_of q })
 
--- the board with the piece on m.from carried to m.to, and promoted where a promotion is named
+-- the board with the piece on m.from moved to m.to, and promoted if a promotion is named
 abbrev pub carried : Parts → Move → Board
 carried p m = put (put p.board m.from None) m.to (promoted p.side m.promotion (at p.board m.from))
 
@@ -223,7 +223,7 @@ abbrev pub cases : Parts → Move → List Bool
 cases p m = is_piece_step p m ∷ is_pawn_step p m ∷ is_en_passant p m ∷ castles_short p m ∷ castles_long p m ∷ []
 
 -- The board after m, if it is a step of the side to move. No move is a step in two ways (a law says
--- so), so that the order does not matter.
+-- so), so the order does not matter.
 abbrev pub board_after : Parts → Move → Option Board
 board_after p m =
     if is_piece_step p m || is_pawn_step p m then Some (carried p m)

@@ -43,13 +43,13 @@ pub record Fen (s : List ℕ) (p : Parts) : Type 0 where
 abbrev pub is_space : ℕ → Bool
 is_space c = c == 32
 
--- what follows the first k spaces
+-- the text after the first k spaces
 abbrev pub rest : ℕ → List ℕ → List ℕ
 rest zero s = s
 rest (suc k) s = rest k (after_first is_space s)
 
--- Field k from 1 to 5 is what stands before the next space, field 6 all the rest; a field that is
--- missing is empty.
+-- Field k from 1 to 5 is the text before the next space, and field 6 all the rest. A missing field
+-- is empty.
 abbrev pub field : ℕ → List ℕ → List ℕ
 field k s = if k == 6 then rest 5 s else before_first is_space (rest (k - 1) s)
 
@@ -71,7 +71,7 @@ abbrev pub parts_read : List ℕ → Result Parts FenFault
 parts_read s =
     parts_or_fault (placement_of (field 1 s)) (side_of (field 2 s)) (rights_of (field 3 s)) (target_of (field 4 s)) (number_of (field 5 s)) (number_of (field 6 s))
 
--- parts that break a rule of positions are 7
+-- parts that break a rule of positions are reported as field 7
 abbrev pub if_position : Result Parts FenFault → Result Parts FenFault
 if_position (Ok p) = if is_position p then Ok p else at_field 7
 if_position (Err fault) = Err fault

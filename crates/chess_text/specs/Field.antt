@@ -17,7 +17,7 @@ side_text Black = codes "b"
 abbrev pub side_of : List ℕ → Option Colour
 side_of s = find (λ c. bytes_eq s (side_text c)) (White ∷ Black ∷ [])
 
--- Field 3: the letters of the rights held, in the order KQkq, or a dash for none. (16.1.3.3)
+-- Field 3: the letters of the castling rights, in the order KQkq, or a dash for none. (16.1.3.3)
 
 abbrev pub or_dash : List ℕ → List ℕ
 or_dash [] = codes "-"
@@ -32,7 +32,7 @@ rights_text r = or_dash (held r.white_short 75 ++ held r.white_long 81 ++ held r
 abbrev pub has_letter : ℕ → List ℕ → Bool
 has_letter c s = list_any (λ d. d == c) s
 
--- the rights whose letters stand in the text
+-- the rights with their letters in the text
 abbrev pub rights_named : List ℕ → Rights
 rights_named s =
     record {
@@ -42,7 +42,7 @@ rights_named s =
       black_long = has_letter 113 s;
     }
 
--- the rights that it names, if it is their text
+-- the rights that the text names, if it is their text
 abbrev pub rights_of : List ℕ → Option Rights
 rights_of s = if bytes_eq s (rights_text (rights_named s)) then Some (rights_named s) else None
 
@@ -61,7 +61,7 @@ target_of (c ∷ []) = if c == 45 then Some None else None
 target_of (file ∷ rank ∷ []) = if is_target file rank then Some (Some (square (file - 97) (rank - 49))) else None
 target_of (file ∷ rank ∷ c ∷ s) = None
 
--- Fields 5 and 6: 1 to 5 digits. Leading zeros may stand before the number. (16.1.3.5, 16.1.3.6)
+-- Fields 5 and 6: 1 to 5 digits, with or without leading zeros. (16.1.3.5, 16.1.3.6)
 
 abbrev pub is_digit : ℕ → Bool
 is_digit c = nat_le 48 c && nat_le c 57

@@ -15,7 +15,7 @@ use Rattle.chess_text.specs.Letter.{letter, kinds, file_letter, rank_digit, squa
 abbrev pub promotion_letter : Promotion → ℕ
 promotion_letter q = letter (kind_of q)
 
--- What the text of a form is: [KQRBNP]? [a-h]? [1-8]? x? [a-h][1-8] (=?[QRBN])? [+#]*, or castling
+-- The text of a form: [KQRBNP]? [a-h]? [1-8]? x? [a-h][1-8] (=?[QRBN])? [+#]*, or castling
 -- and then marks.
 
 -- the ways to write each part
@@ -80,18 +80,18 @@ is_form (Man k file rank to promotion) = (below_eight file && below_eight rank) 
 
 -- The same as a function of the text, read from its end.
 
--- the last byte, or 0; and what stands before it
+-- the last byte, or 0; and the text before it
 abbrev pub last_byte : List ℕ → ℕ
 last_byte s = slice_index s (length s - 1)
 
 abbrev pub front : List ℕ → List ℕ
 front s = take (length s - 1) s
 
--- the front, if the last byte is of use
+-- the text before the last byte if b is true, else the whole text
 abbrev pub front_if : Bool → List ℕ → List ℕ
 front_if b s = if b then front s else s
 
--- what stands before the marks at the end
+-- the text before the marks at the end
 abbrev pub before_marks : List ℕ → List ℕ
 before_marks [] = []
 before_marks (c ∷ s) = if list_all is_mark (c ∷ s) then [] else c ∷ before_marks s
@@ -128,7 +128,7 @@ target_told s = square_of (file_of (last_byte (front s))) (rank_of (last_byte s)
 abbrev pub before_capture : List ℕ → List ℕ
 before_capture s = front_if (last_byte s == 120) s
 
--- what stands before the target, and before the x
+-- the text before the target, and before the x
 abbrev pub before_target : List ℕ → List ℕ
 before_target s = before_capture (front (front s))
 
@@ -144,7 +144,7 @@ file_told s = file_of (last_byte s)
 abbrev pub before_file : List ℕ → List ℕ
 before_file s = front_if (is_some (file_told s)) s
 
--- no letter is a pawn
+-- the kind of a letter; no letter is a pawn
 abbrev pub kind_told : List ℕ → Option Kind
 kind_told [] = Some Pawn
 kind_told (c ∷ []) = find (λ k. letter k == c) kinds
@@ -155,7 +155,7 @@ man_if k file rank None promotion = None
 man_if None file rank (Some to) promotion = None
 man_if (Some k) file rank (Some to) promotion = Some (Man k file rank to promotion)
 
--- hints and letter of what stands before the target
+-- the form of the hints and the letter before the target
 abbrev pub man_before : List ℕ → Option Square → Option Promotion → Option Form
 man_before s to promotion =
     man_if (kind_told (before_file (before_rank s))) (file_told (before_rank s)) (rank_told s) to promotion

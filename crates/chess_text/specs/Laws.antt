@@ -23,7 +23,7 @@ use Rattle.chess_text.specs.Letter.{letter, file_letter, rank_digit, square_text
 use Rattle.chess_text.specs.Reads.{agrees, reads}
 use Rattle.chess_text.specs.San.{rivals, told_apart, has_rivals, capture_text, mark, san}
 
--- what is read of a text is the position that it spells
+-- a text is read as the position that it spells
 abbrev pub ReadsFen : Type 0
 ReadsFen = (s : List ℕ) (p : Parts) → Fen s p ↔ (read s ≡ Ok p)
 
@@ -35,11 +35,11 @@ FenOnce = (s : List ℕ) (p q : Parts) → Fen s p → Fen s q → p ≡ q
 abbrev pub CanonicalSpells : Type 0
 CanonicalSpells = (p : Parts) → IsTrue (is_position p) → Fen (fen_text p) p
 
--- and has at most 93 bytes
+-- the canonical text has at most 93 bytes
 abbrev pub CanonicalFits : Type 0
 CanonicalFits = (p : Parts) → IsTrue (is_position p) → length (fen_text p) ≤ 93
 
--- and no text of the position is shorter: no run is split, no zero leads
+-- no text of the position is shorter than the canonical one: no run is split, no zero leads
 abbrev pub CanonicalIsShortest : Type 0
 CanonicalIsShortest = (s : List ℕ) (p : Parts) → Fen s p → length (fen_text p) ≤ length s
 
@@ -49,7 +49,7 @@ pub record SpellsTarget (s : List ℕ) (t : Option Square) : Type 0 where
   pub side : Colour
   pub fits : IsTrue (target_fits side t)
 
--- Each part is read of exactly the texts that spell it.
+-- Each part is read from exactly the texts that spell it.
 pub record FieldsAreSpellings : Type 0 where
   pub boards : (s : List ℕ) (b : Board) → SpellsBoard s b ↔ (placement_of s ≡ Some b)
   pub sides : (s : List ℕ) (c : Colour) → (s ≡ side_text c) ↔ (side_of s ≡ Some c)
@@ -63,12 +63,11 @@ spelled s =
     is_some (placement_of (field 1 s)) ∷ is_some (side_of (field 2 s)) ∷ is_some (rights_of (field 3 s))
     ∷ is_some (target_of (field 4 s)) ∷ is_some (number_of (field 5 s)) ∷ is_some (number_of (field 6 s)) ∷ []
 
--- the field at fault is the one after the spellings that come before any other; so it is 7 where
--- all six are spellings
+-- the field at fault is the first that is no spelling, or 7 if all six are
 abbrev pub FaultIsLowest : Type 0
 FaultIsLowest = (s : List ℕ) (fault : FenFault) → read s ≡ Err fault → fault.field ≡ prefix_len (λ b. b) (spelled s) + 1
 
--- what is read of a move's text is the form that it spells
+-- the text of a move is read as the form that it spells
 abbrev pub ReadsForm : Type 0
 ReadsForm = (s : List ℕ) (f : Form) → (Spells s f × IsTrue (is_form f)) ↔ (form_of s ≡ Some f)
 
@@ -76,17 +75,17 @@ ReadsForm = (s : List ℕ) (f : Form) → (Spells s f × IsTrue (is_form f)) ↔
 abbrev pub FormOnce : Type 0
 FormOnce = (s : List ℕ) (f g : Form) → IsTrue (is_form f) → IsTrue (is_form g) → Spells s f → Spells s g → f ≡ g
 
--- what is read of a form is the one move that agrees, with the position after it
+-- a form is read as the one move that agrees, with the position after it
 abbrev pub ReadsTheOne : Type 0
 ReadsTheOne =
     (p : Parts) (f : Form) (x : Played)
     → (reads p f ≡ Ok x) ↔ (IsTrue (agrees p f x.mv) × (legal p x.mv ≡ Some x.next) × ((m : Move) → IsTrue (agrees p f m) → m ≡ x.mv))
 
--- the fault is NoMove exactly where none agrees
+-- the fault is NoMove exactly if no move agrees
 abbrev pub ReadsNone : Type 0
 ReadsNone = (p : Parts) (f : Form) → (reads p f ≡ Err NoMove) ↔ ((m : Move) → ¬ IsTrue (agrees p f m))
 
--- and Ambiguous exactly where two or more agree
+-- the fault is Ambiguous exactly if two or more moves agree
 abbrev pub ReadsTwo : Type 0
 ReadsTwo =
     (p : Parts) (f : Form)
@@ -101,16 +100,16 @@ abbrev pub SingleReading : Type 0
 SingleReading =
     (p : Parts) (m : Move) → IsTrue (is_position p) → IsTrue (is_legal p m) → Names p (san p m) m × ((n : Move) → Names p (san p m) n → n ≡ m)
 
--- what may tell the origin apart, in its order (PGN 8.2.3.4)
+-- the disambiguations of an origin, in their order (PGN 8.2.3.4)
 abbrev pub steps_apart : Square → List (List ℕ)
 steps_apart s = [] ∷ (file_letter s.file ∷ []) ∷ (rank_digit s.rank ∷ []) ∷ square_text s ∷ []
 
--- the text of an officer's move with that between its letter and its target
+-- the text of the move of a queen, rook, bishop or knight with this disambiguation
 abbrev pub text_with : Parts → Kind → Move → List ℕ → List ℕ
 text_with p k m apart = ((letter k ∷ []) ++ apart ++ capture_text p m ++ square_text m.to) ++ mark (legal p m)
 
--- Nothing shorter would do: with an earlier step than the one that is written, the text names the
--- move and another one.
+-- Less disambiguation is ambiguous: with an earlier one than is written, the text names the move
+-- and another one.
 abbrev pub ShorterIsAmbiguous : Type 0
 ShorterIsAmbiguous =
     (p : Parts) (k : Kind) (m : Move) (i j : ℕ)

@@ -31,7 +31,7 @@ kinds = King ∷ Queen ∷ Rook ∷ Bishop ∷ Knight ∷ Pawn ∷ []
 abbrev pub every_piece : List Piece
 every_piece = flat_map (λ c. map (λ k. record { colour = c; kind = k }) kinds) (White ∷ Black ∷ [])
 
--- the piece whose letter it is
+-- the piece with this letter
 abbrev pub piece_of : ℕ → Option Piece
 piece_of c = find (λ x. piece_letter x == c) every_piece
 

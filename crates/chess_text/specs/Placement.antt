@@ -9,7 +9,7 @@ use Rattle.chess_text.specs.Letter.{piece_letter, piece_of}
 abbrev pub is_slash : ℕ → Bool
 is_slash c = c == 47
 
--- 1 to 8: so many empty squares
+-- a digit from 1 to 8, which means so many empty squares
 abbrev pub is_run : ℕ → Bool
 is_run c = nat_le 49 c && nat_le c 56
 
@@ -21,19 +21,19 @@ abbrev pub one_cell : Option Piece → Board
 one_cell None = []
 one_cell (Some x) = Some x ∷ []
 
--- the squares that the byte stands for; none if it is no such digit or letter
+-- the squares that the byte means; none if it is no such digit or letter
 abbrev pub cells_at : ℕ → Board
 cells_at c = if is_run c then replicate (c - 48) None else one_cell (piece_of c)
 
--- the squares that the bytes stand for, from file a on
+-- the squares that the bytes mean, from file a on
 abbrev pub cells_of : List ℕ → Board
 cells_of s = flat_map cells_at s
 
--- A rank is spelled by digits and letters for exactly 8 squares. Digits may stand side by side.
+-- A rank is spelled by digits and letters for exactly 8 squares. Digits may be side by side.
 abbrev pub is_rank : List ℕ → Bool
 is_rank s = list_all is_item s && (length (cells_of s) == 8)
 
--- what stands between the slashes: rank 8 first
+-- the texts between the slashes: rank 8 first
 abbrev pub ranks : List ℕ → List (List ℕ)
 ranks s = slice_split is_slash s
 
@@ -56,7 +56,7 @@ rank_text n [] = run_text n
 rank_text n (None ∷ cells) = rank_text (n + 1) cells
 rank_text n (Some x ∷ cells) = run_text n ++ piece_letter x ∷ rank_text 0 cells
 
--- what stands on the rank, from file a to file h
+-- the content of the rank, from file a to file h
 abbrev pub row : Board → ℕ → Board
 row b rank = map (λ file. at b (square file rank)) lines
 

@@ -16,7 +16,7 @@ use Rattle.chess_text.specs.declared.resolve.Played.{Played}
 use Rattle.chess_text.specs.declared.resolve.SanFault.{SanFault}
 use Rattle.chess_text.specs.declared.resolve.SanFault.TheVariants.{NoMove, Ambiguous}
 
--- if a file or rank is told, it is that one (8.2.3.4)
+-- if the text gives a file or rank, it is that one (8.2.3.4)
 abbrev pub hint_fits : Option ℕ → ℕ → Bool
 hint_fits None n = true
 hint_fits (Some k) n = k == n
@@ -89,7 +89,7 @@ only (x ∷ y ∷ more) = Err Ambiguous
 abbrev pub reads : Parts → Form → Result Played SanFault
 reads p f = only (agreeing p f)
 
--- How many pairs are tried to find it; where two moves agree, at most so many.
+-- How many pairs are tried to find it; if two moves agree, at most so many.
 abbrev pub pair_count : Parts → Form → ℕ
 pair_count p (Castle long) = 1
 pair_count p (Man k file rank to promotion) = length (candidates p k to)

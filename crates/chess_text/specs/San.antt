@@ -84,7 +84,7 @@ kind_text King p m = king_text p m
 kind_text Pawn p m = pawn_text p m
 kind_text k p m = officer_text k p m
 
--- the text but for its mark, by the piece that moves; no legal move begins on an empty square
+-- the text without its mark, by the piece that moves; no legal move begins on an empty square
 abbrev pub piece_text : Option Piece → Parts → Move → List ℕ
 piece_text None p m = []
 piece_text (Some x) p m = kind_text x.kind p m
@@ -121,8 +121,8 @@ piece_pairs (Some x) p m = kind_pairs x.kind p m
 abbrev pub apart_pairs : Parts → Move → ℕ
 apart_pairs p m = piece_pairs (at p.board m.from) p m
 
--- From n pairs tried to m: none without check; with it, as `has_legal_move` tells, at most 1,024,
--- and on mate one for each kind, target and candidate.
+-- From n pairs tried to m: none without check. On check as many as `has_legal_move` tries: at most
+-- 1,024, and on mate one for each kind, target and candidate.
 pub record MarkPairs (q : Parts) (n m : ℕ) : Type 0 where
   pub rises : n ≤ m
   pub most : m ≤ n + 1024

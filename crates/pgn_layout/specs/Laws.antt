@@ -8,7 +8,7 @@ use Rattle.pgn_layout.specs.LineText.{IsTextOf}
 abbrev pub TokensDetermineLines : Type 0
 TokensDetermineLines = (tokens lines : List (List ℕ)) → All IsToken tokens → Lines tokens lines ↔ (lines ≡ lines_of tokens)
 
--- what puts write and hold, and what the end of the game adds
+-- what puts write and keep, and what the end of the game adds
 abbrev pub LinesAreThosePut : Type 0
 LinesAreThosePut =
     (tokens lines : List (List ℕ)) → All IsToken tokens → Lines tokens lines →

@@ -19,8 +19,8 @@ spaced (t ∷ ts) = (32 ∷ t) ++ spaced ts
 abbrev pub text_on : Line → List ℕ
 text_on l = l.first ++ spaced l.others
 
--- Each line has at most 79 bytes, and one that another follows would pass them with a space and
--- that line's first token.
+-- Each line has at most 79 bytes. With a space and the first token of the next line it would have
+-- more.
 abbrev pub AreFull : List Line → Type 0
 AreFull [] = Unit {0}
 AreFull (l ∷ []) = length (text_on l) ≤ 79
@@ -31,7 +31,7 @@ abbrev pub tokens_over : List Line → List (List ℕ)
 tokens_over [] = []
 tokens_over (l ∷ ls) = tokens_on l ++ tokens_over ls
 
--- These are the lines of the tokens: the tokens stand on them in order, and each line is as full as
+-- These are the lines of the tokens: the tokens are on them in order, and each line is as full as
 -- it can be.
 pub record Lines (tokens : List (List ℕ)) (lines : List (List ℕ)) : Type 0 where
   pub parts : List Line
@@ -39,7 +39,7 @@ pub record Lines (tokens : List (List ℕ)) (lines : List (List ℕ)) : Type 0 w
   pub texts : map text_on parts ≡ lines
   pub full : AreFull parts
 
--- a token that a line can take: not empty, and at most 79 bytes
+-- a token that fits on a line: not empty, and at most 79 bytes
 pub record IsToken (t : List ℕ) : Type 0 where
   pub not_empty : 0 < length t
   pub fits : length t ≤ 79
@@ -48,7 +48,7 @@ pub record IsToken (t : List ℕ) : Type 0 where
 abbrev pub has_room : List ℕ → List ℕ → Bool
 has_room line token = nat_le (length line + 1 + length token) 79
 
--- the lines of a line that is begun and the tokens that follow
+-- the lines of a line that is begun and the tokens after it
 abbrev pub lines_from : List ℕ → List (List ℕ) → List (List ℕ)
 lines_from line [] = line ∷ []
 lines_from line (t ∷ ts) = elim (has_room line t) [ true ↦ lines_from (line ++ 32 ∷ t) ts | false ↦ line ∷ lines_from t ts ]
