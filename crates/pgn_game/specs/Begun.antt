@@ -25,7 +25,7 @@ pub data Next : Type 0 where
 abbrev pub at_stage : Stage → Part → Part
 at_stage stage part = record { stage = stage; pairs = part.pairs; name = part.name; items = part.items }
 
--- the one move that a symbol names; a symbol that names none is refused
+-- the one move that a symbol names; a symbol that names none is rejected
 abbrev pub item_of : Option (Result Played SanFault) → List Item
 item_of None = []
 item_of (Some (Err fault)) = []
@@ -50,8 +50,8 @@ in_text part k =
       | None ↦ going (record { stage = InMovetext; pairs = part.pairs; name = part.name; items = part.items ++ items_of part k })
     ]
 
--- What a token that is not refused leads to, stage by stage. Comments before a game and in a pair
--- are dropped, and the end leads nowhere.
+-- What a token that is not rejected leads to, stage by stage. Comments before a game and in a pair
+-- are dropped, and the end changes nothing.
 abbrev pub next_in : Stage → Part → Kind → Next
 next_in Between part tokens.left_bracket = going (at_stage AfterBracket part)
 next_in Between part tokens.comment_open = going part
@@ -74,7 +74,7 @@ next_in InMovetext part k = in_text part k
 abbrev pub next : Part → Kind → Next
 next part k = next_in part.stage part k
 
--- the games that are whole, and the part after them
+-- the finished games, and the part after them
 pub record Begun : Type 0 where
   pub games : List Game
   pub part : Part
@@ -89,7 +89,7 @@ begun_with games (whole g) = record { games = games ++ g ∷ []; part = no_part 
 abbrev pub begun_after : Begun → Token → Begun
 begun_after b t = begun_with b.games (next b.part t.kind)
 
--- how far a list of tokens was read, and the first that is refused
+-- how far a list of tokens was read, and the first that is rejected
 pub record Read : Type 0 where
   pub begun : Begun
   pub fault : Option Fault
@@ -106,15 +106,15 @@ read_from p b (t ∷ ts) =
 abbrev pub read : Profile → List Token → Read
 read p ts = read_from p nothing_begun ts
 
--- what is written once this much was read
+-- the output when this much was read
 abbrev pub written : Profile → Begun → List ℕ
 written p b = text_of p b.games ++ torn p b.part
 
--- what is written for the tokens before the first that is refused
+-- the output that must be written for the tokens before the first that is rejected
 abbrev pub due : Profile → List Token → List ℕ
 due p ts = written p (read p ts).begun
 
--- what is written for a text
+-- the output for a text
 abbrev pub output : Profile → List ℕ → List ℕ
 output p s = due p (tokens_of s)
 

@@ -18,12 +18,12 @@ use Rattle.chess_text.specs.San.{san}
 unfoldable pub first_position : Parts
 first_position = initial
 
--- the position of a FEN value, or the field that is at fault (PGN 9.7.2, 16.1)
+-- the position of a FEN value, or the field at fault (PGN 9.7.2, 16.1)
 unfoldable pub position_of : List ℕ → Result Parts FenFault
 position_of text = read text
 
--- What a symbol comes to as a move: None, if it has not the pattern of one; else the one legal move
--- that agrees with it and the position after that, or why there is none (PGN 8.2.3).
+-- What a symbol means as a move: None if it lacks the pattern of a move; else the one legal move
+-- that agrees with it and the position after it, or why there is none (PGN 8.2.3).
 unfoldable pub move_of : Parts → List ℕ → Option (Result Played SanFault)
 move_of p s = option_map (reads p) (form_of s)
 

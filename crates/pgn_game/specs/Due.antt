@@ -7,16 +7,17 @@ use Rattle.pgn_game.specs.Game.{Part}
 use Rattle.pgn_game.specs.Text.{game_text, torn}
 use Rattle.pgn_game.specs.Begun.{Next, going, whole, next, due}
 
--- what stands written of a game when a token has led so far
+-- what is written of a game when a token has led so far
 abbrev pub text_next : Profile → Next → List ℕ
 text_next p (going part) = torn p part
 text_next p (whole g) = game_text p g
 
--- What a token that is not refused adds to what stands written of its game, which it begins with.
+-- What a token that is not rejected adds to what is written of its game. The text before it is a
+-- prefix of the text after it.
 abbrev pub gain : Profile → Part → Kind → List ℕ
 gain p part k = drop (length (torn p part)) (text_next p (next part k))
 
--- What was appended is what is due for the tokens `new`, besides what was due for `old`.
+-- What was appended is the output for the tokens `new` without the output for `old`.
 pub record Gains (p : Profile) (old new : List Token) (before after : Option (List ℕ)) : Type 0 where
   pub text : List ℕ
   pub due_for : due p new ≡ due p old ++ text

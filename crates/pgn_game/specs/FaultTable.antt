@@ -49,7 +49,7 @@ abbrev pub is_end : Kind → Bool
 is_end tokens.end = true
 is_end _ = false
 
--- a symbol whose text passes, a string whose data pass
+-- a symbol with a text that passes, a string with data that pass
 abbrev pub is_symbol_with : (List ℕ → Bool) → Kind → Bool
 is_symbol_with p (tokens.symbol text) = p text
 is_symbol_with p _ = false
@@ -65,7 +65,7 @@ abbrev pub is_string : Kind → Bool
 is_string = is_string_with (λ text. true)
 
 -- Tests of a stage.
--- stages are told apart by number
+-- each stage has a number of its own
 abbrev pub stage_number : Stage → ℕ
 stage_number Between = 0
 stage_number AfterBracket = 1
@@ -146,7 +146,7 @@ is_at_limit p = is_black_to_move p && (p.full == 99999)
 
 -- FEN and SetUp (PGN 9.7).
 
--- the field for which a value is no FEN
+-- the field because of which a value is no FEN
 abbrev pub field_of : Result Parts FenFault → Option ℕ
 field_of (Ok p) = None
 field_of (Err fault) = Some fault.field
@@ -167,12 +167,12 @@ abbrev pub is_reduced : Mode → Bool
 is_reduced Full = false
 is_reduced Reduced = true
 
--- what stands for a missing Result
+-- the value of a missing Result
 abbrev pub result_for : Missing → List ℕ → List ℕ
 result_for counts_as_unknown marker = codes "*"
 result_for takes_the_marker marker = marker
 
--- A marker that is not the Result. One that stands for a missing Result meets itself.
+-- A marker that is not the Result. A marker that is taken for a missing Result equals itself.
 abbrev pub has_other_result : Missing → Part → Kind → Bool
 has_other_result missing part k =
     elim (marker_of k) [
@@ -188,10 +188,10 @@ pub record Row : Type 0 where
 abbrev pub row : Reason → Bool → Row
 row reason holds = record { holds = holds; reason = reason }
 
--- The table, lowest number first. Of our own are the rules that a name is given once (22), that a
--- game has so many pairs (23), that SetUp 1 asks for a FEN (30), that the reduced format has no FEN
--- (31), that no number passes 99,999 (36), that variations are so deep (38), and that a missing
--- Result counts as `*` (41).
+-- The table, lowest number first. These rules are our own: a name is given once (22), a game has at
+-- most so many pairs (23), SetUp 1 needs a FEN (30), the reduced format has no FEN (31), no number
+-- is above 99,999 (36), variations are at most so deep (38), and a missing Result counts as `*`
+-- (41).
 abbrev pub rows : Profile → Part → Kind → List Row
 rows p part k =
     row ExpectedName (is_at AfterBracket part && not (is_symbol k || is_comment k))
@@ -223,7 +223,7 @@ abbrev pub first_holding : List Row → Option Reason
 first_holding [] = None
 first_holding (r ∷ rs) = elim r.holds [ true ↦ Some r.reason | false ↦ first_holding rs ]
 
--- Why a token is refused after this part, if it is. It is `unfoldable`, so that goals show it by
+-- Why a token is rejected after this part, if it is. It is `unfoldable`, so that goals show it by
 -- its name.
 unfoldable pub refusal : Profile → Part → Kind → Option Reason
 refusal p part (tokens.refused r) = Some (Lexical r)

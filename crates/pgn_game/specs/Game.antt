@@ -5,7 +5,7 @@ use Rattle.pgn_game.specs.declared.stage.Stage.{Stage}
 use Rattle.pgn_game.specs.declared.stage.Stage.TheVariants.{Between}
 use Rattle.pgn_game.specs.Pairs.{Pair}
 
--- What movetext has beside move numbers: moves, glyphs (PGN 8.2.4), comments word by word (PGN 5),
+-- What movetext has beside move numbers: moves, NAGs (PGN 8.2.4), comments word by word (PGN 5),
 -- and the parentheses of variations (PGN 8.2.5).
 pub data Item : Type 0 where
   move : Move → Item
@@ -23,8 +23,8 @@ pub record Game : Type 0 where
   pub items : List Item
   pub marker : List ℕ
 
--- the part of a game that stands: how far it is, the pairs whose value was read, in the order of
--- their names, the name whose value is still to come, and the items so far
+-- the part of the current game: its stage, the pairs with a value, in the order of their names, the
+-- name without a value yet, and the items so far
 pub record Part : Type 0 where
   pub stage : Stage
   pub pairs : List Pair

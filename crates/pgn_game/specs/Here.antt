@@ -8,7 +8,7 @@ use Rattle.pgn_game.specs.Chess.{first_position, position_of, play}
 use Rattle.pgn_game.specs.Pairs.{Pair, value_of}
 use Rattle.pgn_game.specs.Game.{Item, move, open_variation, close_variation, Game}
 
--- a FEN value that is no position is refused, so what it counts as is of no account
+-- a FEN value that is no position is rejected, so its position here does not matter
 abbrev pub position_or_first : Result Parts FenFault → Parts
 position_or_first (Ok p) = p
 position_or_first (Err fault) = first_position
@@ -17,7 +17,7 @@ abbrev pub start_by : Option (List ℕ) → Parts
 start_by None = first_position
 start_by (Some text) = position_or_first (position_of text)
 
--- where a game with these pairs begins: a FEN pair alone decides it (PGN 9.7.2)
+-- the first position of a game with these pairs: a FEN pair alone decides it (PGN 9.7.2)
 abbrev pub start_of : List Pair → Parts
 start_of ps = start_by (value_of ps (codes "FEN"))
 
@@ -27,7 +27,7 @@ pub record Level : Type 0 where
   pub trail : List Move
   pub holds_move : Bool
 
--- the level at hand, and those around it, the nearest first
+-- the current level, and those around it, the nearest first
 pub record Levels : Type 0 where
   pub present : Level
   pub around : List Level
@@ -43,7 +43,7 @@ abbrev pub back_to : List Level → Levels → Levels
 back_to [] ls = ls
 back_to (l ∷ around) ls = record { present = l; around = around }
 
--- A move is played at the level at hand. A variation begins a level without the last move before
+-- A move is played at the current level. A variation begins a level without the last move before
 -- it, which it replaces. Its end brings back the level around it. Nothing else matters.
 abbrev pub levels_after : Levels → Item → Levels
 levels_after ls (move m) = record { present = record { trail = m ∷ ls.present.trail; holds_move = true }; around = ls.around }
@@ -64,7 +64,7 @@ abbrev pub replayed : Parts → List Move → Parts
 replayed start [] = start
 replayed start (m ∷ ms) = play (replayed start ms) m
 
--- the position at the level at hand: all moves that lead to it, replayed from the game's first
+-- the position at the current level: all moves that lead to it, replayed from the game's first
 -- position
 abbrev pub here : Parts → Levels → Parts
 here start ls = replayed start ls.present.trail

@@ -8,6 +8,6 @@ use Rattle.pgn_game.specs.Begun.{due}
 abbrev pub IsPrefix : List ℕ → List ℕ → Type 0
 IsPrefix xs ys = (zs : List ℕ) × (ys ≡ xs ++ zs)
 
--- With more tokens more is due: nothing that was due is taken back.
+-- With more tokens the output only grows: nothing is taken back.
 abbrev pub DueGrows : Type 0
 DueGrows = (p : Profile) (ts us : List Token) → IsPrefix (due p ts) (due p (ts ++ us))

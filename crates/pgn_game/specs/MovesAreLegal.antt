@@ -1,4 +1,4 @@
--- **Definition.** The law that each move of a game is legal where it stands.
+-- **Definition.** The law that each move of a game is legal in its position.
 use Rattle.std.specs.Prelude.{Bool, true, IsTrue, List}
 use Rattle.std.specs.List.{list_all}
 use Rattle.chess_rules.specs.declared.position.Parts.{Parts}
@@ -11,20 +11,19 @@ use Rattle.pgn_game.specs.Here.{start_of, first_level}
 use Rattle.pgn_game.specs.Text.{placed_from}
 use Rattle.pgn_game.specs.Begun.{read}
 
--- A move has to be legal in this position (FIDE 3). Of another item nothing is asked.
+-- A move has to be legal in this position (FIDE 3). Nothing is required of another item.
 abbrev pub is_legal_at : Parts → Item → Bool
 is_legal_at position (move m) = is_legal position m
 is_legal_at position _ = true
 
--- Each move of the items is legal in the position where it stands, inside variations too. That
--- position is the one after all moves that lead to it, played from where a game with these pairs
--- begins.
+-- Each move of the items is legal in its position, inside variations too. That is the position
+-- after all moves that lead to it, played from the first position of a game with these pairs.
 abbrev pub plays_legally : List Pair → List Item → Bool
 plays_legally pairs items =
     list_all (λ i. is_legal_at i.position i.item) (placed_from (start_of pairs) first_level items)
 
--- Each move of the games that are read is legal where it stands, and so is each of the game that is
--- not whole yet.
+-- Each move of the games that are read is legal in its position, and so is each move of the current
+-- game.
 abbrev pub MovesAreLegal : Type 0
 MovesAreLegal = (p : Profile) (ts : List Token)
     → IsTrue (list_all (λ g. plays_legally g.pairs g.items) (read p ts).begun.games)

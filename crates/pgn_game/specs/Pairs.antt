@@ -20,8 +20,8 @@ comes_before a [] = false
 comes_before [] (y ∷ ys) = true
 comes_before (x ∷ xs) (y ∷ ys) = nat_lt x y || ((x == y) && comes_before xs ys)
 
--- The pairs with one more, before the first whose name its own comes before: so pairs stay in the
--- order of their names.
+-- The pairs with one more, which comes before the first pair with a later name. So pairs stay in
+-- the order of their names.
 abbrev pub insert_pair : Pair → List Pair → List Pair
 insert_pair p [] = p ∷ []
 insert_pair p (q ∷ qs) = elim (comes_before p.name q.name) [ true ↦ p ∷ q ∷ qs | false ↦ q ∷ insert_pair p qs ]

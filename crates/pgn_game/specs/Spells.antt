@@ -25,7 +25,7 @@ use Rattle.pgn_game.specs.FaultTable.{is_comment, in_name, is_score, is_result, 
 abbrev pub AreDropped : List Kind → Type 0
 AreDropped ks = IsTrue (list_all is_comment ks)
 
--- `[`, a name, a value, `]`, and comments anywhere between
+-- `[`, a name, a value, `]`, and comments anywhere between them
 pub data SpellsPair : List Kind → Pair → Type 0 where
   pair : (xs ys zs : List Kind) (name value : List ℕ) → AreDropped xs → AreDropped ys → AreDropped zs
       → SpellsPair (tokens.left_bracket ∷ (xs ++ tokens.symbol name ∷ (ys ++ tokens.str value ∷ (zs ++ tokens.right_bracket ∷ [])))) (record { name = name; value = value })
@@ -64,8 +64,8 @@ IsSetUp ps = value_of ps (codes "SetUp") ≡ Some (codes "1") → IsTrue (has_pa
 
 -- Movetext (PGN 8.2).
 
--- A token that stands anywhere, and the item that it is. Numbers and periods are none: they decide
--- nothing (PGN 8.2.2.1).
+-- A token that may be anywhere in movetext, and the item that it is. Numbers and periods are none:
+-- they decide nothing (PGN 8.2.2.1).
 pub data Stands : Kind → List Item → Type 0 where
   number : (s : List ℕ) → IsTrue (is_number s) → Stands (tokens.symbol s) []
   period : Stands tokens.period []
@@ -91,7 +91,7 @@ abbrev pub has_played : Move → List Move → Level
 has_played m trail = record { trail = m ∷ trail; holds_move = true }
 
 -- The tokens of a game, or of one variation, from one place in it to its end: so many variations
--- are open there, and these moves lead there from the first position. A variation stands behind a
+-- are open there, and these moves lead there from the first position. A variation comes after a
 -- move, and is movetext itself (PGN 8.2.5).
 pub data SpellsText (p : Profile) (first : Parts) : ℕ → Level → List Kind → List Item → Type 0 where
   no_more : (deep : ℕ) (l : Level) → SpellsText p first deep l [] []
@@ -110,7 +110,7 @@ abbrev pub BeginsBare : List Kind → Type 0
 BeginsBare [] = Unit {0}
 BeginsBare (k ∷ ks) = IsFalse (is_comment k)
 
--- the marker is the Result, or what stands for a missing one
+-- the marker is the Result, or the value of a missing one
 abbrev pub IsResult : Missing → Option (List ℕ) → List ℕ → Type 0
 IsResult missing (Some value) marker = marker ≡ value
 IsResult counts_as_unknown None marker = marker ≡ codes "*"

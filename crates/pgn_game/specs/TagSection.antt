@@ -5,8 +5,8 @@ use Rattle.pgn_game.specs.declared.mode.Mode.{Mode}
 use Rattle.pgn_game.specs.declared.mode.Mode.TheVariants.{Full, Reduced}
 use Rattle.pgn_game.specs.Pairs.{Pair, value_of, has_pair, insert_pair}
 
--- the seven tag roster in its order, each with what stands for a missing value (PGN 8.1.1); that of
--- Result is given. It is `unfoldable`, so that goals show it by its name.
+-- the seven tag roster in its order, each with its default (PGN 8.1.1); the default of Result is
+-- given. It is `unfoldable`, so that goals show it by its name.
 unfoldable pub roster : List ℕ → List Pair
 roster result =
     record { name = codes "Event"; value = codes "?" } ∷ record { name = codes "Site"; value = codes "?" }
@@ -24,7 +24,7 @@ in_roster name =
 abbrev pub roster_pairs : List ℕ → List Pair → List Pair
 roster_pairs result ps = map (λ d. record { name = d.name; value = unwrap_or (value_of ps d.name) d.value }) (roster result)
 
--- A game that a FEN begins is written with SetUp 1, whatever its SetUp is; in any other SetUp stays
+-- A game with a FEN is written with SetUp 1, for any SetUp of its own. In another game SetUp stays
 -- as it is (PGN 9.7.1).
 abbrev pub with_set_up : List Pair → List Pair
 with_set_up ps =
@@ -38,7 +38,7 @@ abbrev pub other_pairs : List Pair → List Pair
 other_pairs ps = filter (λ p. not (in_roster p.name)) ps
 
 -- The pairs that are written, of pairs in ASCII order: the roster, and in full mode the others
--- after it (PGN 8.1.1). `result` stands for a missing Result.
+-- after it (PGN 8.1.1). `result` is the value of a missing Result.
 abbrev pub exported : Mode → List ℕ → List Pair → List Pair
 exported Full result ps = roster_pairs result ps ++ other_pairs (with_set_up ps)
 exported Reduced result ps = roster_pairs result ps

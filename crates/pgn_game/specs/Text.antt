@@ -13,7 +13,7 @@ use Rattle.pgn_game.specs.Here.{Levels, levels_after, first_level, start_of, dep
 use Rattle.pgn_game.specs.TagSection.{tag_section}
 use Rattle.pgn_game.specs.FaultTable.{result_for}
 
--- an item with the position and the depth at which it stands
+-- an item with its position and its depth
 pub record Placed : Type 0 where
   pub position : Parts
   pub depth : ℕ
@@ -36,8 +36,8 @@ abbrev pub written_items : Mode → List Placed → List Placed
 written_items Full is = is
 written_items Reduced is = filter is_main_move is
 
--- The number of a move: `n.` before White's; before Black's `n...`, unless a move stands just
--- before it (PGN 8.2.2.2).
+-- The number of a move: `n.` before White's; before Black's `n...`, unless a move is just before it
+-- (PGN 8.2.2.2).
 abbrev pub number_before : Bool → Bool → ℕ → List (List ℕ)
 number_before is_after_move false n = (decimal n ++ codes ".") ∷ []
 number_before false true n = (decimal n ++ codes "...") ∷ []
@@ -54,7 +54,7 @@ tokens_at is_after_move p comment_close = codes "}" ∷ []
 tokens_at is_after_move p open_variation = codes "(" ∷ []
 tokens_at is_after_move p close_variation = codes ")" ∷ []
 
--- the tokens of items in turn
+-- the tokens of items, one after another
 abbrev pub tokens_from : Bool → List Placed → List (List ℕ)
 tokens_from is_after_move [] = []
 tokens_from is_after_move (i ∷ is) = tokens_at is_after_move i.position i.item ++ tokens_from (is_move i.item) is
@@ -69,7 +69,7 @@ game_text p g =
     tag_section p.mode (result_for p.missing_result g.marker) g.pairs
     ++ text_of_lines (lines_of (tokens_out p.mode (start_of g.pairs) g.items ++ g.marker ∷ [])) ++ 10 ∷ []
 
--- of games in turn
+-- the text of games, one after another
 abbrev pub text_of : Profile → List Game → List ℕ
 text_of p [] = []
 text_of p (g ∷ gs) = game_text p g ++ text_of p gs
@@ -86,8 +86,8 @@ abbrev pub torn_for : Missing → Mode → Part → List ℕ
 torn_for counts_as_unknown mode part = torn_at part.stage mode part
 torn_for takes_the_marker mode part = []
 
--- What stands written of a game that is not whole: nothing while it has no movetext; then its tag
--- section and all lines but the last. Where a missing Result takes the marker, the section waits
--- for the marker, and nothing stands written.
+-- What is written of the current game: nothing while it has no movetext; then its tag section and
+-- all lines but the last. If a missing Result takes the marker, the section waits for the marker,
+-- and nothing is written.
 abbrev pub torn : Profile → Part → List ℕ
 torn p part = torn_for p.missing_result p.mode part

@@ -6,8 +6,8 @@ use Rattle.pgn_game.specs.Game.{Game}
 use Rattle.pgn_game.specs.Begun.{read}
 use Rattle.pgn_game.specs.Spells.{Spells}
 
--- A text spells games exactly if none of its tokens is refused, and then those that are read and no
--- others.
+-- A text spells games exactly if none of its tokens is rejected, and then those that are read and
+-- no others.
 abbrev pub UniqueReading : Type 0
 UniqueReading = (p : Profile) (s : List ℕ) (games : List Game)
     → Spells p (tokens_of s) games ↔ (((read p (tokens_of s)).fault ≡ None) × ((read p (tokens_of s)).begun.games ≡ games))

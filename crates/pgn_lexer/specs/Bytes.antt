@@ -27,7 +27,7 @@ is_letter b = (nat_le 65 b && nat_le b 90) || (nat_le 97 b && nat_le b 122)
 abbrev pub starts_symbol : ℕ → Bool
 starts_symbol b = is_letter b || is_digit b
 
--- A symbol goes on with these and _ + # = : - (PGN 7), and, by our choice, with / for 1/2-1/2.
+-- A symbol continues with these and _ + # = : - (PGN 7), and, by our choice, with / for 1/2-1/2.
 abbrev pub continues_symbol : ℕ → Bool
 continues_symbol b = starts_symbol b || (b == 95) || (b == 43) || (b == 35) || (b == 61) || (b == 58) || (b == 45) || (b == 47)
 

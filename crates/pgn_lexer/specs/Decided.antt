@@ -5,7 +5,7 @@ use Rattle.pgn_lexer.specs.declared.token.LexReason.TheVariants.{StrayByte, Cont
 use Rattle.pgn_lexer.specs.Tokens.{Kind, Token, left_bracket, right_bracket, left_paren, right_paren, period, asterisk, symbol, str, glyph, comment_open, word, comment_close, end, refused}
 use Rattle.pgn_lexer.specs.TokensOf.{tokens_of}
 
--- the number of a refusal in the table of faults
+-- the number of an error in the fault table
 abbrev pub number_of_reason : LexReason → ℕ
 number_of_reason StrayByte = 1
 number_of_reason ControlByte = 2
@@ -49,8 +49,8 @@ common [] us = []
 common (t ∷ ts) [] = []
 common (t ∷ ts) (u ∷ us) = elim (same_token t u) [ true ↦ t ∷ common ts us | false ↦ [] ]
 
--- What the tokens of u alone, and of u with each of five ends after it, all begin with: `1`, `!`,
--- `""`, BF, BB BF.
+-- The tokens that the tokens of six texts all begin with: u alone, and u with one of five ends
+-- after it, which are `1`, `!`, `""`, BF and BB BF.
 abbrev pub decided : List ℕ → List Token
 decided u =
     common (tokens_of u) (

@@ -13,17 +13,17 @@ use Rattle.std.specs.List.{list_all}
 abbrev pub IsPrefix : List Token → List Token → Type 0
 IsPrefix xs ys = (zs : List Token) × (ys ≡ xs ++ zs)
 
--- Each text is cut in one way, and `tokens_of` computes it.
+-- Each text is cut into tokens in exactly one way, and `tokens_of` computes it.
 abbrev pub LexesOnce : Type 0
 LexesOnce = (s : List ℕ) (ts : List Token) → Lexes s ts ↔ (ts ≡ tokens_of s)
 
--- the token is the end of the text or a refusal
+-- the token is the end of the text or an error
 abbrev pub IsLast : Kind → Type 0
 IsLast end = Unit {0}
 IsLast (refused r) = Unit {0}
 IsLast _ = ⊥
 
--- The last token, and no other, is the end or a refusal. Places rise, but for the end of the text.
+-- The last token, and no other, is the end or an error. Places rise, except at the end of the text.
 abbrev pub RisesTo : List Token → Type 0
 RisesTo [] = ⊥
 RisesTo (t ∷ []) = IsLast t.kind
@@ -39,18 +39,18 @@ DecidedIsPrefix = (u s : List ℕ) → IsPrefix (decided u) (tokens_of (u ++ s))
 abbrev pub KnownIsPrefix : Type 0
 KnownIsPrefix = (u s : List ℕ) (b : ℕ) → IsPrefix (known u b) (tokens_of (u ++ b ∷ s))
 
--- The tokens of each text are sound: their bytes are as they have to be, and a comment that is
--- opened closes, unless the text is rejected.
+-- The tokens of each text are sound: each has the bytes of its kind, and a comment that opens
+-- closes, unless the text is rejected.
 abbrev pub TokensAreSound : Type 0
 TokensAreSound = (s : List ℕ) → IsSound (tokens_of s)
 
--- Pieces whose text can be read back are read back: the tokens of their text are their tokens, each
--- at its place, and the end.
+-- If the text of pieces is readable, it is read back: its tokens are those of the pieces, each at
+-- its place, and the end.
 abbrev pub PiecesAreReadBack : Type 0
 PiecesAreReadBack =
     (ps : List Piece) → IsReadable ps → tokens_of (text_of_pieces ps) ≡ tokens_at 0 ps
 
--- so in order, without their places
+-- the same for the kinds in order, without their places
 abbrev pub KindsAreReadBack : Type 0
 KindsAreReadBack =
     (ps : List Piece) → IsReadable ps

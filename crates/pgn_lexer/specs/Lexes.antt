@@ -32,7 +32,7 @@ is_escaped b = (b == 34) || (b == 92)
 abbrev pub is_barred : ℕ → Bool
 is_barred b = nat_le b 31 || (b == 127)
 
--- a byte that stands for itself in a string
+-- a byte that means itself in a string
 abbrev pub is_plain : ℕ → Bool
 is_plain b = not (is_barred b || is_escaped b)
 
@@ -53,7 +53,7 @@ pub data IsSingle : ℕ → Kind → Type 0 where
   period : IsSingle 46 tokens.period
   asterisk : IsSingle 42 tokens.asterisk
 
--- the glyphs that suffixes stand for (PGN 8.2.3.8, 10)
+-- the NAGs of the suffixes (PGN 8.2.3.8, 10)
 pub data IsSuffix : List ℕ → ℕ → Type 0 where
   good : IsSuffix (codes "!") 1
   poor : IsSuffix (codes "?") 2
@@ -78,8 +78,8 @@ is_stray b =
     not (starts_symbol b || is_line_end b || is_blank b || is_suffix b || (b == 37) || (b == 34) || (b == 36) || (b == 123) || (b == 59)
     || (b == 91) || (b == 93) || (b == 40) || (b == 41) || (b == 46) || (b == 42) || ((b == 60) || (b == 62)) || is_control b)
 
--- The text is refused, so many bytes further on. A } in a comment to the end of its line is refused
--- by our choice.
+-- The text is rejected, so many bytes further on. A } in a comment to the end of its line is
+-- rejected by our choice.
 pub data Refuses : List ℕ → ℕ → LexReason → Type 0 where
   stray : (b : ℕ) (s : List ℕ) → IsTrue (is_stray b) → Refuses (b ∷ s) 0 StrayByte
   control_byte : (b : ℕ) (s : List ℕ) → IsTrue (is_control b) → Refuses (b ∷ s) 0 ControlByte

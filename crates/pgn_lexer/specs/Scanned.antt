@@ -22,7 +22,7 @@ kind_of (variants.Word text) = word text.now
 kind_of variants.CommentClose = comment_close
 kind_of variants.End = end
 
--- nothing, a token, or a refusal
+-- nothing, a token, or an error
 pub data Scanned : Type 0 where
   more : Scanned
   token : Token → Scanned
@@ -45,7 +45,7 @@ EndsIn more place = Unit {0}
 EndsIn (token t) place = EndsAt t.kind t.at place
 EndsIn (fault f) place = Unit {0}
 
--- the refusal, if it is one
+-- the error, if it is one
 abbrev pub fault_in : Scanned → Option LexFault
 fault_in more = None
 fault_in (token t) = None

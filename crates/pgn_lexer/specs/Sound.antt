@@ -1,4 +1,4 @@
--- **Definition.** What the tokens of a text are made of, whatever the text is (PGN 5, 7, 8.2.4).
+-- **Definition.** What the tokens of every text are made of (PGN 5, 7, 8.2.4).
 use Rattle.std.specs.Prelude.{ℕ, ◌<◌, ◌≤◌, IsTrue, Bool, true, false, not, List, [], ◌∷◌, length, map}
 use Rattle.std.specs.List.{AllByRecursion, list_all}
 use Rattle.pgn_lexer.specs.Bytes.{starts_symbol, continues_symbol, continues_word}
@@ -31,7 +31,7 @@ pub record IsWord (text : List ℕ) : Type 0 where
   pub bytes : IsTrue (list_all continues_word text)
   pub fits : length text ≤ 79
 
--- what the text of a token is made of; a glyph is at most 255 (PGN 8.2.4)
+-- what the text of a token is made of; a NAG is at most 255 (PGN 8.2.4)
 abbrev pub IsSoundKind : Kind → Type 0
 IsSoundKind (tokens.symbol text) = IsSymbol text
 IsSoundKind (tokens.str text) = IsData text
@@ -39,8 +39,8 @@ IsSoundKind (tokens.glyph n) = n ≤ 255
 IsSoundKind (tokens.word text) = IsWord text
 IsSoundKind _ = Unit {0}
 
--- Comments open, have words alone, and close. Words and closing braces are nowhere else. Only a
--- refusal ends the tokens inside a comment (PGN 5). `is_inside` says whether a comment is open
+-- Comments open, have words alone, and close. Words and closing braces are nowhere else. Only an
+-- error ends the tokens inside a comment (PGN 5). `is_inside` says whether a comment is open
 -- before the tokens.
 abbrev pub CommentsClose : (is_inside : Bool) → List Kind → Type 0
 CommentsClose false [] = Unit {0}
@@ -54,7 +54,7 @@ CommentsClose true (tokens.comment_close ∷ ks) = CommentsClose false ks
 CommentsClose true (tokens.refused r ∷ ks) = Unit {0}
 CommentsClose true (k ∷ ks) = ⊥
 
--- each token's text is made as it has to be, and comments are in order
+-- the text of each token is sound, and comments open and close in order
 pub record IsSound (ts : List Token) : Type 0 where
   pub texts : AllByRecursion (λ t. IsSoundKind t.kind) ts
   pub comments : CommentsClose false (map (λ t. t.kind) ts)

@@ -63,13 +63,13 @@ string_class b =
     else (if nat_le b 31 || (b == 127) then strings.Control
     else strings.Plain)))
 
--- What begins at a byte: nothing, a token, or the refusal at which the tokens stop, with its place.
+-- What begins at a byte: nothing, a token, or the error at which the tokens stop, with its place.
 pub data Found : Type 0 where
   nothing : Found
   gives : Kind → Found
   stops : ℕ → LexReason → Found
 
--- a symbol is the longest run of its bytes; more than 255 are refused (PGN 7)
+-- a symbol is the longest run of its bytes; more than 255 are rejected (PGN 7)
 abbrev pub symbol_at : ℕ → List ℕ → Found
 symbol_at at run = if nat_le (length run) 255 then gives (symbol run) else stops at SymbolTooLong
 
@@ -87,13 +87,13 @@ number_of ds = number_from 0 ds
 abbrev pub numbered_at : ℕ → ℕ → Found
 numbered_at at n = if nat_le n 255 then gives (glyph n) else stops at GlyphRange
 
--- A glyph has the longest run of digits after its dollar sign (PGN 7), and is at most 255 (PGN
--- 8.2.4). Leading zeros pass by our choice.
+-- A NAG has the longest run of digits after its dollar sign (PGN 7), and is at most 255 (PGN
+-- 8.2.4). Leading zeros are accepted by our choice.
 abbrev pub glyph_at : ℕ → List ℕ → Found
 glyph_at at [] = stops at LoneDollar
 glyph_at at (d ∷ ds) = numbered_at at (number_of (d ∷ ds))
 
--- ! ? !! ?? !? ?! are the glyphs 1 to 6 (PGN 8.2.3.8, 10)
+-- ! ? !! ?? !? ?! are the NAGs 1 to 6 (PGN 8.2.3.8, 10)
 abbrev pub suffix_at : ℕ → List ℕ → Found
 suffix_at at (a ∷ []) = if a == 33 then gives (glyph 1) else gives (glyph 2)
 suffix_at at (a ∷ b ∷ []) =
@@ -101,7 +101,7 @@ suffix_at at (a ∷ b ∷ []) =
     else (if b == 33 then gives (glyph 6) else gives (glyph 4))
 suffix_at at _ = stops at BadSuffix
 
--- What a string comes to after its opening quote: its data, or a refusal with its place.
+-- The result of reading a string after its opening quote: its data, or an error with its place.
 pub data Reading : Type 0 where
   closed : List ℕ → Reading
   broken : ℕ → LexReason → Reading
@@ -112,8 +112,8 @@ datum b (closed text) = closed (b ∷ text)
 datum b (broken at reason) = broken at reason
 
 -- A string that began at `start`, after n data, at the place `at`; `escaped` says that a backslash
--- stands just before. A backslash takes the quote or backslash after it (PGN 7), and is else, by
--- our choice, a datum itself.
+-- is just before. A backslash makes the quote or backslash after it a datum (PGN 7). Before another
+-- byte it is, by our choice, a datum itself.
 abbrev pub reading : ℕ → ℕ → ℕ → Bool → List ℕ → Reading
 reading start at n escaped [] = broken start UnclosedString
 reading start at n false (b ∷ bs) =

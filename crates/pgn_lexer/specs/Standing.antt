@@ -6,7 +6,7 @@ use Rattle.pgn_lexer.specs.declared.hand.Mode.TheVariants.{Failed}
 use Rattle.pgn_lexer.specs.Tokens.{Token}
 use Rattle.pgn_lexer.specs.Held.{Held, to_come, pending}
 
--- how many bytes were used, and what it holds of the token in hand
+-- how many bytes were used, and what is stored of the current token
 pub record Standing : Type 0 where
   pub count : ℕ
   pub held : Held
@@ -23,6 +23,6 @@ abbrev pub fault_in_mode : Mode → Option LexFault
 fault_in_mode (Failed f) = Some f
 fault_in_mode _ = None
 
--- the refusal that it met
+-- the error that it met
 abbrev pub fault_of : Standing → Option LexFault
 fault_of l = fault_in_mode l.held.mode

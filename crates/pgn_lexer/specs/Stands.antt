@@ -12,7 +12,7 @@ use Rattle.pgn_lexer.specs.Held.{refusal}
 use Rattle.pgn_lexer.specs.Scanned.{Scanned, more, token, fault, fault_in, HasLengthIn, EndsIn}
 use Rattle.pgn_lexer.specs.Standing.{Standing, coming, waiting, fault_of}
 
--- s ends, or goes on with the byte that was seen
+-- s is empty, or begins with the byte that was seen
 abbrev pub Follows : Option ℕ → List ℕ → Type 0
 Follows None s = Unit {0}
 Follows (Some b) [] = Unit {0}
@@ -23,9 +23,9 @@ abbrev pub first : List ℕ → Option ℕ
 first [] = None
 first (b ∷ bs) = Some b
 
--- The bytes u were used and the tokens given, and b, where there is one, is known to be next:
--- whatever follows, the tokens of the whole text are those given and then those that the lexer has
--- to give.
+-- The lexer has used the bytes u and given these tokens; b, if there is one, is known to be the
+-- next byte. For every continuation, the tokens of the whole text are those given, and then those
+-- that the lexer still gives.
 pub record StandsAfter (l : Standing) (u : List ℕ) (b : Option ℕ) (given : List Token) : Type 0 where
   pub count : l.count ≡ length u
   pub before : AllByRecursion (λ t. t.at < length u) given
@@ -41,13 +41,13 @@ still b (c ∷ piece) = None
 abbrev pub IsDecided : List ℕ → List ℕ → List Token → Type 0
 IsDecided u rest given = (given ≡ decided u) ⊎ ((b : ℕ) × (first rest ≡ Some b) × (given ≡ known u b))
 
--- The token given ends there, and no sooner: the bytes of a run, used to their last, do not decide
--- it yet, and those of another token do not without the last one.
+-- The token ends there, and no sooner. All bytes of a run do not decide it yet: the byte after them
+-- does. The bytes of any other token do not decide it without the last one.
 abbrev pub EndsNoSooner : Bool → List ℕ → List ℕ → ℕ → List Token → Type 0
 EndsNoSooner true u piece used given = 0 < used → given ≡ decided (u ++ take used piece)
 EndsNoSooner false u piece used given = 1 < used → given ≡ decided (u ++ take (used - 1) piece)
 
--- what a call leaves
+-- what a call leaves: the lexer stands after more bytes, or the text is rejected
 abbrev pub AfterScan : List ℕ → Option ℕ → List Token → List ℕ → Standing → ℕ → Scanned → Type 0
 AfterScan u b given piece new used more =
     (used ≡ length piece) × StandsAfter new (u ++ piece) (still b piece) given × (0 < length piece → given ≡ decided (u ++ piece))
@@ -63,8 +63,7 @@ abbrev pub Carries : Standing → List ℕ → Standing → ℕ → Scanned → 
 Carries old piece new used seen =
     (u : List ℕ) (b : Option ℕ) (given : List Token) → StandsAfter old u b given → Follows b piece → AfterScan u b given piece new used seen
 
--- What a call gives, of a text that goes on from the lexer's place with the piece and then with any
--- s.
+-- What a call gives, if the text continues with the piece and then with any s.
 abbrev pub Reads : Standing → List ℕ → Standing → ℕ → Scanned → Type 0
 Reads old piece new used more = (used ≡ length piece) × ((s : List ℕ) → coming old (piece ++ s) ≡ coming new s)
 Reads old piece new used (token t) = (s : List ℕ) → coming old (piece ++ s) ≡ t ∷ coming new (drop used piece ++ s)
@@ -76,8 +75,8 @@ Advances old new used more = Unit {0}
 Advances old new used (token t) = waiting new < 2 * used + waiting old
 Advances old new used (fault f) = Unit {0}
 
--- What a call of `next` does. An empty piece changes nothing and gives no token; after a refusal
--- each call answers it, uses no byte and changes nothing.
+-- What a call of `next` does. An empty piece changes nothing and gives no token. After an error
+-- each call returns it again, uses no byte and changes nothing.
 pub record Scans (old : Standing) (piece : List ℕ) (new : Standing) (used : ℕ) (seen : Scanned) : Type 0 where
   pub count : new.count ≡ old.count + used
   pub advances : Advances old new used seen
@@ -90,7 +89,7 @@ pub record Scans (old : Standing) (piece : List ℕ) (new : Standing) (used : �
   pub stays : (f : LexFault) → fault_of old ≡ Some f → (used ≡ 0) × (seen ≡ fault f) × (new ≡ old)
 
 -- What a call of `finish` gives: the next of the tokens that are left, the end again and again, or
--- the refusal.
+-- the error.
 abbrev pub Gives : Kind → Standing → Standing → Token → Type 0
 Gives end old new t = (coming old [] ≡ t ∷ []) × (new ≡ old)
 Gives _ old new t = (coming old [] ≡ t ∷ coming new []) × (waiting new < waiting old) × (new.count ≡ old.count)
@@ -100,7 +99,7 @@ Closes old new more = ⊥
 Closes old new (token t) = Gives t.kind old new t
 Closes old new (fault f) = coming old [] ≡ refusal f ∷ []
 
--- of the tokens of the whole text u, these were given, and the lexer has the rest to give
+-- of the tokens of the whole text u, these were given, and the lexer still gives the rest
 abbrev pub HasLeft : Standing → List ℕ → List Token → Type 0
 HasLeft l u given = tokens_of u ≡ given ++ coming l []
 
@@ -121,6 +120,6 @@ pub record Finishes (old new : Standing) (seen : Scanned) : Type 0 where
   pub refused : fault_of new ≡ fault_in seen
   pub stays : (f : LexFault) → fault_of old ≡ Some f → (seen ≡ fault f) × (new ≡ old)
 
--- once the borrow ends, P holds of the lexer
+-- once the borrow ends, P is true of the lexer
 abbrev pub Leaves : MutBor Standing → (Standing → Type 0) → Fml
 Leaves s P = Rests the_row s P

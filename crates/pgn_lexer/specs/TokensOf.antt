@@ -11,7 +11,7 @@ use Rattle.pgn_lexer.specs.Bytes.{is_line_end, is_digit, continues_symbol, is_su
 use Rattle.pgn_lexer.specs.Tokens.{Token, comment_open, comment_close, end, refused}
 use Rattle.pgn_lexer.specs.Spelling.{class, kind_of_single, comment_class, string_class, Found, nothing, gives, stops, symbol_at, word_at, glyph_at, suffix_at, reading, string_at}
 
--- What a place stands within, by the bytes before it.
+-- What a place is inside of, by the bytes before it.
 pub data Within : Type 0 where
   column : Within
   outside : Within
@@ -57,7 +57,7 @@ after_quoted strings.Quote = outside
 after_quoted strings.Backslash = backslash
 after_quoted _ = quotes
 
--- where a run of a symbol, a glyph or a suffix goes on, or not
+-- what a place is inside of, if a run of a symbol, a NAG or a suffix continues there, or not
 abbrev pub after_run : Bool → Within → Class → Within
 after_run true within c = within
 after_run false within c = after_class c
@@ -95,12 +95,12 @@ abbrev pub begins_first : ℕ → Class → ℕ → List ℕ → Found
 begins_first at Percent b bs = nothing
 begins_first at c b bs = begins_class at c b bs
 
--- nothing begins where a run goes on
+-- nothing begins at a place where a run continues
 abbrev pub begins_after : Bool → ℕ → Class → ℕ → List ℕ → Found
 begins_after true at c b bs = nothing
 begins_after false at c b bs = begins_class at c b bs
 
--- a word begins only where none goes on
+-- a word begins only if none continues there
 abbrev pub begins_word : ℕ → Bool → ℕ → List ℕ → Found
 begins_word at true b bs = nothing
 begins_word at false b bs = word_at at (b ∷ take_while continues_word bs)
@@ -134,7 +134,7 @@ begins at brace_word b bs = begins_brace at true (comment_class b) b bs
 begins at line b bs = begins_line at false (comment_class b) b bs
 begins at line_word b bs = begins_line at true (comment_class b) b bs
 
--- nothing, a token, or what stops, before the tokens that come
+-- nothing, a token, or an error, before the tokens that follow
 abbrev pub onto : ℕ → Found → List Token → List Token
 onto at nothing ts = ts
 onto at (gives k) ts = record { at = at; kind = k } ∷ ts
@@ -148,7 +148,7 @@ at_end at line = record { at = at; kind = comment_close } ∷ record { at = at; 
 at_end at line_word = record { at = at; kind = comment_close } ∷ record { at = at; kind = end } ∷ []
 at_end at _ = record { at = at; kind = end } ∷ []
 
--- The tokens that begin at each place, in order, to the first refusal.
+-- The tokens that begin at each place, in order, up to the first error.
 abbrev pub tokens_from : ℕ → Within → List ℕ → List Token
 tokens_from at within [] = at_end at within
 tokens_from at within (b ∷ bs) = onto at (begins at within b bs) (tokens_from (at + 1) (next within b) bs)

@@ -16,8 +16,8 @@ abbrev pub escaped : List ℕ → List ℕ
 escaped [] = []
 escaped (b ∷ bs) = escape_of b ++ escaped bs
 
--- The bytes of a token: a string between quotes, a glyph as $ and its number (PGN 8.2.4), a comment
--- in braces. The end and a refusal have none.
+-- The bytes of a token: a string between quotes, a NAG as $ and its number (PGN 8.2.4), a comment
+-- in braces. The end and an error have none.
 abbrev pub written : Kind → List ℕ
 written tokens.left_bracket = codes "["
 written tokens.right_bracket = codes "]"
@@ -55,15 +55,15 @@ tokens_at at [] = record { at = at; kind = tokens.end } ∷ []
 tokens_at at (token k ∷ ps) = record { at = at; kind = k } ∷ tokens_at (at + length (written k)) ps
 tokens_at at (space b ∷ ps) = tokens_at (at + 1) ps
 
--- each token is sound, and neither the end nor a refusal; white space is white space
+-- each token is sound, and neither the end nor an error; white space is white space
 abbrev pub IsPiece : Piece → Type 0
 IsPiece (token tokens.end) = ⊥
 IsPiece (token (tokens.refused r)) = ⊥
 IsPiece (token k) = IsSoundKind k
 IsPiece (space b) = IsTrue (is_space b)
 
--- The text after a token does not go on with it. Only symbols, glyphs and words need something
--- after them that ends them: white space, or another byte that they cannot have.
+-- The text after a token does not continue it. Only symbols, NAGs and words need something after
+-- them that ends them: white space, or another byte that they cannot have.
 abbrev pub IsEndedBy : List ℕ → Kind → Type 0
 IsEndedBy s (tokens.symbol text) = StopsAt continues_symbol s
 IsEndedBy s (tokens.glyph n) = StopsAt is_digit s
@@ -76,8 +76,8 @@ AreEnded [] = Unit {0}
 AreEnded (token k ∷ ps) = IsEndedBy (text_of_pieces ps) k × AreEnded ps
 AreEnded (space b ∷ ps) = AreEnded ps
 
--- The text of the pieces can be read back: the pieces are as they have to be, no token goes on into
--- the next one, and each comment closes.
+-- The text of the pieces can be read back: each piece is sound, no token continues into the next
+-- one, and each comment closes.
 pub record IsReadable (ps : List Piece) : Type 0 where
   pub pieces : AllByRecursion IsPiece ps
   pub ended : AreEnded ps

@@ -36,7 +36,7 @@ abbrev pub six_fields : (number white black result plies position : List ℕ) �
 six_fields number white black result plies position =
     field number 9 ++ field white 9 ++ field black 9 ++ field result 9 ++ field plies 9 ++ field position 10
 
--- what is told of a game, as a line; the name is `unfoldable`, so that goals show it as it is
+-- the line of a game just finished; the name is `unfoldable`, so that goals show it as it is
 unfoldable pub hand_line : ℕ → Mode → AtHand → List ℕ
 hand_line number mode hand =
     six_fields (decimal number) (value_told mode hand.pairs (codes "White")) (value_told mode hand.pairs (codes "Black"))
@@ -47,7 +47,7 @@ hand_line number mode hand =
 abbrev pub game_line : ℕ → Game → List ℕ
 game_line number g = hand_line number Full (hand_of g)
 
--- the lines of games in turn, numbered from there
+-- the lines of games, one after another, numbered from there
 abbrev pub lines_from : ℕ → List Game → List ℕ
 lines_from number [] = []
 lines_from number (g ∷ gs) = game_line number g ++ lines_from (number + 1) gs
@@ -56,7 +56,7 @@ lines_from number (g ∷ gs) = game_line number g ++ lines_from (number + 1) gs
 abbrev pub list_profile : Profile
 list_profile = profile_of 64 32 Full
 
--- the lines of the games that are whole before the first of these tokens that is refused
+-- the lines of the games that are finished before the first of these tokens that is rejected
 abbrev pub lines_of : List Token → List ℕ
 lines_of ts = lines_from 1 (read list_profile ts).begun.games
 
@@ -64,7 +64,7 @@ lines_of ts = lines_from 1 (read list_profile ts).begun.games
 abbrev pub list_text : List ℕ → List ℕ
 list_text s = lines_of (tokens_of s)
 
--- the line of the game at hand, and nothing while none is
+-- the line of the game just finished, or nothing if there is none
 abbrev pub line_at_hand : Converter → List ℕ
 line_at_hand c = elim c.at_hand [ None ↦ [] | Some hand ↦ hand_line c.games c.reading.profile.mode hand ]
 
@@ -75,20 +75,21 @@ pub record IsListed (s : List ℕ) (found : Option Fault) (before after : Option
   pub fault : (read list_profile (tokens_of s)).fault ≡ found
   pub written : Appends before after (list_text s)
 
--- After the bytes u, of which nothing is refused, no more are read: the lines of the games that
+-- After the bytes u, of which nothing is rejected, no more are read: the lines of the games that
 -- they decide are written.
 pub record ListsNoMore (u : List ℕ) (before after : Option (List ℕ)) : Type 0 where
   pub passes : (read list_profile (decided u)).fault ≡ None
   pub written : Appends before after (lines_of (decided u))
 
--- of the lines of the games that the bytes u have, a front is written, and not all
+-- of the lines of the games that the bytes u have, a prefix is written, and not all
 pub record CutsLine (u : List ℕ) (before after : Option (List ℕ)) : Type 0 where
   pub count : ℕ
   pub short : count < length (list_text u)
   pub front : Appends before after (take count (list_text u))
 
--- How a list stops: at the input's own fault; because a read failed behind the bytes u; since the
--- byte at place 2^62 came; or because a line could not be written when the bytes u were read.
+-- How a list stops: at the input's own fault; because a read failed after the bytes u; because the
+-- input has a byte at place 2^62; or because a line could not be written when the bytes u were
+-- read.
 pub data Stops (left_old left_new : Option (List ℕ)) (before after : Option (List ℕ)) : Stopped → Type 0 where
   refused : (f : Fault) → IfSome left_old (λ s. IsListed s (Some f) before after) → Stops left_old left_new before after (Refused f)
   unread : (u : List ℕ) → Consumes left_old left_new u → ListsNoMore u before after
@@ -102,14 +103,14 @@ abbrev pub Lists : Option (List ℕ) → Option (List ℕ) → Result Unit Stopp
 Lists left_old left_new (Ok done) before after = IfSome left_old (λ s. IsListed s None before after)
 Lists left_old left_new (Err stopped) before after = Stops left_old left_new before after stopped
 
--- 50 is answered where the source counts one failure more, and 51 never
+-- ReadFault is reported if the source counts one failure more, and WriteFault never
 abbrev pub CountsReason : Reason → ℕ → ℕ → Type 0
 CountsReason ReadFault old new = new ≡ one_more old
 CountsReason WriteFault old new = ⊥
 CountsReason _ old new = new ≡ old
 
--- the same of a list, which ends at a line where the sink counts one failure more; nowhere else
--- does one count
+-- the same of a list, which ends at a line if the sink counts one failure more; otherwise no count
+-- rises
 abbrev pub CountsStopped : Stopped → ℕ → ℕ → ℕ → ℕ → Type 0
 CountsStopped (Refused f) source_old source_new sink_old sink_new = CountsReason f.reason source_old source_new × (sink_new ≡ sink_old)
 CountsStopped Unwritten source_old source_new sink_old sink_new = (source_new ≡ source_old) × (sink_new ≡ one_more sink_old)
@@ -129,14 +130,14 @@ pub record Listed (u rest : List ℕ) (c : Converter) (before now : Option (List
   pub decided : IsDecided u rest tokens
   pub written : Appends before now (lines_of tokens)
 
--- a token that the bytes u decide is refused, and the lines of the games before it are written
+-- a token that the bytes u decide is rejected, and the lines of the games before it are written
 pub record ListsToFault (u : List ℕ) (f : Fault) (before after : Option (List ℕ)) : Type 0 where
   pub tokens : List Token
   pub next : (s : List ℕ) → (rest : List Token) × (tokens_of (u ++ s) ≡ tokens ++ rest)
   pub fault : (read list_profile tokens).fault ≡ Some f
   pub written : Appends before after (lines_of tokens)
 
--- what a piece comes to that was fed after the bytes u
+-- the result of a piece that was fed after the bytes u
 abbrev pub AfterPiece : List ℕ → List ℕ → Converter → Result Unit Stopped → Option (List ℕ) → Option (List ℕ) → Type 0
 AfterPiece u piece new (Ok done) before after = Listed (u ++ piece) [] new before after
 AfterPiece u piece new (Err (Refused f)) before after =
@@ -144,7 +145,7 @@ AfterPiece u piece new (Err (Refused f)) before after =
     (λ front. ListsNoMore (u ++ front) before after) f
 AfterPiece u piece new (Err Unwritten) before after = CutsLine (u ++ piece) before after
 
--- so wherever the lines before the piece began
+-- the same wherever the lines before the piece began
 abbrev pub ListsPiece : Converter → List ℕ → Converter → Result Unit Stopped → Option (List ℕ) → Option (List ℕ) → Type 0
 ListsPiece old piece new result now after = (u : List ℕ) (before : Option (List ℕ)) → Listed u [] old before now → AfterPiece u piece new result before after
 
@@ -152,7 +153,7 @@ abbrev pub ListsOn : Converter → List ℕ → ℕ → Converter → Option (Li
 ListsOn old piece at new now after =
     (u : List ℕ) (before : Option (List ℕ)) → Listed u [] old before now → Listed (u ++ take at piece) (drop at piece) new before after
 
--- what the end comes to behind the bytes u, which are then the whole text
+-- the result of the end after the bytes u, which are then the whole text
 abbrev pub AfterLast : List ℕ → Result Unit Stopped → Option (List ℕ) → Option (List ℕ) → Type 0
 AfterLast u (Ok done) before after = IsListed u None before after
 AfterLast u (Err (Refused f)) before after = IsListed u (Some f) before after

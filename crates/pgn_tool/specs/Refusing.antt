@@ -5,13 +5,13 @@ use Rattle.pgn_tool.specs.Running.{Device, HasFailed, IsStill, IsUntouched, Tell
 use Rattle.pgn_tool.specs.declared.arguments.ParseFault.{ParseFault}
 use Rattle.pgn_tool.specs.declared.arguments.ParseFault.TheVariants.{Help, Bad, NoMemory}
 
--- the text is written to standard output; or that failed, which is told
+-- the text is written to standard output; or that failed, which is reported
 pub record Shows (text : List ℕ) (out err : Device) (status : ℕ) : Type 0 where
   pub ends : status ≤ 1
   pub well : status ≡ 0 → IsStill out × Appends out.before out.after text × IsUntouched err
   pub ill : status ≡ 1 → HasFailed out × Tells err (line (codes "output cannot be written"))
 
--- a text is told, and nothing is written
+-- a text is reported, and nothing is written to standard output
 pub record Stops (text : List ℕ) (out err : Device) (status code : ℕ) : Type 0 where
   pub ends : status ≡ code
   pub told : Tells err text

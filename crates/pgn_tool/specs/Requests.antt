@@ -37,7 +37,7 @@ request_of (Split dir file) = splitting (string_bytes dir) (option_map string_by
 abbrev pub is_given : Text → List Row → Bool
 is_given id rows = option_map_or (λ text. bytes_eq text (codes "true")) (one_of id rows) false
 
--- the folder, which is required: words without one are refused
+-- the folder, which is required: arguments without one are rejected
 abbrev pub dir_of : List Row → Text
 dir_of rows = unwrap_or (first_of (codes "dir") rows) []
 
@@ -51,16 +51,16 @@ request_named name rows =
     else (if bytes_eq name (codes "split") then Some (splitting (dir_of rows) (first_of (codes "file") rows))
     else None)))
 
--- the request of a subcommand that was met, if any
+-- the request of the subcommand that was found, if any
 unfoldable pub request_from : Option (Text × List Row) → Option Request
 request_from = option_and_then (λ (p : Text × List Row). request_named p.0 p.1)
 
--- the request of the subcommand that `clap` finds in the words, the first of which is the
+-- the request of the subcommand that `clap` finds in the arguments, the first of which is the
 -- program's name
 unfoldable pub request_in : List Text → Option Request
 request_in words = request_from (subcommand_of command_line words)
 
--- what the words are refused for, as `clap` defines it: nothing, where they are a task
+-- why the arguments are rejected, as `clap` defines it: for nothing, if they are a task
 unfoldable pub refusals : List Text → Kinds
 refusals words = fault_of command_line words
 
@@ -70,15 +70,15 @@ is_shown DisplayHelp = true
 is_shown DisplayVersion = true
 is_shown _ = false
 
--- the answer is a task only where nothing is refused, help only where help or the version is asked
--- for, and a refusal only where the words have a mistake
+-- the result is a task only if nothing is rejected, help only if help or the version is asked for,
+-- and an error only if the arguments have a mistake
 abbrev pub AnswersBy : Kinds → Result Task ParseFault → Type 0
 AnswersBy kinds (Ok task) = kinds ≡ []
 AnswersBy kinds (Err (Help text)) = list_any is_shown kinds ≡ true
 AnswersBy kinds (Err (Bad text)) = list_any (λ k. not (is_shown k)) kinds ≡ true
 AnswersBy kinds (Err NoMemory) = Unit {0}
 
--- the answer to an error of this kind
+-- the result for an error of this kind
 abbrev pub AnswersError : ErrorKind → ParseFault → Type 0
 AnswersError kind (Help text) = is_shown kind ≡ true
 AnswersError kind (Bad text) = (is_shown kind ≡ false) × (kind ≢ OutOfMemory)

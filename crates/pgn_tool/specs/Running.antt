@@ -21,7 +21,7 @@ use Rattle.pgn_tool.specs.Listing.{Lists, list_text}
 
 -- ---- what is asked for
 
--- to write the games in a mode, to count them, or to tell each on a line
+-- to write the games in a mode, to count them, or to write a line for each
 pub data Job : Type 0 where
   exporting : Mode → Job
   checking : Job
@@ -53,7 +53,7 @@ mode_of listing = Full
 abbrev pub profile_for : Job → Profile
 profile_for job = profile_of 64 32 (mode_of job)
 
--- ---- what is written and told
+-- ---- what is written and reported
 
 -- the text with LF
 abbrev pub line : List ℕ → List ℕ
@@ -63,7 +63,7 @@ line text = text ++ 10 ∷ []
 abbrev pub counting_line : ℕ → ℕ → List ℕ
 counting_line games plies = line (codes "games: " ++ decimal games ++ codes ", plies: " ++ decimal plies)
 
--- the counts where no fault was met, else nothing
+-- the counts if there is no fault, else nothing
 abbrev pub counting_of : Verdict → List ℕ
 counting_of (refused f) = []
 counting_of (totals c) = counting_line c.games c.plies
@@ -82,7 +82,7 @@ status_of (totals c) = 0
 -- ---- devices
 
 -- A device at the beginning and the end of a run: the bytes that a source has left or a sink has
--- taken, where it tells them, and how often it has failed.
+-- taken, if it reports them, and how often it has failed.
 pub record Device : Type 0 where
   pub before : Option (List ℕ)
   pub after : Option (List ℕ)
@@ -97,7 +97,7 @@ device bytes failures old new = record { before = bytes old; after = bytes new; 
 abbrev pub IsStill : Device → Type 0
 IsStill d = d.failures_after ≡ d.failures
 
--- the count rose, or was at its last value
+-- the count rose, or was at its maximum
 abbrev pub HasFailed : Device → Type 0
 HasFailed d = one_more d.failures ≤ d.failures_after
 
@@ -113,13 +113,13 @@ IsUntouched d = (d.after ≡ d.before) × (d.failures_after ≡ d.failures)
 abbrev pub Tells : Device → List ℕ → Type 0
 Tells d text = IsCalm d → Appends d.before d.after text
 
--- the sink has taken a front of this text, and no more
+-- the sink has taken a prefix of this text, and no more
 abbrev pub HasFront : Device → List ℕ → Type 0
 HasFront d text = (count : ℕ) × Appends d.before d.after (take count text)
 
--- ---- where no device fails
+-- ---- if no device fails
 
--- a fault is told, and nothing else is
+-- a fault is reported, and nothing else is
 abbrev pub TellsVerdict : Device → Verdict → Type 0
 TellsVerdict err (refused f) = Tells err (line (line_of f))
 TellsVerdict err (totals c) = IsUntouched err
@@ -140,19 +140,19 @@ pub record IsSmooth (s : List ℕ) (source out : Device) : Type 0 where
 
 -- ---- whatever the devices do
 
--- 50 is told only where the source failed, 51 only where standard output did
+-- ReadFault is reported only if the source failed, WriteFault only if standard output did
 abbrev pub Blames : Reason → Device → Device → Type 0
 Blames ReadFault source out = HasFailed source
 Blames WriteFault source out = HasFailed out
 Blames _ source out = Unit {0}
 
--- a fault was met: it is told
+-- there was a fault, which is reported
 pub record Refuses (f : Fault) (source out err : Device) (status : ℕ) : Type 0 where
   pub ends : status ≡ 1
   pub told : Tells err (line (line_of f))
   pub blames : Blames f.reason source out
 
--- no fault was met: the status tells whether all was written
+-- there was no fault: the status says whether all was written
 pub record Concludes (source out err : Device) (status : ℕ) : Type 0 where
   pub read : IsStill source
   pub ends : status ≤ 1
@@ -163,7 +163,7 @@ abbrev pub Ends : Result Totals Fault → Device → Device → Device → ℕ �
 Ends (Ok t) source out err status = Concludes source out err status
 Ends (Err f) source out err status = Refuses f source out err status
 
--- the line of a check, or where it cannot be written a front of it; and on a fault nothing
+-- the line of a check, or if it cannot be written a prefix of it; and on a fault nothing
 abbrev pub Counts : Result Totals Fault → Device → Type 0
 Counts (Ok t) out = Tells out (counting_line t.games t.plies) × HasFront out (counting_line t.games t.plies)
 Counts (Err f) out = Keeps out.before out.after
@@ -174,14 +174,14 @@ Works (exporting mode) answer source out = Converts (profile_of 64 32 mode) sour
 Works checking answer source out = Converts (profile_of 64 32 Full) source.before source.after answer None None × Counts answer out
 Works listing answer source out = ⊥
 
--- A run that converts: a conversion with its answer, and how it ends. Of an export, standard output
--- has what the conversion wrote.
+-- A run that converts: a conversion with its result, and how it ends. For an export, standard
+-- output has what the conversion wrote.
 pub record RunsConversion (job : Job) (source out err : Device) (status : ℕ) : Type 0 where
   pub answer : Result Totals Fault
   pub works : Works job answer source out
   pub ends : Ends answer source out err status
 
--- a line could not be written, which is told
+-- a line could not be written, which is reported
 pub record Breaks (out err : Device) (status : ℕ) : Type 0 where
   pub ends : status ≡ 1
   pub failed : HasFailed out
