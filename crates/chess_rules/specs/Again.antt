@@ -1,4 +1,5 @@
--- **Bookkeeping.** The words of the board give the cells, and these the words again.
+-- **Bookkeeping**: the words of the board give the cells, and these the words again.
+-- No rule of play rests on it.
 use Rattle.std.proofs.Common.{◌≡◌, ℕ, zero, suc, ◌+◌, ◌*◌, ◌/◌, ◌%◌, ◌^◌, ◌<◌, Bool, true, false, List, [], ◌∷◌, length, get_or, refl, ◌∙◌, ap, ap₂, pow-suc, arith}
 use Rattle.std.specs.Prelude.{Option, None, ◌==◌, if◌then◌else◌}
 use Rattle.std.specs.Int.{bit_at}

@@ -1,4 +1,4 @@
--- **Definition.** Which squares a piece attacks (FIDE 3.1 to 3.8).
+-- **Definition**: which squares a piece attacks (FIDE 3.1 to 3.8).
 use Rattle.std.specs.Prelude.{ℕ, ◌+◌, Bool, false, ◌&&◌, ◌||◌, not, Option, None, Some, ◌==◌}
 use Rattle.std.specs.List.{list_all, list_any}
 use Rattle.chess_rules.specs.declared.piece.Colour.{Colour}

@@ -1,4 +1,4 @@
--- **Definition.** Which piece is on each square (FIDE 2.2).
+-- **Definition**: what is on the squares of the board (FIDE 2.2).
 use Rattle.std.specs.Prelude.{ℕ, ◌+◌, ◌*◌, Bool, true, false, ◌&&◌, ◌||◌, List, Option, None, Some, slice_index_or, count_by, slice_set, is_none, ◌==◌}
 use Rattle.chess_rules.specs.declared.piece.Colour.{Colour}
 use Rattle.chess_rules.specs.declared.piece.Colour.TheVariants.{White, Black}

@@ -1,5 +1,6 @@
--- **Definition.** The squares from which a piece may reach a square, seen from that square. No
--- standard has this: it is our own way to find moves, and a law says that it misses none.
+-- **Definition**: the squares from which a piece may reach a square, seen from that square.
+-- No standard has this: it is our own way to find moves, and a law says that it misses none.
+-- Letters: p is a position, k a kind of piece, s an origin, t a target.
 use Rattle.std.specs.Prelude.{ℕ, Bool, ◌&&◌, ◌||◌, List, [], ◌∷◌, filter, length, sum_by}
 use Rattle.chess_rules.specs.declared.piece.Kind.{Kind}
 use Rattle.chess_rules.specs.declared.piece.Kind.TheVariants.{King, Queen, Rook, Bishop, Knight, Pawn}

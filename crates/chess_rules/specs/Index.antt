@@ -1,4 +1,4 @@
--- **Bookkeeping.** A square's place among the 64, and back.
+-- **Bookkeeping**: a square's number among the 64, and the square of a number.
 use Rattle.std.proofs.Common.{◌≡◌, ℕ, ◌+◌, ◌*◌, ◌/◌, ◌%◌, ap, arith}
 use Rattle.chess_rules.specs.declared.square.Square.TheInside.{Inside}
 

@@ -1,4 +1,5 @@
--- **Bookkeeping.** What a position stores, and which parts it has.
+-- **Bookkeeping**: what a position stores: its parts, both kings' squares, and whether it is check.
+-- No rule of play rests on it.
 use Rattle.std.specs.Prelude.{◌≡◌, IsTrue}
 use Rattle.std.proofs.Common.{ap, ap₂, sym, ◌∙◌}
 use Rattle.chess_rules.specs.declared.piece.Colour.TheVariants.{White, Black}

@@ -1,4 +1,4 @@
--- **Definition.** The laws of play: what the definitions promise.
+-- **Definition**: what the laws say of steps, legal moves, candidates and positions.
 use Rattle.std.specs.Prelude.{◌≡◌, ◌≤◌, Some, length, count_by, IsTrue}
 use Rattle.chess_rules.specs.declared.piece.Colour.{Colour}
 use Rattle.chess_rules.specs.declared.piece.Kind.{Kind}

@@ -1,4 +1,4 @@
--- **Definition.** Legal moves, check and mate (FIDE 3.9, 3.10.1, 1.4.1).
+-- **Definition**: legal moves, check and mate (FIDE 3.9, 3.10.1, 1.4.1).
 use Rattle.std.specs.Prelude.{Bool, ◌&&◌, not, List, [], ◌∷◌, Option, None, Some, is_some, if◌then◌else◌}
 use Rattle.std.specs.List.{list_any}
 use Rattle.chess_rules.specs.declared.piece.Promotion.{Promotion}

@@ -1,4 +1,5 @@
--- **Bookkeeping.** What the tables of sets have. No rule of play rests on it.
+-- **Bookkeeping**: what the tables of sets of squares hold.
+-- No rule of play rests on it.
 use Rattle.std.specs.Prelude.{ℕ, ◌/◌, ◌%◌, Bool, ◌&&◌, ◌||◌, Option}
 use Rattle.chess_rules.specs.declared.piece.Colour.{Colour}
 use Rattle.chess_rules.specs.declared.piece.Colour.TheVariants.{White, Black}

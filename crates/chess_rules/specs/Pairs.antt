@@ -1,5 +1,6 @@
--- **Bookkeeping.** Which pairs the code tries, direction by direction from a target. No rule of
--- play rests on it.
+-- **Bookkeeping**: which pairs of an origin and a target the code tries, direction by direction.
+-- No rule of play rests on it. Letters: p is a position, k a kind of piece, s an origin, t a
+-- target, d a direction, j a jump.
 use Rattle.std.specs.Prelude.{◌≡◌, ◌<◌, ◌≤◌, ℕ, ◌+◌, Bool, true, false, ◌&&◌, ◌||◌, not, Option, None, Some, List, filter_map, sum_by, ◌==◌, if◌then◌else◌}
 use Rattle.std.specs.List.{list_any, range_with_len}
 use Rattle.chess_rules.specs.declared.direction.TheConstants.{DIRECTIONS, JUMPS}

@@ -1,4 +1,5 @@
--- **Bookkeeping.** Steps that move one piece and do nothing more. No rule of play rests on it.
+-- **Bookkeeping**: steps that carry one piece and do nothing else.
+-- No rule of play rests on it.
 use Rattle.std.specs.Prelude.{Bool, ◌&&◌, ◌||◌, not, nat_lt}
 use Rattle.chess_rules.specs.declared.piece.Kind.TheVariants.{King}
 use Rattle.chess_rules.specs.declared.position.Move.{Move}

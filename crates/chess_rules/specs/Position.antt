@@ -1,5 +1,5 @@
--- **Definition.** What a position is, and the first one (FIDE 2.2, 2.3, 3.7.3.3, 3.9.2; PGN
--- 16.1.3).
+-- **Definition**: what a position is, and the first one.
+-- (FIDE 2.2, 2.3, 3.7.3.3, 3.9.2; PGN 16.1.3)
 use Rattle.std.specs.Prelude.{ℕ, Result, Ok, Err, Bool, true, ◌&&◌, ◌||◌, not, Option, None, Some, length, ◌==◌, nat_le, if◌then◌else◌, is_none, List, [], ◌∷◌, ◌++◌, map, replicate}
 use Rattle.std.specs.List.{list_any}
 use Rattle.chess_rules.specs.declared.piece.Colour.{Colour}

@@ -1,4 +1,4 @@
--- **Definition.** Squares, and how they lie to one another (FIDE 2.1, 2.4; PGN 8.2.3.1).
+-- **Definition**: squares, and how they lie to one another (FIDE 2.1, 2.4; PGN 8.2.3.1).
 use Rattle.std.specs.Prelude.{ℕ, ◌+◌, ◌-◌, Bool, ◌&&◌, ◌||◌, not, List, map, flat_map, ◌==◌, nat_lt, nat_le}
 use Rattle.std.specs.List.{range_with_len}
 

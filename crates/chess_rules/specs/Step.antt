@@ -1,5 +1,5 @@
--- **Definition.** One step (pseudo-legal move) of the side to move, and the parts after it (FIDE
--- 3). Whether its king is safe is said in Legal.
+-- **Definition**: one step of the side to move, and the parts after it (FIDE 3).
+-- `Legal` says whether the king is safe after it.
 use Rattle.std.specs.Prelude.{ℕ, ◌+◌, ◌/◌, min, Bool, false, ◌&&◌, ◌||◌, not, Option, None, Some, ◌==◌, is_none, is_some, List, [], ◌∷◌, option_map, if◌then◌else◌}
 use Rattle.chess_rules.specs.declared.piece.Colour.{Colour}
 use Rattle.chess_rules.specs.declared.piece.Colour.TheVariants.{White, Black}

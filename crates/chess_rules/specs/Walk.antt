@@ -1,5 +1,6 @@
--- **Bookkeeping.** Walking over the board from square to square, as the code does. No rule of play
--- rests on it.
+-- **Bookkeeping**: walking from square to square: the words that say what sets of squares hold.
+-- No rule of play rests on it. Letters: b is a board, c a colour, s, t and u are squares, d is a
+-- direction, j a jump, w a shift of a file or of a rank.
 use Rattle.std.specs.Prelude.{ℕ, zero, suc, ◌+◌, ◌-◌, ◌*◌, ◌/◌, ◌%◌, max, Bool, true, false, ◌&&◌, ◌||◌, Option, None, Some, position, unwrap_or, slice_index_or, ◌==◌, nat_lt, nat_le, if◌then◌else◌}
 use Rattle.std.specs.List.{list_any}
 use Rattle.chess_rules.specs.declared.direction.TheConstants.{DIRECTIONS, JUMPS}

@@ -1,5 +1,5 @@
--- **Bookkeeping.** The four words of the board. Bit i of each belongs to the square with place i.
--- No rule of play rests on it.
+-- **Bookkeeping**: the four words of 64 bits in which the code stores a board.
+-- Bit i of each belongs to the square with number i. No rule of play rests on it.
 use Rattle.std.specs.Prelude.{◌≡◌, ◌<◌, ℕ, ◌+◌, ◌*◌, ◌^◌, Bool, true, false, ◌&&◌, ◌||◌, not, List, [], ◌∷◌, filter, map, Option, None, Some, ◌==◌, if◌then◌else◌, slice_index_or}
 use Rattle.std.specs.Int.{bit_at}
 use Rattle.std.specs.List.{range_with_len}

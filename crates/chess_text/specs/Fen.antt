@@ -1,4 +1,4 @@
--- **Definition.** A position as text (PGN 16.1).
+-- **Definition**: a position as text, the FEN (PGN 16.1).
 use Rattle.std.specs.Prelude.{◌≡◌, ℕ, zero, suc, ◌-◌, Bool, List, [], ◌∷◌, Option, None, Some, Result, Ok, Err, length, reverse, flat_map, decimal, ◌==◌, if◌then◌else◌, IsTrue}
 use Rattle.std.specs.List.{list_all, before_first, after_first, join_with_byte}
 use Rattle.chess_rules.specs.declared.piece.Colour.{Colour}

@@ -1,5 +1,5 @@
--- **Definition.** The other fields of a FEN: side, castling rights, en passant target, and the two
--- numbers (PGN 16.1.3.2 to 16.1.3.6).
+-- **Definition**: the fields of a FEN after the first (PGN 16.1.3.2 to 16.1.3.6).
+-- They are the side to move, the castling rights, the en passant target and the two numbers.
 use Rattle.std.specs.Prelude.{ℕ, ◌+◌, ◌-◌, ◌*◌, Bool, ◌&&◌, ◌||◌, List, [], ◌∷◌, ◌++◌, Option, None, Some, length, find, fold, bytes_eq, ◌==◌, nat_le, if◌then◌else◌, codes}
 use Rattle.std.specs.List.{list_all, list_any}
 use Rattle.chess_rules.specs.declared.piece.Colour.{Colour}

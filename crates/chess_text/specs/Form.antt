@@ -1,5 +1,5 @@
--- **Definition.** What the text of a move says by itself, before a position gives it a meaning: the
--- pattern of standard algebraic notation, and what is accepted beside it (PGN 8.2.3).
+-- **Definition**: what the text of a move says by itself, before a position gives it a meaning.
+-- That is the pattern of standard algebraic notation, and what is accepted beside it (PGN 8.2.3).
 use Rattle.std.specs.Prelude.{◌≡◌, ℕ, ◌-◌, Bool, true, false, ◌&&◌, List, [], ◌∷◌, ◌++◌, Option, None, Some, length, take, find, slice_index, is_some, bytes_eq, codes, ◌==◌, nat_le, nat_lt, if◌then◌else◌, IsTrue, ◌||◌}
 use Rattle.std.specs.List.{list_all, list_any}
 use Rattle.chess_rules.specs.declared.piece.Kind.{Kind}

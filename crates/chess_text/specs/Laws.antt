@@ -1,4 +1,4 @@
--- **Definition.** The laws of texts: what the definitions promise.
+-- **Definition**: what the laws say of the texts of positions and moves.
 use Rattle.std.specs.Prelude.{◌≡◌, ◌≢◌, ◌+◌, ◌<◌, ◌≤◌, ◌↔◌, Bool, List, [], ◌∷◌, ◌++◌, ℕ, Option, Some, Ok, Err, length, slice_index_or, is_some, IsTrue}
 use Rattle.std.specs.List.{prefix_len}
 use Rattle.chess_rules.specs.declared.position.Move.{Move}

@@ -1,5 +1,5 @@
--- **Definition.** The letters of pieces, and the letters and digits of squares (PGN 8.2.3.1,
--- 8.2.3.2, 16.1.3.1).
+-- **Definition**: the letters of pieces, and the letters and digits of squares.
+-- (PGN 8.2.3.1, 8.2.3.2, 16.1.3.1)
 use Rattle.std.specs.Prelude.{ℕ, ◌+◌, List, [], ◌∷◌, Option, find, map, flat_map, ◌==◌}
 use Rattle.chess_rules.specs.declared.piece.Colour.{Colour}
 use Rattle.chess_rules.specs.declared.piece.Colour.TheVariants.{White, Black}

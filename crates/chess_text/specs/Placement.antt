@@ -1,4 +1,4 @@
--- **Definition.** The first field of a FEN: the pieces on the board (PGN 16.1.3.1).
+-- **Definition**: the first field of a FEN: what is on the board (PGN 16.1.3.1).
 use Rattle.std.specs.Prelude.{ℕ, ◌+◌, ◌-◌, Bool, ◌&&◌, ◌||◌, List, [], ◌∷◌, ◌++◌, Option, None, Some, length, replicate, reverse, map, flat_map, is_some, ◌==◌, nat_le, if◌then◌else◌}
 use Rattle.std.specs.List.{list_all, slice_split, join_with_byte}
 use Rattle.chess_rules.specs.declared.piece.Piece.{Piece}

@@ -1,4 +1,4 @@
--- **Bookkeeping.** The ranks of a text, the last one first, as the code reads them.
+-- **Bookkeeping**: the ranks of a FEN's first field, the last one first, as the code reads them.
 use Rattle.std.specs.Prelude.{ℕ, zero, suc, List, [], take}
 use Rattle.chess_text.specs.Placement.{ranks}
 

@@ -1,4 +1,4 @@
--- **Definition.** Which move a form names (PGN 8.2.3).
+-- **Definition**: which move a form means in a position (PGN 8.2.3).
 use Rattle.std.specs.Prelude.{ℕ, Bool, true, false, ◌&&◌, ◌||◌, not, List, [], ◌∷◌, Option, None, Some, Result, Ok, Err, length, map, ◌==◌, if◌then◌else◌}
 use Rattle.std.specs.List.{filter_map}
 use Rattle.chess_rules.specs.declared.piece.Colour.{Colour}

@@ -1,4 +1,4 @@
--- **Definition.** The text of a move as it is written (PGN 8.2.3).
+-- **Definition**: the text of a move as it is written (PGN 8.2.3).
 use Rattle.std.specs.Prelude.{◌≡◌, ℕ, ◌+◌, ◌≤◌, ◌<◌, Bool, true, false, ◌&&◌, ◌||◌, not, List, [], ◌∷◌, ◌++◌, Option, None, Some, length, ◌==◌, codes, if◌then◌else◌, filter}
 use Rattle.std.specs.List.{list_any}
 use Rattle.chess_rules.specs.declared.piece.Kind.{Kind}

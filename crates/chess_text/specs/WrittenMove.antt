@@ -1,5 +1,6 @@
--- **Definition.** What the text of a move is as a symbol of PGN (PGN 7, 8.2.3), and what it is not:
--- a move number (PGN 8.2.2) or a termination marker (PGN 8.2.6). With the laws that say so.
+-- **Definition**: what the text of a move is as a symbol of PGN, and what it is not.
+-- It is no move number (PGN 8.2.2) and no termination marker (PGN 8.2.6). The laws that say so are
+-- here too (PGN 7, 8.2.3).
 use Rattle.std.specs.Prelude.{◌≡◌, ℕ, ◌≤◌, Bool, false, ◌&&◌, ◌||◌, List, [], ◌∷◌, Some, Ok, option_map, length, bytes_eq, codes, nat_le, ◌==◌, IsTrue, IsFalse}
 use Rattle.std.specs.List.{list_all}
 use Rattle.chess_rules.specs.declared.position.Move.{Move}

@@ -1,4 +1,8 @@
--- **Definition.** Tokens read into games, and the output that must be written for them.
+-- **Definition**: the games that tokens are read into, and the output and the verdict of a text.
+-- `Begun` is progress: the finished games, and the part of a game after them. `written` is the
+-- output for such progress, `due` the output for tokens, and `output` the output for the bytes of a
+-- text.
+-- Letters: p is the profile, b the progress, t a token, ts are tokens, s is a text.
 use Rattle.std.specs.Prelude.{ℕ, true, false, List, [], ◌∷◌, ◌++◌, length, map, sum, Option, None, Some, Result, Ok, Err}
 use Rattle.chess_text.specs.declared.resolve.Played.{Played}
 use Rattle.chess_text.specs.declared.resolve.SanFault.{SanFault}

@@ -1,5 +1,5 @@
--- **Definition.** What games need of chess: the first position of a game, and what the text of a
--- move means. The names are `unfoldable`, so that goals show them as they are.
+-- **Definition**: what games need of chess: first positions, moves, and the texts of moves.
+-- The names are `unfoldable`, so that goals show them as they are.
 use Rattle.std.specs.Prelude.{ℕ, Bool, true, false, List, Option, Result, option_map, unwrap_or}
 use Rattle.chess_rules.specs.declared.piece.Colour.TheVariants.{White, Black}
 use Rattle.chess_rules.specs.declared.position.Move.{Move}

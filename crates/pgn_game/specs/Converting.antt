@@ -1,4 +1,7 @@
--- **Definition.** What a conversion of a whole input does.
+-- **Definition**: what a conversion of a whole input does.
+-- Letters: p is the profile, s a text, v a verdict, t the totals, f a fault, u the bytes read so
+-- far. `before` and `after` are the bytes that the sink has taken, before the call and after it;
+-- `left_old` and `left_new` are those that the source has left.
 use Rattle.std.specs.Prelude.{◌≡◌, ℕ, ◌^◌, ◌<◌, ◌≤◌, IsTrue, List, [], ◌++◌, length, Option, None, Result, Ok, Err, IfSome}
 use Rattle.std.specs.Io.KnownBytes.{Appends, Consumes}
 use Rattle.pgn_layout.specs.Device.{one_more}

@@ -1,4 +1,6 @@
--- **Definition.** What tokens add to the output.
+-- **Definition**: what tokens add to the output that must be written by now.
+-- Letters: p is the profile, k the kind of a token, g a game. `before` and `after` are the bytes
+-- that the sink has taken, before a call and after it, if it reports them.
 use Rattle.std.specs.Prelude.{◌≡◌, ℕ, List, ◌++◌, length, drop, Option}
 use Rattle.std.specs.Io.KnownBytes.{Appends}
 use Rattle.pgn_lexer.specs.Tokens.{Kind, Token}

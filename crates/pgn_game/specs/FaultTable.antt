@@ -1,4 +1,4 @@
--- **Definition.** The fault table: which token is rejected after which part of a game, and why.
+-- **Definition**: the fault table: which token is rejected after which part of a game, and why.
 use Rattle.std.specs.Prelude.{ℕ, ◌+◌, Bool, true, false, ◌||◌, ◌&&◌, not, List, [], ◌∷◌, length, nat_lt, nat_le, ◌==◌, Option, None, Some, Result, Ok, Err, bytes_eq, unwrap_or, is_some, codes}
 use Rattle.chess_rules.specs.declared.position.Parts.{Parts}
 use Rattle.chess_text.specs.declared.fen.FenFault.{FenFault}

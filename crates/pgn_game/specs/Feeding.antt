@@ -1,4 +1,8 @@
--- **Definition.** What a contract sees of a converter, and what a call does to it.
+-- **Definition**: what a contract sees of a converter, and what each call does to it.
+-- Letters: p is the profile, u the bytes used so far, b the byte known to be next, if one is.
+-- `given` are the tokens given so far, and f is a fault. `before` and `after` are the bytes that
+-- the sink has taken, before the call and after it, if it reports them. A game is at hand if it is
+-- just finished.
 use Rattle.std.specs.Prelude.{◌≡◌, ℕ, ◌+◌, ◌*◌, ◌^◌, ◌<◌, ◌≤◌, ◌↔◌, Bool, true, false, IsTrue, List, [], ◌∷◌, ◌++◌, length, take, drop, map, sum, codes, option_map, Option, None, Some, Result, Ok, Err}
 use Rattle.std.specs.List.{list_any}
 use Rattle.std.specs.Io.KnownBytes.{Appends}

@@ -1,5 +1,6 @@
--- **Definition.** What an export keeps of a game, as a game: its pairs with the defaults of the
--- roster and with the SetUp of a FEN, and the items that are written (PGN 3.2.4, 8.1.1, 9.7).
+-- **Definition**: what an export keeps of a game, as a game.
+-- That is its pairs, with the defaults of the roster and with the SetUp of a FEN, and the items
+-- that are written (PGN 3.2.4, 8.1.1, 9.7).
 use Rattle.std.specs.Prelude.{List, map}
 use Rattle.pgn_game.specs.declared.mode.Mode.{Mode}
 use Rattle.pgn_game.specs.Here.{start_of, first_level}

@@ -1,4 +1,4 @@
--- **Bookkeeping.** What a symbol names as a move, and which row of the fault table rejects it.
+-- **Bookkeeping**: the move that a symbol means, or the row of the fault table that rejects it.
 use Rattle.std.specs.Prelude.{true, false, Option, None, Some, Result, Ok, Err}
 use Rattle.chess_rules.specs.declared.position.Parts.{Parts}
 use Rattle.chess_text.specs.declared.resolve.Played.{Played}

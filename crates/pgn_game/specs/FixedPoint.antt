@@ -1,5 +1,7 @@
--- **Definition.** Export is a normal form: the text of games is read back as these games with their
--- defaults filled in, and exporting it again changes nothing.
+-- **Definition**: export is a normal form.
+-- The text of games is read back as these games with their defaults filled in, and exporting it
+-- again changes nothing.
+-- Letters: p is the profile, g a game, gs and hs are games, r is a call's result, t its totals.
 use Rattle.std.specs.Prelude.{◌≡◌, ◌↔◌, ◌⊎◌, ℕ, ◌+◌, ◌≤◌, ◌^◌, List, length, map, sum, Option, None, Some, Result, Ok, Err}
 use Rattle.std.specs.List.{AllByRecursion}
 use Rattle.std.specs.Io.KnownBytes.{Appends}

@@ -1,4 +1,4 @@
--- **Definition.** Games and parts of them (PGN 18).
+-- **Definition**: games and their parts (PGN 18).
 use Rattle.std.specs.Prelude.{ℕ, List, []}
 use Rattle.chess_rules.specs.declared.position.Move.{Move}
 use Rattle.pgn_game.specs.declared.stage.Stage.{Stage}

@@ -1,4 +1,4 @@
--- **Bookkeeping**: what putting what a token was judged to mean does to the reader and to its sink.
+-- **Bookkeeping**: what putting a judged token does to the reader and to its sink.
 use Rattle.std.specs.Prelude.{◌≡◌, ℕ, ◌+◌, ◌≤◌, Bool, true, false, ◌||◌, not, IsTrue, List, [], length, drop, codes, None, Result, Ok, Err, OnOk}
 use Rattle.std.specs.Io.KnownBytes.{Appends}
 use Rattle.pgn_layout.specs.Device.{AppendsFront, Counts, Writes}

@@ -1,5 +1,4 @@
--- **Definition.** Where an item of movetext is: which moves lead to it, and the position after them
--- (PGN 8.2.5).
+-- **Definition**: which moves lead to an item of movetext, and the position after them (PGN 8.2.5).
 use Rattle.std.specs.Prelude.{ℕ, Bool, true, false, List, [], ◌∷◌, fold, length, Option, None, Some, Result, Ok, Err, codes}
 use Rattle.chess_rules.specs.declared.position.Move.{Move}
 use Rattle.chess_rules.specs.declared.position.Parts.{Parts}

@@ -1,5 +1,5 @@
--- **Bookkeeping.** How tag pairs are stored: the complete ones in order, and last the one without a
--- value yet.
+-- **Bookkeeping**: how tag pairs are stored.
+-- Those that are complete come first, in order. The one whose value is still to come is last.
 use Rattle.std.specs.Prelude.{ℕ, ◌+◌, ◌≤◌, ◌<◌, IsTrue, Bool, true, false, List, [], ◌∷◌, length, Option, None, Some}
 use Rattle.pgn_game.specs.Pairs.{Pair, comes_before}
 

@@ -1,4 +1,4 @@
--- **Definition.** What a contract sees of an inlet.
+-- **Definition**: what a contract sees of an inlet, the source over a reader.
 use Rattle.std.specs.Prelude.{ℕ, refl}
 use Rattle.std.specs.Coded.{Coded, code_by, coded×, coded_ℕ}
 

@@ -1,4 +1,4 @@
--- **Definition.** The law that output only grows.
+-- **Definition**: what the law says of output: it only grows.
 use Rattle.std.specs.Prelude.{◌≡◌, ℕ, List, ◌++◌}
 use Rattle.pgn_lexer.specs.Tokens.{Token}
 use Rattle.pgn_game.specs.Profile.{Profile}

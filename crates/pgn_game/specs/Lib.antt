@@ -1,3 +1,4 @@
+-- **Bookkeeping**: the list of this crate's files of definitions.
 pub mod Inlet
 pub mod Reason
 pub mod Pairs

@@ -1,4 +1,4 @@
--- **Definition.** The law that each move of a game is legal in its position.
+-- **Definition**: the law that each move of a game is legal in its position.
 use Rattle.std.specs.Prelude.{Bool, true, IsTrue, List}
 use Rattle.std.specs.List.{list_all}
 use Rattle.chess_rules.specs.declared.position.Parts.{Parts}

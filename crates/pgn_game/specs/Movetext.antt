@@ -1,5 +1,5 @@
--- **Bookkeeping.** What is stored of movetext while it is read: the levels, how many moves outside
--- variations there are, and whether a move was written last.
+-- **Bookkeeping**: what is stored of movetext while it is read.
+-- That is the levels, the number of moves outside variations, and whether a move was written last.
 use Rattle.std.specs.Prelude.{◌≡◌, ℕ, ◌<◌, ◌≤◌, Bool, true, false, List, [], ◌∷◌, map, length, Option, None, Some, All}
 use Rattle.chess_rules.specs.declared.position.Parts.{Parts}
 use Rattle.pgn_layout.specs.Lines.{IsToken, lines_of, last_line}

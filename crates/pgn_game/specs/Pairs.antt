@@ -1,4 +1,4 @@
--- **Definition.** Tag pairs (PGN 8.1).
+-- **Definition**: tag pairs (PGN 8.1).
 use Rattle.std.specs.Prelude.{ℕ, Bool, true, false, ◌||◌, ◌&&◌, nat_lt, ◌==◌, List, [], ◌∷◌, Option, None, Some, is_some, bytes_eq}
 
 pub record Pair : Type 0 where

@@ -1,4 +1,4 @@
--- **Definition.** What a run is asked for.
+-- **Definition**: what a caller asks for: two limits, a format, and what a missing Result is.
 use Rattle.std.specs.Prelude.{ℕ}
 use Rattle.pgn_game.specs.declared.mode.Mode.{Mode}
 

@@ -1,5 +1,4 @@
--- **Bookkeeping**: what putting an item of movetext does to the levels, to the layout and to the
--- sink.
+-- **Bookkeeping**: what putting an item of movetext does to the levels, the layout and the sink.
 use Rattle.std.specs.Prelude.{◌≡◌, ℕ, ◌+◌, ◌≤◌, Bool, true, false, ◌&&◌, List, [], ◌∷◌, ◌++◌, ◌==◌, map, length, drop, Some, Option, IfSome, Result, MatchResult, OnOk, All}
 use Rattle.std.specs.Io.KnownBytes.{Appends}
 use Rattle.chess_rules.specs.declared.position.Parts.{Parts}

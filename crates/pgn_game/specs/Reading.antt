@@ -1,4 +1,6 @@
--- **Bookkeeping.** What a contract sees of the reader of games, and what it does with one token.
+-- **Bookkeeping**: what a contract sees of the reader of games, and what it does with one token.
+-- Letters: k is the kind of a token, g a game, r the answer of a call. `before` and `after` are the
+-- bytes that the sink has taken, before the call and after it, if it reports them.
 use Rattle.std.specs.Prelude.{◌≡◌, ℕ, ◌+◌, ◌<◌, ◌≤◌, nat_le, false, IsTrue, IsFalse, is_some, Bool, List, [], length, Option, None, Some, IsSomeAnd, Result, Ok, Err}
 use Rattle.std.specs.List.{list_any}
 use Rattle.std.specs.Io.KnownBytes.{Appends}

@@ -1,4 +1,4 @@
--- **Definition.** The reasons with their numbers and words, and the line of a fault.
+-- **Definition**: the reasons with their numbers and words, and the line of a fault.
 use Rattle.std.specs.Prelude.{ℕ, List, [], ◌++◌, codes, decimal}
 use Rattle.pgn_lexer.specs.declared.token.LexReason.{LexReason}
 use Rattle.pgn_lexer.specs.declared.token.LexReason.TheVariants as lexical

@@ -1,4 +1,4 @@
--- **Bookkeeping.** The lines of a tag section one by one, as they are written.
+-- **Bookkeeping**: the lines of a tag section one by one, as they are written.
 use Rattle.std.specs.Prelude.{ℕ, Bool, true, false, ◌||◌, ◌&&◌, List, [], ◌∷◌, ◌++◌, bytes_eq, codes, unwrap_or}
 use Rattle.pgn_layout.specs.TagLine.{tag_line}
 use Rattle.pgn_game.specs.Pairs.{Pair, value_of}

@@ -1,4 +1,4 @@
--- **Definition.** Whether a converter fits in memory: it takes fewer than 2 ^ 63 bytes.
+-- **Definition**: that a converter fits in memory: it takes fewer than 2 ^ 63 bytes.
 use Rattle.std.specs.Mem.{FitsInMemory}
 use Rattle.std.specs.Borrow.{RattleType}
 use Rattle.pgn_game.specs.contracts.converter.Converter.{the_row}

@@ -1,6 +1,8 @@
--- **Definition.** Which tokens spell which games: a grammar (PGN 18), beside the function that
--- reads them. It knows no stage, no fault and no order of reading; the law `UniqueReading` joins
--- the two.
+-- **Definition**: which tokens spell which games: a grammar (PGN 18).
+-- The function `read` reads games without it. The grammar knows no stage, no rejection and no order
+-- of reading; the law `UniqueReading` joins the two.
+-- Letters: p is the profile, ks and ls are kinds of tokens, q and qs pairs, g and gs games, l is a
+-- level, s a text.
 use Rattle.std.specs.Prelude.{◌≡◌, ℕ, ◌+◌, ◌<◌, ◌≤◌, IsTrue, IsFalse, true, false, List, [], ◌∷◌, ◌++◌, map, length, Option, None, Some, Ok, codes}
 use Rattle.std.specs.List.{AllByRecursion, fold, list_all}
 use Rattle.chess_rules.specs.declared.position.Move.{Move}

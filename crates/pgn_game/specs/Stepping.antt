@@ -1,4 +1,8 @@
--- **Bookkeeping.** What one token does to a converter, in the piece and after it.
+-- **Bookkeeping**: what one token does to a converter, in a piece and after the last one.
+-- Letters: p is the profile, u the bytes used so far, b the byte known to be next, if one is.
+-- `given` are the tokens given so far, and f is a fault. `before` and `after` are the bytes that
+-- the sink has taken, before the call and after it, if it reports them. The token of the step is t,
+-- and g is a game.
 use Rattle.std.specs.Prelude.{◌≡◌, ℕ, ◌+◌, ◌*◌, ◌<◌, ◌≤◌, ◌^◌, ◌↔◌, Bool, true, false, IsTrue, List, [], ◌∷◌, ◌++◌, length, take, drop, Option, None, Some, Result, Ok, Err}
 use Rattle.pgn_lexer.specs.Tokens.{Token, EndsAt}
 use Rattle.pgn_lexer.specs.TokensOf.{tokens_of}

@@ -1,4 +1,4 @@
--- **Definition.** The tag section (PGN 8.1, 3.2.4).
+-- **Definition**: the tag section (PGN 8.1, 3.2.4).
 use Rattle.std.specs.Prelude.{ℕ, Bool, true, false, ◌||◌, not, bytes_eq, List, [], ◌∷◌, ◌++◌, map, filter, unwrap_or, codes}
 use Rattle.pgn_layout.specs.TagLine.{tag_line}
 use Rattle.pgn_game.specs.declared.mode.Mode.{Mode}

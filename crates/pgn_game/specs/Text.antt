@@ -1,4 +1,4 @@
--- **Definition.** The export text of games (PGN 3.2, 8.2), and of a part of one.
+-- **Definition**: the export text of games, and of a part of one (PGN 3.2, 8.2).
 use Rattle.std.specs.Prelude.{ℕ, Bool, true, false, ◌&&◌, List, [], ◌∷◌, ◌++◌, filter, ◌==◌, codes, decimal}
 use Rattle.chess_rules.specs.declared.position.Parts.{Parts}
 use Rattle.pgn_layout.specs.Lines.{lines_of, full_lines, text_of as text_of_lines}

@@ -1,4 +1,4 @@
--- **Definition.** The law that joins the grammar of games and the function that reads them.
+-- **Definition**: the law that joins the grammar of games and the function that reads them.
 use Rattle.std.specs.Prelude.{◌≡◌, ◌↔◌, ℕ, List, None}
 use Rattle.pgn_lexer.specs.TokensOf.{tokens_of}
 use Rattle.pgn_game.specs.Profile.{Profile}

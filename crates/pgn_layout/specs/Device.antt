@@ -1,5 +1,4 @@
--- **Definition.** What a call does to the bytes that a device reports, and to its count of
--- failures.
+-- **Definition**: what a call does to the bytes of a device, and to its count of failures.
 use Rattle.std.specs.Prelude.{◌≡◌, ℕ, ◌+◌, ◌-◌, ◌^◌, ◌<◌, min, List, length, take, Option, Result, MatchResult}
 use Rattle.std.specs.Io.KnownBytes.{Appends}
 

@@ -1,4 +1,4 @@
--- **Definition.** The laws of lines and of what is put on them.
+-- **Definition**: what the laws say of lines, and of the calls that write them.
 use Rattle.std.specs.Prelude.{◌≡◌, ◌↔◌, ℕ, List, [], ◌∷◌, ◌++◌, map, All}
 use Rattle.pgn_layout.specs.Lines.{Lines, IsToken, lines_of, full_lines, last_line, text_of}
 use Rattle.pgn_layout.specs.Layout.{Put, EndGame, laid_from}

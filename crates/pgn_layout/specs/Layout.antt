@@ -1,4 +1,4 @@
--- **Definition.** What a layout writes, and the line that it keeps.
+-- **Definition**: what a layout holds, and what each call writes.
 use Rattle.std.specs.Prelude.{◌≡◌, ℕ, Bool, true, false, IsTrue, List, [], ◌∷◌, ◌++◌, Result, MatchResult, IsErr}
 use Rattle.pgn_layout.specs.Device.{Counts}
 use Rattle.pgn_layout.specs.TagLine.{tag_line}

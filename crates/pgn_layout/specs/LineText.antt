@@ -1,4 +1,4 @@
--- **Definition.** Tokens in order, each with the one byte after it, as lines have them (PGN 8.2.1).
+-- **Definition**: tokens in order, each with the one byte after it, as lines have them (PGN 8.2.1).
 use Rattle.std.specs.Prelude.{ℕ, Bool, ◌||◌, ◌==◌, IsTrue, List, [], ◌∷◌, ◌++◌}
 
 -- a space (32) or LF (10)

@@ -1,5 +1,5 @@
--- **Definition.** Movetext tokens on lines (PGN 8.2.1): in order, a single space between two, at
--- most 79 bytes a line.
+-- **Definition**: movetext tokens on lines (PGN 8.2.1).
+-- They are in order, with a single space between two, and at most 79 bytes a line.
 use Rattle.std.specs.Prelude.{◌≡◌, ℕ, ◌+◌, ◌<◌, ◌≤◌, Bool, true, false, List, [], ◌∷◌, ◌++◌, map, length, nat_le}
 
 -- the tokens of one line: the first, and those after it

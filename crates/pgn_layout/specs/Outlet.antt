@@ -1,4 +1,4 @@
--- **Definition.** What a contract sees of an outlet.
+-- **Definition**: what a contract sees of an outlet, the sink over a writer.
 use Rattle.std.specs.Prelude.{ℕ, refl}
 use Rattle.std.specs.Coded.{Coded, code_by, coded×, coded_ℕ}
 

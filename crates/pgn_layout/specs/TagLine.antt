@@ -1,4 +1,4 @@
--- **Definition.** A tag pair on a line of its own (PGN 8.1).
+-- **Definition**: a tag pair on a line of its own (PGN 8.1).
 use Rattle.std.specs.Prelude.{ℕ, Bool, ◌||◌, List, [], ◌∷◌, ◌++◌, ◌==◌, if◌then◌else◌}
 
 -- a quote or a backslash (PGN 7)

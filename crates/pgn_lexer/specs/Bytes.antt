@@ -1,4 +1,4 @@
--- **Definition.** Classes of bytes (PGN 4, 7).
+-- **Definition**: classes of bytes (PGN 4, 7).
 use Rattle.std.specs.Prelude.{ℕ, Bool, ◌||◌, ◌&&◌, not, nat_le, ◌==◌}
 
 -- line feed (PGN 3.2.2), and, by our choice, carriage return

@@ -1,4 +1,5 @@
--- **Definition.** The tokens of a text that no byte after it changes.
+-- **Definition**: the tokens of a text that no byte after it changes.
+-- In `decided` and `known`, u is the text so far, and b the byte after it.
 use Rattle.std.specs.Prelude.{ℕ, Bool, true, false, ◌&&◌, List, [], ◌∷◌, ◌++◌, ◌==◌, nat_lt, length, bytes_eq, take_while}
 use Rattle.pgn_lexer.specs.declared.token.LexReason.{LexReason}
 use Rattle.pgn_lexer.specs.declared.token.LexReason.TheVariants.{StrayByte, ControlByte, Reserved, SymbolTooLong, StringTooLong, WordTooLong, LoneDollar, GlyphRange, BadSuffix, BraceInLineComment, UnclosedString, UnclosedComment}

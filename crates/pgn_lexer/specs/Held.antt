@@ -1,4 +1,7 @@
--- **Bookkeeping.** What a lexer stores of the current token, and the tokens that it still gives.
+-- **Bookkeeping**: what a lexer holds of the current token, and the tokens that it still gives.
+-- Letters: h is what is held, s the bytes that come. `place` is the number of bytes used, `at` the
+-- place of the current token, `text` its bytes so far. Bytes are numbers: 33 is `!`, 63 is `?`, and
+-- 239 187 191 is the byte order mark EF BB BF.
 use Rattle.std.specs.Prelude.{◌≡◌, ℕ, ◌+◌, ◌<◌, ◌≤◌, true, false, List, [], ◌∷◌, ◌++◌, take_while, length}
 use Rattle.pgn_lexer.specs.declared.token.LexFault.{LexFault}
 use Rattle.pgn_lexer.specs.declared.token.LexReason.TheVariants.{StrayByte}

@@ -1,4 +1,5 @@
--- **Definition.** The laws of tokens.
+-- **Definition**: what the laws say of tokens.
+-- In the statements, s is a text, or what comes after the text u, and b is the byte after u.
 use Rattle.std.specs.Prelude.{◌≡◌, ℕ, ◌≤◌, ◌<◌, ◌^◌, ◌↔◌, ◌⊎◌, IsTrue, List, [], ◌++◌, ◌∷◌, map, decimal}
 use Rattle.pgn_lexer.specs.Tokens.{Kind, Token, end, refused}
 use Rattle.pgn_lexer.specs.TokensOf.{tokens_of}

@@ -1,5 +1,5 @@
--- **Definition.** How a text is cut into white space, escapes and tokens (PGN 5, 6, 7, 10): the
--- rules themselves, on whole runs of bytes.
+-- **Definition**: how a text is cut into white space, escapes and tokens (PGN 5, 6, 7, 10).
+-- These are the rules themselves, on whole runs of bytes.
 use Rattle.std.specs.Prelude.{◌≡◌, ℕ, ◌+◌, ◌<◌, ◌≤◌, IsTrue, IsFalse, Bool, true, false, not, ◌||◌, nat_le, List, [], ◌∷◌, ◌++◌, length, ◌==◌, codes}
 use Rattle.std.specs.List.{list_all}
 use Rattle.pgn_lexer.specs.declared.token.LexReason.{LexReason}

@@ -1,3 +1,4 @@
+-- **Bookkeeping**: the list of this crate's files of definitions.
 pub mod Bytes
 pub mod Decided
 pub mod Held

@@ -1,4 +1,6 @@
--- **Bookkeeping.** The result of reading a piece.
+-- **Bookkeeping**: what a run over a piece results in.
+-- `place` is the number of bytes used before the piece, and `used` how many of its bytes were used.
+-- Letters: s are any bytes that come after, t is a token, f a fault, h is what is held.
 use Rattle.std.specs.Prelude.{◌≡◌, true, false, ℕ, ◌+◌, ◌*◌, ◌<◌, ◌≤◌, ◌⊎◌, List, [], ◌∷◌, ◌++◌, length, take, drop}
 use Rattle.pgn_lexer.specs.declared.token.LexFault.{LexFault}
 use Rattle.pgn_lexer.specs.declared.hand.Mode.{Mode}

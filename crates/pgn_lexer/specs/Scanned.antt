@@ -1,4 +1,4 @@
--- **Definition.** The result of a call, its text a list.
+-- **Definition**: what a call returned, its text a list of bytes.
 use Rattle.std.specs.Prelude.{ℕ, Option, None, Some}
 use Rattle.pgn_lexer.specs.declared.token.LexFault.{LexFault}
 use Rattle.pgn_lexer.specs.declared.token.TokenKind.{TokenKind}

@@ -1,4 +1,4 @@
--- **Definition.** What the tokens of every text are made of (PGN 5, 7, 8.2.4).
+-- **Definition**: what the tokens of a text are made of, whatever the text is (PGN 5, 7, 8.2.4).
 use Rattle.std.specs.Prelude.{ℕ, ◌<◌, ◌≤◌, IsTrue, Bool, true, false, not, List, [], ◌∷◌, length, map}
 use Rattle.std.specs.List.{AllByRecursion, list_all}
 use Rattle.pgn_lexer.specs.Bytes.{starts_symbol, continues_symbol, continues_word}

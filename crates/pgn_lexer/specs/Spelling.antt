@@ -1,4 +1,4 @@
--- **Definition.** What is spelled how (PGN 5, 6, 7, 10).
+-- **Definition**: which bytes spell which token, and which are rejected (PGN 5, 6, 7, 10).
 use Rattle.std.specs.Prelude.{ℕ, ◌+◌, ◌-◌, ◌*◌, Bool, true, false, ◌||◌, List, [], ◌∷◌, fold, length, nat_lt, nat_le, ◌==◌, if◌then◌else◌}
 use Rattle.pgn_lexer.specs.declared.token.LexReason.{LexReason}
 use Rattle.pgn_lexer.specs.declared.token.LexReason.TheVariants.{StrayByte, ControlByte, Reserved, SymbolTooLong, StringTooLong, WordTooLong, LoneDollar, GlyphRange, BadSuffix, UnclosedString}

@@ -1,4 +1,4 @@
--- **Definition.** What a contract sees of a lexer.
+-- **Definition**: what a contract sees of a lexer.
 use Rattle.std.specs.Prelude.{ℕ, List, Option, None, Some}
 use Rattle.pgn_lexer.specs.declared.token.LexFault.{LexFault}
 use Rattle.pgn_lexer.specs.declared.hand.Mode.{Mode}

@@ -1,4 +1,6 @@
--- **Definition.** What it means that a lexer stands after bytes, and what a call leaves of that.
+-- **Definition**: which tokens a lexer gives and still has to give, and what each call does to it.
+-- Letters: l is a lexer, u the bytes used so far, b the byte known to be next, if one is. `given`
+-- are the tokens given so far, s any bytes that come after.
 use Rattle.std.specs.Prelude.{◌≡◌, ℕ, ◌+◌, ◌-◌, ◌*◌, ◌<◌, ◌⊎◌, List, [], ◌∷◌, ◌++◌, length, take, drop, Option, None, Some, Bool, true, false}
 use Rattle.std.specs.List.{AllByRecursion}
 use Rattle.std.specs.Borrow.{Fml, MutBor}

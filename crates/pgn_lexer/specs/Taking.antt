@@ -1,4 +1,6 @@
--- **Bookkeeping.** What one byte does to what a lexer stores.
+-- **Bookkeeping**: what one byte does to what a lexer holds.
+-- Letters: h is what is held, b the byte, `place` its place. Bytes are numbers: 33 is `!`, 48 is
+-- `0`, 92 is a backslash, and 239 187 191 is the byte order mark EF BB BF.
 use Rattle.std.specs.Prelude.{◌≡◌, ℕ, ◌+◌, ◌-◌, ◌*◌, List, [], ◌∷◌, ◌++◌, length, nat_lt, nat_le, ◌==◌, if◌then◌else◌}
 use Rattle.pgn_lexer.specs.declared.token.LexReason.{LexReason}
 use Rattle.pgn_lexer.specs.declared.token.LexReason.TheVariants.{StrayByte, ControlByte, SymbolTooLong, StringTooLong, WordTooLong, LoneDollar, GlyphRange, BadSuffix, BraceInLineComment, UnclosedString, UnclosedComment}

@@ -1,4 +1,4 @@
--- **Definition.** Tokens with their places (PGN 5, 7, 8.2.3.8, 8.2.4).
+-- **Definition**: tokens with their places (PGN 5, 7, 8.2.3.8, 8.2.4).
 use Rattle.std.specs.Prelude.{◌≡◌, ℕ, ◌+◌, ◌<◌, ◌≤◌, List, length, Bool, true, false}
 use Rattle.pgn_lexer.specs.declared.token.LexReason.{LexReason}
 

@@ -1,4 +1,4 @@
--- **Definition.** The tokens of a whole text, computed place by place (PGN 5, 6, 7).
+-- **Definition**: the tokens of a whole text, computed place by place (PGN 5, 6, 7).
 use Rattle.std.specs.Prelude.{ℕ, ◌+◌, Bool, true, false, ◌&&◌, drop, List, [], ◌∷◌, take_while, ◌==◌, if◌then◌else◌}
 use Rattle.pgn_lexer.specs.declared.token.LexReason.TheVariants.{StrayByte, ControlByte, BraceInLineComment, UnclosedComment}
 use Rattle.pgn_lexer.specs.declared.class.Class.{Class}

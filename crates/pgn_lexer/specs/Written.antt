@@ -1,5 +1,5 @@
--- **Definition.** How tokens are written, with white space between them (PGN 3.2, 7, 8.2), and when
--- what is written can be read back.
+-- **Definition**: how tokens are written, and when that can be read back (PGN 3.2, 7, 8.2).
+-- White space is between them.
 use Rattle.std.specs.Prelude.{ℕ, ◌+◌, IsTrue, false, List, [], ◌∷◌, ◌++◌, length, codes, decimal, if◌then◌else◌}
 use Rattle.std.specs.List.{AllByRecursion}
 use Rattle.pgn_lexer.specs.Bytes.{is_space, is_digit, continues_symbol, continues_word}

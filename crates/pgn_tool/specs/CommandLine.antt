@@ -1,4 +1,4 @@
--- **Definition.** The command line of the program, as `clap` sees it:
+-- **Definition**: the command line of the program, as `clap` sees it.
 --
 --     pgn_tool export [--reduced] [FILE]
 --     pgn_tool check [FILE]

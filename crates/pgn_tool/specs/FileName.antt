@@ -1,4 +1,4 @@
--- **Definition.** The names of the files of games.
+-- **Definition**: the names of the files of games.
 use Rattle.std.specs.Prelude.{ℕ, List, ◌++◌, drop, length, codes, decimal}
 
 -- the zeros that make a number of so many digits one of six; a longer number has none

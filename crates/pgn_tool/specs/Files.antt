@@ -1,4 +1,4 @@
--- **Definition.** The files that games are written to: what was done with them, step by step.
+-- **Definition**: the files that games are written to: what was done with them, step by step.
 use Rattle.std.specs.Prelude.{◌≡◌, ℕ, Bool, true, false, List, [], ◌∷◌, ◌++◌, Option, None, Some, Result, Ok, Err}
 use Rattle.pgn_layout.specs.Device.{one_more}
 use Rattle.pgn_tool.specs.declared.files.CreateFault.{CreateFault}

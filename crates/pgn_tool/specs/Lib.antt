@@ -1,4 +1,4 @@
--- Definitions that the contracts of pgn_tool cite.
+-- **Bookkeeping**: the list of this crate's files of definitions.
 pub mod CommandLine
 pub mod Requests
 pub mod Listing

@@ -1,4 +1,7 @@
--- **Definition.** The lines of a list, and the result of writing them.
+-- **Definition**: the lines that a list has, and what writing them results in.
+-- Letters: u are the bytes read so far, s is a text, c a converter, f a fault. `before` and `after`
+-- (or `now`) are the bytes that the sink has taken, before a call and after it; `left_old` and
+-- `left_new` are those that the source has left.
 use Rattle.std.specs.Prelude.{◌≡◌, ℕ, ◌+◌, ◌^◌, ◌<◌, List, [], ◌∷◌, ◌++◌, length, take, drop, codes, decimal, unwrap_or, Option, None, Some, Result, Ok, Err, IfSome}
 use Rattle.std.specs.Io.KnownBytes.{Appends, Consumes}
 use Rattle.chess_text.specs.Fen.{fen_text}

@@ -1,4 +1,4 @@
--- **Definition.** The replies if no task is run.
+-- **Definition**: what is reported if no task is run.
 use Rattle.std.specs.Prelude.{◌≡◌, ℕ, ◌≤◌, List, codes, string_bytes}
 use Rattle.std.specs.Io.KnownBytes.{Appends}
 use Rattle.pgn_tool.specs.Running.{Device, HasFailed, IsStill, IsUntouched, Tells, line}

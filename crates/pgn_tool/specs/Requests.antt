@@ -1,4 +1,4 @@
--- **Definition.** What the arguments ask for, and how a result says it.
+-- **Definition**: what the words of a command line ask for, and what `parse` returns for them.
 use Rattle.std.specs.Prelude.{◌≡◌, ◌≢◌, Bool, true, false, not, List, [], Option, Some, None, Result, Ok, Err}
 use Rattle.std.specs.Prelude.{codes, if◌then◌else◌, option_map, option_and_then, string_bytes, unwrap_or}
 use Rattle.std.specs.List.{list_any}

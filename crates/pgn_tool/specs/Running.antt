@@ -1,4 +1,4 @@
--- **Definition.** What a run of a task does to its devices, and the status that it ends with.
+-- **Definition**: what a run of a task does to its devices, and the status that it ends with.
 use Rattle.std.specs.Prelude.{◌≡◌, ℕ, ◌-◌, ◌^◌, ◌<◌, ◌≤◌, Bool, true, false, List, [], ◌∷◌, ◌++◌, length, take, codes, decimal, Option, None, Some, Result, Ok, Err}
 use Rattle.std.specs.Io.KnownBytes.{Appends, Keeps}
 use Rattle.pgn_layout.specs.Device.{one_more}

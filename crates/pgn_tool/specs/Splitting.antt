@@ -1,4 +1,4 @@
--- **Bookkeeping.** What one call of the converter does to the files of games.
+-- **Definition**: the files that a split makes, and what one call of the converter does to them.
 use Rattle.std.specs.Prelude.{◌≡◌, ℕ, ◌+◌, ◌^◌, ◌<◌, ◌≤◌, Bool, true, false, List, [], ◌∷◌, ◌++◌, length, codes, Option, None, Some, Result, Ok, Err, IfOk, OnOk, is_some}
 use Rattle.pgn_layout.specs.Device.{one_more}
 use Rattle.pgn_game.specs.declared.reason.Reason.{Reason}
