@@ -25,7 +25,7 @@ abbrev pub if_own : Parts → Kind → Option Square → Option Square
 if_own p k None = None
 if_own p k (Some s) = if own p k s then Some s else None
 
--- the first piece on that way from t, if it is of the kind
+-- the first piece in that direction from t, if it is of the kind and of the side to move
 abbrev pub origin_on : Parts → Kind → Square → Direction → Option Square
 origin_on p k t d = if_own p k (first_on p.board d t)
 
@@ -39,7 +39,7 @@ on_ways p k t = filter_map (origin_on p k t) DIRECTIONS
 unfoldable pub by_jumps : Parts → Square → List Square
 by_jumps p t = filter_map (origin_by p t) JUMPS
 
--- way by way, or jump by jump
+-- direction by direction, or jump by jump
 abbrev pub origins : Parts → Kind → Square → List Square
 origins p King t = on_ways p King t
 origins p Queen t = on_ways p Queen t
@@ -87,7 +87,7 @@ abbrev pub if_left : Parts → Bool → Option Square → Option Square
 if_left p near None = None
 if_left p near (Some s) = if is_left p near s then Some s else None
 
--- the first piece on that way from t, if it is left
+-- the first piece in that direction from t, if it is left
 abbrev pub left_on : Parts → Bool → Square → Direction → Option Square
 left_on p near t d = if_left p near (first_on p.board d t)
 

@@ -29,7 +29,7 @@ square_there i = if nat_lt i 64 then Some (square_at i) else None
 abbrev pub toward : ℕ → ℕ → ℕ → ℕ
 toward a b k = if nat_lt a b then a + k else if nat_lt b a then a - k else a
 
--- k king's steps from s towards t
+-- the square k king's steps from s towards t
 abbrev pub along : Square → Square → ℕ → Square
 along s t k = square (toward s.file t.file k) (toward s.rank t.rank k)
 
@@ -47,38 +47,43 @@ is_on_line s t = (s.rank == t.rank) || ((s.file == t.file) || (gap s.file t.file
 
 -- Outward from a square.
 
--- the file or rank k further
+-- the file or rank that lies k further, whether or not the board has it
 abbrev pub gone : Shift → ℕ → ℕ → ℕ
 gone Down a k = a - k
 gone Stay a k = a
 gone Up a k = a + k
 
--- the board has it
+-- the board has that file or rank
 abbrev pub has_room : Shift → ℕ → ℕ → Bool
 has_room Down a k = nat_le k a
 has_room Stay a k = true
 has_room Up a k = nat_lt (a + k) 8
 
+-- the file or rank that lies k further, if the board has it
 abbrev pub shifted : Shift → ℕ → ℕ → Option ℕ
 shifted w a k = if has_room w a k then Some (gone w a k) else None
 
+-- the shift that leads from file or rank a to b
 abbrev pub shift_between : ℕ → ℕ → Shift
 shift_between a b = if nat_lt a b then Up else if nat_lt b a then Down else Stay
 
+-- the direction that leads from s to t
 abbrev pub direction_between : Square → Square → Direction
 direction_between s t = record { files = shift_between s.file t.file; ranks = shift_between s.rank t.rank }
 
--- the square so many files and ranks further
+-- the square that lies i files and j ranks further, whether or not the board has it
 abbrev pub further : Direction → Square → ℕ → ℕ → Square
 further d s i j = square (gone d.files s.file i) (gone d.ranks s.rank j)
 
+-- the board has that square
 abbrev pub fits : Direction → Square → ℕ → ℕ → Bool
 fits d s i j = has_room d.files s.file i && has_room d.ranks s.rank j
 
+-- that square, if the board has it
 abbrev pub stepped : Direction → Square → ℕ → ℕ → Option Square
 stepped d s i j = if fits d s i j then Some (further d s i j) else None
 
--- The table of ways: for each way, for each square.
+-- The table of rays: for each direction, for each square. A direction has a number from 0 to 8.
 
 abbrev pub shift_number : Shift → ℕ
 shift_number Down = 0
@@ -88,24 +93,26 @@ shift_number Up = 2
 abbrev pub direction_number : Direction → ℕ
 direction_number d = 3 * shift_number d.files + shift_number d.ranks
 
+-- the shift of that number
 abbrev pub shift_numbered : ℕ → Shift
 shift_numbered zero = Down
 shift_numbered (suc zero) = Stay
 shift_numbered (suc (suc n)) = Up
 
+-- the direction of that number
 abbrev pub direction_numbered : ℕ → Direction
 direction_numbered n = record { files = shift_numbered (n / 3); ranks = shift_numbered (n % 3) }
 
--- the place of a square, or 64
+-- the number of the square among the 64, or 64 if there is no square
 abbrev pub place_or_none : Option Square → ℕ
 place_or_none None = 64
 place_or_none (Some s) = cell_of s
 
--- u lies that way from t, or it is t, where that way leads nowhere
+-- u lies in that direction from t, or it is t and the direction leads nowhere
 abbrev pub lies_on : Direction → Square → Square → Bool
 lies_on d t u = is_on_line t u && (direction_number (direction_between t u) == direction_number d)
 
--- places rise on that way
+-- the numbers of the squares rise in that direction
 abbrev pub rises : Shift → Shift → Bool
 rises f Up = true
 rises f Down = false
@@ -122,13 +129,15 @@ goes_up d = rises d.files d.ranks
 abbrev pub jump_numbered : ℕ → Jump
 jump_numbered n = slice_index_or JUMPS n (record { way = record { files = Up; ranks = Up }; files = 1; ranks = 2 })
 
+-- the square that lies jump n away from s, if the board has it
 abbrev pub landing : Square → ℕ → Option Square
 landing s n = stepped (jump_numbered n).way s (jump_numbered n).files (jump_numbered n).ranks
 
+-- its number, or 64: of jump n % 8 from square n / 8
 abbrev pub landing_place : ℕ → ℕ
 landing_place n = place_or_none (landing (square_at (n / 8)) (n % 8))
 
--- stop where there is no square, or at an occupied one
+-- None where there is no square, the square if it is occupied, and else what comes further on
 abbrev pub go_on : Board → Option Square → (Square → Option Square) → Option Square
 go_on b None more = None
 go_on b (Some t) more = if is_empty b t then more t else Some t
@@ -138,20 +147,20 @@ abbrev pub first_within : Board → Direction → Square → ℕ → Option Squa
 first_within b d s zero = None
 first_within b d s (suc n) = go_on b (stepped d s 1 1) (λ t. first_within b d t n)
 
--- the first occupied square on the way from s
+-- the first occupied square in that direction from s
 abbrev pub first_on : Board → Direction → Square → Option Square
 first_on b d s = first_within b d s 7
 
--- that square was found
+-- the option is this square
 abbrev pub is_there : Option Square → Square → Bool
 is_there None s = false
 is_there (Some u) s = same_square u s
 
--- s is the first occupied square on that way from t
+-- s is the first occupied square in that direction from t
 unfoldable pub is_first_on : Board → Square → Square → Direction → Bool
 is_first_on b t s d = is_there (first_on b d t) s
 
--- on one of the eight ways
+-- so in one of the eight directions
 unfoldable pub is_first : Board → Square → Square → Bool
 is_first b t s = list_any (is_first_on b t s) DIRECTIONS
 
@@ -164,6 +173,7 @@ reaches Bishop c s t = on_diagonal s t
 reaches Knight c s t = is_jump s t
 reaches Pawn c s t = (gap s.file t.file == 1) && is_ahead c s.rank t.rank
 
+-- the piece, if there is one, is of the colour, and would attack t from s so
 abbrev pub reaches_with : Colour → Option Piece → Square → Square → Bool
 reaches_with c None s t = false
 reaches_with c (Some x) s t = same_colour c x.colour && reaches x.kind x.colour s t
@@ -173,10 +183,11 @@ abbrev pub attacked_from : Board → Colour → Square → Option Square → Boo
 attacked_from b c t None = false
 attacked_from b c t (Some s) = reaches_with c (at b s) s t
 
--- the first piece on that way from t is of the colour and attacks t
+-- the first piece in that direction from t is of the colour and attacks t
 abbrev pub attacked_along : Board → Colour → Square → Direction → Bool
 attacked_along b c t d = attacked_from b c t (first_on b d t)
 
+-- a knight of the colour is on the square, if there is one
 abbrev pub knight_on : Board → Colour → Option Square → Bool
 knight_on b c None = false
 knight_on b c (Some s) = has_piece c Knight (at b s)
@@ -185,7 +196,7 @@ knight_on b c (Some s) = has_piece c Knight (at b s)
 abbrev pub attacked_by_jump : Board → Colour → Square → Jump → Bool
 attacked_by_jump b c t j = knight_on b c (stepped j.way t j.files j.ranks)
 
--- The king's square, as kept.
+-- The king's square, as a position stores it.
 
 abbrev pub king_square : Colour → Board → Square
 king_square c b = square_at (unwrap_or (position (has_piece c King) b) 0)

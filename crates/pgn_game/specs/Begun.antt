@@ -78,7 +78,7 @@ next_in InMovetext part k = in_text part k
 abbrev pub next : Part → Kind → Next
 next part k = next_in part.stage part k
 
--- the finished games, and the part after them
+-- progress: the finished games, and the part of a game after them
 pub record Begun : Type 0 where
   pub games : List Game
   pub part : Part
@@ -93,7 +93,7 @@ begun_with games (whole g) = record { games = games ++ g ∷ []; part = no_part 
 abbrev pub begun_after : Begun → Token → Begun
 begun_after b t = begun_with b.games (next b.part t.kind)
 
--- how far a list of tokens was read, and the first that is rejected
+-- the progress that a list of tokens makes, and the fault of the first that is rejected
 pub record Read : Type 0 where
   pub begun : Begun
   pub fault : Option Fault
@@ -110,15 +110,15 @@ read_from p b (t ∷ ts) =
 abbrev pub read : Profile → List Token → Read
 read p ts = read_from p nothing_begun ts
 
--- the output when this much was read
+-- the output for progress: the finished games, and of the part its tag section and full lines
 abbrev pub written : Profile → Begun → List ℕ
 written p b = text_of p b.games ++ torn p b.part
 
--- the output that must be written for the tokens before the first that is rejected
+-- the output for tokens, up to the first that is rejected
 abbrev pub due : Profile → List Token → List ℕ
 due p ts = written p (read p ts).begun
 
--- the output for a text
+-- the output for the bytes of a text
 abbrev pub output : Profile → List ℕ → List ℕ
 output p s = due p (tokens_of s)
 

@@ -90,7 +90,7 @@ is_outside_pairs part = is_before_movetext part || is_at InMovetext part
 abbrev pub in_name : ℕ → Bool
 in_name b = starts_symbol b || (b == 95)
 
--- The markers (PGN 8.2.6): three symbols, and the asterisk.
+-- The markers (PGN 8.2.6): three are symbols, which `is_score` tests, and one is the asterisk.
 abbrev pub is_score : List ℕ → Bool
 is_score s = bytes_eq s (codes "1-0") || bytes_eq s (codes "0-1") || bytes_eq s (codes "1/2-1/2")
 

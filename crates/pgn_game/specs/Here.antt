@@ -7,7 +7,7 @@ use Rattle.pgn_game.specs.Chess.{first_position, position_of, play}
 use Rattle.pgn_game.specs.Pairs.{Pair, value_of}
 use Rattle.pgn_game.specs.Game.{Item, move, open_variation, close_variation, Game}
 
--- a FEN value that is no position is rejected, so its position here does not matter
+-- A bad FEN is rejected elsewhere; any position would do here.
 abbrev pub position_or_first : Result Parts FenFault → Parts
 position_or_first (Ok p) = p
 position_or_first (Err fault) = first_position
@@ -76,9 +76,10 @@ outermost l (k ∷ ks) = outermost k ks
 abbrev pub main_moves : List Item → List Move
 main_moves items = (outermost (levels_of items).present (levels_of items).around).trail
 
--- how many there are, and the position after them
+-- how many of these moves a game has
 abbrev pub plies_of : Game → ℕ
 plies_of g = length (main_moves g.items)
 
+-- the position after these moves
 abbrev pub last_position : Game → Parts
 last_position g = replayed (start_of g.pairs) (main_moves g.items)

@@ -40,7 +40,7 @@ pub record Took (p : Profile) (u : List ℕ) (given : List Token) (piece : List 
   pub ends : EndsAt t.kind t.at (length u + used)
   pub gains : Gains p given (given ++ t ∷ []) before after
 
--- What a step in a piece comes to.
+-- What a step in a piece results in. `⊥` means never: no step in a piece is `Ended`.
 abbrev pub AfterStep : Profile → List ℕ → List Token → List ℕ → Converter → ℕ → Stepped → Option (List ℕ) → Option (List ℕ) → Type 0
 AfterStep p u given piece new used NeedMore before after =
     (used ≡ length piece) × Stands p new (u ++ piece) None given × (given ≡ decided (u ++ piece)) × Gains p given given before after
@@ -55,7 +55,7 @@ AfterStep p u given piece new used (Failed f) before after = FedToFault p u None
 abbrev pub StaysBetween : Converter → Converter → Type 0
 StaysBetween old new = new.reading.stage ≡ Between → new.reading ≡ old.reading
 
--- What a step behind the last piece comes to; u is the whole text.
+-- What a step after the last piece reads, if it is not the end; u is the whole text.
 pub record TookLast (p : Profile) (u : List ℕ) (given : List Token) (t : Token) (new : Converter) (before after : Option (List ℕ)) : Type 0 where
   pub left : HasLeft new.lexer u (given ++ t ∷ [])
   pub has_read : HasRead p new (given ++ t ∷ [])
@@ -74,6 +74,7 @@ pub record ClosedToFault (p : Profile) (given tokens : List Token) (f : Fault) (
   pub stops : Stops p given tokens before after f
   pub no_game : games_before stops ≡ (read p given).begun.games
 
+-- What a step after the last piece results in. `⊥` means never: none is `NeedMore`.
 abbrev pub AfterClosing : Profile → List ℕ → List Token → Converter → Converter → Stepped → Option (List ℕ) → Option (List ℕ) → Type 0
 AfterClosing p u given old new NeedMore before after = ⊥
 AfterClosing p u given old new More before after = (t : Token) × TookLast p u given t new before after × SameGames p given (given ++ t ∷ []) × StaysBetween old new

@@ -35,10 +35,15 @@ pub enum Fed {
 /// The result of one step.
 #[derive(Clone, Copy)]
 enum Stepped {
+    /// The piece is used up, and gave no token.
     NeedMore,
+    /// A token was read that finished no game. More tokens may come.
     More,
+    /// A token was read that finished a game.
     Finished,
+    /// The end of the input was read.
     Ended,
+    /// A token was rejected, or a write failed.
     Failed(Fault),
 }
 
@@ -193,11 +198,12 @@ impl<const T: usize, const L: usize> Converter<T, L> {
         let mut is_game = false;
         loop {
             match self.close(out) {
+                // Never: see `AfterClosing`.
                 Stepped::NeedMore => {}
                 Stepped::More => {}
                 Stepped::Finished => is_game = true,
                 Stepped::Ended => {
-                    // The end comes only between games.
+                    // `Ended` comes only between games.
                     self.is_at_hand = is_game && self.reader.is_between();
                     return Ok(is_game);
                 }
@@ -309,6 +315,7 @@ impl<const T: usize, const L: usize> Converter<T, L> {
                 Stepped::NeedMore => return Ok(Fed::All),
                 Stepped::More => {}
                 Stepped::Finished => return Ok(Fed::Game(at)),
+                // Never: see `AfterStep`.
                 Stepped::Ended => return Ok(Fed::All),
                 Stepped::Failed(fault) => return Err(fault),
             }
@@ -358,7 +365,8 @@ impl<const T: usize, const L: usize> Converter<T, L> {
         }
     }
 
-    /// Takes the next token of those that are left after the last piece.
+    /// Takes the next of the tokens that are left after the last piece. The end of the input is the
+    /// last one.
     fn close<W: Sink>(&mut self, out: &mut W) -> Stepped
         requires no_fault { self.old.fault ≡ None }
         requires going { self.old.is_finished ≡ false }
@@ -470,7 +478,7 @@ fn is_game(outcome: Stepped) -> bool
     }
 }
 
-// Whether the step passed the end.
+// Whether the step read the end of the input.
 fn is_ended(outcome: Stepped) -> bool
     ensures { result ≡ is_of_end outcome }
 {

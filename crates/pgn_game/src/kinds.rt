@@ -40,7 +40,8 @@ pub fn is_tag_name(name: &[u8]) -> bool
         .all(|byte| byte.is_ascii_alphanumeric() || *byte == b'_')
 }
 
-/// Whether the text is one of the three markers that are symbols (PGN 8.2.6).
+/// Whether the text is one of the three markers that are symbols: `1-0`, `0-1`, `1/2-1/2` (PGN
+/// 8.2.6).
 pub fn is_score(text: &[u8]) -> bool
     ensures { result ≡ is_any_score text.now }
 {
@@ -52,7 +53,7 @@ pub fn is_score(text: &[u8]) -> bool
     }
 }
 
-/// Whether the text is one of the four markers (PGN 8.2.6).
+/// Whether the text is one of the four markers: these three, or `*` (PGN 8.2.6).
 pub fn is_result(text: &[u8]) -> bool
     ensures { result ≡ is_any_result text.now }
 {

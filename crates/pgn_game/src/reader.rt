@@ -112,7 +112,8 @@ impl<const T: usize, const L: usize> Reader<T, L> {
         }
     }
 
-    /// The value of a name in the tag section of the game before, its defaults included.
+    /// The value of a name in the tag section of the game before, its defaults included: 42 is `*`,
+    /// the default of Result.
     pub fn value(&self, name: &[u8]) -> Option<&[u8]>
         requires { self.now.stage ≡ Between }
         ensures { option_copied result
@@ -582,7 +583,7 @@ fn start_told(name: &[u8], value: &[u8]) -> Result<Option<Position>, u8>
     }
 }
 
-// Whether this is the name of a position that the reduced format has not.
+// Whether this is the FEN tag, in reduced format.
 fn is_reduced_fen(mode: Mode, name: &[u8]) -> bool
     ensures { result ≡ (is_reduced mode && bytes_eq name.now (codes "FEN")) }
 {

@@ -150,7 +150,8 @@ impl Layout {
         write(&mut self.has_failed, b"\n", out)
     }
 
-    /// Empties the line, and writes nothing.
+    /// Empties the line, and writes nothing. For a caller that gives up a game; `pgn_game` never
+    /// calls it.
     pub fn drop_line(&mut self)
         ensures { self.new ≡ record self.old { line = line_at self.old.line DropLine } }
     {

@@ -44,7 +44,7 @@ abbrev pub with_front : List ℕ → Reading → Reading
 with_front text (closed more) = closed (text ++ more)
 with_front text (broken at reason) = broken at reason
 
--- the suffix so far
+-- the suffix so far: `!` is 33, `?` is 63
 abbrev pub spelling : SuffixRun → List ℕ
 spelling runs.Good = 33 ∷ []
 spelling runs.Poor = 63 ∷ []

@@ -32,7 +32,7 @@ pub record Taken : Type 0 where
 abbrev pub into : Held → Mode → Step → Taken
 into h mode step = record { held = record { mode = mode; at = h.at; text = h.text }; step = step }
 
--- a token begins at the place, with this text
+-- the mode, the place and the text are set
 abbrev pub begun : Mode → ℕ → List ℕ → Step → Taken
 begun mode place text step = record { held = record { mode = mode; at = place; text = text }; step = step }
 
@@ -40,6 +40,7 @@ begun mode place text step = record { held = record { mode = mode; at = place; t
 abbrev pub grown : Held → Mode → ℕ → Taken
 grown h mode b = record { held = record { mode = mode; at = h.at; text = h.text ++ b ∷ [] }; step = Used }
 
+-- the lexer rejects the text at this place, for good
 abbrev pub fails : Held → ℕ → LexReason → Taken
 fails h at reason = begun (Failed (record { at = at; reason = reason })) at h.text (Fault (record { at = at; reason = reason }))
 
@@ -62,12 +63,15 @@ abbrev pub begin_line : ℕ → Held → ℕ → Class → Taken
 begin_line place h b classes.Percent = into h Escape Used
 begin_line place h b c = begin place h b c
 
+-- at the first byte of the input: EF (239) can begin a byte order mark
 abbrev pub start : ℕ → Held → ℕ → Taken
 start place h b = if b == 239 then into h AfterEf Used else begin_line place h b (class b)
 
+-- only BB (187) may follow it
 abbrev pub after_ef : Held → ℕ → Taken
 after_ef h b = if b == 187 then into h AfterEfBb Used else fails h 0 StrayByte
 
+-- and then only BF (191); the byte after the mark is in the first column
 abbrev pub after_ef_bb : Held → ℕ → Taken
 after_ef_bb h b = if b == 191 then into h Column Used else fails h 0 StrayByte
 
@@ -79,6 +83,7 @@ symbol h b =
     if continues_symbol b then (if nat_lt (length h.text) 255 then grown h Symbol b else fails h h.at SymbolTooLong)
     else into h Outside (EndsBefore forms.Symbol)
 
+-- the first digit of a NAG; a digit is its byte less 48, the byte of `0`
 abbrev pub dollar : Held → ℕ → Taken
 dollar h b = if is_digit b then into h (Glyph (b - 48)) Used else fails h h.at LoneDollar
 
@@ -96,6 +101,7 @@ glyph_of runs.VeryPoor = 4
 glyph_of runs.Speculative = 5
 glyph_of runs.Questionable = 6
 
+-- the second byte of a suffix: `!` (33), or else `?`
 abbrev pub second_suffix : Held → SuffixRun → ℕ → Taken
 second_suffix h runs.Good b = into h (Suffix (if b == 33 then runs.VeryGood else runs.Speculative)) Used
 second_suffix h runs.Poor b = into h (Suffix (if b == 33 then runs.Questionable else runs.VeryPoor)) Used
@@ -111,6 +117,7 @@ string place h b strings.Control = fails h place ControlByte
 string place h b strings.Backslash = if nat_lt (length h.text) 255 then into h AfterBackslash Used else fails h h.at StringTooLong
 string place h b strings.Plain = if nat_lt (length h.text) 255 then grown h Str b else fails h h.at StringTooLong
 
+-- the byte after a backslash; before another byte the backslash (92) is itself
 abbrev pub escaped : ℕ → Held → ℕ → StringClass → Taken
 escaped place h b strings.Quote = grown h Str b
 escaped place h b strings.LineEnd = fails h h.at UnclosedString

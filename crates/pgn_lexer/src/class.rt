@@ -39,6 +39,7 @@ pub(crate) enum CommentClass {
     LineEnd,
     Space,
     CloseBrace,
+    /// Any byte of a word.
     Letter,
     Control,
 }
@@ -53,6 +54,11 @@ pub(crate) enum StringClass {
     Plain,
 }
 
+// The tables below have names of three letters. Outside strings and comments: END is the end of a
+// line, GAP is white space, SYM begins a symbol, SUF is `!` or `?`, PER is `%`, QUO is `"`, DOL is
+// `$`, BRA is `{`, SEM is `;`. LBR and RBR are brackets, LPA and RPA parentheses, DOT is the
+// period, AST is `*`. Rejected are RES, a reserved character; CTL, a control byte; BAD, any other
+// byte.
 const END: Class = Class::LineEnd;
 
 const GAP: Class = Class::Space;
@@ -114,6 +120,8 @@ pub(crate) fn class_of(byte: u8) -> Class
     CLASSES[byte as usize]
 }
 
+// In a comment: CEN is the end of a line, CGA is white space, CLO is `}`, LET is any byte of a
+// word, CCT is a control byte.
 const CEN: CommentClass = CommentClass::LineEnd;
 
 const CGA: CommentClass = CommentClass::Space;
@@ -149,6 +157,8 @@ pub(crate) fn comment_class_of(byte: u8) -> CommentClass
     COMMENT_CLASSES[byte as usize]
 }
 
+// In a string: SQU is `"`, SEN is the end of a line, SCT is a control byte, SBA is a backslash, SPL
+// is any other byte, which stands for itself.
 const SQU: StringClass = StringClass::Quote;
 
 const SEN: StringClass = StringClass::LineEnd;
@@ -184,6 +194,7 @@ pub(crate) fn string_class_of(byte: u8) -> StringClass
     STRING_CLASSES[byte as usize]
 }
 
+// YES where a symbol goes on, NOT where it does not.
 const YES: bool = true;
 
 const NOT: bool = false;
