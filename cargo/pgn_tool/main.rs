@@ -1,0 +1,73 @@
+//! The program, built by Cargo. **Not proved.**
+//!
+//! This file, `arguments` and `folder` are written for Cargo, on the real `clap` and the real
+//! standard library. They stand for files of the proved program that need its toolchain. The other
+//! modules are those of the proved program, without their contracts.
+
+mod arguments;
+mod files;
+mod folder;
+mod game_sink;
+mod list;
+mod replies;
+mod split;
+mod stream;
+
+use crate::arguments::{parse, Task};
+use crate::folder::Folder;
+use crate::replies::{answer_fault, refuse_words, want_memory};
+use crate::split::split_to;
+use crate::stream::{refuse, run_stream};
+use pgn_game::{Fault, Inlet, Outlet, Reason, Sink};
+use std::fs::File;
+use std::io::{BufWriter, ErrorKind, Read};
+use std::process::ExitCode;
+use std::{env, io};
+
+/// How many bytes of standard output are written at once.
+const OUTPUT_BUFFER: usize = 64 * 1024;
+
+/// A type without meaning, where the proved program has `std::marker::Brand`: contracts use that to
+/// tell one call from another. It is never made, and does nothing.
+pub enum Brand {}
+
+fn main() -> ExitCode {
+    ExitCode::from(answer(&mut Outlet::new(io::stderr())))
+}
+
+/// Reads the words of the call, carries out what they ask for, and returns the exit status.
+fn answer<E: Sink>(err: &mut E) -> u8 {
+    let words: Option<Vec<String>> = env::args_os().map(|it| it.into_string().ok()).collect();
+    let Some(words) = words else {
+        return refuse_words(err);
+    };
+    match parse(&words) {
+        Ok(task) => run(&task, err),
+        Err(fault) => answer_fault(&fault, &mut Outlet::new(io::stdout()), err),
+    }
+}
+
+/// Opens the file of the task, and runs the task on it; with none, on standard input.
+fn run<E: Sink>(task: &Task, err: &mut E) -> u8 {
+    let Some(name) = task.file() else {
+        return run_on(task, io::stdin().lock(), err);
+    };
+    match File::open(name) {
+        Ok(file) => run_on(task, file, err),
+        Err(error) if error.kind() == ErrorKind::OutOfMemory => want_memory(err),
+        Err(_) => {
+            let (at, reason) = (0, Reason::ReadFault);
+            refuse(Fault { at, reason }, err)
+        }
+    }
+}
+
+/// Runs the task on what the reader gives: to files, or to standard output.
+fn run_on<R: Read, E: Sink>(task: &Task, reader: R, err: &mut E) -> u8 {
+    let mut source = Inlet::new(reader);
+    if let Task::Split { dir, .. } = task {
+        return split_to(&mut source, &mut Folder::new(dir), err);
+    }
+    let writer = BufWriter::with_capacity(OUTPUT_BUFFER, io::stdout().lock());
+    run_stream(task, &mut source, &mut Outlet::new(writer), err)
+}
