@@ -1,0 +1,210 @@
+"""The tables of bench/run, its goals, and how --record writes them between two marker comments."""
+import os
+import re
+import textwrap
+
+# What is measured, of which archive or task, and the most that it may be. Wall time and
+# instructions are parts of pgn-extract's.
+GOALS = (
+    ("wall time", "plain", 0.20),
+    ("wall time", "annotated", 0.20),
+    ("instructions", "plain", 0.19),
+    ("instructions", "annotated", 0.22),
+    ("memory", "plain", 2),
+    ("memory", "annotated", 2),
+    ("least stack", "export", 128),
+    ("least stack", "check", 128),
+    ("least stack", "list", 128),
+)
+# how a goal and what was measured are shown
+FORMS = {
+    "wall time": ("%.2f", "%.3f"),
+    "instructions": ("%.2f", "%.3f"),
+    "memory": ("%d MiB", "%.1f MiB"),
+    "least stack": ("%d KiB", "%d KiB"),
+}
+# A load of more than this beyond the measurement's own is other work.
+QUIET = 0.5
+
+
+def table(head, rows, side="---:"):
+    """The lines of a table. Its first column is at the left, and the others at the side."""
+    lines = ["| %s |" % " | ".join(str(it) for it in row) for row in [head, *rows]]
+    return [lines[0], "|---|" + (len(head) - 1) * (side + "|"), *lines[1:], ""]
+
+
+def prose(text):
+    """The lines of a text, of at most 100 columns; those of an item of a list are indented."""
+    indent = "  " if text.startswith("- ") else ""
+    return textwrap.wrap(text, 100, subsequent_indent=indent, break_on_hyphens=False)
+
+
+def number(value, form):
+    return "" if value is None else format(value, form)
+
+
+def ratio(archive, what):
+    """Ours in parts of pgn-extract's."""
+    ours, theirs = (archive["converters"][it][what] for it in ("pgn_tool", "pgn-extract"))
+    return ours / theirs
+
+
+def measured_goals(result):
+    """(what, of which, goal, measured) for each goal that the result has a figure for."""
+    found = {("least stack", task): kib for task, kib in result["stack"].items()}
+    for it in result["archives"]:
+        found["wall time", it["name"]] = ratio(it, "wall")
+        found["instructions", it["name"]] = ratio(it, "instructions")
+        found["memory", it["name"]] = it["converters"]["pgn_tool"]["memory"]
+    return [(what, of, goal, found[what, of]) for what, of, goal in GOALS if (what, of) in found]
+
+
+def goals(result):
+    rows, missed = [], []
+    for what, of, goal, measured in measured_goals(result):
+        at_most, shown = FORMS[what][0] % goal, FORMS[what][1] % measured
+        rows.append([what, of, at_most, shown, "met" if measured <= goal else "NOT MET"])
+        if measured > goal:
+            missed.append("- %s, %s: %s instead of %s" % (what, of, shown, at_most))
+    if not rows:
+        return []
+    said = ["**Not met:**", "", *missed] if missed else ["All goals are met."]
+    return ["Goals. Wall time and instructions are parts of pgn-extract's:", "",
+            *table(["", "of", "at most", "measured", "goal"], rows, "---"), *said, ""]
+
+
+def other_work(result, own=1):
+    """Whether the load says so; that at the end has the processes of the measurement."""
+    before, after = result["load"]
+    if before <= QUIET and after <= own + QUIET:
+        return "no other work ran"
+    return "**other work ran**"
+
+
+def machine(result, own=1):
+    """The date, the machine, the versions, and whether other work ran."""
+    it = result["machine"]
+    versions = ", ".join("%s %s" % pair for pair in it["versions"].items())
+    items = ["- Date: %s; the least of %d rounds" % (result["date"], result["rounds"]),
+             "- Machine: %d processors, %s; Debian %s" % (it["processors"], it["model"], it["debian"]),
+             "- Versions: %s" % versions,
+             "- Load average: %.2f before; %.2f after, where up to %d is the measurement's own: %s"
+             % (*result["load"], own, other_work(result, own))]
+    return [line for item in items for line in prose(item)] + [""]
+
+
+def converters(archive):
+    rows = []
+    for name, it in archive["converters"].items():
+        rows.append([name, "%.2f" % it["wall"], "%d" % (archive["games"] / it["wall"]),
+                     "%.1f" % (archive["bytes"] / 1e6 / it["wall"]), "%.1f" % it["memory"],
+                     format(round(it["instructions"]), ","),
+                     format(round(it["mispredictions"]), ",")])
+    rows.append(["pgn_tool to pgn-extract", "%.3f" % ratio(archive, "wall"), "", "",
+                 "%.2f" % ratio(archive, "memory"), "%.3f" % ratio(archive, "instructions"),
+                 "%.3f" % ratio(archive, "mispredictions")])
+    head = ["", "wall s", "games/s", "MB/s", "memory MiB", "instructions a game",
+            "branch mispredictions a game"]
+    return table(head, rows)
+
+
+def parts(archive):
+    """The share of each part; a function that is inlined elsewhere is named as left out."""
+    spent = archive["parts"]
+    whole = sum(spent.values())
+    rows = []
+    for part, it in spent.items():
+        without = ["`%s`" % name for name in archive["inlined"].get(part, [])]
+        name = part + (", without " + " and ".join(without) if without else "")
+        rows.append([name, format(round(it), ","), "%.1f %%" % (100 * it / whole)])
+    return ["Where the instructions of a game go:", "",
+            *table(["part", "instructions a game", "share"], rows)]
+
+
+def sizes(archive):
+    if not archive["sizes"]:
+        return []
+    rows = [["%.1f" % (it["bytes"] / 1e6), "%.2f" % it["wall"],
+             "%.1f" % (it["wall"] / it["bytes"] * 1e9),
+             "%.1f" % (it["instructions"] / it["bytes"]), "%.1f" % it["memory"]]
+            for it in archive["sizes"]]
+    return ["Cost against size, by repeating the games:", "",
+            *table(["MB", "wall s", "ns a byte", "instructions a byte", "memory MiB"], rows)]
+
+
+def split(archive):
+    if not archive["split"]:
+        return []
+    calls = archive["split"]["calls"] or {}
+    rows = [[task, "%d" % (archive["games"] / took), number(calls.get(task), ".2f")]
+            for task, took in archive["split"]["wall"].items()]
+    return ["`split` beside `export`, files in memory:", "",
+            *table(["", "games/s", "system calls a game"], rows)]
+
+
+def report(result):
+    """All tables, as bench/README.md has them."""
+    lines = machine(result) + goals(result)
+    for it in result["archives"]:
+        lines += ["### %s: %s games, %.1f MB"
+                  % (it["name"].capitalize(), format(it["games"], ","), it["bytes"] / 1e6), ""]
+        lines += converters(it) + parts(it) + split(it) + sizes(it)
+    if result["stack"]:
+        rows = [[task, kib] for task, kib in result["stack"].items()]
+        lines += ["### Least stack", "", *table(["task", "KiB"], rows)]
+    return lines[:-1]
+
+
+def summary(result):
+    """The table of the README."""
+    rows = []
+    for it in result["archives"]:
+        ours = it["converters"]["pgn_tool"]
+        rows.append(["%s, %s games, %.1f MB"
+                     % (it["name"], format(it["games"], ","), it["bytes"] / 1e6),
+                     format(round(it["games"] / ours["wall"], -2), ",.0f"),
+                     "%.2f" % ratio(it, "wall"), "%.2f" % ratio(it, "instructions"),
+                     "%.1f MiB" % ours["memory"]])
+    head = ["", "games a second", "wall time", "instructions", "memory"]
+    version = result["machine"]["versions"].get("pgn-extract", "of unknown version")
+    said = "Measured on %s; %s; pgn-extract %s:" % (result["date"], other_work(result), version)
+    return [*prose(said), "", *table(head, rows)][:-1]
+
+
+def least_stack(result):
+    """The sentence of the manual."""
+    return ["The least that was measured is %d KiB, with an empty environment;"
+            % max(result["stack"].values()),
+            "the arguments and the environment are part of it."]
+
+
+def markers(path, script="bench/run"):
+    """The lines of a file, and the places of its two marker comments.
+
+    A marker is a comment of one line that holds 'SCRIPT --record: begin' or '... end'. ValueError
+    if the file does not have one of each, in this order.
+    """
+    with open(path, encoding="utf-8") as file:
+        text = file.read().split("\n")
+    places = []
+    for word in ("begin", "end"):
+        marker = re.compile(r'(?:<!--|\.\\") %s --record: %s\b' % (re.escape(script), word))
+        places.append([n for n, line in enumerate(text) if marker.match(line)])
+    begin, end = places
+    if len(begin) != 1 or len(end) != 1 or begin[0] > end[0]:
+        raise ValueError("%s: not one begin and one end of %s --record" % (path, script))
+    return text, begin[0], end[0]
+
+
+def record(path, lines, script="bench/run"):
+    """Puts the lines between the two markers of a file, and leaves all else as it is.
+
+    ValueError as for markers; the file is then as it was.
+    """
+    text, begin, end = markers(path, script)
+    # a blank line keeps a table of Markdown apart from the comment; the manual has none
+    blank = [""] if path.endswith(".md") else []
+    text[begin + 1:end] = [*blank, *lines, *blank]
+    with open(path + ".new", "w", encoding="utf-8") as file:
+        file.write("\n".join(text))
+    os.replace(path + ".new", path)

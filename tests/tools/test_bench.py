@@ -1,0 +1,278 @@
+#!/usr/bin/env python3
+"""Tests of bench/run: its words, its readers of other tools' output, and its tables. No timing."""
+import copy
+import os
+import re
+import shutil
+import sys
+import tempfile
+import unittest
+
+sys.path.insert(0, os.path.dirname(os.path.realpath(__file__)))
+from programs import ROOT, run
+
+sys.dont_write_bytecode = True
+sys.path.insert(0, ROOT + "/bench")
+import measure
+import tables
+
+# The loop has 100 instructions of its own, 30 in memcpy, and calls find_move, which has 50 of its
+# own and 20 in allows, of which 5 are in memcpy. The start has 7, and main 3.
+CALLGRIND = """# callgrind format
+version: 1
+creator: by hand
+positions: line
+events: Ir Bc Bcm Bi Bim
+summary: 215 40 6 3 2
+
+ob=(1) /lib/libc.so.6
+fl=(1) start.c
+fn=(1) (below main)
+4 7
+cfn=(2) main
+calls=1 9
++1 208 40 6 3 2
+
+fl=(2) ???
+fn=(2)
+0 3
+cfn=(3) pgn_game::converter::Converter::feed::<#12ab>
+calls=2 0
+* 205 40 6 3 2
+
+fn=(3)
+0 90 20 2
++2 10
+cob=(1)
+cfi=(1)
+cfn=(4) memcpy
+calls=3 5
+-1 30 4
+cfn=(5) pgn_game::find::find_move
+calls=1 0
+0 75 10 4 3 2
+
+fn=(5)
+0 50 8 3
+cfn=(6) chess_rules::legal::allows
+calls=4 0
+0 25 2 1 3 2
+
+fn=(6)
+0 20 2 1 3 2
+cfn=(4)
+calls=1 5
+0 5
+
+fn=(4)
+5 35 4
+"""
+STRACE = """% time     seconds  usecs/call     calls    errors syscall
+------ ----------- ----------- --------- --------- ----------------
+ 60.00    0.000120           3        40           read
+ 40.00    0.000080           2        44         1 access
+------ ----------- ----------- --------- --------- ----------------
+100.00    0.000200           2        84         1 total
+"""
+
+
+def converter(wall, memory, instructions, mispredictions):
+    return {"wall": wall, "memory": memory, "instructions": instructions,
+            "mispredictions": mispredictions}
+
+
+def archive(name, wall):
+    """A made-up result: ours beside figures of 1 s, 4 MiB and 1,000 instructions."""
+    return {"name": name, "games": 2000, "bytes": 3_000_000,
+            "converters": {"pgn_tool": converter(wall, 1.5, 200, 30),
+                           "pgn-extract": converter(1, 4, 1000, 60)},
+            "parts": {"lexer": 50, "find": 150}, "inlined": {"lexer": ["Lexer::next"]},
+            "split": {"wall": {"export": 0.5, "split": 4}, "calls": {"export": 0.25, "split": 20}},
+            "sizes": [{"bytes": 1_000_000, "wall": 0.05, "instructions": 2_000_000, "memory": 1.5}]}
+
+
+RESULT = {
+    "date": "2001-02-03", "rounds": 4, "load": (0.1, 1.2),
+    "machine": {"processors": 8, "model": "a processor", "debian": "99.1",
+                "versions": {"pgn-extract": "1.2-3", "valgrind": "4.5"}},
+    "archives": [archive("plain", 0.15), archive("annotated", 0.25)],
+    "stack": {"export": 128, "check": 124, "list": 132},
+}
+
+
+class Words(unittest.TestCase):
+    def test_help(self):
+        for script in ("run", "parallel"):
+            ran = run([ROOT + "/bench/" + script, "--help"])
+            self.assertEqual((ran.returncode, ran.stderr), (0, b""))
+            self.assertIn(b"--record", ran.stdout)
+        self.assertFalse(os.path.exists(ROOT + "/bench/__pycache__"))
+
+    def test_a_file_of_the_user_is_not_recorded(self):
+        ran = run([ROOT + "/bench/run", "--record", "--archive", "x.pgn"])
+        self.assertEqual((ran.returncode, ran.stdout), (2, b""))
+        self.assertIn(b"not allowed with", ran.stderr)
+
+
+class Readers(unittest.TestCase):
+    def read(self, text=CALLGRIND):
+        return measure.read_callgrind(text.splitlines(True))
+
+    def test_callgrind(self):
+        totals, own, by_call = self.read()
+        self.assertEqual(totals, {"Ir": 215, "Bc": 40, "Bcm": 6, "Bi": 3, "Bim": 2})
+        loop = "pgn_game::converter::Converter::feed::<#12ab>"
+        self.assertEqual(own, {"(below main)": 7, "main": 3, loop: 100, "memcpy": 35,
+                               "pgn_game::find::find_move": 50, "chess_rules::legal::allows": 20})
+        self.assertEqual(sum(own.values()), totals["Ir"])
+        self.assertEqual(by_call[loop, "memcpy"], 30)
+        self.assertEqual(by_call["main", loop], 205)
+        self.assertEqual(by_call["chess_rules::legal::allows", "memcpy"], 5)
+
+    def test_the_parts(self):
+        spent = measure.by_part(self.read())
+        self.assertEqual({part: it for part, it in spent.items() if it},
+                         {"converter's loop": 130, "find": 75, "rest": 10})
+
+    def test_what_is_inlined(self):
+        missing = measure.inlined(self.read())
+        self.assertEqual(missing["lexer"], ["Lexer::next"])
+        self.assertNotIn("find", missing)
+
+    def test_the_difference_of_two_archives(self):
+        small = ({"Ir": 1000, "Bcm": 8, "Bim": 2}, {"pgn_lexer::lexer::Lexer::next": 400}, {})
+        large = ({"Ir": 3000, "Bcm": 20, "Bim": 6}, {"pgn_lexer::lexer::Lexer::next": 1400}, {})
+        spent = measure.difference(small, large, 4)
+        self.assertEqual([spent[it] for it in ("Ir", "Bcm", "Bim", "lexer", "find", "rest")],
+                         [500, 3, 1, 250, 0, 250])
+
+    def test_the_room_in_memory(self):
+        folder = tempfile.mkdtemp()
+        self.addCleanup(shutil.rmtree, folder)
+        self.addCleanup(setattr, measure, "IN_MEMORY", measure.IN_MEMORY)
+        measure.IN_MEMORY = folder
+        self.assertTrue(measure.has_room(__file__, 1))
+        self.assertFalse(measure.has_room(__file__, 10 ** 15))
+        measure.IN_MEMORY = folder + "/none"
+        self.assertFalse(measure.has_room(__file__, 1))
+
+    def test_strace(self):
+        self.assertEqual(measure.read_strace(STRACE.splitlines(True)), 84)
+
+
+class Tables(unittest.TestCase):
+    def test_goals(self):
+        text = "\n".join(tables.goals(RESULT))
+        self.assertIn("| wall time | plain | 0.20 | 0.150 | met |\n", text)
+        self.assertIn("| wall time | annotated | 0.20 | 0.250 | NOT MET |\n", text)
+        self.assertIn("| instructions | plain | 0.19 | 0.200 | NOT MET |\n", text)
+        self.assertIn("| instructions | annotated | 0.22 | 0.200 | met |\n", text)
+        self.assertIn("| least stack | export | 128 KiB | 128 KiB | met |\n", text)
+        missed = re.findall(r"^- (.*)$", text, re.M)
+        self.assertEqual(missed, ["wall time, annotated: 0.250 instead of 0.20",
+                                  "instructions, plain: 0.200 instead of 0.19",
+                                  "least stack, list: 132 KiB instead of 128 KiB"])
+
+    def test_all_goals_met(self):
+        result = copy.deepcopy(RESULT)
+        result["archives"], result["stack"] = [archive("annotated", 0.2)], {"check": 96}
+        self.assertIn("All goals are met.", tables.goals(result))
+        result["archives"], result["stack"] = [archive("archive", 0.9)], {}
+        self.assertEqual(tables.goals(result), [])
+
+    def test_the_report(self):
+        lines = tables.report(RESULT)
+        for line in ("- Date: 2001-02-03; the least of 4 rounds",
+                     "- Machine: 8 processors, a processor; Debian 99.1",
+                     "- Versions: pgn-extract 1.2-3, valgrind 4.5",
+                     "### Plain: 2,000 games, 3.0 MB",
+                     "| pgn_tool | 0.15 | 13333 | 20.0 | 1.5 | 200 | 30 |",
+                     "| lexer, without `Lexer::next` | 50 | 25.0 % |",
+                     "| split | 500 | 20.00 |",
+                     "| 1.0 | 0.05 | 50.0 | 2.0 | 1.5 |",
+                     "| list | 132 |"):
+            self.assertIn(line, lines)
+        self.assertEqual([line for line in lines if len(line) > 100 and line[0] != "|"], [])
+
+    def test_what_could_not_be_measured(self):
+        result = copy.deepcopy(RESULT)
+        for it in result["archives"]:
+            it["sizes"] = []
+        result["archives"][0]["split"] = None
+        result["archives"][1]["split"]["calls"] = None
+        text = "\n".join(tables.report(result))
+        self.assertNotIn("Cost against size", text)
+        self.assertEqual(text.count("| split |"), 1)
+        self.assertIn("| split | 500 |  |", text)
+
+    def test_other_work(self):
+        for load, said in (((0.1, 1.2), "no other work ran"), ((0.9, 1.2), "**other work ran**"),
+                           ((0.1, 2.2), "**other work ran**")):
+            self.assertEqual(tables.other_work({"load": load}), said)
+        self.assertEqual(tables.other_work({"load": (0.1, 4.2)}, own=4), "no other work ran")
+
+    def test_the_summary(self):
+        lines = tables.summary(RESULT)
+        self.assertEqual(lines[0], "Measured on 2001-02-03; no other work ran; pgn-extract 1.2-3:")
+        self.assertIn("| plain, 2,000 games, 3.0 MB | 13,300 | 0.15 | 0.20 | 1.5 MiB |", lines)
+
+    def test_the_sentence_of_the_manual(self):
+        self.assertIn("132 KiB", tables.least_stack(RESULT)[0])
+
+
+class Records(unittest.TestCase):
+    def setUp(self):
+        self.folder = tempfile.mkdtemp()
+        self.addCleanup(shutil.rmtree, self.folder)
+
+    def record(self, name, text, lines, script="bench/run"):
+        """The text of the file afterwards, or None if it was rejected and left as it was."""
+        path = os.path.join(self.folder, name)
+        with open(path, "w", encoding="utf-8") as file:
+            file.write(text)
+        try:
+            tables.record(path, lines, script)
+        except ValueError:
+            lines = None
+        with open(path, encoding="utf-8") as file:
+            after = file.read()
+        self.assertEqual(os.listdir(self.folder), [name])
+        if lines is None:
+            self.assertEqual(after, text)
+        return lines and after
+
+    def test_a_document(self):
+        form = "Before.\n\n<!-- bench/run --record: begin -->\n%s<!-- bench/run --record: end -->\nAfter.\n"
+        for old in ("", "\nan old line\n\n"):
+            self.assertEqual(self.record("A.md", form % old, ["| a |", "b"]), form % "\n| a |\nb\n\n")
+
+    def test_the_manual(self):
+        form = '.It stack\n.\\" bench/run --record: begin\n%s\n.\\" bench/run --record: end\n.El\n'
+        self.assertEqual(self.record("a.1", form % "old", ["new", "lines"]), form % "new\nlines")
+
+    def test_each_script_has_its_own_markers(self):
+        marked = "<!-- bench/parallel --record: begin -->\n<!-- bench/parallel --record: end -->\n"
+        self.assertIn("\nb\n", self.record("A.md", marked, ["b"], "bench/parallel"))
+        self.assertIsNone(self.record("A.md", marked, ["b"]))
+
+    def test_markers_that_do_not_fit(self):
+        begin, end = ("<!-- bench/run --record: %s -->\n" % it for it in ("begin", "end"))
+        for text in ("", begin, end, end + begin, begin + begin + end, begin + end + end):
+            self.assertIsNone(self.record("A.md", text, ["b"]), text)
+
+    def expect_markers(self, name, script):
+        with open(os.path.join(ROOT, name), encoding="utf-8") as file:
+            text = file.read()
+        shutil.rmtree(self.folder)
+        os.mkdir(self.folder)
+        after = self.record(os.path.basename(name), text, ["one new line"], script)
+        self.assertIn("\none new line\n", after)
+
+    def test_the_documents_have_their_markers(self):
+        for name in ("bench/README.md", "README.md", "share/man/man1/pgn_tool.1"):
+            self.expect_markers(name, "bench/run")
+        self.expect_markers("docs/RECIPES.md", "bench/parallel")
+
+
+if __name__ == "__main__":
+    unittest.main()
