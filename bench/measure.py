@@ -237,6 +237,16 @@ def split_calls(program, small, large, games):
     return {task: (b - a) / games for task, (a, b) in spent.items()}
 
 
+def program_name(program):
+    """The program's version, and whether it is the one that bin/pgn_tool builds."""
+    ran = subprocess.run([program, "--version"], stdout=subprocess.PIPE, check=False)
+    if ran.returncode:
+        stop("%s --version failed" % program)
+    is_built = os.path.realpath(program) == ROOT + "/crates/pgn_tool/out/pgn_tool"
+    kind = "as `bin/pgn_tool` builds it" if is_built else "another build"
+    return "%s, %s" % (ran.stdout.decode().strip(), kind)
+
+
 def machine(*packages):
     """The processors, Debian's version, and the versions of the packages that are installed."""
     versions = {}

@@ -82,10 +82,11 @@ def other_work(result, own=1):
 
 
 def machine(result, own=1):
-    """The date, the machine, the versions, and whether other work ran."""
+    """The date, the program, the machine, the versions, and whether other work ran."""
     it = result["machine"]
     versions = ", ".join("%s %s" % pair for pair in it["versions"].items())
     items = ["- Date: %s; the least of %d rounds" % (result["date"], result["rounds"]),
+             "- Program: %s" % result["program"],
              "- Machine: %d processors, %s; Debian %s" % (it["processors"], it["model"], it["debian"]),
              "- Versions: %s" % versions,
              "- Load average: %.2f before; %.2f after, where up to %d is the measurement's own: %s"

@@ -92,7 +92,7 @@ def archive(name, wall):
 
 
 RESULT = {
-    "date": "2001-02-03", "rounds": 4, "load": (0.1, 1.2),
+    "date": "2001-02-03", "program": "pgn_tool 1.2", "rounds": 4, "load": (0.1, 1.2),
     "machine": {"processors": 8, "model": "a processor", "debian": "99.1",
                 "versions": {"pgn-extract": "1.2-3", "valgrind": "4.5"}},
     "archives": [archive("plain", 0.15), archive("annotated", 0.25)],
@@ -183,6 +183,7 @@ class Tables(unittest.TestCase):
     def test_the_report(self):
         lines = tables.report(RESULT)
         for line in ("- Date: 2001-02-03; the least of 4 rounds",
+                     "- Program: pgn_tool 1.2",
                      "- Machine: 8 processors, a processor; Debian 99.1",
                      "- Versions: pgn-extract 1.2-3, valgrind 4.5",
                      "### Plain: 2,000 games, 3.0 MB",
