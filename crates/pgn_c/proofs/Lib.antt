@@ -1,0 +1,2 @@
+-- Lemmas on the memory that a caller is given.
+pub mod Padding

@@ -1,0 +1,5 @@
+use Rattle.pgn_c.proofs.Padding.{over_zeros}
+use Rattle.pgn_c.proofs.answer.padded.Goals as goal
+
+pub returns : goal.returns
+returns c = over_zeros _ _ c.copy_from_slice.ensures.after

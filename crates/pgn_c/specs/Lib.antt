@@ -1,0 +1,2 @@
+-- Definitions that the contracts of pgn_c cite.
+pub mod Answers
