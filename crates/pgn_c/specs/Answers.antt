@@ -1,14 +1,17 @@
 -- **Definition.** What a C caller is answered.
-use Rattle.std.specs.Prelude.{◌≡◌, ℕ, ◌+◌, ◌-◌, List, [], ◌++◌, length, replicate, decimal, None, Result, Ok, Err}
-use Rattle.pgn_game.specs.declared.mode.Mode.TheVariants.{Full}
+use Rattle.std.specs.Prelude.{◌≡◌, ℕ, ◌+◌, ◌-◌, ◌≤◌, ◌==◌, if◌then◌else◌, List, [], ◌++◌, length, drop, replicate, decimal, Option, Some, None, Result, Ok, Err}
+use Rattle.pgn_game.specs.declared.mode.Mode.{Mode}
+use Rattle.pgn_game.specs.declared.mode.Mode.TheVariants.{Full, Reduced}
 use Rattle.pgn_game.specs.declared.reason.Reason.{Reason}
 use Rattle.pgn_game.specs.declared.reason.Reason.TheVariants.{WriteFault}
 use Rattle.pgn_game.specs.declared.reason.Fault.{Fault}
 use Rattle.pgn_game.specs.declared.whole.Totals.{Totals}
 use Rattle.pgn_game.specs.Profile.{Profile}
 use Rattle.pgn_game.specs.Reason.{number_of, line_of}
+use Rattle.pgn_game.specs.Begun.{output}
 use Rattle.pgn_game.specs.Feeding.{profile_of}
 use Rattle.pgn_game.specs.Converting.{ConvertsSlice}
+use Rattle.pgn_game.specs.Laws.{IsPrefix}
 use Rattle.pgn_c.specs.declared.answer.PgnResult.{PgnResult}
 
 -- the text, and zeros up to 104 bytes: so it ends with a zero wherever it has fewer
@@ -29,12 +32,41 @@ result_of (Err f) written =
     record { status = status_of f.reason; fault = number_of f.reason; place = f.at; written = written; games = 0; plies = 0; reason_at = 7 + length (decimal f.at); message = padded (line_of f) }
 
 -- a game has at most 64 tag pairs, and variations to depth 32
-abbrev pub checking : Profile
-checking = profile_of 64 32 Full
+abbrev pub profile_in : Mode → Profile
+profile_in mode = profile_of 64 32 mode
 
--- The text was checked: the conversion that this repeats has written nothing, and did not fail for
--- want of room.
+-- The text was checked: the conversion that this repeats writes nothing.
 pub record Checks (text : List ℕ) (result : PgnResult) : Type 0 where
   pub outcome : Result Totals Fault
-  pub converts : ConvertsSlice checking text outcome None None
+  pub converts : ConvertsSlice (profile_in Full) text outcome None None
   pub is_result : result ≡ result_of outcome 0
+
+-- The buffer begins with what was written, and its other bytes are as they were.
+pub record IsFilled (before after written : List ℕ) : Type 0 where
+  pub fits : length written ≤ length before
+  pub now : after ≡ written ++ drop (length written) before
+
+-- The text was converted into the buffer. What is written is a front of the export text: all of it
+-- up to the first fault, or as much as the buffer holds.
+pub record Converts (mode : Mode) (text before after : List ℕ) (result : PgnResult) : Type 0 where
+  pub outcome : Result Totals Fault
+  pub written : List ℕ
+  pub converts : ConvertsSlice (profile_in mode) text outcome (Some []) (Some written)
+  pub front : IsPrefix written (output (profile_in mode) text)
+  pub filled : IsFilled before after written
+  pub full : result.status ≡ 2 → length written ≡ length before
+  pub is_result : result ≡ result_of outcome (length written)
+
+-- 0 is the full format, 1 the reduced one
+abbrev pub mode_of : ℕ → Option Mode
+mode_of number = if number == 0 then Some Full else (if number == 1 then Some Reduced else None)
+
+-- the result where there is no such mode
+abbrev pub no_mode : PgnResult
+no_mode =
+    record { status = 3; fault = 0; place = 0; written = 0; games = 0; plies = 0; reason_at = 0; message = padded [] }
+
+-- a text is converted in a mode, or nothing is done where there is no such mode
+abbrev pub ConvertsIn : Option Mode → List ℕ → List ℕ → List ℕ → PgnResult → Type 0
+ConvertsIn (Some mode) text before after result = Converts mode text before after result
+ConvertsIn None text before after result = (after ≡ before) × (result ≡ no_mode)

@@ -12,6 +12,8 @@ pub const OK: u32 = 0;
 pub const FAULT: u32 = 1;
 /// The buffer is full.
 pub const FULL: u32 = 2;
+/// There is no such mode.
+pub const NO_MODE: u32 = 3;
 
 /// The result of a call, `struct pgn_result` in C.
 #[repr(C)]
@@ -65,6 +67,22 @@ pub fn fault_result(fault: Fault, written: usize) -> PgnResult
         plies: 0,
         reason_at: 7 + Buffer::new().format(fault.at).len(),
         message: padded(fault.line().as_slice()),
+    }
+}
+
+/// The result where there is no such mode.
+pub fn no_mode() -> PgnResult
+    ensures { result ≡ spec.no_mode }
+{
+    PgnResult {
+        status: NO_MODE,
+        fault: 0,
+        place: 0,
+        written: 0,
+        games: 0,
+        plies: 0,
+        reason_at: 0,
+        message: padded(b""),
     }
 }
 

@@ -1,0 +1,83 @@
+-- What a conversion leaves in a buffer.
+use Rattle.std.proofs.Common.{◌≡◌, ℕ, ◌<◌, ◌≤◌, List, [], ◌∷◌, ◌++◌, length, take, drop, Some, Result, Ok, Err, refl, sym, ap, subst, ◌∙◌, append-nil, append_assoc, arith}
+use Rattle.std.proofs.lemmas.List.{length-take-le, take-append-drop}
+use Rattle.pgn_lexer.specs.Tokens.{Token}
+use Rattle.pgn_lexer.specs.TokensOf.{tokens_of}
+use Rattle.pgn_lexer.specs.Decided.{decided}
+use Rattle.pgn_lexer.specs.Laws.{DecidedIsPrefix}
+use Rattle.pgn_game.specs.declared.mode.Mode.{Mode}
+use Rattle.pgn_game.specs.declared.reason.Reason.{Reason}
+use Rattle.pgn_game.specs.declared.reason.Reason.TheVariants.{WriteFault}
+use Rattle.pgn_game.specs.declared.reason.Fault.{Fault}
+use Rattle.pgn_game.specs.declared.whole.Totals.{Totals}
+use Rattle.pgn_game.specs.Profile.{Profile}
+use Rattle.pgn_game.specs.Begun.{due, output}
+use Rattle.pgn_game.specs.Feeding.{StopsWriting}
+use Rattle.pgn_game.specs.Laws.{DueGrows, IsPrefix}
+use Rattle.pgn_game.specs.Converting.{ConvertsSlice, FailsOn, refused, unwritten, too_long, CountsSink, CountsWriting}
+use Rattle.pgn_c.specs.Answers.{IsFilled, profile_in, result_of, status_of}
+
+-- ---- what is written is a front of the export text
+
+all_of : (xs ys : List ℕ) → xs ≡ ys → IsPrefix xs ys
+all_of xs ys same = ([], sym same ∙ sym (append-nil xs))
+
+front_of_front : (n : ℕ) (xs ys : List ℕ) → IsPrefix xs ys → IsPrefix (take n xs) ys
+front_of_front n xs ys (rest, is) = (
+  drop n xs ++ rest,
+  is ∙ ap (λ l. l ++ rest) (sym (take-append-drop n xs)) ∙ append_assoc (take n xs) (drop n xs) rest,
+)
+
+-- nothing is due for no token
+nothing_due : (mode : Mode) → due (profile_in mode) [] ≡ []
+nothing_due mode = refl
+
+before_full : (p : Profile) → due p [] ≡ [] → (tokens : List Token) (at : ℕ) (written : List ℕ) → DueGrows
+    → StopsWriting p [] tokens at (Some []) (Some written) → IsPrefix written (due p tokens)
+before_full p nothing tokens at written grows stops =
+    let more = grows p (stops.front ++ stops.token ∷ []) stops.rest in
+    subst (λ l. IsPrefix l (due p tokens)) (sym stops.appended)
+    (front_of_front stops.count stops.text (due p tokens)
+    (more.0, ap (due p) (stops.cut ∙ sym (append_assoc stops.front (stops.token ∷ []) stops.rest)) ∙ more.1 ∙ ap (λ l. l ++ more.0) (stops.due_for ∙ ap (λ l. l ++ stops.text) nothing)))
+
+before_limit : (p : Profile) (u rest : List ℕ) → DueGrows → DecidedIsPrefix → IsPrefix (due p (decided u)) (output p (u ++ rest))
+before_limit p u rest grows prefix =
+    let more = prefix u rest in
+    let due_more = grows p (decided u) more.0 in
+    (due_more.0, ap (due p) more.1 ∙ due_more.1)
+
+front_on_fault : (p : Profile) → due p [] ≡ [] → (text written : List ℕ) (f : Fault) → DueGrows → DecidedIsPrefix
+    → FailsOn p text (Some []) (Some written) f → IsPrefix written (output p text)
+front_on_fault p nothing text written _ grows prefix (refused f converted) = all_of _ _ converted.1
+front_on_fault p nothing text written _ grows prefix (unwritten at stops) = before_full p nothing (tokens_of text) at written grows stops
+front_on_fault p nothing text written _ grows prefix (too_long u rest is long more reads) =
+    subst (λ l. IsPrefix l (output p text)) (sym reads.appended)
+    (subst (λ s. IsPrefix (due p (decided u)) (output p s)) (sym is) (before_limit p u rest grows prefix))
+
+pub front : (mode : Mode) (text written : List ℕ) (outcome : Result Totals Fault) → DueGrows → DecidedIsPrefix
+    → ConvertsSlice (profile_in mode) text outcome (Some []) (Some written) → IsPrefix written (output (profile_in mode) text)
+front mode text written (Ok t) grows prefix total = all_of _ _ total.converted.1
+front mode text written (Err f) grows prefix fails =
+    front_on_fault (profile_in mode) (nothing_due mode) text written f grows prefix fails
+
+-- ---- the buffer
+
+pub filled : (before after : List ℕ) (n : ℕ) → n ≤ length after → length after ≡ length before → drop n after ≡ drop n before
+    → IsFilled before after (take n after)
+filled before after n within long behind =
+    let is_count = length-take-le n after within in
+    record {
+      fits = omega (arith, is_count, within, long);
+      now = sym (take-append-drop n after) ∙ ap (λ l. take n after ++ l) behind ∙ ap (λ m. take n after ++ drop m before) (sym is_count);
+    }
+
+-- ---- a full buffer
+
+write_fault : (reason : Reason) (failures : ℕ) → CountsWriting reason 0 failures → status_of reason ≡ 2 → 0 < failures
+write_fault WriteFault failures counted is = omega (arith, counted)
+write_fault _ failures counted is = absurd (omega (arith, is))
+
+pub is_full : (outcome : Result Totals Fault) (n failures : ℕ) → CountsSink outcome 0 failures
+    → (result_of outcome n).status ≡ 2 → 0 < failures
+is_full (Ok t) n failures counted is = absurd (omega (arith, is))
+is_full (Err f) n failures counted is = write_fault f.reason failures counted is

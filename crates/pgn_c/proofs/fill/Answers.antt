@@ -1,0 +1,28 @@
+use Rattle.std.proofs.Common.{◌≡◌, ℕ, [], length, take, Some, ap, sym, subst, ◌∙◌}
+use Rattle.std.proofs.lemmas.List.{length-take-le}
+use Rattle.pgn_game.specs.Converting.{ConvertsSlice, CountsSink}
+use Rattle.pgn_c.specs.Answers.{profile_in, result_of}
+use Rattle.pgn_c.proofs.Converting.{front, filled, is_full}
+use Rattle.pgn_c.proofs.fill.Goals as goal
+
+pub returns-clause-converts : goal.returns-clause-converts
+returns-clause-converts g c =
+    let call = c.convert_slice-outcome in
+    let sink = call.new.writer in
+    let text = c.args.text.now in
+    let outcome = call.result in
+    let is_count : length (take sink.room.written sink.room.buffer.now) ≡ sink.room.written = length-take-le _ _ sink.within in
+    let converts : ConvertsSlice (profile_in c.args.mode) text outcome (Some []) (Some (take sink.room.written sink.room.buffer.now)) =
+    subst (λ (n : ℕ). ConvertsSlice (profile_in c.args.mode) text outcome (Some (take n c.new.result.buffer.now)) (Some (take sink.room.written sink.room.buffer.now)))
+    c.new.ensures.written call.ensures.converts in
+    let counted : CountsSink outcome 0 sink.room.failures =
+    subst (λ (n : ℕ). CountsSink outcome n sink.room.failures) c.new.ensures.failures call.ensures.counted in
+    record {
+      outcome = outcome;
+      written = take sink.room.written sink.room.buffer.now;
+      converts = converts;
+      front = front _ _ _ outcome c.due_grows.ensures c.decided_is_prefix.ensures converts;
+      filled = filled _ _ _ sink.within sink.long sink.behind;
+      full = λ is. is_count ∙ sink.full (is_full outcome _ _ counted (sym (ap (λ r. r.status) c.result_for.ensures) ∙ is)) ∙ sink.long;
+      is_result = c.result_for.ensures ∙ ap (result_of outcome) (sym is_count);
+    }
