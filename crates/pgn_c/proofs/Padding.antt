@@ -3,7 +3,7 @@ use Rattle.std.proofs.Common.{◌≡◌, ℕ, List, ◌++◌, length, drop, repl
 use Rattle.std.proofs.lemmas.List.{drop-replicate}
 use Rattle.pgn_c.specs.Answers.{padded}
 
--- a text that was copied over the first of 104 zeros
-pub over_zeros : (text copied : List ℕ) → copied ≡ text → copied ++ drop (length text) (replicate 104 0) ≡ padded text
-over_zeros text copied same =
-    ap (λ front. front ++ drop (length text) (replicate 104 0)) same ∙ ap (λ rest. text ++ rest) (drop-replicate (length text) 104 0)
+-- a text that was copied over the first of so many zeros
+pub over_zeros : (size : ℕ) (text copied : List ℕ) → copied ≡ text → copied ++ drop (length text) (replicate size 0) ≡ padded size text
+over_zeros size text copied same =
+    ap (λ front. front ++ drop (length text) (replicate size 0)) same ∙ ap (λ rest. text ++ rest) (drop-replicate (length text) size 0)

@@ -14,9 +14,9 @@ use Rattle.pgn_game.specs.Converting.{ConvertsSlice}
 use Rattle.pgn_game.specs.Laws.{IsPrefix}
 use Rattle.pgn_c.specs.declared.answer.PgnResult.{PgnResult}
 
--- the text, and zeros up to 104 bytes: so it ends with a zero wherever it has fewer
-abbrev pub padded : List ℕ → List ℕ
-padded text = text ++ replicate (104 - length text) 0
+-- The text, and zeros up to that many bytes: so it ends with a zero wherever it has fewer.
+abbrev pub padded : ℕ → List ℕ → List ℕ
+padded size text = text ++ replicate (size - length text) 0
 
 -- 2 where the buffer is full, 1 for each other fault
 abbrev pub status_of : Reason → ℕ
@@ -27,9 +27,9 @@ status_of _ = 1
 -- reason begins in it after `byte N: `.
 abbrev pub result_of : Result Totals Fault → ℕ → PgnResult
 result_of (Ok t) written =
-    record { status = 0; fault = 0; place = 0; written = written; games = t.games; plies = t.plies; reason_at = 0; message = padded [] }
+    record { status = 0; fault = 0; place = 0; written = written; games = t.games; plies = t.plies; reason_at = 0; message = padded 104 [] }
 result_of (Err f) written =
-    record { status = status_of f.reason; fault = number_of f.reason; place = f.at; written = written; games = 0; plies = 0; reason_at = 7 + length (decimal f.at); message = padded (line_of f) }
+    record { status = status_of f.reason; fault = number_of f.reason; place = f.at; written = written; games = 0; plies = 0; reason_at = 7 + length (decimal f.at); message = padded 104 (line_of f) }
 
 -- a game has at most 64 tag pairs, and variations to depth 32
 abbrev pub profile_in : Mode → Profile
@@ -64,7 +64,7 @@ mode_of number = if number == 0 then Some Full else (if number == 1 then Some Re
 -- the result where there is no such mode
 abbrev pub no_mode : PgnResult
 no_mode =
-    record { status = 3; fault = 0; place = 0; written = 0; games = 0; plies = 0; reason_at = 0; message = padded [] }
+    record { status = 3; fault = 0; place = 0; written = 0; games = 0; plies = 0; reason_at = 0; message = padded 104 [] }
 
 -- a text is converted in a mode, or nothing is done where there is no such mode
 abbrev pub ConvertsIn : Option Mode → List ℕ → List ℕ → List ℕ → PgnResult → Type 0

@@ -97,11 +97,11 @@ fn status_for(reason: Reason) -> u32
 }
 
 // The text, and zeros behind it.
-fn padded(text: &[u8]) -> [u8; 104]
-    requires { length text.now ≤ 104 }
-    ensures { result ≡ spec.padded text.now }
+pub fn padded<const N: usize>(text: &[u8]) -> [u8; N]
+    requires { length text.now ≤ N }
+    ensures { result ≡ spec.padded N text.now }
 {
-    let mut bytes = [0; 104];
+    let mut bytes = [0; N];
     bytes[..text.len()].copy_from_slice(text);
     bytes
 }

@@ -6,14 +6,23 @@
 #![tactic(auto)]
 
 ghost use Rattle.std.specs.Prelude.{◌≡◌};
+ghost use Rattle.chess_text.specs.Fen.{read};
+ghost use Rattle.pgn_c.specs.Positions.{Normalizes, san_result};
 ghost use Rattle.pgn_c.specs.Answers.{Checks, Converts, ConvertsIn, mode_of, result_of};
 
 mod answer;
 mod buffer_sink;
+mod fen;
+mod san;
 
 pub use crate::answer::PgnResult;
 use crate::answer::{fault_result, no_mode, totals_result};
 use crate::buffer_sink::{Before, BufferSink, Room};
+pub use crate::fen::PgnText;
+use crate::fen::{bad_text, put_fen};
+pub use crate::san::PgnMove;
+use crate::san::{name_move, no_position};
+use chess_text::fen::read_fen;
 use pgn_game::laws::due_grows;
 use pgn_game::{Fault, Mode, Nowhere, Totals, convert_slice};
 use pgn_lexer::decided_is_prefix;
@@ -56,6 +65,41 @@ pub extern "C" fn pgn_convert(text: &[u8], buffer: &mut [u8], mode: u32) -> PgnR
         0 => convert_into(text, buffer, Mode::Full),
         1 => convert_into(text, buffer, Mode::Reduced),
         _ => no_mode(),
+    }
+}
+
+/// Writes the canonical text of a FEN (PGN 16.1) into the front of a buffer. It has at most 93
+/// bytes.
+///
+/// - Status 0: the buffer has the text.
+/// - Status 1: the FEN is no position. The field is 1 to 6, or 7 where all are spelled well but
+///   break a rule together.
+/// - Status 2: the buffer is too short. The length is what the text needs.
+///
+/// With the last two the buffer is unchanged.
+#[unsafe(no_mangle)]
+pub extern "C" fn pgn_fen_normalize(fen: &[u8], buffer: &mut [u8]) -> PgnText
+    ensures { Normalizes (read fen.now) buffer.old buffer.new result }
+{
+    match read_fen(fen) {
+        Ok(position) => put_fen(&position, buffer),
+        Err(fault) => bad_text(fault.field),
+    }
+}
+
+/// Reads a FEN and a move's text, and answers the SAN of the one legal move that the text names
+/// (PGN 8.2.3), with the FEN of the position after it.
+///
+/// Status 1 has the number of a fault: 26 for the FEN, with its field; 33 where the text is no
+/// move's, 34 where no legal move is meant, 35 where more than one is, and 36 for Black's move with
+/// the number 99,999.
+#[unsafe(no_mangle)]
+pub extern "C" fn pgn_san(fen: &[u8], text: &[u8]) -> PgnMove
+    ensures { result ≡ san_result (read fen.now) text.now }
+{
+    match read_fen(fen) {
+        Ok(position) => name_move(&position, text),
+        Err(fault) => no_position(fault.field),
     }
 }
 

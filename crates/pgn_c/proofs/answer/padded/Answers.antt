@@ -2,4 +2,4 @@ use Rattle.pgn_c.proofs.Padding.{over_zeros}
 use Rattle.pgn_c.proofs.answer.padded.Goals as goal
 
 pub returns : goal.returns
-returns c = over_zeros _ _ c.copy_from_slice.ensures.after
+returns g c = over_zeros _ _ _ c.copy_from_slice.ensures.after

@@ -1,0 +1,112 @@
+//! The move that a text names in a position.
+ghost use Rattle.std.specs.Prelude.{◌≡◌, [], Some, Ok, Err, IfOk};
+ghost use Rattle.chess_rules.specs.Legal.{legal};
+ghost use Rattle.pgn_game.specs.FaultTable.{is_at_limit as at_limit};
+ghost use Rattle.pgn_c.specs.Answers as answers;
+ghost use Rattle.pgn_c.specs.Positions.{move_result, named, san_result};
+
+use crate::answer::{FAULT, OK, padded};
+use chess_rules::piece::Colour;
+use chess_rules::position::Position;
+use chess_rules::probes::Probes;
+use chess_text::fen::write_fen;
+use chess_text::form::read_form;
+use chess_text::laws::the_one_move_is_read;
+use chess_text::resolve::{Played, SanFault, resolve};
+use chess_text::san::write_san;
+use pgn_game::Reason;
+
+/// A move and the position after it, `struct pgn_move` in C.
+#[repr(C)]
+#[derive(Clone, Copy)]
+pub struct PgnMove {
+    /// 0: there is one such move. 1: there is a fault.
+    pub status: u32,
+    /// The number of the fault; 0 where there is none.
+    pub fault: u32,
+    /// The field of the FEN that is at fault, 1 to 7; 0 where none is.
+    pub field: u32,
+    /// The move's SAN, and zeros behind it.
+    pub san: [u8; 8],
+    /// The FEN of the position after the move, and zeros behind it.
+    pub fen: [u8; 96],
+}
+
+/// The answer for the move that the text names in this position.
+pub fn name_move(position: &Position, text: &[u8]) -> PgnMove
+    ensures { result ≡ move_result position.now (named position.now text.now) }
+{
+    match find_move(position, text) {
+        Ok(played) => written_move(position, &played),
+        Err(reason) => no_move(reason.number() as u32, 0),
+    }
+}
+
+// The one legal move that the text names.
+fn find_move(position: &Position, text: &[u8]) -> Result<Played, Reason>
+    ensures found { result ≡ named position.now text.now }
+    ensures legal { IfOk result (λ played. legal position.now played.mv ≡ Some played.next) }
+{
+    the_one_move_is_read();
+    let Some(form) = read_form(text) else {
+        return Err(Reason::NotAMove);
+    };
+    match resolve(position, &form, &mut Probes::new()) {
+        Err(SanFault::NoMove) => Err(Reason::IllegalMove),
+        Err(SanFault::Ambiguous) => Err(Reason::AmbiguousMove),
+        Ok(played) => {
+            if is_at_limit(position) {
+                return Err(Reason::MoveLimit);
+            }
+            Ok(played)
+        }
+    }
+}
+
+// Whether a move from here would lead to a number above 99,999.
+fn is_at_limit(position: &Position) -> bool
+    ensures { result ≡ at_limit position.now }
+{
+    position.side() == Colour::Black && position.full() == 99_999
+}
+
+// The answer for a legal move.
+fn written_move(position: &Position, played: &Played) -> PgnMove
+    requires { legal position.now played.now.mv ≡ Some played.now.next }
+    ensures { result ≡ move_result position.now (Ok played.now) }
+{
+    let san = write_san(position, played, &mut Probes::new());
+    PgnMove {
+        status: OK,
+        fault: 0,
+        field: 0,
+        san: padded(san.as_slice()),
+        fen: padded(write_fen(&played.next).as_slice()),
+    }
+}
+
+/// The answer for a FEN with this field at fault.
+pub fn no_position(field: u8) -> PgnMove
+    ensures { result ≡ san_result (Err (record { field = field })) [] }
+{
+    no_move(26, field as u32)
+}
+
+// The answer for a fault.
+fn no_move(fault: u32, field: u32) -> PgnMove
+    ensures { result ≡ record {
+      status = 1;
+      fault = fault;
+      field = field;
+      san = answers.padded 8 [];
+      fen = answers.padded 96 [];
+    } }
+{
+    PgnMove {
+        status: FAULT,
+        fault,
+        field,
+        san: padded(b""),
+        fen: padded(b""),
+    }
+}
