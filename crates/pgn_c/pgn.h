@@ -1,14 +1,21 @@
 /*
- * pgn.h: checks games of chess in Portable Game Notation (PGN).
+ * pgn.h: reads and writes games of chess in Portable Game Notation (PGN).
  *
- * No function allocates, keeps anything from call to call, or writes to other memory than it is
- * given. Several threads may call at once, on memory that they do not share.
+ * Link with libpgn_c.a. docs/LIBRARY.md has a sample, the limits, and what is proved.
  *
- * What a caller owes, of every function:
- *  - A pointer with a length points to that many bytes, at most 2^63 - 1, that stay readable for
- *    the whole call. It is not null, also where the length is 0.
- *  - No other thread writes to memory that a call reads.
- *  - The stack has 128 KiB left.
+ * No function allocates, keeps anything from call to call, or writes to other memory than its
+ * buffer. Several threads may call at once, with buffers of their own; they may share what is only
+ * read.
+ *
+ * What a caller owes. Nothing checks this, and all that is proved rests on it:
+ *
+ *  1. A pointer with a length or a capacity points to that many bytes of one object, at most
+ *     2^63 - 1, for the whole call. It is not null, also where the length is 0.
+ *  2. A buffer shares no byte with a text of the same call.
+ *  3. No other thread writes a text during the call, or reads or writes the buffer.
+ *  4. The stack has 256 KiB left. A call takes less than half of that.
+ *
+ * A text need not end with a zero, and may have any bytes.
  */
 #ifndef PGN_H
 #define PGN_H
@@ -20,31 +27,94 @@
 extern "C" {
 #endif
 
-/* What `status` of a result says. */
+/* What the `status` of a result says. */
 enum {
-    PGN_OK = 0,    /* the text was read to its end, and has no fault */
-    PGN_FAULT = 1  /* the text has a fault */
+    PGN_OK = 0,     /* done */
+    PGN_FAULT = 1,  /* the text has a fault */
+    PGN_FULL = 2,   /* the buffer is too short */
+    PGN_NO_MODE = 3 /* there is no such mode; nothing was read or written */
 };
 
-/* The result of a call. */
+/* The modes of pgn_convert. */
+enum {
+    PGN_FULL_FORMAT = 0,   /* export format (PGN 3.2) */
+    PGN_REDUCED_FORMAT = 1 /* reduced export format (PGN 3.2.4) */
+};
+
+/* The result of pgn_check and pgn_convert. */
 typedef struct pgn_result {
-    uint32_t status;   /* PGN_OK, ... */
-    uint32_t fault;    /* the fault's number, 1 to 53; 0 where there is none */
-    uint64_t place;    /* the byte offset of the fault, from 0 */
-    size_t written;    /* how many bytes of the buffer were written */
-    uint64_t games;    /* how many games were read; 0 with a fault */
-    uint64_t plies;    /* how many plies they have together, without variations; 0 with a fault */
-    size_t reason_at;  /* where the reason begins in the message */
-    uint8_t message[104]; /* the fault as a line, "byte 77: move is not legal", ended by a zero */
+    uint32_t status;      /* PGN_OK, PGN_FAULT, PGN_FULL or PGN_NO_MODE */
+    uint32_t fault;       /* the fault's number, 1 to 53, as in docs/PROFILE.md; 0: none */
+    uint64_t place;       /* the byte offset of the fault in the text, from 0 */
+    size_t written;       /* how many bytes of the buffer were written, from its front */
+    uint64_t games;       /* the number of games; 0 unless PGN_OK */
+    uint64_t plies;       /* the number of their plies, without variations; 0 unless PGN_OK */
+    size_t reason_at;     /* where the reason begins in the message */
+    uint8_t message[104]; /* "byte 77: move is not legal", ended by a zero; "" without a fault */
 } pgn_result;
 
+/* The result of pgn_fen_normalize. */
+typedef struct pgn_text {
+    uint32_t status; /* PGN_OK, PGN_FAULT or PGN_FULL */
+    uint32_t field;  /* the field at fault, 1 to 6; 7: the six break a rule together; 0: none */
+    size_t length;   /* the length of the text, also with PGN_FULL; 0 with PGN_FAULT */
+} pgn_text;
+
+/* The result of pgn_san. */
+typedef struct pgn_move {
+    uint32_t status; /* PGN_OK or PGN_FAULT */
+    uint32_t fault;  /* the fault's number: 26, 33, 34, 35 or 36; 0: none */
+    uint32_t field;  /* with fault 26 the field of the FEN that is at fault, 1 to 7; else 0 */
+    uint8_t san[8];  /* the move's SAN, ended by a zero; "" with a fault */
+    uint8_t fen[96]; /* the FEN of the position after the move, ended by a zero; "" with a fault */
+} pgn_move;
+
 /*
- * Checks a text in PGN import format, and counts its games.
+ * Checks a text in PGN import format, and counts its games and plies.
  *
- * PGN_OK: the text has no fault. `games` and `plies` count its games.
- * PGN_FAULT: `fault`, `place` and `message` say what the text's first fault is.
+ * PGN_OK: the text has no fault.
+ * PGN_FAULT: `fault`, `place` and `message` say what its first fault is.
+ *
+ * `written` is 0.
  */
 pgn_result pgn_check(const uint8_t *text, size_t length);
+
+/*
+ * Converts a text from import format to export format, into the front of a buffer.
+ *
+ * PGN_OK: the buffer has the whole export text, and the games and plies are counted.
+ * PGN_FAULT: the text has a fault. The buffer has the export text of every game before it, and the
+ *     complete lines of the game at fault.
+ * PGN_FULL: the buffer is full, and there is more to write. `fault` is 51, and `place` is that of
+ *     the token whose text is not all written. Call again with a larger buffer and the whole text.
+ * PGN_NO_MODE: `mode` is neither 0 nor 1.
+ *
+ * In each case the first `written` bytes of the buffer are a front of the export text, and its
+ * other bytes are as they were.
+ */
+pgn_result pgn_convert(const uint8_t *text, size_t length,
+                       uint8_t *buffer, size_t capacity, uint32_t mode);
+
+/*
+ * Writes the canonical text of a FEN (PGN 16.1) into the front of a buffer: at most 93 bytes,
+ * without a zero behind them.
+ *
+ * PGN_OK: the buffer has the text, and `length` is its length.
+ * PGN_FAULT: the FEN is no position; `field` says which field is at fault. The buffer is unchanged.
+ * PGN_FULL: the capacity is less than `length`. The buffer is unchanged.
+ */
+pgn_text pgn_fen_normalize(const uint8_t *fen, size_t length, uint8_t *buffer, size_t capacity);
+
+/*
+ * Finds the one legal move that a text names in the position of a FEN (PGN 8.2.3), and answers its
+ * SAN, with the mark of check or mate, and the FEN of the position after it.
+ *
+ * PGN_OK: there is one such move.
+ * PGN_FAULT: `fault` is 26 where the FEN is no position, 33 where the text is no move's, 34 where
+ *     no legal move is meant, 35 where more than one is, and 36 for a move of Black's with the
+ *     number 99,999, after which no FEN has the number.
+ */
+pgn_move pgn_san(const uint8_t *fen, size_t fen_length, const uint8_t *text, size_t length);
 
 #ifdef __cplusplus
 }

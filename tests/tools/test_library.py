@@ -1,0 +1,375 @@
+#!/usr/bin/env python3
+"""Tests of the library for C (crates/pgn_c): its header, and the examples in C and Python."""
+import glob
+import importlib.util
+import os
+import re
+import shutil
+import sys
+import tempfile
+import threading
+import unittest
+
+sys.path.insert(0, os.path.dirname(os.path.realpath(__file__)))
+from programs import ROOT, found, need, need_program, not_tried, run
+
+CRATE = ROOT + "/crates/pgn_c"
+ARCHIVE = CRATE + "/out/libpgn_c.a"
+INITIAL = b"rnbqkbnr/pppppppp/8/8/8/8/PPPPPPPP/RNBQKBNR w KQkq - 0 1"
+NO_SUCH_MOVE = ROOT + "/examples/no-such-move.pgn"
+
+
+def source(name):
+    with open(CRATE + "/" + name, encoding="utf-8") as file:
+        return file.read()
+
+
+def need_library():
+    if not os.path.exists(ARCHIVE):
+        not_tried("crates/pgn_c/out/libpgn_c.a is not built")
+    need("cc")
+
+
+class Built:
+    """What examples/build makes, once for all tests."""
+
+    folder = None
+
+    @classmethod
+    def path(cls, name):
+        need_library()
+        if cls.folder is None:
+            cls.folder = tempfile.mkdtemp()
+            unittest.addModuleCleanup(shutil.rmtree, cls.folder)
+            ran = run(["examples/build", cls.folder])
+            if ran.returncode != 0:
+                raise AssertionError(ran.stderr.decode())
+        return cls.folder + "/" + name
+
+
+# ---- the header and the exports, each as the declarations of the other
+
+C_TYPES = {"u8": "uint8_t", "u32": "uint32_t", "u64": "uint64_t", "usize": "size_t"}
+STRUCTS = {"PgnResult": "pgn_result", "PgnText": "pgn_text", "PgnMove": "pgn_move"}
+
+
+def bare_header():
+    """The header without comments."""
+    return re.sub(r"/\*.*?\*/", " ", source("pgn.h"), flags=re.S)
+
+
+def c_parameters(rust):
+    """The C types of the parameters of an export: a slice is a pointer and a length."""
+    types = []
+    for parameter in filter(None, (it.strip() for it in rust.split(","))):
+        kind = parameter.split(":", 1)[1].strip()
+        if kind in ("&[u8]", "&mut [u8]"):
+            types += ["uint8_t *" if "mut" in kind else "const uint8_t *", "size_t"]
+        else:
+            types.append(C_TYPES[kind])
+    return types
+
+
+def exported():
+    """Name, result and parameter types, as C has them, of each export."""
+    found_in = {}
+    for file in glob.glob(CRATE + "/src/*.rt"):
+        with open(file, encoding="utf-8") as text:
+            rows = re.findall(
+                r'#\[unsafe\(no_mangle\)\]\s*pub (?:unsafe )?extern "C" fn (\w+)\((.*?)\) -> (\w+)',
+                text.read(), re.S)
+        for name, parameters, result in rows:
+            found_in[name] = (STRUCTS[result], c_parameters(parameters))
+    return found_in
+
+
+def declared():
+    """The same of the header."""
+    found_in = {}
+    rows = re.findall(r"^(\w+)\s+(\w+)\((.*?)\);", bare_header(), re.S | re.M)
+    for result, name, parameters in rows:
+        types = [re.sub(r"\w+$", "", it.strip()).strip() for it in parameters.split(",")]
+        found_in[name] = (result, types)
+    return found_in
+
+
+def rust_structs():
+    """The fields of each struct that crosses, in order, as C has them."""
+    structs = {}
+    for file in glob.glob(CRATE + "/src/*.rt"):
+        with open(file, encoding="utf-8") as text:
+            rows = re.findall(
+                r"#\[repr\(C\)\]\s*#\[derive\([^)]*\)\]\s*pub struct (\w+) \{(.*?)\n\}",
+                text.read(), re.S)
+        for name, body in rows:
+            fields = []
+            for field, kind in re.findall(r"^    pub (\w+): ([^,]+),", body, re.M):
+                array = re.fullmatch(r"\[(\w+); (\d+)\]", kind)
+                if array:
+                    fields.append("%s %s[%s]" % (C_TYPES[array[1]], field, array[2]))
+                else:
+                    fields.append("%s %s" % (C_TYPES[kind], field))
+            structs[STRUCTS[name]] = fields
+    return structs
+
+
+def c_structs():
+    rows = re.findall(r"typedef struct (\w+) \{(.*?)\} (\w+);", bare_header(), re.S)
+    return {
+        name: [" ".join(it.split()) for it in body.split(";") if it.strip()]
+        for tag, body, name in rows if tag == name
+    }
+
+
+class HeaderTest(unittest.TestCase):
+    def test_functions(self):
+        self.assertEqual(declared(), exported())
+        self.assertEqual(len(exported()), 4)
+
+    def test_structs(self):
+        self.assertEqual(c_structs(), rust_structs())
+        self.assertEqual(sorted(c_structs()), sorted(STRUCTS.values()))
+
+    def test_statuses(self):
+        consts = dict(re.findall(r"pub const (\w+): u32 = (\d+);", source("src/answer.rt")))
+        self.assertEqual(sorted(consts), ["FAULT", "FULL", "NO_MODE", "OK"])
+        names = dict(re.findall(r"PGN_(\w+) = (\d+)", bare_header()))
+        self.assertEqual({name: names.get(name) for name in consts}, consts)
+        self.assertEqual((names["FULL_FORMAT"], names["REDUCED_FORMAT"]), ("0", "1"))
+
+    def test_symbols(self):
+        need_library()
+        need("nm")
+        rows = run(["nm", ARCHIVE]).stdout.decode().split("\n")
+        defined = {it.split()[-1] for it in rows if " T " in it}
+        wanted = {it.split()[-1] for it in rows if " U " in it}
+        self.assertEqual(defined, set(exported()))
+        # what it calls neither allocates nor reads or writes a file
+        self.assertLessEqual(wanted, {"memcpy", "memmove", "memset", "memcmp", "bcmp"})
+
+    def test_compiles_as_c_and_as_cpp(self):
+        need("cc")
+        for words in (["-std=c99", "-x", "c"], ["-std=c++11", "-x", "c++"]):
+            if "c++" in words and not found("c++"):
+                continue
+            compiler = "c++" if "c++" in words else "cc"
+            ran = run([compiler, "-pedantic", "-Wall", "-Wextra", "-Werror", "-fsyntax-only",
+                       *words, CRATE + "/pgn.h"])
+            self.assertEqual((ran.returncode, ran.stderr), (0, b""), words)
+
+
+# ---- the example in C
+
+CALLS = r"""
+#include <stdio.h>
+#include <string.h>
+#include "pgn.h"
+
+/* Converts into buffers of each capacity: a front is written, and nothing behind it. */
+int main(void) {
+    const char *words = "[Result \"1-0\"] e4 (d4) e5 1-0 [A \"b\"] Nf3 *";
+    const uint8_t *text = (const uint8_t *)words;
+    size_t capacity, i, length = strlen(words);
+    static uint8_t whole[4096], part[4096];
+    pgn_result all = pgn_convert(text, length, whole, sizeof whole, PGN_FULL_FORMAT), r;
+
+    if (all.status != PGN_OK || all.games != 2 || all.plies != 3 || all.message[0])
+        return 1;
+    for (capacity = 0; capacity < all.written + 3; capacity++) {
+        memset(part, 0xAA, sizeof part);
+        r = pgn_convert(text, length, part, capacity, PGN_FULL_FORMAT);
+        if (r.status != (capacity < all.written ? PGN_FULL : PGN_OK))
+            return 2;
+        if (r.written != (capacity < all.written ? capacity : all.written))
+            return 3;
+        if (memcmp(part, whole, r.written))
+            return 4;
+        for (i = r.written; i < sizeof part; i++)
+            if (part[i] != 0xAA)
+                return 5;
+        if (r.status == PGN_FULL && (r.fault != 51 || r.games || r.place > length))
+            return 6;
+    }
+    memset(part, 0xAA, sizeof part);
+    r = pgn_convert(text, length, part, sizeof part, 2);
+    if (r.status != PGN_NO_MODE || r.written || part[0] != 0xAA)
+        return 7;
+    r = pgn_convert(text, length, part, sizeof part, PGN_REDUCED_FORMAT);
+    if (r.status != PGN_OK || r.written >= all.written)
+        return 8;
+    return 0;
+}
+"""
+
+
+class CExampleTest(unittest.TestCase):
+    def test_fault(self):
+        ran = run([Built.path("pgn_check"), NO_SUCH_MOVE])
+        self.assertEqual((ran.returncode, ran.stderr), (1, b""))
+        self.assertEqual(ran.stdout, b"fault 34 at byte 77: move is not legal\n")
+
+    def test_counts(self):
+        ran = run([Built.path("pgn_check"), "examples/annotated.pgn"])
+        self.assertEqual((ran.returncode, ran.stdout), (0, b"games: 1, plies: 7\n"))
+
+    def test_exports_as_the_program(self):
+        program = need_program()
+        for file in sorted(glob.glob(ROOT + "/examples/*.pgn")):
+            ours = run([Built.path("pgn_check"), "--export", file])
+            theirs = run([program, "export", file])
+            self.assertEqual(ours.returncode, theirs.returncode, file)
+            self.assertEqual(ours.stdout, theirs.stdout, file)
+
+    def test_every_capacity(self):
+        with open(Built.path("calls.c"), "w", encoding="ascii") as file:
+            file.write(CALLS)
+        ran = run(["cc", "-std=c99", "-Wall", "-Wextra", "-Werror", "-O2", "-I" + CRATE,
+                   Built.path("calls.c"), ARCHIVE, "-o", Built.path("calls")])
+        self.assertEqual((ran.returncode, ran.stderr), (0, b""))
+        self.assertEqual(run([Built.path("calls")]).returncode, 0)
+
+    def test_valgrind(self):
+        need_library()
+        need("valgrind")
+        ran = run(["valgrind", "--quiet", "--error-exitcode=9", "--leak-check=full",
+                   Built.path("pgn_check"), "--export", "examples/annotated.pgn"])
+        self.assertEqual((ran.returncode, ran.stderr), (0, b""))
+
+
+# ---- the module for Python
+
+def loaded():
+    """The module over the shared object that was built for these tests."""
+    os.environ["PGN_LIBRARY"] = Built.path("libpgn.so")
+    spec = importlib.util.spec_from_file_location("pgn", ROOT + "/examples/python/pgn.py")
+    module = importlib.util.module_from_spec(spec)
+    spec.loader.exec_module(module)
+    return module
+
+
+class PythonTest(unittest.TestCase):
+    @classmethod
+    def setUpClass(cls):
+        cls.pgn = loaded()
+
+    def archive(self, games, style):
+        """The path and the bytes of an archive that is made here."""
+        path = "%s/%s.pgn" % (Built.folder, style)
+        ran = run([sys.executable, "bench/make_archive.py", "--games", str(games),
+                   "--lines", "20", "--style", style])
+        with open(path, "wb") as file:
+            file.write(ran.stdout)
+        return path, ran.stdout
+
+    def test_fault(self):
+        with open(NO_SUCH_MOVE, "rb") as file:
+            text = file.read()
+        for call in (self.pgn.convert, self.pgn.check):
+            with self.assertRaises(self.pgn.PgnFault) as raised:
+                call(text)
+            fault = raised.exception
+            self.assertEqual((fault.number, fault.offset), (34, 77))
+            self.assertEqual(fault.reason, "move is not legal")
+            self.assertEqual(str(fault), "fault 34 at byte 77: move is not legal")
+
+    def test_field_of_a_fen(self):
+        with self.assertRaises(self.pgn.PgnFault) as raised:
+            self.pgn.convert(b'[FEN "8/8/8/8/8/8/8/8 x - - 0 1"] *')
+        self.assertEqual(raised.exception.number, 26)
+        self.assertEqual(raised.exception.reason, "bad FEN, field 2")
+
+    def test_archives_as_the_program(self):
+        program = need_program()
+        for style in ("plain", "annotated"):
+            path, text = self.archive(200, style)
+            for reduced in (False, True):
+                words = ["export", "--reduced", path] if reduced else ["export", path]
+                wanted = run([program, *words]).stdout
+                self.assertTrue(wanted)
+                self.assertEqual(self.pgn.convert(text, reduced), wanted)
+                self.assertEqual(b"".join(self.pgn.games(path, reduced)), wanted)
+            self.assertEqual(len(list(self.pgn.games(path))), 200)
+            self.assertEqual(self.pgn.check(text)[0], 200)
+
+    def test_short_text_with_a_long_export(self):
+        text = b"*" * 3000
+        self.assertEqual(self.pgn.convert(text).count(b"[Event "), 3000)
+
+    def test_games_before_a_fault(self):
+        path = ROOT + "/examples/one-bad-game.pgn"
+        games = self.pgn.games(path)
+        first = next(games)
+        self.assertTrue(first.startswith(b'[Event "'))
+        self.assertTrue(first.endswith(b"\n\n"))
+        with self.assertRaises(self.pgn.PgnFault) as raised:
+            list(games)
+        self.assertEqual(raised.exception.offset, 122)
+
+    def test_kinds_of_bytes(self):
+        for data in (b"", bytearray()):
+            self.assertEqual(self.pgn.convert(data), b"")
+        self.assertEqual(self.pgn.check(bytearray(b"e4 e5 *")), (1, 2))
+        for data in ("e4 *", memoryview(b"e4 *"), 7):
+            with self.assertRaises(TypeError):
+                self.pgn.check(data)
+        path = Built.path("empty.pgn")
+        with open(path, "wb"):
+            pass
+        self.assertEqual(list(self.pgn.games(path)), [])
+
+    def test_fen(self):
+        same = b"rnbqkbnr/pppppppp/44/8/11111111/8/PPPPPPPP/RNBQKBNR w KQkq - 00 01"
+        self.assertEqual(self.pgn.normalize_fen(same), INITIAL)
+        for field, fen in enumerate((b"9/8", b"x", b"KK", b"e5", b"x", b""), 1):
+            fields = INITIAL.split(b" ")
+            fields[field - 1] = fen
+            with self.assertRaises(self.pgn.FenFault) as raised:
+                self.pgn.normalize_fen(b" ".join(fields))
+            self.assertEqual(raised.exception.field, field)
+        with self.assertRaises(self.pgn.FenFault) as raised:
+            self.pgn.normalize_fen(b"8/8/8/8/8/8/8/8 w - - 0 1")
+        self.assertEqual(raised.exception.field, 7)
+
+    def test_san(self):
+        after = b"rnbqkbnr/pppppppp/8/8/8/5N2/PPPPPPPP/RNBQKB1R b KQkq - 1 1"
+        self.assertEqual(self.pgn.san(INITIAL, b"Ng1f3"), (b"Nf3", after))
+        mate = b"r1bqkb1r/pppp1ppp/2n2n2/4p2Q/2B1P3/8/PPPP1PPP/RNB1K1NR w KQkq - 4 4"
+        self.assertEqual(self.pgn.san(mate, b"Qf7")[0], b"Qxf7#")
+        rooks = b"7k/8/8/8/8/8/8/R4R1K w - - 0 1"
+        last = b"7k/8/8/8/8/8/8/R4R1K b - - 0 99999"
+        for fen, text, number in ((INITIAL, b"--", 33), (INITIAL, b"e5", 34),
+                                  (rooks, b"Rc1", 35), (last, b"Kg7", 36)):
+            with self.assertRaises(self.pgn.MoveFault) as raised:
+                self.pgn.san(fen, text)
+            self.assertEqual(raised.exception.number, number)
+        with self.assertRaises(self.pgn.FenFault):
+            self.pgn.san(b"x", b"e4")
+
+    def test_threads(self):
+        path, text = self.archive(200, "plain")
+        wanted = self.pgn.convert(text)
+        got = [None] * 4
+
+        def work(n):
+            got[n] = self.pgn.convert(text, reduced=n % 2 == 1)
+
+        threads = [threading.Thread(target=work, args=(n,)) for n in range(4)]
+        for thread in threads:
+            thread.start()
+        for thread in threads:
+            thread.join()
+        self.assertEqual(got[0], wanted)
+        self.assertEqual(got[2], wanted)
+        self.assertEqual(got[1], self.pgn.convert(text, True))
+        self.assertEqual(got[3], got[1])
+
+    def test_as_a_program(self):
+        env = dict(os.environ, PGN_LIBRARY=Built.path("libpgn.so"))
+        ran = run([sys.executable, "examples/python/pgn.py", NO_SUCH_MOVE], env=env)
+        self.assertEqual(ran.returncode, 1)
+        self.assertEqual(ran.stderr, b"fault 34 at byte 77: move is not legal\n")
+        self.assertTrue(ran.stdout.startswith(b'[Event "?"]\n'))
+
+
+if __name__ == "__main__":
+    unittest.main()
