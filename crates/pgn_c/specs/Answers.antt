@@ -1,5 +1,5 @@
 -- **Definition.** What a C caller is answered.
-use Rattle.std.specs.Prelude.{◌≡◌, ℕ, ◌+◌, ◌-◌, ◌≤◌, ◌==◌, if◌then◌else◌, List, [], ◌++◌, length, drop, replicate, decimal, Option, Some, None, Result, Ok, Err}
+use Rattle.std.specs.Prelude.{◌≡◌, ◌≢◌, ℕ, ◌+◌, ◌-◌, ◌≤◌, ◌==◌, if◌then◌else◌, List, [], ◌++◌, length, drop, replicate, decimal, Option, Some, None, Result, Ok, Err}
 use Rattle.pgn_game.specs.declared.mode.Mode.{Mode}
 use Rattle.pgn_game.specs.declared.mode.Mode.TheVariants.{Full, Reduced}
 use Rattle.pgn_game.specs.declared.reason.Reason.{Reason}
@@ -35,10 +35,11 @@ result_of (Err f) written =
 abbrev pub profile_in : Mode → Profile
 profile_in mode = profile_of 64 32 mode
 
--- The text was checked: the conversion that this repeats writes nothing.
+-- The text was checked: the conversion that this repeats writes nothing, and never lacks room.
 pub record Checks (text : List ℕ) (result : PgnResult) : Type 0 where
   pub outcome : Result Totals Fault
   pub converts : ConvertsSlice (profile_in Full) text outcome None None
+  pub not_full : result.status ≢ 2
   pub is_result : result ≡ result_of outcome 0
 
 -- The buffer begins with what was written, and its other bytes are as they were.

@@ -1,0 +1,13 @@
+use Rattle.std.proofs.Common.{ap, sym, ◌∙◌, arith}
+use Rattle.pgn_c.proofs.Converting.{is_full}
+use Rattle.pgn_c.proofs.pgn_check.Goals as goal
+
+pub returns : goal.returns
+returns c =
+    let call = c.convert_slice.ensures in
+    record {
+      outcome = c.convert_slice.result;
+      converts = call.converts;
+      not_full = λ is. absurd (omega (arith, is_full c.convert_slice.result 0 0 call.counted (sym (ap (λ r. r.status) c.result_for.ensures) ∙ is)));
+      is_result = c.result_for.ensures;
+    }
