@@ -144,6 +144,8 @@ class HeaderTest(unittest.TestCase):
         defined = {it.split()[-1] for it in rows if " T " in it}
         wanted = {it.split()[-1] for it in rows if " U " in it}
         self.assertEqual(defined, set(exported()))
+        # nothing that changes between calls
+        self.assertEqual([it for it in rows if re.search(r" [BbCDdSs] ", it)], [])
         # what it calls neither allocates nor reads or writes a file
         self.assertLessEqual(wanted, {"memcpy", "memmove", "memset", "memcmp", "bcmp"})
 
@@ -202,7 +204,27 @@ int main(void) {
 """
 
 
+def sample(language):
+    """The one block of docs/LIBRARY.md in this language."""
+    with open(ROOT + "/docs/LIBRARY.md", encoding="utf-8") as file:
+        blocks = re.findall("^```%s\n(.*?)^```$" % language, file.read(), re.S | re.M)
+    if len(blocks) != 1:
+        raise AssertionError("%d blocks of %s" % (len(blocks), language))
+    return blocks[0]
+
+
 class CExampleTest(unittest.TestCase):
+    def test_sample_of_the_guide(self):
+        with open(Built.path("sample.c"), "w", encoding="ascii") as file:
+            file.write(sample("c"))
+        ran = run(["cc", "-O2", "-Wall", "-Werror", "-I" + CRATE, Built.path("sample.c"), ARCHIVE,
+                   "-o", Built.path("sample")])
+        self.assertEqual((ran.returncode, ran.stderr), (0, b""))
+        ran = run([Built.path("sample")])
+        self.assertEqual(ran.returncode, 0)
+        moves = b"1. e4 e5 2. Bc4 Nc6 3. Qh5 Nf6 $2 4. Qxf7# *"
+        self.assertTrue(ran.stdout.endswith(b"\n\n" + moves + b"\n\n"), ran.stdout)
+
     def test_fault(self):
         ran = run([Built.path("pgn_check"), NO_SUCH_MOVE])
         self.assertEqual((ran.returncode, ran.stderr), (1, b""))
@@ -362,6 +384,16 @@ class PythonTest(unittest.TestCase):
         self.assertEqual(got[2], wanted)
         self.assertEqual(got[1], self.pgn.convert(text, True))
         self.assertEqual(got[3], got[1])
+
+    def test_sample_of_the_guide(self):
+        env = dict(os.environ, PGN_LIBRARY=Built.path("libpgn.so"))
+        ran = run([sys.executable, "-c", sample("python")], env=env)
+        self.assertEqual((ran.returncode, ran.stderr), (0, b""))
+        lines = ran.stdout.split(b"\n")
+        self.assertEqual(lines[0], b'[Event "?"]')
+        self.assertIn(b"1. e4 e5 2. Bc4 Nc6 3. Qh5 Nf6 4. Qxf7# 1-0", lines)
+        self.assertEqual(lines[-2], b"34 77 move is not legal")
+        self.assertIn(b"(1, 7)", lines)
 
     def test_as_a_program(self):
         env = dict(os.environ, PGN_LIBRARY=Built.path("libpgn.so"))
