@@ -106,7 +106,7 @@ pgn_result pgn_convert(const uint8_t *text, size_t length,
 pgn_text pgn_fen_normalize(const uint8_t *fen, size_t length, uint8_t *buffer, size_t capacity);
 
 /*
- * Finds the one legal move that a text names in the position of a FEN (PGN 8.2.3), and answers its
+ * Finds the one legal move that a text names in the position of a FEN (PGN 8.2.3), and returns its
  * SAN, with the mark of check or mate, and the FEN of the position after it.
  *
  * PGN_OK: there is one such move.

@@ -131,7 +131,7 @@ class HeaderTest(unittest.TestCase):
         self.assertEqual(sorted(c_structs()), sorted(STRUCTS.values()))
 
     def test_statuses(self):
-        consts = dict(re.findall(r"pub const (\w+): u32 = (\d+);", source("src/answer.rt")))
+        consts = dict(re.findall(r"pub const (\w+): u32 = (\d+);", source("src/pgn_result.rt")))
         self.assertEqual(sorted(consts), ["FAULT", "FULL", "NO_MODE", "OK"])
         names = dict(re.findall(r"PGN_(\w+) = (\d+)", bare_header()))
         self.assertEqual({name: names.get(name) for name in consts}, consts)
@@ -249,6 +249,11 @@ class CExampleTest(unittest.TestCase):
                    Built.path("calls.c"), ARCHIVE, "-o", Built.path("calls")])
         self.assertEqual((ran.returncode, ran.stderr), (0, b""))
         self.assertEqual(run([Built.path("calls")]).returncode, 0)
+
+    def test_small_stack(self):
+        words = ["sh", "-c", "ulimit -s 256 && exec \"$@\"", "sh"]
+        ran = run([*words, Built.path("pgn_check"), "--export", "examples/from-a-position.pgn"])
+        self.assertEqual((ran.returncode, ran.stderr), (0, b""))
 
     def test_valgrind(self):
         need_library()

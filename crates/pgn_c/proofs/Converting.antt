@@ -15,7 +15,7 @@ use Rattle.pgn_game.specs.Begun.{due, output}
 use Rattle.pgn_game.specs.Feeding.{StopsWriting}
 use Rattle.pgn_game.specs.Laws.{DueGrows, IsPrefix}
 use Rattle.pgn_game.specs.Converting.{ConvertsSlice, FailsOn, refused, unwritten, too_long, CountsSink, CountsWriting}
-use Rattle.pgn_c.specs.Answers.{IsFilled, profile_in, result_of, status_of}
+use Rattle.pgn_c.specs.Results.{IsFilled, profile_in, result_of, status_of}
 
 -- ---- what is written is a front of the export text
 

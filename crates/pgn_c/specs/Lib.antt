@@ -1,3 +1,3 @@
 -- Definitions that the contracts of pgn_c cite.
-pub mod Answers
+pub mod Results
 pub mod Positions

@@ -1,4 +1,4 @@
--- **Definition.** What a C caller is answered about positions and moves.
+-- **Definition.** Results about positions and moves, as C gets them.
 use Rattle.std.specs.Prelude.{◌≡◌, ℕ, ◌<◌, ◌≤◌, List, [], ◌++◌, length, drop, option_map, Result, Ok, Err}
 use Rattle.chess_rules.specs.declared.position.Parts.{Parts}
 use Rattle.chess_text.specs.declared.fen.FenFault.{FenFault}
@@ -12,12 +12,12 @@ use Rattle.pgn_game.specs.Finding.{found_in}
 use Rattle.pgn_game.specs.Reason.{number_of}
 use Rattle.pgn_c.specs.declared.fen.PgnText.{PgnText}
 use Rattle.pgn_c.specs.declared.san.PgnMove.{PgnMove}
-use Rattle.pgn_c.specs.Answers.{padded}
+use Rattle.pgn_c.specs.Results.{padded}
 
 -- ---- a FEN
 
--- The text is put into the front of the buffer if it fits, and else nothing is; its length is
--- answered either way.
+-- The text is put into the front of the buffer if it fits, and else nothing is. The result has its
+-- length either way.
 pub record Puts (text before after : List ℕ) (result : PgnText) : Type 0 where
   pub fits : length text ≤ length before
       → (after ≡ text ++ drop (length text) before) × (result ≡ record { status = 0; field = 0; length = length text })

@@ -1,13 +1,13 @@
-//! A position's canonical text.
+//! A position's canonical text, as C gets it.
 ghost use Rattle.std.specs.Prelude.{◌≡◌};
 ghost use Rattle.chess_text.specs.Fen.{fen_text};
 ghost use Rattle.pgn_c.specs.Positions.{Puts};
 
-use crate::answer::{FAULT, FULL, OK};
+use crate::pgn_result::{FAULT, FULL, OK};
 use chess_rules::position::Position;
 use chess_text::fen::write_fen;
 
-/// What became of a FEN, `struct pgn_text` in C.
+/// The result for a FEN, `struct pgn_text` in C.
 #[repr(C)]
 #[derive(Clone, Copy)]
 pub struct PgnText {
@@ -47,7 +47,7 @@ fn put(text: &[u8], buffer: &mut [u8]) -> PgnText
     }
 }
 
-/// The answer for a FEN with this field at fault.
+/// The result for a FEN with this field at fault.
 pub fn bad_text(field: u8) -> PgnText
     ensures { result ≡ record { status = 1; field = field; length = 0 } }
 {

@@ -1,25 +1,31 @@
 //! The converter for callers in C.
 //!
-//! `pgn.h` declares these functions and says what a caller owes. None allocates, none keeps
-//! anything from call to call, and so several threads may call them at once, on memory that they do
-//! not share.
+//! `pgn.h` declares these functions. None allocates, and none keeps anything from call to call. So
+//! several threads may call them at once, on buffers that they do not share.
+//!
+//! # Safety
+//!
+//! A caller in C passes a slice as a pointer and a length. The pointer is not null, also where the
+//! length is 0, and points to so many bytes, at most 2^63 - 1, for the whole call. A buffer shares
+//! no byte with a text of the same call. No other thread writes a text meanwhile, or reads or
+//! writes the buffer. The check cannot see that callers keep to this.
 #![tactic(auto)]
 
 ghost use Rattle.std.specs.Prelude.{◌≡◌};
 ghost use Rattle.chess_text.specs.Fen.{read};
 ghost use Rattle.pgn_c.specs.Positions.{Normalizes, san_result};
-ghost use Rattle.pgn_c.specs.Answers.{Checks, Converts, ConvertsIn, mode_of, result_of};
+ghost use Rattle.pgn_c.specs.Results.{Checks, Converts, ConvertsIn, mode_of, result_of};
 
-mod answer;
 mod buffer_sink;
 mod fen;
+mod pgn_result;
 mod san;
 
-pub use crate::answer::PgnResult;
-use crate::answer::{fault_result, no_mode, totals_result};
 use crate::buffer_sink::{Before, BufferSink, Room};
 pub use crate::fen::PgnText;
 use crate::fen::{bad_text, put_fen};
+pub use crate::pgn_result::PgnResult;
+use crate::pgn_result::{fault_result, no_mode, totals_result};
 pub use crate::san::PgnMove;
 use crate::san::{name_move, no_position};
 use chess_text::fen::read_fen;
@@ -87,8 +93,8 @@ pub extern "C" fn pgn_fen_normalize(fen: &[u8], buffer: &mut [u8]) -> PgnText
     }
 }
 
-/// Reads a FEN and a move's text, and answers the SAN of the one legal move that the text names
-/// (PGN 8.2.3), with the FEN of the position after it.
+/// Returns the SAN of the one legal move that a text names in the position of a FEN (PGN 8.2.3), and
+/// the FEN of the position after it.
 ///
 /// Status 1 has the number of a fault: 26 for the FEN, with its field; 33 where the text is no
 /// move's, 34 where no legal move is meant, 35 where more than one is, and 36 for Black's move with
@@ -134,7 +140,7 @@ fn fill<'a, K: Before>(text: &[u8], buffer: &'a mut [u8], mode: Mode) -> (&'a mu
     (buffer, result_for(outcome, written))
 }
 
-// The result for what a conversion answers.
+// The result for the outcome of a conversion.
 fn result_for(outcome: Result<Totals, Fault>, written: usize) -> PgnResult
     ensures { result ≡ result_of outcome written }
 {

@@ -1,11 +1,11 @@
-//! The move that a text names in a position.
+//! The move that a text names in a position, as C gets it.
 ghost use Rattle.std.specs.Prelude.{◌≡◌, [], Some, Ok, Err, IfOk};
 ghost use Rattle.chess_rules.specs.Legal.{legal};
 ghost use Rattle.pgn_game.specs.FaultTable.{is_at_limit as at_limit};
-ghost use Rattle.pgn_c.specs.Answers as answers;
+ghost use Rattle.pgn_c.specs.Results as results;
 ghost use Rattle.pgn_c.specs.Positions.{move_result, named, san_result};
 
-use crate::answer::{FAULT, OK, padded};
+use crate::pgn_result::{FAULT, OK, padded};
 use chess_rules::piece::Colour;
 use chess_rules::position::Position;
 use chess_rules::probes::Probes;
@@ -32,7 +32,7 @@ pub struct PgnMove {
     pub fen: [u8; 96],
 }
 
-/// The answer for the move that the text names in this position.
+/// The result for the move that the text names in this position.
 pub fn name_move(position: &Position, text: &[u8]) -> PgnMove
     ensures { result ≡ move_result position.now (named position.now text.now) }
 {
@@ -70,7 +70,7 @@ fn is_at_limit(position: &Position) -> bool
     position.side() == Colour::Black && position.full() == 99_999
 }
 
-// The answer for a legal move.
+// The result for a legal move.
 fn written_move(position: &Position, played: &Played) -> PgnMove
     requires { legal position.now played.now.mv ≡ Some played.now.next }
     ensures { result ≡ move_result position.now (Ok played.now) }
@@ -85,21 +85,21 @@ fn written_move(position: &Position, played: &Played) -> PgnMove
     }
 }
 
-/// The answer for a FEN with this field at fault.
+/// The result for a FEN with this field at fault.
 pub fn no_position(field: u8) -> PgnMove
     ensures { result ≡ san_result (Err (record { field = field })) [] }
 {
     no_move(26, field as u32)
 }
 
-// The answer for a fault.
+// The result for a fault.
 fn no_move(fault: u32, field: u32) -> PgnMove
     ensures { result ≡ record {
       status = 1;
       fault = fault;
       field = field;
-      san = answers.padded 8 [];
-      fen = answers.padded 96 [];
+      san = results.padded 8 [];
+      fen = results.padded 96 [];
     } }
 {
     PgnMove {

@@ -1,5 +1,5 @@
 use Rattle.pgn_c.proofs.Padding.{over_zeros}
-use Rattle.pgn_c.proofs.answer.padded.Goals as goal
+use Rattle.pgn_c.proofs.pgn_result.padded.Goals as goal
 
 pub returns : goal.returns
 returns g c = over_zeros _ _ _ c.copy_from_slice.ensures.after

@@ -1,7 +1,7 @@
-//! What a caller is answered.
+//! The result of a conversion, as C gets it.
 ghost use Rattle.std.specs.Prelude.{◌≡◌, ◌≤◌, ◌+◌, Ok, Err, length};
-ghost use Rattle.pgn_c.specs.Answers as spec;
-ghost use Rattle.pgn_c.specs.Answers.{result_of, status_of};
+ghost use Rattle.pgn_c.specs.Results as spec;
+ghost use Rattle.pgn_c.specs.Results.{result_of, status_of};
 
 use itoa::Buffer;
 use pgn_game::{Fault, Reason, Totals};
@@ -15,7 +15,7 @@ pub const FULL: u32 = 2;
 /// There is no such mode.
 pub const NO_MODE: u32 = 3;
 
-/// The result of a call, `struct pgn_result` in C.
+/// The result of a conversion, `struct pgn_result` in C.
 #[repr(C)]
 #[derive(Clone, Copy)]
 pub struct PgnResult {

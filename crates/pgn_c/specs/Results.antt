@@ -1,4 +1,4 @@
--- **Definition.** What a C caller is answered.
+-- **Definition.** The result of a conversion, as C gets it.
 use Rattle.std.specs.Prelude.{◌≡◌, ◌≢◌, ℕ, ◌+◌, ◌-◌, ◌≤◌, ◌==◌, if◌then◌else◌, List, [], ◌++◌, length, drop, replicate, decimal, Option, Some, None, Result, Ok, Err}
 use Rattle.pgn_game.specs.declared.mode.Mode.{Mode}
 use Rattle.pgn_game.specs.declared.mode.Mode.TheVariants.{Full, Reduced}
@@ -12,7 +12,7 @@ use Rattle.pgn_game.specs.Begun.{output}
 use Rattle.pgn_game.specs.Feeding.{profile_of}
 use Rattle.pgn_game.specs.Converting.{ConvertsSlice}
 use Rattle.pgn_game.specs.Laws.{IsPrefix}
-use Rattle.pgn_c.specs.declared.answer.PgnResult.{PgnResult}
+use Rattle.pgn_c.specs.declared.pgn_result.PgnResult.{PgnResult}
 
 -- The text, and zeros up to that many bytes: so it ends with a zero wherever it has fewer.
 abbrev pub padded : ℕ → List ℕ → List ℕ
