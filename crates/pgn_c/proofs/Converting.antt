@@ -1,5 +1,5 @@
 -- What a conversion leaves in a buffer.
-use Rattle.std.proofs.Common.{◌≡◌, ℕ, ◌<◌, ◌≤◌, List, [], ◌∷◌, ◌++◌, length, take, drop, Some, Result, Ok, Err, refl, sym, ap, subst, ◌∙◌, append-nil, append_assoc, arith}
+use Rattle.std.proofs.Common.{◌≡◌, ℕ, ◌<◌, ◌≤◌, List, [], ◌∷◌, ◌++◌, length, take, drop, Some, OnOk, Result, Ok, Err, refl, sym, ap, subst, ◌∙◌, append-nil, append_assoc, arith}
 use Rattle.std.proofs.lemmas.List.{length-take-le, take-append-drop}
 use Rattle.pgn_lexer.specs.Tokens.{Token}
 use Rattle.pgn_lexer.specs.TokensOf.{tokens_of}
@@ -81,3 +81,14 @@ pub is_full : (outcome : Result Totals Fault) (n failures : ℕ) → CountsSink 
     → (result_of outcome n).status ≡ 2 → 0 < failures
 is_full (Ok t) n failures counted is = absurd (omega (arith, is))
 is_full (Err f) n failures counted is = write_fault f.reason failures counted is
+
+-- ---- a result without a fault
+
+no_fault : (reason : Reason) → status_of reason ≡ 0 → ⊥
+no_fault WriteFault is = omega (arith, is)
+no_fault _ is = omega (arith, is)
+
+-- what holds where a conversion succeeds
+pub when_ok : {P : Type 0} (outcome : Result Totals Fault) (n : ℕ) → OnOk outcome P → (result_of outcome n).status ≡ 0 → P
+when_ok (Ok t) n holds is = holds
+when_ok (Err f) n holds is = absurd (no_fault f.reason is)

@@ -1,5 +1,5 @@
 -- **Definition.** The result of a conversion, as C gets it.
-use Rattle.std.specs.Prelude.{◌≡◌, ◌≢◌, ℕ, ◌+◌, ◌-◌, ◌≤◌, ◌==◌, if◌then◌else◌, List, [], ◌++◌, length, drop, replicate, decimal, Option, Some, None, Result, Ok, Err}
+use Rattle.std.specs.Prelude.{◌≡◌, ◌≢◌, ℕ, ◌+◌, ◌-◌, ◌^◌, ◌≤◌, ◌==◌, if◌then◌else◌, List, [], ◌++◌, length, drop, replicate, decimal, Option, Some, None, Result, Ok, Err}
 use Rattle.pgn_game.specs.declared.mode.Mode.{Mode}
 use Rattle.pgn_game.specs.declared.mode.Mode.TheVariants.{Full, Reduced}
 use Rattle.pgn_game.specs.declared.reason.Reason.{Reason}
@@ -40,6 +40,7 @@ pub record Checks (text : List ℕ) (result : PgnResult) : Type 0 where
   pub outcome : Result Totals Fault
   pub converts : ConvertsSlice (profile_in Full) text outcome None None
   pub not_full : result.status ≢ 2
+  pub short : result.status ≡ 0 → length text ≤ 2 ^ 62
   pub is_result : result ≡ result_of outcome 0
 
 -- The buffer begins with what was written, and its other bytes are as they were.
@@ -56,6 +57,7 @@ pub record Converts (mode : Mode) (text before after : List ℕ) (result : PgnRe
   pub front : IsPrefix written (output (profile_in mode) text)
   pub filled : IsFilled before after written
   pub full : result.status ≡ 2 → length written ≡ length before
+  pub short : result.status ≡ 0 → length text ≤ 2 ^ 62
   pub is_result : result ≡ result_of outcome (length written)
 
 -- 0 is the full format, 1 the reduced one

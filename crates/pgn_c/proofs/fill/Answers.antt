@@ -2,7 +2,7 @@ use Rattle.std.proofs.Common.{◌≡◌, ℕ, [], length, take, Some, ap, sym, s
 use Rattle.std.proofs.lemmas.List.{length-take-le}
 use Rattle.pgn_game.specs.Converting.{ConvertsSlice, CountsSink}
 use Rattle.pgn_c.specs.Results.{profile_in, result_of}
-use Rattle.pgn_c.proofs.Converting.{front, filled, is_full}
+use Rattle.pgn_c.proofs.Converting.{front, filled, is_full, when_ok}
 use Rattle.pgn_c.proofs.fill.Goals as goal
 
 pub returns-clause-converts : goal.returns-clause-converts
@@ -24,5 +24,6 @@ returns-clause-converts g c =
       front = front _ _ _ outcome c.due_grows.ensures c.decided_is_prefix.ensures converts;
       filled = filled _ _ _ sink.within sink.long sink.behind;
       full = λ is. is_count ∙ sink.full (is_full outcome _ _ counted (sym (ap (λ r. r.status) c.result_for.ensures) ∙ is)) ∙ sink.long;
+      short = λ is. when_ok outcome _ call.ensures.short (sym (ap (λ r. r.status) c.result_for.ensures) ∙ is);
       is_result = c.result_for.ensures ∙ ap (result_of outcome) (sym is_count);
     }

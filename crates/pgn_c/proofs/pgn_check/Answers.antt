@@ -1,5 +1,5 @@
 use Rattle.std.proofs.Common.{ap, sym, ◌∙◌, arith}
-use Rattle.pgn_c.proofs.Converting.{is_full}
+use Rattle.pgn_c.proofs.Converting.{is_full, when_ok}
 use Rattle.pgn_c.proofs.pgn_check.Goals as goal
 
 pub returns : goal.returns
@@ -9,5 +9,6 @@ returns c =
       outcome = c.convert_slice.result;
       converts = call.converts;
       not_full = λ is. absurd (omega (arith, is_full c.convert_slice.result 0 0 call.counted (sym (ap (λ r. r.status) c.result_for.ensures) ∙ is)));
+      short = λ is. when_ok c.convert_slice.result 0 call.short (sym (ap (λ r. r.status) c.result_for.ensures) ∙ is);
       is_result = c.result_for.ensures;
     }
