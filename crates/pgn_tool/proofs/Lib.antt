@@ -4,6 +4,7 @@ mod Games
 mod Leftover
 mod Lines
 mod Listed
+mod Programs
 mod Reading
 mod Refusals
 mod Rows

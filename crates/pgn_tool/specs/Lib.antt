@@ -7,3 +7,5 @@ pub mod Refusing
 pub mod FileName
 pub mod Files
 pub mod Splitting
+pub mod Machine
+pub mod Program

@@ -3,6 +3,7 @@ ghost use Rattle.std.specs.Prelude.{◌≡◌, IfOk, string_bytes};
 ghost use Rattle.pgn_tool.specs.FileName.{file_name, zeros_before};
 
 use crate::files::{CreateFault, GameFiles};
+use crate::machine::GameFolder;
 use itoa::Buffer;
 use pgn_game::Outlet;
 use std::alloc::{AllocError, Global};
@@ -13,25 +14,31 @@ use std::path::Path;
 
 /// A folder that files of games are made in: `000001.pgn` and so on.
 #[derive(Drop)]
-pub struct Folder<'a> {
+pub struct Folder {
     rt: HostRuntime,
-    path: &'a str,
+    path: String,
 }
 
-impl<'a> Folder<'a> {
-    /// The folder with this path. It is not made.
-    pub fn new(rt: HostRuntime, path: &'a str) -> Folder<'a> {
-        Folder { rt, path }
+impl Folder {
+    /// The current folder.
+    pub fn new(rt: HostRuntime) -> Folder {
+        Folder {
+            rt,
+            path: String::new(rt.alloc()),
+        }
     }
 
     fn create_file(&self, number: u64) -> io::Result<File> {
         let alloc = self.rt.alloc();
         let name = file_name(alloc, number)?;
-        File::create(&self.rt, Path::new(self.path).join(alloc, name.as_str())?)
+        File::create(
+            &self.rt,
+            Path::new(self.path.as_str()).join(alloc, name.as_str())?,
+        )
     }
 }
 
-impl<'a> GameFiles for Folder<'a> {
+impl GameFiles for Folder {
     ghost use Rattle.std.specs.Prelude.{None};
 
     type Out = Outlet<File>;
@@ -47,6 +54,12 @@ impl<'a> GameFiles for Folder<'a> {
     }
 
     fn close(&mut self, _out: Outlet<File>) {}
+}
+
+impl GameFolder for Folder {
+    fn enter(&mut self, path: String) {
+        self.path = path;
+    }
 }
 
 /// The name of the file of the game with this number: at least six digits, and `.pgn`.

@@ -1,0 +1,10 @@
+use Rattle.std.proofs.Common.{refl}
+use Rattle.pgn_tool.specs.Program.{opened}
+use Rattle.pgn_tool.proofs.Programs.{opened_is, unopened_is}
+use Rattle.pgn_tool.proofs.run.run_task.Goals as goal
+
+pub returns-in-Ok-clause-carries : goal.returns-in-Ok-clause-carries
+returns-in-Ok-clause-carries g c = opened _ (opened_is _ _ _ _ _ _ c.in-Ok.is c.open_file.ensures) c.run_opened.ensures.opened
+
+pub returns-in-Err-clause-carries : goal.returns-in-Err-clause-carries
+returns-in-Err-clause-carries g c = unopened_is _ _ _ _ _ _ _ _ c.in-Err.is c.open_file.ensures refl (refl, refl) refl c.refuse_file.ensures.ends

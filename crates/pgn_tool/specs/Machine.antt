@@ -1,0 +1,62 @@
+-- **Definition.** What a machine gives to a run: files to read, and devices.
+use Rattle.std.specs.Prelude.{◌≡◌, ℕ, Bool, List, Option, None, Some, Result, Ok, Err}
+use Rattle.pgn_tool.specs.declared.machine.SystemFault.{SystemFault}
+use Rattle.pgn_tool.specs.Files.{Event}
+use Rattle.pgn_tool.specs.Running.{Device, device}
+
+-- ---- files to read
+
+-- What there is under a name: nothing that can be read, or a file, with its bytes where the machine
+-- reports them.
+pub data Holding : Type 0 where
+  missing : Holding
+  holds : Option (List ℕ) → Holding
+
+-- the file is opened: all its bytes are left, and no read has failed
+abbrev pub IsOpened : Holding → Option (List ℕ) → ℕ → Type 0
+IsOpened missing left failures = ⊥
+IsOpened (holds text) left failures = (left ≡ text) × (failures ≡ 0)
+
+-- An opened file is one that is there. One that is there may also be refused, or find no memory.
+abbrev pub Opens : Holding → Option (List ℕ) → ℕ → Option SystemFault → Result Unit SystemFault
+    → Type 0
+Opens holding left failures refusal (Ok done) = IsOpened holding left failures
+Opens holding left failures refusal (Err fault) = refusal ≡ Some fault
+
+-- ---- the devices of a run
+
+-- Standard input at the beginning, and what is read at the end: the bytes that are left and the
+-- count of failures; what there is under each name; why the last file was not opened.
+pub record Reading : Type 0 where
+  pub standard : Device
+  pub holding : List ℕ → Holding
+  pub refusal : Option SystemFault
+
+abbrev pub reading : {S : Type 0} → (S → Option (List ℕ)) → (S → ℕ) → (S → List ℕ → Holding)
+    → (S → Option SystemFault) → S → S → Reading
+reading left failures holding refusal old new = record {
+  standard = device left failures old new;
+  holding = holding old;
+  refusal = refusal new;
+}
+
+-- The devices at the beginning and the end of a run. There was no memory for the buffer of standard
+-- output, if it is short.
+pub record Machine : Type 0 where
+  pub input : Reading
+  pub out : Device
+  pub is_short : Bool
+  pub files : Option (List Event)
+  pub files_after : Option (List Event)
+  pub err : Device
+
+abbrev pub machine : Reading → Device → Bool → Option (List Event) → Option (List Event) → Device
+    → Machine
+machine input out is_short files files_after err = record {
+  input = input;
+  out = out;
+  is_short = is_short;
+  files = files;
+  files_after = files_after;
+  err = err;
+}

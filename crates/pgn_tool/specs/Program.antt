@@ -1,0 +1,111 @@
+-- **Definition.** What a run of the program does to the devices of a machine, by its words.
+use Rattle.std.specs.Prelude.{◌≡◌, ℕ, ◌≤◌, Bool, true, List, [], ◌∷◌, map, codes, Option, None, Some, Result, Ok, Err, String, Vec, string_bytes}
+use Rattle.std.specs.Global.{Global}
+use Rattle.pgn_game.specs.declared.reason.Reason.TheVariants.{ReadFault}
+use Rattle.pgn_game.specs.declared.reason.Fault.{Fault}
+use Rattle.pgn_game.specs.Reason.{line_of}
+use Rattle.pgn_tool.specs.declared.arguments.Task.{Task}
+use Rattle.pgn_tool.specs.declared.arguments.Task.TheVariants.{Split}
+use Rattle.pgn_tool.specs.declared.arguments.ParseFault.{ParseFault}
+use Rattle.pgn_tool.specs.declared.machine.SystemFault.{SystemFault}
+use Rattle.pgn_tool.specs.declared.machine.SystemFault.TheVariants.{Refused, NoMemory}
+use Rattle.pgn_tool.specs.Files.{Event, added, entered}
+use Rattle.pgn_tool.specs.Machine.{Holding, Machine, Opens, Reading, holds, missing}
+use Rattle.pgn_tool.specs.Refusing.{AnswersFault}
+use Rattle.pgn_tool.specs.Requests.{AnswersBy, file_of, refusals, request_in, request_of}
+use Rattle.pgn_tool.specs.Running.{Answers, Device, IsSmooth, IsUntouched, Job, Runs, Tells, is_for_stream, job_of, line}
+use Rattle.pgn_tool.specs.Splitting.{RunsSplit}
+
+-- ---- what is read
+
+-- what opening the file of a task results in: where it names none, standard input stays as it is
+abbrev pub StartsFrom : Option (List ℕ) → (List ℕ → Holding)
+    → (left : Option (List ℕ)) (failures : ℕ)
+    (left_after : Option (List ℕ)) (failures_after : ℕ) → Option SystemFault
+    → Result Unit SystemFault → Type 0
+StartsFrom (Some name) holding left failures left_after failures_after refusal answer =
+    Opens (holding name) left_after failures_after refusal answer
+StartsFrom None holding left failures left_after failures_after refusal (Ok done) =
+    (left_after ≡ left) × (failures_after ≡ failures)
+StartsFrom None holding left failures left_after failures_after refusal (Err fault) = ⊥
+
+-- the file that is read from its first byte on, if it is there
+abbrev pub file_held : Holding → Reading → Option Device
+file_held missing r = None
+file_held (holds text) r =
+    Some (record {
+      before = text;
+      after = r.standard.after;
+      failures = 0;
+      failures_after = r.standard.failures_after;
+    })
+
+-- The source of a task: the file that it names, from its first byte on; where it names none,
+-- standard input.
+abbrev pub source_of : Option (List ℕ) → Reading → Option Device
+source_of None r = Some r.standard
+source_of (Some name) r = file_held (r.holding name) r
+
+-- ---- how a task ends
+
+-- a text is reported, with this status
+abbrev pub Reports : List ℕ → ℕ → Device → ℕ → Type 0
+Reports text code err status = (status ≡ code) × Tells err (line text)
+
+-- a file that cannot be opened is a read that fails at byte 0
+abbrev pub EndsUnopened : SystemFault → Device → ℕ → Type 0
+EndsUnopened Refused err status =
+    Reports (line_of (record { at = 0; reason = ReadFault })) 1 err status
+EndsUnopened NoMemory err status = Reports (codes "out of memory") 3 err status
+
+-- A task that writes to standard output: there is no memory for a buffer; or it runs, and where no
+-- device fails it does what is said of the text that is read.
+pub data RunsStream (job : Job) (source out : Device) (is_short : Bool) (err : Device)
+    (status : ℕ) : Type 0 where
+  unbuffered : is_short ≡ true → IsUntouched out → Reports (codes "out of memory") 3 err status
+      → RunsStream job source out is_short err status
+  streams : status ≤ 1 → Runs job source out err status → ((s : List ℕ) → IsSmooth s source out
+      → Answers job s out err status)
+      → RunsStream job source out is_short err status
+
+-- the task, on what is read: only `split` makes files, in its folder, and it writes nothing else
+abbrev pub RunsOpened : Task → Device → Device → Bool → Option (List Event) → Option (List Event)
+    → Device → ℕ → Type 0
+RunsOpened (Split dir file) source out is_short files files_after err status =
+    RunsSplit (added files (entered (string_bytes dir) ∷ [])) files_after source err status
+    × IsUntouched out
+RunsOpened task source out is_short files files_after err status =
+    RunsStream (job_of task) source out is_short err status × (files_after ≡ files)
+
+-- How a task is carried out: its file is not opened, and nothing else is done; or it runs on what is
+-- read.
+pub data Carries (task : Task) (m : Machine) (status : ℕ) : Type 0 where
+  unopened : (name : List ℕ) (fault : SystemFault) → file_of (request_of task) ≡ Some name
+      → m.input.refusal ≡ Some fault
+      → IsUntouched m.out → m.files_after ≡ m.files → EndsUnopened fault m.err status
+      → Carries task m status
+  opened : (source : Device) → source_of (file_of (request_of task)) m.input ≡ Some source
+      → RunsOpened task source m.out m.is_short m.files m.files_after m.err status
+      → Carries task m status
+
+-- ---- by the words
+
+-- nothing was read, and no file was made
+abbrev pub IsIdle : Machine → Type 0
+IsIdle m = IsUntouched m.input.standard × (m.files_after ≡ m.files)
+
+-- the words are a task; or they are not, or there was no memory to parse them
+pub data RunsWords (words : List (List ℕ)) (m : Machine) (status : ℕ) : Type 0 where
+  by_task : (task : Task) → request_in words ≡ Some (request_of task) → refusals words ≡ []
+      → Carries task m status → RunsWords words m status
+  by_fault : (fault : ParseFault) → AnswersBy (refusals words) (Err fault)
+      → AnswersFault fault m.out m.err status → IsIdle m → RunsWords words m status
+
+-- the words are not read
+abbrev pub EndsUnread : SystemFault → Device → ℕ → Type 0
+EndsUnread Refused err status = Reports (codes "arguments cannot be read") 2 err status
+EndsUnread NoMemory err status = Reports (codes "out of memory") 3 err status
+
+abbrev pub Ran : Result (Vec (String Global) Global) SystemFault → Machine → ℕ → Type 0
+Ran (Ok words) m status = RunsWords (map string_bytes words.items) m status
+Ran (Err fault) m status = EndsUnread fault m.err status × IsUntouched m.out × IsIdle m

@@ -1,0 +1,78 @@
+//! What a machine gives to a run of the program, beside the files that games are written to.
+use crate::files::GameFiles;
+use pgn_game::{Sink, Source};
+use std::alloc::AllocError;
+use std::io;
+use std::io::ErrorKind;
+
+/// Why the system does not give words or a file.
+#[derive(Clone, Copy, Debug, PartialEq, Eq)]
+pub enum SystemFault {
+    /// It refuses them.
+    Refused,
+    /// There is no memory for them.
+    NoMemory,
+}
+
+impl From<io::Error> for SystemFault {
+    fn from(error: io::Error) -> SystemFault {
+        match error.kind() {
+            ErrorKind::OutOfMemory => SystemFault::NoMemory,
+            _ => SystemFault::Refused,
+        }
+    }
+}
+
+impl From<AllocError> for SystemFault {
+    ghost use Rattle.std.specs.Prelude.{◌≡◌};
+    ghost use Rattle.pgn_tool.specs.declared.machine.SystemFault.TheVariants.{NoMemory};
+
+    ghost from_gives = { λ _ fault. fault ≡ NoMemory };
+
+    fn from(_error: AllocError) -> SystemFault {
+        SystemFault::NoMemory
+    }
+}
+
+/// Standard input, or a file in its place.
+pub trait Input: Source {
+    ghost use Rattle.std.specs.Prelude.{ℕ, List, Option};
+    ghost use Rattle.pgn_tool.specs.declared.machine.SystemFault.{SystemFault};
+    ghost use Rattle.pgn_tool.specs.Machine.{Holding, Opens};
+
+    // What there is under each name.
+    ghost holding: { Self → List ℕ → Holding };
+
+    // Why the last file was not opened, if it was not.
+    ghost refusal: { Self → Option SystemFault };
+
+    /// Opens the file with this name. From then on it is read, from its first byte.
+    fn open(&mut self, name: &str) -> Result<(), SystemFault>
+        ensures { Opens (holding self.old name.now) (Self.left self.new) (Self.failures self.new)
+            (refusal self.new) result };
+}
+
+/// Standard output.
+pub trait Output: Sink {
+    ghost use Rattle.std.specs.Prelude.{◌≡◌, Bool, true, OnErr};
+
+    // There was no memory for the buffer.
+    ghost is_short: { Self → Bool };
+
+    /// Makes a buffer for what is written from now on.
+    fn reserve(&mut self) -> Result<(), AllocError>
+        ensures taken { Self.taken self.new ≡ Self.taken self.old }
+        ensures failures { Self.failures self.new ≡ Self.failures self.old }
+        ensures short { OnErr result (is_short self.new ≡ true) };
+}
+
+/// Files of games, in a folder.
+pub trait GameFolder: GameFiles {
+    ghost use Rattle.std.specs.Prelude.{◌≡◌, [], ◌∷◌, string_bytes};
+    ghost use Rattle.pgn_tool.specs.Files.{added, entered};
+
+    /// Makes files in the folder with this path from now on. The folder is not made.
+    fn enter(&mut self, path: String)
+        ensures { Self.log self.new
+            ≡ added (Self.log self.old) (entered (string_bytes path) ∷ []) };
+}

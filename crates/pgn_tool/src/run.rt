@@ -1,0 +1,143 @@
+//! A run of the program, on whatever machine.
+ghost use Rattle.std.specs.Prelude.{◌≡◌, ◌≤◌, true};
+ghost use Rattle.pgn_tool.specs.Machine.{machine, reading};
+ghost use Rattle.pgn_tool.specs.Requests.{file_of, request_of};
+ghost use Rattle.pgn_tool.specs.Running.{device, is_for_stream, job_of};
+ghost use Rattle.pgn_tool.specs.Program.{Carries, EndsUnopened, Ran, RunsOpened, RunsStream, StartsFrom};
+
+use crate::arguments::{Task, parse};
+use crate::machine::{GameFolder, Input, Output, SystemFault};
+use crate::replies::{answer_fault, refuse_words, want_memory};
+use crate::split::split_to;
+use crate::stream::{refuse, run_stream};
+use pgn_game::{Fault, Reason, Sink};
+use std::alloc::Global;
+
+/// The fault of a file that cannot be opened.
+const UNREADABLE: Fault = Fault {
+    at: 0,
+    reason: Reason::ReadFault,
+};
+
+/// Carries out what the words ask for, and returns the exit status.
+///
+/// The first word is the program's name. First the words are parsed, then the file that they name
+/// is opened, then the task is carried out: on standard input where no file is named.
+///
+/// - 0: there was no fault, or help was shown.
+/// - 1: there was a fault, or standard output could not be written. A file that cannot be opened
+///   is a fault: `byte 0: input cannot be read`.
+/// - 2: the words cannot be read, or ask for no task.
+/// - 3: there was no memory.
+///
+/// `err` has the reason, unless the status is 0.
+pub fn run<I: Input, O: Output, F: GameFolder, E: Sink>(
+    alloc: Global,
+    words: Result<Vec<String>, SystemFault>,
+    input: &mut I,
+    out: &mut O,
+    files: &mut F,
+    err: &mut E,
+) -> u8
+    ensures status { result ≤ 3 }
+    ensures ran { Ran words (machine
+        (reading I.left I.failures I.holding I.refusal input.old input.new)
+        (device O.taken O.failures out.old out.new) (O.is_short out.new)
+        (F.log files.old) (F.log files.new)
+        (device E.taken E.failures err.old err.new)) result }
+{
+    match words {
+        Ok(words) => match parse(alloc, words.as_slice()) {
+            Ok(task) => run_task(task, input, out, files, err),
+            Err(fault) => answer_fault(&fault, out, err),
+        },
+        Err(SystemFault::Refused) => refuse_words(err),
+        Err(SystemFault::NoMemory) => want_memory(err),
+    }
+}
+
+// Opens the file of the task, and carries the task out.
+fn run_task<I: Input, O: Output, F: GameFolder, E: Sink>(
+    task: Task,
+    input: &mut I,
+    out: &mut O,
+    files: &mut F,
+    err: &mut E,
+) -> u8
+    ensures status { result ≤ 3 }
+    ensures carries { Carries task (machine
+        (reading I.left I.failures I.holding I.refusal input.old input.new)
+        (device O.taken O.failures out.old out.new) (O.is_short out.new)
+        (F.log files.old) (F.log files.new)
+        (device E.taken E.failures err.old err.new)) result }
+{
+    match open_file(&task, input) {
+        Ok(()) => run_opened(task, input, out, files, err),
+        Err(fault) => refuse_file(fault, err),
+    }
+}
+
+// Reports why the file is not opened.
+fn refuse_file<E: Sink>(fault: SystemFault, err: &mut E) -> u8
+    ensures status { result ≤ 3 }
+    ensures ends { EndsUnopened fault (device E.taken E.failures err.old err.new) result }
+{
+    match fault {
+        SystemFault::Refused => refuse(UNREADABLE, err),
+        SystemFault::NoMemory => want_memory(err),
+    }
+}
+
+// Opens the file of the task. Where it names none, standard input is read.
+fn open_file<I: Input>(task: &Task, input: &mut I) -> Result<(), SystemFault>
+    ensures { StartsFrom (file_of (request_of task.now)) (I.holding input.old)
+        (I.left input.old) (I.failures input.old) (I.left input.new) (I.failures input.new)
+        (I.refusal input.new) result }
+{
+    match task.file() {
+        Some(name) => input.open(name),
+        None => Ok(()),
+    }
+}
+
+// Carries out the task on what was opened: to files, or to standard output.
+fn run_opened<I: Input, O: Output, F: GameFolder, E: Sink>(
+    task: Task,
+    input: &mut I,
+    out: &mut O,
+    files: &mut F,
+    err: &mut E,
+) -> u8
+    ensures status { result ≤ 3 }
+    ensures opened { RunsOpened task (device I.left I.failures input.old input.new)
+        (device O.taken O.failures out.old out.new) (O.is_short out.new)
+        (F.log files.old) (F.log files.new)
+        (device E.taken E.failures err.old err.new) result }
+{
+    match task {
+        Task::Split { dir, .. } => {
+            files.enter(dir);
+            split_to(input, files, err)
+        }
+        other => run_buffered(&other, input, out, err),
+    }
+}
+
+// Carries out the task on standard output, by a buffer.
+fn run_buffered<I: Input, O: Output, E: Sink>(
+    task: &Task,
+    input: &mut I,
+    out: &mut O,
+    err: &mut E,
+) -> u8
+    requires { is_for_stream task.now ≡ true }
+    ensures status { result ≤ 3 }
+    ensures runs { RunsStream (job_of task.now) (device I.left I.failures input.old input.new)
+        (device O.taken O.failures out.old out.new) (O.is_short out.new)
+        (device E.taken E.failures err.old err.new) result }
+{
+    match out.reserve() {
+        Ok(()) => run_stream(task, input, out, err),
+        Err(_) => want_memory(err),
+    }
+}

@@ -1,0 +1,266 @@
+//! Runs of the program on a machine in memory.
+ghost use Rattle.std.specs.Prelude.{◌≡◌};
+
+use crate::files::{CreateFault, GameFiles};
+use crate::machine::{GameFolder, Input, Output, SystemFault};
+use crate::run::run;
+use pgn_game::{Inlet, Outlet, ReadFailed, Sink, Source, WriteFault};
+use std::alloc::{AllocError, Global};
+use std::test::Fail;
+
+const COUNTED: &[u8] = b"games: 2, plies: 0\n";
+
+const NOT_LEGAL: &[u8] = b"byte 14: move is not legal\n";
+
+const UNREAD: &[u8] = b"byte 0: input cannot be read\n";
+
+const UNWRITTEN: &[u8] = b"byte 0: output cannot be written\n";
+
+const SHORT: &[u8] = b"out of memory\n";
+
+/// Standard input, which has one game, and files by name.
+#[derive(Drop)]
+struct Desk {
+    inlet: Inlet<&'static [u8]>,
+    refusal: Option<SystemFault>,
+}
+
+impl Desk {
+    fn refuse(&mut self, fault: SystemFault) -> Result<(), SystemFault>
+        ensures refused { result ≡ Err fault }
+        ensures kept { self.new.refusal ≡ Some fault }
+    {
+        self.refusal = Some(fault);
+        Err(fault)
+    }
+
+    fn give(&mut self, text: &'static [u8]) -> Result<(), SystemFault>
+        ensures given { result ≡ Ok tt }
+        ensures fresh { self.new.inlet.failures ≡ 0 }
+    {
+        self.inlet = Inlet::new(text);
+        Ok(())
+    }
+}
+
+impl Source for Desk {
+    ghost use Rattle.std.specs.Prelude.{None};
+
+    ghost left = { λ _. None };
+
+    ghost failures = { λ s. s.inlet.failures };
+
+    fn read_some(&mut self, buffer: &mut [u8]) -> Result<usize, ReadFailed> {
+        self.inlet.read_some(buffer)
+    }
+}
+
+impl Input for Desk {
+    ghost use Rattle.std.specs.Prelude.{None};
+    ghost use Rattle.pgn_tool.specs.Machine.{holds};
+
+    ghost holding = { λ _ _. holds None };
+
+    ghost refusal = { λ s. s.refusal };
+
+    fn open(&mut self, name: &str) -> Result<(), SystemFault> {
+        match name {
+            "two.pgn" => self.give(b"* *"),
+            "bad.pgn" => self.give(b"* 1. e4 e5 2. Ke3 *"),
+            "short" => self.refuse(SystemFault::NoMemory),
+            _ => self.refuse(SystemFault::Refused),
+        }
+    }
+}
+
+/// Standard output in memory, with a buffer if there is memory for it.
+#[derive(Drop)]
+struct Screen {
+    outlet: Outlet<Vec<u8>>,
+    buffers: usize,
+    has_memory: bool,
+    is_short: bool,
+}
+
+impl Sink for Screen {
+    ghost use Rattle.std.specs.Prelude.{None};
+
+    ghost taken = { λ _. None };
+
+    ghost failures = { λ s. s.outlet.failures };
+
+    fn write_some(&mut self, bytes: &[u8]) -> Result<usize, WriteFault> {
+        self.outlet.write_some(bytes)
+    }
+
+    fn flush(&mut self) -> Result<(), WriteFault> {
+        self.outlet.flush()
+    }
+}
+
+impl Output for Screen {
+    ghost is_short = { λ s. s.is_short };
+
+    fn reserve(&mut self) -> Result<(), AllocError> {
+        self.buffers = self.buffers.saturating_add(1);
+        if self.has_memory {
+            return Ok(());
+        }
+        self.is_short = true;
+        Err(AllocError)
+    }
+}
+
+/// Folders, of which `games` is the one that is there.
+#[derive(Drop)]
+struct Drawers {
+    alloc: Global,
+    path: String,
+    files: usize,
+}
+
+impl GameFiles for Drawers {
+    ghost use Rattle.std.specs.Prelude.{None};
+
+    type Out = Outlet<Vec<u8>>;
+
+    ghost log = { λ _. None };
+
+    fn create(&mut self, _number: u64) -> Result<Outlet<Vec<u8>>, CreateFault> {
+        if self.path.as_str() != "games" {
+            return Err(CreateFault::Refused);
+        }
+        self.files = self.files.saturating_add(1);
+        Ok(Outlet::new(Vec::new(self.alloc)))
+    }
+
+    fn close(&mut self, _out: Outlet<Vec<u8>>) {}
+}
+
+impl GameFolder for Drawers {
+    fn enter(&mut self, path: String) {
+        self.path = path;
+    }
+}
+
+/// What a run left.
+#[derive(Drop)]
+struct Ran {
+    status: u8,
+    out: Vec<u8>,
+    buffers: usize,
+    files: usize,
+    err: Vec<u8>,
+}
+
+impl Ran {
+    fn is(&self, status: u8, out: &[u8], files: usize, err: &[u8]) -> bool {
+        self.status == status
+            && self.out.as_slice() == out
+            && self.files == files
+            && self.err.as_slice() == err
+    }
+}
+
+fn run_words(alloc: Global, words: Result<Vec<String>, SystemFault>, has_memory: bool) -> Ran {
+    let mut input = Desk {
+        inlet: Inlet::new(b"*"),
+        refusal: None,
+    };
+    let mut out = Screen {
+        outlet: Outlet::new(Vec::new(alloc)),
+        buffers: 0,
+        has_memory,
+        is_short: false,
+    };
+    let mut folders = Drawers {
+        alloc,
+        path: String::new(alloc),
+        files: 0,
+    };
+    let mut err = Outlet::new(Vec::new(alloc));
+    let status = run(alloc, words, &mut input, &mut out, &mut folders, &mut err);
+    Ran {
+        status,
+        out: out.outlet.into_inner(),
+        buffers: out.buffers,
+        files: folders.files,
+        err: err.into_inner(),
+    }
+}
+
+fn call(alloc: Global, words: &[&str], has_memory: bool) -> Result<Ran, AllocError> {
+    let mut owned = Vec::new(alloc);
+    for word in words {
+        owned.push(String::from_str(alloc, word)?)?;
+    }
+    Ok(run_words(alloc, Ok(owned), has_memory))
+}
+
+/// Words after the program's name, the status, standard output, how many files, standard error.
+type Row = (
+    &'static [&'static str],
+    u8,
+    &'static [u8],
+    usize,
+    &'static [u8],
+);
+
+#[test]
+fn reads_the_file_or_standard_input(rt: HostRuntime) -> Result<(), Fail> {
+    let rows: [Row; 13] = [
+        (&["p", "check"], 0, b"games: 1, plies: 0\n", 0, b""),
+        (&["p", "check", "two.pgn"], 0, COUNTED, 0, b""),
+        (&["p", "check", "bad.pgn"], 1, b"", 0, NOT_LEGAL),
+        (&["p", "check", "none.pgn"], 1, b"", 0, UNREAD),
+        (&["p", "list", "none.pgn"], 1, b"", 0, UNREAD),
+        (&["p", "export", "none.pgn"], 1, b"", 0, UNREAD),
+        (&["p", "export", "short"], 3, b"", 0, SHORT),
+        (&["p", "split", "games"], 0, b"", 1, b""),
+        (&["p", "split", "games", "two.pgn"], 0, b"", 2, b""),
+        (&["p", "split", "games", "none.pgn"], 1, b"", 0, UNREAD),
+        (&["p", "split", "games", "short"], 3, b"", 0, SHORT),
+        (&["p", "split", "other"], 1, b"", 0, UNWRITTEN),
+        (&["p", "--version"], 0, b"pgn_tool 0.1.0\n", 0, b""),
+    ];
+    for (words, status, out, files, err) in rows {
+        let ran = call(rt.alloc(), words, true)?;
+        assert!(rt; ran.is(status, out, files, err), "at {words:?}");
+        assert!(rt; ran.buffers <= 1, "at {words:?}");
+    }
+    Ok(())
+}
+
+// Only what is written to standard output by a task has a buffer.
+#[test]
+fn reports_want_of_memory_for_the_buffer(rt: HostRuntime) -> Result<(), Fail> {
+    let rows: [Row; 6] = [
+        (&["p", "export"], 3, b"", 0, SHORT),
+        (&["p", "check", "two.pgn"], 3, b"", 0, SHORT),
+        (&["p", "list", "bad.pgn"], 3, b"", 0, SHORT),
+        (&["p", "list", "none.pgn"], 1, b"", 0, UNREAD),
+        (&["p", "split", "games", "two.pgn"], 0, b"", 2, b""),
+        (&["p", "--version"], 0, b"pgn_tool 0.1.0\n", 0, b""),
+    ];
+    for (words, status, out, files, err) in rows {
+        let ran = call(rt.alloc(), words, false)?;
+        assert!(rt; ran.is(status, out, files, err), "at {words:?}");
+    }
+    Ok(())
+}
+
+#[test]
+fn refuses_words(rt: HostRuntime) -> Result<(), Fail> {
+    let ran = run_words(rt.alloc(), Err(SystemFault::Refused), true);
+    assert!(rt; ran.is(2, b"", 0, b"arguments cannot be read\n"));
+    let ran = run_words(rt.alloc(), Err(SystemFault::NoMemory), true);
+    assert!(rt; ran.is(3, b"", 0, SHORT));
+    let ran = call(rt.alloc(), &["p", "convert"], true)?;
+    assert!(rt; ran.status == 2 && ran.out.is_empty() && ran.buffers == 0);
+    assert!(rt;
+        ran.err
+            .as_slice()
+            .starts_with(b"error: unrecognized subcommand 'convert'")
+    );
+    Ok(())
+}
