@@ -1,0 +1,171 @@
+#!/usr/bin/env python3
+"""Tests of bin/pgn_tool with pipes, and with standard streams that are closed, full or broken."""
+import os
+import shutil
+import signal
+import subprocess
+import sys
+import tempfile
+import threading
+import unittest
+
+sys.path.insert(0, os.path.dirname(os.path.realpath(__file__)))
+from programs import need, need_program, not_tried, run
+
+HEAD = (b'[Event "?"]\n[Site "?"]\n[Date "????.??.??"]\n[Round "?"]\n[White "?"]\n[Black "?"]\n'
+        b'[Result "*"]\n\n')
+UNKNOWN = HEAD + b"*\n\n"
+TWO = b"1. e4 e5 2. Nf3 * *\n"
+UNREAD = b"byte 0: input cannot be read\n"
+UNWRITTEN = b"output cannot be written\n"
+# What each task writes for TWO.
+WRITTEN = {
+    "export": HEAD + b"1. e4 e5 2. Nf3 *\n\n" + UNKNOWN,
+    "check": b"games: 2, plies: 3\n",
+    "list": b"1\t?\t?\t*\t3\trnbqkbnr/pppp1ppp/8/4p3/4P3/5N2/PPPP1PPP/RNBQKB1R b KQkq - 1 2\n"
+            b"2\t?\t?\t*\t0\trnbqkbnr/pppppppp/8/8/8/8/PPPPPPPP/RNBQKBNR w KQkq - 0 1\n",
+}
+
+
+class StreamTest(unittest.TestCase):
+    def setUp(self):
+        self.program = need_program()
+        self.folder = tempfile.mkdtemp()
+        self.addCleanup(shutil.rmtree, self.folder, True)
+
+    def write(self, name, text):
+        path = os.path.join(self.folder, name)
+        with open(path, "wb") as file:
+            file.write(text)
+        return path
+
+    def closing(self, stream, *words, **more):
+        """Calls the program with a standard stream closed, as a shell closes it."""
+        return run(["sh", "-c", 'exec "$@" %s' % stream, "sh", self.program, *words], **more)
+
+    def check(self, ran, status, out, err):
+        self.assertEqual((ran.returncode, ran.stdout, ran.stderr), (status, out, err))
+
+    def test_pipe_that_gives_a_byte_at_a_time(self):
+        for task, text in WRITTEN.items():
+            with subprocess.Popen([self.program, task], stdin=subprocess.PIPE,
+                                  stdout=subprocess.PIPE, bufsize=0) as process:
+                for at in range(len(TWO)):
+                    process.stdin.write(TWO[at:at + 1])
+                process.stdin.close()
+                self.assertEqual((process.stdout.read(), process.wait()), (text, 0))
+
+    def test_named_pipe_as_file(self):
+        path = os.path.join(self.folder, "pipe")
+        os.mkfifo(path)
+        for task, text in WRITTEN.items():
+            writer = threading.Thread(target=self.write, args=("pipe", TWO))
+            writer.start()
+            ran = run([self.program, task, path], input=b"* * *")
+            writer.join()
+            self.check(ran, 0, text, b"")
+
+    def test_file_named_as_a_hyphen(self):
+        self.write("-", TWO)
+        self.check(run([self.program, "check", "-"], input=b"*", cwd=self.folder), 0,
+                   WRITTEN["check"], b"")
+
+    def test_file_that_may_not_be_read(self):
+        path = self.write("hidden.pgn", TWO)
+        os.chmod(path, 0)
+        os.chmod(self.folder, 0o755)
+        words = [self.program]
+        if os.geteuid() == 0:
+            need("setpriv")
+            words = ["setpriv", "--reuid=65534", "--clear-groups"] + words
+            if run(words[:3] + ["test", "-x", self.program]).returncode != 0:
+                not_tried("another user cannot run the program")
+        for task in WRITTEN:
+            self.check(run(words + [task, path], input=TWO), 1, b"", UNREAD)
+
+    def test_broken_link_as_file(self):
+        path = os.path.join(self.folder, "link")
+        os.symlink("nowhere", path)
+        for task in WRITTEN:
+            self.check(run([self.program, task, path], input=TWO), 1, b"", UNREAD)
+
+    def test_closed_standard_input_with_a_file(self):
+        path = self.write("two.pgn", TWO)
+        for task, text in WRITTEN.items():
+            self.check(self.closing("<&-", task, path), 0, text, b"")
+
+    def test_closed_standard_output(self):
+        path = self.write("two.pgn", TWO)
+        for words in (["--help"], ["--version"], *[[it] for it in WRITTEN],
+                      *[[it, path] for it in WRITTEN]):
+            self.check(self.closing(">&-", *words, input=TWO), 1, b"", UNWRITTEN)
+        # nothing is written for an input without games
+        for task in ("export", "list"):
+            self.check(self.closing(">&-", task, input=b""), 0, b"", b"")
+        # a fault comes before what could not be written
+        self.check(self.closing(">&-", "export", input=b"* 1-0"), 1, b"",
+                   b"byte 2: result differs from the Result tag\n")
+
+    def test_closed_standard_error(self):
+        path = self.write("bad.pgn", b"* 1. e4")
+        for words, status in ((["export"], 1), (["check"], 1), (["list"], 1), (["convert"], 2),
+                              (["check", self.folder + "/missing"], 1)):
+            for stream in ("2>&-", "2>/dev/full"):
+                ran = self.closing(stream, *words, input=b"1-0")
+                self.check(ran, status, b"", b"")
+        # The fault is not written to a file that has the number of the closed stream.
+        games = os.path.join(self.folder, "games")
+        os.mkdir(games)
+        self.check(self.closing("2>&-", "split", games, path), 1, b"", b"")
+        for name, text in (("000001.pgn", UNKNOWN), ("000002.pgn", HEAD)):
+            with open(os.path.join(games, name), "rb") as file:
+                self.assertEqual(file.read(), text)
+
+    def test_reader_that_stops_early(self):
+        text = b"*\n" * 20000
+        for before in (signal.SIG_DFL, signal.SIG_IGN):
+            with subprocess.Popen([self.program, "export"], stdin=subprocess.PIPE,
+                                  stdout=subprocess.PIPE, stderr=subprocess.PIPE,
+                                  restore_signals=False,
+                                  preexec_fn=lambda it=before: signal.signal(signal.SIGPIPE, it)
+                                  ) as process:
+                process.stdout.close()
+                _, err = process.communicate(text, timeout=100)
+            if process.returncode == -signal.SIGPIPE:
+                self.assertEqual(err, b"")
+            else:
+                self.assertEqual(process.returncode, 1)
+                self.assertRegex(err, rb"^byte \d+: output cannot be written\n$")
+
+    def test_full_standard_output_before_the_end(self):
+        if not os.path.exists("/dev/full"):
+            not_tried("/dev/full is missing")
+        text = b"*\n" * 20000
+        with open("/dev/full", "wb") as full:
+            ran = run([self.program, "export"], input=text, stdout=full)
+        self.assertEqual(ran.returncode, 1)
+        place = int(ran.stderr.split(b":")[0].split()[1])
+        self.assertEqual(ran.stderr, b"byte %d: output cannot be written\n" % place)
+        # the buffer holds more than this many games, and less than all
+        self.assertTrue(100 < place < len(text) and place % 2 == 0, place)
+
+    def test_full_file_system(self):
+        need("unshare", "mount")
+        script = ('mount -t tmpfs -o size=16k none "$2" || exit 77; "$1" split "$2"; '
+                  'echo "status $?"; cat "$2/000001.pgn"')
+        text = b"* 1. e4 {" + b"word " * 20000 + b"} *"
+        ran = run(["unshare", "-rm", "sh", "-c", script, "sh", self.program, self.folder],
+                  input=text)
+        if ran.returncode == 77 or b"unshare" in ran.stderr:
+            not_tried("no file system can be mounted here")
+        self.assertEqual(ran.stdout, b"status 1\n" + UNKNOWN)
+        self.assertRegex(ran.stderr, rb"^byte \d+: output cannot be written\n$")
+
+    def test_words_that_are_not_utf8(self):
+        for words in ((b"check", b"a\xff.pgn"), (b"split", b"\xff"), (b"\xff",)):
+            self.check(run([self.program.encode(), *words], input=TWO), 2, b"",
+                       b"arguments cannot be read\n")
+
+
+if __name__ == "__main__":
+    unittest.main()
