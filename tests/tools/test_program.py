@@ -227,7 +227,8 @@ class CallTest(unittest.TestCase):
                          b"games: 2, plies: 0\n")
 
     def test_help(self):
-        for script in ("pgn_where", "pgn_sieve", "pgn_fmt", "install", "test_tools"):
+        for script in ("pgn_where", "pgn_sieve", "pgn_fmt", "install", "test_tools",
+                       "try_allocations"):
             ran = run(["bin/" + script, "--help"])
             self.assertEqual((ran.returncode, ran.stderr), (0, b""), script)
             for word in (b"xample", b"tatus") if script != "test_tools" else (b"tatus",):

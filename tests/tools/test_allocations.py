@@ -1,0 +1,80 @@
+#!/usr/bin/env python3
+"""Tests of bin/try_allocations: on the program, and on one that gives wrong answers."""
+import contextlib
+import importlib.machinery
+import importlib.util
+import io
+import os
+import shutil
+import subprocess
+import sys
+import tempfile
+import unittest
+
+sys.path.insert(0, os.path.dirname(os.path.realpath(__file__)))
+from programs import ROOT, need, need_program, run
+
+# Without memory for its second block it forgets its line; without the first it says so.
+FORGETFUL = """
+#include <stdio.h>
+#include <stdlib.h>
+int main(void) {
+  char *first = malloc(100), *second;
+  if (!first) return fputs("out of memory\\n", stderr), 3;
+  second = realloc(first, 200);
+  if (second) fputs("line\\n", stdout);
+  return 0;
+}
+"""
+
+
+class AllocationsTest(unittest.TestCase):
+    def setUp(self):
+        need("cc")
+        self.folder = tempfile.mkdtemp()
+        self.addCleanup(shutil.rmtree, self.folder, True)
+
+    def test_program(self):
+        need_program()
+        ran = run(["bin/try_allocations"])
+        self.assertEqual((ran.returncode, ran.stderr), (0, b""), ran.stdout)
+        lines = ran.stdout.decode().splitlines()
+        self.assertEqual(len(lines), 14)
+        for line in lines:
+            self.assertRegex(line, r"^.*: \d+ refusals, [1-9]\d* reported, 0 wrong$")
+
+    def test_one_call(self):
+        need_program()
+        ran = run(["bin/try_allocations", "check"], input=b"* *")
+        self.assertEqual(ran.returncode, 0, ran.stdout)
+        self.assertRegex(ran.stdout, rb"^check: \d+ refusals, \d+ reported, 0 wrong\n$")
+
+    def test_wrong_answer_is_noticed(self):
+        source, program = self.folder + "/a.c", self.folder + "/a"
+        with open(source, "w", encoding="ascii") as file:
+            file.write(FORGETFUL)
+        subprocess.run(["cc", "-O0", "-o", program, source], check=True)
+        loader = importlib.machinery.SourceFileLoader("try_allocations",
+                                                      ROOT + "/bin/try_allocations")
+        module = importlib.util.module_from_spec(
+            importlib.util.spec_from_loader("try_allocations", loader))
+        loader.exec_module(module)
+        module.BUILT = program
+        text = io.StringIO()
+        with contextlib.redirect_stdout(text):
+            call = module.Call(module.build(self.folder), self.folder, ["a"], b"")
+            # one by itself, and one with all that come after it
+            self.assertEqual(module.try_call(call), 2)
+        for more in ("", " and all after it"):
+            self.assertIn("a: wrong with allocation 2 refused%s: (0, b'', b''), files []" % more,
+                          text.getvalue())
+
+    def test_no_compiler(self):
+        need_program()
+        ran = run(["bin/try_allocations"], env=dict(os.environ, CC="/missing/cc"))
+        self.assertEqual((ran.returncode, ran.stdout), (2, b""))
+        self.assertIn(b"no C compiler", ran.stderr)
+
+
+if __name__ == "__main__":
+    unittest.main()
