@@ -3,6 +3,8 @@
 #![tactic(auto)]
 
 mod arguments;
+#[cfg(test)]
+mod devices;
 mod files;
 mod folder;
 mod game_sink;

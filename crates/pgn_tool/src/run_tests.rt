@@ -1,6 +1,7 @@
 //! Runs of the program on a machine in memory.
 ghost use Rattle.std.specs.Prelude.{◌≡◌};
 
+use crate::devices::{Page, Reader, memory, whole};
 use crate::files::{CreateFault, GameFiles};
 use crate::machine::{GameFolder, Input, Output, SystemFault};
 use crate::run::run;
@@ -21,7 +22,7 @@ const SHORT: &[u8] = b"out of memory\n";
 /// Standard input, which has one game, and files by name.
 #[derive(Drop)]
 struct Desk {
-    inlet: Inlet<&'static [u8]>,
+    inlet: Inlet<Reader>,
     refusal: Option<SystemFault>,
 }
 
@@ -38,7 +39,7 @@ impl Desk {
         ensures given { result ≡ Ok tt }
         ensures fresh { self.new.inlet.failures ≡ 0 }
     {
-        self.inlet = Inlet::new(text);
+        self.inlet = Inlet::new(whole(text));
         Ok(())
     }
 }
@@ -76,7 +77,7 @@ impl Input for Desk {
 /// Standard output in memory, with a buffer if there is memory for it.
 #[derive(Drop)]
 struct Screen {
-    outlet: Outlet<Vec<u8>>,
+    outlet: Outlet<Page>,
     buffers: usize,
     has_memory: bool,
     is_short: bool,
@@ -122,19 +123,19 @@ struct Drawers {
 impl GameFiles for Drawers {
     ghost use Rattle.std.specs.Prelude.{None};
 
-    type Out = Outlet<Vec<u8>>;
+    type Out = Outlet<Page>;
 
     ghost log = { λ _. None };
 
-    fn create(&mut self, _number: u64) -> Result<Outlet<Vec<u8>>, CreateFault> {
+    fn create(&mut self, _number: u64) -> Result<Outlet<Page>, CreateFault> {
         if self.path.as_str() != "games" {
             return Err(CreateFault::Refused);
         }
         self.files = self.files.saturating_add(1);
-        Ok(Outlet::new(Vec::new(self.alloc)))
+        Ok(Outlet::new(memory(self.alloc)))
     }
 
-    fn close(&mut self, _out: Outlet<Vec<u8>>) {}
+    fn close(&mut self, _out: Outlet<Page>) {}
 }
 
 impl GameFolder for Drawers {
@@ -147,28 +148,28 @@ impl GameFolder for Drawers {
 #[derive(Drop)]
 struct Ran {
     status: u8,
-    out: Vec<u8>,
+    out: Page,
     buffers: usize,
     files: usize,
-    err: Vec<u8>,
+    err: Page,
 }
 
 impl Ran {
     fn is(&self, status: u8, out: &[u8], files: usize, err: &[u8]) -> bool {
         self.status == status
-            && self.out.as_slice() == out
+            && self.out.taken.as_slice() == out
             && self.files == files
-            && self.err.as_slice() == err
+            && self.err.taken.as_slice() == err
     }
 }
 
 fn run_words(alloc: Global, words: Result<Vec<String>, SystemFault>, has_memory: bool) -> Ran {
     let mut input = Desk {
-        inlet: Inlet::new(b"*"),
+        inlet: Inlet::new(whole(b"*")),
         refusal: None,
     };
     let mut out = Screen {
-        outlet: Outlet::new(Vec::new(alloc)),
+        outlet: Outlet::new(memory(alloc)),
         buffers: 0,
         has_memory,
         is_short: false,
@@ -178,7 +179,7 @@ fn run_words(alloc: Global, words: Result<Vec<String>, SystemFault>, has_memory:
         path: String::new(alloc),
         files: 0,
     };
-    let mut err = Outlet::new(Vec::new(alloc));
+    let mut err = Outlet::new(memory(alloc));
     let status = run(alloc, words, &mut input, &mut out, &mut folders, &mut err);
     Ran {
         status,
@@ -206,61 +207,53 @@ type Row = (
     &'static [u8],
 );
 
+/// With memory for the buffer.
+const ROWS: &[Row] = &[
+    (&["p", "check"], 0, b"games: 1, plies: 0\n", 0, b""),
+    (&["p", "check", "two.pgn"], 0, COUNTED, 0, b""),
+    (&["p", "check", "bad.pgn"], 1, b"", 0, NOT_LEGAL),
+    (&["p", "check", "none.pgn"], 1, b"", 0, UNREAD),
+    (&["p", "list", "none.pgn"], 1, b"", 0, UNREAD),
+    (&["p", "export", "none.pgn"], 1, b"", 0, UNREAD),
+    (&["p", "export", "short"], 3, b"", 0, SHORT),
+    (&["p", "split", "games"], 0, b"", 1, b""),
+    (&["p", "split", "games", "two.pgn"], 0, b"", 2, b""),
+    (&["p", "split", "games", "none.pgn"], 1, b"", 0, UNREAD),
+    (&["p", "split", "games", "short"], 3, b"", 0, SHORT),
+    (&["p", "split", "other"], 1, b"", 0, UNWRITTEN),
+    (&["p", "--version"], 0, b"pgn_tool 0.1.0\n", 0, b""),
+];
+
+/// Without memory for the buffer, which only standard output has, where a task writes to it.
+const SHORTS: &[Row] = &[
+    (&["p", "export"], 3, b"", 0, SHORT),
+    (&["p", "check", "two.pgn"], 3, b"", 0, SHORT),
+    (&["p", "list", "bad.pgn"], 3, b"", 0, SHORT),
+    (&["p", "list", "none.pgn"], 1, b"", 0, UNREAD),
+    (&["p", "split", "games", "two.pgn"], 0, b"", 2, b""),
+    (&["p", "--version"], 0, b"pgn_tool 0.1.0\n", 0, b""),
+];
+
 #[test]
 fn reads_the_file_or_standard_input(rt: HostRuntime) -> Result<(), Fail> {
-    let rows: [Row; 13] = [
-        (&["p", "check"], 0, b"games: 1, plies: 0\n", 0, b""),
-        (&["p", "check", "two.pgn"], 0, COUNTED, 0, b""),
-        (&["p", "check", "bad.pgn"], 1, b"", 0, NOT_LEGAL),
-        (&["p", "check", "none.pgn"], 1, b"", 0, UNREAD),
-        (&["p", "list", "none.pgn"], 1, b"", 0, UNREAD),
-        (&["p", "export", "none.pgn"], 1, b"", 0, UNREAD),
-        (&["p", "export", "short"], 3, b"", 0, SHORT),
-        (&["p", "split", "games"], 0, b"", 1, b""),
-        (&["p", "split", "games", "two.pgn"], 0, b"", 2, b""),
-        (&["p", "split", "games", "none.pgn"], 1, b"", 0, UNREAD),
-        (&["p", "split", "games", "short"], 3, b"", 0, SHORT),
-        (&["p", "split", "other"], 1, b"", 0, UNWRITTEN),
-        (&["p", "--version"], 0, b"pgn_tool 0.1.0\n", 0, b""),
-    ];
-    for (words, status, out, files, err) in rows {
-        let ran = call(rt.alloc(), words, true)?;
-        assert!(rt; ran.is(status, out, files, err), "at {words:?}");
-        assert!(rt; ran.buffers <= 1, "at {words:?}");
-    }
-    Ok(())
-}
-
-// Only what is written to standard output by a task has a buffer.
-#[test]
-fn reports_want_of_memory_for_the_buffer(rt: HostRuntime) -> Result<(), Fail> {
-    let rows: [Row; 6] = [
-        (&["p", "export"], 3, b"", 0, SHORT),
-        (&["p", "check", "two.pgn"], 3, b"", 0, SHORT),
-        (&["p", "list", "bad.pgn"], 3, b"", 0, SHORT),
-        (&["p", "list", "none.pgn"], 1, b"", 0, UNREAD),
-        (&["p", "split", "games", "two.pgn"], 0, b"", 2, b""),
-        (&["p", "--version"], 0, b"pgn_tool 0.1.0\n", 0, b""),
-    ];
-    for (words, status, out, files, err) in rows {
-        let ran = call(rt.alloc(), words, false)?;
-        assert!(rt; ran.is(status, out, files, err), "at {words:?}");
+    for (rows, has_memory) in [(ROWS, true), (SHORTS, false)] {
+        for &(words, status, out, files, err) in rows {
+            let ran = call(rt.alloc(), words, has_memory)?;
+            let is_right = ran.is(status, out, files, err) && ran.buffers <= 1;
+            assert!(rt; is_right, "at {words:?}, with memory: {has_memory}");
+        }
     }
     Ok(())
 }
 
 #[test]
 fn refuses_words(rt: HostRuntime) -> Result<(), Fail> {
-    let ran = run_words(rt.alloc(), Err(SystemFault::Refused), true);
-    assert!(rt; ran.is(2, b"", 0, b"arguments cannot be read\n"));
-    let ran = run_words(rt.alloc(), Err(SystemFault::NoMemory), true);
-    assert!(rt; ran.is(3, b"", 0, SHORT));
-    let ran = call(rt.alloc(), &["p", "convert"], true)?;
-    assert!(rt; ran.status == 2 && ran.out.is_empty() && ran.buffers == 0);
-    assert!(rt;
-        ran.err
-            .as_slice()
-            .starts_with(b"error: unrecognized subcommand 'convert'")
-    );
+    let unread = run_words(rt.alloc(), Err(SystemFault::Refused), true);
+    let short = run_words(rt.alloc(), Err(SystemFault::NoMemory), true);
+    let other = call(rt.alloc(), &["p", "convert"], true)?;
+    assert!(rt; unread.is(2, b"", 0, b"arguments cannot be read\n") && short.is(3, b"", 0, SHORT));
+    let told = other.err.taken.as_slice();
+    assert!(rt; told.starts_with(b"error: unrecognized subcommand 'convert'"));
+    assert!(rt; other.is(2, b"", 0, told) && other.buffers == 0);
     Ok(())
 }

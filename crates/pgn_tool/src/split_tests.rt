@@ -1,10 +1,11 @@
 //! Splits into files in memory, with devices that fail.
+use crate::devices::{Page, Reader, Trouble, memory, whole};
 use crate::files::{CreateFault, GameFiles};
 use crate::folder::file_name;
 use crate::split::split_to;
 use pgn_game::{Inlet, Outlet};
 use std::alloc::Global;
-use std::io::{self, ErrorKind, Read, Write};
+use std::io::ErrorKind;
 use std::test::Fail;
 
 const UNKNOWN: &[u8] =
@@ -20,44 +21,8 @@ const MOVES: &[u8] =
 /// Three games. Their first movetext tokens stand at 0, 10 and 12, their markers at 8, 10 and 20.
 const THREE: &[u8] = b"1.e4 e5 * * 1.e4 e5 *";
 
-/// What a write does that does not take all its bytes.
-#[derive(Clone, Copy, Debug, PartialEq, Eq)]
-enum Trouble {
-    Broken,
-    Interrupted,
-    TakesNone,
-}
-
-/// A file in memory. One of the writes to all files fails.
-#[derive(Drop)]
-struct Page {
-    number: u64,
-    taken: Vec<u8>,
-    calls: usize,
-    fails_at: usize,
-    trouble: Trouble,
-    most: usize,
-}
-
-impl Write for Page {
-    fn write(&mut self, bytes: &[u8]) -> io::Result<usize> {
-        let call = self.calls;
-        self.calls = call.saturating_add(1);
-        if call == self.fails_at {
-            return match self.trouble {
-                Trouble::Broken => Err(io::Error::from(ErrorKind::BrokenPipe)),
-                Trouble::Interrupted => Err(io::Error::from(ErrorKind::Interrupted)),
-                Trouble::TakesNone => Ok(0),
-            };
-        }
-        let count = bytes.len().min(self.most);
-        self.taken.write(&bytes[..count])
-    }
-
-    fn flush(&mut self) -> io::Result<()> {
-        Err(io::Error::from(ErrorKind::BrokenPipe))
-    }
-}
+/// The files of `THREE`.
+const FULL: &[&[u8]] = &[MOVES, UNKNOWN, MOVES];
 
 /// Files in memory. One of the calls that make a file fails.
 #[derive(Drop)]
@@ -97,6 +62,8 @@ impl GameFiles for Shelf {
             fails_at: self.fails_at,
             trouble: self.trouble,
             most: self.most,
+            flushes: 0,
+            flush_fails: true,
         }))
     }
 
@@ -139,56 +106,21 @@ impl Shelf {
     }
 }
 
-/// A reader of a text in pieces of so many bytes, which fails at one of its calls.
-#[derive(Drop)]
-struct Reader {
-    text: &'static [u8],
-    calls: usize,
-    fails_at: usize,
-    error: ErrorKind,
-    most: usize,
-}
-
-impl Read for Reader {
-    fn read(&mut self, buffer: &mut [u8]) -> io::Result<usize> {
-        let call = self.calls;
-        self.calls = call.saturating_add(1);
-        if call == self.fails_at {
-            return Err(io::Error::from(self.error));
-        }
-        let count = self.text.len().min(buffer.len()).min(self.most);
-        let (front, rest) = self.text.split_at(count);
-        buffer[..count].copy_from_slice(front);
-        self.text = rest;
-        Ok(count)
-    }
-}
-
-fn whole(text: &'static [u8]) -> Reader {
-    Reader {
-        text,
-        calls: 0,
-        fails_at: usize::MAX,
-        error: ErrorKind::BrokenPipe,
-        most: usize::MAX,
-    }
-}
-
 /// What a split left: its status and what standard error has.
 #[derive(Drop)]
 struct Ran {
     status: u8,
-    err: Vec<u8>,
+    err: Page,
 }
 
 impl Ran {
     fn is(&self, status: u8, err: &[u8]) -> bool {
-        self.status == status && self.err.as_slice() == err
+        self.status == status && self.err.taken.as_slice() == err
     }
 }
 
 fn run(reader: Reader, shelf: &mut Shelf) -> Ran {
-    let mut err = Outlet::new(Vec::new(shelf.alloc));
+    let mut err = Outlet::new(memory(shelf.alloc));
     let status = split_to(&mut Inlet::new(reader), shelf, &mut err);
     Ran {
         status,
@@ -196,31 +128,34 @@ fn run(reader: Reader, shelf: &mut Shelf) -> Ran {
     }
 }
 
+/// A text, and what a split of it leaves: the status, the files, standard error.
+type Row = (&'static [u8], u8, &'static [&'static [u8]], &'static [u8]);
+
+const ROWS: &[Row] = &[
+    (b"", 0, &[], b""),
+    (b"{no game} ", 0, &[], b""),
+    (b"* *", 0, &[UNKNOWN, UNKNOWN], b""),
+    (
+        b"* 1. e4",
+        1,
+        &[UNKNOWN, HEAD],
+        b"byte 7: unexpected end of input\n",
+    ),
+    (
+        b"* 1-0",
+        1,
+        &[UNKNOWN],
+        b"byte 2: result differs from the Result tag\n",
+    ),
+    (THREE, 0, FULL, b""),
+];
+
 #[test]
 fn splits(rt: HostRuntime) {
-    let rows: [(&'static [u8], u8, &[&[u8]], &[u8]); 6] = [
-        (b"", 0, &[], b""),
-        (b"{no game} ", 0, &[], b""),
-        (b"* *", 0, &[UNKNOWN, UNKNOWN], b""),
-        (
-            b"* 1. e4",
-            1,
-            &[UNKNOWN, HEAD],
-            b"byte 7: unexpected end of input\n",
-        ),
-        (
-            b"* 1-0",
-            1,
-            &[UNKNOWN],
-            b"byte 2: result differs from the Result tag\n",
-        ),
-        (THREE, 0, &[MOVES, UNKNOWN, MOVES], b""),
-    ];
-    for (text, status, files, err) in rows {
+    for &(text, status, files, err) in ROWS {
         let mut made = empty_shelf(rt.alloc());
         let ran = run(whole(text), &mut made);
-        assert!(rt; ran.is(status, err), "at {text:?}");
-        assert!(rt; made.has(files), "at {text:?}");
+        assert!(rt; ran.is(status, err) && made.has(files), "at {text:?}");
     }
 }
 
@@ -233,32 +168,33 @@ fn makes_no_file_without_a_game(rt: HostRuntime) {
     assert!(rt; ran.is(0, b"") && made.has(&[]) && made.creates == 0);
 }
 
+// The fault of a file that is refused, by how many files were made before it.
+fn unmade(files: usize) -> &'static [u8] {
+    match files {
+        0 => b"byte 0: output cannot be written\n",
+        1 => b"byte 10: output cannot be written\n",
+        _ => b"byte 12: output cannot be written\n",
+    }
+}
+
+// Nothing is tried again.
 #[test]
 fn reports_each_file_that_is_not_made(rt: HostRuntime) {
-    let full: [&[u8]; 3] = [MOVES, UNKNOWN, MOVES];
-    let lines: [&[u8]; 3] = [
-        b"byte 0: output cannot be written\n",
-        b"byte 10: output cannot be written\n",
-        b"byte 12: output cannot be written\n",
-    ];
     for refused_at in 0..4usize {
         for refusal in [CreateFault::Refused, CreateFault::NoMemory] {
             let mut made = empty_shelf(rt.alloc());
             made.refused_at = refused_at;
             made.refusal = refusal;
             let ran = run(whole(THREE), &mut made);
-            if refused_at == 3 {
-                assert!(rt; ran.is(0, b"") && made.has(&full));
-                continue;
-            }
-            if refusal == CreateFault::NoMemory {
-                assert!(rt; ran.is(3, b"out of memory\n"), "at {refused_at}");
-            } else {
-                assert!(rt; ran.is(1, lines[refused_at]), "at {refused_at}");
-            }
-            assert!(rt; made.has(&full[..refused_at]), "at {refused_at}");
-            // Nothing is tried again.
-            assert!(rt; made.creates == refused_at.saturating_add(1));
+            let is_told = match refusal {
+                _ if refused_at == 3 => ran.is(0, b""),
+                CreateFault::NoMemory => ran.is(3, b"out of memory\n"),
+                CreateFault::Refused => ran.is(1, unmade(refused_at)),
+            };
+            let is_right = is_told
+                && made.has(front(FULL, refused_at))
+                && made.creates == refused_at.saturating_add(1).min(3);
+            assert!(rt; is_right, "{refusal:?} at {refused_at}");
         }
     }
 }
@@ -267,17 +203,31 @@ fn reports_each_file_that_is_not_made(rt: HostRuntime) {
 // marker.
 fn place(files: usize, taken: usize) -> &'static [u8] {
     match (files, taken < HEAD.len()) {
-        (1, true) => b"byte 0: output cannot be written\n",
-        (1, false) => b"byte 8: output cannot be written\n",
-        (2, _) => b"byte 10: output cannot be written\n",
+        (0, true) => b"byte 0: output cannot be written\n",
+        (0, false) => b"byte 8: output cannot be written\n",
+        (1, _) => b"byte 10: output cannot be written\n",
         (_, true) => b"byte 12: output cannot be written\n",
         (_, false) => b"byte 20: output cannot be written\n",
     }
 }
 
+// Whether the split stopped at this write: the files before it are whole, and its own has a front
+// of its text. Nothing is tried again.
+fn stopped_at(ran: &Ran, made: &mut Shelf, fails_at: usize) -> bool {
+    let earlier = made.pages.len().saturating_sub(1);
+    let (Some(last), Some(text)) = (made.pages.pop(), FULL.get(earlier)) else {
+        return false;
+    };
+    let taken = last.taken.as_slice();
+    ran.is(1, place(earlier, taken.len()))
+        && made.has(front(FULL, earlier))
+        && text.starts_with(taken)
+        && taken.len() < text.len()
+        && last.calls == fails_at.saturating_add(1)
+}
+
 #[test]
 fn reports_each_write_that_fails(rt: HostRuntime) {
-    let full: [&[u8]; 3] = [MOVES, UNKNOWN, MOVES];
     for trouble in [Trouble::Broken, Trouble::Interrupted, Trouble::TakesNone] {
         let mut failed = 0usize;
         for fails_at in 0..1000usize {
@@ -286,24 +236,12 @@ fn reports_each_write_that_fails(rt: HostRuntime) {
             made.trouble = trouble;
             let ran = run(whole(THREE), &mut made);
             if made.writes <= fails_at {
-                assert!(rt; ran.is(0, b"") && made.has(&full));
+                assert!(rt; ran.is(0, b"") && made.has(FULL));
                 break;
             }
             failed = failed.saturating_add(1);
-            let files = made.pages.len();
-            let earlier = files.saturating_sub(1);
-            let Some(last) = made.pages.pop() else {
-                panic!(rt; "no file at write {fails_at}");
-            };
-            let Some(text) = full.get(earlier) else {
-                panic!(rt; "a fourth file at write {fails_at}");
-            };
-            let taken = last.taken.as_slice();
-            assert!(rt; ran.is(1, place(files, taken.len())), "at write {fails_at}");
-            assert!(rt; made.has(front(&full, earlier)), "at write {fails_at}");
-            assert!(rt; text.starts_with(taken), "at write {fails_at}");
-            assert!(rt; taken.len() < text.len(), "at write {fails_at}");
-            assert!(rt; last.calls == fails_at.saturating_add(1));
+            let is_right = stopped_at(&ran, &mut made, fails_at);
+            assert!(rt; is_right, "{trouble:?} at write {fails_at}");
         }
         assert!(rt; failed > 20);
     }
@@ -314,7 +252,7 @@ fn writes_a_byte_at_a_time(rt: HostRuntime) {
     let mut made = empty_shelf(rt.alloc());
     made.most = 1;
     let ran = run(whole(THREE), &mut made);
-    assert!(rt; ran.is(0, b"") && made.has(&[MOVES, UNKNOWN, MOVES]));
+    assert!(rt; ran.is(0, b"") && made.has(FULL));
 }
 
 // The first texts.
@@ -335,50 +273,54 @@ fn whole_games(bytes: usize) -> usize {
 
 // Read a byte at a time: the marker at byte 8 is read before byte 9, that at 10 before 11, and
 // the tag section at 12 when the number before the period has ended.
+fn reports_read(alloc: Global, error: ErrorKind, fails_at: usize) -> bool {
+    let failing = Reader {
+        text: THREE,
+        calls: 0,
+        fails_at,
+        error,
+        most: 1,
+    };
+    let mut made = empty_shelf(alloc);
+    let ran = run(failing, &mut made);
+    if fails_at == 22 {
+        return ran.is(0, b"") && made.has(FULL);
+    }
+    let is_torn = !matches!(fails_at, 2..9 | 14..21)
+        || made
+            .pages
+            .pop()
+            .is_some_and(|page| page.taken.as_slice() == HEAD);
+    is_torn
+        && made.has(front(FULL, whole_games(fails_at)))
+        && format!(in alloc; "byte {fails_at}: input cannot be read\n").is_ok_and(|line| ran.is(
+            1,
+            line.as_bytes(),
+        ))
+}
+
 #[test]
 fn reports_each_read_that_fails(rt: HostRuntime) {
-    let full: [&[u8]; 3] = [MOVES, UNKNOWN, MOVES];
     for error in [ErrorKind::BrokenPipe, ErrorKind::Interrupted] {
         for fails_at in 0..23usize {
-            let mut made = empty_shelf(rt.alloc());
-            let failing = Reader {
-                text: THREE,
-                calls: 0,
-                fails_at,
-                error,
-                most: 1,
-            };
-            let ran = run(failing, &mut made);
-            if fails_at == 22 {
-                assert!(rt; ran.is(0, b"") && made.has(&[MOVES, UNKNOWN, MOVES]));
-                continue;
-            }
-            let line = format!(in rt.alloc(); "byte {fails_at}: input cannot be read\n");
-            let is_told = line.is_ok_and(|text| ran.is(1, text.as_bytes()));
-            assert!(rt; is_told, "at read {fails_at}");
-            if (2..9).contains(&fails_at) || (14..21).contains(&fails_at) {
-                let torn = made.pages.pop();
-                assert!(rt; torn.is_some_and(|page| page.taken.as_slice() == HEAD));
-            }
-            assert!(rt;
-                made.has(front(&full, whole_games(fails_at))),
-                "at read {fails_at}"
-            );
+            let is_right = reports_read(rt.alloc(), error, fails_at);
+            assert!(rt; is_right, "{error:?} at read {fails_at}");
         }
     }
 }
 
+const NAMES: &[(u64, &str)] = &[
+    (1, "000001.pgn"),
+    (42, "000042.pgn"),
+    (99_999, "099999.pgn"),
+    (999_999, "999999.pgn"),
+    (1_000_000, "1000000.pgn"),
+    (u64::MAX, "18446744073709551615.pgn"),
+];
+
 #[test]
 fn names_files(rt: HostRuntime) -> Result<(), Fail> {
-    let rows: [(u64, &str); 6] = [
-        (1, "000001.pgn"),
-        (42, "000042.pgn"),
-        (99_999, "099999.pgn"),
-        (999_999, "999999.pgn"),
-        (1_000_000, "1000000.pgn"),
-        (u64::MAX, "18446744073709551615.pgn"),
-    ];
-    for (number, name) in rows {
+    for &(number, name) in NAMES {
         let made = file_name(rt.alloc(), number)?;
         assert!(rt; made.as_str() == name, "{made} for {number}");
     }

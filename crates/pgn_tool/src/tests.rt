@@ -1,145 +1,156 @@
+//! Command lines, and the tasks and texts that answer them.
 use crate::arguments::{ParseFault, Task, parse};
-use std::alloc::{AllocError, Global};
 use std::test::Fail;
 
-fn owned(alloc: Global, file: Option<&str>) -> Result<Option<String>, AllocError> {
-    match file {
-        Some(name) => Ok(Some(String::from_str(alloc, name)?)),
-        None => Ok(None),
-    }
-}
+/// Words, and the task that they ask for as `Debug` writes it.
+const TASKS: &[(&[&str], &str)] = &[
+    (
+        &["pgn_tool", "export"],
+        "Export { reduced: false, file: None }",
+    ),
+    (
+        &["pgn_tool", "export", "a.pgn"],
+        "Export { reduced: false, file: Some(\"a.pgn\") }",
+    ),
+    (
+        &["pgn_tool", "export", "--reduced"],
+        "Export { reduced: true, file: None }",
+    ),
+    (
+        &["pgn_tool", "export", "--reduced", "a.pgn"],
+        "Export { reduced: true, file: Some(\"a.pgn\") }",
+    ),
+    (
+        &["pgn_tool", "export", "a.pgn", "--reduced"],
+        "Export { reduced: true, file: Some(\"a.pgn\") }",
+    ),
+    (
+        &["pgn_tool", "export", "--", "--reduced"],
+        "Export { reduced: false, file: Some(\"--reduced\") }",
+    ),
+    (&["pgn_tool", "check"], "Check { file: None }"),
+    (
+        &["pgn_tool", "check", "a.pgn"],
+        "Check { file: Some(\"a.pgn\") }",
+    ),
+    (
+        &["/usr/bin/other", "check", "-"],
+        "Check { file: Some(\"-\") }",
+    ),
+    (&["pgn_tool", "list"], "List { file: None }"),
+    (
+        &["pgn_tool", "list", "a.pgn"],
+        "List { file: Some(\"a.pgn\") }",
+    ),
+    (
+        &["pgn_tool", "split", "games"],
+        "Split { dir: \"games\", file: None }",
+    ),
+    (
+        &["pgn_tool", "split", "games", "a.pgn"],
+        "Split { dir: \"games\", file: Some(\"a.pgn\") }",
+    ),
+    (
+        &["pgn_tool", "split", "--", "-d", "-"],
+        "Split { dir: \"-d\", file: Some(\"-\") }",
+    ),
+];
+
+/// Words that are rejected, and a part of the reason.
+const REJECTED: &[(&[&str], &str)] = &[
+    (&["pgn_tool", "list", "a", "b"], "unexpected argument 'b'"),
+    (&["pgn_tool", "split"], "<DIR>"),
+    (
+        &["pgn_tool", "split", "a", "b", "c"],
+        "unexpected argument 'c'",
+    ),
+    (&[], "requires a subcommand"),
+    (&["pgn_tool"], "requires a subcommand"),
+    (&["pgn_tool", "export", "a", "b"], "unexpected argument 'b'"),
+    (
+        &["pgn_tool", "check", "--reduced"],
+        "unexpected argument '--reduced'",
+    ),
+    (
+        &["pgn_tool", "--reduced", "export"],
+        "unexpected argument '--reduced'",
+    ),
+    (
+        &["pgn_tool", "export", "--reduced", "--reduced"],
+        "cannot be used multiple times",
+    ),
+    (
+        &["pgn_tool", "export", "--reduced=yes"],
+        "unexpected value 'yes'",
+    ),
+    (
+        &["pgn_tool", "convert"],
+        "unrecognized subcommand 'convert'",
+    ),
+    (&["pgn_tool", "help"], "unrecognized subcommand 'help'"),
+];
+
+/// Words that ask for help or the version, and parts of the text.
+const SHOWN: &[(&[&str], &[&str])] = &[
+    (
+        &["pgn_tool", "split", "--help"],
+        &["Usage: pgn_tool split", "<DIR>", "[FILE]", "000001.pgn"],
+    ),
+    (
+        &["pgn_tool", "--help"],
+        &[
+            "export",
+            "check",
+            "list",
+            "--version",
+            "Usage: pgn_tool <COMMAND>",
+            "pgn_tool export games.pgn > clean.pgn",
+            "2  the arguments are rejected",
+        ],
+    ),
+    (&["pgn_tool", "-h"], &["export", "check"]),
+    (
+        &["pgn_tool", "export", "--help"],
+        &[
+            "Usage: pgn_tool export",
+            "--reduced",
+            "[FILE]",
+            "standard input",
+        ],
+    ),
+    (
+        &["pgn_tool", "check", "--help"],
+        &["Usage: pgn_tool check", "[FILE]", "standard input"],
+    ),
+    (
+        &["pgn_tool", "list", "--help"],
+        &["Usage: pgn_tool list", "[FILE]", "standard input"],
+    ),
+    (&["pgn_tool", "--version"], &["pgn_tool "]),
+];
 
 #[test]
-fn reads_export(rt: HostRuntime) -> Result<(), Fail> {
-    let alloc = rt.alloc();
-    let rows: [(&[&str], bool, Option<&str>); 6] = [
-        (&["pgn_tool", "export"], false, None),
-        (&["pgn_tool", "export", "a.pgn"], false, Some("a.pgn")),
-        (&["pgn_tool", "export", "--reduced"], true, None),
-        (
-            &["pgn_tool", "export", "--reduced", "a.pgn"],
-            true,
-            Some("a.pgn"),
-        ),
-        (
-            &["pgn_tool", "export", "a.pgn", "--reduced"],
-            true,
-            Some("a.pgn"),
-        ),
-        (
-            &["pgn_tool", "export", "--", "--reduced"],
-            false,
-            Some("--reduced"),
-        ),
-    ];
-    for (words, reduced, file) in rows {
-        let file = owned(alloc, file)?;
-        assert!(rt;
-            parse(alloc, words) == Ok(Task::Export { reduced, file }),
-            "at {words:?}"
-        );
-    }
-    Ok(())
-}
-
-#[test]
-fn reads_check(rt: HostRuntime) -> Result<(), Fail> {
-    let alloc = rt.alloc();
-    let rows: [(&[&str], Option<&str>); 3] = [
-        (&["pgn_tool", "check"], None),
-        (&["pgn_tool", "check", "a.pgn"], Some("a.pgn")),
-        (&["/usr/bin/other", "check", "-"], Some("-")),
-    ];
-    for (words, file) in rows {
-        let file = owned(alloc, file)?;
-        assert!(rt;
-            parse(alloc, words) == Ok(Task::Check { file }),
-            "at {words:?}"
-        );
-    }
-    Ok(())
-}
-
-#[test]
-fn reads_list(rt: HostRuntime) -> Result<(), Fail> {
-    let alloc = rt.alloc();
-    let rows: [(&[&str], Option<&str>); 2] = [
-        (&["pgn_tool", "list"], None),
-        (&["pgn_tool", "list", "a.pgn"], Some("a.pgn")),
-    ];
-    for (words, file) in rows {
-        let file = owned(alloc, file)?;
-        assert!(rt;
-            parse(alloc, words) == Ok(Task::List { file }),
-            "at {words:?}"
-        );
-    }
-    Ok(())
-}
-
-#[test]
-fn reads_split(rt: HostRuntime) -> Result<(), Fail> {
-    let alloc = rt.alloc();
-    let rows: [(&[&str], &str, Option<&str>); 3] = [
-        (&["pgn_tool", "split", "games"], "games", None),
-        (
-            &["pgn_tool", "split", "games", "a.pgn"],
-            "games",
-            Some("a.pgn"),
-        ),
-        (&["pgn_tool", "split", "--", "-d", "-"], "-d", Some("-")),
-    ];
-    for (words, dir, file) in rows {
-        let dir = String::from_str(alloc, dir)?;
-        let file = owned(alloc, file)?;
-        assert!(rt;
-            parse(alloc, words) == Ok(Task::Split { dir, file }),
-            "at {words:?}"
-        );
+fn reads_tasks(rt: HostRuntime) -> Result<(), Fail> {
+    for (words, written) in TASKS {
+        match parse(rt.alloc(), words) {
+            Ok(task) => {
+                let text = format!(in rt.alloc(); "{task:?}")?;
+                assert!(rt; text.as_str() == *written, "at {words:?}: {text}");
+            }
+            Err(fault) => panic!(rt; "at {words:?}: {fault:?}"),
+        }
     }
     Ok(())
 }
 
 #[test]
 fn refuses_other_words(rt: HostRuntime) {
-    let rows: [(&[&str], &str); 12] = [
-        (&["pgn_tool", "list", "a", "b"], "unexpected argument 'b'"),
-        (&["pgn_tool", "split"], "<DIR>"),
-        (
-            &["pgn_tool", "split", "a", "b", "c"],
-            "unexpected argument 'c'",
-        ),
-        (&[], "requires a subcommand"),
-        (&["pgn_tool"], "requires a subcommand"),
-        (&["pgn_tool", "export", "a", "b"], "unexpected argument 'b'"),
-        (
-            &["pgn_tool", "check", "--reduced"],
-            "unexpected argument '--reduced'",
-        ),
-        (
-            &["pgn_tool", "--reduced", "export"],
-            "unexpected argument '--reduced'",
-        ),
-        (
-            &["pgn_tool", "export", "--reduced", "--reduced"],
-            "cannot be used multiple times",
-        ),
-        (
-            &["pgn_tool", "export", "--reduced=yes"],
-            "unexpected value 'yes'",
-        ),
-        (
-            &["pgn_tool", "convert"],
-            "unrecognized subcommand 'convert'",
-        ),
-        (&["pgn_tool", "help"], "unrecognized subcommand 'help'"),
-    ];
-    for (words, part) in rows {
+    for (words, part) in REJECTED {
         match parse(rt.alloc(), words) {
-            Err(ParseFault::Bad(text)) => {
-                assert!(rt; text.contains(part), "at {words:?}: {text}");
-                assert!(rt; text.contains("Usage: pgn_tool"), "at {words:?}: {text}");
-            }
+            Err(ParseFault::Bad(text)) => assert!(rt;
+                text.contains(*part) && text.contains("Usage: pgn_tool"),
+                "at {words:?}: {text}"
+            ),
             other => panic!(rt; "at {words:?}: {other:?}"),
         }
     }
@@ -147,50 +158,12 @@ fn refuses_other_words(rt: HostRuntime) {
 
 #[test]
 fn shows_help_and_version(rt: HostRuntime) {
-    let rows: [(&[&str], &[&str]); 7] = [
-        (
-            &["pgn_tool", "split", "--help"],
-            &["Usage: pgn_tool split", "<DIR>", "[FILE]", "000001.pgn"],
-        ),
-        (
-            &["pgn_tool", "--help"],
-            &[
-                "export",
-                "check",
-                "list",
-                "--version",
-                "Usage: pgn_tool <COMMAND>",
-                "pgn_tool export games.pgn > clean.pgn",
-                "2  the arguments are rejected",
-            ],
-        ),
-        (&["pgn_tool", "-h"], &["export", "check"]),
-        (
-            &["pgn_tool", "export", "--help"],
-            &[
-                "Usage: pgn_tool export",
-                "--reduced",
-                "[FILE]",
-                "standard input",
-            ],
-        ),
-        (
-            &["pgn_tool", "check", "--help"],
-            &["Usage: pgn_tool check", "[FILE]", "standard input"],
-        ),
-        (
-            &["pgn_tool", "list", "--help"],
-            &["Usage: pgn_tool list", "[FILE]", "standard input"],
-        ),
-        (&["pgn_tool", "--version"], &["pgn_tool "]),
-    ];
-    for (words, parts) in rows {
+    for (words, parts) in SHOWN {
         match parse(rt.alloc(), words) {
-            Err(ParseFault::Help(text)) => {
-                for part in parts {
-                    assert!(rt; text.contains(*part), "at {words:?}: {text}");
-                }
-            }
+            Err(ParseFault::Help(text)) => assert!(rt;
+                parts.iter().all(|part| text.contains(*part)),
+                "at {words:?}: {text}"
+            ),
             other => panic!(rt; "at {words:?}: {other:?}"),
         }
     }
