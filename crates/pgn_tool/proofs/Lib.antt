@@ -3,6 +3,7 @@ mod Builders
 mod Games
 mod Leftover
 mod Lines
+mod OwnFaults
 mod Listed
 mod Programs
 mod Reading
@@ -10,5 +11,10 @@ mod Refusals
 mod Rows
 mod RunRows
 mod Runs
+mod SplitRows
+mod SplitFiles
+mod SplitSource
+mod SplitCalls
+mod SplitEnd
 mod Splits
 mod Subcommands

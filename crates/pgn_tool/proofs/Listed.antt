@@ -52,21 +52,21 @@ pub own_follows : (xs : List ℕ) → Follows (first xs) xs
 own_follows [] = tt
 own_follows (x ∷ xs) = refl
 
-still_own : (xs : List ℕ) → still (first xs) xs ≡ None
+pub still_own : (xs : List ℕ) → still (first xs) xs ≡ None
 still_own [] = refl
 still_own (x ∷ xs) = refl
 
 pub whole : (u piece : List ℕ) (at : ℕ) → (u ++ take at piece) ++ drop at piece ≡ u ++ piece
 whole u piece at = append_assoc u (take at piece) (drop at piece) ∙ ap (λ xs. u ++ xs) (take-append-drop at piece)
 
-further : (u piece : List ℕ) (at used : ℕ) → (u ++ take at piece) ++ take used (drop at piece) ≡ u ++ take (at + used) piece
+pub further : (u piece : List ℕ) (at used : ℕ) → (u ++ take at piece) ++ take used (drop at piece) ≡ u ++ take (at + used) piece
 further u piece at used = append_assoc u (take at piece) (take used (drop at piece)) ∙ ap (λ xs. u ++ xs) (sym (take-add at used piece))
 
-decided_here : (u piece : List ℕ) (ts : List Token) → IsDecided u [] ts → IsDecided u piece ts
+pub decided_here : (u piece : List ℕ) (ts : List Token) → IsDecided u [] ts → IsDecided u piece ts
 decided_here u piece ts (inl e) = inl e
 decided_here u piece ts (inr (b, e, k)) = absurd (cc)
 
-decided_last : (u : List ℕ) (ts : List Token) → IsDecided u [] ts → ts ≡ decided u
+pub decided_last : (u : List ℕ) (ts : List Token) → IsDecided u [] ts → ts ≡ decided u
 decided_last u ts (inl e) = e
 decided_last u ts (inr (b, e, k)) = absurd (cc)
 
@@ -282,19 +282,19 @@ no_more u c a b so =
       written = subst (λ ts. Appends a b (lines_of ts)) is so.written;
     }
 
-keeps_consumed : (o m n : Option (List ℕ)) (u : List ℕ) → Consumes o m u → Keeps m n → Consumes o n u
+pub keeps_consumed : (o m n : Option (List ℕ)) (u : List ℕ) → Consumes o m u → Keeps m n → Consumes o n u
 keeps_consumed None m n u h k = tt
 keeps_consumed (Some xs) None n u h k = absurd h
 keeps_consumed (Some xs) (Some ys) None u h k = absurd k
 keeps_consumed (Some xs) (Some ys) (Some zs) u h k = h ∙ ap (λ l. u ++ l) (sym k)
 
 -- what is left, where it is known
-known_left : (o n : Option (List ℕ)) (u : List ℕ) (P : List ℕ → Type 0) → Consumes o n u → ((rest : List ℕ) → P (u ++ rest)) → IfSome o P
+pub known_left : (o n : Option (List ℕ)) (u : List ℕ) (P : List ℕ → Type 0) → Consumes o n u → ((rest : List ℕ) → P (u ++ rest)) → IfSome o P
 known_left None n u P h all = tt
 known_left (Some s) None u P h all = absurd h
 known_left (Some s) (Some rest) u P h all = subst P (sym h) (all rest)
 
-known_whole : (o n : Option (List ℕ)) (u : List ℕ) (P : List ℕ → Type 0) → Consumes o n u → IsAtEnd n → P u → IfSome o P
+pub known_whole : (o n : Option (List ℕ)) (u : List ℕ) (P : List ℕ → Type 0) → Consumes o n u → IsAtEnd n → P u → IfSome o P
 known_whole None n u P h end here = tt
 known_whole (Some s) None u P h end here = absurd h
 known_whole (Some s) (Some rest) u P h end here = subst P (sym (h ∙ ap (λ l. u ++ l) end ∙ append-nil u)) here

@@ -14,7 +14,7 @@ use Rattle.pgn_game.specs.Begun.{Begun, Next, Read, begun_after, begun_with, goi
 
 -- ---- one token
 
-abbrev after_test : Profile → Begun → Token → List Token → Option Reason → Read
+abbrev pub after_test : Profile → Begun → Token → List Token → Option Reason → Read
 after_test p b t ts (Some reason) = record { begun = b; fault = Some (record { at = t.at; reason = reason }) }
 after_test p b t ts None = read_from p (begun_after b t) ts
 
@@ -28,7 +28,7 @@ read_test p b t ts =
       | None ↦ refl
     ]
 
-reads_on : (p : Profile) (b : Begun) (t : Token) (ts : List Token) (o : Option Reason) → refusal p b.part t.kind ≡ o → read_from p b (t ∷ ts) ≡ after_test p b t ts o
+pub reads_on : (p : Profile) (b : Begun) (t : Token) (ts : List Token) (o : Option Reason) → refusal p b.part t.kind ≡ o → read_from p b (t ∷ ts) ≡ after_test p b t ts o
 reads_on p b t ts o is = read_test p b t ts ∙ ap (after_test p b t ts) is
 
 -- ---- two parts
@@ -150,7 +150,7 @@ pub data AreLast : List Token → Type 0 where
   one : (t : Token) (at : ℕ) → AreLast (t ∷ record { at = at; kind = tokens.end } ∷ [])
 
 -- the end between games is no fault
-end_passes : (p : Profile) → refusal p no_part tokens.end ≡ None
+pub end_passes : (p : Profile) → refusal p no_part tokens.end ≡ None
 unfolding refusal
 end_passes p = refl
 

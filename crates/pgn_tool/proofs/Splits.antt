@@ -17,43 +17,43 @@ use Rattle.pgn_tool.specs.Splitting as splitting
 
 -- ---- logs
 
-added_twice : (before : Option (List Event)) (xs ys : List Event) → added (added before xs) ys ≡ added before (xs ++ ys)
+pub added_twice : (before : Option (List Event)) (xs ys : List Event) → added (added before xs) ys ≡ added before (xs ++ ys)
 added_twice None xs ys = refl
 added_twice (Some log) xs ys = ap (λ l. Some l) (append_assoc log xs ys)
 
 -- a log with two further parts
-log_on : (before log after : Option (List Event)) (whole xs ys zs : List Event) → log ≡ added before (whole ++ xs) → after ≡ added log ys
+pub log_on : (before log after : Option (List Event)) (whole xs ys zs : List Event) → log ≡ added before (whole ++ xs) → after ≡ added log ys
     → xs ++ ys ≡ zs → after ≡ added before (whole ++ zs)
 log_on before log after whole xs ys zs first more same =
     more ∙ ap (λ l. added l ys) first ∙ added_twice before (whole ++ xs) ys
     ∙ ap (λ l. added before l) (append_assoc whole xs ys ∙ ap (λ l. whole ++ l) same)
 
-opens : (was is : Bool) (n : ℕ) → (was ≡ true → is ≡ true) → opened was n ++ steps was is None (one_more n) ≡ opened is n
+pub opens : (was is : Bool) (n : ℕ) → (was ≡ true → is ≡ true) → opened was n ++ steps was is None (one_more n) ≡ opened is n
 opens false false n stays = refl
 opens false true n stays = refl
 opens true true n stays = refl
 opens true false n stays = absurd (false≢true (stays refl))
 
-whole_and_one : (n : ℕ) (texts : List (List ℕ)) (text : List ℕ)
+pub whole_and_one : (n : ℕ) (texts : List (List ℕ)) (text : List ℕ)
     → whole_files n texts ++ made (one_more (number_after n texts)) ∷ closed (Some text) 0 ∷ [] ≡ whole_files n (texts ++ text ∷ [])
 whole_and_one n [] text = refl
 whole_and_one n (t ∷ texts) text = ap (λ l. made (one_more n) ∷ closed (Some t) 0 ∷ l) (whole_and_one (one_more n) texts text)
 
-number_and_one : (n : ℕ) (texts : List (List ℕ)) (text : List ℕ) → one_more (number_after n texts) ≡ number_after n (texts ++ text ∷ [])
+pub number_and_one : (n : ℕ) (texts : List (List ℕ)) (text : List ℕ) → one_more (number_after n texts) ≡ number_after n (texts ++ text ∷ [])
 number_and_one n [] text = refl
 number_and_one n (t ∷ texts) text = number_and_one (one_more n) texts text
 
 -- ---- a call of the converter
 
-unrefused : (refusal : Option CreateFault) (failed : ℕ) → (is_some refusal ≡ true → 0 < failed) → failed ≡ 0 → refusal ≡ None
+pub unrefused : (refusal : Option CreateFault) (failed : ℕ) → (is_some refusal ≡ true → 0 < failed) → failed ≡ 0 → refusal ≡ None
 unrefused None failed risen zero = refl
 unrefused (Some r) failed risen zero = absurd (omega (arith, risen refl, zero))
 
-never_open : (was is : Bool) → (was ≡ true → is ≡ true) → is ≡ false → was ≡ false
+pub never_open : (was is : Bool) → (was ≡ true → is ≡ true) → is ≡ false → was ≡ false
 never_open false is stays shut = refl
 never_open true is stays shut = absurd (false≢true (sym shut ∙ stays refl))
 
-own_or_write : (reason : Reason) (failed : ℕ) → feeding.CountsReason reason 0 failed → ((reason ≡ WriteFault) × (0 < failed)) ⊎ (IsOwn reason × (failed ≡ 0))
+pub own_or_write : (reason : Reason) (failed : ℕ) → feeding.CountsReason reason 0 failed → ((reason ≡ WriteFault) × (0 < failed)) ⊎ (IsOwn reason × (failed ≡ 0))
 own_or_write WriteFault failed counts = inl (refl, omega (arith, counts))
 own_or_write ReadFault failed counts = absurd counts
 own_or_write Changed failed counts = absurd counts
@@ -63,13 +63,13 @@ some_failed : {A : Type 0} → (failures : A → ℕ) (file : Option A) → 0 < 
 some_failed failures None more = absurd (omega (arith, more))
 some_failed failures (Some out) more = refl
 
-same_answer : {B : Type 0} → (r : Result B Unsplit) (x y : B) → r ≡ Ok x → r ≡ Ok y → x ≡ y
+pub same_answer : {B : Type 0} → (r : Result B Unsplit) (x y : B) → r ≡ Ok x → r ≡ Ok y → x ≡ y
 same_answer r x y one other = cc
 
-not_both : {B : Type 0} → (r : Result B Unsplit) (x : B) (w : Unsplit) → r ≡ Ok x → r ≡ Err w → ⊥
+pub not_both : {B : Type 0} → (r : Result B Unsplit) (x : B) (w : Unsplit) → r ≡ Ok x → r ≡ Err w → ⊥
 not_both r x w ok err = cc
 
-same_error : {B : Type 0} → (r : Result B Unsplit) (v w : Unsplit) → r ≡ Err v → r ≡ Err w → v ≡ w
+pub same_error : {B : Type 0} → (r : Result B Unsplit) (v w : Unsplit) → r ≡ Err v → r ≡ Err w → v ≡ w
 same_error r v w one other = cc
 
 module _ {A : Type 0} (taken : A → Option (List ℕ)) (failures : A → ℕ) (before log after : Option (List Event)) (file now : Option A)

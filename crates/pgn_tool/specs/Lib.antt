@@ -9,3 +9,4 @@ pub mod Files
 pub mod Splitting
 pub mod Machine
 pub mod Program
+pub mod SplitGames

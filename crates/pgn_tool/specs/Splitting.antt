@@ -12,6 +12,7 @@ use Rattle.pgn_tool.specs.declared.files.CreateFault.TheVariants as creating
 use Rattle.pgn_tool.specs.declared.split.Unsplit.{Unsplit}
 use Rattle.pgn_tool.specs.declared.split.Unsplit.TheVariants.{Refused, NoMemory}
 use Rattle.pgn_tool.specs.Running.{Device, IsUntouched, Tells, line}
+use Rattle.pgn_tool.specs.SplitGames.{Splits}
 use Rattle.pgn_tool.specs.Files.{Event, added, closed, failures_in, has_text, made, number_after, opened, refused, steps, told, whole_files, without_memory}
 
 -- the open file has no failure, and has bytes
@@ -152,5 +153,6 @@ EndsSplit (Err NoMemory) err status = (status ≡ 3) × Tells err (line (codes "
 pub record RunsSplit (before after : Option (List Event)) (source err : Device) (status : ℕ) : Type 0 where
   pub answer : Result Unit Unsplit
   pub files : SplitFiles before after answer
+  pub splits : Splits source.before source.after answer before after
   pub counted : CountsSplit answer source.failures source.failures_after
   pub ends : EndsSplit answer err status

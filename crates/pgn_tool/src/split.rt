@@ -4,12 +4,14 @@ ghost use Rattle.pgn_layout.specs.Device.{one_more};
 ghost use Rattle.pgn_game.specs.Feeding.{CountsFault, Ends, Feeds};
 ghost use Rattle.pgn_tool.specs.Files.{Event, added, closing, told};
 ghost use Rattle.pgn_tool.specs.Running.{device};
+ghost use Rattle.pgn_tool.specs.SplitGames.{OnceClosed, Splits, SplitsLast, SplitsPiece};
 ghost use Rattle.pgn_tool.specs.Splitting.{CountsSplit, FeedResult, FilesAfter, FilesSoFar, GameEnded, GameFed, IsWell, RunsSplit, Turned, settled};
 
 use crate::files::{CreateFault, GameFiles};
 use crate::game_sink::{Before, GameSink, Turn};
 use crate::replies::want_memory;
 use crate::stream::{LEVELS, TAGS, refuse};
+use pgn_game::laws::due_grows;
 use pgn_game::{Converter, Fault, Fed, Mode, Reason, Sink, Source};
 use std::marker::{Brand, PhantomData};
 
@@ -65,6 +67,8 @@ fn split_source<R: Source, F: GameFiles>(
     ensures files { FilesAfter F.Out.taken F.Out.failures (F.log files.old) result
         (F.log files.new) file.new count.new }
     ensures counted { CountsSplit result (R.failures reader.old) (R.failures reader.new) }
+    ensures splits { OnceClosed F.Out.taken F.Out.failures (F.log files.new) file.new
+        (λ after. Splits (R.left reader.old) (R.left reader.new) result (F.log files.old) after) }
 {
     let mut buffer = [0; 4096];
     let mut converter = Splitter::new(Mode::Full);
@@ -103,6 +107,8 @@ fn split_piece<F: GameFiles>(
     ensures files { (before : Option (List Event))
         → FilesSoFar before (F.log files.old) file.old count.old
         → FilesAfter F.Out.taken F.Out.failures before result (F.log files.new) file.new count.new }
+    ensures splits { SplitsPiece F.Out.taken F.Out.failures converter.old piece.now converter.new
+        result (F.log files.old) file.old count.old (F.log files.new) file.new count.new }
 {
     let mut at = 0;
     loop {
@@ -128,7 +134,10 @@ fn split_last<F: GameFiles>(
     ensures files { (before : Option (List Event))
         → FilesSoFar before (F.log files.old) file.old count
         → FilesAfter F.Out.taken F.Out.failures before result (F.log files.new) file.new count }
+    ensures splits { SplitsLast F.Out.taken F.Out.failures converter.old result
+        (F.log files.old) file.old count (F.log files.new) file.new }
 {
+    due_grows();
     finish_game(converter, files, file, count)?;
     Ok(())
 }

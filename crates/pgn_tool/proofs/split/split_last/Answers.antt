@@ -1,5 +1,7 @@
 use Rattle.std.proofs.lemmas.Result.{err_from_is_err_and}
-use Rattle.pgn_tool.proofs.Splits.{fed_stops}
+use Rattle.pgn_tool.proofs.Splits.{answered, fed_stops}
+use Rattle.pgn_tool.proofs.SplitCalls.{calm}
+use Rattle.pgn_tool.proofs.SplitEnd.{end_split, end_stops}
 use Rattle.pgn_tool.proofs.split.split_last.Goals as goal
 
 pub returns-in_err-finish_game-clause-files : goal.returns-in_err-finish_game-clause-files
@@ -7,3 +9,20 @@ returns-in_err-finish_game-clause-files g c = λ before so.
     let e = err_from_is_err_and c.from_residual.result c.from_residual.ensures.1 in
     let call = c.finish_game.ensures in
     rw (e.1, e.2) (fed_stops _ _ before _ _ _ _ _ _ so call.refusal call.answer _ _ call.turned call.counted call.settles c.in_err-finish_game.was)
+
+pub returns-in_err-finish_game-clause-splits : goal.returns-in_err-finish_game-clause-splits
+returns-in_err-finish_game-clause-splits g c = λ u before so.
+    let e = err_from_is_err_and c.from_residual.result c.from_residual.ensures.1 in
+    let call = c.finish_game.ensures in
+    rw (e.1, e.2) (λ after closes.
+    end_stops g.F.Out.Sink.taken g.F.Out.Sink.failures u c.args.converter.now c.finish_game.new.converter before _ _ after _ _ c.args.count call.failed so closes
+    call.refusal call.answer _ _ c.due_grows.ensures call.turned call.counted call.settles c.in_err-finish_game.was (call.ends _ _ _ _ so.stands))
+
+pub returns-clause-splits : goal.returns-clause-splits
+returns-clause-splits g c = λ u before so after closes.
+    let call = c.finish_game.ensures in
+    let answer = answered call.refusal call.answer _ _ call.settles c.in_ok-finish_game.was in
+    let quiet = calm g.F.Out.Sink.taken g.F.Out.Sink.failures _ _ _ _ _ call.failed call.refusal call.answer _ answer call.turned call.counted in
+    let ends = rw answer at call.ends in
+    end_split g.F.Out.Sink.taken g.F.Out.Sink.failures u c.args.converter.now c.finish_game.new.converter before _ _ after _ _ c.args.count call.failed so closes
+    _ (ends _ _ _ _ so.stands) quiet.0 quiet.1

@@ -1,9 +1,51 @@
-use Rattle.std.proofs.Common.{◌∙◌, ap, arith, length-drop}
+use Rattle.std.proofs.Common.{◌∙◌, ◌++◌, [], ap, arith, refl, subst, take, drop, length-drop}
 use Rattle.std.specs.Prelude.{Ok}
 use Rattle.std.proofs.lemmas.List.{take_rest}
 use Rattle.std.proofs.lemmas.Result.{err_from_is_err_and}
 use Rattle.pgn_tool.proofs.Splits.{answered, closed_on, closed_well, fed_stops, fed_well}
+use Rattle.pgn_tool.proofs.Listed.{own_follows, whole}
+use Rattle.pgn_tool.proofs.SplitCalls.{call_stops, calm, game_on_at, piece_begins, rest_on, stops_on_further}
+use Rattle.pgn_tool.specs.SplitGames.{SplitSoFar}
 use Rattle.pgn_tool.proofs.split.split_piece.Goals as goal
+
+pub loop-used-init : goal.loop-used-init
+loop-used-init g c =
+    record {
+      within = omega arith;
+      count = omega arith;
+      fault = c.requires.no_fault;
+      going = c.requires.going;
+      so = λ before first. first;
+      splits = λ u before so. piece_begins g.F.Out.Sink.taken u c.args.piece.now c.args.converter.now before _ _ _ so;
+      well = c.requires.well;
+    }
+
+pub returns-in-All-clause-splits : goal.returns-in-All-clause-splits
+returns-in-All-clause-splits g c = λ u before so.
+    let call = c.feed_game.ensures in
+    let is = c.in_ok-feed_game.was ∙ ap (λ fed. Ok fed) c.in-All.is in
+    let answer = answered call.refusal call.answer _ _ call.settles is in
+    let quiet = calm g.F.Out.Sink.taken g.F.Out.Sink.failures _ _ _ _ _ call.failed call.refusal call.answer _ answer call.turned call.counted in
+    let feeds = rw (answer, take_rest) at call.feeds in
+    let rest = drop c.loop-used.at c.args.piece.now in
+    let now = c.loop-used.invariant.splits u before so in
+    subst (λ xs. SplitSoFar g.F.Out.Sink.taken xs [] c.feed_game.new.converter before (g.F.GameFiles.log c.feed_game.new.files) c.feed_game.new.file c.loop-used.count)
+    (whole u c.args.piece.now c.loop-used.at)
+    (rest_on g.F.Out.Sink.taken g.F.Out.Sink.failures (u ++ take c.loop-used.at c.args.piece.now) rest c.loop-used.converter c.feed_game.new.converter
+    before _ _ _ _ c.loop-used.count call.failed now quiet.0 (feeds _ _ _ _ now.stands (own_follows rest)))
+
+pub returns-in_err-feed_game-clause-splits : goal.returns-in_err-feed_game-clause-splits
+returns-in_err-feed_game-clause-splits g c = λ u before so.
+    let e = err_from_is_err_and c.from_residual.result c.from_residual.ensures.1 in
+    let call = c.feed_game.ensures in
+    let feeds = rw take_rest at call.feeds in
+    let rest = drop c.loop-used.at c.args.piece.now in
+    let now = c.loop-used.invariant.splits u before so in
+    rw (e.1, e.2) (λ after closes.
+    stops_on_further u c.args.piece.now c.loop-used.at before after _
+    (call_stops g.F.Out.Sink.taken g.F.Out.Sink.failures (u ++ take c.loop-used.at c.args.piece.now) rest c.loop-used.converter c.feed_game.new.converter
+    before _ _ after _ _ c.loop-used.count call.failed now closes call.refusal call.answer _ _ call.turned call.counted call.settles c.in_err-feed_game.was
+    (feeds _ _ _ _ now.stands (own_follows rest))))
 
 pub returns-in_err-feed_game-clause-files : goal.returns-in_err-feed_game-clause-files
 returns-in_err-feed_game-clause-files g c = λ before first.
@@ -19,6 +61,9 @@ loop-used-preserved g c =
     let answer = answered call.refusal call.answer _ _ call.settles is in
     let used = rw (answer, take_rest) at call.fed.used in
     let count = rw answer at call.fed.count in
+    let quiet = calm g.F.Out.Sink.taken g.F.Out.Sink.failures _ _ _ _ _ call.failed call.refusal call.answer _ answer call.turned call.counted in
+    let feeds = rw (answer, take_rest) at call.feeds in
+    let rest = drop c.loop-used.at c.args.piece.now in
     record {
       within = omega (arith, used, length-drop c.loop-used.at c.args.piece.now, c.loop-used.invariant.within);
       count = omega (arith, count, c.loop-used.invariant.count);
@@ -27,5 +72,10 @@ loop-used-preserved g c =
       so = λ before first.
           let now = fed_well _ _ before _ _ _ _ _ _ (c.loop-used.invariant.so before first) call.refusal call.answer _ _ call.turned call.counted call.settles is in
           closed_on _ _ before _ _ _ _ _ _ now.0 now.1 c.close.ensures.log c.close.ensures.shut c.close.ensures.count;
+      splits = λ u before so.
+          let now = c.loop-used.invariant.splits u before so in
+          game_on_at g.F.Out.Sink.taken g.F.Out.Sink.failures (u ++ take c.loop-used.at c.args.piece.now) rest c.loop-used.converter c.feed_game.new.converter
+          before _ _ _ _ c.loop-used.count call.failed now quiet.0 c.in-Game.used _ _ _ u c.args.piece.now c.loop-used.at refl refl
+          (feeds _ _ _ _ now.stands (own_follows rest)) quiet.1 c.close.ensures.log c.close.ensures.shut c.close.ensures.count;
       well = closed_well _ _ _ _ c.close.ensures.shut;
     }

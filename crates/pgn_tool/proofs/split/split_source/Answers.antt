@@ -1,6 +1,47 @@
+use Rattle.std.proofs.Common.{◌∙◌, ◌<◌, arith, refl, length}
+use Rattle.std.proofs.lemmas.Result.{err_from_is_err_and}
+use Rattle.pgn_tool.proofs.SplitSource.{read_ends, read_fails, read_on, read_stops_at}
 use Rattle.pgn_tool.proofs.Splits.{read_stops}
 use Rattle.pgn_tool.proofs.split.split_source.Goals as goal
 
 pub returns-in-Err-clause-files : goal.returns-in-Err-clause-files
 returns-in-Err-clause-files g c =
     read_stops _ _ _ _ _ _ _ c.loop-converter.invariant.so c.loop-converter.invariant.well
+
+pub returns-in-Err-clause-splits : goal.returns-in-Err-clause-splits
+returns-in-Err-clause-splits g c = λ after closes.
+    read_fails g.F.Out.Sink.taken g.F.Out.Sink.failures _ _ c.loop-converter.converter _ _ _ _ c.loop-converter.invariant.read _ c.count.result after
+    c.loop-converter.invariant.well closes c.in-Err.ensures.bytes c.count.ensures
+
+pub returns-in-Ok-eq0-clause-splits : goal.returns-in-Ok-eq0-clause-splits
+returns-in-Ok-eq0-clause-splits g c = λ after closes.
+    let so = c.loop-converter.invariant.read in
+    let read = rw c.in-Ok-eq0.field-0-test at c.in-Ok-eq0.ensures.bytes in
+    let some : 0 < length c.read_some.new.buffer = omega (arith, c.loop-converter.invariant.room, c.read_some.auto.buffer) in
+    read_ends g.F.Out.Sink.taken g.F.Out.Sink.failures _ _ c.loop-converter.converter _ _ _ _ so _ c.split_last.result after read.0 (read.1 refl some)
+    (c.split_last.ensures.splits so.bytes _ so.split after closes)
+
+pub returns-in_err-split_piece-in-Ok-clause-splits :
+    goal.returns-in_err-split_piece-in-Ok-clause-splits
+returns-in_err-split_piece-in-Ok-clause-splits g c = λ after closes.
+    let so = c.loop-converter.invariant.read in
+    let e = err_from_is_err_and c.from_residual.result c.from_residual.ensures.1 in
+    rw (e.1, e.2) (read_stops_at g.F.Out.Sink.taken g.F.Out.Sink.failures _ _ c.loop-converter.converter _ _ _ _ so _ _ _ after
+    c.in-Ok.ensures.bytes.0 (c.in_err-split_piece-in-Ok.ensures.splits so.bytes _ so.split after closes))
+
+pub loop-converter-preserved : goal.loop-converter-preserved
+loop-converter-preserved g c =
+    let so = c.loop-converter.invariant.read in
+    let split = c.in_ok-split_piece-in-Ok.ensures in
+    let files = split.files _ c.loop-converter.invariant.so in
+    record {
+      count = split.short;
+      room = omega (arith, c.loop-converter.invariant.room, c.read_some.auto.buffer);
+      going = c.split_piece.ensures.going;
+      fault = split.no_fault;
+      source = c.in-Ok.ensures.failures ∙ c.loop-converter.invariant.source;
+      so = files.0;
+      read = read_on g.F.Out.Sink.taken g.F.Out.Sink.failures _ _ c.loop-converter.converter _ _ _ _ so _ _ c.split_piece.new.converter _ _ _ c.in-Ok.ensures.bytes.0
+          (split.splits so.bytes _ so.split);
+      well = files.1;
+    }

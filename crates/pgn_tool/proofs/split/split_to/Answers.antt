@@ -13,6 +13,7 @@ returns-in-Ok-clause-runs g c =
     record {
       answer = split.result;
       files = split_ends _ _ _ _ _ _ _ split.result split.ensures.files c.close.ensures.log;
+      splits = split.ensures.splits _ c.close.ensures.log;
       counted = split.ensures.counted;
       ends =
           subst (λ (r : Result Unit Unsplit). EndsSplit r (device g.E.Sink.taken g.E.Sink.failures c.args.err.now c.args.err.now) 0)
@@ -27,6 +28,7 @@ returns-in-Err-Refused-clause-runs g c =
     record {
       answer = split.result;
       files = split_ends _ _ _ _ _ _ _ split.result split.ensures.files c.close.ensures.log;
+      splits = split.ensures.splits _ c.close.ensures.log;
       counted = split.ensures.counted;
       ends =
           subst (λ (r : Result Unit Unsplit). EndsSplit r (device g.E.Sink.taken g.E.Sink.failures c.args.err.now c.refuse.new.err) c.refuse.result)
@@ -41,6 +43,7 @@ returns-clause-runs g c =
     record {
       answer = split.result;
       files = split_ends _ _ _ _ _ _ _ split.result split.ensures.files c.close.ensures.log;
+      splits = split.ensures.splits _ c.close.ensures.log;
       counted = split.ensures.counted;
       ends =
           subst (λ (r : Result Unit Unsplit). EndsSplit r (device g.E.Sink.taken g.E.Sink.failures c.args.err.now c.want_memory.new.err) c.want_memory.result)

@@ -1,0 +1,238 @@
+-- What the end of the input makes of the files of the games so far.
+use Rattle.std.proofs.Common.{◌≡◌, ◌∙◌, ℕ, ◌+◌, ◌<◌, Bool, List, [], ◌∷◌, ◌++◌, length, length-append, Option, None, Some, Result, Ok, Err, refl, sym, ap, subst, inl, inr, ◌⊎◌, arith, append_assoc, append-nil, is_some}
+use Rattle.pgn_layout.specs.Device.{one_more}
+use Rattle.pgn_lexer.specs.Tokens as tokens
+use Rattle.pgn_lexer.specs.Tokens.{Token}
+use Rattle.pgn_lexer.specs.TokensOf.{tokens_of}
+use Rattle.pgn_lexer.specs.Standing.{coming}
+use Rattle.pgn_game.specs.declared.reason.Reason.{Reason}
+use Rattle.pgn_game.specs.declared.reason.Reason.TheVariants.{WriteFault}
+use Rattle.pgn_game.specs.declared.reason.Fault.{Fault}
+use Rattle.pgn_game.specs.Game.{Game, no_part}
+use Rattle.pgn_game.specs.FaultTable.{refusal}
+use Rattle.pgn_game.specs.Text.{torn}
+use Rattle.pgn_game.specs.Begun.{Begun, Next, Read, begun_after, begun_with, due, going, next, nothing_begun, read, read_from, whole, written}
+use Rattle.pgn_game.specs.Due.{Gains}
+use Rattle.pgn_game.specs.Feeding as feeding
+use Rattle.pgn_game.specs.Feeding.{Converter, Finishes, FinishesToFault, StopsWriting}
+use Rattle.pgn_game.specs.Laws.{DueGrows}
+use Rattle.pgn_tool.specs.declared.files.CreateFault.{CreateFault}
+use Rattle.pgn_tool.specs.declared.split.Unsplit.{Unsplit}
+use Rattle.pgn_tool.specs.declared.split.Unsplit.TheVariants as unsplit
+use Rattle.pgn_tool.specs.Listing.{list_profile}
+use Rattle.pgn_tool.specs.Files.{Event, added, closing, number_after, told, whole_files}
+use Rattle.pgn_tool.specs.Splitting.{IsOwn, Turned, settled}
+use Rattle.pgn_tool.specs.SplitGames as games
+use Rattle.pgn_tool.specs.SplitGames.{AfterLast, FilesOf, IsSplit, Logs, SplitSoFar, StopsAtEnd, files_of, texts_in, torn_file, torn_in}
+use Rattle.pgn_tool.proofs.Leftover.{left_over}
+use Rattle.pgn_tool.proofs.OwnFaults.{read_own}
+use Rattle.pgn_tool.proofs.Reading.{AddsOne, AreLast, AreQuiet, end_passes, last_games, not_both, end, one, quiet, quiet_games, read_more, reads_on}
+use Rattle.pgn_tool.proofs.SplitCalls.{at_place, cuts, front_passes, files_left, no_own_write, settled_ok}
+use Rattle.pgn_tool.proofs.SplitFiles.{game_closed, grown, if_on, whole_on}
+use Rattle.pgn_tool.proofs.Splits.{log_on, not_both as split_not_both, opens, own_or_write, same_error, unrefused}
+
+-- where the last tokens finish a game, nothing is written of another one
+last_torn : (b : Begun) (ts : List Token) (g : Game) → AreLast ts → (read_from list_profile b ts).begun.games ≡ b.games ++ g ∷ []
+    → torn list_profile (read_from list_profile b ts).begun.part ≡ []
+last_torn b _ g (quiet ts q) more =
+    absurd (omega (arith, ap (length {A = Game}) (sym (quiet_games list_profile b ts q) ∙ more), length-append b.games (g ∷ [])))
+last_torn b _ g (one t at) more = by_test (refusal list_profile b.part t.kind) refl
+  where
+    last : Token
+    last = record { at = at; kind = tokens.end }
+
+    by_next : (nx : Next) → (read_from list_profile (begun_with b.games nx) (last ∷ [])).begun.games ≡ b.games ++ g ∷ []
+        → torn list_profile (read_from list_profile (begun_with b.games nx) (last ∷ [])).begun.part ≡ []
+    by_next (going part) is =
+        absurd (omega (arith, ap (length {A = Game}) (sym (quiet_games list_profile (begun_with b.games (going part)) (last ∷ []) (end, tt)) ∙ is), length-append b.games (g ∷ [])))
+    by_next (whole h) is =
+        ap (λ (r : Read). torn list_profile r.begun.part) (reads_on list_profile (begun_with b.games (whole h)) last [] None (end_passes list_profile))
+
+    by_test : (o : Option Reason) → refusal list_profile b.part t.kind ≡ o → torn list_profile (read_from list_profile b (t ∷ last ∷ [])).begun.part ≡ []
+    by_test (Some reason) is =
+        absurd (omega (arith, ap (length {A = Game}) (sym (ap (λ (r : Read). r.begun.games) (reads_on list_profile b t (last ∷ []) (Some reason) is)) ∙ more), length-append b.games (g ∷ [])))
+    by_test None is =
+        let here = reads_on list_profile b t (last ∷ []) None is in
+        ap (λ (r : Read). torn list_profile r.begun.part) here
+        ∙ by_next (next b.part t.kind) (ap (λ (r : Read). r.begun.games) (sym here) ∙ more)
+
+-- one token more, which is not rejected
+one_token : (ts : List Token) (t : Token) → (read list_profile ts).fault ≡ None → (read list_profile (ts ++ t ∷ [])).fault ≡ None
+    → read list_profile (ts ++ t ∷ []) ≡ record { begun = begun_after (read list_profile ts).begun t; fault = None }
+one_token ts t passes all = by_test (refusal list_profile (read list_profile ts).begun.part t.kind) refl
+  where
+    here : read list_profile (ts ++ t ∷ []) ≡ read_from list_profile (read list_profile ts).begun (t ∷ [])
+    here = read_more list_profile nothing_begun ts (t ∷ []) passes
+
+    by_test : (o : Option Reason) → refusal list_profile (read list_profile ts).begun.part t.kind ≡ o
+        → read list_profile (ts ++ t ∷ []) ≡ record { begun = begun_after (read list_profile ts).begun t; fault = None }
+    by_test (Some reason) is =
+        absurd (not_both _ _ (ap (λ (r : Read). r.fault) (here ∙ reads_on list_profile (read list_profile ts).begun t [] (Some reason) is)) all)
+    by_test None is = here ∙ reads_on list_profile (read list_profile ts).begun t [] None is
+
+-- two ways to part a list: one front goes on where the other ends
+abbrev Parted : List Token → List Token → List Token → List Token → Type 0
+Parted xs ys behind_xs behind_ys =
+    ((mid : List Token) × (ys ≡ xs ++ mid) × (behind_xs ≡ mid ++ behind_ys)) ⊎ ((mid : List Token) × (xs ≡ ys ++ mid) × (behind_ys ≡ mid ++ behind_xs))
+
+parted : (xs ys behind_xs behind_ys : List Token) → xs ++ behind_xs ≡ ys ++ behind_ys → Parted xs ys behind_xs behind_ys
+parted [] ys behind_xs behind_ys e = inl (ys, refl, e)
+parted (x ∷ xs) [] behind_xs behind_ys e = inr (x ∷ xs, refl, sym e)
+parted (x ∷ xs) (y ∷ ys) behind_xs behind_ys e = further (parted xs ys behind_xs behind_ys (cc))
+  where
+    head_same : x ≡ y
+    head_same = cc
+
+    further : Parted xs ys behind_xs behind_ys → Parted (x ∷ xs) (y ∷ ys) behind_xs behind_ys
+    further (inl (mid, is, parts)) = inl (mid, ap (λ l. y ∷ l) is ∙ ap (λ z. z ∷ (xs ++ mid)) (sym head_same), parts)
+    further (inr (mid, is, parts)) = inr (mid, ap (λ l. x ∷ l) is ∙ ap (λ z. z ∷ (ys ++ mid)) head_same, parts)
+
+head : {x y : Token} {xs ys : List Token} → x ∷ xs ≡ y ∷ ys → x ≡ y
+head e = cc
+
+second : {t u v w : Token} {rest : List Token} → t ∷ u ∷ [] ≡ v ∷ w ∷ rest → w ≡ u
+second e = cc
+
+quiet_front : (xs ys : List Token) → AreQuiet (xs ++ ys) → AreQuiet xs
+quiet_front [] ys q = tt
+quiet_front (x ∷ xs) ys (here, rest) = (here, quiet_front xs ys rest)
+
+module _ {A : Type 0} (taken : A → Option (List ℕ)) (failures : A → ℕ) (u : List ℕ) (old new : Converter)
+    (before log after closed_log : Option (List Event)) (file now : Option A) (count failed : ℕ)
+    (so : SplitSoFar taken u [] old before log file count) (closes : closed_log ≡ added after (closing taken failures now)) where
+  left : tokens_of u ≡ so.tokens ++ coming old.lexer []
+  left = ap tokens_of (sym (append-nil u)) ∙ so.stands.lexer.tokens [] tt
+
+  reads : read list_profile (tokens_of u) ≡ read_from list_profile (read list_profile so.tokens).begun (coming old.lexer [])
+  reads = ap (read list_profile) left ∙ read_more list_profile nothing_begun so.tokens (coming old.lexer []) so.stands.has_read.passes
+
+  adds : AddsOne (read list_profile so.tokens).begun.games (read list_profile (tokens_of u))
+  adds =
+      subst (AddsOne (read list_profile so.tokens).begun.games) (sym reads)
+      (last_games list_profile (read list_profile so.tokens).begun (coming old.lexer []) (left_over old.lexer))
+
+  none_torn : (g : Game) → (read list_profile (tokens_of u)).begun.games ≡ (read list_profile so.tokens).begun.games ++ g ∷ [] → torn_in (tokens_of u) ≡ []
+  none_torn g more =
+      ap (λ (r : Read). torn list_profile r.begun.part) reads
+      ∙ last_torn (read list_profile so.tokens).begun (coming old.lexer []) g (left_over old.lexer) (ap (λ (r : Read). r.begun.games) (sym reads) ∙ more)
+
+  -- all was read, and perhaps one more game finished
+  end_files : (gains : Gains list_profile so.tokens (tokens_of u) (told taken log file) (told taken after now))
+      → Turned taken failures (one_more count) log file after now None failed → failed ≡ 0 → Logs before closed_log (files_of (tokens_of u))
+  end_files gains turned zero = by_games adds
+    where
+      by_games : AddsOne (read list_profile so.tokens).begun.games (read list_profile (tokens_of u)) → Logs before closed_log (files_of (tokens_of u))
+      by_games (inl same) = files_left taken failures u [] old new before log after closed_log file now count failed so closes (tokens_of u) gains turned zero same
+      by_games (inr (passes, (g, more))) =
+          let none = none_torn g more in
+          if_on before so.files (λ b h.
+          let all = game_closed taken failures b after closed_log now None count _ so.tokens (tokens_of u) g h.counted
+          (log_on (Some b) log after (whole_files 0 (texts_in so.tokens)) _ _ _ h.logged turned.logged (opens (is_some file) (is_some now) count turned.stays))
+          (grown _ _ (torn_in so.tokens) gains.text h.text gains.appended
+          ∙ ap (λ l. Some l) (sym (whole_on so.tokens (tokens_of u) g gains.text more none gains.due_for)))
+          (sym (turned.clean refl) ∙ zero) more none closes refl refl in
+          all.logged ∙ ap (λ l. Some (b ++ (whole_files 0 (texts_in (tokens_of u)) ++ torn_file (number_after 0 (texts_in (tokens_of u))) l))) (sym none))
+
+  pub end_split : (is_game : Bool) → Finishes list_profile u so.tokens new is_game (told taken log file) (told taken after now)
+      → Turned taken failures (one_more count) log file after now None failed → failed ≡ 0 → IsSplit u None before closed_log
+  end_split is_game fed turned zero = record { fault = fed.has_read.passes; files = end_files fed.gains turned zero }
+
+  -- ---- a write that fails at the end
+
+  -- the token at fault is the first of those that were left: the games before it are those so far
+  module _ (grows : DueGrows) (at : ℕ) (a b : Option (List ℕ)) (writing : StopsWriting list_profile so.tokens (tokens_of u) at a b) where
+    longer : length (due list_profile (writing.front ++ writing.token ∷ [])) ≡ length (due list_profile so.tokens) + length writing.text
+    longer = ap (length {A = ℕ}) writing.due_for ∙ length-append (due list_profile so.tokens) writing.text
+
+    -- what is due sooner is no longer
+    no_sooner : (mid : List Token) → so.tokens ≡ (writing.front ++ writing.token ∷ []) ++ mid → ⊥
+    no_sooner mid is =
+        let grown = grows list_profile (writing.front ++ writing.token ∷ []) mid in
+        absurd (omega (arith, longer, writing.short, ap (length {A = ℕ}) (ap (due list_profile) is ∙ grown.1), length-append (due list_profile (writing.front ++ writing.token ∷ [])) grown.0))
+
+    -- the end adds nothing after a marker
+    before_end : (t : Token) (place : ℕ) → writing.front ≡ so.tokens ++ t ∷ [] → writing.token ≡ record { at = place; kind = tokens.end }
+        → (read list_profile writing.front).begun.games ≡ (read list_profile so.tokens).begun.games
+    before_end t place is end_is = by_next (next (read list_profile so.tokens).begun.part t.kind) refl
+      where
+        passes : (read list_profile writing.front).fault ≡ None
+        passes = front_passes writing.front (writing.token ∷ []) writing.passes
+
+        here : read list_profile writing.front ≡ record { begun = begun_after (read list_profile so.tokens).begun t; fault = None }
+        here =
+            ap (read list_profile) is
+            ∙ one_token so.tokens t so.stands.has_read.passes (ap (λ ts. (read list_profile ts).fault) (sym is) ∙ passes)
+
+        by_next : (nx : Next) → next (read list_profile so.tokens).begun.part t.kind ≡ nx
+            → (read list_profile writing.front).begun.games ≡ (read list_profile so.tokens).begun.games
+        by_next (going part) leads =
+            ap (λ (r : Read). r.begun.games) here ∙ ap (λ n. (begun_with (read list_profile so.tokens).begun.games n).games) leads
+        by_next (whole h) leads =
+            let b : (read list_profile writing.front).begun ≡ record { games = (read list_profile so.tokens).begun.games ++ h ∷ []; part = no_part } =
+            ap (λ (r : Read). r.begun) here ∙ ap (begun_with (read list_profile so.tokens).begun.games) leads in
+            let behind = one_token writing.front writing.token passes writing.passes in
+            let same : due list_profile (writing.front ++ writing.token ∷ []) ≡ due list_profile writing.front =
+            ap (λ (r : Read). written list_profile r.begun) behind
+            ∙ ap (λ t. written list_profile (begun_after (read list_profile writing.front).begun t)) end_is
+            ∙ ap (λ (x : Begun). written list_profile (begun_after x (record { at = place; kind = tokens.end }))) b
+            ∙ ap (written list_profile) (sym b) in
+            absurd (omega (arith, longer, writing.short, writing.least, ap (length {A = ℕ}) same))
+
+    by_last : (mid left : List Token) → AreLast left → left ≡ mid ++ writing.token ∷ writing.rest → writing.front ≡ so.tokens ++ mid
+        → (read list_profile writing.front).begun.games ≡ (read list_profile so.tokens).begun.games
+    by_last [] left last parts is = ap (λ ts. (read list_profile ts).begun.games) (is ∙ append-nil so.tokens)
+    by_last (m ∷ mid) _ (quiet ts q) parts is =
+        ap (λ ts. (read list_profile ts).begun.games) is
+        ∙ ap (λ (r : Read). r.begun.games) (read_more list_profile nothing_begun so.tokens (m ∷ mid) so.stands.has_read.passes)
+        ∙ quiet_games list_profile (read list_profile so.tokens).begun (m ∷ mid) (quiet_front (m ∷ mid) _ (subst AreQuiet parts q))
+    by_last (m ∷ []) _ (one t place) parts is = before_end m place is (second parts)
+    by_last (m ∷ n ∷ mid) _ (one t place) parts is =
+        absurd (omega (arith, ap (length {A = Token}) parts, length-append mid (writing.token ∷ writing.rest)))
+
+    games_same : (read list_profile writing.front).begun.games ≡ (read list_profile so.tokens).begun.games
+    games_same = by_parts (parted so.tokens writing.front (coming old.lexer []) (writing.token ∷ writing.rest) (sym left ∙ writing.cut))
+      where
+        by_parts : Parted so.tokens writing.front (coming old.lexer []) (writing.token ∷ writing.rest)
+            → (read list_profile writing.front).begun.games ≡ (read list_profile so.tokens).begun.games
+        by_parts (inl (mid, is, parts)) = by_last mid (coming old.lexer []) (left_over old.lexer) parts is
+        by_parts (inr ([], is, parts)) = ap (λ ts. (read list_profile ts).begun.games) (sym (is ∙ append-nil writing.front))
+        by_parts (inr (m ∷ mid, is, parts)) =
+            absurd (no_sooner mid (is ∙ ap (λ x. writing.front ++ x ∷ mid) (sym (head parts)) ∙ sym (append_assoc writing.front (writing.token ∷ []) mid)))
+
+  write_ends : (f : Fault) (why : Unsplit) (refusal : Option CreateFault) → DueGrows
+      → Turned taken failures (one_more count) log file after now refusal failed → f.reason ≡ WriteFault → 0 < failed
+      → settled {A = Bool} refusal (Err f) ≡ Err why → feeding.Stops list_profile so.tokens (tokens_of u) (told taken log file) (told taken after now) f → StopsAtEnd u before closed_log why
+  write_ends _ why refusal grows turned is more settles (feeding.refused f fault gains) =
+      absurd (no_own_write f.reason is (read_own list_profile nothing_begun (tokens_of u) f fault))
+  write_ends _ why refusal grows turned is more settles (feeding.unwritten at writing) =
+      games.cut_file why
+      (cuts taken failures before log after closed_log file now count failed u so.tokens (tokens_of u) [] at refusal why so.files turned more closes writing
+      (games_same grows at _ _ writing) (sym (append-nil (tokens_of u))) (at_place refusal at writing.token.at why settles writing.place))
+
+  own_ends : (f : Fault) → Turned taken failures (one_more count) log file after now None failed → failed ≡ 0 → IsOwn f.reason
+      → feeding.Stops list_profile so.tokens (tokens_of u) (told taken log file) (told taken after now) f → StopsAtEnd u before closed_log (unsplit.Refused f)
+  own_ends _ turned zero own (feeding.refused f fault gains) = by_games adds
+    where
+      by_games : AddsOne (read list_profile so.tokens).begun.games (read list_profile (tokens_of u)) → StopsAtEnd u before closed_log (unsplit.Refused f)
+      by_games (inl same) =
+          games.at_fault f (record {
+            fault = fault;
+            files = files_left taken failures u [] old new before log after closed_log file now count failed so closes (tokens_of u) gains turned zero same;
+          })
+      by_games (inr (passes, more)) = absurd (not_both _ _ fault passes)
+  own_ends _ turned zero own (feeding.unwritten at writing) = absurd own
+
+  pub end_stops : (refusal : Option CreateFault) (answer : Result Bool Fault) (result : Result Bool Unsplit) (why : Unsplit) → DueGrows
+      → Turned taken failures (one_more count) log file after now refusal failed → feeding.CountsFault answer 0 failed
+      → result ≡ settled refusal answer → result ≡ Err why
+      → feeding.AfterFinish list_profile u so.tokens new answer (told taken log file) (told taken after now) → StopsAtEnd u before closed_log why
+  end_stops refusal (Ok x) result why grows turned counts settles is fed = absurd (split_not_both result x why (settles ∙ settled_ok refusal x) is)
+  end_stops refusal (Err f) result why grows turned counts settles is fed = by_reason (own_or_write f.reason failed counts)
+    where
+      by_reason : ((f.reason ≡ WriteFault) × (0 < failed)) ⊎ (IsOwn f.reason × (failed ≡ 0)) → StopsAtEnd u before closed_log why
+      by_reason (inl (write, more)) = write_ends f why refusal grows turned write more (sym settles ∙ is) fed.stops
+      by_reason (inr (own, zero)) =
+          let none = unrefused refusal failed turned.risen zero in
+          subst (λ w. StopsAtEnd u before closed_log w)
+          (same_error result (unsplit.Refused f) why (settles ∙ ap (λ r. settled r (Err f)) none) is)
+          (own_ends f (subst (λ r. Turned taken failures (one_more count) log file after now r failed) none turned) zero own fed.stops)
