@@ -17,7 +17,7 @@ use Rattle.pgn_game.specs.declared.stage.Stage.TheVariants.{Between, AfterBracke
 use Rattle.pgn_game.specs.Profile.{Profile}
 use Rattle.pgn_game.specs.Game.{Part, no_part}
 use Rattle.pgn_game.specs.Text.{torn}
-use Rattle.pgn_game.specs.FaultTable.{refusal, is_comment, is_end}
+use Rattle.pgn_game.specs.FaultTable.{refusal, is_at, is_comment, is_end, is_outside_pairs}
 use Rattle.pgn_game.specs.Begun.{Next, at_stage, next}
 use Rattle.pgn_game.specs.Due.{text_next}
 use Rattle.pgn_game.specs.Reading.{Reading, Agrees, Answers, Stays, FinishesAtMarker, Leads, HoldsText, plies_behind, plies_next, whole_plies}
@@ -29,11 +29,11 @@ use Rattle.pgn_game.proofs.Judging.{held_at, text_at, part_stage}
 use Rattle.pgn_game.proofs.Pairing.{no_torn}
 
 -- what the table and the step say
-said_ok : (o : Option Reason) (to there : Next) → outcome_of o to ≡ Ok there → (o ≡ None) × (to ≡ there)
+pub said_ok : (o : Option Reason) (to there : Next) → outcome_of o to ≡ Ok there → (o ≡ None) × (to ≡ there)
 said_ok None to there e = (refl, cc)
 said_ok (Some reason) to there e = absurd (cc)
 
-said_err : (o : Option Reason) (to : Next) (reason : Reason) → outcome_of o to ≡ Err reason → o ≡ Some reason
+pub said_err : (o : Option Reason) (to : Next) (reason : Reason) → outcome_of o to ≡ Err reason → o ≡ Some reason
 said_err None to reason e = absurd (cc)
 said_err (Some r) to reason e = let h : r ≡ reason = cc in ap (λ x. Some x) h
 
@@ -45,6 +45,10 @@ pub record Meets (old ready : Reading) (part : Part) (k : Kind) : Type 0 where
   pub torn : torn old.profile to ≡ torn old.profile part
   pub profile : ready.profile ≡ old.profile
   pub plies : whole_plies ready ≡ whole_plies old
+  pub outside : is_outside_pairs to ≡ is_outside_pairs part
+  pub in_text : is_at InMovetext to ≡ is_at InMovetext part
+  pub pairs : to.pairs ≡ part.pairs
+  pub items : to.items ≡ part.items
 
 begins_at_first : (old : Reading) (part : Part) (k : TokenKind) → Agrees old part → old.stage ≡ Between → IsTrue (begins Between (kind_of k)) → Meets old (begun old) part (kind_of k)
 begins_at_first old part k agrees at is =
@@ -57,6 +61,10 @@ begins_at_first old part k agrees at is =
       torn = no_torn old.profile later AfterTags refl (λ e. absurd (cc)) ∙ sym (no_torn old.profile part Between (part_stage old part Between agrees at) (λ e. absurd (cc)));
       profile = refl;
       plies = omega arith ∙ sym (ap (λ (s : Stage). plies_behind s old.earlier_plies old.text.plies) at);
+      outside = sym (ap is_outside_pairs none);
+      in_text = sym (ap (is_at InMovetext) none);
+      pairs = sym (ap (λ (q : Part). q.pairs) none);
+      items = sym (ap (λ (q : Part). q.items) none);
     }
 
 -- a token begins a game between games alone
@@ -73,7 +81,19 @@ meets old part k agrees = by_test (begins old.stage (kind_of k)) refl
   where
     by_test : (b : Bool) → begins old.stage (kind_of k) ≡ b → Meets old (elim b [ true ↦ begun old | false ↦ old ]) part (kind_of k)
     by_test true is = let h = between_of old.stage (kind_of k) is in begins_at_first old part k agrees h.0 h.1
-    by_test false is = record { to = part; agrees = agrees; same = refl; torn = refl; profile = refl; plies = refl }
+    by_test false is =
+        record {
+          to = part;
+          agrees = agrees;
+          same = refl;
+          torn = refl;
+          profile = refl;
+          plies = refl;
+          outside = refl;
+          in_text = refl;
+          pairs = refl;
+          items = refl;
+        }
 
 -- a higher count of probes agrees with the same part
 counts_on : (r : Reading) (n : ℕ) (part : Part) (stage : Stage) → r.stage ≡ stage → r.most_probes ≤ n → HoldsText stage r part → HoldsText stage (record r { most_probes = n }) part
@@ -112,7 +132,7 @@ answers_by old counted new part to k there (Err Unwritten) d profile plies same 
 )
 
 -- so once its move was sought and the pairs that were tried are counted
-meets_counted : (old ready counted : Reading) (part : Part) (k : TokenKind) → Agrees old part → ready ≡ readied old (kind_of k) → Counts ready counted
+pub meets_counted : (old ready counted : Reading) (part : Part) (k : TokenKind) → Agrees old part → ready ≡ readied old (kind_of k) → Counts ready counted
     → Meets old counted part (kind_of k)
 meets_counted old ready counted part k agrees is counts =
     let m : Meets old ready part (kind_of k) = subst (λ (x : Reading). Meets old x part (kind_of k)) (sym is) (meets old part k agrees) in
@@ -123,6 +143,10 @@ meets_counted old ready counted part k agrees is counts =
       torn = m.torn;
       profile = ap (λ (x : Reading). x.profile) counts.same ∙ m.profile;
       plies = ap whole_plies counts.same ∙ m.plies;
+      outside = m.outside;
+      in_text = m.in_text;
+      pairs = m.pairs;
+      items = m.items;
     }
 
 -- A token that means something is put.

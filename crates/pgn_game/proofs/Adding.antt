@@ -9,7 +9,7 @@ use Rattle.std.proofs.Math.Seq.{drop-append_seam}
 use Rattle.chess_rules.specs.declared.position.Move.{Move}
 use Rattle.chess_rules.specs.declared.position.Parts.{Parts}
 use Rattle.chess_rules.specs.Legal.{legal}
-use Rattle.chess_text.specs.San.{san}
+use Rattle.chess_text.specs.San.{san, MarkPairs, apart_pairs}
 use Rattle.pgn_layout.specs.declared.sink.WriteFault.{WriteFault}
 use Rattle.pgn_layout.specs.Device.{AppendsFront, Counts, Writes}
 use Rattle.pgn_layout.specs.Lines.{IsToken, lines_of, full_lines, last_line, text_of as text_of_lines}
@@ -149,7 +149,7 @@ closed start present [] new some h = absurd (omega arith)
 closed start present (l ∷ around) new some h = h
 
 -- a legal move leads to the position after it
-played_is : (p : Parts) (m : Move) (next : Parts) → legal p m ≡ Some next → next ≡ play p m
+pub played_is : (p : Parts) (m : Move) (next : Parts) → legal p m ≡ Some next → next ≡ play p m
 unfolding play
 played_is p m next is = sym (ap (λ o. unwrap_or o p) is)
 
@@ -305,3 +305,10 @@ is_text p q m s text same = text ∙ ap (λ r. san r m) same
 pub is_token : (p : Parts) (m : Move) (s : List ℕ) → s ≡ text_of_move p m → 0 < length s → length s ≤ 7 → All IsToken (text_of_move p m ∷ [])
 is_token p m s text some short =
     subst (λ (t : List ℕ). All IsToken (t ∷ [])) text (All-cons IsToken s [] (record { not_empty = some; fits = omega arith }) (All-nil IsToken))
+
+-- the pairs of a move are those of its position, however the code holds that
+pub writes_move : (place held : Parts) (m : Move) (next : Parts) (n k : ℕ) → held ≡ place → legal place m ≡ Some next
+    → MarkPairs next (n + apart_pairs held m) k → MarkPairs (play place m) (n + apart_pairs place m) k
+writes_move place held m next n k same is h =
+    subst (λ (q : Parts). MarkPairs q (n + apart_pairs place m) k) (played_is place m next is)
+    (subst (λ (p : Parts). MarkPairs next (n + apart_pairs p m) k) same h)

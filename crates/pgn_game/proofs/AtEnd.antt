@@ -26,10 +26,11 @@ use Rattle.pgn_game.specs.FaultTable.{refusal, is_end, marker_of}
 use Rattle.pgn_game.specs.Begun.{next, begun_with, Begun, Read, read}
 use Rattle.pgn_game.specs.Due.{Gains}
 use Rattle.pgn_game.specs.Reading.{Reading, Answers, Stays, FinishesAtMarker, CountsWrites, is_outside_the_table}
-use Rattle.pgn_game.specs.Feeding.{Converter, IsSound, held_by, held_if, IsLast, HasRead, Stands, unwritten, Finishes, FinishesToFault, CountsReason}
+use Rattle.pgn_game.specs.Feeding.{Converter, IsSound, held_by, held_if, IsLast, HasRead, Stands, unwritten, Finishes, FinishesToFault, CountsAtStop, CountsReason}
+use Rattle.pgn_game.specs.MostTried.{RaisesMost}
 use Rattle.pgn_game.specs.Stepping.{SameGames, ClosedToFault, AfterClosing, CloseAdvances, ClosedSoFar, StaysBetween, stepped_of, is_ended, games_after, closed_with, fault_of_step, CountsStep}
-use Rattle.pgn_game.proofs.Growing.{gains_none, gains_more, stops_more, games_still, read-passes}
-use Rattle.pgn_game.proofs.OneToken.{stepped, gains_token, same_games, has_read_more, one_game, has_read_game, stops_refused, writing, stops_lexical, none_before_refused, none_before_unwritten, none_before_lexical}
+use Rattle.pgn_game.proofs.Growing.{gains_none, gains_more, stops_more, games_still, counts_still, read-passes}
+use Rattle.pgn_game.proofs.OneToken.{stepped, gains_token, same_games, has_read_more, one_game, has_read_game, stops_refused, writing, stops_lexical, none_before_refused, none_before_unwritten, none_before_lexical, count_at_refused, count_at_unwritten, count_at_lexical}
 
 -- what is left behind a token: nothing behind the end
 abbrev Left : List ℕ → List Token → Bool → Standing → Token → Type 0
@@ -136,7 +137,7 @@ end_passes p b k e none =
 
 -- the game at hand is let go
 let_go : (p : Profile) (c : Converter) (given : List Token) → HasRead p c given → HasRead p (record c { at_hand = None }) given
-let_go p c given h = record { profile = h.profile; no_fault = h.no_fault; passes = h.passes; agrees = h.agrees; games = h.games; plies = h.plies; probed = h.probed; at_hand = tt }
+let_go p c given h = record { profile = h.profile; no_fault = h.no_fault; passes = h.passes; agrees = h.agrees; games = h.games; plies = h.plies; probed = h.probed; tried = h.tried; at_hand = tt }
 
 -- a converter after a step behind the last piece
 abbrev pub closed : Standing → Reading → ℕ → Bool → Stepped → Converter
@@ -144,10 +145,12 @@ closed l r games finished outcome = record (stepped l r games finished outcome) 
 
 pub closes : (p : Profile) (old : Converter) (u : List ℕ) (given : List Token) (t : Token) (l : Standing) (new : Reading) (finished : Bool) (a c : Option (List ℕ))
     (e : Bool) (r : Result Accepted Stopped) → is_end t.kind ≡ e → HasRead p old given → Left u given e l t → new.profile ≡ old.reading.profile → old.reading.most_probes ≤ new.most_probes
-    → Answers old.reading (read p given).begun.part t.kind new r a c → Stays old.reading new r → FinishesAtMarker t.kind new r
+    → Answers old.reading (read p given).begun.part t.kind new r a c
+    → RaisesMost old.reading.profile (read p given).begun.part t.kind r old.reading.most_probes new.most_probes
+    → Stays old.reading new r → FinishesAtMarker t.kind new r
     → AfterClosing p u given old (closed l new old.games finished (stepped_of t.at r)) (closed_with e (stepped_of t.at r)) a c
-closes p old u given t l new finished a c true (Ok accepted.More) is_e has_read left profile probes h stays at_marker =
-    let more = has_read_more p old given t l new finished has_read profile probes h.free h.leads h.plies in
+closes p old u given t l new finished a c true (Ok accepted.More) is_e has_read left profile probes h tries stays at_marker =
+    let more = has_read_more p old given t l new finished has_read profile probes h.free h.leads h.plies tries in
     let passes = subst (λ q. refusal q (read p given).begun.part t.kind ≡ None) has_read.profile h.free in (
       t,
       record {
@@ -160,62 +163,65 @@ closes p old u given t l new finished a c true (Ok accepted.More) is_e has_read 
       },
       stays,
     )
-closes p old u given t l new finished a c false (Ok accepted.More) is_e has_read left profile probes h stays at_marker = (
+closes p old u given t l new finished a c false (Ok accepted.More) is_e has_read left profile probes h tries stays at_marker = (
   t,
   record {
     left = left;
-    has_read = let_go p _ _ (has_read_more p old given t l new finished has_read profile probes h.free h.leads h.plies);
+    has_read = let_go p _ _ (has_read_more p old given t l new finished has_read profile probes h.free h.leads h.plies tries);
     gains = gains_token p old given t l new finished has_read profile probes a c h.free h.appended;
   },
   same_games p old given t l new finished has_read profile probes h.free h.leads,
   stays,
 )
-closes p old u given t l new finished a c true (Ok accepted.Finished) is_e has_read left profile probes h stays at_marker =
+closes p old u given t l new finished a c true (Ok accepted.Finished) is_e has_read left profile probes h tries stays at_marker =
     absurd (differ (sym is_e ∙ marker_or_end t.kind at_marker.0))
   where
     differ : true ≡ false → ⊥
     differ e = absurd (cc)
-closes p old u given t l new finished a c false (Ok accepted.Finished) is_e has_read left profile probes h stays at_marker = (
+closes p old u given t l new finished a c false (Ok accepted.Finished) is_e has_read left profile probes h tries stays at_marker = (
   t,
   record {
     left = left;
-    has_read = let_go p _ _ (has_read_game p old given t l new finished has_read profile probes h.free h.leads h.plies);
+    has_read = let_go p _ _ (has_read_game p old given t l new finished has_read profile probes h.free h.leads h.plies tries);
     gains = gains_token p old given t l new finished has_read profile probes a c h.free h.appended;
   },
   one_game p old given t l new finished has_read profile probes h.free h.leads,
 )
-closes p old u given t l new finished a c e (Err (stopped.Refused reason)) is_e has_read left profile probes (some, wrote) stays at_marker =
+closes p old u given t l new finished a c e (Err (stopped.Refused reason)) is_e has_read left profile probes (some, wrote) tries stays at_marker =
     let rest = tokens_left u given e l t left in
-    fails e (subst (λ ts. ClosedToFault p given ts (record { at = t.at; reason = reason }) a c) (sym rest.1)
+    fails e (subst (λ ts. ClosedToFault p given ts (record { at = t.at; reason = reason }) new.most_probes a c) (sym rest.1)
     (record {
       stops = stops_refused p old given t l new finished has_read profile probes rest.0 a c reason some wrote;
       no_game = none_before_refused p old given t l new finished has_read profile probes rest.0 a c reason some wrote;
+      counts = count_at_refused p old given t l new finished has_read profile probes rest.0 a c reason some wrote tries;
     }))
   where
-    fails : (e : Bool) → ClosedToFault p given (tokens_of u) (record { at = t.at; reason = reason }) a c
+    fails : (e : Bool) → ClosedToFault p given (tokens_of u) (record { at = t.at; reason = reason }) new.most_probes a c
         → AfterClosing p u given old (closed l new old.games finished (Failed (record { at = t.at; reason = reason }))) (closed_with e (Failed (record { at = t.at; reason = reason }))) a c
     fails true h = h
     fails false h = h
-closes p old u given t l new finished a c e (Err stopped.Unwritten) is_e has_read left profile probes (none, wrote) stays at_marker =
+closes p old u given t l new finished a c e (Err stopped.Unwritten) is_e has_read left profile probes (none, wrote) tries stays at_marker =
     let rest = tokens_left u given e l t left in
-    fails e (subst (λ ts. ClosedToFault p given ts (record { at = t.at; reason = WriteFault }) a c) (sym rest.1)
+    fails e (subst (λ ts. ClosedToFault p given ts (record { at = t.at; reason = WriteFault }) new.most_probes a c) (sym rest.1)
     (record {
       stops = unwritten t.at (writing p old given t l new finished has_read profile probes rest.0 a c none wrote);
       no_game = none_before_unwritten p old given t l new finished has_read profile probes rest.0 a c none wrote;
+      counts = count_at_unwritten p old given t l new finished has_read profile probes rest.0 a c none wrote tries;
     }))
   where
-    fails : (e : Bool) → ClosedToFault p given (tokens_of u) (record { at = t.at; reason = WriteFault }) a c
+    fails : (e : Bool) → ClosedToFault p given (tokens_of u) (record { at = t.at; reason = WriteFault }) new.most_probes a c
         → AfterClosing p u given old (closed l new old.games finished (stepped_of t.at (Err stopped.Unwritten))) (closed_with e (stepped_of t.at (Err stopped.Unwritten))) a c
     fails true h = h
     fails false h = h
 
 pub closes_fault : (p : Profile) (old new : Converter) (u : List ℕ) (given : List Token) (f : LexFault) (o : Option (List ℕ)) → HasRead p old given
-    → tokens_of u ≡ given ++ refusal_token f ∷ [] → AfterClosing p u given old new (Failed (record { at = f.at; reason = Lexical f.reason })) o o
-closes_fault p old new u given f o has_read whole =
-    subst (λ ts. ClosedToFault p given ts (record { at = f.at; reason = Lexical f.reason }) o o) (sym whole)
+    → tokens_of u ≡ given ++ refusal_token f ∷ [] → new.reading ≡ old.reading → AfterClosing p u given old new (Failed (record { at = f.at; reason = Lexical f.reason })) o o
+closes_fault p old new u given f o has_read whole same =
+    subst (λ ts. ClosedToFault p given ts (record { at = f.at; reason = Lexical f.reason }) new.reading.most_probes o o) (sym whole)
     (record {
       stops = stops_lexical p given f o has_read.passes;
       no_game = none_before_lexical p given f o has_read.passes;
+      counts = subst (λ (r : Reading). CountsAtStop (stops_lexical p given f o has_read.passes) r.most_probes) (sym same) (count_at_lexical p old given f o has_read);
     })
 
 -- how a token waits, and how it ends
@@ -442,7 +448,7 @@ module _ (p : Profile) (u : List ℕ) (given : List Token) (now new : Converter)
       let same_flag = e took.between in
       let held = hands (so.tokens ++ t ∷ []) flag (λ h. held_still _ took.same stays (subst IsTrue same_flag h) took.between) in
       record {
-        has_read = subst (HasRead p _) (sym took.whole) (record { profile = h.profile; no_fault = h.no_fault; passes = h.passes; agrees = h.agrees; games = h.games; plies = h.plies; probed = h.probed; at_hand = held });
+        has_read = subst (HasRead p _) (sym took.whole) (record { profile = h.profile; no_fault = h.no_fault; passes = h.passes; agrees = h.agrees; games = h.games; plies = h.plies; probed = h.probed; tried = h.tried; at_hand = held });
         game = subst (λ ts. IsTrue is_game ↔ (length (read p given).begun.games < length (read p ts).begun.games)) (sym took.whole) (same_length _ took.same);
         at_hand = λ is. (held_by new.reading, ap (λ b. held_if b new.reading) (same_flag ∙ is));
         none_at_hand = λ is. ap (λ b. held_if b new.reading) (same_flag ∙ is);
@@ -458,6 +464,7 @@ module _ (p : Profile) (u : List ℕ) (given : List Token) (now new : Converter)
       record {
         stops = stops_more p given so.tokens (tokens_of u) f a c d so.gains to.stops;
         games = same ∙ so.has_read.games ∙ sym (ap (length {A = Game}) (games_still p given so.tokens (tokens_of u) f a c d so.gains to.stops ∙ to.no_game));
+        counts = counts_still p given so.tokens (tokens_of u) f a c d so.gains to.stops new.reading.most_probes to.counts;
       }
 
 -- after a fault a converter owes nothing

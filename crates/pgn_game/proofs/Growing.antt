@@ -14,7 +14,7 @@ use Rattle.pgn_game.specs.Text.{game_text, text_of, torn, torn_for}
 use Rattle.pgn_game.specs.Begun.{Next, going, whole, next, Begun, begun_with, begun_after, nothing_begun, Read, read_from, read, written, due}
 use Rattle.pgn_game.specs.Due.{text_next, gain, Gains}
 use Rattle.pgn_game.specs.Laws.{IsPrefix, DueGrows}
-use Rattle.pgn_game.specs.Feeding.{Stops, refused, unwritten, StopsWriting, games_before}
+use Rattle.pgn_game.specs.Feeding.{Stops, refused, unwritten, StopsWriting, games_before, CountsAtStop}
 use Rattle.pgn_game.proofs.NextGrows.{next_is}
 
 abbrev read_as : Begun → Option Fault → Read
@@ -37,10 +37,10 @@ passed : (p : Profile) (b : Begun) (t : Token) (ts : List Token) (o : Option Rea
 passed p b t ts (Some reason) e = absurd (cc)
 passed p b t ts None e = refl
 
-first_passes : (p : Profile) (b : Begun) (t : Token) (ts : List Token) → (read_from p b (t ∷ ts)).fault ≡ None → refusal p b.part t.kind ≡ None
+pub first_passes : (p : Profile) (b : Begun) (t : Token) (ts : List Token) → (read_from p b (t ∷ ts)).fault ≡ None → refusal p b.part t.kind ≡ None
 first_passes p b t ts e = passed p b t ts (refusal p b.part t.kind) (ap (λ (r : Read). r.fault) (sym (read_from-test p b t ts)) ∙ e)
 
-goes_on : (p : Profile) (b : Begun) (t : Token) (ts : List Token) → refusal p b.part t.kind ≡ None → read_from p b (t ∷ ts) ≡ read_from p (begun_after b t) ts
+pub goes_on : (p : Profile) (b : Begun) (t : Token) (ts : List Token) → refusal p b.part t.kind ≡ None → read_from p b (t ∷ ts) ≡ read_from p (begun_after b t) ts
 goes_on p b t ts none = read_from-test p b t ts ∙ ap (after_test p b t ts) none
 
 after_those : (p : Profile) (b : Begun) (ts : List Token) (t : Token) (us : List Token) → (read_from p b ts).fault ≡ None
@@ -138,6 +138,13 @@ pub games_still : (p : Profile) (x y tokens : List Token) (f : Fault) (a b c : O
 unfolding stops_more writing_more
 games_still p x y tokens f a b c first (refused g fault gains) = refl
 games_still p x y tokens f a b c first (unwritten at writing) = refl
+
+-- and the count there stays as it is
+pub counts_still : (p : Profile) (x y tokens : List Token) (f : Fault) (a b c : Option (List ℕ)) (first : Gains p x y a b) (stops : Stops p y tokens b c f) (most : ℕ)
+    → CountsAtStop stops most → CountsAtStop (stops_more p x y tokens f a b c first stops) most
+unfolding stops_more writing_more
+counts_still p x y tokens f a b c first (refused g fault gains) most h = record { tried = h.tried; probed = h.probed }
+counts_still p x y tokens f a b c first (unwritten at writing) most h = record { tried = h.tried; probed = h.probed }
 
 -- behind a token that is refused nothing is read
 pub stops_from : (p : Profile) (b : Begun) (ts us : List Token) (f : Fault) → (read_from p b ts).fault ≡ Some f → read_from p b (ts ++ us) ≡ read_from p b ts

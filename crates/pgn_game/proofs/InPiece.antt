@@ -12,16 +12,17 @@ use Rattle.pgn_game.specs.declared.reason.Reason.TheVariants.{InputTooLong}
 use Rattle.pgn_game.specs.declared.reason.Fault.{Fault}
 use Rattle.pgn_game.specs.declared.converter.Stepped.TheVariants.{NeedMore, More, Finished, Failed}
 use Rattle.pgn_game.specs.Profile.{Profile}
+use Rattle.pgn_game.specs.Reading.{Reading}
 use Rattle.pgn_game.specs.Feeding.{AtHand, Converter, Stands, AreNext, FedAll, FedGame, FedToFault, StopsIn, too_long, CountsReason}
 use Rattle.pgn_game.specs.Stepping.{AfterStep, next_at, SoFar}
-use Rattle.pgn_game.proofs.Growing.{gains_none, gains_more, stops_more, games_still}
+use Rattle.pgn_game.proofs.Growing.{gains_none, gains_more, stops_more, games_still, counts_still}
 use Rattle.pgn_game.proofs.OneToken.{still_none-none}
 
 -- the game at hand is let go
 pub lets_go : (p : Profile) (old : Converter) (u : List ℕ) (b : Option ℕ) (given : List Token) → Stands p old u b given → Stands p (record old { at_hand = None }) u b given
 lets_go p old u b given stands =
     let h = stands.has_read in
-    record { lexer = stands.lexer; has_read = record { profile = h.profile; no_fault = h.no_fault; passes = h.passes; agrees = h.agrees; games = h.games; plies = h.plies; probed = h.probed; at_hand = tt } }
+    record { lexer = stands.lexer; has_read = record { profile = h.profile; no_fault = h.no_fault; passes = h.passes; agrees = h.agrees; games = h.games; plies = h.plies; probed = h.probed; tried = h.tried; at_hand = tt } }
 
 -- what follows the first byte of the piece follows the byte known
 follows_from : (b : Option ℕ) (x : ℕ) (xs s : List ℕ) → Follows b (x ∷ xs) → Follows (Some x) s → Follows b s
@@ -163,7 +164,7 @@ module _ (p : Profile) (u : List ℕ) (b : Option ℕ) (given : List Token) (pie
       }
 
   -- a fault
-  pub fed_fault : (new : Converter) (used : ℕ) (f : Fault) → AfterStep p (u ++ take at piece) so.tokens (drop at piece) new used (Failed f) c d → FedToFault p u b given piece f a d
+  pub fed_fault : (new : Converter) (used : ℕ) (f : Fault) → AfterStep p (u ++ take at piece) so.tokens (drop at piece) new used (Failed f) c d → FedToFault p u b given piece f new.reading.most_probes a d
   fed_fault new used f to_fault =
       let fed = to_fault.fed in
       record {
@@ -174,6 +175,7 @@ module _ (p : Profile) (u : List ℕ) (b : Option ℕ) (given : List Token) (pie
           stops = stops_more p given so.tokens fed.tokens f a c d so.gains fed.stops;
         };
         no_game = games_still p given so.tokens fed.tokens f a c d so.gains fed.stops ∙ to_fault.no_game ∙ so.no_game;
+        counts = counts_still p given so.tokens fed.tokens f a c d so.gains fed.stops new.reading.most_probes to_fault.counts;
       }
     where
       still_some : (b : Option ℕ) (xs : List ℕ) → 0 < length xs → still b xs ≡ None
@@ -245,8 +247,8 @@ module _ (p : Profile) (u : List ℕ) (b : Option ℕ) (given : List Token) (pie
       }
 
   -- a token of it is refused, or a write failed
-  pub front_fault : (f : Fault) → Follows b piece → FedToFault p u b given (take n piece) f a c → FedToFault p u b given piece f a c
-  front_fault f begins to =
+  pub front_fault : (f : Fault) (most : ℕ) → Follows b piece → FedToFault p u b given (take n piece) f most a c → FedToFault p u b given piece f most a c
+  front_fault f most begins to =
       let fed = to.fed in
       record {
         fed = record {
@@ -260,6 +262,7 @@ module _ (p : Profile) (u : List ℕ) (b : Option ℕ) (given : List Token) (pie
           stops = fed.stops;
         };
         no_game = to.no_game;
+        counts = to.counts;
       }
     where
       goes_on : (xs : List ℕ) (n : ℕ) (s : List ℕ) → Follows b xs → Follows (still b xs) s → Follows (still b (take n xs)) (drop n xs ++ s)
@@ -270,12 +273,12 @@ module _ (p : Profile) (u : List ℕ) (b : Option ℕ) (given : List Token) (pie
       goes_on (x ∷ xs) (suc n) s begins follows = tt
 
   -- the piece goes on past place 2^62
-  pub front_too_long : (now : Converter) (AtToken : Fault → Type 0) → length u + n ≡ 2 ^ 62 → n < length piece → FedAll p u b given (take n piece) now a c
-      → StopsIn u piece AtToken (λ front. (c' : Converter) × FedAll p u b given front c' a c) (record { at = 2 ^ 62; reason = InputTooLong })
-  front_too_long now AtToken place more fed =
+  pub front_too_long : (now : Converter) (reading : Reading) (AtToken : Fault → Type 0) → length u + n ≡ 2 ^ 62 → n < length piece → reading ≡ now.reading → FedAll p u b given (take n piece) now a c
+      → StopsIn u piece AtToken (λ front. (c' : Converter) × FedAll p u b given front c' a c × (reading ≡ c'.reading)) (record { at = 2 ^ 62; reason = InputTooLong })
+  front_too_long now reading AtToken place more same fed =
       too_long (take n piece) (drop n piece) (sym (take-append-drop n piece))
       (omega (arith, place, length-append u (take n piece), length-take-le n piece (omega (arith, more))))
-      (omega (arith, length-drop n piece, more)) (now, fed)
+      (omega (arith, length-drop n piece, more)) (now, fed, same)
 
 -- what a step counts, after steps that counted nothing
 pub counts_step : (r : Reason) (x y z : ℕ) → y ≡ x → CountsReason r y z → CountsReason r x z

@@ -39,6 +39,7 @@ mod Spelling
 mod Stages
 mod Starting
 mod Texting
+mod TriedPairs
 mod Unspelling
 mod WholeInput
 mod WholePiece

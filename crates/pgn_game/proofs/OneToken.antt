@@ -29,8 +29,10 @@ use Rattle.pgn_game.specs.Begun.{Next, going, whole, next, Begun, begun_with, be
 use Rattle.pgn_game.specs.Due.{gain, Gains}
 use Rattle.pgn_game.specs.Here.{plies_of}
 use Rattle.pgn_game.specs.Reading.{Reading, Agrees, IsBehind, has_move, whole_plies, plies_next, Leads, Answers}
-use Rattle.pgn_game.specs.Feeding.{AtHand, hand_of, Converter, held_by, held_if, play_moves, HasRead, Stands, Stops, refused, unwritten, StopsWriting, AreNext, games_before}
+use Rattle.pgn_game.specs.Feeding.{AtHand, hand_of, Converter, held_by, held_if, play_moves, has_played, HasRead, Stands, Stops, refused, unwritten, StopsWriting, AreNext, games_before, CountsAtStop}
 use Rattle.pgn_game.specs.Stepping.{SameGames, OneGame, AfterStep, stepped_of, is_game, games_after, fault_of_step, StepAdvances}
+use Rattle.pgn_game.specs.MostTried.{MostTried, Raises, RaisesMost, Tries, TriesUnwritten}
+use Rattle.pgn_game.proofs.TriedPairs.{most_with, most_to_refused, part_probed, raises_none}
 use Rattle.pgn_game.proofs.Growing.{read-passes, read-refuses, due-passes, due-refuses, gains_none, gains_nothing}
 
 pub follows_first : (xs s : List ℕ) → Follows (first xs) (xs ++ s)
@@ -93,6 +95,22 @@ stepped l r games finished outcome =
       fault = fault_of_step outcome;
     }
 
+-- a move in one of the games was played
+pub in_games : (b : Begun) → IsTrue (play_moves b.games) → IsTrue (has_played b)
+in_games b h = or_left (play_moves b.games) (has_move b.part.items) h
+  where
+    or_left : (x y : Bool) → IsTrue x → IsTrue (x || y)
+    or_left true y h = refl
+    or_left false y h = absurd (cc)
+
+-- some pair was tried where a move was played in a game, or in the part
+in_either : (r : Reading) (b : Begun) → Agrees r b.part → (IsTrue (play_moves b.games) → 0 < r.most_probes) → IsTrue (has_played b) → 0 < r.most_probes
+in_either r b agrees before moves = by_or (play_moves b.games) (has_move b.part.items) before (part_probed r b.part agrees) moves
+  where
+    by_or : (x y : Bool) → (IsTrue x → 0 < r.most_probes) → (IsTrue y → 0 < r.most_probes) → IsTrue (x || y) → 0 < r.most_probes
+    by_or true y left right h = left refl
+    by_or false y left right h = right h
+
 module _ (p : Profile) (old : Converter) (given : List Token) (t : Token) (l : Standing) (new : Reading) (finished : Bool) (has_read : HasRead p old given) (profile : new.profile ≡ old.reading.profile) (probes : old.reading.most_probes ≤ new.most_probes) where
   abbrev b : Begun
   b = (read p given).begun
@@ -111,27 +129,40 @@ module _ (p : Profile) (old : Converter) (given : List Token) (t : Token) (l : S
         appended = subst (λ q. Appends a c (gain q b.part t.kind)) has_read.profile wrote;
       }
 
+  raised : Raises (Tries old.reading.profile b.part t.kind) old.reading.most_probes new.most_probes → Raises (Tries p b.part t.kind) old.reading.most_probes new.most_probes
+  raised h = subst (λ q. Raises (Tries q b.part t.kind) old.reading.most_probes new.most_probes) has_read.profile h
+
+  -- the most pairs tried, with this token
+  most_tried : refusal old.reading.profile b.part t.kind ≡ None → Raises (Tries old.reading.profile b.part t.kind) old.reading.most_probes new.most_probes
+      → MostTried p (given ++ t ∷ []) new.most_probes
+  most_tried h tries = most_with p given t old.reading.most_probes new.most_probes has_read.tried has_read.passes (passes h) (raised tries)
+
+  probed_before : IsTrue (has_played b) → 0 < new.most_probes
+  probed_before moves = let some = has_read.probed moves in omega (arith, some, probes)
+
   -- the game goes on
   pub same_games : refusal old.reading.profile b.part t.kind ≡ None → Leads (next b.part t.kind) accepted.More new → SameGames p given (given ++ t ∷ [])
   same_games h leads = ap (λ (r : Read). r.begun.games) (reads h) ∙ (leads_more (next b.part t.kind) b.games new leads).0
 
   pub has_read_more : refusal old.reading.profile b.part t.kind ≡ None → Leads (next b.part t.kind) accepted.More new
-      → whole_plies new ≡ whole_plies old.reading + plies_next (next b.part t.kind) → HasRead p (stepped l new old.games finished More) (given ++ t ∷ [])
-  has_read_more h leads plies =
+      → whole_plies new ≡ whole_plies old.reading + plies_next (next b.part t.kind)
+      → Raises (Tries old.reading.profile b.part t.kind) old.reading.most_probes new.most_probes → HasRead p (stepped l new old.games finished More) (given ++ t ∷ [])
+  has_read_more h leads plies tries =
       let more = leads_more (next b.part t.kind) b.games new leads in
       let same = same_games h leads in
       let none = plies_more (next b.part t.kind) new leads in
       let total : whole_plies new ≡ whole_plies old.reading = omega (arith, plies, none) in
+      let agrees : Agrees new (read p (given ++ t ∷ [])).begun.part = subst (λ (r : Read). Agrees new r.begun.part) (sym (reads h)) more.1 in
       record {
         profile = profile ∙ has_read.profile;
         no_fault = refl;
         passes = ap (λ (r : Read). r.fault) (reads h);
-        agrees = subst (λ (r : Read). Agrees new r.begun.part) (sym (reads h)) more.1;
+        agrees = agrees;
         games = has_read.games ∙ ap (length {A = Game}) (sym same);
         plies = total ∙ has_read.plies ∙ ap (λ games. sum (map plies_of games)) (sym same);
-        probed = λ moves.
-            let some = has_read.probed (subst (λ games. IsTrue (play_moves games)) same moves) in
-            omega (arith, some, probes);
+        probed = in_either new (read p (given ++ t ∷ [])).begun agrees
+            (λ moves. probed_before (in_games b (subst (λ games. IsTrue (play_moves games)) same moves)));
+        tried = most_tried h tries;
         at_hand = tt;
       }
 
@@ -143,24 +174,28 @@ module _ (p : Profile) (old : Converter) (given : List Token) (t : Token) (l : S
       (done.0, ap (λ (r : Read). r.begun.games) (reads h) ∙ done.1, hand_behind new done.0 done.3)
 
   pub has_read_game : refusal old.reading.profile b.part t.kind ≡ None → Leads (next b.part t.kind) accepted.Finished new
-      → whole_plies new ≡ whole_plies old.reading + plies_next (next b.part t.kind) → HasRead p (stepped l new old.games finished Finished) (given ++ t ∷ [])
-  has_read_game h leads plies =
+      → whole_plies new ≡ whole_plies old.reading + plies_next (next b.part t.kind)
+      → Raises (Tries old.reading.profile b.part t.kind) old.reading.most_probes new.most_probes → HasRead p (stepped l new old.games finished Finished) (given ++ t ∷ [])
+  has_read_game h leads plies tries =
       let done = leads_finished (next b.part t.kind) b.games new leads in
       let one = ap (λ (r : Read). r.begun.games) (reads h) ∙ done.1 in
       let g : Game = done.0 in
       let behind : IsBehind new g = done.3 in
+      let agrees : Agrees new (read p (given ++ t ∷ [])).begun.part = subst (λ (r : Read). Agrees new r.begun.part) (sym (reads h)) done.2 in
       record {
         profile = profile ∙ has_read.profile;
         no_fault = refl;
         passes = ap (λ (r : Read). r.fault) (reads h);
-        agrees = subst (λ (r : Read). Agrees new r.begun.part) (sym (reads h)) done.2;
+        agrees = agrees;
         games = ap (λ n. n + 1) has_read.games ∙ sym (ap (length {A = Game}) one ∙ length-snoc b.games g);
         plies = plies ∙ ap (λ n. n + plies_next (next b.part t.kind)) has_read.plies ∙ ap (λ n. sum (map plies_of b.games) + n) done.4
             ∙ sym (ap (λ games. sum (map plies_of games)) one ∙ plies-snoc b.games g);
-        probed = λ moves. elim (moves-snoc b.games g (subst (λ games. IsTrue (play_moves games)) one moves)) [
-          | inl before ↦ omega (arith, has_read.probed before, probes)
-          | inr here ↦ behind.probed here
-        ];
+        probed = in_either new (read p (given ++ t ∷ [])).begun agrees
+            (λ moves. elim (moves-snoc b.games g (subst (λ games. IsTrue (play_moves games)) one moves)) [
+              | inl before ↦ probed_before (in_games b before)
+              | inr here ↦ behind.probed here
+            ]);
+        tried = most_tried h tries;
         at_hand = (b.games, g, one, hand_behind new g behind);
       }
 
@@ -177,6 +212,16 @@ module _ (p : Profile) (old : Converter) (given : List Token) (t : Token) (l : S
   unfolding stops_refused
   none_before_refused us a c reason h wrote =
       ap (λ (r : Read). r.begun.games) (read-refuses p given t us reason has_read.passes (subst (λ q. refusal q b.part t.kind ≡ Some reason) has_read.profile h))
+
+  pub count_at_refused : (us : List Token) (a c : Option (List ℕ)) (reason : Reason) (h : refusal old.reading.profile b.part t.kind ≡ Some reason) (wrote : Appends a c [])
+      → Raises (Tries old.reading.profile b.part t.kind) old.reading.most_probes new.most_probes → CountsAtStop (stops_refused us a c reason h wrote) new.most_probes
+  unfolding stops_refused
+  count_at_refused us a c reason h wrote tries =
+      let some = subst (λ q. refusal q b.part t.kind ≡ Some reason) has_read.profile h in
+      record {
+        tried = most_to_refused p given t us reason old.reading.most_probes new.most_probes has_read.tried has_read.passes some (raised tries);
+        probed = λ moves. probed_before (subst (λ (r : Read). IsTrue (has_played r.begun)) (read-refuses p given t us reason has_read.passes some) moves);
+      }
 
   -- a write failed
   pub writing : (us : List Token) (a c : Option (List ℕ)) → refusal old.reading.profile b.part t.kind ≡ None
@@ -204,6 +249,21 @@ module _ (p : Profile) (old : Converter) (given : List Token) (t : Token) (l : S
   unfolding writing
   none_before_unwritten us a c h (n, short, wrote) = refl
 
+  pub count_at_unwritten : (us : List Token) (a c : Option (List ℕ)) (h : refusal old.reading.profile b.part t.kind ≡ None)
+      (wrote : (n : ℕ) × (n < length (gain old.reading.profile b.part t.kind)) × Appends a c (take n (gain old.reading.profile b.part t.kind)))
+      → Raises (TriesUnwritten old.reading.profile b.part t.kind) old.reading.most_probes new.most_probes
+      → CountsAtStop (unwritten t.at (writing us a c h wrote)) new.most_probes
+  unfolding writing
+  count_at_unwritten us a c h (n, short, wrote) tries =
+      record {
+        tried = (
+          old.reading.most_probes,
+          has_read.tried,
+          subst (λ q. Raises (TriesUnwritten q b.part t.kind) old.reading.most_probes new.most_probes) has_read.profile tries,
+        );
+        probed = probed_before;
+      }
+
 -- a text that goes on behind the bytes used goes on behind the piece
 next_in_piece : (l : Standing) (u piece : List ℕ) (used : ℕ) (given : List Token) → StandsAfter l (u ++ take used piece) (first (drop used piece)) given → AreNext (u ++ piece) None given
 next_in_piece l u piece used given stands s follows =
@@ -226,29 +286,30 @@ pub took : (p : Profile) (old : Converter) (u : List ℕ) (given : List Token) (
     (a c : Option (List ℕ)) (r : Result Accepted Stopped) → Stands p old u (first piece) given → AfterScan u (first piece) given piece l used (token t)
     → EndsAt t.kind t.at l.count → l.count ≡ old.lexer.count + used → new.profile ≡ old.reading.profile → old.reading.most_probes ≤ new.most_probes
     → Answers old.reading (read p given).begun.part t.kind new r a c
+    → RaisesMost old.reading.profile (read p given).begun.part t.kind r old.reading.most_probes new.most_probes
     → AfterStep p u given piece (stepped l new old.games finished (stepped_of t.at r)) used (stepped_of t.at r) a c
-took p old u given piece used t l new finished a c (Ok accepted.More) stands scan ends count profile probes h = (
+took p old u given piece used t l new finished a c (Ok accepted.More) stands scan ends count profile probes h tries = (
   t,
   record {
-    stands = record { lexer = scan.0; has_read = has_read_more p old given t l new finished stands.has_read profile probes h.free h.leads h.plies };
+    stands = record { lexer = scan.0; has_read = has_read_more p old given t l new finished stands.has_read profile probes h.free h.leads h.plies tries };
     decided = scan.1;
     ends = subst (EndsAt t.kind t.at) (count ∙ ap (λ n. n + used) stands.lexer.count) ends;
     gains = gains_token p old given t l new finished stands.has_read profile probes a c h.free h.appended;
   },
   same_games p old given t l new finished stands.has_read profile probes h.free h.leads,
 )
-took p old u given piece used t l new finished a c (Ok accepted.Finished) stands scan ends count profile probes h =
+took p old u given piece used t l new finished a c (Ok accepted.Finished) stands scan ends count profile probes h tries =
     let one = one_game p old given t l new finished stands.has_read profile probes h.free h.leads in (
       t,
       record {
-        stands = record { lexer = scan.0; has_read = has_read_game p old given t l new finished stands.has_read profile probes h.free h.leads h.plies };
+        stands = record { lexer = scan.0; has_read = has_read_game p old given t l new finished stands.has_read profile probes h.free h.leads h.plies tries };
         decided = scan.1;
         ends = subst (EndsAt t.kind t.at) (count ∙ ap (λ n. n + used) stands.lexer.count) ends;
         gains = gains_token p old given t l new finished stands.has_read profile probes a c h.free h.appended;
       },
       (one.0, one.1, ap (λ (hand : AtHand). Some hand) one.2),
     )
-took p old u given piece used t l new finished a c (Err (stopped.Refused reason)) stands scan ends count profile probes (some, wrote) =
+took p old u given piece used t l new finished a c (Err (stopped.Refused reason)) stands scan ends count profile probes (some, wrote) tries =
     record {
       fed = record {
         tokens = given ++ t ∷ [];
@@ -256,8 +317,9 @@ took p old u given piece used t l new finished a c (Err (stopped.Refused reason)
         stops = stops_refused p old given t l new finished stands.has_read profile probes [] a c reason some wrote;
       };
       no_game = none_before_refused p old given t l new finished stands.has_read profile probes [] a c reason some wrote;
+      counts = count_at_refused p old given t l new finished stands.has_read profile probes [] a c reason some wrote tries;
     }
-took p old u given piece used t l new finished a c (Err stopped.Unwritten) stands scan ends count profile probes (none, wrote) =
+took p old u given piece used t l new finished a c (Err stopped.Unwritten) stands scan ends count profile probes (none, wrote) tries =
     record {
       fed = record {
         tokens = given ++ t ∷ [];
@@ -265,6 +327,7 @@ took p old u given piece used t l new finished a c (Err stopped.Unwritten) stand
         stops = unwritten t.at (writing p old given t l new finished stands.has_read profile probes [] a c none wrote);
       };
       no_game = none_before_unwritten p old given t l new finished stands.has_read profile probes [] a c none wrote;
+      counts = count_at_unwritten p old given t l new finished stands.has_read profile probes [] a c none wrote tries;
     }
 
 -- no token in the piece
@@ -276,7 +339,7 @@ took_none p old u given piece used l o some stands scan =
       scan.0,
       record {
         lexer = subst (λ b. StandsAfter l (u ++ piece) b given) (still_none (first piece) piece some) scan.1;
-        has_read = record { profile = h.profile; no_fault = h.no_fault; passes = h.passes; agrees = h.agrees; games = h.games; plies = h.plies; probed = h.probed; at_hand = h.at_hand };
+        has_read = record { profile = h.profile; no_fault = h.no_fault; passes = h.passes; agrees = h.agrees; games = h.games; plies = h.plies; probed = h.probed; tried = h.tried; at_hand = h.at_hand };
       },
       scan.2 some,
       gains_none p given o,
@@ -300,10 +363,24 @@ unfolding stops_lexical
 none_before_lexical p given f o passes =
     ap (λ (r : Read). r.begun.games) (read-refuses p given (refusal_token f) [] (Lexical f.reason) passes (lexical-refusal p (read p given).begun.part f))
 
+-- a refusal of the lexer tries no pair
+pub count_at_lexical : (p : Profile) (old : Converter) (given : List Token) (f : LexFault) (o : Option (List ℕ)) (has_read : HasRead p old given)
+    → CountsAtStop (stops_lexical p given f o has_read.passes) old.reading.most_probes
+unfolding stops_lexical
+count_at_lexical p old given f o has_read =
+    let b = (read p given).begun in
+    let some = lexical-refusal p b.part f in
+    record {
+      tried = most_to_refused p given (refusal_token f) [] (Lexical f.reason) old.reading.most_probes old.reading.most_probes has_read.tried has_read.passes some
+          (raises_none p b.part f.reason (Lexical f.reason) old.reading.most_probes some);
+      probed = λ moves. has_read.probed
+          (subst (λ (r : Read). IsTrue (has_played r.begun)) (read-refuses p given (refusal_token f) [] (Lexical f.reason) has_read.passes some) moves);
+    }
+
 pub took_fault : (p : Profile) (old : Converter) (u : List ℕ) (given : List Token) (piece : List ℕ) (used : ℕ) (f : LexFault) (l : Standing) (new : Converter) (o : Option (List ℕ)) → 0 < length piece
     → Stands p old u (first piece) given → AfterScan u (first piece) given piece l used (fault f)
-    → AfterStep p u given piece new used (Failed (record { at = f.at; reason = Lexical f.reason })) o o
-took_fault p old u given piece used f l new o some stands scan =
+    → new.reading ≡ old.reading → AfterStep p u given piece new used (Failed (record { at = f.at; reason = Lexical f.reason })) o o
+took_fault p old u given piece used f l new o some stands scan same =
     record {
       fed = record {
         tokens = given ++ refusal_token f ∷ [];
@@ -313,6 +390,8 @@ took_fault p old u given piece used f l new o some stands scan =
         stops = stops_lexical p given f o stands.has_read.passes;
       };
       no_game = none_before_lexical p given f o stands.has_read.passes;
+      counts = subst (λ (r : Reading). CountsAtStop (stops_lexical p given f o stands.has_read.passes) r.most_probes) (sym same)
+          (count_at_lexical p old given f o stands.has_read);
     }
 
 -- a game is at hand after a step where the step finished one

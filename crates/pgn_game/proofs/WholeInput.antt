@@ -15,11 +15,12 @@ use Rattle.pgn_game.specs.Here.{plies_of}
 use Rattle.pgn_game.specs.Reading.{whole_plies}
 use Rattle.pgn_game.specs.Begun.{nothing_begun, Read, read, written, due, refused as is_refused, totals, verdict_of}
 use Rattle.pgn_game.specs.Due.{Gains}
+use Rattle.pgn_game.specs.MostTried.{MostTried}
 use Rattle.pgn_game.specs.Feeding.{Converter, Stands, Stops, refused, unwritten, StopsWriting, StopsIn, at_token, too_long, FedFault, FedWhole, ReadsUpTo, Finishes}
 use Rattle.pgn_game.specs.Converting.{IsConverted, IsTotalled, ReadsNoMore, FailsOn, Fails, AfterEnd, ReadSoFar, Converts, ConvertsSlice}
 use Rattle.pgn_game.specs.Converting as converting
 use Rattle.pgn_game.proofs.Growing.{torn-none, gains_none, gains_more, stops_more, stops_from}
-use Rattle.pgn_game.proofs.OneToken.{still_none-none}
+use Rattle.pgn_game.proofs.OneToken.{in_games, still_none-none}
 
 pub verdict_passes : (r : Read) → r.fault ≡ None → verdict_of r ≡ totals (record { games = length r.begun.games; plies = sum (map plies_of r.begun.games) })
 verdict_passes r e = ap (λ (o : Option Fault). elim o [ Some f ↦ is_refused f | None ↦ totals (record { games = length r.begun.games; plies = sum (map plies_of r.begun.games) }) ]) e
@@ -33,7 +34,11 @@ ended p u given new is_game t a c done games plies probes bound = (
   verdict_passes (read p (tokens_of u)) done.has_read.passes
       ∙ ap (λ n. totals (record { games = n; plies = sum (map plies_of (read p (tokens_of u)).begun.games) })) (sym (games ∙ done.has_read.games))
       ∙ ap (λ n. totals (record { games = t.games; plies = n })) (sym (plies ∙ done.has_read.plies)),
-  record { most = bound; some = λ moves. subst (λ n. 0 < n) (sym probes) (done.has_read.probed moves) },
+  record {
+    most = bound;
+    some = λ moves. subst (λ n. 0 < n) (sym probes) (done.has_read.probed (in_games (read p (tokens_of u)).begun moves));
+    tried = subst (MostTried p (tokens_of u)) (sym probes) done.has_read.tried;
+  },
   done.gains,
 )
 

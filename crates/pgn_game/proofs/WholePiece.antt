@@ -74,9 +74,9 @@ module _ (p : Profile) (u : List ℕ) (given : List Token) (piece : List ℕ) (a
       }
 
   -- before place 2^62
-  all_before : (front : List ℕ) → length ((u ++ take at piece) ++ front) ≡ 2 ^ 62 → (n : Converter) × FedAll p (u ++ take at piece) (first (drop at piece)) so.tokens front n c d
+  all_before : (front : List ℕ) (n : Converter) → length ((u ++ take at piece) ++ front) ≡ 2 ^ 62 → FedAll p (u ++ take at piece) (first (drop at piece)) so.tokens front n c d
       → ReadsUpTo p given (u ++ (take at piece ++ front)) a d
-  all_before front end (n, fed) =
+  all_before front n end fed =
       record {
         tokens = fed.tokens;
         decided = which front refl;
@@ -93,12 +93,13 @@ module _ (p : Profile) (u : List ℕ) (given : List Token) (piece : List ℕ) (a
           fed.empty (ap (length {A = ℕ}) e) ∙ so.at_limit (sym (ap (length {A = ℕ}) here) ∙ end) ∙ ap decided (sym here ∙ text)
       which (x ∷ xs) e = fed.decided (subst (λ ys. 0 < length ys) (sym e) (omega arith)) ∙ ap decided text
 
-  pub all_stops : (f : Fault)
-      → StopsIn (u ++ take at piece) (drop at piece) (λ fault. FedToFault p (u ++ take at piece) (first (drop at piece)) so.tokens (drop at piece) fault c d)
-      (λ front. (n : Converter) × FedAll p (u ++ take at piece) (first (drop at piece)) so.tokens front n c d) f
+  pub all_stops : (new : Converter) (f : Fault)
+      → StopsIn (u ++ take at piece) (drop at piece)
+      (λ fault. FedToFault p (u ++ take at piece) (first (drop at piece)) so.tokens (drop at piece) fault new.reading.most_probes c d)
+      (λ front. (n : Converter) × FedAll p (u ++ take at piece) (first (drop at piece)) so.tokens front n c d × (new.reading ≡ n.reading)) f
       → StopsIn u piece (λ fault. FedFault p u None given piece fault a d) (λ front. ReadsUpTo p given (u ++ front) a d) f
-  all_stops f (at_token h to) = at_token h (all_fault h to.fed)
-  all_stops f (too_long front rest cut end some fed) =
+  all_stops new f (at_token h to) = at_token h (all_fault h to.fed)
+  all_stops new f (too_long front rest cut end some (n, fed, same)) =
       too_long (take at piece ++ front) rest
       (sym (take-append-drop at piece) ∙ ap (λ xs. take at piece ++ xs) cut ∙ sym (append_assoc (take at piece) front rest))
-      (sym (ap (length {A = ℕ}) (append_assoc u (take at piece) front)) ∙ end) some (all_before front end fed)
+      (sym (ap (length {A = ℕ}) (append_assoc u (take at piece) front)) ∙ end) some (all_before front n end fed)

@@ -15,6 +15,7 @@ use Rattle.pgn_game.specs.declared.whole.Totals.{Totals}
 use Rattle.pgn_game.specs.Profile.{Profile}
 use Rattle.pgn_game.specs.Begun.{read, due, output, Verdict, refused as is_refused, totals, verdict}
 use Rattle.pgn_game.specs.Due.{Gains}
+use Rattle.pgn_game.specs.MostTried.{MostTried}
 use Rattle.pgn_game.specs.Feeding.{Converter, play_moves, Stands, StopsWriting, Stops}
 
 -- the verdict that has these numbers
@@ -25,11 +26,13 @@ verdict_in t = totals (record { games = t.games; plies = t.plies })
 abbrev pub IsConverted : Profile → List ℕ → Verdict → Option (List ℕ) → Option (List ℕ) → Type 0
 IsConverted p s v before after = (verdict p s ≡ v) × Appends before after (output p s)
 
--- The most pairs tried for one move: at most 1,040, which is 8 for the candidates of its piece, 8
--- for their rivals, and 1,024 for an answer to a check; and at least one, if any move was played.
+-- The most pairs tried for one move of the input: at most 1,040, which is 8 for the candidates of
+-- its piece, 8 for their rivals, and 1,024 for an answer to a check; and at least one, if any move
+-- was played.
 pub record CountsProbes (p : Profile) (s : List ℕ) (n : ℕ) : Type 0 where
   pub most : n ≤ 1040
   pub some : IsTrue (play_moves (read p (tokens_of s)).begun.games) → 0 < n
+  pub tried : MostTried p (tokens_of s) n
 
 -- the same with these numbers
 pub record IsTotalled (p : Profile) (s : List ℕ) (t : Totals) (before after : Option (List ℕ)) : Type 0 where

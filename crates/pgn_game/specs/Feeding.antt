@@ -3,7 +3,7 @@
 -- `given` are the tokens given so far, and f is a fault. `before` and `after` are the bytes that
 -- the sink has taken, before the call and after it, if it reports them. A game is at hand if it is
 -- just finished.
-use Rattle.std.specs.Prelude.{◌≡◌, ℕ, ◌+◌, ◌*◌, ◌^◌, ◌<◌, ◌≤◌, ◌↔◌, Bool, true, false, IsTrue, List, [], ◌∷◌, ◌++◌, length, take, drop, map, sum, codes, option_map, Option, None, Some, Result, Ok, Err}
+use Rattle.std.specs.Prelude.{◌≡◌, ℕ, ◌+◌, ◌*◌, ◌^◌, ◌<◌, ◌≤◌, ◌↔◌, Bool, true, false, ◌||◌, IsTrue, List, [], ◌∷◌, ◌++◌, length, take, drop, map, sum, codes, option_map, Option, None, Some, Result, Ok, Err}
 use Rattle.std.specs.List.{list_any}
 use Rattle.std.specs.Io.KnownBytes.{Appends}
 use Rattle.chess_rules.specs.declared.position.Parts.{Parts}
@@ -24,7 +24,8 @@ use Rattle.pgn_game.specs.Profile.{Profile, counts_as_unknown}
 use Rattle.pgn_game.specs.Pairs.{Pair, value_of}
 use Rattle.pgn_game.specs.TagSection.{exported}
 use Rattle.pgn_game.specs.Game.{Game}
-use Rattle.pgn_game.specs.Begun.{read, due}
+use Rattle.pgn_game.specs.Begun.{Begun, read, due}
+use Rattle.pgn_game.specs.MostTried.{MostTried, Raises, TriesUnwritten}
 use Rattle.pgn_game.specs.Due.{Gains}
 use Rattle.pgn_game.specs.Here.{plies_of, last_position}
 use Rattle.pgn_game.specs.Reading.{Reading, Agrees, has_move, whole_plies}
@@ -94,8 +95,13 @@ IsLast (Some hand) games = (earlier : List Game) × (g : Game) × (games ≡ ear
 abbrev pub play_moves : List Game → Bool
 play_moves games = list_any (λ g. has_move g.items) games
 
+-- a move is in one of the games, or in the part
+abbrev pub has_played : Begun → Bool
+has_played b = play_moves b.games || has_move b.part.items
+
 -- The converter has read these tokens: none is refused, its reader agrees with the part that they
--- leave, and its counts and the game at hand are theirs.
+-- leave, and its counts and the game at hand are theirs. It has tried at least one pair for a move
+-- once a move was played.
 pub record HasRead (p : Profile) (c : Converter) (given : List Token) : Type 0 where
   pub profile : c.reading.profile ≡ p
   pub no_fault : c.fault ≡ None
@@ -103,7 +109,8 @@ pub record HasRead (p : Profile) (c : Converter) (given : List Token) : Type 0 w
   pub agrees : Agrees c.reading (read p given).begun.part
   pub games : c.games ≡ length (read p given).begun.games
   pub plies : whole_plies c.reading ≡ sum (map plies_of (read p given).begun.games)
-  pub probed : IsTrue (play_moves (read p given).begun.games) → 0 < c.reading.most_probes
+  pub probed : IsTrue (has_played (read p given).begun) → 0 < c.reading.most_probes
+  pub tried : MostTried p given c.reading.most_probes
   pub at_hand : IsLast c.at_hand (read p given).begun.games
 
 -- The converter stands after the bytes u, of which the lexer has given these tokens; b, where there
@@ -177,10 +184,29 @@ abbrev pub games_before : {p : Profile} {given tokens : List Token} {before afte
 games_before {p} {given} {tokens} (refused f fault gains) = (read p tokens).begun.games
 games_before {p} (unwritten at writing) = (read p writing.front).begun.games
 
+-- what was read before that
+abbrev pub begun_before : {p : Profile} {given tokens : List Token} {before after : Option (List ℕ)} {f : Fault} → Stops p given tokens before after f → Begun
+begun_before {p} {given} {tokens} (refused f fault gains) = (read p tokens).begun
+begun_before {p} (unwritten at writing) = (read p writing.front).begun
+
+-- the most pairs that were tried for one token, up to the one at fault and with it
+abbrev pub MostAtStop : {p : Profile} {given tokens : List Token} {before after : Option (List ℕ)} {f : Fault} → Stops p given tokens before after f → ℕ → Type 0
+MostAtStop {p} {given} {tokens} (refused f fault gains) most = MostTried p tokens most
+MostAtStop {p} (unwritten at writing) most =
+    (least : ℕ) × MostTried p writing.front least
+    × Raises (TriesUnwritten p (read p writing.front).begun.part writing.token.kind) least most
+
+-- that, and some pair was tried if a move was played
+pub record CountsAtStop {p : Profile} {given tokens : List Token} {before after : Option (List ℕ)} {f : Fault}
+    (stops : Stops p given tokens before after f) (most : ℕ) : Type 0 where
+  pub tried : MostAtStop stops most
+  pub probed : IsTrue (has_played (begun_before stops)) → 0 < most
+
 -- and before it no game was finished
-pub record FedToFault (p : Profile) (u : List ℕ) (b : Option ℕ) (given : List Token) (piece : List ℕ) (f : Fault) (before after : Option (List ℕ)) : Type 0 where
+pub record FedToFault (p : Profile) (u : List ℕ) (b : Option ℕ) (given : List Token) (piece : List ℕ) (f : Fault) (most : ℕ) (before after : Option (List ℕ)) : Type 0 where
   pub fed : FedFault p u b given piece f before after
   pub no_game : games_before fed.stops ≡ (read p given).begun.games
+  pub counts : CountsAtStop fed.stops most
 
 -- How reading stops in a piece that follows the bytes u: at one of its tokens; or because the byte
 -- at place 2^62 is in it, and then `Before` says what was read and written of the bytes before that
@@ -198,8 +224,10 @@ AfterFeed p u b given piece new (Ok All) before after = FedAll p u b given piece
 AfterFeed p u b given piece new (Ok (GameEnd used)) before after =
     FedGame p u given piece used new before after
 AfterFeed p u b given piece new (Err f) before after =
-    StopsIn u piece (λ fault. FedToFault p u b given piece fault before after)
-    (λ front. (now : Converter) × FedAll p u b given front now before after) f
+    StopsIn u piece
+    (λ fault. FedToFault p u b given piece fault new.reading.most_probes before after)
+    (λ front. (now : Converter) × FedAll p u b given front now before after
+    × (new.reading ≡ now.reading)) f
 
 -- What `feed` does to a converter that stands after any bytes.
 abbrev pub Feeds : Converter → List ℕ → Converter → Result Fed Fault → Option (List ℕ) → Option (List ℕ) → Type 0
@@ -269,6 +297,7 @@ pub record Finishes (p : Profile) (u : List ℕ) (given : List Token) (new : Con
 pub record FinishesToFault (p : Profile) (u : List ℕ) (given : List Token) (new : Converter) (f : Fault) (before after : Option (List ℕ)) : Type 0 where
   pub stops : Stops p given (tokens_of u) before after f
   pub games : new.games ≡ length (games_before stops)
+  pub counts : CountsAtStop stops new.reading.most_probes
 
 abbrev pub AfterFinish : Profile → List ℕ → List Token → Converter → Result Bool Fault → Option (List ℕ) → Option (List ℕ) → Type 0
 AfterFinish p u given new (Ok is_game) before after = Finishes p u given new is_game before after

@@ -11,19 +11,21 @@ use Rattle.pgn_game.specs.declared.accept.Accepted.TheVariants.{More, Finished}
 use Rattle.pgn_game.specs.declared.accept.Stopped.{Stopped}
 use Rattle.pgn_game.specs.declared.accept.Stopped.TheVariants.{Refused, Unwritten}
 use Rattle.pgn_game.specs.declared.judged.Judged.{Judged}
+use Rattle.pgn_game.specs.declared.judged.Judged.TheVariants.{Entry as InText}
+use Rattle.pgn_game.specs.declared.judged.Entry.TheVariants.{Item as Put}
 use Rattle.pgn_game.specs.Profile.{Profile, counts_as_unknown}
 use Rattle.pgn_game.specs.Pairs.{Pair}
 use Rattle.pgn_game.specs.Chess.{first_position}
-use Rattle.pgn_game.specs.Game.{Part}
+use Rattle.pgn_game.specs.Game.{Item, Part}
 use Rattle.pgn_game.specs.TagSection.{tag_section}
 use Rattle.pgn_game.specs.Text.{torn}
 use Rattle.pgn_game.specs.FaultTable.{is_comment, is_end}
 use Rattle.pgn_game.specs.Begun.{Next}
 use Rattle.pgn_game.specs.Due.{text_next}
 use Rattle.pgn_game.specs.Movetext.{begins_at}
-use Rattle.pgn_game.specs.Putting.{Device}
+use Rattle.pgn_game.specs.Putting.{Device, TriesItem}
 use Rattle.pgn_game.specs.Reading.{Reading, Agrees, Leads, Stays, CountsWrites, plies_next, whole_plies}
-use Rattle.pgn_game.specs.Judging.{after, is_final}
+use Rattle.pgn_game.specs.Judging.{after, is_final, item_of}
 
 -- A game begins.
 
@@ -73,6 +75,18 @@ abbrev pub FinishesFinal : Judged → Reading → Result Accepted Stopped → Ty
 FinishesFinal j new (Ok More) = Unit {0}
 FinishesFinal j new (Ok Finished) = IsTrue (is_final j) × (new.stage ≡ Between)
 FinishesFinal j new (Err stopped) = Unit {0}
+
+-- How many pairs were tried to write it. Where a write of the tag section failed, none was tried.
+pub data UnwrittenPairs (old : Reading) (i : Item) (before after : ℕ) : Type 0 where
+  at_item : TriesItem old.profile.mode old.text i before after → UnwrittenPairs old i before after
+  in_section : old.stage ≡ AfterTags → after ≡ before → UnwrittenPairs old i before after
+
+abbrev pub TriesJudged : Reading → Judged → Result Accepted Stopped → ℕ → ℕ → Type 0
+TriesJudged old (InText (Put i)) (Ok accepted) before after =
+    TriesItem old.profile.mode old.text (item_of i) before after
+TriesJudged old (InText (Put i)) (Err stopped) before after =
+    UnwrittenPairs old (item_of i) before after
+TriesJudged old j r before after = after ≡ before
 
 -- What putting comes to, for each part that the reader agrees with.
 pub record Puts (old : Reading) (j : Judged) (new : Reading) (r : Result Accepted Stopped)

@@ -21,6 +21,7 @@ use Rattle.pgn_game.specs.Profile.{Profile}
 use Rattle.pgn_game.specs.Pairs.{has_pair, insert_pair}
 use Rattle.pgn_game.specs.Chess.{move_of, position_of}
 use Rattle.pgn_game.specs.Finding.{found_in}
+use Rattle.pgn_game.specs.MostTried.{CostsIf}
 use Rattle.pgn_game.specs.Game as games
 use Rattle.pgn_game.specs.Game.{Item, Game, Part}
 use Rattle.pgn_game.specs.Here.{depth, start_of}
@@ -148,6 +149,12 @@ found r _ = None
 pub record Finds (r : Reading) (k : Kind) (result : Option (Result Played Reason)) : Type 0 where
   pub says : result ≡ found r k
   pub legal : IfSome result (λ f. IfOk f (λ played. IsLegal r.text.levels.present.present played × (0 < r.most_probes)))
+
+-- how many pairs were tried for it
+abbrev pub Seeks : Reading → Kind → ℕ → Type 0
+Seeks r (tokens.symbol s) n =
+    CostsIf (is_open r.stage && not (is_score s || is_number s)) r.text.levels.present.present s n
+Seeks r k n = n ≡ 0
 
 -- the count of probes has risen, if anything has changed
 pub record Counts (old new : Reading) : Type 0 where

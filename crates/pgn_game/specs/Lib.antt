@@ -18,6 +18,7 @@ pub mod Finding
 pub mod Text
 pub mod Begun
 pub mod Tried
+pub mod MostTried
 pub mod Due
 pub mod Reading
 pub mod Feeding

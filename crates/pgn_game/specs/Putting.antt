@@ -13,6 +13,7 @@ use Rattle.pgn_game.specs.Chess.{is_black_to_move}
 use Rattle.pgn_game.specs.Game.{Item}
 use Rattle.pgn_game.specs.Text.{is_move, number_before, tokens_at, full_text}
 use Rattle.pgn_game.specs.Movetext.{Movetext, Levels, HoldsItems, IsBackIn, level_at}
+use Rattle.pgn_game.specs.MostTried.{CostsToWrite}
 use Rattle.pgn_game.specs.Judging.{item_of}
 
 -- A sink before and after a call: the bytes that it has taken, if it says so, and its count of
@@ -95,7 +96,12 @@ pub record WritesItem {A E : Type 0} (mode : Mode) (i : Item) (text : Movetext) 
       layout new_layout result d
   pub ends : MatchResult result (λ _. new_text ≡ written_text mode text i) (λ _. new_text ≡ text)
 
--- how many pairs are tried at most to write an item
+-- how many pairs are tried to write an item
+abbrev pub TriesItem : Mode → Movetext → Item → ℕ → ℕ → Type 0
+TriesItem mode text i old new =
+    CostsToWrite (writes mode (length text.levels.around) i) text.levels.present.present i old new
+
+-- and at most
 abbrev pub Rises : ℕ → ℕ → Type 0
 Rises old new = (old ≤ new) × (new ≤ old + 1032)
 

@@ -24,7 +24,7 @@ use Rattle.pgn_game.specs.Profile.{Profile}
 use Rattle.pgn_game.specs.Game.{Game}
 use Rattle.pgn_game.specs.Begun.{read}
 use Rattle.pgn_game.specs.Due.{Gains}
-use Rattle.pgn_game.specs.Feeding.{Converter, held_by, hand_of, IsLast, HasRead, Stands, Stops, games_before, FedAll, FedGame, FedToFault, CountsReason}
+use Rattle.pgn_game.specs.Feeding.{Converter, held_by, hand_of, IsLast, HasRead, Stands, Stops, games_before, CountsAtStop, FedAll, FedGame, FedToFault, CountsReason}
 
 -- the games read with one token more: none more, or one
 abbrev pub SameGames : Profile → List Token → List Token → Type 0
@@ -49,7 +49,7 @@ AfterStep p u given piece new used More before after =
 AfterStep p u given piece new used Finished before after =
     (t : Token) × Took p u given piece used t new before after × ((g : Game) × OneGame p given (given ++ t ∷ []) g × (new.at_hand ≡ Some (hand_of g)))
 AfterStep p u given piece new used Ended before after = ⊥
-AfterStep p u given piece new used (Failed f) before after = FedToFault p u None given piece f before after
+AfterStep p u given piece new used (Failed f) before after = FedToFault p u None given piece f new.reading.most_probes before after
 
 -- Where no game is begun after a token, nothing has changed with it.
 abbrev pub StaysBetween : Converter → Converter → Type 0
@@ -70,9 +70,10 @@ pub record TookEnd (p : Profile) (u : List ℕ) (given : List Token) (t : Token)
   pub gains : Gains p given (given ++ t ∷ []) before after
 
 -- a token of these is refused, or a write failed, and before it no game was finished
-pub record ClosedToFault (p : Profile) (given tokens : List Token) (f : Fault) (before after : Option (List ℕ)) : Type 0 where
+pub record ClosedToFault (p : Profile) (given tokens : List Token) (f : Fault) (most : ℕ) (before after : Option (List ℕ)) : Type 0 where
   pub stops : Stops p given tokens before after f
   pub no_game : games_before stops ≡ (read p given).begun.games
+  pub counts : CountsAtStop stops most
 
 -- What a step after the last piece results in. `⊥` means never: none is `NeedMore`.
 abbrev pub AfterClosing : Profile → List ℕ → List Token → Converter → Converter → Stepped → Option (List ℕ) → Option (List ℕ) → Type 0
@@ -81,7 +82,7 @@ AfterClosing p u given old new More before after = (t : Token) × TookLast p u g
 AfterClosing p u given old new Finished before after =
     (t : Token) × TookLast p u given t new before after × ((g : Game) × OneGame p given (given ++ t ∷ []) g × (held_by new.reading ≡ hand_of g))
 AfterClosing p u given old new Ended before after = (t : Token) × TookEnd p u given t new before after × StaysBetween old new
-AfterClosing p u given old new (Failed f) before after = ClosedToFault p given (tokens_of u) f before after
+AfterClosing p u given old new (Failed f) before after = ClosedToFault p given (tokens_of u) f new.reading.most_probes before after
 
 -- What was read behind the last piece so far, and whether a game was finished there. It is still
 -- held while none is begun.
@@ -163,7 +164,8 @@ abbrev pub AfterFront : Profile → List ℕ → Option ℕ → List Token → L
 AfterFront p u b given piece new (Ok All) before after = FedAll p u b given piece new before after
 AfterFront p u b given piece new (Ok (GameEnd used)) before after =
     FedGame p u given piece used new before after
-AfterFront p u b given piece new (Err f) before after = FedToFault p u b given piece f before after
+AfterFront p u b given piece new (Err f) before after =
+    FedToFault p u b given piece f new.reading.most_probes before after
 
 abbrev pub FeedsFront : Converter → List ℕ → Converter → Result Fed Fault
     → Option (List ℕ) → Option (List ℕ) → Type 0

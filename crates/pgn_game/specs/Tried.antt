@@ -1,4 +1,4 @@
--- **Bookkeeping**: how many pairs of an origin and a target are tried to find the move of a text.
+-- **Definition**: how many pairs of an origin and a target are tried to find the move of a text.
 --
 -- No order of search is stated, only what each outcome costs: each pair of the form's candidates,
 -- or at least two of them where more than one move agrees.

@@ -247,9 +247,11 @@ impl<const T: usize, const L: usize> Converter<T, L> {
         None
     }
 
-    /// Returns the most pairs of an origin and a target that were tried for one move so far, the
-    /// writing of its SAN and its mark included: at most 1,040, and at least 1 once a move was
-    /// played.
+    /// Returns the most pairs of an origin and a target that were tried for one move so far: at
+    /// most 1,040, and at least 1 once a move was played.
+    ///
+    /// Pairs are tried to find a move, also one that is refused, and to write the SAN of an
+    /// accepted one with its mark. In reduced mode the moves of variations are not written.
     pub fn most_probes(&self) -> u32
         ensures value { result ≡ self.now.reading.most_probes }
         ensures bound { result ≤ 1040 }

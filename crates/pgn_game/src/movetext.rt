@@ -1,10 +1,11 @@
 //! The movetext of a game, item by item: it is written as it comes.
-ghost use Rattle.std.specs.Prelude.{◌≡◌, ◌+◌, ◌-◌, ◌^◌, ◌<◌, ◌≤◌, false, is_some, length};
+ghost use Rattle.std.specs.Prelude.{◌≡◌, ◌+◌, ◌-◌, ◌^◌, ◌<◌, ◌≤◌, false, true, is_some, length};
 ghost use Rattle.pgn_game.specs.Chess.{first_position};
 ghost use Rattle.pgn_game.specs.Game as games;
 ghost use Rattle.pgn_game.specs.Movetext.{begins_at, begun_at};
 ghost use Rattle.pgn_game.specs.Judging.{IsLegal, ItemFits, item_of};
-ghost use Rattle.pgn_game.specs.Putting.{Adds, GoesOn, Puts, Rises, WritesItem};
+ghost use Rattle.pgn_game.specs.MostTried.{CostsToWrite};
+ghost use Rattle.pgn_game.specs.Putting.{Adds, GoesOn, Puts, Rises, TriesItem, WritesItem};
 ghost use Rattle.pgn_game.specs.Putting.{device, number_due, tokens_due, writes};
 
 use crate::judged::Item;
@@ -118,6 +119,7 @@ impl<const L: usize> Movetext<L> {
         ensures adds { Adds mode (item_of item.now) self.old layout.old self.new layout.new result
             (device W.taken W.failures out.old out.new) }
         ensures probes { Rises probes.old probes.new }
+        ensures tried { TriesItem mode self.old (item_of item.now) probes.old probes.new }
     {
         self.write(mode, item, probes, layout, out)?;
         self.go_on(item);
@@ -140,6 +142,7 @@ impl<const L: usize> Movetext<L> {
         ensures writes { WritesItem mode (item_of item.now) self.old layout.old self.new layout.new
             result (device W.taken W.failures out.old out.new) }
         ensures probes { Rises probes.old probes.new }
+        ensures tried { TriesItem mode self.old (item_of item.now) probes.old probes.new }
     {
         if !self.is_written(mode, item) {
             return Ok(());
@@ -172,6 +175,8 @@ impl<const L: usize> Movetext<L> {
         ensures puts { Puts (tokens_due self.now (item_of item.now)) layout.old layout.new result
             (device W.taken W.failures out.old out.new) }
         ensures probes { Rises probes.old probes.new }
+        ensures tried { CostsToWrite true self.now.levels.present.present (item_of item.now)
+            probes.old probes.new }
     {
         match item {
             Item::Move(played) => self.write_move(played, probes, layout, out),
@@ -199,6 +204,8 @@ impl<const L: usize> Movetext<L> {
         ensures puts { Puts (tokens_due self.now (games.move played.now.mv)) layout.old layout.new
             result (device W.taken W.failures out.old out.new) }
         ensures probes { Rises probes.old probes.new }
+        ensures tried { CostsToWrite true self.now.levels.present.present (games.move played.now.mv)
+            probes.old probes.new }
     {
         let san = write_san(self.levels.present(), played, probes);
         self.put_number(layout, out)?;

@@ -17,10 +17,12 @@ ghost use Rattle.pgn_game.specs.declared.judged.Judged.TheVariants.{Entry as InT
 ghost use Rattle.pgn_game.specs.Profile.{counts_as_unknown};
 ghost use Rattle.pgn_game.specs.Movetext.{begins_at};
 ghost use Rattle.pgn_game.specs.Reading.{Accepts, Agrees, Stays, FinishesAtMarker, CountsWrites};
-ghost use Rattle.pgn_game.specs.Judging.{Counts, Finds, Fits, Judges, JudgesEntry, is_open};
+ghost use Rattle.pgn_game.specs.Judging.{Counts, Finds, Fits, Judges, JudgesEntry, Seeks, is_open};
 ghost use Rattle.pgn_game.specs.Judging.{start_told as told};
 ghost use Rattle.pgn_game.specs.Putting.{device};
-ghost use Rattle.pgn_game.specs.Handling.{BeginsText, Puts, begins, readied};
+ghost use Rattle.pgn_game.specs.Handling.{BeginsText, Puts, TriesJudged, begins, readied};
+ghost use Rattle.pgn_game.specs.MostTried.{RaisesMost};
+ghost use Rattle.pgn_game.specs.Game.{Part};
 ghost use Rattle.pgn_game.specs.FaultTable.{is_result as is_any_result, is_score as is_of_score};
 ghost use Rattle.pgn_game.specs.FaultTable.{is_number as is_of_number, is_reduced};
 ghost use Rattle.pgn_game.specs.FaultTable.{lacks_fen as set_up_lacks_fen, marker_of};
@@ -175,6 +177,9 @@ impl<const T: usize, const L: usize> Reader<T, L> {
         ensures plies { self.new.earlier_plies + self.new.text.plies
             ≤ self.old.earlier_plies + self.old.text.plies + 1 }
         ensures probes { self.old.most_probes ≤ self.new.most_probes }
+        ensures tried { (part : Part) → Agrees self.old part
+            → RaisesMost self.old.profile part (kind_of kind.entry) result
+            self.old.most_probes self.new.most_probes }
     {
         self.make_ready(kind);
         let mut probes = Probes::new();
@@ -209,6 +214,8 @@ impl<const T: usize, const L: usize> Reader<T, L> {
         ensures found { Finds self.new (kind_of kind.entry) result }
         ensures counted { Counts self.old self.new }
         ensures few { probes.new ≤ 8 }
+        ensures tried { Seeks self.new (kind_of kind.entry) probes.new }
+        ensures most { self.new.most_probes ≡ max self.old.most_probes probes.new }
     {
         let TokenKind::Symbol(text) = kind else {
             return None;
@@ -490,8 +497,11 @@ impl<const T: usize, const L: usize> Reader<T, L> {
         requires counted { self.old.text.plies < 2 ^ 64 - 1 }
         requires fits { Fits T L self.old judged.now }
         requires few { probes.old ≤ 8 }
-        ensures { Puts self.old judged.now self.new result
+        ensures puts { Puts self.old judged.now self.new result
             (device W.taken W.failures out.old out.new) }
+        ensures tried { TriesJudged self.old judged.now result probes.old probes.new }
+        ensures most { probes.old ≤ self.old.most_probes
+            → self.new.most_probes ≡ max self.old.most_probes probes.new }
     {
         match judged {
             Judged::Passed => Ok(Accepted::More),
@@ -531,8 +541,11 @@ impl<const T: usize, const L: usize> Reader<T, L> {
         requires counted { self.old.text.plies < 2 ^ 64 - 1 }
         requires fits { Fits T L self.old (InText entry.now) }
         requires few { probes.old ≤ 8 }
-        ensures { Puts self.old (InText entry.now) self.new result
+        ensures puts { Puts self.old (InText entry.now) self.new result
             (device W.taken W.failures out.old out.new) }
+        ensures tried { TriesJudged self.old (InText entry.now) result probes.old probes.new }
+        ensures most { probes.old ≤ self.old.most_probes
+            → self.new.most_probes ≡ max self.old.most_probes probes.new }
     {
         self.begin_movetext(out)?;
         match entry {

@@ -19,8 +19,8 @@ pub struct Totals {
     pub games: u64,
     /// The number of their plies together, without variations.
     pub plies: u64,
-    /// The most pairs of an origin and a target that were tried for one move, the writing of its
-    /// SAN and its mark included; at most 1,040.
+    /// The most pairs of an origin and a target that were tried for one move, as
+    /// `Converter::most_probes` counts them; at most 1,040.
     pub most_probes: u32,
 }
 

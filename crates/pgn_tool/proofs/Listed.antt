@@ -162,8 +162,10 @@ module _ (u rest : List ℕ) (old new : Converter) (a b : Option (List ℕ)) (so
       }
 
   -- a token of the rest is refused, or the byte at place 2^62 is in it
-  pub rest_stops : (f : Fault) → StopsIn u rest (λ fault. FedToFault list_profile u (first rest) so.tokens rest fault None None)
-      (λ front. (c : Converter) × FedAll list_profile u (first rest) so.tokens front c None None) f
+  pub rest_stops : (f : Fault)
+      → StopsIn u rest
+      (λ fault. FedToFault list_profile u (first rest) so.tokens rest fault new.reading.most_probes None None)
+      (λ front. (c : Converter) × FedAll list_profile u (first rest) so.tokens front c None None × (new.reading ≡ c.reading)) f
       → feeding.CountsReason f.reason 0 0
       → StopsIn u rest (λ fault. ListsToFault (u ++ rest) fault a b) (λ front. ListsNoMore (u ++ front) a b) f
   rest_stops f (feeding.at_token h to) counted = feeding.at_token h (by_stops to.fed.stops to.no_game counted)
@@ -178,7 +180,7 @@ module _ (u rest : List ℕ) (old new : Converter) (a b : Option (List ℕ)) (so
             written = subst (λ gs. Appends a b (lines_from 1 gs)) (sym same) so.written;
           }
       by_stops (feeding.unwritten at writing) same counts = absurd (omega (arith, counts))
-  rest_stops f (feeding.too_long front more cut place some (c, fed)) counted =
+  rest_stops f (feeding.too_long front more cut place some (c, fed, same)) counted =
       let full : front ≡ [] → so.tokens ≡ decided u =
       λ none. so.at_limit (ap (length {A = ℕ}) (sym (ap (λ xs. u ++ xs) none ∙ append-nil u)) ∙ place) in
       let is = front_decided front full c fed in

@@ -18,7 +18,7 @@ returns-in-Token-clause-after g c p u given left has_read =
     rw (c.close_with-closed.ensures, c.settle-outcome.ensures.fault, c.settle-outcome.ensures.games, c.settle-outcome.ensures.outcome, c.is_end-is_end.ensures, flag, ← c.self.view_is)
     (closes p _ u given _ c.finish.follows.lender-at-none c.accept-accepted.new.self c.is_ended-self-inside.result _ _ _ c.accept-accepted.result refl
     here (left_by u given _ c.finish.follows.lender-at-none _ (left_behind u given left_here)) c.accept-accepted.ensures.profile c.accept-accepted.ensures.probes
-    (c.accept-accepted.ensures.accepts _ here.agrees) c.accept-accepted.ensures.stays c.accept-accepted.ensures.finished)
+    (c.accept-accepted.ensures.accepts _ here.agrees) (c.accept-accepted.ensures.tried _ here.agrees) c.accept-accepted.ensures.stays c.accept-accepted.ensures.finished)
 
 pub returns-in-Token-clause-fault : goal.returns-in-Token-clause-fault
 returns-in-Token-clause-fault g c = rw c.close_with-closed.ensures (c.settle-outcome.ensures.fault ∙ fault_of_closed c.is_end-is_end.result c.settle-outcome.result)
@@ -39,7 +39,7 @@ returns-in-Fault-clause-after g c p u given left has_read =
     let finishes = c.finish.follows.holds-at-none in
     let left_behind = rw c.in-Fault.is at finishes.left in
     rw (c.fail.ensures.outcome, c.lexical.ensures)
-    (closes_fault p _ (record c.args.self.now { lexer = c.finish.follows.lender-at-none; fault = c.fail.new.kept }) u given c.in-Fault.fault _ here (left_behind u given left_here))
+    (closes_fault p _ (record c.args.self.now { lexer = c.finish.follows.lender-at-none; reading = c.self.inside.reader; fault = c.fail.new.kept }) u given c.in-Fault.fault _ here (left_behind u given left_here) refl)
 
 pub invariant_of-self-in-Token : goal.invariant_of-self-in-Token
 invariant_of-self-in-Token g c =

@@ -16,7 +16,7 @@ returns-in_err-used g c =
     rw (e.1, e.2) (record {
       used = tt;
       feeds = λ p u b given stands follows.
-          at_token _ (front_fault p u b given c.args.piece.now _ _ _ _ follows
+          at_token _ (front_fault p u b given c.args.piece.now _ _ _ _ _ follows
           (feeds p u b given stands (follows_front b c.args.piece.now _ follows)));
       count = tt;
       short = tt;
@@ -74,7 +74,7 @@ returns-then-front-piece g c =
     record {
       used = tt;
       feeds = λ p u b given stands follows.
-          rw c.too_long.ensures.fault (front_too_long p u b given piece _ _ _ c.feed_front.new.self _
+          rw c.too_long.ensures.fault (front_too_long p u b given piece _ _ _ c.feed_front.new.self _ _
           (omega (
             arith,
             stands.lexer.count,
@@ -82,7 +82,7 @@ returns-then-front-piece g c =
             c.count.ensures,
             c.self.invariant.count c.in_default.is,
           ))
-          (limit_left piece _ more) (feeds p u b given stands (follows_front b piece _ follows)));
+          (limit_left piece _ more) (ap (λ (s : Converter). s.reading) c.self-2.view_is) (feeds p u b given stands (follows_front b piece _ follows)));
       count = tt;
       short = tt;
       advances = tt;

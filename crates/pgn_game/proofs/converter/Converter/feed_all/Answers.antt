@@ -23,7 +23,7 @@ returns-in_err-feed-clause-feeds g c =
     let feeds = rw take_rest at c.in_err-feed.ensures.feeds in
     rw (e.1, e.2) (λ p u given stands is_decided.
     let so = c.loop-used.invariant.feeds p u given stands is_decided in
-    all_stops p u given c.args.piece.now c.loop-used.at _ _ _ _ so _
+    all_stops p u given c.args.piece.now c.loop-used.at _ _ _ _ so c.feed.new.self _
     (feeds p _ _ _ so.stands (follows_own (drop c.loop-used.at c.args.piece.now))))
 
 pub returns-in-All-clause-feeds : goal.returns-in-All-clause-feeds

@@ -24,7 +24,7 @@ returns-in-Token-clause-after g c p u given stands =
     rw (c.settle-outcome.ensures.outcome, c.is_game-self-inside.ensures, c.settle-outcome.ensures.games, c.settle-outcome.ensures.fault, c.settle-outcome.ensures.outcome)
     (took p _ u given c.args.piece.now _ _ c.next-scan.follows.lender-at-none c.accept-accepted.new.self c.self.inside.is_finished _ _ c.accept-accepted.result
     here (carries u _ given here.lexer (follows_own c.args.piece.now)) ends scans.count c.accept-accepted.ensures.profile c.accept-accepted.ensures.probes
-    (c.accept-accepted.ensures.accepts _ here.has_read.agrees))
+    (c.accept-accepted.ensures.accepts _ here.has_read.agrees) (c.accept-accepted.ensures.tried _ here.has_read.agrees))
 
 pub returns-in-Fault-clause-after : goal.returns-in-Fault-clause-after
 returns-in-Fault-clause-after g c p u given stands =
@@ -33,7 +33,7 @@ returns-in-Fault-clause-after g c p u given stands =
     let carries = rw c.in-Fault.is at scans.carries in
     rw (c.fail.ensures.outcome, c.lexical.ensures)
     (took_fault p _ u given c.args.piece.now c.next-scan.result.used c.in-Fault.fault c.next-scan.follows.lender-at-none
-    (record c.args.self.now { lexer = c.next-scan.follows.lender-at-none; fault = c.fail.new.kept }) _ c.requires.some here (carries u _ given here.lexer (follows_own c.args.piece.now)))
+    (record c.args.self.now { lexer = c.next-scan.follows.lender-at-none; reading = c.self.inside.reader; fault = c.fail.new.kept }) _ c.requires.some here (carries u _ given here.lexer (follows_own c.args.piece.now)) refl)
 
 pub returns-in-NeedMore-clause-count : goal.returns-in-NeedMore-clause-count
 returns-in-NeedMore-clause-count g c = c.next-scan.follows.holds-at-none.count ∙ ap (λ (s : Converter). s.lexer.count + c.next-scan.result.used) c.self.view_is

@@ -3,7 +3,7 @@ use Rattle.pgn_layout.specs.Layout.{Layout}
 use Rattle.pgn_game.specs.Chess.{text_of_move}
 use Rattle.pgn_game.specs.Movetext.{Movetext}
 use Rattle.pgn_game.specs.Putting.{Puts, device, number_due}
-use Rattle.pgn_game.proofs.Adding.{puts_after, puts_fail, is_text, is_token}
+use Rattle.pgn_game.proofs.Adding.{puts_after, puts_fail, is_text, is_token, writes_move}
 use Rattle.pgn_game.proofs.movetext.Movetext.write_move.Goals as goal
 
 pub returns-in_err-put_number-clause-puts : goal.returns-in_err-put_number-clause-puts
@@ -28,3 +28,13 @@ returns-clause-puts g c =
     puts_after (number_due c.args.self.now) (text_of_move p c.args.played.now.mv ∷ []) c.args.layout.now c.put_number.new.layout c.put.new.self _ c.put.result _ _ _ _ _ _ number
     (subst (λ (t : List ℕ). Puts (t ∷ []) c.put_number.new.layout c.put.new.self c.put.result (device g.W.Sink.taken g.W.Sink.failures c.put_number.new.out c.put.new.out))
     (c.as_slice.ensures.value ∙ text) put)
+
+pub returns-in_err-put_number-clause-tried : goal.returns-in_err-put_number-clause-tried
+returns-in_err-put_number-clause-tried g c =
+    let same = c.present.ensures ∙ ap (λ (t : Movetext). t.levels.present.present) c.self.view_is in
+    writes_move _ c.present.result.now c.args.played.now.mv _ _ _ same c.requires.legal c.write_san-san.ensures.pairs
+
+pub returns-clause-tried : goal.returns-clause-tried
+returns-clause-tried g c =
+    let same = c.present.ensures ∙ ap (λ (t : Movetext). t.levels.present.present) c.self.view_is in
+    writes_move _ c.present.result.now c.args.played.now.mv _ _ _ same c.requires.legal c.write_san-san.ensures.pairs

@@ -1,10 +1,10 @@
-use Rattle.std.proofs.Common.{◌≡◌, refl, ap, ◌∙◌, arith}
+use Rattle.std.proofs.Common.{refl, ap, ◌∙◌, arith}
 use Rattle.std.proofs.KnownBytes.{Appends-nil}
 use Rattle.pgn_lexer.specs.Scanned.{kind_of}
-use Rattle.pgn_game.specs.Reading.{Reading}
 use Rattle.pgn_game.specs.Judging.{after}
 use Rattle.pgn_game.proofs.Sizes.{reader_alike}
 use Rattle.pgn_game.proofs.Accepting.{accepted, refused, keeps_found, stays_found, finishes_at_marker}
+use Rattle.pgn_game.proofs.TriedPairs.{raises, raises_refused}
 use Rattle.pgn_game.proofs.reader.Reader.accept.Goals as goal
 
 pub make_ready-requires : goal.make_ready-requires
@@ -31,7 +31,7 @@ put-requires g c =
 pub returns-in-Ok : goal.returns-in-Ok
 returns-in-Ok g c =
     let keeps = keeps_found c.args.self.now c.make_ready.new.self c.find-found.new.self (kind_of c.args.kind) c.make_ready.ensures c.find-found.ensures.counted in
-    let puts = c.put.ensures in
+    let puts = c.put.ensures.puts in
     record {
       accepts = λ part agrees.
           accepted c.args.self.now c.make_ready.new.self c.find-found.new.self c.put.new.self part c.args.kind (after c.in-Ok.judged) c.put.result _ agrees c.make_ready.ensures
@@ -43,6 +43,10 @@ returns-in-Ok g c =
       counted = puts.counted;
       plies = omega (arith, puts.keeps.plies, keeps.plies);
       probes = omega (arith, puts.keeps.probes, keeps.probes);
+      tried = λ part agrees.
+          raises g.row.T g.row.L c.args.self.now c.make_ready.new.self c.find-found.new.self part c.args.kind _ agrees c.make_ready.ensures c.find-found.ensures.counted keeps.ready
+          c.find-found.ensures.tried c.find-found.ensures.most c.put.new.self c.in-Ok.judged c.put.result _ _ c.in-Ok.ensures.judges c.in-Ok.ensures.fits puts.goes
+          c.put.ensures.tried c.put.ensures.most;
     }
 
 pub returns-in-Err : goal.returns-in-Err
@@ -61,4 +65,9 @@ returns-in-Err g c =
       counted = (refl, c.in-Err.ensures.fits);
       plies = omega (arith, keeps.plies);
       probes = keeps.probes;
+      tried = λ part agrees.
+          raises_refused g.row.T g.row.L c.args.self.now c.make_ready.new.self c.find-found.new.self part c.args.kind _ agrees c.make_ready.ensures c.find-found.ensures.counted keeps.ready
+          c.find-found.ensures.tried c.find-found.ensures.most c.in-Err.reason
+          (refused c.args.self.now c.make_ready.new.self c.find-found.new.self part c.args.kind c.in-Err.reason agrees c.make_ready.ensures c.find-found.ensures.counted
+          c.in-Err.ensures.judges);
     }

@@ -10,8 +10,8 @@ use Rattle.pgn_game.specs.Judging.{Fits}
 use Rattle.pgn_game.proofs.Pairing.{completed, puts_value}
 use Rattle.pgn_game.proofs.reader.Reader.put.Goals as goal
 
-pub returns-in-Value : goal.returns-in-Value
-returns-in-Value g c =
+pub returns-in-Value-clause-puts : goal.returns-in-Value-clause-puts
+returns-in-Value-clause-puts g c =
     let old = c.args.self.now in
     let v = c.self-in-Value.view_is in
     let fits = subst (λ (j : Judged). Fits g.row.T g.row.L old j) c.in-Value.is c.requires.fits in

@@ -24,19 +24,19 @@ after_item begun between new probes is next = record {
   probes = omega (arith, ap (λ (r : Reading). r.most_probes) is, next.probes, le-max_left between.most_probes probes);
 }
 
-pub returns-in_err-begin_movetext : goal.returns-in_err-begin_movetext
-returns-in_err-begin_movetext g c =
+pub returns-in_err-begin_movetext-clause-puts : goal.returns-in_err-begin_movetext-clause-puts
+returns-in_err-begin_movetext-clause-puts g c =
     let p = err_from_is_err_and c.from_residual.result c.from_residual.ensures.1 in
     rw (p.1 ∙ ap Err p.2)
     (puts_unbegun g.row.L c.args.self.now c.begin_movetext.new.self c.args.entry.now c.in_err-begin_movetext.field-0.0 _ c.requires.fits.0 c.requires.fits.1 c.in_err-begin_movetext.ensures.begins)
 
-pub returns-in-Number : goal.returns-in-Number
-returns-in-Number g c =
+pub returns-in-Number-clause-puts : goal.returns-in-Number-clause-puts
+returns-in-Number-clause-puts g c =
     rw c.in-Number.is
     (puts_number c.args.self.now c.begin_movetext.new.self _ c.requires.fits.0 c.requires.going c.in_ok-begin_movetext.ensures.begins)
 
-pub returns-in_err-put-in-Item : goal.returns-in_err-put-in-Item
-returns-in_err-put-in-Item g c =
+pub returns-in_err-put-in-Item-clause-puts : goal.returns-in_err-put-in-Item-clause-puts
+returns-in_err-put-in-Item-clause-puts g c =
     let old = c.args.self.now in
     let p = err_from_is_err_and c.from_residual-in_err-put-in-Item.result c.from_residual-in_err-put-in-Item.ensures.1 in
     let begins = begins_as old _ _ _ c.self.view_is c.in_ok-begin_movetext.ensures.begins in
@@ -45,8 +45,8 @@ returns-in_err-put-in-Item g c =
     (after_item _ _ c.count_probes.new.self c.put-put.new.probes c.count_probes.ensures (record { profile = refl; stage = refl; tags = refl; earlier = refl; probes = omega arith }))
     (rw c.count_probes.ensures c.in_err-put-in-Item.ensures.adds))
 
-pub returns-in_ok-put-in-Item : goal.returns-in_ok-put-in-Item
-returns-in_ok-put-in-Item g c =
+pub returns-in_ok-put-in-Item-clause-puts : goal.returns-in_ok-put-in-Item-clause-puts
+returns-in_ok-put-in-Item-clause-puts g c =
     let old = c.args.self.now in
     let begins = begins_as old _ _ _ c.self.view_is c.in_ok-begin_movetext.ensures.begins in
     let put = subst (λ (e : Entry). IsProbed e old.most_probes) c.in-Item.is c.requires.fits.2 in
@@ -55,8 +55,8 @@ returns-in_ok-put-in-Item g c =
     (after_item _ _ c.count_probes.new.self c.put-put.new.probes c.count_probes.ensures (record { profile = refl; stage = refl; tags = refl; earlier = refl; probes = omega arith }))
     (rw c.count_probes.ensures c.in_ok-put-in-Item.ensures.adds))
 
-pub returns-in_err-put-in-Marker : goal.returns-in_err-put-in-Marker
-returns-in_err-put-in-Marker g c =
+pub returns-in_err-put-in-Marker-clause-puts : goal.returns-in_err-put-in-Marker-clause-puts
+returns-in_err-put-in-Marker-clause-puts g c =
     let old = c.args.self.now in
     let marker = c.in-Marker.marker in
     let p = err_from_is_err_and c.from_residual-in_err-put-in-Marker.result c.from_residual-in_err-put-in-Marker.ensures.1 in
@@ -67,8 +67,8 @@ returns-in_err-put-in-Marker g c =
     rw (c.in-Marker.is, p.1 ∙ ap Err p.2)
     (ends_ill old _ _ marker _ _ _ _ _ _ (record { begins = begins; outside = fits.1; token = fits.0; at = c.requires.fits.0 }) front refl (c.in_err-put-in-Marker.ensures.faults.counted well))
 
-pub returns-in_err-end_game-in-Marker : goal.returns-in_err-end_game-in-Marker
-returns-in_err-end_game-in-Marker g c =
+pub returns-in_err-end_game-in-Marker-clause-puts : goal.returns-in_err-end_game-in-Marker-clause-puts
+returns-in_err-end_game-in-Marker-clause-puts g c =
     let old = c.args.self.now in
     let marker = c.in-Marker.marker in
     let p = err_from_is_err_and c.from_residual-in_err-end_game-in-Marker.result c.from_residual-in_err-end_game-in-Marker.ensures.1 in
@@ -83,8 +83,8 @@ returns-in_err-end_game-in-Marker g c =
     (ends_ill old _ _ marker _ _ _ _ _ _ (record { begins = begins; outside = fits.1; token = fits.0; at = c.requires.fits.0 }) front refl
     (c.in_err-end_game-in-Marker.ensures.faults.counted going ∙ ap one_more (c.in_ok-put-in-Marker.ensures.faults.counted well)))
 
-pub returns-in_ok-end_game-in-Marker : goal.returns-in_ok-end_game-in-Marker
-returns-in_ok-end_game-in-Marker g c =
+pub returns-in_ok-end_game-in-Marker-clause-puts : goal.returns-in_ok-end_game-in-Marker-clause-puts
+returns-in_ok-end_game-in-Marker-clause-puts g c =
     let old = c.args.self.now in
     let marker = c.in-Marker.marker in
     let begins = begins_as old _ _ _ c.self-in-Marker.view_is c.in_ok-begin_movetext.ensures.begins in

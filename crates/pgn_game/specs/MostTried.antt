@@ -1,0 +1,108 @@
+-- **Definition**: how many pairs of an origin and a target are tried for a token, and the most that
+-- are tried for one token of an input.
+--
+-- No order of search is stated. `Costs` says how many pairs find the move of a text, and
+-- `MarkPairs` of `chess_text` how many find the mark of its SAN: both are exact, but where a form
+-- has more moves than one, and where a check is no mate.
+use Rattle.std.specs.Prelude.{◌≡◌, ℕ, ◌+◌, max, Bool, true, false, ◌&&◌, ◌||◌, not, List, [], ◌∷◌, ◌==◌, length, drop, Option, None, Some, Result, Ok, Err}
+use Rattle.chess_rules.specs.declared.position.Parts.{Parts}
+use Rattle.chess_text.specs.San.{MarkPairs, apart_pairs}
+use Rattle.pgn_lexer.specs.Tokens as tokens
+use Rattle.pgn_lexer.specs.Tokens.{Kind, Token}
+use Rattle.pgn_game.specs.declared.mode.Mode.{Mode}
+use Rattle.pgn_game.specs.declared.mode.Mode.TheVariants.{Full, Reduced}
+use Rattle.pgn_game.specs.declared.stage.Stage.TheVariants.{InMovetext}
+use Rattle.pgn_game.specs.declared.reason.Reason.{Reason}
+use Rattle.pgn_game.specs.declared.accept.Accepted.{Accepted}
+use Rattle.pgn_game.specs.declared.accept.Stopped.{Stopped}
+use Rattle.pgn_game.specs.declared.accept.Stopped.TheVariants.{Refused, Unwritten}
+use Rattle.pgn_game.specs.Profile.{Profile}
+use Rattle.pgn_game.specs.Chess.{play}
+use Rattle.pgn_game.specs.Game.{Item, move, Part}
+use Rattle.pgn_game.specs.Here.{depth}
+use Rattle.pgn_game.specs.Text.{is_move}
+use Rattle.pgn_game.specs.FaultTable.{refusal, is_at, is_number, is_outside_pairs, is_score, levels_in, position_in}
+use Rattle.pgn_game.specs.Begun.{Next, going, whole, next, Begun, nothing_begun, begun_after}
+use Rattle.pgn_game.specs.Tried.{Costs}
+
+-- The move of a symbol is sought where movetext can begin or goes on, unless the symbol is a marker
+-- or a number.
+abbrev pub is_sought : Part → List ℕ → Bool
+is_sought part s = is_outside_pairs part && not (is_score s || is_number s)
+
+-- n pairs are tried for the move of a text, if it is sought
+abbrev pub CostsIf : Bool → Parts → List ℕ → ℕ → Type 0
+CostsIf true here s n = Costs here s n
+CostsIf false here s n = n ≡ 0
+
+-- n pairs are tried for the move of a token, also where it is refused then
+abbrev pub CostsToFind : Part → Kind → ℕ → Type 0
+CostsToFind part (tokens.symbol s) n = CostsIf (is_sought part s) (position_in part) s n
+CostsToFind part k n = n ≡ 0
+
+-- whether an item at this depth is written: in the reduced format only a move outside variations
+-- (PGN 3.2.4)
+abbrev pub is_written : Mode → ℕ → Item → Bool
+is_written Full deep i = true
+is_written Reduced deep i = is_move i && (deep == 0)
+
+-- With n pairs tried before an item is written, there are m after it. A move that is written takes
+-- one for each candidate of its piece, unless this is a king or a pawn, and those of its mark.
+abbrev pub CostsToWrite : Bool → Parts → Item → ℕ → ℕ → Type 0
+CostsToWrite true here (move mv) n m = MarkPairs (play here mv) (n + apart_pairs here mv) m
+CostsToWrite _ here i n m = m ≡ n
+
+-- the items that a token adds to its part: one, or none
+abbrev pub added : Part → Next → List Item
+added part (going to) = drop (length part.items) to.items
+added part (whole g) = []
+
+-- the same for these, at this depth and in this position
+abbrev pub CostsToAdd : Mode → ℕ → Parts → List Item → ℕ → ℕ → Type 0
+CostsToAdd mode deep here [] n m = m ≡ n
+CostsToAdd mode deep here (i ∷ more) n m = CostsToWrite (is_written mode deep i) here i n m
+
+-- of a token that is refused nothing is written
+abbrev pub CostsUnlessRefused : Option Reason → Mode → ℕ → Parts → List Item → ℕ → ℕ → Type 0
+CostsUnlessRefused None mode deep here items n m = CostsToAdd mode deep here items n m
+CostsUnlessRefused (Some reason) mode deep here items n m = m ≡ n
+
+-- For a token after a part n pairs are tried: first to find its move, then, unless the token is
+-- refused, to write it.
+pub record Tries (p : Profile) (part : Part) (k : Kind) (n : ℕ) : Type 0 where
+  pub found : ℕ
+  pub finds : CostsToFind part k found
+  pub writes : CostsUnlessRefused (refusal p part k) p.mode (depth (levels_in part))
+      (position_in part) (added part (next part k)) found n
+
+-- The same for a token whose text could not be written: its pairs were tried before. But where
+-- movetext begins with it, the tag section comes first, and the failed write may be one of those.
+pub data TriesUnwritten (p : Profile) (part : Part) (k : Kind) (n : ℕ) : Type 0 where
+  at_token : Tries p part k n → TriesUnwritten p part k n
+  in_section : is_at InMovetext part ≡ false → CostsToFind part k n → TriesUnwritten p part k n
+
+-- The most pairs that are tried for one of these tokens, which are read from here on. No token is
+-- read behind the first that is refused.
+pub data MostFrom (p : Profile) : Begun → List Token → ℕ → Type 0 where
+  none : (b : Begun) → MostFrom p b [] 0
+  refused : (b : Begun) (t : Token) (ts : List Token) (n : ℕ) (reason : Reason)
+      → refusal p b.part t.kind ≡ Some reason → Tries p b.part t.kind n → MostFrom p b (t ∷ ts) n
+  passes : (b : Begun) (t : Token) (ts : List Token) (n most : ℕ) → refusal p b.part t.kind ≡ None
+      → Tries p b.part t.kind n → MostFrom p (begun_after b t) ts most
+      → MostFrom p b (t ∷ ts) (max n most)
+
+-- the most for one token of an input
+abbrev pub MostTried : Profile → List Token → ℕ → Type 0
+MostTried p ts most = MostFrom p nothing_begun ts most
+
+-- With one token more the most goes from one number to another.
+pub record Raises (IsTried : ℕ → Type 0) (old new : ℕ) : Type 0 where
+  pub tried : ℕ
+  pub allowed : IsTried tried
+  pub most : new ≡ max old tried
+
+-- so by how the token was answered
+abbrev pub RaisesMost : Profile → Part → Kind → Result Accepted Stopped → ℕ → ℕ → Type 0
+RaisesMost p part k (Ok accepted) old new = Raises (Tries p part k) old new
+RaisesMost p part k (Err (Refused reason)) old new = Raises (Tries p part k) old new
+RaisesMost p part k (Err Unwritten) old new = Raises (TriesUnwritten p part k) old new
