@@ -3,4 +3,5 @@ mod FilledRows
 mod LegalRows
 mod MoveRows
 mod PositionRows
+mod TriedRows
 mod WorkedRows

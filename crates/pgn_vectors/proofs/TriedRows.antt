@@ -1,0 +1,66 @@
+-- Worked rows of the most pairs that are tried for one token of an input.
+use Rattle.std.proofs.Common.{◌≡◌, ℕ, true, false, refl, sym, ◌∙◌, arith}
+use Rattle.std.specs.Prelude.{codes}
+use Rattle.chess_rules.specs.declared.position.Parts.{Parts}
+use Rattle.chess_rules.specs.Legal.{is_check}
+use Rattle.chess_rules.specs.Square.{squares}
+use Rattle.chess_text.specs.Reads.{agreeing}
+use Rattle.chess_text.specs.San.{MarkPairs}
+use Rattle.pgn_lexer.specs.Tokens.{symbol}
+use Rattle.pgn_lexer.specs.TokensOf.{tokens_of}
+use Rattle.pgn_game.specs.declared.reason.Reason.TheVariants.{NotAMove, IllegalMove}
+use Rattle.pgn_game.specs.Chess.{first_position, position_of, move_of, play}
+use Rattle.pgn_game.specs.FaultTable.{refusal}
+use Rattle.pgn_game.specs.Begun.{read}
+use Rattle.pgn_game.specs.Tried.{Costs}
+use Rattle.pgn_game.specs.MostTried.{MostTried, Tries, none, refused, passes}
+use Rattle.pgn_vectors.proofs.WorkedRows.{plain, reduced}
+
+-- a move that gives no check has no pairs for its mark
+quiet : (q : Parts) (n : ℕ) → is_check q ≡ false → MarkPairs q n n
+quiet q n calm =
+    record {
+      rises = omega arith;
+      most = omega arith;
+      quiet = λ is. refl;
+      check = λ is some. differ is;
+      mate = λ is none. differ is;
+    }
+  where
+    differ : {P : Type 0} → is_check q ≡ true → P
+    differ is = let h : false ≡ true = sym calm ∙ is in absurd (cc)
+
+-- a marker tries no pair
+no_move : MostTried plain (tokens_of (codes "*")) 0
+unfolding refusal Costs move_of play position_of first_position squares agreeing
+no_move =
+    passes _ _ _ 0 0 refl (record { found = 0; finds = refl; writes = refl })
+    (passes _ _ _ 0 0 refl (record { found = 0; finds = refl; writes = refl }) (none _))
+
+-- Three pawns see e4, and its SAN needs no pair. Neither do the number, the period, and a text that
+-- is no move.
+no_form : MostTried plain (tokens_of (codes "1. e4 e9 ")) 3
+unfolding refusal Costs move_of play position_of first_position squares agreeing
+no_form =
+    passes _ _ _ 0 3 refl (record { found = 0; finds = refl; writes = refl })
+    (passes _ _ _ 0 3 refl (record { found = 0; finds = refl; writes = refl })
+    (passes _ _ _ 3 0 refl (record { found = 3; finds = refl; writes = quiet _ 3 refl })
+    (refused _ _ _ 0 NotAMove refl (record { found = 0; finds = refl; writes = refl }))))
+
+-- the one pair of castling counts, though it is refused
+refused_castling : MostTried plain (tokens_of (codes "O-O ")) 1
+unfolding refusal Costs move_of play position_of first_position squares agreeing
+refused_castling = refused _ _ _ 1 IllegalMove refl (record { found = 1; finds = refl; writes = refl })
+
+-- a knight is found by one pair, and its SAN needs one
+knight : MostTried plain (tokens_of (codes "Nf3 *")) 2
+unfolding refusal Costs move_of play position_of first_position squares agreeing
+knight =
+    passes _ _ _ 2 0 refl (record { found = 1; finds = refl; writes = quiet _ 2 refl })
+    (passes _ _ _ 0 0 refl (record { found = 0; finds = refl; writes = refl })
+    (passes _ _ _ 0 0 refl (record { found = 0; finds = refl; writes = refl }) (none _)))
+
+-- the reduced format has no variation, so its moves are found and not written
+variation_reduced : Tries reduced (read reduced (tokens_of (codes "a3 ("))).begun.part (symbol (codes "Nf3")) 1
+unfolding refusal Costs move_of play position_of first_position squares agreeing
+variation_reduced = record { found = 1; finds = refl; writes = refl }
