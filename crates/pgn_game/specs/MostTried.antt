@@ -57,7 +57,7 @@ abbrev pub added : Part → Next → List Item
 added part (going to) = drop (length part.items) to.items
 added part (whole g) = []
 
--- the same for these, at this depth and in this position
+-- the pairs tried before these are written, and after, at this depth and in this position
 abbrev pub CostsToAdd : Mode → ℕ → Parts → List Item → ℕ → ℕ → Type 0
 CostsToAdd mode deep here [] n m = m ≡ n
 CostsToAdd mode deep here (i ∷ more) n m = CostsToWrite (is_written mode deep i) here i n m
@@ -95,13 +95,13 @@ pub data MostFrom (p : Profile) : Begun → List Token → ℕ → Type 0 where
 abbrev pub MostTried : Profile → List Token → ℕ → Type 0
 MostTried p ts most = MostFrom p nothing_begun ts most
 
--- With one token more the most goes from one number to another.
+-- The most before a token, and with it.
 pub record Raises (IsTried : ℕ → Type 0) (old new : ℕ) : Type 0 where
   pub tried : ℕ
   pub allowed : IsTried tried
   pub most : new ≡ max old tried
 
--- so by how the token was answered
+-- the same, by what was answered to the token
 abbrev pub RaisesMost : Profile → Part → Kind → Result Accepted Stopped → ℕ → ℕ → Type 0
 RaisesMost p part k (Ok accepted) old new = Raises (Tries p part k) old new
 RaisesMost p part k (Err (Refused reason)) old new = Raises (Tries p part k) old new
