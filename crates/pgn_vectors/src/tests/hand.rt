@@ -161,6 +161,23 @@ fn tells_an_illegal_move_again(rt: HostRuntime) {
     assert!(rt; text.as_slice() == HEAD);
 }
 
+/// So many pairs were tried for one move when the fault of this input is reported.
+fn counts_at_fault(rt: &impl Abort, input: &[u8], pairs: u32) {
+    let mut converter = Usual::new(Mode::Full);
+    let fed = feed_once(&mut converter, input, &mut Nowhere);
+    assert!(rt; fed.is_err());
+    assert_eq!(rt; converter.most_probes(), pairs);
+}
+
+// Three pawns see e4. Castling is one pair, also where it is refused. A knight's move is one pair
+// to find it, and one for its SAN.
+#[test]
+fn counts_pairs_up_to_a_fault(rt: HostRuntime) {
+    counts_at_fault(&rt, b"1. e4 e9 ", 3);
+    counts_at_fault(&rt, b"O-O ", 1);
+    counts_at_fault(&rt, b"Nf3 )", 2);
+}
+
 #[test]
 fn tells_a_fault_after_a_game_again(rt: HostRuntime) {
     let mut text = Vec::new(rt.alloc());
