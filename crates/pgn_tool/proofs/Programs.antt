@@ -1,13 +1,12 @@
 -- How a run of the program is put together from opening its file and carrying out its task.
-use Rattle.std.proofs.Common.{◌≡◌, ◌∙◌, ℕ, ◌<◌, List, [], ◌∷◌, Bool, Option, None, Some, Result, Ok, Err, refl, sym, ap, subst, map}
+use Rattle.std.proofs.Common.{◌≡◌, ◌∙◌, ℕ, List, [], Option, None, Some, Result, Ok, Err, refl, sym, ap, subst, map}
 use Rattle.std.specs.Prelude.{String, Vec, string_bytes}
 use Rattle.std.specs.Global.{Global}
 use Rattle.pgn_tool.specs.declared.arguments.Task.{Task}
 use Rattle.pgn_tool.specs.declared.arguments.ParseFault.{ParseFault}
 use Rattle.pgn_tool.specs.declared.machine.SystemFault.{SystemFault}
-use Rattle.pgn_tool.specs.Files.{Event}
-use Rattle.pgn_tool.specs.Machine.{Holding, IsOpened, Machine, Opens, Reading, holds, missing}
-use Rattle.pgn_tool.specs.Program.{Carries, EndsUnopened, IsIdle, Ran, RunsOpened, RunsWords, StartsFrom, by_fault, by_task, file_held, opened, source_of, unopened}
+use Rattle.pgn_tool.specs.Machine.{Holding, IsOpened, Machine, Reading, holds, missing}
+use Rattle.pgn_tool.specs.Program.{Carries, EndsUnopened, IsIdle, IsMissing, Ran, RunsWords, StartsFrom, by_fault, by_task, file_held, opened, source_of, unopened}
 use Rattle.pgn_tool.specs.Refusing.{AnswersFault}
 use Rattle.pgn_tool.specs.Requests.{AnswersBy, file_of, refusals, request_in, request_of}
 use Rattle.pgn_tool.specs.Running.{Device, IsUntouched}
@@ -76,3 +75,13 @@ pub ran_fault : (call : Result Words SystemFault) (words : Words) (texts : List 
     → AnswersBy (refusals (map string_bytes texts)) (Err fault) → AnswersFault fault m.out m.err status → IsIdle m → Ran call m status
 ran_fault call words texts m status fault is same refused answers idle =
     ran_words call words texts m status is same (by_fault fault refused answers idle)
+
+none_is_some : {A : Type 0} → (x : A) → None ≡ Some x → ⊥
+none_is_some x same = cc
+
+-- a file that is not there is reported, and nothing is written
+pub missing_told : (task : Task) (m : Machine) (status : ℕ) (name : List ℕ) → file_of (request_of task) ≡ Some name
+    → m.input.holding name ≡ missing → Carries task m status → IsMissing m.out m.err status
+missing_told task m status name named gone (unopened other fault same refusal out files ends) = (fault, ends, out)
+missing_told task m status name named gone (opened source is runs) =
+    absurd (none_is_some source (sym (ap (λ h. file_held h m.input) gone) ∙ sym (ap (λ f. source_of f m.input) named) ∙ is))

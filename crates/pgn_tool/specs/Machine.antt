@@ -1,5 +1,5 @@
 -- **Definition.** What a machine gives to a run: files to read, and devices.
-use Rattle.std.specs.Prelude.{◌≡◌, ℕ, Bool, List, Option, None, Some, Result, Ok, Err}
+use Rattle.std.specs.Prelude.{◌≡◌, ℕ, Bool, List, Option, Some, Result, Ok, Err}
 use Rattle.pgn_tool.specs.declared.machine.SystemFault.{SystemFault}
 use Rattle.pgn_tool.specs.Files.{Event}
 use Rattle.pgn_tool.specs.Running.{Device, device}

@@ -2,7 +2,6 @@
 use Rattle.std.specs.Prelude.{◌≡◌, ℕ, ◌≤◌, Bool, true, List, [], ◌∷◌, map, codes, Option, None, Some, Result, Ok, Err, String, Vec, string_bytes}
 use Rattle.std.specs.Global.{Global}
 use Rattle.pgn_game.specs.declared.reason.Reason.TheVariants.{ReadFault}
-use Rattle.pgn_game.specs.declared.reason.Fault.{Fault}
 use Rattle.pgn_game.specs.Reason.{line_of}
 use Rattle.pgn_tool.specs.declared.arguments.Task.{Task}
 use Rattle.pgn_tool.specs.declared.arguments.Task.TheVariants.{Split}
@@ -13,7 +12,7 @@ use Rattle.pgn_tool.specs.Files.{Event, added, entered}
 use Rattle.pgn_tool.specs.Machine.{Holding, Machine, Opens, Reading, holds, missing}
 use Rattle.pgn_tool.specs.Refusing.{AnswersFault}
 use Rattle.pgn_tool.specs.Requests.{AnswersBy, file_of, refusals, request_in, request_of}
-use Rattle.pgn_tool.specs.Running.{Answers, Device, IsSmooth, IsUntouched, Job, Runs, Tells, is_for_stream, job_of, line}
+use Rattle.pgn_tool.specs.Running.{Answers, Device, IsSmooth, IsUntouched, Job, Runs, Tells, job_of, line}
 use Rattle.pgn_tool.specs.Splitting.{RunsSplit}
 
 -- ---- what is read
@@ -57,6 +56,10 @@ abbrev pub EndsUnopened : SystemFault → Device → ℕ → Type 0
 EndsUnopened Refused err status =
     Reports (line_of (record { at = 0; reason = ReadFault })) 1 err status
 EndsUnopened NoMemory err status = Reports (codes "out of memory") 3 err status
+
+-- the reason is reported, and nothing is written
+abbrev pub IsMissing : (out err : Device) (status : ℕ) → Type 0
+IsMissing out err status = (fault : SystemFault) × EndsUnopened fault err status × IsUntouched out
 
 -- A task that writes to standard output: there is no memory for a buffer; or it runs, and where no
 -- device fails it does what is said of the text that is read.

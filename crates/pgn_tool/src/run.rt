@@ -1,9 +1,9 @@
 //! A run of the program, on whatever machine.
-ghost use Rattle.std.specs.Prelude.{◌≡◌, ◌≤◌, true};
-ghost use Rattle.pgn_tool.specs.Machine.{machine, reading};
+ghost use Rattle.std.specs.Prelude.{◌≡◌, ℕ, ◌≤◌, true, List, Some};
+ghost use Rattle.pgn_tool.specs.Machine.{machine, missing, reading};
 ghost use Rattle.pgn_tool.specs.Requests.{file_of, request_of};
 ghost use Rattle.pgn_tool.specs.Running.{device, is_for_stream, job_of};
-ghost use Rattle.pgn_tool.specs.Program.{Carries, EndsUnopened, Ran, RunsOpened, RunsStream, StartsFrom};
+ghost use Rattle.pgn_tool.specs.Program.{Carries, EndsUnopened, IsMissing, Ran, RunsOpened, RunsStream, StartsFrom};
 
 use crate::arguments::{Task, parse};
 use crate::machine::{GameFolder, Input, Output, SystemFault};
@@ -70,6 +70,10 @@ fn run_task<I: Input, O: Output, F: GameFolder, E: Sink>(
         (device O.taken O.failures out.old out.new) (O.is_short out.new)
         (F.log files.old) (F.log files.new)
         (device E.taken E.failures err.old err.new)) result }
+    ensures missing { (name : List ℕ) → file_of (request_of task) ≡ Some name
+        → I.holding input.old name ≡ missing
+        → IsMissing (device O.taken O.failures out.old out.new)
+        (device E.taken E.failures err.old err.new) result }
 {
     match open_file(&task, input) {
         Ok(()) => run_opened(task, input, out, files, err),
