@@ -1,21 +1,28 @@
 -- What the end of the input makes of the files of the games so far.
-use Rattle.std.proofs.Common.{◌≡◌, ◌∙◌, ℕ, ◌+◌, ◌<◌, Bool, List, [], ◌∷◌, ◌++◌, length, length-append, Option, None, Some, Result, Ok, Err, refl, sym, ap, subst, inl, inr, ◌⊎◌, arith, append_assoc, append-nil, is_some}
+use Rattle.std.proofs.Common.{◌≡◌, ◌∙◌, ℕ, ◌+◌, ◌<◌, Bool, List, [], ◌∷◌, ◌++◌, length, length-append, Option, None, Some, Result, Ok, Err, refl, sym, ap, subst, inl, inr, ◌⊎◌, arith, append_assoc, append-nil, is_some, true, false, ◌&&◌, ◌||◌, IfSome}
+use Rattle.std.specs.Prelude.{◌==◌}
+use Rattle.std.proofs.lemmas.Bool.{false≢true}
 use Rattle.pgn_layout.specs.Device.{one_more}
 use Rattle.pgn_lexer.specs.Tokens as tokens
-use Rattle.pgn_lexer.specs.Tokens.{Token}
+use Rattle.pgn_lexer.specs.Tokens.{Kind, Token}
 use Rattle.pgn_lexer.specs.TokensOf.{tokens_of}
 use Rattle.pgn_lexer.specs.Standing.{coming}
 use Rattle.pgn_game.specs.declared.reason.Reason.{Reason}
-use Rattle.pgn_game.specs.declared.reason.Reason.TheVariants.{WriteFault}
+use Rattle.pgn_game.specs.declared.reason.Reason.TheVariants.{Lexical, WriteFault}
 use Rattle.pgn_game.specs.declared.reason.Fault.{Fault}
-use Rattle.pgn_game.specs.Game.{Game, no_part}
-use Rattle.pgn_game.specs.FaultTable.{refusal}
-use Rattle.pgn_game.specs.Text.{torn}
-use Rattle.pgn_game.specs.Begun.{Begun, Next, Read, begun_after, begun_with, due, going, next, nothing_begun, read, read_from, whole, written}
+use Rattle.pgn_game.specs.Game.{Game, no_part, Part}
+use Rattle.pgn_game.specs.FaultTable.{Row, first_holding, is_at, is_end, refusal, rows, stage_number}
+use Rattle.pgn_game.specs.Text.{torn, torn_at}
+use Rattle.pgn_game.specs.Begun.{Begun, Next, Read, begun_after, begun_with, due, going, next, next_in, nothing_begun, read, read_from, whole, written}
 use Rattle.pgn_game.specs.Due.{Gains}
 use Rattle.pgn_game.specs.Feeding as feeding
 use Rattle.pgn_game.specs.Feeding.{Converter, Finishes, FinishesToFault, StopsWriting}
 use Rattle.pgn_game.specs.Laws.{DueGrows}
+use Rattle.pgn_lexer.specs.Laws.{IsLast, RisesTo, TokensRise}
+use Rattle.pgn_lexer.specs.declared.token.LexReason.{LexReason}
+use Rattle.pgn_game.specs.declared.mode.Mode.TheVariants.{Full}
+use Rattle.pgn_game.specs.declared.stage.Stage.{Stage}
+use Rattle.pgn_game.specs.declared.stage.Stage.TheVariants.{Between, AfterBracket, AfterName, AfterValue, AfterTags, InMovetext}
 use Rattle.pgn_tool.specs.declared.files.CreateFault.{CreateFault}
 use Rattle.pgn_tool.specs.declared.split.Unsplit.{Unsplit}
 use Rattle.pgn_tool.specs.declared.split.Unsplit.TheVariants as unsplit
@@ -23,7 +30,7 @@ use Rattle.pgn_tool.specs.Listing.{list_profile}
 use Rattle.pgn_tool.specs.Files.{Event, added, closing, number_after, told, whole_files}
 use Rattle.pgn_tool.specs.Splitting.{IsOwn, Turned, settled}
 use Rattle.pgn_tool.specs.SplitGames as games
-use Rattle.pgn_tool.specs.SplitGames.{AfterLast, FilesOf, IsSplit, Logs, SplitSoFar, StopsAtEnd, files_of, texts_in, torn_file, torn_in}
+use Rattle.pgn_tool.specs.SplitGames.{AfterLast, FilesOf, IsSplit, IsSplitWhole, Logs, SplitSoFar, StopsAtEnd, files_of, texts_in, torn_file, torn_in}
 use Rattle.pgn_tool.proofs.Leftover.{left_over}
 use Rattle.pgn_tool.proofs.OwnFaults.{read_own}
 use Rattle.pgn_tool.proofs.Reading.{AddsOne, AreLast, AreQuiet, end_passes, last_games, not_both, end, one, quiet, quiet_games, read_more, reads_on}
@@ -70,6 +77,17 @@ one_token ts t passes all = by_test (refusal list_profile (read list_profile ts)
         absurd (not_both _ _ (ap (λ (r : Read). r.fault) (here ∙ reads_on list_profile (read list_profile ts).begun t [] (Some reason) is)) all)
     by_test None is = here ∙ reads_on list_profile (read list_profile ts).begun t [] None is
 
+not_refused : (ts : List Token) (t : Token) → (read list_profile ts).fault ≡ None → (read list_profile (ts ++ t ∷ [])).fault ≡ None
+    → refusal list_profile (read list_profile ts).begun.part t.kind ≡ None
+not_refused ts t passes all = by_test (refusal list_profile (read list_profile ts).begun.part t.kind) refl
+  where
+    by_test : (o : Option Reason) → refusal list_profile (read list_profile ts).begun.part t.kind ≡ o
+        → refusal list_profile (read list_profile ts).begun.part t.kind ≡ None
+    by_test None is = is
+    by_test (Some reason) is =
+        absurd (not_both _ _ (ap (λ (r : Read). r.fault) (read_more list_profile nothing_begun ts (t ∷ []) passes
+        ∙ reads_on list_profile (read list_profile ts).begun t [] (Some reason) is)) all)
+
 -- two ways to part a list: one front goes on where the other ends
 abbrev Parted : List Token → List Token → List Token → List Token → Type 0
 Parted xs ys behind_xs behind_ys =
@@ -96,6 +114,70 @@ second e = cc
 quiet_front : (xs ys : List Token) → AreQuiet (xs ++ ys) → AreQuiet xs
 quiet_front [] ys q = tt
 quiet_front (x ∷ xs) ys (here, rest) = (here, quiet_front xs ys rest)
+
+-- ---- a text without a fault
+
+abbrev AreFalse : List Row → Type 0
+AreFalse [] = Unit {0}
+AreFalse (r ∷ rs) = (r.holds ≡ false) × AreFalse rs
+
+none_holds : (rs : List Row) → first_holding rs ≡ None → AreFalse rs
+none_holds [] e = tt
+none_holds (r ∷ rs) e = by_test r.holds refl (none_holds rs) e
+  where
+    by_test : (b : Bool) → r.holds ≡ b → (first_holding rs ≡ None → AreFalse rs)
+        → ◌≡◌ {A = Option Reason} (elim b [ true ↦ Some r.reason | false ↦ first_holding rs ]) None → AreFalse (r ∷ rs)
+    by_test true is further h = absurd (cc)
+    by_test false is further h = (is, further h)
+
+-- the end is rejected inside a game
+end_in_game : (part : Part) → (is_at AfterTags part || is_at InMovetext part) ≡ true → refusal list_profile part tokens.end ≡ None → ⊥
+unfolding refusal
+end_in_game part inside none =
+    let rows_false = none_holds (rows list_profile part tokens.end) none in
+    let last = rows_false.1.1.1.1.1.1.1.1.1.1.1.1.1.1.1.1.1.1.1.1.1.1.0 in
+    absurd (false≢true (sym last ∙ ap (λ b. b && is_end tokens.end) inside))
+
+-- so nothing is written of a game that is not whole
+end_torn : (gs : List Game) (part : Part) (s : Stage) → part.stage ≡ s → refusal list_profile part tokens.end ≡ None
+    → torn list_profile (begun_with gs (next_in s part tokens.end)).part ≡ []
+end_torn gs part Between is none = ap (λ w. torn_at w Full part) is
+end_torn gs part AfterBracket is none = ap (λ w. torn_at w Full part) is
+end_torn gs part AfterName is none = ap (λ w. torn_at w Full part) is
+end_torn gs part AfterValue is none = ap (λ w. torn_at w Full part) is
+end_torn gs part AfterTags is none =
+    absurd (end_in_game part (ap (λ w. (stage_number AfterTags == stage_number w) || (stage_number InMovetext == stage_number w)) is) none)
+end_torn gs part InMovetext is none =
+    absurd (end_in_game part (ap (λ w. (stage_number AfterTags == stage_number w) || (stage_number InMovetext == stage_number w)) is) none)
+
+last_token : (ts : List Token) → RisesTo ts → (front : List Token) × (t : Token) × (ts ≡ front ++ t ∷ []) × IsLast t.kind
+last_token [] h = absurd h
+last_token (t ∷ []) h = ([], t, refl, h)
+last_token (t ∷ u ∷ ts) h =
+    let rest = last_token (u ∷ ts) h.2 in
+    (t ∷ rest.0, rest.1, ap (λ l. t ∷ l) rest.2, rest.3)
+
+no_refusal : (part : Part) (k : Kind) (r : LexReason) → k ≡ tokens.refused r → refusal list_profile part k ≡ None → ⊥
+unfolding refusal
+no_refusal part k r is none = some_none (ap (refusal list_profile part) (sym is) ∙ none)
+  where
+    some_none : Some (Lexical r) ≡ None → ⊥
+    some_none e = cc
+
+whole_torn : (ts : List Token) → RisesTo ts → (read list_profile ts).fault ≡ None → torn_in ts ≡ []
+whole_torn ts rises passes = by_last (last_token ts rises)
+  where
+    by_kind : (b : Begun) (k : Kind) → IsLast k → refusal list_profile b.part k ≡ None → torn list_profile (begun_with b.games (next b.part k)).part ≡ []
+    by_kind b tokens.end h none = end_torn b.games b.part b.part.stage refl none
+    by_kind b (tokens.refused r) h none = absurd (no_refusal b.part (tokens.refused r) r refl none)
+    by_kind b k h none = absurd h
+
+    by_last : (front : List Token) × (t : Token) × (ts ≡ front ++ t ∷ []) × IsLast t.kind → torn_in ts ≡ []
+    by_last (front, t, is, last) =
+        let all : (read list_profile (front ++ t ∷ [])).fault ≡ None = ap (λ l. (read list_profile l).fault) (sym is) ∙ passes in
+        let before = front_passes front (t ∷ []) all in
+        ap torn_in is ∙ ap (λ (r : Read). torn list_profile r.begun.part) (one_token front t before all)
+        ∙ by_kind (read list_profile front).begun t.kind last (not_refused front t before all)
 
 module _ {A : Type 0} (taken : A → Option (List ℕ)) (failures : A → ℕ) (u : List ℕ) (old new : Converter)
     (before log after closed_log : Option (List Event)) (file now : Option A) (count failed : ℕ)
@@ -133,9 +215,15 @@ module _ {A : Type 0} (taken : A → Option (List ℕ)) (failures : A → ℕ) (
           (sym (turned.clean refl) ∙ zero) more none closes refl refl in
           all.logged ∙ ap (λ l. Some (b ++ (whole_files 0 (texts_in (tokens_of u)) ++ torn_file (number_after 0 (texts_in (tokens_of u))) l))) (sym none))
 
-  pub end_split : (is_game : Bool) → Finishes list_profile u so.tokens new is_game (told taken log file) (told taken after now)
-      → Turned taken failures (one_more count) log file after now None failed → failed ≡ 0 → IsSplit u None before closed_log
-  end_split is_game fed turned zero = record { fault = fed.has_read.passes; files = end_files fed.gains turned zero }
+  pub end_split : (is_game : Bool) → TokensRise → Finishes list_profile u so.tokens new is_game (told taken log file) (told taken after now)
+      → Turned taken failures (one_more count) log file after now None failed → failed ≡ 0 → IsSplitWhole u before closed_log
+  end_split is_game rise fed turned zero = record {
+    passes = fed.has_read.passes;
+    files = if_on before (end_files fed.gains turned zero) (λ b h.
+        h ∙ ap (λ l. Some (b ++ (whole_files 0 (texts_in (tokens_of u)) ++ torn_file (number_after 0 (texts_in (tokens_of u))) l)))
+        (whole_torn (tokens_of u) (rise u) fed.has_read.passes)
+        ∙ ap (λ l. Some (b ++ l)) (append-nil (whole_files 0 (texts_in (tokens_of u)))));
+  }
 
   -- ---- a write that fails at the end
 

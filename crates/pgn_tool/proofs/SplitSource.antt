@@ -15,7 +15,7 @@ use Rattle.pgn_tool.specs.Listing.{list_profile}
 use Rattle.pgn_tool.specs.Files.{Event, added, closing, number_after, whole_files}
 use Rattle.pgn_tool.specs.Splitting.{IsWell}
 use Rattle.pgn_tool.specs.SplitGames as games
-use Rattle.pgn_tool.specs.SplitGames.{AfterLast, AreFiles, IsSplit, Logs, ReadSoFar, SplitSoFar, Splits, SplitsNoMore, Stops, StopsOn, files_of, torn_file}
+use Rattle.pgn_tool.specs.SplitGames.{AfterLast, AreFiles, IsSplit, IsSplitWhole, Logs, ReadSoFar, SplitSoFar, Splits, SplitsNoMore, Stops, StopsOn, files_of, torn_file}
 use Rattle.pgn_tool.proofs.Listed.{decided_last, keeps_consumed, known_left, known_whole}
 use Rattle.pgn_tool.proofs.Reading.{read_stops}
 use Rattle.pgn_tool.proofs.SplitFiles.{if_on, last_closed}
@@ -75,7 +75,7 @@ module _ {A : Type 0} (taken : A → Option (List ℕ)) (failures : A → ℕ) (
   pub read_stops_at : (piece : List ℕ) (why : Unsplit) (after : Option (List Event)) → Consumes left left_new piece → StopsOn so.bytes piece before after why
       → Stops left_old left_new before after why
   read_stops_at piece _ after consumed (games.at_fault _ (feeding.at_token f to)) =
-      games.rejected f (known_left left_old left_new (so.bytes ++ piece) (λ s. IsSplit s (Some f) before after) (read_all piece consumed)
+      games.rejected f (known_left left_old left_new (so.bytes ++ piece) (λ s. IsSplit s f before after) (read_all piece consumed)
       (λ more.
       let begun = to.next more in
       let same : read list_profile (tokens_of ((so.bytes ++ piece) ++ more)) ≡ read list_profile to.tokens =
@@ -99,7 +99,7 @@ module _ {A : Type 0} (taken : A → Option (List ℕ)) (failures : A → ℕ) (
       all = subst (Consumes left_old left_new) (append-nil so.bytes) (Consumes-trans left_old left left_new so.bytes [] so.consumed consumed)
 
       by_result : (q : Result Unit Unsplit) → AfterLast so.bytes q before after → Splits left_old left_new q before after
-      by_result (Ok x) h = known_whole left_old left_new so.bytes (λ s. IsSplit s None before after) all end h
-      by_result (Err _) (games.at_fault f h) = games.rejected f (known_whole left_old left_new so.bytes (λ s. IsSplit s (Some f) before after) all end h)
+      by_result (Ok x) h = known_whole left_old left_new so.bytes (λ s. IsSplitWhole s before after) all end h
+      by_result (Err _) (games.at_fault f h) = games.rejected f (known_whole left_old left_new so.bytes (λ s. IsSplit s f before after) all end h)
       by_result (Err why) (games.cut_file _ cut) =
           games.unwritten so.bytes [] why (subst (Consumes left_old left_new) (sym (append-nil so.bytes)) all) cut

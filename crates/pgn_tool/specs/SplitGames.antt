@@ -39,9 +39,15 @@ files_of ts = whole_files 0 (texts_in ts) ++ torn_file (number_after 0 (texts_in
 abbrev pub Logs : Option (List Event) → Option (List Event) → List Event → Type 0
 Logs before after steps = IfSome before (λ log. after ≡ Some (log ++ steps))
 
--- The text s is split: it has this fault, or none, and its files were made.
-pub record IsSplit (s : List ℕ) (found : Option Fault) (before after : Option (List Event)) : Type 0 where
-  pub fault : (read list_profile (tokens_of s)).fault ≡ found
+-- The text s is split, and has no fault: there is a file for each of its games, and no other.
+pub record IsSplitWhole (s : List ℕ) (before after : Option (List Event)) : Type 0 where
+  pub passes : (read list_profile (tokens_of s)).fault ≡ None
+  pub files : Logs before after (whole_files 0 (texts_in (tokens_of s)))
+
+-- The text s is split up to its fault: the games before it have their files, and so has the game at
+-- fault, if anything was written of it.
+pub record IsSplit (s : List ℕ) (f : Fault) (before after : Option (List Event)) : Type 0 where
+  pub fault : (read list_profile (tokens_of s)).fault ≡ Some f
   pub files : Logs before after (files_of (tokens_of s))
 
 -- After the bytes u, of which nothing is rejected, no more are read: the files of what they decide
@@ -87,7 +93,7 @@ pub record CutsFile (u : List ℕ) (why : Unsplit) (before after : Option (List 
 -- the byte at place 2^62 came; or because a file could not be made or written when the bytes u were
 -- read.
 pub data Stops (left_old left_new : Option (List ℕ)) (before after : Option (List Event)) : Unsplit → Type 0 where
-  rejected : (f : Fault) → IfSome left_old (λ s. IsSplit s (Some f) before after)
+  rejected : (f : Fault) → IfSome left_old (λ s. IsSplit s f before after)
       → Stops left_old left_new before after (Refused f)
   unread : (u : List ℕ) → Consumes left_old left_new u → SplitsNoMore u before after
       → Stops left_old left_new before after (Refused (record { at = length u; reason = ReadFault }))
@@ -100,7 +106,7 @@ pub data Stops (left_old left_new : Option (List ℕ)) (before after : Option (L
 -- What the source has left is split, up to its end.
 abbrev pub Splits : Option (List ℕ) → Option (List ℕ) → Result Unit Unsplit
     → Option (List Event) → Option (List Event) → Type 0
-Splits left_old left_new (Ok done) before after = IfSome left_old (λ s. IsSplit s None before after)
+Splits left_old left_new (Ok done) before after = IfSome left_old (λ s. IsSplitWhole s before after)
 Splits left_old left_new (Err why) before after = Stops left_old left_new before after why
 
 -- ---- on the way
@@ -143,7 +149,7 @@ pub data StopsOn (u piece : List ℕ) (before after : Option (List Event)) : Uns
 
 -- how it stops at the end, behind the bytes u, which are then the whole text
 pub data StopsAtEnd (u : List ℕ) (before after : Option (List Event)) : Unsplit → Type 0 where
-  at_fault : (f : Fault) → IsSplit u (Some f) before after → StopsAtEnd u before after (Refused f)
+  at_fault : (f : Fault) → IsSplit u f before after → StopsAtEnd u before after (Refused f)
   cut_file : (why : Unsplit) → CutsFile u why before after → StopsAtEnd u before after why
 
 -- once the file is closed that is open, if one is
@@ -161,7 +167,7 @@ AfterPiece taken failures u piece new (Err why) before log file count =
     OnceClosed taken failures log file (λ after. StopsOn u piece before after why)
 
 abbrev pub AfterLast : List ℕ → Result Unit Unsplit → Option (List Event) → Option (List Event) → Type 0
-AfterLast u (Ok done) before after = IsSplit u None before after
+AfterLast u (Ok done) before after = IsSplitWhole u before after
 AfterLast u (Err why) before after = StopsAtEnd u before after why
 
 -- so wherever the files before began

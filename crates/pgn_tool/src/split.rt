@@ -13,6 +13,7 @@ use crate::replies::want_memory;
 use crate::stream::{LEVELS, TAGS, refuse};
 use pgn_game::laws::due_grows;
 use pgn_game::{Converter, Fault, Fed, Mode, Reason, Sink, Source};
+use pgn_lexer::tokens_rise;
 use std::marker::{Brand, PhantomData};
 
 /// Why a split ends before the input does.
@@ -138,6 +139,7 @@ fn split_last<F: GameFiles>(
         (F.log files.old) file.old count (F.log files.new) file.new }
 {
     due_grows();
+    tokens_rise();
     finish_game(converter, files, file, count)?;
     Ok(())
 }

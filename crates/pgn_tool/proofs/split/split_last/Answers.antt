@@ -25,4 +25,4 @@ returns-clause-splits g c = λ u before so after closes.
     let quiet = calm g.F.Out.Sink.taken g.F.Out.Sink.failures _ _ _ _ _ call.failed call.refusal call.answer _ answer call.turned call.counted in
     let ends = rw answer at call.ends in
     end_split g.F.Out.Sink.taken g.F.Out.Sink.failures u c.args.converter.now c.finish_game.new.converter before _ _ after _ _ c.args.count call.failed so closes
-    _ (ends _ _ _ _ so.stands) quiet.0 quiet.1
+    _ c.tokens_rise.ensures (ends _ _ _ _ so.stands) quiet.0 quiet.1
