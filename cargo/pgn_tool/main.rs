@@ -15,7 +15,7 @@ mod stream;
 
 use crate::arguments::{parse, Task};
 use crate::folder::Folder;
-use crate::replies::{answer_fault, refuse_words, want_memory};
+use crate::replies::{answer_fault, out_of_memory, refuse_words};
 use crate::split::split_to;
 use crate::stream::{refuse, run_stream};
 use pgn_game::{Fault, Inlet, Outlet, Reason, Sink};
@@ -54,7 +54,7 @@ fn run<E: Sink>(task: &Task, err: &mut E) -> u8 {
     };
     match File::open(name) {
         Ok(file) => run_on(task, file, err),
-        Err(error) if error.kind() == ErrorKind::OutOfMemory => want_memory(err),
+        Err(error) if error.kind() == ErrorKind::OutOfMemory => out_of_memory(err),
         Err(_) => {
             let (at, reason) = (0, Reason::ReadFault);
             refuse(Fault { at, reason }, err)

@@ -12,7 +12,7 @@ use Rattle.chess_rules.specs.declared.piece.Piece.{Piece}
 use Rattle.chess_rules.specs.Square.{Square, inside, on_diagonal, same_square, strictly_between, between_on_rank, between_on_file, between_on_diagonal}
 use Rattle.chess_rules.specs.Board.{Board, at, cell_of, is_empty}
 use Rattle.chess_rules.specs.Attacks.{is_clear}
-use Rattle.chess_rules.specs.Walk.{square_at, is_aligned, is_on_line, shift_between, direction_between, direction_number, direction_numbered, goes_up, lies_on, first_on, first_within, is_there}
+use Rattle.chess_rules.specs.Walk.{square_at, is_aligned, is_aligned_or_same, shift_between, direction_between, direction_number, direction_numbered, goes_up, lies_on, first_on, first_within, is_there}
 use Rattle.chess_rules.specs.Words.{has, IsHighest, IsLowest, Marks, Places}
 use Rattle.chess_rules.proofs.WordLemmas.{has_and, has_zero}
 use Rattle.chess_rules.proofs.Squares.{all_squares, first_true, second_true, both_true, split_or, or_first}
@@ -30,12 +30,12 @@ same_way : (d e : Direction) → (direction_number d == direction_number e) ≡ 
 same_way d e h = sym (direction_again d) ∙ (ap direction_numbered (equal_from _ _ h) ∙ direction_again e)
 
 pub on_way : (d : Direction) (t u : Square) → lies_on d t u ≡ true → direction_between t u ≡ d
-on_way d t u h = same_way (direction_between t u) d (second_true (is_on_line t u) _ h)
+on_way d t u h = same_way (direction_between t u) d (second_true (is_aligned_or_same t u) _ h)
 
-line_aligned : (t u : Square) → is_on_line t u ≡ true → not (same_square u t) ≡ true → is_aligned u t ≡ true
+line_aligned : (t u : Square) → is_aligned_or_same t u ≡ true → not (same_square u t) ≡ true → is_aligned u t ≡ true
 line_aligned t u h apart = grind (arith, nat_tests)
 
-aligned_line : (t u : Square) → is_aligned u t ≡ true → is_on_line t u ≡ true
+aligned_line : (t u : Square) → is_aligned u t ≡ true → is_aligned_or_same t u ≡ true
 aligned_line t u h = grind (arith, nat_tests)
 
 level : (a : ℕ) → shift_between a a ≡ Stay
@@ -60,7 +60,7 @@ pub way_aligned : (d : Direction) (t u : Square) → is_still d ≡ false → li
 way_aligned d t u moves h = by_one (same_square u t) refl
   where
     by_one : (x : Bool) → same_square u t ≡ x → is_aligned u t ≡ true
-    by_one false e = line_aligned t u (first_true (is_on_line t u) _ h) (ap not e)
+    by_one false e = line_aligned t u (first_true (is_aligned_or_same t u) _ h) (ap not e)
     by_one true e =
         absurd (false≢true (sym moves ∙ (ap is_still (sym (on_way d t u h))
         ∙ (ap (λ v. is_still (direction_between t v)) (squares_same u t e) ∙ still_there t))))
@@ -245,7 +245,7 @@ found_still b t word i h low here =
             let same : s ≡ t = squares_same s t e in
             ap Some same ∙ sym (walk_ends b still t t 6 refl (ap (is_empty b) (sym same) ∙ occupied))
         by_one false e =
-            absurd (false≢true (sym (moving s t (line_aligned t s (first_true (is_on_line t s) _ lies) (ap not e)))
+            absurd (false≢true (sym (moving s t (line_aligned t s (first_true (is_aligned_or_same t s) _ lies) (ap not e)))
             ∙ ap is_still (on_way still t s lies)))
 
 -- All ways.

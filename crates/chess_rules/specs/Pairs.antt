@@ -40,13 +40,13 @@ unfoldable pub by_jumps : Parts → Square → List Square
 by_jumps p t = filter_map (origin_by p t) JUMPS
 
 -- direction by direction, or jump by jump
-abbrev pub origins : Parts → Kind → Square → List Square
-origins p King t = on_ways p King t
-origins p Queen t = on_ways p Queen t
-origins p Rook t = on_ways p Rook t
-origins p Bishop t = on_ways p Bishop t
-origins p Knight t = by_jumps p t
-origins p Pawn t = on_ways p Pawn t
+abbrev pub origins_in_order : Parts → Kind → Square → List Square
+origins_in_order p King t = on_ways p King t
+origins_in_order p Queen t = on_ways p Queen t
+origins_in_order p Rook t = on_ways p Rook t
+origins_in_order p Bishop t = on_ways p Bishop t
+origins_in_order p Knight t = by_jumps p t
+origins_in_order p Pawn t = on_ways p Pawn t
 
 -- One pair.
 

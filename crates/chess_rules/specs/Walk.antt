@@ -42,8 +42,8 @@ abbrev pub is_aligned : Square → Square → Bool
 is_aligned s t = in_line s t || on_diagonal s t
 
 -- s and t are on one rank, file or diagonal, or are one square
-abbrev pub is_on_line : Square → Square → Bool
-is_on_line s t = (s.rank == t.rank) || ((s.file == t.file) || (gap s.file t.file == gap s.rank t.rank))
+abbrev pub is_aligned_or_same : Square → Square → Bool
+is_aligned_or_same s t = (s.rank == t.rank) || ((s.file == t.file) || (gap s.file t.file == gap s.rank t.rank))
 
 -- Outward from a square.
 
@@ -104,13 +104,13 @@ abbrev pub direction_numbered : ℕ → Direction
 direction_numbered n = record { files = shift_numbered (n / 3); ranks = shift_numbered (n % 3) }
 
 -- the number of the square among the 64, or 64 if there is no square
-abbrev pub place_or_none : Option Square → ℕ
-place_or_none None = 64
-place_or_none (Some s) = cell_of s
+abbrev pub place_or_64 : Option Square → ℕ
+place_or_64 None = 64
+place_or_64 (Some s) = cell_of s
 
 -- u lies in that direction from t, or it is t and the direction leads nowhere
 abbrev pub lies_on : Direction → Square → Square → Bool
-lies_on d t u = is_on_line t u && (direction_number (direction_between t u) == direction_number d)
+lies_on d t u = is_aligned_or_same t u && (direction_number (direction_between t u) == direction_number d)
 
 -- the numbers of the squares rise in that direction
 abbrev pub rises : Shift → Shift → Bool
@@ -135,7 +135,7 @@ landing s n = stepped (jump_numbered n).way s (jump_numbered n).files (jump_numb
 
 -- its number, or 64: of jump n % 8 from square n / 8
 abbrev pub landing_place : ℕ → ℕ
-landing_place n = place_or_none (landing (square_at (n / 8)) (n % 8))
+landing_place n = place_or_64 (landing (square_at (n / 8)) (n % 8))
 
 -- None where there is no square, the square if it is occupied, and else what comes further on
 abbrev pub go_on : Board → Option Square → (Square → Option Square) → Option Square

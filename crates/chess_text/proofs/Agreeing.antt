@@ -17,7 +17,7 @@ use Rattle.chess_text.specs.declared.form.Form.{Form}
 use Rattle.chess_text.specs.declared.form.Form.TheVariants.{Castle, Man}
 use Rattle.chess_text.specs.declared.resolve.Played.{Played}
 use Rattle.chess_text.specs.declared.resolve.SanFault.TheVariants.{NoMove, Ambiguous}
-use Rattle.chess_text.specs.Reads.{hints_fit, same_promotion, is_castling, describes, agrees, with_next, played, castling_move, move_from, possible, agreeing, only}
+use Rattle.chess_text.specs.Reads.{hints_fit, same_promotion, is_castling, describes, agrees, with_next, played, castling_move, move_from, moves_to_try, agreeing, only}
 use Rattle.chess_text.specs.Laws.{ReadsTheOne, ReadsNone, ReadsTwo}
 use Rattle.chess_text.proofs.Castling.{stepped, squares_same}
 use Rattle.chess_text.proofs.CastleForms.{castles_ends, played_some}
@@ -84,7 +84,7 @@ moves_apart to promotion (s ∷ ss) h = (differs, moves_apart to promotion ss h.
         let g = of_map (move_from to promotion) ss m c in
         h.0 g.at g.among (ap (λ (n : Move). n.from) (e ∙ sym g.gives))
 
-possible_apart : (p : Parts) (f : Form) → Apart (possible p f)
+possible_apart : (p : Parts) (f : Form) → Apart (moves_to_try p f)
 possible_apart p (Castle long) = ((λ m c. absurd (none_in m c)), tt)
 possible_apart p (Man k file rank to promotion) = moves_apart to promotion squares squares_apart
 
@@ -124,13 +124,13 @@ move_of m from to promotion a b c =
     ∙ ap (λ (s : Square). record { from = from; to = s; promotion = m.promotion }) b
     ∙ ap (λ (x : Option Promotion). record { from = from; to = to; promotion = x }) c
 
-pub is_possible : (p : Parts) (f : Form) (m : Move) → is_legal p m ≡ true → describes p f m ≡ true → Contains (possible p f) m
+pub is_possible : (p : Parts) (f : Form) (m : Move) → is_legal p m ≡ true → describes p f m ≡ true → Contains (moves_to_try p f) m
 is_possible p (Castle false) m legal h =
     let ends = castles_ends p m (short_right p.side p.rights) short_wing h in
-    subst (λ (n : Move). Contains (possible p (Castle false)) n) (sym (move_of m _ _ None ends.0 ends.1 (no_promotion m.promotion ends.2))) (here (castling_move p.side false) [])
+    subst (λ (n : Move). Contains (moves_to_try p (Castle false)) n) (sym (move_of m _ _ None ends.0 ends.1 (no_promotion m.promotion ends.2))) (here (castling_move p.side false) [])
 is_possible p (Castle true) m legal h =
     let ends = castles_ends p m (long_right p.side p.rights) long_wing h in
-    subst (λ (n : Move). Contains (possible p (Castle true)) n) (sym (move_of m _ _ None ends.0 ends.1 (no_promotion m.promotion ends.2))) (here (castling_move p.side true) [])
+    subst (λ (n : Move). Contains (moves_to_try p (Castle true)) n) (sym (move_of m _ _ None ends.0 ends.1 (no_promotion m.promotion ends.2))) (here (castling_move p.side true) [])
 is_possible p (Man k file rank to promotion) m legal h =
     let rest = (and_parts (own p k m.from && hints_fit file rank m.from) ((same_square m.to to && same_promotion m.promotion promotion) && not (is_castling p m)) h).1 in
     let same = and_parts (same_square m.to to) (same_promotion m.promotion promotion) (and_parts (same_square m.to to && same_promotion m.promotion promotion) (not (is_castling p m)) rest).0 in
@@ -152,7 +152,7 @@ pub agreeing_found : (p : Parts) (f : Form) (m : Move) (q : Parts) → agrees p 
 unfolding agreeing
 agreeing_found p f m q h after =
     let both = and_parts (is_legal p m) (describes p f m) h in
-    in_found (told p f) (possible p f) m (record { mv = m; next = q }) (is_possible p f m both.0 both.1)
+    in_found (told p f) (moves_to_try p f) m (record { mv = m; next = q }) (is_possible p f m both.0 both.1)
     (played_some (describes p f m) p q m both.1 after)
 
 -- what is found of a move
@@ -179,7 +179,7 @@ pub record Agrees (p : Parts) (f : Form) (x : Played) : Type 0 where
 pub found_agrees : (p : Parts) (f : Form) (x : Played) → Contains (agreeing p f) x → Agrees p f x
 unfolding agreeing
 found_agrees p f x c =
-    let g = found_in (told p f) (possible p f) x c in
+    let g = found_in (told p f) (moves_to_try p f) x c in
     let t = tells (describes p f g.at) p g.at x g.gives in
     let after : legal p x.mv ≡ Some x.next = subst (λ (n : Move). legal p n ≡ Some x.next) (sym t.same) t.after in
     record {
@@ -206,7 +206,7 @@ two_differ p f (m ∷ ms) apart x y more e = by_found (told p f m) refl e (two_d
 
 pub agreeing_differ : (p : Parts) (f : Form) (x y : Played) (more : List Played) → agreeing p f ≡ x ∷ y ∷ more → x.mv ≢ y.mv
 unfolding agreeing
-agreeing_differ p f x y more e = two_differ p f (possible p f) (possible_apart p f) x y more e
+agreeing_differ p f x y more e = two_differ p f (moves_to_try p f) (possible_apart p f) x y more e
 
 -- The laws.
 

@@ -14,7 +14,7 @@ use Rattle.chess_rules.specs.Square.{Square, on_board}
 use Rattle.chess_text.specs.declared.form.Form.{Form}
 use Rattle.chess_text.specs.declared.form.Form.TheVariants.{Castle, Man}
 use Rattle.chess_text.specs.Letter.{file_letter, rank_digit, square_text}
-use Rattle.chess_text.specs.Form.{SpellsMan, SpellsBare, Spells, is_among, letter_texts, hint_text, capture_texts, promotion_letter, promotion_texts, castle_texts, is_mark, below_eight, is_form, last_byte, front, front_if, before_marks, file_of, rank_of, promotion_of, promotion_told, before_sign, before_promotion, square_of, target_told, before_capture, before_target, rank_told, before_rank, file_told, before_file, kind_told, man_if, man_before, man_at, man_of, castle_of, castle_or, bare_form, form_of}
+use Rattle.chess_text.specs.Form.{SpellsMan, SpellsBare, Spells, is_among, letter_texts, hint_text, capture_texts, promotion_letter, promotion_texts, castle_texts, is_mark, below_eight, is_form, last_byte, front, front_if, before_marks, file_of, rank_of, promotion_of, promotion_at_end, before_sign, before_promotion, square_of, target_at_end, before_capture, before_target, rank_at_end, before_rank, file_at_end, before_file, kind_of_text, man_if, man_before, man_at, man_of, castle_of, castle_or, bare_form, form_of}
 use Rattle.chess_text.proofs.Marks.{before_marks-append, before_marks-last}
 use Rattle.chess_text.proofs.Spaces.{first_of_two, second_of_two}
 
@@ -66,7 +66,7 @@ two_of s a b h = by_first (bytes_eq s a) refl h
 
 -- it is told, and is no file, rank or x
 record Letters (s : List ℕ) (k : Kind) : Type 0 where
-  named : kind_told s ≡ Some k
+  named : kind_of_text s ≡ Some k
   no_file : file_of (last_byte s) ≡ None
   no_rank : rank_of (last_byte s) ≡ None
   no_x : (last_byte s == 120) ≡ false
@@ -102,7 +102,7 @@ rank_no_x n h = grind (arith, nat_tests)
 
 -- what a hint tells, and what stands before it
 record FileRead (s t : List ℕ) (file : Option ℕ) : Type 0 where
-  told : file_told t ≡ file
+  told : file_at_end t ≡ file
   before : before_file t ≡ s
   no_rank : rank_of (last_byte t) ≡ None
   no_x : (last_byte t == 120) ≡ false
@@ -113,7 +113,7 @@ file_read s k None h l =
     (record { told = l.no_file; before = ap (λ o. front_if (is_some o) s) l.no_file; no_rank = l.no_rank; no_x = l.no_x })
 file_read s k (Some n) h l =
     let last : last_byte (s ++ (97 + n) ∷ []) ≡ 97 + n = last_byte-snoc s (97 + n) in
-    let there : file_told (s ++ (97 + n) ∷ []) ≡ Some n = ap (λ c. file_of c) last ∙ file_back n h in
+    let there : file_at_end (s ++ (97 + n) ∷ []) ≡ Some n = ap (λ c. file_of c) last ∙ file_back n h in
     record {
       told = there;
       before = ap (λ o. front_if (is_some o) (s ++ (97 + n) ∷ [])) there ∙ front-snoc s (97 + n);
@@ -122,7 +122,7 @@ file_read s k (Some n) h l =
     }
 
 record RankRead (s t : List ℕ) (rank : Option ℕ) : Type 0 where
-  told : rank_told t ≡ rank
+  told : rank_at_end t ≡ rank
   before : before_rank t ≡ s
   no_x : (last_byte t == 120) ≡ false
 
@@ -131,7 +131,7 @@ rank_read s None h none no_x =
     subst (λ t. RankRead s t None) (sym (append-nil s)) (record { told = none; before = ap (λ o. front_if (is_some o) s) none; no_x = no_x })
 rank_read s (Some n) h none no_x =
     let last : last_byte (s ++ (49 + n) ∷ []) ≡ 49 + n = last_byte-snoc s (49 + n) in
-    let there : rank_told (s ++ (49 + n) ∷ []) ≡ Some n = ap (λ c. rank_of c) last ∙ rank_back n h in
+    let there : rank_at_end (s ++ (49 + n) ∷ []) ≡ Some n = ap (λ c. rank_of c) last ∙ rank_back n h in
     record {
       told = there;
       before = ap (λ o. front_if (is_some o) (s ++ (49 + n) ∷ [])) there ∙ front-snoc s (49 + n);
@@ -150,7 +150,7 @@ capture_read s x h no_x =
 -- The target.
 
 record TargetRead (s t : List ℕ) (to : Square) : Type 0 where
-  told : target_told t ≡ Some to
+  told : target_at_end t ≡ Some to
   before : front (front t) ≡ s
   last : last_byte t ≡ 49 + to.rank
 
@@ -208,14 +208,14 @@ letter_ends become.Bishop = record { no_mark = refl; no_letter = refl; no_zero =
 letter_ends become.Knight = record { no_mark = refl; no_letter = refl; no_zero = refl }
 
 record PromotionRead (s t : List ℕ) (promotion : Option Promotion) : Type 0 where
-  told : promotion_told t ≡ promotion
+  told : promotion_at_end t ≡ promotion
   before : before_promotion t ≡ s
   ends : Ends (last_byte t)
 
 -- behind the digit of a rank
 promotion_read : (s p : List ℕ) (n : ℕ) (promotion : Option Promotion) → is_among p (promotion_texts promotion) ≡ true → nat_lt n 8 ≡ true → last_byte s ≡ 49 + n → PromotionRead s (s ++ p) promotion
 promotion_read s p n None h low last =
-    let none : promotion_told s ≡ None = ap (λ c. promotion_of c) last ∙ digit_no_promotion n low in
+    let none : promotion_at_end s ≡ None = ap (λ c. promotion_of c) last ∙ digit_no_promotion n low in
     subst (λ t. PromotionRead s t None) (sym (ap (λ u. s ++ u) (one_of p [] h) ∙ append-nil s))
     (record {
       told = none;
@@ -233,7 +233,7 @@ promotion_read s p n (Some q) h low last =
   where
     by_letter : (t : List ℕ) → before_sign t ≡ s → PromotionRead s (t ++ promotion_letter q ∷ []) (Some q)
     by_letter t before =
-        let there : promotion_told (t ++ promotion_letter q ∷ []) ≡ Some q = ap (λ c. promotion_of c) (last_byte-snoc t (promotion_letter q)) ∙ promotion_back q in
+        let there : promotion_at_end (t ++ promotion_letter q ∷ []) ≡ Some q = ap (λ c. promotion_of c) (last_byte-snoc t (promotion_letter q)) ∙ promotion_back q in
         record {
           told = there;
           before = rw there (ap (λ u. before_sign u) (front-snoc t (promotion_letter q)) ∙ before);
@@ -284,12 +284,12 @@ man_read s k file rank to promotion h g =
     let p : PromotionRead d (d ++ h.promoted) promotion =
     promotion_read d h.promoted to.rank promotion h.promoted_fits (second_of_two (nat_lt to.file 8) (nat_lt to.rank 8) here) t.last in
     let before : before_target d ≡ b = ap (λ u. before_capture u) t.before ∙ x in
-    let kind : kind_told (before_file (before_rank b)) ≡ Some k = ap (λ u. kind_told (before_file u)) r.before ∙ (ap (λ u. kind_told u) f.before ∙ letters.named) in
-    let file_is : file_told (before_rank b) ≡ file = ap (λ u. file_told u) r.before ∙ f.told in
+    let kind : kind_of_text (before_file (before_rank b)) ≡ Some k = ap (λ u. kind_of_text (before_file u)) r.before ∙ (ap (λ u. kind_of_text u) f.before ∙ letters.named) in
+    let file_is : file_at_end (before_rank b) ≡ file = ap (λ u. file_at_end u) r.before ∙ f.told in
     let man : man_of (d ++ h.promoted) ≡ Some (Man k file rank to promotion) =
     ap₂ (λ u q. man_at u q) p.before p.told
     ∙ (ap₂ (λ u o. man_before u o promotion) before t.told
-    ∙ (ap (λ o. man_if o (file_told (before_rank b)) (rank_told b) (Some to) promotion) kind
+    ∙ (ap (λ o. man_if o (file_at_end (before_rank b)) (rank_at_end b) (Some to) promotion) kind
     ∙ ap₂ (λ o q. man_if (Some k) o q (Some to) promotion) file_is r.told)) in
     let bare : BareRead (d ++ h.promoted) (Man k file rank to promotion) =
     record {

@@ -13,7 +13,7 @@ use Rattle.chess_rules.specs.Square.{Square, square, on_board}
 use Rattle.chess_text.specs.declared.form.Form.{Form}
 use Rattle.chess_text.specs.declared.form.Form.TheVariants.{Castle, Man}
 use Rattle.chess_text.specs.Letter.{letter, kinds, file_letter, rank_digit, square_text}
-use Rattle.chess_text.specs.Form.{SpellsBare, Spells, is_among, letter_texts, hint_text, capture_texts, promotion_letter, promotions, promotion_texts, castle_texts, is_mark, below_eight, is_form, last_byte, front, front_if, before_marks, file_of, rank_of, promotion_of, promotion_told, before_sign, before_promotion, square_of, target_told, before_capture, before_target, rank_told, before_rank, file_told, before_file, kind_told, man_if, man_of, castle_of, castle_or, bare_form, form_of}
+use Rattle.chess_text.specs.Form.{SpellsBare, Spells, is_among, letter_texts, hint_text, capture_texts, promotion_letter, promotions, promotion_texts, castle_texts, is_mark, below_eight, is_form, last_byte, front, front_if, before_marks, file_of, rank_of, promotion_of, promotion_at_end, before_sign, before_promotion, square_of, target_at_end, before_capture, before_target, rank_at_end, before_rank, file_at_end, before_file, kind_of_text, man_if, man_of, castle_of, castle_or, bare_form, form_of}
 use Rattle.chess_text.proofs.FormReading.{snoc_again}
 
 same_some : {A : Type 0} (x y : A) → Some x ≡ Some y → x ≡ y
@@ -60,17 +60,17 @@ rank_byte c n h = by_test (nat_le 49 c && nat_le c 56) refl h
     by_test true e g = let same : c - 49 ≡ n = same_some (c - 49) n g in (grind (arith, nat_tests), grind (arith, nat_tests))
     by_test false e g = absurd (cc)
 
-file_spelled : (s : List ℕ) → (s ≡ before_file s ++ hint_text file_letter (file_told s)) × (below_eight (file_told s) ≡ true)
-file_spelled s = by_byte (file_told s) refl
+file_spelled : (s : List ℕ) → (s ≡ before_file s ++ hint_text file_letter (file_at_end s)) × (below_eight (file_at_end s) ≡ true)
+file_spelled s = by_byte (file_at_end s) refl
   where
-    by_byte : (o : Option ℕ) → file_told s ≡ o → (s ≡ front_if (is_some o) s ++ hint_text file_letter o) × (below_eight o ≡ true)
+    by_byte : (o : Option ℕ) → file_at_end s ≡ o → (s ≡ front_if (is_some o) s ++ hint_text file_letter o) × (below_eight o ≡ true)
     by_byte None e = (sym (append-nil s), refl)
     by_byte (Some n) e = (ends_in s (97 + n) (file_byte (last_byte s) n e).0 (omega arith), (file_byte (last_byte s) n e).1)
 
-rank_spelled : (s : List ℕ) → (s ≡ before_rank s ++ hint_text rank_digit (rank_told s)) × (below_eight (rank_told s) ≡ true)
-rank_spelled s = by_byte (rank_told s) refl
+rank_spelled : (s : List ℕ) → (s ≡ before_rank s ++ hint_text rank_digit (rank_at_end s)) × (below_eight (rank_at_end s) ≡ true)
+rank_spelled s = by_byte (rank_at_end s) refl
   where
-    by_byte : (o : Option ℕ) → rank_told s ≡ o → (s ≡ front_if (is_some o) s ++ hint_text rank_digit o) × (below_eight o ≡ true)
+    by_byte : (o : Option ℕ) → rank_at_end s ≡ o → (s ≡ front_if (is_some o) s ++ hint_text rank_digit o) × (below_eight o ≡ true)
     by_byte None e = (sym (append-nil s), refl)
     by_byte (Some n) e = (ends_in s (49 + n) (rank_byte (last_byte s) n e).0 (omega arith), (rank_byte (last_byte s) n e).1)
 
@@ -87,7 +87,7 @@ capture_spelled s = by_test (last_byte s == 120) refl
     by_test true e = record { text = codes "x"; joined = is_it s 120 e (omega arith); fits = refl }
     by_test false e = record { text = []; joined = sym (append-nil s); fits = refl }
 
-target_spelled : (s : List ℕ) (to : Square) → target_told s ≡ Some to → (s ≡ front (front s) ++ square_text to) × (on_board to ≡ true)
+target_spelled : (s : List ℕ) (to : Square) → target_at_end s ≡ Some to → (s ≡ front (front s) ++ square_text to) × (on_board to ≡ true)
 target_spelled s to h = by_bytes (file_of (last_byte (front s))) (rank_of (last_byte s)) refl refl h
   where
     by_bytes : (f r : Option ℕ) → file_of (last_byte (front s)) ≡ f → rank_of (last_byte s) ≡ r → square_of f r ≡ Some to → (s ≡ front (front s) ++ square_text to) × (on_board to ≡ true)
@@ -132,8 +132,8 @@ without_sign become.Rook = refl
 without_sign become.Bishop = refl
 without_sign become.Knight = refl
 
-promotion_spelled : (s : List ℕ) → Part s (before_promotion s) (promotion_texts (promotion_told s))
-promotion_spelled s = by_byte (promotion_told s) refl
+promotion_spelled : (s : List ℕ) → Part s (before_promotion s) (promotion_texts (promotion_at_end s))
+promotion_spelled s = by_byte (promotion_at_end s) refl
   where
     by_sign : (q : Promotion) (b : Bool) → (last_byte (front s) == 61) ≡ b → s ≡ front s ++ promotion_letter q ∷ [] → Part s (front_if b (front s)) (promotion_texts (Some q))
     by_sign q true e h =
@@ -144,7 +144,7 @@ promotion_spelled s = by_byte (promotion_told s) refl
         }
     by_sign q false e h = record { text = promotion_letter q ∷ []; joined = h; fits = without_sign q }
 
-    by_byte : (o : Option Promotion) → promotion_told s ≡ o → Part s (if is_some o then before_sign (front s) else s) (promotion_texts o)
+    by_byte : (o : Option Promotion) → promotion_at_end s ≡ o → Part s (if is_some o then before_sign (front s) else s) (promotion_texts o)
     by_byte None e = record { text = []; joined = sym (append-nil s); fits = refl }
     by_byte (Some q) e = by_sign q (last_byte (front s) == 61) refl (ends_in s (promotion_letter q) (promotion_byte (last_byte s) q e) (some_letter q))
 
@@ -156,7 +156,7 @@ own_letter Bishop = refl
 own_letter Knight = refl
 own_letter Pawn = refl
 
-kind_spelled : (s : List ℕ) (k : Kind) → kind_told s ≡ Some k → is_among s (letter_texts k) ≡ true
+kind_spelled : (s : List ℕ) (k : Kind) → kind_of_text s ≡ Some k → is_among s (letter_texts k) ≡ true
 kind_spelled [] k h = ap (λ j. is_among [] (letter_texts j)) (sym (same_some Pawn k h))
 kind_spelled (c ∷ d ∷ s) k h = absurd (cc)
 kind_spelled (c ∷ []) k h = ap (λ d. is_among (d ∷ []) (letter_texts k)) (sym (eqb-true (letter k) c (found (λ j. letter j == c) kinds k h))) ∙ own_letter k
@@ -170,7 +170,7 @@ record Told (s : List ℕ) (f : Form) : Type 0 where
 -- what stands before the target, and what the rest says
 man_spelled : (s : List ℕ) (f : Form) → man_of s ≡ Some f → Told s f
 man_spelled s f h =
-    by_parts (kind_told (before_file (before_rank b))) (target_told d) refl refl h
+    by_parts (kind_of_text (before_file (before_rank b))) (target_at_end d) refl refl h
   where
     d : List ℕ
     d = before_promotion s
@@ -178,27 +178,27 @@ man_spelled s f h =
     b : List ℕ
     b = before_target d
 
-    by_parts : (k : Option Kind) (to : Option Square) → kind_told (before_file (before_rank b)) ≡ k → target_told d ≡ to
-        → man_if k (file_told (before_rank b)) (rank_told b) to (promotion_told s) ≡ Some f → Told s f
+    by_parts : (k : Option Kind) (to : Option Square) → kind_of_text (before_file (before_rank b)) ≡ k → target_at_end d ≡ to
+        → man_if k (file_at_end (before_rank b)) (rank_at_end b) to (promotion_at_end s) ≡ Some f → Told s f
     by_parts k None e g h = absurd (cc)
     by_parts None (Some to) e g h = absurd (cc)
     by_parts (Some k) (Some to) e g h =
         let a : List ℕ = before_rank b in
         let l : List ℕ = before_file a in
-        let p : Part s d (promotion_texts (promotion_told s)) = promotion_spelled s in
+        let p : Part s d (promotion_texts (promotion_at_end s)) = promotion_spelled s in
         let t : (d ≡ front (front d) ++ square_text to) × (on_board to ≡ true) = target_spelled d to g in
         let x : Part (front (front d)) b capture_texts = capture_spelled (front (front d)) in
-        let r : (b ≡ a ++ hint_text rank_digit (rank_told b)) × (below_eight (rank_told b) ≡ true) = rank_spelled b in
-        let i : (a ≡ l ++ hint_text file_letter (file_told a)) × (below_eight (file_told a) ≡ true) = file_spelled a in
-        let r_is : b ≡ (l ++ hint_text file_letter (file_told a)) ++ hint_text rank_digit (rank_told b) = r.0 ∙ ap (λ u. u ++ hint_text rank_digit (rank_told b)) i.0 in
-        let x_is : front (front d) ≡ ((l ++ hint_text file_letter (file_told a)) ++ hint_text rank_digit (rank_told b)) ++ x.text = x.joined ∙ ap (λ u. u ++ x.text) r_is in
-        let d_is : d ≡ (((l ++ hint_text file_letter (file_told a)) ++ hint_text rank_digit (rank_told b)) ++ x.text) ++ square_text to = t.0 ∙ ap (λ u. u ++ square_text to) x_is in
-        let man : Told s (Man k (file_told a) (rank_told b) to (promotion_told s)) =
+        let r : (b ≡ a ++ hint_text rank_digit (rank_at_end b)) × (below_eight (rank_at_end b) ≡ true) = rank_spelled b in
+        let i : (a ≡ l ++ hint_text file_letter (file_at_end a)) × (below_eight (file_at_end a) ≡ true) = file_spelled a in
+        let r_is : b ≡ (l ++ hint_text file_letter (file_at_end a)) ++ hint_text rank_digit (rank_at_end b) = r.0 ∙ ap (λ u. u ++ hint_text rank_digit (rank_at_end b)) i.0 in
+        let x_is : front (front d) ≡ ((l ++ hint_text file_letter (file_at_end a)) ++ hint_text rank_digit (rank_at_end b)) ++ x.text = x.joined ∙ ap (λ u. u ++ x.text) r_is in
+        let d_is : d ≡ (((l ++ hint_text file_letter (file_at_end a)) ++ hint_text rank_digit (rank_at_end b)) ++ x.text) ++ square_text to = t.0 ∙ ap (λ u. u ++ square_text to) x_is in
+        let man : Told s (Man k (file_at_end a) (rank_at_end b) to (promotion_at_end s)) =
         record {
           spelled = record { letters = l; capture = x.text; promoted = p.text; joined = p.joined ∙ ap (λ u. u ++ p.text) d_is; letters_fit = kind_spelled l k e; capture_fits = x.fits; promoted_fits = p.fits };
           good = ap₂ (λ v w. v && w) (ap₂ (λ v w. v && w) i.1 r.1) t.1;
         } in
-        subst (λ z. Told s z) (same_some (Man k (file_told a) (rank_told b) to (promotion_told s)) f h) man
+        subst (λ z. Told s z) (same_some (Man k (file_at_end a) (rank_at_end b) to (promotion_at_end s)) f h) man
 
 bare_spelled : (s : List ℕ) (f : Form) → bare_form s ≡ Some f → Told s f
 bare_spelled s f h = by_castling (castle_of s) refl h

@@ -45,13 +45,13 @@ both_told : text_of (fen (codes "1k6/8/8/8/4Q2Q/8/8/K6Q w - - 0 1")) (go (codes 
 unfolding squares
 both_told = refl
 
-file_told : text_of (fen (codes "1k6/8/8/8/4Q2Q/8/8/K6Q w - - 0 1")) (go (codes "e4") (codes "e1")) ≡ codes "Qee1"
+file_at_end : text_of (fen (codes "1k6/8/8/8/4Q2Q/8/8/K6Q w - - 0 1")) (go (codes "e4") (codes "e1")) ≡ codes "Qee1"
 unfolding squares
-file_told = refl
+file_at_end = refl
 
-rank_told : text_of (fen (codes "1k6/8/8/8/4Q2Q/8/8/K6Q w - - 0 1")) (go (codes "h1") (codes "e1")) ≡ codes "Q1e1"
+rank_at_end : text_of (fen (codes "1k6/8/8/8/4Q2Q/8/8/K6Q w - - 0 1")) (go (codes "h1") (codes "e1")) ≡ codes "Q1e1"
 unfolding squares
-rank_told = refl
+rank_at_end = refl
 
 en_passant_answer : text_of (fen (codes "3R1R2/4K3/8/4k3/4p3/8/3P4/8 w - - 0 1")) (go (codes "d2") (codes "d4")) ≡ codes "d4+"
 unfolding squares

@@ -108,22 +108,22 @@ promotions = Queen ∷ Rook ∷ Bishop ∷ Knight ∷ []
 abbrev pub promotion_of : ℕ → Option Promotion
 promotion_of c = find (λ q. promotion_letter q == c) promotions
 
-abbrev pub promotion_told : List ℕ → Option Promotion
-promotion_told s = promotion_of (last_byte s)
+abbrev pub promotion_at_end : List ℕ → Option Promotion
+promotion_at_end s = promotion_of (last_byte s)
 
 abbrev pub before_sign : List ℕ → List ℕ
 before_sign s = front_if (last_byte s == 61) s
 
 abbrev pub before_promotion : List ℕ → List ℕ
-before_promotion s = if is_some (promotion_told s) then before_sign (front s) else s
+before_promotion s = if is_some (promotion_at_end s) then before_sign (front s) else s
 
 abbrev pub square_of : Option ℕ → Option ℕ → Option Square
 square_of None rank = None
 square_of (Some file) None = None
 square_of (Some file) (Some rank) = Some (square file rank)
 
-abbrev pub target_told : List ℕ → Option Square
-target_told s = square_of (file_of (last_byte (front s))) (rank_of (last_byte s))
+abbrev pub target_at_end : List ℕ → Option Square
+target_at_end s = square_of (file_of (last_byte (front s))) (rank_of (last_byte s))
 
 abbrev pub before_capture : List ℕ → List ℕ
 before_capture s = front_if (last_byte s == 120) s
@@ -132,23 +132,23 @@ before_capture s = front_if (last_byte s == 120) s
 abbrev pub before_target : List ℕ → List ℕ
 before_target s = before_capture (front (front s))
 
-abbrev pub rank_told : List ℕ → Option ℕ
-rank_told s = rank_of (last_byte s)
+abbrev pub rank_at_end : List ℕ → Option ℕ
+rank_at_end s = rank_of (last_byte s)
 
 abbrev pub before_rank : List ℕ → List ℕ
-before_rank s = front_if (is_some (rank_told s)) s
+before_rank s = front_if (is_some (rank_at_end s)) s
 
-abbrev pub file_told : List ℕ → Option ℕ
-file_told s = file_of (last_byte s)
+abbrev pub file_at_end : List ℕ → Option ℕ
+file_at_end s = file_of (last_byte s)
 
 abbrev pub before_file : List ℕ → List ℕ
-before_file s = front_if (is_some (file_told s)) s
+before_file s = front_if (is_some (file_at_end s)) s
 
 -- the kind of a letter; no letter is a pawn
-abbrev pub kind_told : List ℕ → Option Kind
-kind_told [] = Some Pawn
-kind_told (c ∷ []) = find (λ k. letter k == c) kinds
-kind_told (c ∷ d ∷ s) = None
+abbrev pub kind_of_text : List ℕ → Option Kind
+kind_of_text [] = Some Pawn
+kind_of_text (c ∷ []) = find (λ k. letter k == c) kinds
+kind_of_text (c ∷ d ∷ s) = None
 
 abbrev pub man_if : Option Kind → Option ℕ → Option ℕ → Option Square → Option Promotion → Option Form
 man_if k file rank None promotion = None
@@ -158,13 +158,13 @@ man_if (Some k) file rank (Some to) promotion = Some (Man k file rank to promoti
 -- the form of the hints and the letter before the target
 abbrev pub man_before : List ℕ → Option Square → Option Promotion → Option Form
 man_before s to promotion =
-    man_if (kind_told (before_file (before_rank s))) (file_told (before_rank s)) (rank_told s) to promotion
+    man_if (kind_of_text (before_file (before_rank s))) (file_at_end (before_rank s)) (rank_at_end s) to promotion
 
 abbrev pub man_at : List ℕ → Option Promotion → Option Form
-man_at s promotion = man_before (before_target s) (target_told s) promotion
+man_at s promotion = man_before (before_target s) (target_at_end s) promotion
 
 abbrev pub man_of : List ℕ → Option Form
-man_of s = man_at (before_promotion s) (promotion_told s)
+man_of s = man_at (before_promotion s) (promotion_at_end s)
 
 abbrev pub castle_of : List ℕ → Option Bool
 castle_of s = find (λ long. is_among s (castle_texts long)) (false ∷ true ∷ [])

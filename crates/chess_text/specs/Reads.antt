@@ -71,13 +71,13 @@ move_from to promotion s = record { from = s; to = to; promotion = promotion }
 
 -- Where a form's moves are looked for: the one castling, or the moves from every square. The laws
 -- on `reads` speak of all moves, so no other agrees.
-abbrev pub possible : Parts → Form → List Move
-possible p (Castle long) = castling_move p.side long ∷ []
-possible p (Man k file rank to promotion) = map (move_from to promotion) squares
+abbrev pub moves_to_try : Parts → Form → List Move
+moves_to_try p (Castle long) = castling_move p.side long ∷ []
+moves_to_try p (Man k file rank to promotion) = map (move_from to promotion) squares
 
 -- the moves that agree, each with the position after it
 unfoldable pub agreeing : Parts → Form → List Played
-agreeing p f = filter_map (λ m. played (describes p f m) p m) (possible p f)
+agreeing p f = filter_map (λ m. played (describes p f m) p m) (moves_to_try p f)
 
 -- the only one
 abbrev pub only : List Played → Result Played SanFault

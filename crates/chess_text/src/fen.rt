@@ -115,13 +115,13 @@ pub fn write_fen(position: &Position) -> ArrayVec<u8, 93>
     ensures text { result.items ≡ fen_text position.now }
     ensures short { length result.items ≤ 93 }
 {
-    let mut text = first_fields(position);
+    let mut text = text_without_full(position);
     push_field(&mut text, Buffer::new().format(position.full()).as_bytes());
     text
 }
 
 // The canonical text of the position without its last field.
-fn first_fields(position: &Position) -> ArrayVec<u8, 93>
+fn text_without_full(position: &Position) -> ArrayVec<u8, 93>
     ensures text { result.items ++ 32 ∷ decimal position.now.full ≡ fen_text position.now }
     ensures short { length result.items ≤ 87 }
 {

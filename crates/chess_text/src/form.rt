@@ -34,7 +34,7 @@ pub fn read_form(text: &[u8]) -> Option<Form>
     ensures { result ≡ spec.form_of text.now }
 {
     let bare = before_marks(text);
-    match castle_told(bare) {
+    match castle_of(bare) {
         Some(long) => Some(Form::Castle { long }),
         None => read_man(bare),
     }
@@ -58,7 +58,7 @@ fn is_mark(byte: u8) -> bool
 }
 
 // The castling that the text names: whether it is the long one. (PGN 8.2.3.3)
-fn castle_told(text: &[u8]) -> Option<bool>
+fn castle_of(text: &[u8]) -> Option<bool>
     ensures { result ≡ spec.castle_of text.now }
 {
     // Most texts end otherwise.
@@ -78,14 +78,14 @@ fn castle_told(text: &[u8]) -> Option<bool>
 fn read_man(text: &[u8]) -> Option<Form>
     ensures { result ≡ spec.man_of text.now }
 {
-    let promotion = promotion_told(text);
+    let promotion = promotion_at_end(text);
     let text = before_promotion(text);
-    let to = target_told(text)?;
+    let to = target_at_end(text)?;
     let text = before_target(text);
     let rank = rank_of(last_byte(text));
     let text = before_rank(text);
     let file = file_of(last_byte(text));
-    let kind = kind_told(before_file(text))?;
+    let kind = kind_of_text(before_file(text))?;
     Some(Form::Man {
         kind,
         file,
@@ -132,8 +132,8 @@ fn rank_of(byte: u8) -> Option<u8>
 }
 
 // What a pawn becomes, by the end of the text.
-fn promotion_told(text: &[u8]) -> Option<Promotion>
-    ensures { result ≡ spec.promotion_told text.now }
+fn promotion_at_end(text: &[u8]) -> Option<Promotion>
+    ensures { result ≡ spec.promotion_at_end text.now }
 {
     match last_byte(text) {
         b'Q' => Some(Promotion::Queen),
@@ -147,7 +147,7 @@ fn promotion_told(text: &[u8]) -> Option<Promotion>
 fn before_promotion(text: &[u8]) -> &[u8]
     ensures { result.now ≡ spec.before_promotion text.now }
 {
-    if promotion_told(text).is_none() {
+    if promotion_at_end(text).is_none() {
         return text;
     }
     let text = front(text);
@@ -159,8 +159,8 @@ fn before_promotion(text: &[u8]) -> &[u8]
 }
 
 // The square of the last two bytes.
-fn target_told(text: &[u8]) -> Option<Square>
-    ensures { result ≡ spec.target_told text.now }
+fn target_at_end(text: &[u8]) -> Option<Square>
+    ensures { result ≡ spec.target_at_end text.now }
 {
     let file = file_of(last_byte(front(text)))?;
     let rank = rank_of(last_byte(text))?;
@@ -200,8 +200,8 @@ fn before_file(text: &[u8]) -> &[u8]
 }
 
 // The kind with this letter; a pawn if the text is empty.
-fn kind_told(text: &[u8]) -> Option<Kind>
-    ensures { result ≡ spec.kind_told text.now }
+fn kind_of_text(text: &[u8]) -> Option<Kind>
+    ensures { result ≡ spec.kind_of_text text.now }
 {
     match *text {
         [] => Some(Kind::Pawn),

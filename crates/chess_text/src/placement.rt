@@ -24,9 +24,9 @@ pub(crate) fn read_placement(text: &[u8]) -> Option<[Option<Piece>; 64]>
     // One more than the bytes that are left; 0 if no rank is left.
     let mut left = text.len() + 1;
     while left > 0 {
-        let above = &text[..left - 1];
-        let start = last_rank_start(above);
-        let Some(rank) = read_rank(&above[start..]) else {
+        let text_left = &text[..left - 1];
+        let start = last_rank_start(text_left);
+        let Some(rank) = read_rank(&text_left[start..]) else {
             return None;
         };
         if cells.try_extend_from_slice(&rank).is_err() {

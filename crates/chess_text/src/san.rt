@@ -177,7 +177,7 @@ fn officer_text(position: &Position, kind: Kind, mv: &Move, probes: &mut Probes)
     let rivals = rivals_of(position, kind, mv, probes);
     let mut text = ArrayVec::new();
     text.push(letter(kind));
-    push_told_apart(&mut text, mv.from, rivals);
+    push_disambiguation(&mut text, mv.from, rivals);
     push_capture(&mut text, position.at(mv.to).is_some());
     push_square(&mut text, mv.to);
     text
@@ -253,7 +253,7 @@ fn is_rival(position: &Position, mv: &Move, origin: Square, probes: &mut Probes)
 }
 
 // Adds the least disambiguation of the origin from the rivals. (PGN 8.2.3.4)
-fn push_told_apart(text: &mut ArrayVec<u8, 7>, from: Square, rivals: Rivals)
+fn push_disambiguation(text: &mut ArrayVec<u8, 7>, from: Square, rivals: Rivals)
     requires { length text.old.items ≤ 5 }
     ensures text { text.new.items ≡ text.old.items
         ++ spec.apart_by from rivals.any rivals.on_file rivals.on_rank }

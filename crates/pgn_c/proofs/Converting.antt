@@ -9,9 +9,9 @@ use Rattle.pgn_game.specs.declared.mode.Mode.{Mode}
 use Rattle.pgn_game.specs.declared.reason.Reason.{Reason}
 use Rattle.pgn_game.specs.declared.reason.Reason.TheVariants.{WriteFault}
 use Rattle.pgn_game.specs.declared.reason.Fault.{Fault}
-use Rattle.pgn_game.specs.declared.whole.Totals.{Totals}
+use Rattle.pgn_game.specs.declared.conversion.Totals.{Totals}
 use Rattle.pgn_game.specs.Profile.{Profile}
-use Rattle.pgn_game.specs.Begun.{due, output}
+use Rattle.pgn_game.specs.Progress.{due, output}
 use Rattle.pgn_game.specs.Feeding.{StopsWriting}
 use Rattle.pgn_game.specs.Laws.{DueGrows, IsPrefix}
 use Rattle.pgn_game.specs.Converting.{ConvertsSlice, FailsOn, refused, unwritten, too_long, CountsSink, CountsWriting}

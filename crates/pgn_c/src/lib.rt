@@ -93,8 +93,8 @@ pub extern "C" fn pgn_fen_normalize(fen: &[u8], buffer: &mut [u8]) -> PgnText
     }
 }
 
-/// Returns the SAN of the one legal move that a text names in the position of a FEN (PGN 8.2.3), and
-/// the FEN of the position after it.
+/// Returns the SAN of the one legal move that a text names in the position of a FEN (PGN 8.2.3),
+/// and the FEN of the position after it.
 ///
 /// Status 1 has the number of a fault: 26 for the FEN, with its field; 33 where the text is no
 /// move's, 34 where no legal move is meant, 35 where more than one is, and 36 for Black's move with

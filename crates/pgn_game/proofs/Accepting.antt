@@ -13,15 +13,15 @@ use Rattle.pgn_game.specs.declared.accept.Stopped.{Stopped}
 use Rattle.pgn_game.specs.declared.accept.Stopped.TheVariants.{Refused, Unwritten}
 use Rattle.pgn_game.specs.declared.reason.Reason.{Reason}
 use Rattle.pgn_game.specs.declared.stage.Stage.{Stage}
-use Rattle.pgn_game.specs.declared.stage.Stage.TheVariants.{Between, AfterBracket, AfterName, AfterValue, AfterTags, InMovetext}
+use Rattle.pgn_game.specs.declared.stage.Stage.TheVariants.{Between, AfterLeftBracket, AfterName, AfterValue, AfterTags, InMovetext}
 use Rattle.pgn_game.specs.Profile.{Profile}
 use Rattle.pgn_game.specs.Game.{Part, no_part}
 use Rattle.pgn_game.specs.Text.{torn}
 use Rattle.pgn_game.specs.FaultTable.{refusal, is_at, is_comment, is_end, is_outside_pairs}
-use Rattle.pgn_game.specs.Begun.{Next, at_stage, next}
+use Rattle.pgn_game.specs.Progress.{Next, at_stage, next}
 use Rattle.pgn_game.specs.Due.{text_next}
 use Rattle.pgn_game.specs.Reading.{Reading, Agrees, Answers, Stays, FinishesAtMarker, Leads, HoldsText, plies_behind, plies_next, whole_plies}
-use Rattle.pgn_game.specs.Judging.{Counts, Marks, is_open, judged, outcome_of}
+use Rattle.pgn_game.specs.Judging.{Counts, Marks, may_have_movetext, judged, outcome_of}
 use Rattle.pgn_game.specs.Putting.{Device}
 use Rattle.pgn_game.specs.Handling.{GoesTo, FinishesFinal, begins, begun, readied}
 use Rattle.pgn_game.proofs.Refusing.{begins_alike}
@@ -70,7 +70,7 @@ begins_at_first old part k agrees at is =
 -- a token begins a game between games alone
 between_of : (s : Stage) (k : Kind) → begins s k ≡ true → (s ≡ Between) × IsTrue (begins Between k)
 between_of Between k is = (refl, is)
-between_of AfterBracket k is = absurd (cc)
+between_of AfterLeftBracket k is = absurd (cc)
 between_of AfterName k is = absurd (cc)
 between_of AfterValue k is = absurd (cc)
 between_of AfterTags k is = absurd (cc)
@@ -98,7 +98,7 @@ meets old part k agrees = by_test (begins old.stage (kind_of k)) refl
 -- a higher count of probes agrees with the same part
 counts_on : (r : Reading) (n : ℕ) (part : Part) (stage : Stage) → r.stage ≡ stage → r.most_probes ≤ n → HoldsText stage r part → HoldsText stage (record r { most_probes = n }) part
 counts_on r n part Between at more h = h
-counts_on r n part AfterBracket at more h = h
+counts_on r n part AfterLeftBracket at more h = h
 counts_on r n part AfterName at more h = h
 counts_on r n part AfterValue at more h = h
 counts_on r n part AfterTags at more h = h
@@ -202,7 +202,7 @@ keeps_found old ready found k is counts =
       ready = ap (λ (x : Reading). begins x.stage k) counts.same ∙ m.ready;
       stays = λ at.
           let between = ap (λ (x : Reading). x.stage) (sym counts.same) ∙ at in
-          counts.closed (ap is_open between) ∙ m.stays between;
+          counts.closed (ap may_have_movetext between) ∙ m.stays between;
     }
 
 -- so where nothing was put, nothing has changed

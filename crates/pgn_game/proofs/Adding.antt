@@ -20,9 +20,9 @@ use Rattle.pgn_game.specs.declared.mode.Mode.{Mode}
 use Rattle.pgn_game.specs.declared.mode.Mode.TheVariants.{Full, Reduced}
 use Rattle.pgn_game.specs.Chess.{play, text_of_move}
 use Rattle.pgn_game.specs.Game.{Item, move, glyph, comment_open, word, comment_close, open_variation, close_variation}
-use Rattle.pgn_game.specs.Here.{Level as ModelLevel, Levels as ModelLevels, levels_after, levels_of, first_level, depth, here, outermost, main_moves}
+use Rattle.pgn_game.specs.Levels.{Level as ModelLevel, Levels as ModelLevels, levels_after, levels_of, first_level, depth, here, outermost, main_moves}
 use Rattle.pgn_game.specs.Text.{Placed, is_move, tokens_at, tokens_from, tokens_out, full_text}
-use Rattle.pgn_game.specs.Movetext.{Levels, Movetext, level_at, IsBackIn, before_last, level_held, levels_held, ends_in_move, HoldsItems}
+use Rattle.pgn_game.specs.Movetext.{HeldLevels, Movetext, level_at, IsBackIn, before_last, level_held, levels_held, ends_in_move, HoldsItems}
 use Rattle.pgn_game.specs.Judging.{ItemFits, item_of}
 use Rattle.pgn_game.specs.Putting.{Device, Puts, GoesOn, LeadsLevels, writes, tokens_if, after_move_if, counted_at, plies_in, item_text, Adds}
 use Rattle.pgn_game.proofs.Appending.{front_of_more, Writes-append}
@@ -97,7 +97,7 @@ module _ (mode : Mode) (start : Parts) (items : List Item) (i : Item) (text : Mo
 
   same_depth : depth (levels_of items) ≡ length text.levels.around
   same_depth =
-      sym (ap (λ (ls : Levels). length ls.around) holds.levels ∙ length-map (levels_of items).around (level_held start))
+      sym (ap (λ (ls : HeldLevels). length ls.around) holds.levels ∙ length-map (levels_of items).around (level_held start))
 
   behind_by : (m : Mode)
       → written_behind m start items (i ∷ []) ≡ elim (writes m (depth (levels_of items)) i) [ true ↦ placed ∷ [] | false ↦ [] ]
@@ -123,7 +123,7 @@ module _ (mode : Mode) (start : Parts) (items : List Item) (i : Item) (text : Mo
           ≡ tokens_if v text i
       by_written true =
           append-nil _ ∙ ap (λ b. tokens_at b (here start (levels_of items)) i) (sym holds.is_after_move)
-          ∙ ap (λ p. tokens_at text.is_after_move p i) (sym (ap (λ (ls : Levels). ls.present.present) holds.levels))
+          ∙ ap (λ p. tokens_at text.is_after_move p i) (sym (ap (λ (ls : HeldLevels). ls.present.present) holds.levels))
       by_written false = refl
 
   ends_are : after_move_if written text i ≡ ends_in_move text.is_after_move (written_behind mode start items (i ∷ []))
@@ -135,15 +135,15 @@ module _ (mode : Mode) (start : Parts) (items : List Item) (i : Item) (text : Mo
       by_written false = refl
 
 -- The levels that an item leads to.
-opened : (start : Parts) (trail : List Move) (holds : Bool) (around : List ModelLevel) (new : Levels)
-    → IsTrue (is_some (before_last start (record { trail = trail; holds_move = holds })))
-    → IfSome (before_last start (record { trail = trail; holds_move = holds }))
-    (λ s. new ≡ record { present = level_at s; around = level_held start (record { trail = trail; holds_move = holds }) ∷ map (level_held start) around })
-    → new ≡ levels_held start (levels_after (record { present = record { trail = trail; holds_move = holds }; around = around }) open_variation)
+opened : (start : Parts) (trail : List Move) (holds : Bool) (around : List ModelLevel) (new : HeldLevels)
+    → IsTrue (is_some (before_last start (record { trail = trail; has_own_move = holds })))
+    → IfSome (before_last start (record { trail = trail; has_own_move = holds }))
+    (λ s. new ≡ record { present = level_at s; around = level_held start (record { trail = trail; has_own_move = holds }) ∷ map (level_held start) around })
+    → new ≡ levels_held start (levels_after (record { present = record { trail = trail; has_own_move = holds }; around = around }) open_variation)
 opened start trail true around new some h = h
 opened start trail false around new some h = absurd (cc)
 
-closed : (start : Parts) (present : ModelLevel) (around : List ModelLevel) (new : Levels) → 0 < length (map (level_held start) around)
+closed : (start : Parts) (present : ModelLevel) (around : List ModelLevel) (new : HeldLevels) → 0 < length (map (level_held start) around)
     → IsBackIn (map (level_held start) around) new → new ≡ levels_held start (levels_after (record { present = present; around = around }) close_variation)
 closed start present [] new some h = absurd (omega arith)
 closed start present (l ∷ around) new some h = h
@@ -153,21 +153,21 @@ pub played_is : (p : Parts) (m : Move) (next : Parts) → legal p m ≡ Some nex
 unfolding play
 played_is p m next is = sym (ap (λ o. unwrap_or o p) is)
 
-abbrev then_at : Levels → Parts → Levels
+abbrev then_at : HeldLevels → Parts → HeldLevels
 then_at ls next = record { present = record { present = next; before = Some ls.present.present }; around = ls.around }
 
-levels_lead : (most : ℕ) (i : CodeItem) (text : Movetext) (new : Levels) (start : Parts) (ls : ModelLevels) → ItemFits most text i
+levels_lead : (most : ℕ) (i : CodeItem) (text : Movetext) (new : HeldLevels) (start : Parts) (ls : ModelLevels) → ItemFits most text i
     → LeadsLevels i text.levels new → text.levels ≡ levels_held start ls → new ≡ levels_held start (levels_after ls (item_of i))
 levels_lead most (code.Move played) text new start ls fits leads e =
     leads ∙ ap (then_at text.levels) (played_is text.levels.present.present played.now.mv played.now.next fits)
-    ∙ ap (λ (l : Levels). then_at l (play l.present.present played.now.mv)) e
+    ∙ ap (λ (l : HeldLevels). then_at l (play l.present.present played.now.mv)) e
 levels_lead most code.Open text new start ls fits leads e =
-    opened start ls.present.trail ls.present.holds_move ls.around new
-    (subst (λ (o : Levels). IsTrue (is_some o.present.before)) e fits.0)
-    (subst (λ (o : Levels). IfSome o.present.before (λ s. new ≡ record { present = level_at s; around = o.present ∷ o.around })) e leads)
+    opened start ls.present.trail ls.present.has_own_move ls.around new
+    (subst (λ (o : HeldLevels). IsTrue (is_some o.present.before)) e fits.0)
+    (subst (λ (o : HeldLevels). IfSome o.present.before (λ s. new ≡ record { present = level_at s; around = o.present ∷ o.around })) e leads)
 levels_lead most code.Close text new start ls fits leads e =
     closed start ls.present ls.around new
-    (subst (λ (o : Levels). 0 < length o.around) e fits) (subst (λ (o : Levels). IsBackIn o.around new) e leads)
+    (subst (λ (o : HeldLevels). 0 < length o.around) e fits) (subst (λ (o : HeldLevels). IsBackIn o.around new) e leads)
 levels_lead most (code.Glyph n) text new start ls fits leads e = leads ∙ e
 levels_lead most code.CommentOpen text new start ls fits leads e = leads ∙ e
 levels_lead most (code.Word w) text new start ls fits leads e = leads ∙ e

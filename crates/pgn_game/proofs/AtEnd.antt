@@ -9,7 +9,7 @@ use Rattle.pgn_lexer.specs.Held.{refusal as refusal_token}
 use Rattle.pgn_lexer.specs.Standing.{Standing, coming, waiting}
 use Rattle.pgn_lexer.specs.Stands.{HasLeft, IsNext, Gives, Follows}
 use Rattle.pgn_game.specs.declared.stage.Stage.{Stage}
-use Rattle.pgn_game.specs.declared.stage.Stage.TheVariants.{Between, AfterBracket, AfterName, AfterValue, AfterTags, InMovetext}
+use Rattle.pgn_game.specs.declared.stage.Stage.TheVariants.{Between, AfterLeftBracket, AfterName, AfterValue, AfterTags, InMovetext}
 use Rattle.pgn_game.specs.declared.accept.Accepted.{Accepted}
 use Rattle.pgn_game.specs.declared.accept.Accepted.TheVariants as accepted
 use Rattle.pgn_game.specs.declared.accept.Stopped.{Stopped}
@@ -23,12 +23,12 @@ use Rattle.pgn_game.specs.Profile.{Profile}
 use Rattle.pgn_game.specs.Pairs.{Pair}
 use Rattle.pgn_game.specs.Game.{Item, Game}
 use Rattle.pgn_game.specs.FaultTable.{refusal, is_end, marker_of}
-use Rattle.pgn_game.specs.Begun.{next, begun_with, Begun, Read, read}
+use Rattle.pgn_game.specs.Progress.{next, progress_with, Progress, Read, read}
 use Rattle.pgn_game.specs.Due.{Gains}
 use Rattle.pgn_game.specs.Reading.{Reading, Answers, Stays, FinishesAtMarker, CountsWrites, is_outside_the_table}
 use Rattle.pgn_game.specs.Feeding.{Converter, IsSound, held_by, held_if, IsLast, HasRead, Stands, unwritten, Finishes, FinishesToFault, CountsAtStop, CountsReason}
 use Rattle.pgn_game.specs.MostTried.{RaisesMost}
-use Rattle.pgn_game.specs.Stepping.{SameGames, ClosedToFault, AfterClosing, CloseAdvances, ClosedSoFar, StaysBetween, stepped_of, is_ended, games_after, closed_with, fault_of_step, CountsStep}
+use Rattle.pgn_game.specs.Stepping.{SameGames, ClosedToFault, AfterStepAtEnd, StepAtEndAdvances, ClosedSoFar, StaysBetween, stepped_of, is_ended, games_after, closed_with, fault_of_step, CountsStep}
 use Rattle.pgn_game.proofs.Growing.{gains_none, gains_more, stops_more, games_still, counts_still, read-passes}
 use Rattle.pgn_game.proofs.OneToken.{stepped, gains_token, same_games, has_read_more, one_game, has_read_game, stops_refused, writing, stops_lexical, none_before_refused, none_before_unwritten, none_before_lexical, count_at_refused, count_at_unwritten, count_at_lexical}
 
@@ -101,16 +101,16 @@ end_at : (p : Profile) (s : Stage) (ps : List Pair) (name : List ℕ) (items : L
     → refusal p (record { stage = s; pairs = ps; name = name; items = items }) tokens.end ≡ None → s ≡ Between
 unfolding refusal
 end_at p Between ps name items h = refl
-end_at p AfterBracket ps name items h = absurd (cc)
+end_at p AfterLeftBracket ps name items h = absurd (cc)
 end_at p AfterName ps name items h = absurd (cc)
 end_at p AfterValue ps name items h = absurd (cc)
 end_at p AfterTags ps name items h = absurd (cc)
 end_at p InMovetext ps name items h = absurd (cc)
 
 between_after : (s : Stage) (ps : List Pair) (name : List ℕ) (items : List Item) (games : List Game) → s ≡ Between
-    → (begun_with games (next (record { stage = s; pairs = ps; name = name; items = items }) tokens.end)).part.stage ≡ Between
+    → (progress_with games (next (record { stage = s; pairs = ps; name = name; items = items }) tokens.end)).part.stage ≡ Between
 between_after s ps name items games e =
-    subst (λ s. (begun_with games (next (record { stage = s; pairs = ps; name = name; items = items }) tokens.end)).part.stage ≡ Between) (sym e) refl
+    subst (λ s. (progress_with games (next (record { stage = s; pairs = ps; name = name; items = items }) tokens.end)).part.stage ≡ Between) (sym e) refl
 
 is_the_end : (k : Kind) → is_end k ≡ true → k ≡ tokens.end
 is_the_end tokens.left_bracket h = absurd (cc)
@@ -128,10 +128,10 @@ is_the_end tokens.comment_close h = absurd (cc)
 is_the_end tokens.end h = refl
 is_the_end (tokens.refused r) h = absurd (cc)
 
-pub end_passes : (p : Profile) (b : Begun) (k : Kind) → is_end k ≡ true → refusal p b.part k ≡ None → (begun_with b.games (next b.part k)).part.stage ≡ Between
+pub end_passes : (p : Profile) (b : Progress) (k : Kind) → is_end k ≡ true → refusal p b.part k ≡ None → (progress_with b.games (next b.part k)).part.stage ≡ Between
 end_passes p b k e none =
     let k_is = is_the_end k e in
-    subst (λ j. (begun_with b.games (next b.part j)).part.stage ≡ Between) (sym k_is)
+    subst (λ j. (progress_with b.games (next b.part j)).part.stage ≡ Between) (sym k_is)
     (between_after b.part.stage b.part.pairs b.part.name b.part.items b.games
     (end_at p b.part.stage b.part.pairs b.part.name b.part.items (subst (λ j. refusal p b.part j ≡ None) k_is none)))
 
@@ -145,19 +145,19 @@ closed l r games finished outcome = record (stepped l r games finished outcome) 
 
 pub closes : (p : Profile) (old : Converter) (u : List ℕ) (given : List Token) (t : Token) (l : Standing) (new : Reading) (finished : Bool) (a c : Option (List ℕ))
     (e : Bool) (r : Result Accepted Stopped) → is_end t.kind ≡ e → HasRead p old given → Left u given e l t → new.profile ≡ old.reading.profile → old.reading.most_probes ≤ new.most_probes
-    → Answers old.reading (read p given).begun.part t.kind new r a c
-    → RaisesMost old.reading.profile (read p given).begun.part t.kind r old.reading.most_probes new.most_probes
+    → Answers old.reading (read p given).progress.part t.kind new r a c
+    → RaisesMost old.reading.profile (read p given).progress.part t.kind r old.reading.most_probes new.most_probes
     → Stays old.reading new r → FinishesAtMarker t.kind new r
-    → AfterClosing p u given old (closed l new old.games finished (stepped_of t.at r)) (closed_with e (stepped_of t.at r)) a c
+    → AfterStepAtEnd p u given old (closed l new old.games finished (stepped_of t.at r)) (closed_with e (stepped_of t.at r)) a c
 closes p old u given t l new finished a c true (Ok accepted.More) is_e has_read left profile probes h tries stays at_marker =
     let more = has_read_more p old given t l new finished has_read profile probes h.free h.leads h.plies tries in
-    let passes = subst (λ q. refusal q (read p given).begun.part t.kind ≡ None) has_read.profile h.free in (
+    let passes = subst (λ q. refusal q (read p given).progress.part t.kind ≡ None) has_read.profile h.free in (
       t,
       record {
         whole = left;
         has_read = let_go p _ _ more;
-        between = more.agrees.stage ∙ ap (λ (r : Read). r.begun.part.stage) (read-passes p given t has_read.passes passes)
-            ∙ end_passes p (read p given).begun t.kind is_e passes;
+        between = more.agrees.stage ∙ ap (λ (r : Read). r.progress.part.stage) (read-passes p given t has_read.passes passes)
+            ∙ end_passes p (read p given).progress t.kind is_e passes;
         same = same_games p old given t l new finished has_read profile probes h.free h.leads;
         gains = gains_token p old given t l new finished has_read profile probes a c h.free h.appended;
       },
@@ -197,7 +197,7 @@ closes p old u given t l new finished a c e (Err (stopped.Refused reason)) is_e 
     }))
   where
     fails : (e : Bool) → ClosedToFault p given (tokens_of u) (record { at = t.at; reason = reason }) new.most_probes a c
-        → AfterClosing p u given old (closed l new old.games finished (Failed (record { at = t.at; reason = reason }))) (closed_with e (Failed (record { at = t.at; reason = reason }))) a c
+        → AfterStepAtEnd p u given old (closed l new old.games finished (Failed (record { at = t.at; reason = reason }))) (closed_with e (Failed (record { at = t.at; reason = reason }))) a c
     fails true h = h
     fails false h = h
 closes p old u given t l new finished a c e (Err stopped.Unwritten) is_e has_read left profile probes (none, wrote) tries stays at_marker =
@@ -210,12 +210,12 @@ closes p old u given t l new finished a c e (Err stopped.Unwritten) is_e has_rea
     }))
   where
     fails : (e : Bool) → ClosedToFault p given (tokens_of u) (record { at = t.at; reason = WriteFault }) new.most_probes a c
-        → AfterClosing p u given old (closed l new old.games finished (stepped_of t.at (Err stopped.Unwritten))) (closed_with e (stepped_of t.at (Err stopped.Unwritten))) a c
+        → AfterStepAtEnd p u given old (closed l new old.games finished (stepped_of t.at (Err stopped.Unwritten))) (closed_with e (stepped_of t.at (Err stopped.Unwritten))) a c
     fails true h = h
     fails false h = h
 
 pub closes_fault : (p : Profile) (old new : Converter) (u : List ℕ) (given : List Token) (f : LexFault) (o : Option (List ℕ)) → HasRead p old given
-    → tokens_of u ≡ given ++ refusal_token f ∷ [] → new.reading ≡ old.reading → AfterClosing p u given old new (Failed (record { at = f.at; reason = Lexical f.reason })) o o
+    → tokens_of u ≡ given ++ refusal_token f ∷ [] → new.reading ≡ old.reading → AfterStepAtEnd p u given old new (Failed (record { at = f.at; reason = Lexical f.reason })) o o
 closes_fault p old new u given f o has_read whole same =
     subst (λ ts. ClosedToFault p given ts (record { at = f.at; reason = Lexical f.reason }) new.reading.most_probes o o) (sym whole)
     (record {
@@ -226,7 +226,7 @@ closes_fault p old new u given f o has_read whole same =
 
 -- how a token waits, and how it ends
 pub advances : (e : Bool) (old new : Standing) (outcome : Stepped) → Nearer e old new → (outcome ≡ Finished → e ≡ false) → (outcome ≡ NeedMore → ⊥)
-    → CloseAdvances old new (closed_with e outcome)
+    → StepAtEndAdvances old new (closed_with e outcome)
 advances true old new NeedMore near marker some = some refl
 advances false old new NeedMore near marker some = some refl
 advances true old new More near marker some = tt
@@ -392,7 +392,7 @@ closed_none p old u b given o stands =
       tokens = given;
       left = ap tokens_of (sym (append-nil u)) ∙ stands.lexer.tokens [] (follows_end b);
       has_read = let_go p old given stands.has_read;
-      no_fewer = le_refl (length (read p given).begun.games);
+      no_fewer = le_refl (length (read p given).progress.games);
       game = (λ h. absurd (cc), λ h. absurd (omega (arith, h)));
       last = λ h. absurd (cc);
       gains = gains_none p given o;
@@ -402,64 +402,64 @@ closed_none p old u b given o stands =
     follows_end None = tt
     follows_end (Some x) = tt
 
-module _ (p : Profile) (u : List ℕ) (given : List Token) (now new : Converter) (is_game : Bool) (a c d : Option (List ℕ)) (so : ClosedSoFar p u given now is_game a c) where
+module _ (p : Profile) (u : List ℕ) (given : List Token) (now new : Converter) (finished_game : Bool) (a c d : Option (List ℕ)) (so : ClosedSoFar p u given now finished_game a c) where
   same_length : (ts : List Token) → SameGames p so.tokens ts
-      → IsTrue is_game ↔ (length (read p given).begun.games < length (read p ts).begun.games)
-  same_length ts same = subst (λ gs. IsTrue is_game ↔ (length (read p given).begun.games < length {A = Game} gs)) (sym same) so.game
+      → IsTrue finished_game ↔ (length (read p given).progress.games < length (read p ts).progress.games)
+  same_length ts same = subst (λ gs. IsTrue finished_game ↔ (length (read p given).progress.games < length {A = Game} gs)) (sym same) so.game
 
   held_still : (ts : List Token) → SameGames p so.tokens ts → StaysBetween now new
-      → IsTrue is_game → new.reading.stage ≡ Between → IsLast (Some (held_by new.reading)) (read p ts).begun.games
+      → IsTrue finished_game → new.reading.stage ≡ Between → IsLast (Some (held_by new.reading)) (read p ts).progress.games
   held_still ts same stays h between =
       let kept = stays between in
       subst (λ gs. IsLast (Some (held_by new.reading)) gs) (sym same)
-      (subst (λ (r : Reading). IsLast (Some (held_by r)) (read p so.tokens).begun.games) (sym kept)
+      (subst (λ (r : Reading). IsLast (Some (held_by r)) (read p so.tokens).progress.games) (sym kept)
       (so.last h (ap (λ (r : Reading). r.stage) (sym kept) ∙ between)))
 
-  pub closed_more : AfterClosing p u so.tokens now new More c d → ClosedSoFar p u given new is_game a d
+  pub closed_more : AfterStepAtEnd p u so.tokens now new More c d → ClosedSoFar p u given new finished_game a d
   closed_more (t, took, same, stays) =
       record {
         tokens = so.tokens ++ t ∷ [];
         left = took.left;
         has_read = took.has_read;
-        no_fewer = subst (λ gs. length (read p given).begun.games ≤ length {A = Game} gs) (sym same) so.no_fewer;
+        no_fewer = subst (λ gs. length (read p given).progress.games ≤ length {A = Game} gs) (sym same) so.no_fewer;
         game = same_length _ same;
         last = held_still _ same stays;
         gains = gains_more p given so.tokens _ a c d so.gains took.gains;
       }
 
-  pub closed_game : AfterClosing p u so.tokens now new Finished c d → ClosedSoFar p u given new true a d
+  pub closed_game : AfterStepAtEnd p u so.tokens now new Finished c d → ClosedSoFar p u given new true a d
   closed_game (t, took, (g, one, held)) =
-      let count : length (read p (so.tokens ++ t ∷ [])).begun.games ≡ length (read p so.tokens).begun.games + 1 =
-      ap (length {A = Game}) one ∙ length-append (read p so.tokens).begun.games (g ∷ []) in
+      let count : length (read p (so.tokens ++ t ∷ [])).progress.games ≡ length (read p so.tokens).progress.games + 1 =
+      ap (length {A = Game}) one ∙ length-append (read p so.tokens).progress.games (g ∷ []) in
       record {
         tokens = so.tokens ++ t ∷ [];
         left = took.left;
         has_read = took.has_read;
         no_fewer = omega (arith, count, so.no_fewer);
         game = (λ h. omega (arith, count, so.no_fewer), λ h. refl);
-        last = λ h between. ((read p so.tokens).begun.games, g, one, held);
+        last = λ h between. ((read p so.tokens).progress.games, g, one, held);
         gains = gains_more p given so.tokens _ a c d so.gains took.gains;
       }
 
-  pub closed_end : (flag : Bool) → AfterClosing p u so.tokens now new Ended c d → (new.reading.stage ≡ Between → flag ≡ is_game)
-      → Finishes p u given (record { lexer = new.lexer; reading = new.reading; games = new.games; at_hand = held_if flag new.reading; is_finished = new.is_finished; fault = new.fault }) is_game a d
+  pub closed_end : (flag : Bool) → AfterStepAtEnd p u so.tokens now new Ended c d → (new.reading.stage ≡ Between → flag ≡ finished_game)
+      → Finishes p u given (record { lexer = new.lexer; reading = new.reading; games = new.games; at_hand = held_if flag new.reading; is_finished = new.is_finished; fault = new.fault }) finished_game a d
   closed_end flag (t, took, stays) e =
       let h = took.has_read in
       let same_flag = e took.between in
       let held = hands (so.tokens ++ t ∷ []) flag (λ h. held_still _ took.same stays (subst IsTrue same_flag h) took.between) in
       record {
         has_read = subst (HasRead p _) (sym took.whole) (record { profile = h.profile; no_fault = h.no_fault; passes = h.passes; agrees = h.agrees; games = h.games; plies = h.plies; probed = h.probed; tried = h.tried; at_hand = held });
-        game = subst (λ ts. IsTrue is_game ↔ (length (read p given).begun.games < length (read p ts).begun.games)) (sym took.whole) (same_length _ took.same);
+        game = subst (λ ts. IsTrue finished_game ↔ (length (read p given).progress.games < length (read p ts).progress.games)) (sym took.whole) (same_length _ took.same);
         at_hand = λ is. (held_by new.reading, ap (λ b. held_if b new.reading) (same_flag ∙ is));
         none_at_hand = λ is. ap (λ b. held_if b new.reading) (same_flag ∙ is);
         gains = subst (λ ts. Gains p given ts a d) (sym took.whole) (gains_more p given so.tokens _ a c d so.gains took.gains);
       }
     where
-      hands : (ts : List Token) (b : Bool) → (IsTrue b → IsLast (Some (held_by new.reading)) (read p ts).begun.games) → IsLast (held_if b new.reading) (read p ts).begun.games
+      hands : (ts : List Token) (b : Bool) → (IsTrue b → IsLast (Some (held_by new.reading)) (read p ts).progress.games) → IsLast (held_if b new.reading) (read p ts).progress.games
       hands ts true h = h refl
       hands ts false h = tt
 
-  pub closed_fault : (f : Fault) → AfterClosing p u so.tokens now new (Failed f) c d → new.games ≡ now.games → FinishesToFault p u given new f a d
+  pub closed_fault : (f : Fault) → AfterStepAtEnd p u so.tokens now new (Failed f) c d → new.games ≡ now.games → FinishesToFault p u given new f a d
   closed_fault f to same =
       record {
         stops = stops_more p given so.tokens (tokens_of u) f a c d so.gains to.stops;
@@ -482,7 +482,7 @@ sound_behind_fault lexer reading games is_finished f =
 
 -- behind the last piece a token was waiting, unless it is the end
 pub closes_sooner : (old new : Standing) (after : Reading) (at : ℕ) (k : Kind) (e : Bool) (r : Result Accepted Stopped) → is_end k ≡ e → Nearer e old new
-    → FinishesAtMarker k after r → CloseAdvances old new (closed_with e (stepped_of at r))
+    → FinishesAtMarker k after r → StepAtEndAdvances old new (closed_with e (stepped_of at r))
 closes_sooner old new after at k true (Ok accepted.More) is_e near marker = tt
 closes_sooner old new after at k false (Ok accepted.More) is_e near marker = near.0
 closes_sooner old new after at k true (Ok accepted.Finished) is_e near marker = absurd (differ (sym is_e ∙ marker_or_end k marker.0))
@@ -496,9 +496,9 @@ closes_sooner old new after at k true (Err stopped.Unwritten) is_e near marker =
 closes_sooner old new after at k false (Err stopped.Unwritten) is_e near marker = tt
 
 -- while no game is at hand a converter owes no more
-pub sound_at_none : (lexer : Standing) (reading : Reading) (games : ℕ) (is_at_hand is_finished : Bool) (fault : Option Fault) → IsSound lexer reading games is_at_hand is_finished fault
+pub sound_at_none : (lexer : Standing) (reading : Reading) (games : ℕ) (has_finished_game is_finished : Bool) (fault : Option Fault) → IsSound lexer reading games has_finished_game is_finished fault
     → IsSound lexer reading games false is_finished fault
-sound_at_none lexer reading games is_at_hand is_finished fault sound =
+sound_at_none lexer reading games has_finished_game is_finished fault sound =
     record {
       count = sound.count;
       going = sound.going;

@@ -16,18 +16,18 @@ use Rattle.pgn_game.specs.declared.judged.Entry.{Entry}
 use Rattle.pgn_game.specs.declared.judged.Entry.TheVariants.{Number, Item as PutItem, Marker}
 use Rattle.pgn_game.specs.declared.mode.Mode.{Mode}
 use Rattle.pgn_game.specs.declared.stage.Stage.{Stage}
-use Rattle.pgn_game.specs.declared.stage.Stage.TheVariants.{Between, AfterBracket, AfterName, AfterValue, AfterTags, InMovetext}
+use Rattle.pgn_game.specs.declared.stage.Stage.TheVariants.{Between, AfterLeftBracket, AfterName, AfterValue, AfterTags, InMovetext}
 use Rattle.pgn_game.specs.Profile.{Profile, Missing, counts_as_unknown}
 use Rattle.pgn_game.specs.Pairs.{Pair}
 use Rattle.pgn_game.specs.Game.{Item, Part}
-use Rattle.pgn_game.specs.Here.{Level as ModelLevel, Levels as ModelLevels, depth, start_of, outermost, replayed, last_position}
+use Rattle.pgn_game.specs.Levels.{Level as ModelLevel, Levels as ModelLevels, depth, start_of, outermost, replayed, last_position}
 use Rattle.pgn_game.specs.TagSection.{tag_section}
 use Rattle.pgn_game.specs.FaultTable.{levels_in, result_for}
 use Rattle.pgn_game.specs.Text.{tokens_out, full_text, torn_at, torn_for}
-use Rattle.pgn_game.specs.Begun.{whole}
-use Rattle.pgn_game.specs.Movetext.{Level}
+use Rattle.pgn_game.specs.Progress.{whole}
+use Rattle.pgn_game.specs.Movetext.{HeldLevel}
 use Rattle.pgn_game.specs.Reading.{Reading, IsBehind, plies_behind}
-use Rattle.pgn_game.specs.Judging.{EntryFits, IsOpen, after_entry, game_of, is_open, item_of}
+use Rattle.pgn_game.specs.Judging.{EntryFits, IsOpen, after_entry, game_of, may_have_movetext, item_of}
 use Rattle.pgn_game.specs.Putting.{Device}
 use Rattle.pgn_game.specs.Handling.{BeginsText, Puts, gain_to, section_due}
 use Rattle.pgn_game.proofs.Appending.{front_of_more, front_after}
@@ -54,11 +54,11 @@ part_at stage ps name items = record { stage = stage; pairs = ps; name = name; i
 nothing_full : (mode : Mode) (ps : List Pair) (items : List Item) (rest : List ℕ) → items ≡ [] → full_text mode (start_of ps) items ++ rest ≡ rest
 nothing_full mode ps items rest none = ap (λ (l : List ℕ). l ++ rest) (ap (λ (is : List Item). full_text mode (start_of ps) is) none ∙ no_text mode (start_of ps))
 
-gain_at : (mode : Mode) (stage : Stage) (ps : List Pair) (name : List ℕ) (items : List Item) (lines rest : List ℕ) → IsTrue (is_open stage) → (stage ≡ AfterTags → items ≡ [])
+gain_at : (mode : Mode) (stage : Stage) (ps : List Pair) (name : List ℕ) (items : List Item) (lines rest : List ℕ) → IsTrue (may_have_movetext stage) → (stage ≡ AfterTags → items ≡ [])
     → lines ≡ full_text mode (start_of ps) items ++ rest
     → drop (length (torn_at stage mode (part_at stage ps name items))) (tag_section mode (codes "*") ps ++ lines) ≡ section_due stage mode ps ++ rest
 gain_at mode Between ps name items lines rest at fresh is = absurd (cc)
-gain_at mode AfterBracket ps name items lines rest at fresh is = absurd (cc)
+gain_at mode AfterLeftBracket ps name items lines rest at fresh is = absurd (cc)
 gain_at mode AfterName ps name items lines rest at fresh is = absurd (cc)
 gain_at mode AfterValue ps name items lines rest at fresh is = absurd (cc)
 gain_at mode AfterTags ps name items lines rest at fresh is = ap (λ l. tag_section mode (codes "*") ps ++ l) (is ∙ nothing_full mode ps items rest (fresh refl))
@@ -68,7 +68,7 @@ gain_at mode InMovetext ps name items lines rest at fresh is =
     ap (λ n. drop n (section ++ lines)) (length-append section full) ∙ drop-append-add section lines (length full)
     ∙ ap (drop (length full)) is ∙ drop-append_seam full rest
 
-gain_of : (p : Profile) (part : Part) (marker : List ℕ) → p.missing_result ≡ counts_as_unknown → IsTrue (is_open part.stage) → (part.stage ≡ AfterTags → part.items ≡ [])
+gain_of : (p : Profile) (part : Part) (marker : List ℕ) → p.missing_result ≡ counts_as_unknown → IsTrue (may_have_movetext part.stage) → (part.stage ≡ AfterTags → part.items ≡ [])
     → All IsToken (tokens_out p.mode (start_of part.pairs) part.items) → IsToken marker
     → gain_to p part (whole (game_of part marker)) ≡ section_due part.stage p.mode part.pairs ++ ending (line_of p.mode part.pairs part.items) marker
 gain_of p part marker unknown at fresh each token =
@@ -81,7 +81,7 @@ gain_of p part marker unknown at fresh each token =
     ∙ append_assoc (text_of_lines (full_lines (lines_of ts))) (text_at (last_line (lines_of ts)) (Put marker)) (text_at (line_at (last_line (lines_of ts)) (Put marker)) EndGame))
 
 -- what is due for a marker, of a reader that holds the part
-due_is : (old : Reading) (part : Part) (marker : List ℕ) → old.profile.missing_result ≡ counts_as_unknown → IsTrue (is_open old.stage) → IsToken marker → IsOpen old part
+due_is : (old : Reading) (part : Part) (marker : List ℕ) → old.profile.missing_result ≡ counts_as_unknown → IsTrue (may_have_movetext old.stage) → IsToken marker → IsOpen old part
     → section_due old.stage old.profile.mode old.tags.held ++ ending old.layout.line marker ≡ gain_to old.profile part (whole (game_of part marker))
 due_is old part marker unknown at token is =
     ap (λ (l : List ℕ). l ++ ending old.layout.line marker) (section_is old part is)
@@ -95,7 +95,7 @@ at_depth_0 ls (l ∷ around) e n = absurd (omega (arith, n))
 
 last_is : (old : Reading) (part : Part) → old.text.levels.around ≡ [] → IsOpen old part → (marker : List ℕ) → old.text.levels.present.present ≡ last_position (game_of part marker)
 last_is old part outside is marker =
-    let none : depth (levels_in part) ≡ 0 = sym (depth_is old part is) ∙ ap (length {A = Level}) outside in
+    let none : depth (levels_in part) ≡ 0 = sym (depth_is old part is) ∙ ap (length {A = HeldLevel}) outside in
     position_is old part is
     ∙ ap (λ (ms : List Move). replayed (start_of part.pairs) ms) (sym (at_depth_0 (levels_in part) (levels_in part).around refl none))
 
@@ -118,14 +118,14 @@ rest_of old part Number = lines_gain old.profile.mode part.pairs part.items []
 rest_of old part (PutItem i) = lines_gain old.profile.mode part.pairs part.items (item_of i ∷ [])
 rest_of old part (Marker marker) = ending old.layout.line marker.now
 
-entry_gain : (levels : ℕ) (old : Reading) (part : Part) (e : Entry) → EntryFits levels old.text e → old.profile.missing_result ≡ counts_as_unknown → IsTrue (is_open old.stage)
+entry_gain : (levels : ℕ) (old : Reading) (part : Part) (e : Entry) → EntryFits levels old.text e → old.profile.missing_result ≡ counts_as_unknown → IsTrue (may_have_movetext old.stage)
     → IsOpen old part → section_due old.stage old.profile.mode old.tags.held ++ rest_of old part e ≡ gain_to old.profile part (after_entry e part)
 entry_gain levels old part Number fits unknown at is = gain_is old part [] unknown at is
 entry_gain levels old part (PutItem i) fits unknown at is = gain_is old part (item_of i ∷ []) unknown at is
 entry_gain levels old part (Marker marker) fits unknown at is = due_is old part marker.now unknown at fits.0 is
 
 -- The section could not be written.
-pub puts_unbegun : (levels : ℕ) (old new : Reading) (e : Entry) (f : WriteFault) (d : Device) → IsTrue (is_open old.stage) → EntryFits levels old.text e
+pub puts_unbegun : (levels : ℕ) (old new : Reading) (e : Entry) (f : WriteFault) (d : Device) → IsTrue (may_have_movetext old.stage) → EntryFits levels old.text e
     → BeginsText {A = Unit} old new (Err f) d → Puts old (InText e) new (Err Unwritten) d
 puts_unbegun levels old new e f d at fits begins =
     unwritten old new (InText e) d (record { profile = begins.profile; plies = omega (arith, begins.earlier, begins.plies); probes = omega (arith, begins.probes) })
@@ -138,7 +138,7 @@ pub record EndsText (old begun : Reading) (marker : List ℕ) (a b : Option (Lis
   pub begins : BeginsText {A = Unit} {E = WriteFault} old begun (Ok tt) (from_to a b n m)
   pub outside : old.text.levels.around ≡ []
   pub token : IsToken marker
-  pub at : IsTrue (is_open old.stage)
+  pub at : IsTrue (may_have_movetext old.stage)
 
 abbrev of_line : (old begun : Reading) → begun ≡ record old { stage = InMovetext } → begun.layout.line ≡ old.layout.line
 of_line old begun e = ap (λ (r : Reading). r.layout.line) e

@@ -10,15 +10,15 @@ use Rattle.pgn_lexer.specs.Tokens.{Kind, Token}
 use Rattle.pgn_lexer.specs.TokensOf.{tokens_of}
 use Rattle.pgn_game.specs.declared.reason.Fault.{Fault}
 use Rattle.pgn_game.specs.declared.stage.Stage.TheVariants.{Between}
-use Rattle.pgn_game.specs.declared.whole.Totals.{Totals}
-use Rattle.pgn_game.specs.Begun.{Begun, begun_after, Read, read_from, read, output, verdict, Counted, refused as is_refused, totals}
+use Rattle.pgn_game.specs.declared.conversion.Totals.{Totals}
+use Rattle.pgn_game.specs.Progress.{Progress, progress_after, Read, read_from, read, output, verdict, Counted, refused as is_refused, totals}
 use Rattle.pgn_game.specs.Converting.{FailsOn, Fails}
 use Rattle.pgn_game.specs.Converting as converting
 use Rattle.pgn_game.specs.FaultTable.{refusal, is_end}
 use Rattle.pgn_game.specs.Filled.{filled}
 use Rattle.pgn_game.specs.FixedPoint.{AreExportable, TextSpells, SameText, counted, IsWrittenAgain, SliceIsKept, SourceIsKept, FixedPoint, ExportIsKept, ExportIsKeptOfSource, games_in, IsExportable, ExportingTwice, SameOutput, FewPairsHaveRoom}
 use Rattle.pgn_game.specs.Game.{Game, Part}
-use Rattle.pgn_game.specs.Here.{plies_of}
+use Rattle.pgn_game.specs.Levels.{plies_of}
 use Rattle.pgn_game.specs.declared.mode.Mode.{Mode}
 use Rattle.pgn_game.specs.declared.mode.Mode.TheVariants.{Full, Reduced}
 use Rattle.pgn_game.specs.Pairs.{Pair, has_pair}
@@ -41,23 +41,23 @@ passing_last p part tokens.end last free = refl
 passing_last p part (tokens.refused r) last free = absurd (cc)
 passing_last p part _ last free = absurd last
 
-ends_between : (p : Profile) (b : Begun) (ts : List Token) → RisesTo ts → (read_from p b ts).fault ≡ None → (read_from p b ts).begun.part.stage ≡ Between
+ends_between : (p : Profile) (b : Progress) (ts : List Token) → RisesTo ts → (read_from p b ts).fault ≡ None → (read_from p b ts).progress.part.stage ≡ Between
 ends_between p b [] rises e = absurd rises
 ends_between p b (t ∷ []) rises e =
     let free = first_passes p b t [] e in
-    ap (λ (r : Read). r.begun.part.stage) (goes_on p b t [] free) ∙ end_passes p b t.kind (passing_last p b.part t.kind rises free) free
+    ap (λ (r : Read). r.progress.part.stage) (goes_on p b t [] free) ∙ end_passes p b t.kind (passing_last p b.part t.kind rises free) free
 ends_between p b (t ∷ u ∷ us) rises e =
     let here = goes_on p b t (u ∷ us) (first_passes p b t (u ∷ us) e) in
-    ap (λ (r : Read). r.begun.part.stage) here ∙ ends_between p (begun_after b t) (u ∷ us) rises.2 (ap (λ (r : Read). r.fault) (sym here) ∙ e)
+    ap (λ (r : Read). r.progress.part.stage) here ∙ ends_between p (progress_after b t) (u ∷ us) rises.2 (ap (λ (r : Read). r.fault) (sym here) ∙ e)
 
 module _ (unique : UniqueReading) (rise : TokensRise) where
   -- a text that spells games is converted to theirs
   pub output_is : (p : Profile) (s : List ℕ) (gs : List Game) → Spells p (tokens_of s) gs → output p s ≡ text_of p gs
   output_is p s gs spelled =
       let was_read = (unique p s gs).0 spelled in
-      let part = (read p (tokens_of s)).begun.part in
+      let part = (read p (tokens_of s)).progress.part in
       let none = no_torn p part Between (ends_between p _ (tokens_of s) (rise s) was_read.0) (λ e. absurd (cc)) in
-      ap (λ (xs : List ℕ). text_of p (read p (tokens_of s)).begun.games ++ xs) none ∙ append-nil (text_of p (read p (tokens_of s)).begun.games)
+      ap (λ (xs : List ℕ). text_of p (read p (tokens_of s)).progress.games ++ xs) none ∙ append-nil (text_of p (read p (tokens_of s)).progress.games)
       ∙ ap (text_of p) was_read.1
 
   pub verdict_is : (p : Profile) (s : List ℕ) (gs : List Game) → Spells p (tokens_of s) gs → verdict p s ≡ totals (counted gs)
@@ -117,7 +117,7 @@ module _ (unique : UniqueReading) (rise : TokensRise) (spells : TextSpells)
     λ e.
         let one = ((unique p (text_of p gs) (map (filled p.mode) gs)).0 (spells p gs h)).1 in
         let other = ((unique p (text_of p hs) (map (filled p.mode) hs)).0 (spells p hs k)).1 in
-        sym one ∙ ap (λ s. (read p (tokens_of s)).begun.games) e ∙ other,
+        sym one ∙ ap (λ s. (read p (tokens_of s)).progress.games) e ∙ other,
     λ e. sym (again p gs h) ∙ ap (text_of p) e ∙ again p hs k,
   )
 

@@ -18,7 +18,7 @@ use Rattle.pgn_game.specs.FaultTable.{is_result, result_for}
 use Rattle.pgn_game.specs.Filled.{exported_pairs}
 use Rattle.pgn_game.specs.FixedPoint.{HasRoom}
 use Rattle.pgn_game.specs.Game.{Game}
-use Rattle.pgn_game.specs.Here.{start_of, start_by, position_or_first}
+use Rattle.pgn_game.specs.Levels.{start_of, start_by, position_or_first}
 use Rattle.pgn_game.specs.Pairs.{Pair, value_of, has_pair}
 use Rattle.pgn_game.specs.Profile.{Profile, Missing, counts_as_unknown, takes_the_marker}
 use Rattle.pgn_game.specs.Spells.{KeepsTags, IsPair, by_name, IsResult}

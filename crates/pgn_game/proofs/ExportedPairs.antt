@@ -10,7 +10,7 @@ use Rattle.pgn_game.specs.Profile.{Profile}
 use Rattle.pgn_game.specs.Pairs.{Pair, value_of, has_pair}
 use Rattle.pgn_game.specs.TagSection.{roster, in_roster, roster_pairs, with_set_up, other_pairs, exported}
 use Rattle.pgn_game.specs.FaultTable.{in_name, is_score, is_result}
-use Rattle.pgn_game.specs.Here.{start_by, start_of}
+use Rattle.pgn_game.specs.Levels.{start_by, start_of}
 use Rattle.pgn_game.specs.Spells.{IsPair, AreDistinct, KeepsTags, IsSetUp, by_name}
 use Rattle.pgn_game.proofs.Collecting.{takes}
 use Rattle.pgn_game.proofs.EachOf.{all_append}

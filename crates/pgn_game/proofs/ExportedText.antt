@@ -18,7 +18,7 @@ use Rattle.pgn_game.specs.FaultTable.{marker_of, result_for}
 use Rattle.pgn_game.specs.Filled.{exported_pairs, filled}
 use Rattle.pgn_game.specs.FixedPoint.{HasRoom, AreExportable, TextSpells}
 use Rattle.pgn_game.specs.Game.{Game}
-use Rattle.pgn_game.specs.Here.{start_of, plies_of}
+use Rattle.pgn_game.specs.Levels.{start_of, plies_of}
 use Rattle.pgn_game.specs.Pairs.{value_of}
 use Rattle.pgn_game.specs.Profile.{Profile}
 use Rattle.pgn_game.specs.Spells.{by_name, SpellsText, nothing_played, IsResult, SpellsGame, SpellsGames, no_game, next_game}

@@ -11,57 +11,57 @@ use Rattle.pgn_game.specs.Profile.{Profile, Missing, counts_as_unknown, takes_th
 use Rattle.pgn_game.specs.Game.{Game, Part, no_part}
 use Rattle.pgn_game.specs.FaultTable.{refusal}
 use Rattle.pgn_game.specs.Text.{game_text, text_of, torn, torn_for}
-use Rattle.pgn_game.specs.Begun.{Next, going, whole, next, Begun, begun_with, begun_after, nothing_begun, Read, read_from, read, written, due}
+use Rattle.pgn_game.specs.Progress.{Next, going, whole, next, Progress, progress_with, progress_after, no_progress, Read, read_from, read, written, due}
 use Rattle.pgn_game.specs.Due.{text_next, gain, Gains}
 use Rattle.pgn_game.specs.Laws.{IsPrefix, DueGrows}
 use Rattle.pgn_game.specs.Feeding.{Stops, refused, unwritten, StopsWriting, games_before, CountsAtStop}
 use Rattle.pgn_game.proofs.NextGrows.{next_is}
 
-abbrev read_as : Begun → Option Fault → Read
-read_as b f = record { begun = b; fault = f }
+abbrev read_as : Progress → Option Fault → Read
+read_as b f = record { progress = b; fault = f }
 
 -- reading goes on where a token is not refused
-abbrev pub after_test : Profile → Begun → Token → List Token → Option Reason → Read
+abbrev pub after_test : Profile → Progress → Token → List Token → Option Reason → Read
 after_test p b t ts (Some reason) = read_as b (Some (record { at = t.at; reason = reason }))
-after_test p b t ts None = read_from p (begun_after b t) ts
+after_test p b t ts None = read_from p (progress_after b t) ts
 
-pub read_from-test : (p : Profile) (b : Begun) (t : Token) (ts : List Token) → read_from p b (t ∷ ts) ≡ after_test p b t ts (refusal p b.part t.kind)
+pub read_from-test : (p : Profile) (b : Progress) (t : Token) (ts : List Token) → read_from p b (t ∷ ts) ≡ after_test p b t ts (refusal p b.part t.kind)
 read_from-test p b t ts =
     elim (refusal p b.part t.kind)
-    as (λ o. elim o [ Some reason ↦ read_as b (Some (record { at = t.at; reason = reason })) | None ↦ read_from p (begun_after b t) ts ] ≡ after_test p b t ts o) [
+    as (λ o. elim o [ Some reason ↦ read_as b (Some (record { at = t.at; reason = reason })) | None ↦ read_from p (progress_after b t) ts ] ≡ after_test p b t ts o) [
       | Some reason ↦ refl
       | None ↦ refl
     ]
 
-passed : (p : Profile) (b : Begun) (t : Token) (ts : List Token) (o : Option Reason) → (after_test p b t ts o).fault ≡ None → o ≡ None
+passed : (p : Profile) (b : Progress) (t : Token) (ts : List Token) (o : Option Reason) → (after_test p b t ts o).fault ≡ None → o ≡ None
 passed p b t ts (Some reason) e = absurd (cc)
 passed p b t ts None e = refl
 
-pub first_passes : (p : Profile) (b : Begun) (t : Token) (ts : List Token) → (read_from p b (t ∷ ts)).fault ≡ None → refusal p b.part t.kind ≡ None
+pub first_passes : (p : Profile) (b : Progress) (t : Token) (ts : List Token) → (read_from p b (t ∷ ts)).fault ≡ None → refusal p b.part t.kind ≡ None
 first_passes p b t ts e = passed p b t ts (refusal p b.part t.kind) (ap (λ (r : Read). r.fault) (sym (read_from-test p b t ts)) ∙ e)
 
-pub goes_on : (p : Profile) (b : Begun) (t : Token) (ts : List Token) → refusal p b.part t.kind ≡ None → read_from p b (t ∷ ts) ≡ read_from p (begun_after b t) ts
+pub goes_on : (p : Profile) (b : Progress) (t : Token) (ts : List Token) → refusal p b.part t.kind ≡ None → read_from p b (t ∷ ts) ≡ read_from p (progress_after b t) ts
 goes_on p b t ts none = read_from-test p b t ts ∙ ap (after_test p b t ts) none
 
-after_those : (p : Profile) (b : Begun) (ts : List Token) (t : Token) (us : List Token) → (read_from p b ts).fault ≡ None
-    → read_from p b (ts ++ t ∷ us) ≡ after_test p (read_from p b ts).begun t us (refusal p (read_from p b ts).begun.part t.kind)
+after_those : (p : Profile) (b : Progress) (ts : List Token) (t : Token) (us : List Token) → (read_from p b ts).fault ≡ None
+    → read_from p b (ts ++ t ∷ us) ≡ after_test p (read_from p b ts).progress t us (refusal p (read_from p b ts).progress.part t.kind)
 after_those p b [] t us e = read_from-test p b t us
 after_those p b (x ∷ xs) t us e =
     let none = first_passes p b x xs e in
-    let here : read_from p b (x ∷ xs) ≡ read_from p (begun_after b x) xs = goes_on p b x xs none in
-    let rest = after_those p (begun_after b x) xs t us (ap (λ (r : Read). r.fault) (sym here) ∙ e) in
+    let here : read_from p b (x ∷ xs) ≡ read_from p (progress_after b x) xs = goes_on p b x xs none in
+    let rest = after_those p (progress_after b x) xs t us (ap (λ (r : Read). r.fault) (sym here) ∙ e) in
     goes_on p b x (xs ++ t ∷ us) none ∙ rest
-    ∙ ap (λ (r : Read). after_test p r.begun t us (refusal p r.begun.part t.kind)) (sym here)
+    ∙ ap (λ (r : Read). after_test p r.progress t us (refusal p r.progress.part t.kind)) (sym here)
 
 -- a token that is not refused
-pub read-passes : (p : Profile) (given : List Token) (t : Token) → (read p given).fault ≡ None → refusal p (read p given).begun.part t.kind ≡ None
-    → read p (given ++ t ∷ []) ≡ read_as (begun_after (read p given).begun t) None
-read-passes p given t e none = after_those p nothing_begun given t [] e ∙ ap (after_test p (read p given).begun t []) none
+pub read-passes : (p : Profile) (given : List Token) (t : Token) → (read p given).fault ≡ None → refusal p (read p given).progress.part t.kind ≡ None
+    → read p (given ++ t ∷ []) ≡ read_as (progress_after (read p given).progress t) None
+read-passes p given t e none = after_those p no_progress given t [] e ∙ ap (after_test p (read p given).progress t []) none
 
 -- a token that is refused, whatever comes after it
-pub read-refuses : (p : Profile) (given : List Token) (t : Token) (us : List Token) (reason : Reason) → (read p given).fault ≡ None → refusal p (read p given).begun.part t.kind ≡ Some reason
-    → read p (given ++ t ∷ us) ≡ read_as (read p given).begun (Some (record { at = t.at; reason = reason }))
-read-refuses p given t us reason e some = after_those p nothing_begun given t us e ∙ ap (after_test p (read p given).begun t us) some
+pub read-refuses : (p : Profile) (given : List Token) (t : Token) (us : List Token) (reason : Reason) → (read p given).fault ≡ None → refusal p (read p given).progress.part t.kind ≡ Some reason
+    → read p (given ++ t ∷ us) ≡ read_as (read p given).progress (Some (record { at = t.at; reason = reason }))
+read-refuses p given t us reason e some = after_those p no_progress given t us e ∙ ap (after_test p (read p given).progress t us) some
 
 text_of-snoc : (p : Profile) (games : List Game) (g : Game) → text_of p (games ++ g ∷ []) ≡ text_of p games ++ game_text p g
 text_of-snoc p [] g = append-nil (game_text p g)
@@ -73,27 +73,27 @@ torn-none counts_as_unknown mode = refl
 torn-none takes_the_marker mode = refl
 
 -- what is written when a token has led so far
-written_with : (p : Profile) (games : List Game) (nx : Next) → written p (begun_with games nx) ≡ text_of p games ++ text_next p nx
+written_with : (p : Profile) (games : List Game) (nx : Next) → written p (progress_with games nx) ≡ text_of p games ++ text_next p nx
 written_with p games (going after) = refl
 written_with p games (whole g) =
     ap (λ l. text_of p (games ++ g ∷ []) ++ l) (torn-none p.missing_result p.mode) ∙ append-nil (text_of p (games ++ g ∷ [])) ∙ text_of-snoc p games g
 
 -- what a token adds to what was written
 written-next : (p : Profile) (games : List Game) (part : Part) (k : Kind)
-    → written p (begun_with games (next part k)) ≡ written p (record { games = games; part = part }) ++ gain p part k
+    → written p (progress_with games (next part k)) ≡ written p (record { games = games; part = part }) ++ gain p part k
 written-next p games part k =
     written_with p games (next part k) ∙ ap (λ l. text_of p games ++ l) (next_is p part k)
     ∙ sym (append_assoc (text_of p games) (torn p part) (gain p part k))
 
-pub due-passes : (p : Profile) (given : List Token) (t : Token) → (read p given).fault ≡ None → refusal p (read p given).begun.part t.kind ≡ None
-    → due p (given ++ t ∷ []) ≡ due p given ++ gain p (read p given).begun.part t.kind
+pub due-passes : (p : Profile) (given : List Token) (t : Token) → (read p given).fault ≡ None → refusal p (read p given).progress.part t.kind ≡ None
+    → due p (given ++ t ∷ []) ≡ due p given ++ gain p (read p given).progress.part t.kind
 due-passes p given t e none =
-    ap (λ (r : Read). written p r.begun) (read-passes p given t e none)
-    ∙ written-next p (read p given).begun.games (read p given).begun.part t.kind
+    ap (λ (r : Read). written p r.progress) (read-passes p given t e none)
+    ∙ written-next p (read p given).progress.games (read p given).progress.part t.kind
 
-pub due-refuses : (p : Profile) (given : List Token) (t : Token) (us : List Token) (reason : Reason) → (read p given).fault ≡ None → refusal p (read p given).begun.part t.kind ≡ Some reason
+pub due-refuses : (p : Profile) (given : List Token) (t : Token) (us : List Token) (reason : Reason) → (read p given).fault ≡ None → refusal p (read p given).progress.part t.kind ≡ Some reason
     → due p (given ++ t ∷ us) ≡ due p given
-due-refuses p given t us reason e some = ap (λ (r : Read). written p r.begun) (read-refuses p given t us reason e some)
+due-refuses p given t us reason e some = ap (λ (r : Read). written p r.progress) (read-refuses p given t us reason e some)
 
 pub gains_none : (p : Profile) (given : List Token) (o : Option (List ℕ)) → Gains p given given o o
 gains_none p given o = record { text = []; due_for = sym (append-nil (due p given)); appended = Appends-nil o }
@@ -147,17 +147,17 @@ counts_still p x y tokens f a b c first (refused g fault gains) most h = record 
 counts_still p x y tokens f a b c first (unwritten at writing) most h = record { tried = h.tried; probed = h.probed }
 
 -- behind a token that is refused nothing is read
-pub stops_from : (p : Profile) (b : Begun) (ts us : List Token) (f : Fault) → (read_from p b ts).fault ≡ Some f → read_from p b (ts ++ us) ≡ read_from p b ts
+pub stops_from : (p : Profile) (b : Progress) (ts us : List Token) (f : Fault) → (read_from p b ts).fault ≡ Some f → read_from p b (ts ++ us) ≡ read_from p b ts
 stops_from p b [] us f e = absurd (cc)
-stops_from p b (t ∷ ts) us f e = by_test (refusal p b.part t.kind) refl (stops_from p (begun_after b t) ts us f)
+stops_from p b (t ∷ ts) us f e = by_test (refusal p b.part t.kind) refl (stops_from p (progress_after b t) ts us f)
   where
     by_test : (o : Option Reason) → refusal p b.part t.kind ≡ o
-        → ((read_from p (begun_after b t) ts).fault ≡ Some f → read_from p (begun_after b t) (ts ++ us) ≡ read_from p (begun_after b t) ts)
+        → ((read_from p (progress_after b t) ts).fault ≡ Some f → read_from p (progress_after b t) (ts ++ us) ≡ read_from p (progress_after b t) ts)
         → read_from p b (t ∷ ts ++ us) ≡ read_from p b (t ∷ ts)
     by_test (Some reason) is further =
         read_from-test p b t (ts ++ us) ∙ ap (after_test p b t (ts ++ us)) is ∙ sym (read_from-test p b t ts ∙ ap (after_test p b t ts) is)
     by_test None is further =
-        let here : read_from p b (t ∷ ts) ≡ read_from p (begun_after b t) ts = goes_on p b t ts is in
+        let here : read_from p b (t ∷ ts) ≡ read_from p (progress_after b t) ts = goes_on p b t ts is in
         goes_on p b t (ts ++ us) is ∙ further (ap (λ (r : Read). r.fault) (sym here) ∙ e) ∙ sym here
 
 also : (xs ys zs : List ℕ) → IsPrefix xs ys → IsPrefix ys zs → IsPrefix xs zs
@@ -166,34 +166,34 @@ also xs ys zs h k = (h.0 ++ k.0, k.1 ∙ ap (λ l. l ++ k.0) h.1 ∙ append_asso
 same_text : (xs : List ℕ) → IsPrefix xs xs
 same_text xs = ([], sym (append-nil xs))
 
-grows_from : (p : Profile) (b : Begun) (us : List Token) → IsPrefix (written p b) (written p (read_from p b us).begun)
+grows_from : (p : Profile) (b : Progress) (us : List Token) → IsPrefix (written p b) (written p (read_from p b us).progress)
 grows_from p b [] = same_text (written p b)
-grows_from p b (t ∷ ts) = by_test (refusal p b.part t.kind) refl (grows_from p (begun_after b t) ts)
+grows_from p b (t ∷ ts) = by_test (refusal p b.part t.kind) refl (grows_from p (progress_after b t) ts)
   where
-    by_test : (o : Option Reason) → refusal p b.part t.kind ≡ o → IsPrefix (written p (begun_after b t)) (written p (read_from p (begun_after b t) ts).begun)
-        → IsPrefix (written p b) (written p (read_from p b (t ∷ ts)).begun)
+    by_test : (o : Option Reason) → refusal p b.part t.kind ≡ o → IsPrefix (written p (progress_after b t)) (written p (read_from p (progress_after b t) ts).progress)
+        → IsPrefix (written p b) (written p (read_from p b (t ∷ ts)).progress)
     by_test (Some reason) is further =
-        subst (λ (r : Read). IsPrefix (written p b) (written p r.begun)) (sym (read_from-test p b t ts ∙ ap (after_test p b t ts) is)) (same_text (written p b))
+        subst (λ (r : Read). IsPrefix (written p b) (written p r.progress)) (sym (read_from-test p b t ts ∙ ap (after_test p b t ts) is)) (same_text (written p b))
     by_test None is further =
-        subst (λ (r : Read). IsPrefix (written p b) (written p r.begun)) (sym (goes_on p b t ts is))
-        (also (written p b) (written p (begun_after b t)) _
+        subst (λ (r : Read). IsPrefix (written p b) (written p r.progress)) (sym (goes_on p b t ts is))
+        (also (written p b) (written p (progress_after b t)) _
         (gain p b.part t.kind, written-next p b.games b.part t.kind) further)
 
 abbrev Grows : Profile → Read → Read → Type 0
-Grows p r s = IsPrefix (written p r.begun) (written p s.begun)
+Grows p r s = IsPrefix (written p r.progress) (written p s.progress)
 
-grows : (p : Profile) (b : Begun) (ts us : List Token) → IsPrefix (written p (read_from p b ts).begun) (written p (read_from p b (ts ++ us)).begun)
+grows : (p : Profile) (b : Progress) (ts us : List Token) → IsPrefix (written p (read_from p b ts).progress) (written p (read_from p b (ts ++ us)).progress)
 grows p b [] us = grows_from p b us
-grows p b (t ∷ ts) us = by_test (refusal p b.part t.kind) refl (grows p (begun_after b t) ts us)
+grows p b (t ∷ ts) us = by_test (refusal p b.part t.kind) refl (grows p (progress_after b t) ts us)
   where
-    by_test : (o : Option Reason) → refusal p b.part t.kind ≡ o → Grows p (read_from p (begun_after b t) ts) (read_from p (begun_after b t) (ts ++ us))
+    by_test : (o : Option Reason) → refusal p b.part t.kind ≡ o → Grows p (read_from p (progress_after b t) ts) (read_from p (progress_after b t) (ts ++ us))
         → Grows p (read_from p b (t ∷ ts)) (read_from p b (t ∷ ts ++ us))
     by_test (Some reason) is further =
         subst (λ (r : Read). Grows p r (read_from p b (t ∷ ts ++ us))) (sym (read_from-test p b t ts ∙ ap (after_test p b t ts) is))
-        (subst (λ (r : Read). IsPrefix (written p b) (written p r.begun)) (sym (read_from-test p b t (ts ++ us) ∙ ap (after_test p b t (ts ++ us)) is)) (same_text (written p b)))
+        (subst (λ (r : Read). IsPrefix (written p b) (written p r.progress)) (sym (read_from-test p b t (ts ++ us) ∙ ap (after_test p b t (ts ++ us)) is)) (same_text (written p b)))
     by_test None is further =
         subst (λ (r : Read). Grows p r (read_from p b (t ∷ ts ++ us))) (sym (goes_on p b t ts is))
-        (subst (λ (r : Read). Grows p (read_from p (begun_after b t) ts) r) (sym (goes_on p b t (ts ++ us) is)) further)
+        (subst (λ (r : Read). Grows p (read_from p (progress_after b t) ts) r) (sym (goes_on p b t (ts ++ us) is)) further)
 
 pub due_grows : DueGrows
-due_grows p ts us = grows p nothing_begun ts us
+due_grows p ts us = grows p no_progress ts us

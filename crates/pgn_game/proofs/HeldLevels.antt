@@ -6,20 +6,20 @@ use Rattle.std.specs.Prelude.{IsSome, IfSome}
 use Rattle.std.specs.List.{refill}
 use Rattle.chess_rules.specs.declared.position.Parts.{Parts}
 use Rattle.pgn_game.specs.declared.levels.Level.{Level as CodeLevel}
-use Rattle.pgn_game.specs.Movetext.{Levels, level_of, inside, levels_in, IsBackIn, level_at}
+use Rattle.pgn_game.specs.Movetext.{HeldLevels, level_of, inside, levels_in, IsBackIn, level_at}
 
 -- one level deeper
-abbrev deeper : Levels → CodeLevel → Levels
+abbrev deeper : HeldLevels → CodeLevel → HeldLevels
 deeper ls l = record { present = level_of l; around = ls.present ∷ ls.around }
 
-inside-last : (ls : Levels) (xs : List CodeLevel) (i : ℕ) (d : CodeLevel) → suc i ≡ length xs → (inside ls xs).present ≡ level_of (get_or xs i d)
+inside-last : (ls : HeldLevels) (xs : List CodeLevel) (i : ℕ) (d : CodeLevel) → suc i ≡ length xs → (inside ls xs).present ≡ level_of (get_or xs i d)
 inside-last ls [] i d e = absurd (omega (arith, e))
 inside-last ls (x ∷ []) zero d e = refl
 inside-last ls (x ∷ []) (suc i) d e = absurd (omega (arith, e))
 inside-last ls (x ∷ y ∷ xs) zero d e = absurd (omega (arith, e))
 inside-last ls (x ∷ y ∷ xs) (suc i) d e = inside-last (deeper ls x) (y ∷ xs) i d (omega (arith, e))
 
-inside-set : (ls : Levels) (xs : List CodeLevel) (i : ℕ) (l : CodeLevel) → suc i ≡ length xs
+inside-set : (ls : HeldLevels) (xs : List CodeLevel) (i : ℕ) (l : CodeLevel) → suc i ≡ length xs
     → inside ls (set xs i l) ≡ record { present = level_of l; around = (inside ls xs).around }
 inside-set ls [] i l e = absurd (omega (arith, e))
 inside-set ls (x ∷ []) zero l e = refl
@@ -27,11 +27,11 @@ inside-set ls (x ∷ []) (suc i) l e = absurd (omega (arith, e))
 inside-set ls (x ∷ y ∷ xs) zero l e = absurd (omega (arith, e))
 inside-set ls (x ∷ y ∷ xs) (suc i) l e = inside-set (deeper ls x) (y ∷ xs) i l (omega (arith, e))
 
-inside-snoc : (ls : Levels) (xs : List CodeLevel) (l : CodeLevel) → inside ls (xs ++ l ∷ []) ≡ deeper (inside ls xs) l
+inside-snoc : (ls : HeldLevels) (xs : List CodeLevel) (l : CodeLevel) → inside ls (xs ++ l ∷ []) ≡ deeper (inside ls xs) l
 inside-snoc ls [] l = refl
 inside-snoc ls (x ∷ xs) l = inside-snoc (deeper ls x) xs l
 
-inside-front : (ls : Levels) (xs : List CodeLevel) (i : ℕ) → suc i ≡ length xs
+inside-front : (ls : HeldLevels) (xs : List CodeLevel) (i : ℕ) → suc i ≡ length xs
     → (inside ls xs).around ≡ (inside ls (take i xs)).present ∷ (inside ls (take i xs)).around
 inside-front ls [] i e = absurd (omega (arith, e))
 inside-front ls (x ∷ []) zero e = refl
@@ -39,44 +39,44 @@ inside-front ls (x ∷ []) (suc i) e = absurd (omega (arith, e))
 inside-front ls (x ∷ y ∷ xs) zero e = absurd (omega (arith, e))
 inside-front ls (x ∷ y ∷ xs) (suc i) e = inside-front (deeper ls x) (y ∷ xs) i (omega (arith, e))
 
-inside-depth : (ls : Levels) (xs : List CodeLevel) → length (inside ls xs).around ≡ length ls.around + length xs
+inside-depth : (ls : HeldLevels) (xs : List CodeLevel) → length (inside ls xs).around ≡ length ls.around + length xs
 inside-depth ls [] = omega arith
 inside-depth ls (x ∷ xs) = omega (arith, inside-depth (deeper ls x) xs)
 
 -- how many levels are around the one at hand
-pub depth-held : (xs : List CodeLevel) (ls : Levels) → levels_in xs ≡ ls → 0 < length xs → length ls.around + 1 ≡ length xs
+pub depth-held : (xs : List CodeLevel) (ls : HeldLevels) → levels_in xs ≡ ls → 0 < length xs → length ls.around + 1 ≡ length xs
 depth-held [] ls e some = absurd (omega (arith, some))
 depth-held (x ∷ xs) ls e some =
-    omega (arith, inside-depth (record { present = level_of x; around = [] }) xs, ap (λ (m : Levels). length m.around) e)
+    omega (arith, inside-depth (record { present = level_of x; around = [] }) xs, ap (λ (m : HeldLevels). length m.around) e)
 
 -- the last one is at hand
-pub last-held : (xs : List CodeLevel) (ls : Levels) (n : ℕ) (d : CodeLevel) → levels_in xs ≡ ls → 0 < length xs → n ≡ length xs
+pub last-held : (xs : List CodeLevel) (ls : HeldLevels) (n : ℕ) (d : CodeLevel) → levels_in xs ≡ ls → 0 < length xs → n ≡ length xs
     → level_of (get_or xs (n - 1) d) ≡ ls.present
 last-held [] ls n d e some all = absurd (omega (arith, some))
 last-held (x ∷ []) ls n d e some all =
-    let one : n - 1 ≡ 0 = omega (arith, all) in rw one (ap (λ (m : Levels). m.present) e)
+    let one : n - 1 ≡ 0 = omega (arith, all) in rw one (ap (λ (m : HeldLevels). m.present) e)
 last-held (x ∷ y ∷ xs) ls n d e some all =
     let more : n - 1 ≡ suc (length xs) = omega (arith, all) in
-    rw more (sym (inside-last (record { present = level_of x; around = [] }) (y ∷ xs) (length xs) d refl) ∙ ap (λ (m : Levels). m.present) e)
+    rw more (sym (inside-last (record { present = level_of x; around = [] }) (y ∷ xs) (length xs) d refl) ∙ ap (λ (m : HeldLevels). m.present) e)
 
 -- it is set
-pub last-set : (xs : List CodeLevel) (ls : Levels) (n : ℕ) (l : CodeLevel) → levels_in xs ≡ ls → 0 < length xs → n ≡ length xs
+pub last-set : (xs : List CodeLevel) (ls : HeldLevels) (n : ℕ) (l : CodeLevel) → levels_in xs ≡ ls → 0 < length xs → n ≡ length xs
     → levels_in (set xs (n - 1) l) ≡ record { present = level_of l; around = ls.around }
 last-set [] ls n l e some all = absurd (omega (arith, some))
 last-set (x ∷ []) ls n l e some all =
-    let one : n - 1 ≡ 0 = omega (arith, all) in rw one (ap (λ (m : Levels). record { present = level_of l; around = m.around }) e)
+    let one : n - 1 ≡ 0 = omega (arith, all) in rw one (ap (λ (m : HeldLevels). record { present = level_of l; around = m.around }) e)
 last-set (x ∷ y ∷ xs) ls n l e some all =
     let more : n - 1 ≡ suc (length xs) = omega (arith, all) in
-    rw more (inside-set (record { present = level_of x; around = [] }) (y ∷ xs) (length xs) l refl ∙ ap (λ (m : Levels). record { present = level_of l; around = m.around }) e)
+    rw more (inside-set (record { present = level_of x; around = [] }) (y ∷ xs) (length xs) l refl ∙ ap (λ (m : HeldLevels). record { present = level_of l; around = m.around }) e)
 
 -- one is added
-pub snoc-held : (xs : List CodeLevel) (ls : Levels) (l : CodeLevel) → levels_in xs ≡ ls → 0 < length xs
+pub snoc-held : (xs : List CodeLevel) (ls : HeldLevels) (l : CodeLevel) → levels_in xs ≡ ls → 0 < length xs
     → levels_in (xs ++ l ∷ []) ≡ deeper ls l
 snoc-held [] ls l e some = absurd (omega (arith, some))
-snoc-held (x ∷ xs) ls l e some = inside-snoc (record { present = level_of x; around = [] }) xs l ∙ ap (λ (m : Levels). deeper m l) e
+snoc-held (x ∷ xs) ls l e some = inside-snoc (record { present = level_of x; around = [] }) xs l ∙ ap (λ (m : HeldLevels). deeper m l) e
 
 -- what a variation begins at: it is there, for the level at hand has a move
-pub opens : (o : Option Parts) (start : Parts) (ls new : Levels) → o ≡ Some start → new ≡ record { present = level_at start; around = ls.present ∷ ls.around }
+pub opens : (o : Option Parts) (start : Parts) (ls new : HeldLevels) → o ≡ Some start → new ≡ record { present = level_at start; around = ls.present ∷ ls.around }
     → IfSome o (λ p. new ≡ record { present = level_at p; around = ls.present ∷ ls.around })
 opens o start ls new e is = rw e is
 
@@ -85,14 +85,14 @@ opens-nothing None P some e = tt
 opens-nothing (Some p) P some e = absurd (cc)
 
 -- the last one is taken away
-pub front-held : (xs : List CodeLevel) (ls : Levels) (n : ℕ) → levels_in xs ≡ ls → 0 < length xs → n ≡ length xs → 0 < length ls.around
+pub front-held : (xs : List CodeLevel) (ls : HeldLevels) (n : ℕ) → levels_in xs ≡ ls → 0 < length xs → n ≡ length xs → 0 < length ls.around
     → IsBackIn ls.around (levels_in (take (n - 1) xs))
 front-held [] ls n e some all inner = absurd (omega (arith, some))
-front-held (x ∷ []) ls n e some all inner = absurd (omega (arith, inner, ap (λ (m : Levels). length m.around) e))
+front-held (x ∷ []) ls n e some all inner = absurd (omega (arith, inner, ap (λ (m : HeldLevels). length m.around) e))
 front-held (x ∷ y ∷ xs) ls n e some all inner =
     let more : n - 1 ≡ suc (length xs) = omega (arith, all) in
     let front : ls.around ≡ (levels_in (x ∷ take (length xs) (y ∷ xs))).present ∷ (levels_in (x ∷ take (length xs) (y ∷ xs))).around =
-    ap (λ (m : Levels). m.around) (sym e) ∙ inside-front (record { present = level_of x; around = [] }) (y ∷ xs) (length xs) refl in
+    ap (λ (m : HeldLevels). m.around) (sym e) ∙ inside-front (record { present = level_of x; around = [] }) (y ∷ xs) (length xs) refl in
     rw (more, front) refl
 
 -- a slice of the same length takes the items' place

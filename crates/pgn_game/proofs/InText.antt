@@ -17,14 +17,14 @@ use Rattle.pgn_game.specs.Chess.{move_of}
 use Rattle.pgn_game.specs.Pairs.{Pair, value_of}
 use Rattle.pgn_game.specs.Game as games
 use Rattle.pgn_game.specs.Game.{Item, Part}
-use Rattle.pgn_game.specs.Here.{Level as ModelLevel, depth, start_of, replayed, without_last}
+use Rattle.pgn_game.specs.Levels.{Level as ModelLevel, depth, start_of, replayed, without_last}
 use Rattle.pgn_game.specs.FaultTable.{marker_of, is_number, is_score, is_no_form, is_no_move, is_many_moves, is_one_move, is_at_limit, levels_in, position_in, result_for}
 use Rattle.pgn_game.specs.Finding.{found_in}
-use Rattle.pgn_game.specs.Begun.{Next, going, whole, in_text, item_of, items_of}
-use Rattle.pgn_game.specs.Movetext.{Levels, before_last, level_held}
+use Rattle.pgn_game.specs.Progress.{Next, going, whole, in_text, item_of, items_of}
+use Rattle.pgn_game.specs.Movetext.{HeldLevels, before_last, level_held}
 use Rattle.pgn_game.specs.Reading.{Reading, is_outside_the_table}
 use Rattle.pgn_game.specs.declared.stage.Stage.{Stage}
-use Rattle.pgn_game.specs.Judging.{IsOpen, found_of, is_open, game_of, or_else, text_refusal, with_items}
+use Rattle.pgn_game.specs.Judging.{IsOpen, found_of, may_have_movetext, game_of, or_else, text_refusal, with_items}
 use Rattle.pgn_game.proofs.Refusing.{hit, pass}
 
 -- The levels.
@@ -33,19 +33,19 @@ length-held : (start : Parts) (ls : List ModelLevel) → length (map (level_held
 length-held start [] = refl
 length-held start (l ∷ ls) = ap (λ n. suc n) (length-held start ls)
 
-some_before : (start : Parts) (l : ModelLevel) → is_some (before_last start l) ≡ l.holds_move
+some_before : (start : Parts) (l : ModelLevel) → is_some (before_last start l) ≡ l.has_own_move
 some_before start l =
-    elim l.holds_move as (λ b. is_some {T = Parts} (elim b [ true ↦ Some (replayed start (without_last l.trail)) | false ↦ None ]) ≡ b) [ true ↦ refl | false ↦ refl ]
+    elim l.has_own_move as (λ b. is_some {T = Parts} (elim b [ true ↦ Some (replayed start (without_last l.trail)) | false ↦ None ]) ≡ b) [ true ↦ refl | false ↦ refl ]
 
-pub holds_is : (old : Reading) (part : Part) → IsOpen old part → is_some old.text.levels.present.before ≡ (levels_in part).present.holds_move
+pub holds_is : (old : Reading) (part : Part) → IsOpen old part → is_some old.text.levels.present.before ≡ (levels_in part).present.has_own_move
 holds_is old part is =
-    ap (λ (ls : Levels). is_some ls.present.before) is.held.levels ∙ some_before (start_of part.pairs) (levels_in part).present
+    ap (λ (ls : HeldLevels). is_some ls.present.before) is.held.levels ∙ some_before (start_of part.pairs) (levels_in part).present
 
 pub depth_is : (old : Reading) (part : Part) → IsOpen old part → length old.text.levels.around ≡ depth (levels_in part)
-depth_is old part is = ap (λ (ls : Levels). length ls.around) is.held.levels ∙ length-held (start_of part.pairs) (levels_in part).around
+depth_is old part is = ap (λ (ls : HeldLevels). length ls.around) is.held.levels ∙ length-held (start_of part.pairs) (levels_in part).around
 
 pub position_is : (old : Reading) (part : Part) → IsOpen old part → old.text.levels.present.present ≡ position_in part
-position_is old part is = ap (λ (ls : Levels). ls.present.present) is.held.levels
+position_is old part is = ap (λ (ls : HeldLevels). ls.present.present) is.held.levels
 
 -- Symbols.
 
@@ -270,9 +270,9 @@ none_around [] e = refl
 none_around (l ∷ ls) e = absurd (omega (arith, e))
 
 -- A symbol that was sought is neither a marker nor a number; one that was not is one of them.
-pub sought : (stage : Stage) (here : Parts) (s : List ℕ) (r : Result Played Reason) → Some r ≡ found_of (is_open stage && not (is_score s || is_number s)) here s
+pub sought : (stage : Stage) (here : Parts) (s : List ℕ) (r : Result Played Reason) → Some r ≡ found_of (may_have_movetext stage && not (is_score s || is_number s)) here s
     → (is_number s ≡ false) × (is_score s ≡ false) × (r ≡ found_in here (move_of here s))
-sought stage here s r e = by_tests (is_open stage) (is_score s) (is_number s) refl refl e
+sought stage here s r e = by_tests (may_have_movetext stage) (is_score s) (is_number s) refl refl e
   where
     by_tests : (at_text score number : Bool) → is_score s ≡ score → is_number s ≡ number → Some r ≡ found_of (at_text && not (score || number)) here s
         → (is_number s ≡ false) × (is_score s ≡ false) × (r ≡ found_in here (move_of here s))
@@ -281,9 +281,9 @@ sought stage here s r e = by_tests (is_open stage) (is_score s) (is_number s) re
     by_tests true true number is other e = absurd (cc)
     by_tests false score number is other e = absurd (cc)
 
-pub unsought : (stage : Stage) (here : Parts) (s : List ℕ) → IsTrue (is_open stage) → is_score s ≡ false
-    → None ≡ found_of (is_open stage && not (is_score s || is_number s)) here s → is_number s ≡ true
-unsought stage here s at other e = by_tests (is_open stage) (is_score s) (is_number s) refl at other e
+pub unsought : (stage : Stage) (here : Parts) (s : List ℕ) → IsTrue (may_have_movetext stage) → is_score s ≡ false
+    → None ≡ found_of (may_have_movetext stage && not (is_score s || is_number s)) here s → is_number s ≡ true
+unsought stage here s at other e = by_tests (may_have_movetext stage) (is_score s) (is_number s) refl at other e
   where
     by_tests : (at_text score number : Bool) → is_number s ≡ number → at_text ≡ true → score ≡ false → None ≡ found_of (at_text && not (score || number)) here s → is_number s ≡ true
     by_tests at_text score true is at other e = is

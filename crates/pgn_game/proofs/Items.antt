@@ -8,7 +8,7 @@ use Rattle.pgn_layout.specs.Layout.{Put, EndGame, ended, text_put, line_put, tex
 use Rattle.pgn_game.specs.declared.mode.Mode.{Mode}
 use Rattle.pgn_game.specs.declared.mode.Mode.TheVariants.{Full, Reduced}
 use Rattle.pgn_game.specs.Game.{Item}
-use Rattle.pgn_game.specs.Here.{Levels, levels_after, levels_of, first_level, depth, here}
+use Rattle.pgn_game.specs.Levels.{Levels, levels_after, levels_of, first_level, depth, here}
 use Rattle.pgn_game.specs.Text.{Placed, placed_from, is_move, is_main_move, written_items, tokens_at, tokens_from, tokens_out, full_text}
 use Rattle.pgn_game.specs.Movetext.{ends_in_move}
 use Rattle.pgn_game.specs.Laws.{IsPrefix}

@@ -10,21 +10,21 @@ use Rattle.pgn_lexer.specs.Tokens.{Kind}
 use Rattle.pgn_lexer.specs.Scanned.{kind_of}
 use Rattle.pgn_lexer.specs.declared.token.TokenKind.{TokenKind}
 use Rattle.pgn_game.specs.declared.judged.Judged.{Judged}
-use Rattle.pgn_game.specs.declared.judged.Judged.TheVariants.{Passed}
+use Rattle.pgn_game.specs.declared.judged.Judged.TheVariants.{Skipped}
 use Rattle.pgn_game.specs.declared.mode.Mode.{Mode}
 use Rattle.pgn_game.specs.declared.mode.Mode.TheVariants.{Full, Reduced}
 use Rattle.pgn_game.specs.declared.reason.Reason.{Reason}
 use Rattle.pgn_game.specs.declared.stage.Stage.{Stage}
-use Rattle.pgn_game.specs.declared.stage.Stage.TheVariants.{AfterTags, InMovetext, Between, AfterBracket, AfterName, AfterValue}
+use Rattle.pgn_game.specs.declared.stage.Stage.TheVariants.{AfterTags, InMovetext, Between, AfterLeftBracket, AfterName, AfterValue}
 use Rattle.pgn_game.specs.Pairs.{Pair, value_of, has_pair}
 use Rattle.pgn_game.specs.Holding.{TagPairs}
 use Rattle.pgn_game.specs.Game.{Item, Part}
-use Rattle.pgn_game.specs.Here.{start_of}
+use Rattle.pgn_game.specs.Levels.{start_of}
 use Rattle.pgn_game.specs.FaultTable.{refusal, is_at, is_comment, is_left_bracket, is_end, lacks_fen, stage_number}
-use Rattle.pgn_game.specs.Begun.{Next, next, in_text}
+use Rattle.pgn_game.specs.Progress.{Next, next, in_text}
 use Rattle.pgn_game.specs.Movetext.{Movetext, HoldsItems, begins_at}
 use Rattle.pgn_game.specs.Reading.{Reading, Agrees, AreSound, HoldsPairs, HoldsText, has_move, is_outside_the_table}
-use Rattle.pgn_game.specs.Judging.{Fits, Marks, Judges, JudgesEntry, IsOpen, outcome_of, after, is_open, text_refusal}
+use Rattle.pgn_game.specs.Judging.{Fits, Marks, Judges, JudgesEntry, IsOpen, outcome_of, after, may_have_movetext, text_refusal}
 use Rattle.pgn_game.specs.Handling.{begins}
 use Rattle.pgn_game.proofs.Passing.{drops_comments}
 use Rattle.pgn_game.proofs.Refusing.{IsMovetext, comment_passes, judged_in_text, passes_between}
@@ -82,14 +82,14 @@ text_at old part stage agrees at = subst (λ (s : Stage). HoldsText s old part) 
 
 -- a comment in a pair
 pub comment : (tags levels : ℕ) (old : Reading) (k : TokenKind) (stage : Stage) → old.stage ≡ stage → IsTrue (drops_comments stage) → true ≡ is_comment (kind_of k)
-    → Judges tags levels old (kind_of k) (Ok Passed)
+    → Judges tags levels old (kind_of k) (Ok Skipped)
 comment tags levels old k stage at drops is =
-    goes tags levels old (kind_of k) Passed tt (λ e. absurd (cc))
+    goes tags levels old (kind_of k) Skipped tt (λ e. absurd (cc))
     (λ part agrees. comment_passes old.profile part k stage (sym at ∙ agrees.stage) drops is)
 
 -- a token between games that begins none
 pub passed : (tags levels : ℕ) (old : Reading) (k : TokenKind) → old.stage ≡ Between → begins old.stage (kind_of k) ≡ false
-    → Judges tags levels old (kind_of k) (Ok Passed)
+    → Judges tags levels old (kind_of k) (Ok Skipped)
 passed tags levels old k at is = record {
   judges = λ part agrees. passes_between old.profile part k (part_stage old part Between agrees at) (ap (λ (s : Stage). begins s (kind_of k)) (sym at) ∙ is);
   fits = tt;
@@ -103,8 +103,8 @@ has_pair_found ps qs name None b same copied is = ap (λ (l : List Pair). has_pa
 has_pair_found ps qs name (Some x) b same copied is = ap (λ (l : List Pair). has_pair l name) (sym same) ∙ ap is_some (sym copied) ∙ sym is
 
 -- the name that has begun is the part's
-pub begun_name : (tags : TagPairs) (part : Part) (name : List ℕ) → tags ≡ record { held = part.pairs; begun = Some part.name } → tags.begun ≡ Some name → name ≡ part.name
-begun_name tags part name is begun = let e : Some name ≡ Some part.name = sym begun ∙ ap (λ (t : TagPairs). t.begun) is in cc
+pub begun_name : (tags : TagPairs) (part : Part) (name : List ℕ) → tags ≡ record { held = part.pairs; pending_name = Some part.name } → tags.pending_name ≡ Some name → name ≡ part.name
+begun_name tags part name is begun = let e : Some name ≡ Some part.name = sym begun ∙ ap (λ (t : TagPairs). t.pending_name) is in cc
 
 -- Movetext that has no item yet is held.
 nothing_held : (mode : Mode) (start : Parts) → HoldsItems mode start [] (begins_at start) (holding [])
@@ -119,9 +119,9 @@ held_none mode start items text layout none begins empty =
     (subst (λ (l : Layout). HoldsItems mode start [] (begins_at start) l) (sym empty) (nothing_held mode start)))
 
 -- Where movetext can begin or goes on, it is open.
-pub open_at : (old : Reading) (part : Part) (stage : Stage) → Agrees old part → old.stage ≡ stage → IsTrue (is_open stage) → IsOpen old part
+pub open_at : (old : Reading) (part : Part) (stage : Stage) → Agrees old part → old.stage ≡ stage → IsTrue (may_have_movetext stage) → IsOpen old part
 open_at old part Between agrees at is = absurd (cc)
-open_at old part AfterBracket agrees at is = absurd (cc)
+open_at old part AfterLeftBracket agrees at is = absurd (cc)
 open_at old part AfterName agrees at is = absurd (cc)
 open_at old part AfterValue agrees at is = absurd (cc)
 open_at old part AfterTags agrees at is =
@@ -143,26 +143,26 @@ open_at old part InMovetext agrees at is =
       probed = text.1;
     }
 
-pub open_agrees : (old : Reading) (part : Part) → Agrees old part → IsTrue (is_open old.stage) → IsOpen old part
+pub open_agrees : (old : Reading) (part : Part) → Agrees old part → IsTrue (may_have_movetext old.stage) → IsOpen old part
 open_agrees old part agrees is = open_at old part old.stage agrees refl is
 
 -- a token of movetext is judged by the table of movetext
-pub entry_at : (tags levels : ℕ) (old : Reading) (k : TokenKind) (r : Result Judged Reason) → IsTrue (is_open old.stage) → is_left_bracket (kind_of k) ≡ false
+pub entry_at : (tags levels : ℕ) (old : Reading) (k : TokenKind) (r : Result Judged Reason) → IsTrue (may_have_movetext old.stage) → is_left_bracket (kind_of k) ≡ false
     → is_end (kind_of k) ≡ false → ((part : Part) → Agrees old part → (is_at AfterTags part && lacks_fen part.pairs) ≡ false)
     → JudgesEntry tags levels old (kind_of k) r → Judges tags levels old (kind_of k) r
 entry_at tags levels old k r at bracket over free h = record {
   judges = λ part agrees.
       let here : IsMovetext part k =
-      record { stage = subst (λ (s : Stage). IsTrue (is_open s)) agrees.stage at; bracket = bracket; over = over; set_up = free part agrees } in
+      record { stage = subst (λ (s : Stage). IsTrue (may_have_movetext s)) agrees.stage at; bracket = bracket; over = over; set_up = free part agrees } in
       judged_in_text old.profile part k here ∙ h.judges part (open_agrees old part agrees at);
   fits = h.fits;
   marks = h.marks;
 }
 
 -- in movetext and between its pairs no name waits for its value
-pub whole_open : (most : ℕ) (stage : Stage) (tags : TagPairs) → IsTrue (is_open stage) → AreSound most stage tags → tags.begun ≡ None
+pub whole_open : (most : ℕ) (stage : Stage) (tags : TagPairs) → IsTrue (may_have_movetext stage) → AreSound most stage tags → tags.pending_name ≡ None
 whole_open most Between tags is sound = absurd (cc)
-whole_open most AfterBracket tags is sound = absurd (cc)
+whole_open most AfterLeftBracket tags is sound = absurd (cc)
 whole_open most AfterName tags is sound = absurd (cc)
 whole_open most AfterValue tags is sound = absurd (cc)
 whole_open most AfterTags tags is sound = sound

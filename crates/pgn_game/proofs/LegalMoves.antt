@@ -16,15 +16,15 @@ use Rattle.pgn_lexer.specs.Tokens.{Kind, Token}
 use Rattle.pgn_lexer.specs.Tokens as tokens
 use Rattle.pgn_game.specs.declared.reason.Reason.{Reason}
 use Rattle.pgn_game.specs.declared.stage.Stage.{Stage}
-use Rattle.pgn_game.specs.declared.stage.Stage.TheVariants.{Between, AfterBracket, AfterName, AfterValue, AfterTags, InMovetext}
+use Rattle.pgn_game.specs.declared.stage.Stage.TheVariants.{Between, AfterLeftBracket, AfterName, AfterValue, AfterTags, InMovetext}
 use Rattle.pgn_game.specs.Profile.{Profile}
 use Rattle.pgn_game.specs.Pairs.{Pair}
 use Rattle.pgn_game.specs.Chess.{move_of}
 use Rattle.pgn_game.specs.Game.{Item, Game, Part}
-use Rattle.pgn_game.specs.Here.{Levels, here, levels_of, start_of, first_level}
+use Rattle.pgn_game.specs.Levels.{Levels, here, levels_of, start_of, first_level}
 use Rattle.pgn_game.specs.FaultTable.{is_number, marker_of, position_in, levels_in, refusal}
 use Rattle.pgn_game.specs.Text.{placed_from}
-use Rattle.pgn_game.specs.Begun.{Next, going, whole, next, next_in, in_text, item_of, items_of, Begun, begun_with, begun_after, nothing_begun, read_from}
+use Rattle.pgn_game.specs.Progress.{Next, going, whole, next, next_in, in_text, item_of, items_of, Progress, progress_with, progress_after, no_progress, read_from}
 use Rattle.pgn_game.specs.MovesAreLegal.{is_legal_at, plays_legally, MovesAreLegal}
 use Rattle.pgn_game.proofs.Growing.{after_test, read_from-test}
 use Rattle.pgn_game.proofs.Items.{placed-append}
@@ -42,7 +42,7 @@ HoldsNone _ items = items ≡ []
 none_held : (stage : Stage) (items : List Item) → items ≡ [] → HoldsNone stage items
 none_held InMovetext items e = tt
 none_held Between items e = e
-none_held AfterBracket items e = e
+none_held AfterLeftBracket items e = e
 none_held AfterName items e = e
 none_held AfterValue items e = e
 none_held AfterTags items e = e
@@ -71,8 +71,8 @@ adds_none Between part (tokens.word text) none = inr none
 adds_none Between part tokens.comment_close none = inr none
 adds_none Between part tokens.end none = inr none
 adds_none Between part k none = inl refl
-adds_none AfterBracket part (tokens.symbol name) none = inr none
-adds_none AfterBracket part k none = inr none
+adds_none AfterLeftBracket part (tokens.symbol name) none = inr none
+adds_none AfterLeftBracket part k none = inr none
 adds_none AfterName part (tokens.str value) none = inr none
 adds_none AfterName part k none = inr none
 adds_none AfterValue part tokens.right_bracket none = inr none
@@ -152,12 +152,12 @@ module _ (one_read : ReadsTheOne) where
         | inr e ↦ leads_none (next part k) e
       ]
 
-  abbrev AllLegal : Begun → Type 0
+  abbrev AllLegal : Progress → Type 0
   AllLegal b = IsTrue (list_all (λ g. plays_legally g.pairs g.items) b.games) × IsLegal b.part
 
   with_legal : (games : List Game) (nx : Next)
       → IsTrue (list_all (λ g. plays_legally g.pairs g.items) games) → LeadsLegally nx
-      → AllLegal (begun_with games nx)
+      → AllLegal (progress_with games nx)
   with_legal games (going part) h k = (h, k)
   with_legal games (whole g) h k = (
     list_all-append (λ g. plays_legally g.pairs g.items) games (g ∷ [])
@@ -165,21 +165,21 @@ module _ (one_read : ReadsTheOne) where
     (refl, refl),
   )
 
-  read_legal : (p : Profile) (b : Begun) (ts : List Token) → AllLegal b
-      → AllLegal (read_from p b ts).begun
+  read_legal : (p : Profile) (b : Progress) (ts : List Token) → AllLegal b
+      → AllLegal (read_from p b ts).progress
   read_legal p b [] h = h
   read_legal p b (t ∷ ts) h =
       let here = with_legal b.games (next b.part t.kind) h.0 (next_legal b.part t.kind h.1) in
-      let more = read_legal p (begun_after b t) ts here in
-      subst (λ r. AllLegal r.begun) (sym (read_from-test p b t ts))
+      let more = read_legal p (progress_after b t) ts here in
+      subst (λ r. AllLegal r.progress) (sym (read_from-test p b t ts))
       (by_test more (refusal p b.part t.kind))
     where
-      by_test : AllLegal (read_from p (begun_after b t) ts).begun → (o : Option Reason)
-          → AllLegal (after_test p b t ts o).begun
+      by_test : AllLegal (read_from p (progress_after b t) ts).progress → (o : Option Reason)
+          → AllLegal (after_test p b t ts o).progress
       by_test more (Some reason) = h
       by_test more None = more
 
   pub moves_legal : MovesAreLegal
   moves_legal p ts =
-      let all = read_legal p nothing_begun ts (refl, (refl, refl)) in
+      let all = read_legal p no_progress ts (refl, (refl, refl)) in
       (all.0, all.1.1)

@@ -18,7 +18,7 @@ use Rattle.pgn_game.specs.declared.mode.Mode.{Mode}
 use Rattle.pgn_game.specs.declared.mode.Mode.TheVariants.{Full, Reduced}
 use Rattle.pgn_game.specs.Game as games
 use Rattle.pgn_game.specs.Game.{Item}
-use Rattle.pgn_game.specs.Here.{Level, Levels, levels_after, first_level, back_to, depth, here, main_moves, outermost, without_last}
+use Rattle.pgn_game.specs.Levels.{Level, Levels, levels_after, first_level, back_to, depth, here, main_moves, outermost, without_last}
 use Rattle.pgn_game.specs.Profile.{Profile}
 use Rattle.pgn_game.specs.Spells.{SpellsText, no_more, token, move, variation, number, period, glyph, comment_open, word, comment_close, nothing_played, has_played}
 use Rattle.pgn_game.specs.Text.{Placed, placed_from, is_main_move, written_items, tokens_from, tokens_out}

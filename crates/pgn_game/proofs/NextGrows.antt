@@ -6,15 +6,15 @@ use Rattle.pgn_lexer.specs.Tokens.{Kind}
 use Rattle.pgn_layout.specs.Lines.{lines_of, text_of as text_of_lines}
 use Rattle.pgn_game.specs.declared.mode.Mode.{Mode}
 use Rattle.pgn_game.specs.declared.stage.Stage.{Stage}
-use Rattle.pgn_game.specs.declared.stage.Stage.TheVariants.{Between, AfterBracket, AfterName, AfterValue, AfterTags, InMovetext}
+use Rattle.pgn_game.specs.declared.stage.Stage.TheVariants.{Between, AfterLeftBracket, AfterName, AfterValue, AfterTags, InMovetext}
 use Rattle.pgn_game.specs.Profile.{Profile, Missing, counts_as_unknown, takes_the_marker}
 use Rattle.pgn_game.specs.Pairs.{Pair}
 use Rattle.pgn_game.specs.Game.{Item, Part}
-use Rattle.pgn_game.specs.Here.{start_of}
+use Rattle.pgn_game.specs.Levels.{start_of}
 use Rattle.pgn_game.specs.FaultTable.{marker_of}
 use Rattle.pgn_game.specs.TagSection.{tag_section}
 use Rattle.pgn_game.specs.Text.{tokens_out, torn}
-use Rattle.pgn_game.specs.Begun.{going, whole, next, next_in, items_of}
+use Rattle.pgn_game.specs.Progress.{going, whole, next, next_in, items_of}
 use Rattle.pgn_game.specs.Due.{text_next}
 use Rattle.pgn_game.specs.Laws.{IsPrefix}
 use Rattle.pgn_game.proofs.Items.{full_text_grows, full_text_marker}
@@ -50,7 +50,7 @@ module _ (tags deepest : ℕ) (mode : Mode) (ps : List Pair) (name : List ℕ) (
   stage_grows takes_the_marker stage k = (_, refl)
   stage_grows counts_as_unknown InMovetext k = in_movetext_grows k
   stage_grows counts_as_unknown Between k = (_, refl)
-  stage_grows counts_as_unknown AfterBracket k = (_, refl)
+  stage_grows counts_as_unknown AfterLeftBracket k = (_, refl)
   stage_grows counts_as_unknown AfterName k = (_, refl)
   stage_grows counts_as_unknown AfterValue k = (_, refl)
   stage_grows counts_as_unknown AfterTags k = (_, refl)

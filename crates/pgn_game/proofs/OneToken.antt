@@ -25,12 +25,12 @@ use Rattle.pgn_game.specs.declared.converter.Stepped.TheVariants.{NeedMore, More
 use Rattle.pgn_game.specs.Profile.{Profile}
 use Rattle.pgn_game.specs.Game.{Game, Part}
 use Rattle.pgn_game.specs.FaultTable.{refusal}
-use Rattle.pgn_game.specs.Begun.{Next, going, whole, next, Begun, begun_with, begun_after, Read, read}
+use Rattle.pgn_game.specs.Progress.{Next, going, whole, next, Progress, progress_with, progress_after, Read, read}
 use Rattle.pgn_game.specs.Due.{gain, Gains}
-use Rattle.pgn_game.specs.Here.{plies_of}
+use Rattle.pgn_game.specs.Levels.{plies_of}
 use Rattle.pgn_game.specs.Reading.{Reading, Agrees, IsBehind, has_move, whole_plies, plies_next, Leads, Answers}
 use Rattle.pgn_game.specs.Feeding.{AtHand, hand_of, Converter, held_by, held_if, play_moves, has_played, HasRead, Stands, Stops, refused, unwritten, StopsWriting, AreNext, games_before, CountsAtStop}
-use Rattle.pgn_game.specs.Stepping.{SameGames, OneGame, AfterStep, stepped_of, is_game, games_after, fault_of_step, StepAdvances}
+use Rattle.pgn_game.specs.Stepping.{SameGames, OneGame, AfterStep, stepped_of, finished_game, games_after, fault_of_step, StepAdvances}
 use Rattle.pgn_game.specs.MostTried.{MostTried, Raises, RaisesMost, Tries, TriesUnwritten}
 use Rattle.pgn_game.proofs.TriedPairs.{most_with, most_to_refused, part_probed, raises_none}
 use Rattle.pgn_game.proofs.Growing.{read-passes, read-refuses, due-passes, due-refuses, gains_none, gains_nothing}
@@ -45,12 +45,12 @@ follows_own [] = tt
 follows_own (x ∷ xs) = refl
 
 -- what a token leads to, with the games before
-leads_more : (nx : Next) (games : List Game) (r : Reading) → Leads nx accepted.More r → ((begun_with games nx).games ≡ games) × Agrees r (begun_with games nx).part
+leads_more : (nx : Next) (games : List Game) (r : Reading) → Leads nx accepted.More r → ((progress_with games nx).games ≡ games) × Agrees r (progress_with games nx).part
 leads_more (going part) games r h = (refl, h)
 leads_more (whole g) games r h = absurd h
 
 leads_finished : (nx : Next) (games : List Game) (r : Reading) → Leads nx accepted.Finished r
-    → (g : Game) × ((begun_with games nx).games ≡ games ++ g ∷ []) × Agrees r (begun_with games nx).part × IsBehind r g × (plies_next nx ≡ plies_of g)
+    → (g : Game) × ((progress_with games nx).games ≡ games ++ g ∷ []) × Agrees r (progress_with games nx).part × IsBehind r g × (plies_next nx ≡ plies_of g)
 leads_finished (going part) games r h = absurd h
 leads_finished (whole g) games r h = (g, refl, h.agrees, h, refl)
 
@@ -90,13 +90,13 @@ stepped l r games finished outcome =
       lexer = l;
       reading = r;
       games = games_after outcome games;
-      at_hand = held_if (is_game outcome) r;
+      at_hand = held_if (finished_game outcome) r;
       is_finished = finished;
       fault = fault_of_step outcome;
     }
 
 -- a move in one of the games was played
-pub in_games : (b : Begun) → IsTrue (play_moves b.games) → IsTrue (has_played b)
+pub in_games : (b : Progress) → IsTrue (play_moves b.games) → IsTrue (has_played b)
 in_games b h = or_left (play_moves b.games) (has_move b.part.items) h
   where
     or_left : (x y : Bool) → IsTrue x → IsTrue (x || y)
@@ -104,7 +104,7 @@ in_games b h = or_left (play_moves b.games) (has_move b.part.items) h
     or_left false y h = absurd (cc)
 
 -- some pair was tried where a move was played in a game, or in the part
-in_either : (r : Reading) (b : Begun) → Agrees r b.part → (IsTrue (play_moves b.games) → 0 < r.most_probes) → IsTrue (has_played b) → 0 < r.most_probes
+in_either : (r : Reading) (b : Progress) → Agrees r b.part → (IsTrue (play_moves b.games) → 0 < r.most_probes) → IsTrue (has_played b) → 0 < r.most_probes
 in_either r b agrees before moves = by_or (play_moves b.games) (has_move b.part.items) before (part_probed r b.part agrees) moves
   where
     by_or : (x y : Bool) → (IsTrue x → 0 < r.most_probes) → (IsTrue y → 0 < r.most_probes) → IsTrue (x || y) → 0 < r.most_probes
@@ -112,13 +112,13 @@ in_either r b agrees before moves = by_or (play_moves b.games) (has_move b.part.
     by_or false y left right h = right h
 
 module _ (p : Profile) (old : Converter) (given : List Token) (t : Token) (l : Standing) (new : Reading) (finished : Bool) (has_read : HasRead p old given) (profile : new.profile ≡ old.reading.profile) (probes : old.reading.most_probes ≤ new.most_probes) where
-  abbrev b : Begun
-  b = (read p given).begun
+  abbrev b : Progress
+  b = (read p given).progress
 
   passes : refusal old.reading.profile b.part t.kind ≡ None → refusal p b.part t.kind ≡ None
   passes h = subst (λ q. refusal q b.part t.kind ≡ None) has_read.profile h
 
-  reads : refusal old.reading.profile b.part t.kind ≡ None → read p (given ++ t ∷ []) ≡ record { begun = begun_after b t; fault = None }
+  reads : refusal old.reading.profile b.part t.kind ≡ None → read p (given ++ t ∷ []) ≡ record { progress = progress_after b t; fault = None }
   reads h = read-passes p given t has_read.passes (passes h)
 
   pub gains_token : (a c : Option (List ℕ)) → refusal old.reading.profile b.part t.kind ≡ None → Appends a c (gain old.reading.profile b.part t.kind) → Gains p given (given ++ t ∷ []) a c
@@ -142,7 +142,7 @@ module _ (p : Profile) (old : Converter) (given : List Token) (t : Token) (l : S
 
   -- the game goes on
   pub same_games : refusal old.reading.profile b.part t.kind ≡ None → Leads (next b.part t.kind) accepted.More new → SameGames p given (given ++ t ∷ [])
-  same_games h leads = ap (λ (r : Read). r.begun.games) (reads h) ∙ (leads_more (next b.part t.kind) b.games new leads).0
+  same_games h leads = ap (λ (r : Read). r.progress.games) (reads h) ∙ (leads_more (next b.part t.kind) b.games new leads).0
 
   pub has_read_more : refusal old.reading.profile b.part t.kind ≡ None → Leads (next b.part t.kind) accepted.More new
       → whole_plies new ≡ whole_plies old.reading + plies_next (next b.part t.kind)
@@ -152,7 +152,7 @@ module _ (p : Profile) (old : Converter) (given : List Token) (t : Token) (l : S
       let same = same_games h leads in
       let none = plies_more (next b.part t.kind) new leads in
       let total : whole_plies new ≡ whole_plies old.reading = omega (arith, plies, none) in
-      let agrees : Agrees new (read p (given ++ t ∷ [])).begun.part = subst (λ (r : Read). Agrees new r.begun.part) (sym (reads h)) more.1 in
+      let agrees : Agrees new (read p (given ++ t ∷ [])).progress.part = subst (λ (r : Read). Agrees new r.progress.part) (sym (reads h)) more.1 in
       record {
         profile = profile ∙ has_read.profile;
         no_fault = refl;
@@ -160,7 +160,7 @@ module _ (p : Profile) (old : Converter) (given : List Token) (t : Token) (l : S
         agrees = agrees;
         games = has_read.games ∙ ap (length {A = Game}) (sym same);
         plies = total ∙ has_read.plies ∙ ap (λ games. sum (map plies_of games)) (sym same);
-        probed = in_either new (read p (given ++ t ∷ [])).begun agrees
+        probed = in_either new (read p (given ++ t ∷ [])).progress agrees
             (λ moves. probed_before (in_games b (subst (λ games. IsTrue (play_moves games)) same moves)));
         tried = most_tried h tries;
         at_hand = tt;
@@ -171,17 +171,17 @@ module _ (p : Profile) (old : Converter) (given : List Token) (t : Token) (l : S
       → (g : Game) × OneGame p given (given ++ t ∷ []) g × (held_by new ≡ hand_of g)
   one_game h leads =
       let done = leads_finished (next b.part t.kind) b.games new leads in
-      (done.0, ap (λ (r : Read). r.begun.games) (reads h) ∙ done.1, hand_behind new done.0 done.3)
+      (done.0, ap (λ (r : Read). r.progress.games) (reads h) ∙ done.1, hand_behind new done.0 done.3)
 
   pub has_read_game : refusal old.reading.profile b.part t.kind ≡ None → Leads (next b.part t.kind) accepted.Finished new
       → whole_plies new ≡ whole_plies old.reading + plies_next (next b.part t.kind)
       → Raises (Tries old.reading.profile b.part t.kind) old.reading.most_probes new.most_probes → HasRead p (stepped l new old.games finished Finished) (given ++ t ∷ [])
   has_read_game h leads plies tries =
       let done = leads_finished (next b.part t.kind) b.games new leads in
-      let one = ap (λ (r : Read). r.begun.games) (reads h) ∙ done.1 in
+      let one = ap (λ (r : Read). r.progress.games) (reads h) ∙ done.1 in
       let g : Game = done.0 in
       let behind : IsBehind new g = done.3 in
-      let agrees : Agrees new (read p (given ++ t ∷ [])).begun.part = subst (λ (r : Read). Agrees new r.begun.part) (sym (reads h)) done.2 in
+      let agrees : Agrees new (read p (given ++ t ∷ [])).progress.part = subst (λ (r : Read). Agrees new r.progress.part) (sym (reads h)) done.2 in
       record {
         profile = profile ∙ has_read.profile;
         no_fault = refl;
@@ -190,7 +190,7 @@ module _ (p : Profile) (old : Converter) (given : List Token) (t : Token) (l : S
         games = ap (λ n. n + 1) has_read.games ∙ sym (ap (length {A = Game}) one ∙ length-snoc b.games g);
         plies = plies ∙ ap (λ n. n + plies_next (next b.part t.kind)) has_read.plies ∙ ap (λ n. sum (map plies_of b.games) + n) done.4
             ∙ sym (ap (λ games. sum (map plies_of games)) one ∙ plies-snoc b.games g);
-        probed = in_either new (read p (given ++ t ∷ [])).begun agrees
+        probed = in_either new (read p (given ++ t ∷ [])).progress agrees
             (λ moves. elim (moves-snoc b.games g (subst (λ games. IsTrue (play_moves games)) one moves)) [
               | inl before ↦ probed_before (in_games b before)
               | inr here ↦ behind.probed here
@@ -211,7 +211,7 @@ module _ (p : Profile) (old : Converter) (given : List Token) (t : Token) (l : S
       → games_before (stops_refused us a c reason h wrote) ≡ b.games
   unfolding stops_refused
   none_before_refused us a c reason h wrote =
-      ap (λ (r : Read). r.begun.games) (read-refuses p given t us reason has_read.passes (subst (λ q. refusal q b.part t.kind ≡ Some reason) has_read.profile h))
+      ap (λ (r : Read). r.progress.games) (read-refuses p given t us reason has_read.passes (subst (λ q. refusal q b.part t.kind ≡ Some reason) has_read.profile h))
 
   pub count_at_refused : (us : List Token) (a c : Option (List ℕ)) (reason : Reason) (h : refusal old.reading.profile b.part t.kind ≡ Some reason) (wrote : Appends a c [])
       → Raises (Tries old.reading.profile b.part t.kind) old.reading.most_probes new.most_probes → CountsAtStop (stops_refused us a c reason h wrote) new.most_probes
@@ -220,7 +220,7 @@ module _ (p : Profile) (old : Converter) (given : List Token) (t : Token) (l : S
       let some = subst (λ q. refusal q b.part t.kind ≡ Some reason) has_read.profile h in
       record {
         tried = most_to_refused p given t us reason old.reading.most_probes new.most_probes has_read.tried has_read.passes some (raised tries);
-        probed = λ moves. probed_before (subst (λ (r : Read). IsTrue (has_played r.begun)) (read-refuses p given t us reason has_read.passes some) moves);
+        probed = λ moves. probed_before (subst (λ (r : Read). IsTrue (has_played r.progress)) (read-refuses p given t us reason has_read.passes some) moves);
       }
 
   -- a write failed
@@ -285,8 +285,8 @@ still_none-none (x ∷ xs) = refl
 pub took : (p : Profile) (old : Converter) (u : List ℕ) (given : List Token) (piece : List ℕ) (used : ℕ) (t : Token) (l : Standing) (new : Reading) (finished : Bool)
     (a c : Option (List ℕ)) (r : Result Accepted Stopped) → Stands p old u (first piece) given → AfterScan u (first piece) given piece l used (token t)
     → EndsAt t.kind t.at l.count → l.count ≡ old.lexer.count + used → new.profile ≡ old.reading.profile → old.reading.most_probes ≤ new.most_probes
-    → Answers old.reading (read p given).begun.part t.kind new r a c
-    → RaisesMost old.reading.profile (read p given).begun.part t.kind r old.reading.most_probes new.most_probes
+    → Answers old.reading (read p given).progress.part t.kind new r a c
+    → RaisesMost old.reading.profile (read p given).progress.part t.kind r old.reading.most_probes new.most_probes
     → AfterStep p u given piece (stepped l new old.games finished (stepped_of t.at r)) used (stepped_of t.at r) a c
 took p old u given piece used t l new finished a c (Ok accepted.More) stands scan ends count profile probes h tries = (
   t,
@@ -353,28 +353,28 @@ lexical-refusal p part f = refl
 pub stops_lexical : (p : Profile) (given : List Token) (f : LexFault) (o : Option (List ℕ)) → (read p given).fault ≡ None
     → Stops p given (given ++ refusal_token f ∷ []) o o (record { at = f.at; reason = Lexical f.reason })
 stops_lexical p given f o passes =
-    let some = lexical-refusal p (read p given).begun.part f in
+    let some = lexical-refusal p (read p given).progress.part f in
     refused (record { at = f.at; reason = Lexical f.reason }) (ap (λ (r : Read). r.fault) (read-refuses p given (refusal_token f) [] (Lexical f.reason) passes some))
     (gains_nothing p given (given ++ refusal_token f ∷ []) o o (due-refuses p given (refusal_token f) [] (Lexical f.reason) passes some) (Appends-nil o))
 
 pub none_before_lexical : (p : Profile) (given : List Token) (f : LexFault) (o : Option (List ℕ)) (passes : (read p given).fault ≡ None)
-    → games_before (stops_lexical p given f o passes) ≡ (read p given).begun.games
+    → games_before (stops_lexical p given f o passes) ≡ (read p given).progress.games
 unfolding stops_lexical
 none_before_lexical p given f o passes =
-    ap (λ (r : Read). r.begun.games) (read-refuses p given (refusal_token f) [] (Lexical f.reason) passes (lexical-refusal p (read p given).begun.part f))
+    ap (λ (r : Read). r.progress.games) (read-refuses p given (refusal_token f) [] (Lexical f.reason) passes (lexical-refusal p (read p given).progress.part f))
 
 -- a refusal of the lexer tries no pair
 pub count_at_lexical : (p : Profile) (old : Converter) (given : List Token) (f : LexFault) (o : Option (List ℕ)) (has_read : HasRead p old given)
     → CountsAtStop (stops_lexical p given f o has_read.passes) old.reading.most_probes
 unfolding stops_lexical
 count_at_lexical p old given f o has_read =
-    let b = (read p given).begun in
+    let b = (read p given).progress in
     let some = lexical-refusal p b.part f in
     record {
       tried = most_to_refused p given (refusal_token f) [] (Lexical f.reason) old.reading.most_probes old.reading.most_probes has_read.tried has_read.passes some
           (raises_none p b.part f.reason (Lexical f.reason) old.reading.most_probes some);
       probed = λ moves. has_read.probed
-          (subst (λ (r : Read). IsTrue (has_played r.begun)) (read-refuses p given (refusal_token f) [] (Lexical f.reason) has_read.passes some) moves);
+          (subst (λ (r : Read). IsTrue (has_played r.progress)) (read-refuses p given (refusal_token f) [] (Lexical f.reason) has_read.passes some) moves);
     }
 
 pub took_fault : (p : Profile) (old : Converter) (u : List ℕ) (given : List Token) (piece : List ℕ) (used : ℕ) (f : LexFault) (l : Standing) (new : Converter) (o : Option (List ℕ)) → 0 < length piece

@@ -40,7 +40,7 @@ but_last-snoc (q ∷ []) p = refl
 but_last-snoc (q ∷ r ∷ ps) p = ap (λ l. q ∷ l) (but_last-snoc (r ∷ ps) p)
 
 abbrev seen : List Pair → Option (List ℕ) → TagPairs
-seen held begun = record { held = held; begun = begun }
+seen held begun = record { held = held; pending_name = begun }
 
 -- a pair that has begun
 pub pairs_seen-snoc : (ps : List Pair) (p : Pair) → pairs_seen (ps ++ p ∷ []) true ≡ seen ps (Some p.name)
@@ -51,31 +51,31 @@ some_last p [] e = cc
 some_last p (q ∷ ps) e = some_last q ps e
 
 -- with no pair begun, all are whole
-pub whole-flag : (ps : List Pair) (b : Bool) (t : TagPairs) → pairs_seen ps b ≡ t → t.begun ≡ None → (IsTrue b → 0 < length ps) → b ≡ false
+pub whole-flag : (ps : List Pair) (b : Bool) (t : TagPairs) → pairs_seen ps b ≡ t → t.pending_name ≡ None → (IsTrue b → 0 < length ps) → b ≡ false
 whole-flag ps false t e none some = refl
 whole-flag [] true t e none some = absurd (omega (arith, some refl))
-whole-flag (p ∷ ps) true t e none some = absurd (some_last p ps (ap (λ s. s.begun) e ∙ none))
+whole-flag (p ∷ ps) true t e none some = absurd (some_last p ps (ap (λ s. s.pending_name) e ∙ none))
 
-pub whole-held : (ps : List Pair) (b : Bool) (t : TagPairs) → pairs_seen ps b ≡ t → t.begun ≡ None → (IsTrue b → 0 < length ps) → ps ≡ t.held
+pub whole-held : (ps : List Pair) (b : Bool) (t : TagPairs) → pairs_seen ps b ≡ t → t.pending_name ≡ None → (IsTrue b → 0 < length ps) → ps ≡ t.held
 whole-held ps false t e none some = ap (λ s. s.held) e
 whole-held [] true t e none some = absurd (omega (arith, some refl))
-whole-held (p ∷ ps) true t e none some = absurd (some_last p ps (ap (λ s. s.begun) e ∙ none))
+whole-held (p ∷ ps) true t e none some = absurd (some_last p ps (ap (λ s. s.pending_name) e ∙ none))
 
 -- the last pair is the one that has begun
-pub named-last : (front : List Pair) (p : Pair) (b : Bool) (t : TagPairs) (P : List ℕ → Type 0) → pairs_seen (front ++ p ∷ []) b ≡ t → IsSomeAnd t.begun P → P p.name
+pub named-last : (front : List Pair) (p : Pair) (b : Bool) (t : TagPairs) (P : List ℕ → Type 0) → pairs_seen (front ++ p ∷ []) b ≡ t → IsSomeAnd t.pending_name P → P p.name
 named-last front p true t P e h =
-    let Q : TagPairs → Type 0 = λ u. IsSomeAnd u.begun P in subst Q (sym (sym (pairs_seen-snoc front p) ∙ e)) h
-named-last front p false t P e h = let Q : TagPairs → Type 0 = λ u. IsSomeAnd u.begun P in absurd (subst Q (sym e) h)
+    let Q : TagPairs → Type 0 = λ u. IsSomeAnd u.pending_name P in subst Q (sym (sym (pairs_seen-snoc front p) ∙ e)) h
+named-last front p false t P e h = let Q : TagPairs → Type 0 = λ u. IsSomeAnd u.pending_name P in absurd (subst Q (sym e) h)
 
 -- its value comes, and it goes to its place
 pub completed : (front : List Pair) (p : Pair) (b : Bool) (t : TagPairs) (value : List ℕ) (more : List Pair) → pairs_seen (front ++ p ∷ []) b ≡ t
     → more ≡ insert_pair (record { name = p.name; value = value }) front
-    → IfSome t.begun (λ name. seen more None ≡ seen (insert_pair (record { name = name; value = value }) t.held) None)
+    → IfSome t.pending_name (λ name. seen more None ≡ seen (insert_pair (record { name = name; value = value }) t.held) None)
 completed front p true t value more e h =
-    let Q : TagPairs → Type 0 = λ u. IfSome u.begun (λ name. seen more None ≡ seen (insert_pair (record { name = name; value = value }) u.held) None) in
+    let Q : TagPairs → Type 0 = λ u. IfSome u.pending_name (λ name. seen more None ≡ seen (insert_pair (record { name = name; value = value }) u.held) None) in
     subst Q (sym (pairs_seen-snoc front p) ∙ e) (ap (λ ps. seen ps None) h)
 completed front p false t value more e h =
-    let Q : TagPairs → Type 0 = λ u. IfSome u.begun (λ name. seen more None ≡ seen (insert_pair (record { name = name; value = value }) u.held) None) in
+    let Q : TagPairs → Type 0 = λ u. IfSome u.pending_name (λ name. seen more None ≡ seen (insert_pair (record { name = name; value = value }) u.held) None) in
     subst Q e tt
 
 last_name-at : (ps : List Pair) (n : ℕ) (p : Pair) → suc n ≡ length ps → slice_get ps n ≡ Some p → last_name ps ≡ Some p.name
@@ -87,9 +87,9 @@ last_name-at (q ∷ r ∷ ps) (suc n) p most e = last_name-at (r ∷ ps) n p (om
 
 -- the name that has begun is the last pair's
 pub begun-last : (ps : List Pair) (b : Bool) (t : TagPairs) (p : Pair) → pairs_seen ps b ≡ t → (IsTrue b → 0 < length ps)
-    → slice_get ps (length ps - 1) ≡ Some p → IsSome t.begun → t.begun ≡ Some p.name
-begun-last ps true t p e some at begun = ap (λ s. s.begun) (sym e) ∙ last_name-at ps (length ps - 1) p (omega (arith, some refl)) at
+    → slice_get ps (length ps - 1) ≡ Some p → IsSome t.pending_name → t.pending_name ≡ Some p.name
+begun-last ps true t p e some at begun = ap (λ s. s.pending_name) (sym e) ∙ last_name-at ps (length ps - 1) p (omega (arith, some refl)) at
 begun-last ps false t p e some at begun =
-    let Q : TagPairs → Type 0 = λ u. IsSome u.begun in
-    let none : is_some (pairs_seen ps false).begun ≡ true = subst Q (sym e) begun in
+    let Q : TagPairs → Type 0 = λ u. IsSome u.pending_name in
+    let none : is_some (pairs_seen ps false).pending_name ≡ true = subst Q (sym e) begun in
     absurd (cc)

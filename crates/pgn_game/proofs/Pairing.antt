@@ -9,18 +9,18 @@ use Rattle.chess_rules.specs.declared.position.Parts.{Parts}
 use Rattle.pgn_game.specs.declared.judged.Judged.{Judged}
 use Rattle.pgn_game.specs.declared.judged.Judged.TheVariants.{Value}
 use Rattle.pgn_game.specs.declared.stage.Stage.{Stage}
-use Rattle.pgn_game.specs.declared.stage.Stage.TheVariants.{Between, AfterBracket, AfterName, AfterValue, AfterTags, InMovetext}
+use Rattle.pgn_game.specs.declared.stage.Stage.TheVariants.{Between, AfterLeftBracket, AfterName, AfterValue, AfterTags, InMovetext}
 use Rattle.pgn_game.specs.declared.accept.Accepted.TheVariants.{More}
 use Rattle.pgn_game.specs.Profile.{Profile, Missing, counts_as_unknown, takes_the_marker}
 use Rattle.pgn_game.specs.Pairs.{Pair, has_pair}
 use Rattle.pgn_game.specs.Game.{Item, Part}
-use Rattle.pgn_game.specs.Here.{start_of}
+use Rattle.pgn_game.specs.Levels.{start_of}
 use Rattle.pgn_game.specs.Holding.{TagPairs}
 use Rattle.pgn_game.specs.Text.{torn, torn_for}
-use Rattle.pgn_game.specs.Begun.{Next, going}
+use Rattle.pgn_game.specs.Progress.{Next, going}
 use Rattle.pgn_game.specs.Movetext.{Movetext, begins_at, begun_at}
 use Rattle.pgn_game.specs.Reading.{Reading, Agrees, plies_behind}
-use Rattle.pgn_game.specs.Judging.{Fits, ValueFits, after, start_told}
+use Rattle.pgn_game.specs.Judging.{Fits, ValueFits, after, fen_position}
 use Rattle.pgn_game.specs.Handling.{Goes, Puts, gain_to}
 use Rattle.pgn_game.proofs.Adding.{from_to}
 use Rattle.pgn_game.proofs.Judging.{begun_name, held_at, text_at}
@@ -35,7 +35,7 @@ nothing_torn p stage ps name items before = by_profile p.missing_result stage be
     by_profile : (missing : Missing) (s : Stage) → (s ≡ InMovetext → ⊥) → torn_for missing p.mode (record { stage = s; pairs = ps; name = name; items = items }) ≡ []
     by_profile takes_the_marker s before = refl
     by_profile counts_as_unknown Between before = refl
-    by_profile counts_as_unknown AfterBracket before = refl
+    by_profile counts_as_unknown AfterLeftBracket before = refl
     by_profile counts_as_unknown AfterName before = refl
     by_profile counts_as_unknown AfterValue before = refl
     by_profile counts_as_unknown AfterTags before = refl
@@ -80,38 +80,38 @@ steps old new j from stage tags start o n is well at begun goes before each =
 
     earlier : (s : Stage) (plies : ℕ) → (s ≡ Between → ⊥) → plies_behind s old.earlier_plies plies ≡ old.earlier_plies
     earlier Between plies out = absurd (out refl)
-    earlier AfterBracket plies out = refl
+    earlier AfterLeftBracket plies out = refl
     earlier AfterName plies out = refl
     earlier AfterValue plies out = refl
     earlier AfterTags plies out = refl
     earlier InMovetext plies out = refl
 
 -- where a game begins once the pair is held
-begins_with : (name value : List ℕ) (ps : List Pair) (start : Option Parts) (text : Movetext) → has_pair ps name ≡ false → start_told name value ≡ Ok start → text ≡ begins_at (start_of ps)
+begins_with : (name value : List ℕ) (ps : List Pair) (start : Option Parts) (text : Movetext) → has_pair ps name ≡ false → fen_position name value ≡ Ok start → text ≡ begins_at (start_of ps)
     → begun_at start text ≡ begins_at (start_of (with_pair name value ps))
 begins_with name value ps None text new told is = is ∙ ap begins_at (sym (start_kept name value ps told))
 begins_with name value ps (Some start) text new told is = ap begins_at (sym (start_found name value ps start new told))
 
 abbrev pub completed : List ℕ → List ℕ → List Pair → TagPairs
-completed name value ps = record { held = with_pair name value ps; begun = None }
+completed name value ps = record { held = with_pair name value ps; pending_name = None }
 
 pub puts_value : (tags levels : ℕ) (old new : Reading) (value : Bor (List ℕ)) (name : List ℕ) (start : Option Parts) (held : TagPairs) (o : Option (List ℕ)) (n : ℕ)
-    → Fits tags levels old (Value value) → old.layout.has_failed ≡ false → IfSome old.tags.begun (λ m. held ≡ completed m value.now old.tags.held)
-    → old.tags.begun ≡ Some name → start ≡ result_unwrap_or (start_told name value.now) None
+    → Fits tags levels old (Value value) → old.layout.has_failed ≡ false → IfSome old.tags.pending_name (λ m. held ≡ completed m value.now old.tags.held)
+    → old.tags.pending_name ≡ Some name → start ≡ result_unwrap_or (fen_position name value.now) None
     → new ≡ record old { stage = AfterValue; tags = held; text = begun_at start old.text } → Puts old (Value value) new (Ok More) (from_to o o n n)
 puts_value tags levels old new value name start held o n fits well completes begun starts is =
     steps old new (Value value) AfterName AfterValue held start o n is well fits.0 (λ e. absurd (cc)) (λ e. absurd (cc)) (λ e. absurd (cc)) (λ part agrees.
     let pairs = held_at old part AfterName agrees fits.0 in
     let text = text_at old part AfterName agrees fits.0 in
     let same = begun_name old.tags part name pairs.0 begun in
-    let has : ValueFits part.name value.now = subst (λ (t : TagPairs). IsSomeAnd t.begun (λ m. ValueFits m value.now)) pairs.0 fits.1 in
-    let told = told_start (start_told part.name value.now) start has.told (starts ∙ ap (λ (m : List ℕ). result_unwrap_or (start_told m value.now) None) same) in
+    let has : ValueFits part.name value.now = subst (λ (t : TagPairs). IsSomeAnd t.pending_name (λ m. ValueFits m value.now)) pairs.0 fits.1 in
+    let told = told_start (fen_position part.name value.now) start has.told (starts ∙ ap (λ (m : List ℕ). result_unwrap_or (fen_position m value.now) None) same) in
     record {
       to = record { stage = AfterValue; pairs = with_pair part.name value.now part.pairs; name = []; items = part.items };
       leads = refl;
       agrees = record {
         stage = refl;
-        pairs = subst (λ (t : TagPairs). IfSome t.begun (λ m. held ≡ completed m value.now t.held)) pairs.0 completes;
+        pairs = subst (λ (t : TagPairs). IfSome t.pending_name (λ m. held ≡ completed m value.now t.held)) pairs.0 completes;
         text = (text.0, begins_with part.name value.now part.pairs start old.text pairs.1 told text.1, text.2);
       };
     })

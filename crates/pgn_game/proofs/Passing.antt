@@ -10,14 +10,14 @@ use Rattle.pgn_lexer.specs.Tokens.{Kind}
 use Rattle.pgn_game.specs.declared.reason.Reason.{Reason}
 use Rattle.pgn_game.specs.declared.reason.Reason.TheVariants.{BadTagName, DuplicateTag, TooManyTags, BadResult, BadFen, TagLineTooLong, SetUpWithoutFen, ReducedFen, NotAMove, IllegalMove, AmbiguousMove, MoveLimit, NoMoveBefore, TooDeep, UnmatchedClose, MarkerInVariation, ResultDiffers}
 use Rattle.pgn_game.specs.declared.stage.Stage.{Stage}
-use Rattle.pgn_game.specs.declared.stage.Stage.TheVariants.{Between, AfterBracket, AfterName, AfterValue, AfterTags, InMovetext}
+use Rattle.pgn_game.specs.declared.stage.Stage.TheVariants.{Between, AfterLeftBracket, AfterName, AfterValue, AfterTags, InMovetext}
 use Rattle.pgn_game.specs.Profile.{Profile}
 use Rattle.pgn_game.specs.Pairs.{Pair, has_pair}
 use Rattle.pgn_game.specs.Chess.{move_of}
 use Rattle.pgn_game.specs.Game.{Item}
-use Rattle.pgn_game.specs.Here.{Levels, levels_of, depth, here, start_of}
+use Rattle.pgn_game.specs.Levels.{Levels, levels_of, depth, here, start_of}
 use Rattle.pgn_game.specs.FaultTable.{refusal, is_comment, is_end, in_name, is_result, is_score, is_number, is_no_form, is_no_move, is_many_moves, is_one_move, is_at_limit, fen_field, fen_field_of, lacks_fen, is_reduced, has_other_result}
-use Rattle.pgn_game.specs.Begun.{next, going}
+use Rattle.pgn_game.specs.Progress.{next, going}
 use Rattle.pgn_game.specs.Judging.{or_else}
 use Rattle.pgn_game.proofs.Runs.{at}
 
@@ -54,9 +54,9 @@ unfolding refusal
 comment_free p Between ps name items tokens.comment_open drops is = refl
 comment_free p Between ps name items (tokens.word s) drops is = refl
 comment_free p Between ps name items tokens.comment_close drops is = refl
-comment_free p AfterBracket ps name items tokens.comment_open drops is = pass (is_reduced p.mode && false) ReducedFen None (and_false (is_reduced p.mode)) refl
-comment_free p AfterBracket ps name items (tokens.word s) drops is = pass (is_reduced p.mode && false) ReducedFen None (and_false (is_reduced p.mode)) refl
-comment_free p AfterBracket ps name items tokens.comment_close drops is = pass (is_reduced p.mode && false) ReducedFen None (and_false (is_reduced p.mode)) refl
+comment_free p AfterLeftBracket ps name items tokens.comment_open drops is = pass (is_reduced p.mode && false) ReducedFen None (and_false (is_reduced p.mode)) refl
+comment_free p AfterLeftBracket ps name items (tokens.word s) drops is = pass (is_reduced p.mode && false) ReducedFen None (and_false (is_reduced p.mode)) refl
+comment_free p AfterLeftBracket ps name items tokens.comment_close drops is = pass (is_reduced p.mode && false) ReducedFen None (and_false (is_reduced p.mode)) refl
 comment_free p AfterName ps name items tokens.comment_open drops is = no_value_rows p name
 comment_free p AfterName ps name items (tokens.word s) drops is = no_value_rows p name
 comment_free p AfterName ps name items tokens.comment_close drops is = no_value_rows p name
@@ -82,9 +82,9 @@ pub comment_stays : (stage : Stage) (ps : List Pair) (name : List ℕ) (items : 
 comment_stays Between ps name items tokens.comment_open drops is = refl
 comment_stays Between ps name items (tokens.word s) drops is = refl
 comment_stays Between ps name items tokens.comment_close drops is = refl
-comment_stays AfterBracket ps name items tokens.comment_open drops is = refl
-comment_stays AfterBracket ps name items (tokens.word s) drops is = refl
-comment_stays AfterBracket ps name items tokens.comment_close drops is = refl
+comment_stays AfterLeftBracket ps name items tokens.comment_open drops is = refl
+comment_stays AfterLeftBracket ps name items (tokens.word s) drops is = refl
+comment_stays AfterLeftBracket ps name items tokens.comment_close drops is = refl
 comment_stays AfterName ps name items tokens.comment_open drops is = refl
 comment_stays AfterName ps name items (tokens.word s) drops is = refl
 comment_stays AfterName ps name items tokens.comment_close drops is = refl
@@ -121,7 +121,7 @@ unfolding refusal
 opening_between p ps name items = refl
 
 pub naming : (p : Profile) (ps : List Pair) (name : List ℕ) (items : List Item) (s : List ℕ)
-    → refusal p (at AfterBracket ps name items) (tokens.symbol s)
+    → refusal p (at AfterLeftBracket ps name items) (tokens.symbol s)
     ≡ or_else (not (list_all in_name s)) BadTagName
     (or_else (has_pair ps s) DuplicateTag
     (or_else (nat_lt 249 (length s)) TagLineTooLong
@@ -227,7 +227,7 @@ leads_between ps name items tokens.comment_close is bare = absurd (cc)
 -- what a variation and its end are refused for
 pub varying : (p : Profile) (ps : List Pair) (name : List ℕ) (items : List Item)
     → refusal p (at InMovetext ps name items) tokens.left_paren
-    ≡ or_else (not (levels_of items).present.holds_move) NoMoveBefore (or_else (nat_le p.depth (depth (levels_of items))) TooDeep None)
+    ≡ or_else (not (levels_of items).present.has_own_move) NoMoveBefore (or_else (nat_le p.depth (depth (levels_of items))) TooDeep None)
 unfolding refusal
 varying p ps name items = refl
 

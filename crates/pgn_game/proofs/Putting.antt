@@ -17,19 +17,19 @@ use Rattle.pgn_game.specs.declared.judged.Entry.TheVariants.{Number, Item as Put
 use Rattle.pgn_game.specs.declared.mode.Mode.{Mode}
 use Rattle.pgn_game.specs.declared.mode.Mode.TheVariants.{Full, Reduced}
 use Rattle.pgn_game.specs.declared.stage.Stage.{Stage}
-use Rattle.pgn_game.specs.declared.stage.Stage.TheVariants.{Between, AfterBracket, AfterName, AfterValue, AfterTags, InMovetext}
+use Rattle.pgn_game.specs.declared.stage.Stage.TheVariants.{Between, AfterLeftBracket, AfterName, AfterValue, AfterTags, InMovetext}
 use Rattle.pgn_game.specs.declared.accept.Accepted.TheVariants.{More}
 use Rattle.pgn_game.specs.declared.accept.Stopped.TheVariants.{Unwritten}
 use Rattle.pgn_game.specs.Profile.{Profile, Missing, counts_as_unknown}
 use Rattle.pgn_game.specs.Pairs.{Pair}
 use Rattle.pgn_game.specs.Game.{Item, Part}
-use Rattle.pgn_game.specs.Here.{start_of}
+use Rattle.pgn_game.specs.Levels.{start_of}
 use Rattle.pgn_game.specs.TagSection.{tag_section}
 use Rattle.pgn_game.specs.Text.{is_move, full_text, torn_at, torn_for}
-use Rattle.pgn_game.specs.Begun.{going}
+use Rattle.pgn_game.specs.Progress.{going}
 use Rattle.pgn_game.specs.Movetext.{HoldsItems}
 use Rattle.pgn_game.specs.Reading.{Reading, Agrees, HoldsPairs, HoldsText, has_move, plies_behind, whole_plies}
-use Rattle.pgn_game.specs.Judging.{IsOpen, IsProbed, after, is_open, item_of, with_items}
+use Rattle.pgn_game.specs.Judging.{IsOpen, IsProbed, after, may_have_movetext, item_of, with_items}
 use Rattle.pgn_game.specs.Putting.{Device, Adds}
 use Rattle.pgn_game.specs.Handling.{BeginsText, Goes, Keeps, Puts, gain_to, section_due}
 use Rattle.pgn_game.proofs.Appending.{front_after}
@@ -52,11 +52,11 @@ same_lines : (mode : Mode) (ps : List Pair) (items more : List Item) → items �
 same_lines mode ps items more none =
     ap (λ (n : ℕ). drop n (full_text mode (start_of ps) (items ++ more))) (sym (ap (λ (is : List Item). length (full_text mode (start_of ps) is)) none ∙ ap (length {A = ℕ}) (no_text mode (start_of ps))))
 
-gain_at : (mode : Mode) (stage : Stage) (ps : List Pair) (name : List ℕ) (items more : List Item) → IsTrue (is_open stage) → (stage ≡ AfterTags → items ≡ [])
+gain_at : (mode : Mode) (stage : Stage) (ps : List Pair) (name : List ℕ) (items more : List Item) → IsTrue (may_have_movetext stage) → (stage ≡ AfterTags → items ≡ [])
     → drop (length (torn_at stage mode (part_at stage ps name items))) (torn_at InMovetext mode (part_at InMovetext ps name (items ++ more)))
     ≡ section_due stage mode ps ++ lines_gain mode ps items more
 gain_at mode Between ps name items more at fresh = absurd (cc)
-gain_at mode AfterBracket ps name items more at fresh = absurd (cc)
+gain_at mode AfterLeftBracket ps name items more at fresh = absurd (cc)
 gain_at mode AfterName ps name items more at fresh = absurd (cc)
 gain_at mode AfterValue ps name items more at fresh = absurd (cc)
 gain_at mode AfterTags ps name items more at fresh = ap (λ l. tag_section mode (codes "*") ps ++ l) (same_lines mode ps items more (fresh refl))
@@ -67,8 +67,8 @@ gain_at mode InMovetext ps name items more at fresh =
     ap (λ n. drop n (section ++ new)) (length-append section old) ∙ drop-append-add section new (length old)
 
 -- the stage of a part is the reader's
-pub open_stage : (old : Reading) (part : Part) → IsOpen old part → IsTrue (is_open old.stage) → IsTrue (is_open part.stage)
-open_stage old part is at = subst (λ (s : Stage). IsTrue (is_open s)) is.stage at
+pub open_stage : (old : Reading) (part : Part) → IsOpen old part → IsTrue (may_have_movetext old.stage) → IsTrue (may_have_movetext part.stage)
+open_stage old part is at = subst (λ (s : Stage). IsTrue (may_have_movetext s)) is.stage at
 
 -- what is due of the section is the part's
 pub section_is : (old : Reading) (part : Part) → IsOpen old part → section_due old.stage old.profile.mode old.tags.held ≡ section_due part.stage old.profile.mode part.pairs
@@ -77,7 +77,7 @@ section_is old part is =
     ∙ ap (λ (ps : List Pair). section_due part.stage old.profile.mode ps) (ap (λ t. t.held) is.pairs)
 
 -- What items add: the tag section, where movetext begins, and what they add to the full lines.
-pub gain_is : (old : Reading) (part : Part) (more : List Item) → old.profile.missing_result ≡ counts_as_unknown → IsTrue (is_open old.stage) → IsOpen old part
+pub gain_is : (old : Reading) (part : Part) (more : List Item) → old.profile.missing_result ≡ counts_as_unknown → IsTrue (may_have_movetext old.stage) → IsOpen old part
     → section_due old.stage old.profile.mode old.tags.held ++ lines_gain old.profile.mode part.pairs part.items more ≡ gain_to old.profile part (going (with_items part more))
 gain_is old part more unknown at is =
     let p = old.profile in
@@ -91,12 +91,12 @@ pub begins_as : (old begun held : Reading) (d : Device) → held ≡ begun → B
 begins_as old begun held d same begins = subst (λ (r : Reading). BeginsText {A = Unit {0}} {E = WriteFault} old r (Ok tt) d) (sym same) begins
 
 -- no move was played outside the games before
-pub plies_before : (old : Reading) → IsTrue (is_open old.stage) → whole_plies old ≡ old.earlier_plies
+pub plies_before : (old : Reading) → IsTrue (may_have_movetext old.stage) → whole_plies old ≡ old.earlier_plies
 plies_before old at = by_stage old.stage at
   where
-    by_stage : (stage : Stage) → IsTrue (is_open stage) → plies_behind stage old.earlier_plies old.text.plies ≡ old.earlier_plies
+    by_stage : (stage : Stage) → IsTrue (may_have_movetext stage) → plies_behind stage old.earlier_plies old.text.plies ≡ old.earlier_plies
     by_stage Between at = absurd (cc)
-    by_stage AfterBracket at = refl
+    by_stage AfterLeftBracket at = refl
     by_stage AfterName at = refl
     by_stage AfterValue at = refl
     by_stage AfterTags at = refl
@@ -113,7 +113,7 @@ more_comes old new j d keeps stays well counted on =
     record { goes = on; keeps = keeps; stays = stays; going = well; finished = tt; counted = counted }
 
 -- a reader in movetext agrees with the part that it holds
-agrees_in_text : (r : Reading) (part : Part) → r.stage ≡ InMovetext → part.stage ≡ InMovetext → r.tags ≡ record { held = part.pairs; begun = None }
+agrees_in_text : (r : Reading) (part : Part) → r.stage ≡ InMovetext → part.stage ≡ InMovetext → r.tags ≡ record { held = part.pairs; pending_name = None }
     → HoldsItems r.profile.mode (start_of part.pairs) part.items r.text r.layout → (IsTrue (has_move part.items) → 0 < r.most_probes) → Agrees r part
 agrees_in_text r part stage same tags held probed =
     record {
@@ -135,7 +135,7 @@ pub record IsAfterItem (begun new : Reading) : Type 0 where
   pub probes : begun.most_probes ≤ new.most_probes
 
 -- the section was written, and then items or none
-goes_with : (old begun new : Reading) (part : Part) (more : List Item) (d : Device) → IsTrue (is_open old.stage) → IsOpen old part
+goes_with : (old begun new : Reading) (part : Part) (more : List Item) (d : Device) → IsTrue (may_have_movetext old.stage) → IsOpen old part
     → begun ≡ record old { stage = InMovetext } → IsAfterItem begun new → HoldsItems old.profile.mode (start_of part.pairs) (part.items ++ more) new.text new.layout
     → (IsTrue (has_move (part.items ++ more)) → 0 < new.most_probes) → Appends d.before d.after (gain_to old.profile part (going (with_items part more)))
     → Goes old part (going (with_items part more)) new More d
@@ -151,7 +151,7 @@ goes_with old begun new part more d at is begins next held probed appended =
     }
 
 -- A number was put, or a period: the section alone was written.
-pub puts_number : (old new : Reading) (d : Device) → IsTrue (is_open old.stage) → old.layout.has_failed ≡ false
+pub puts_number : (old new : Reading) (d : Device) → IsTrue (may_have_movetext old.stage) → old.layout.has_failed ≡ false
     → BeginsText {A = Unit} {E = WriteFault} old new (Ok tt) d → Puts old (InText Number) new (Ok More) d
 puts_number old new d at well begins =
     more_comes old new (InText Number) d
@@ -199,7 +199,7 @@ begun_held : (old begun : Reading) (part : Part) → IsOpen old part → begun �
 begun_held old begun part is begins = subst (λ (r : Reading). HoldsItems r.profile.mode (start_of part.pairs) part.items r.text r.layout) (sym begins) is.held
 
 -- The section was written, and then the item put.
-pub puts_item : (old begun new : Reading) (i : CodeItem) (a b c : Option (List ℕ)) (n m k : ℕ) → IsTrue (is_open old.stage)
+pub puts_item : (old begun new : Reading) (i : CodeItem) (a b c : Option (List ℕ)) (n m k : ℕ) → IsTrue (may_have_movetext old.stage)
     → IsProbed (Put i) old.most_probes → BeginsText {A = Unit} {E = WriteFault} old begun (Ok tt) (from_to a b n m) → IsAfterItem begun new
     → Adds {A = Unit} {E = WriteFault} begun.profile.mode (item_of i) begun.text begun.layout new.text new.layout (Ok tt) (from_to b c m k)
     → Puts old (InText (Put i)) new (Ok More) (from_to a c n k)
@@ -217,7 +217,7 @@ puts_item old begun new i a b c n m k at put begins next adds =
     (subst (Appends a c) (ap (λ (p : Profile). section_due old.stage old.profile.mode old.tags.held ++ lines_gain p.mode part.pairs part.items (item_of i ∷ [])) begins.profile
     ∙ gain_is old part (item_of i ∷ []) begins.unknown at is) (Appends-trans a b c _ _ begins.text added.1)))
 
-pub fails_item : (old begun new : Reading) (i : CodeItem) (f : WriteFault) (a b c : Option (List ℕ)) (n m k : ℕ) → IsTrue (is_open old.stage)
+pub fails_item : (old begun new : Reading) (i : CodeItem) (f : WriteFault) (a b c : Option (List ℕ)) (n m k : ℕ) → IsTrue (may_have_movetext old.stage)
     → BeginsText {A = Unit} {E = WriteFault} old begun (Ok tt) (from_to a b n m) → IsAfterItem begun new
     → Adds {A = Unit} begun.profile.mode (item_of i) begun.text begun.layout new.text new.layout (Err f) (from_to b c m k)
     → Puts old (InText (Put i)) new (Err Unwritten) (from_to a c n k)

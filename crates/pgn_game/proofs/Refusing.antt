@@ -11,13 +11,13 @@ use Rattle.pgn_lexer.specs.declared.token.TokenKind.TheVariants as variants
 use Rattle.pgn_game.specs.declared.reason.Reason.{Reason}
 use Rattle.pgn_game.specs.declared.reason.Reason.TheVariants.{ExpectedName, BadTagName, DuplicateTag, TooManyTags, ExpectedValue, BadResult, BadFen, TagLineTooLong, ExpectedBracket, SetUpWithoutFen, ReducedFen, TagInMovetext, UnexpectedEnd}
 use Rattle.pgn_game.specs.declared.stage.Stage.{Stage}
-use Rattle.pgn_game.specs.declared.stage.Stage.TheVariants.{Between, AfterBracket, AfterName, AfterValue, AfterTags, InMovetext}
+use Rattle.pgn_game.specs.declared.stage.Stage.TheVariants.{Between, AfterLeftBracket, AfterName, AfterValue, AfterTags, InMovetext}
 use Rattle.pgn_game.specs.Profile.{Profile}
 use Rattle.pgn_game.specs.Pairs.{has_pair, insert_pair}
 use Rattle.pgn_game.specs.Game.{Part, no_part}
 use Rattle.pgn_game.specs.FaultTable.{refusal, is_at, is_comment, is_left_bracket, is_end, in_name, is_result, is_reduced, lacks_fen, fen_field}
-use Rattle.pgn_game.specs.Begun.{going, next, at_stage, in_text}
-use Rattle.pgn_game.specs.Judging.{is_open, judged, outcome_of, or_else, text_refusal}
+use Rattle.pgn_game.specs.Progress.{going, next, at_stage, in_text}
+use Rattle.pgn_game.specs.Judging.{may_have_movetext, judged, outcome_of, or_else, text_refusal}
 use Rattle.pgn_game.specs.Handling.{begins}
 use Rattle.pgn_game.proofs.Passing.{after_tags, comment_free, comment_stays, drops_comments, is_textual, leads_after_tags}
 
@@ -41,7 +41,7 @@ comment_passes p part k stage at out is =
     )
 
 expected_name_at : (p : Profile) (part : Part) (k : TokenKind) → false ≡ is_comment (kind_of k) → ((text : Bor (List ℕ)) → k ≡ variants.Symbol text → ⊥)
-    → refusal p (at_stage AfterBracket part) (kind_of k) ≡ Some ExpectedName
+    → refusal p (at_stage AfterLeftBracket part) (kind_of k) ≡ Some ExpectedName
 unfolding refusal
 expected_name_at p part variants.LeftBracket is other = refl
 expected_name_at p part variants.RightBracket is other = refl
@@ -57,9 +57,9 @@ expected_name_at p part (variants.Word t) is other = absurd (cc)
 expected_name_at p part variants.CommentClose is other = absurd (cc)
 expected_name_at p part variants.End is other = refl
 
-pub expected_name : (p : Profile) (part : Part) (k : TokenKind) → part.stage ≡ AfterBracket → false ≡ is_comment (kind_of k) → ((text : Bor (List ℕ)) → k ≡ variants.Symbol text → ⊥)
+pub expected_name : (p : Profile) (part : Part) (k : TokenKind) → part.stage ≡ AfterLeftBracket → false ≡ is_comment (kind_of k) → ((text : Bor (List ℕ)) → k ≡ variants.Symbol text → ⊥)
     → refusal p part (kind_of k) ≡ Some ExpectedName
-expected_name p part k at is other = at_the_stage (λ q. refusal p q (kind_of k) ≡ Some ExpectedName) part AfterBracket at (expected_name_at p part k is other)
+expected_name p part k at is other = at_the_stage (λ q. refusal p q (kind_of k) ≡ Some ExpectedName) part AfterLeftBracket at (expected_name_at p part k is other)
 
 expected_value_at : (p : Profile) (part : Part) (k : TokenKind) → false ≡ is_comment (kind_of k) → ((text : Bor (List ℕ)) → k ≡ variants.Str text → ⊥)
     → refusal p (at_stage AfterName part) (kind_of k) ≡ Some ExpectedValue
@@ -104,7 +104,7 @@ pub expected_bracket : (p : Profile) (part : Part) (k : TokenKind) → part.stag
 expected_bracket p part k at is other = at_the_stage (λ q. refusal p q (kind_of k) ≡ Some ExpectedBracket) part AfterValue at (expected_bracket_at p part k is other)
 
 -- what a name is refused for, each test before the next
-pub name_refusal : (p : Profile) (part : Part) (name : List ℕ) → part.stage ≡ AfterBracket
+pub name_refusal : (p : Profile) (part : Part) (name : List ℕ) → part.stage ≡ AfterLeftBracket
     → refusal p part (symbol name)
     ≡ or_else (not (list_all in_name name)) BadTagName
     (or_else (has_pair part.pairs name) DuplicateTag (or_else (nat_lt 249 (length name)) TagLineTooLong
@@ -114,10 +114,10 @@ name_refusal p part name at =
     at_the_stage (λ q. refusal p q (symbol name)
     ≡ or_else (not (list_all in_name name)) BadTagName
     (or_else (has_pair q.pairs name) DuplicateTag (or_else (nat_lt 249 (length name)) TagLineTooLong
-    (or_else (is_reduced p.mode && bytes_eq name (codes "FEN")) ReducedFen None)))) part AfterBracket at refl
+    (or_else (is_reduced p.mode && bytes_eq name (codes "FEN")) ReducedFen None)))) part AfterLeftBracket at refl
 
-pub name_next : (part : Part) (name : List ℕ) → part.stage ≡ AfterBracket → next part (symbol name) ≡ going (record { stage = AfterName; pairs = part.pairs; name = name; items = part.items })
-name_next part name at = at_the_stage (λ q. next q (symbol name) ≡ going (record { stage = AfterName; pairs = q.pairs; name = name; items = q.items })) part AfterBracket at refl
+pub name_next : (part : Part) (name : List ℕ) → part.stage ≡ AfterLeftBracket → next part (symbol name) ≡ going (record { stage = AfterName; pairs = part.pairs; name = name; items = part.items })
+name_next part name at = at_the_stage (λ q. next q (symbol name) ≡ going (record { stage = AfterName; pairs = q.pairs; name = name; items = q.items })) part AfterLeftBracket at refl
 
 -- what a value is refused for
 pub value_refusal : (p : Profile) (part : Part) (value : List ℕ) → part.stage ≡ AfterName
@@ -150,8 +150,8 @@ pub open_refusal : (p : Profile) (part : Part) → part.stage ≡ AfterTags
 unfolding refusal
 open_refusal p part at = at_the_stage (λ q. refusal p q left_bracket ≡ or_else (nat_le p.tags (length q.pairs)) TooManyTags None) part AfterTags at refl
 
-pub open_next : (part : Part) → part.stage ≡ AfterTags → next part left_bracket ≡ going (at_stage AfterBracket part)
-open_next part at = at_the_stage (λ q. next q left_bracket ≡ going (at_stage AfterBracket q)) part AfterTags at refl
+pub open_next : (part : Part) → part.stage ≡ AfterTags → next part left_bracket ≡ going (at_stage AfterLeftBracket part)
+open_next part at = at_the_stage (λ q. next q left_bracket ≡ going (at_stage AfterLeftBracket q)) part AfterTags at refl
 
 -- a token that is neither a `[` nor the end may be one of movetext
 textual : (k : TokenKind) → is_left_bracket (kind_of k) ≡ false → is_end (kind_of k) ≡ false → IsTrue (is_textual (kind_of k))
@@ -186,11 +186,11 @@ text_in_movetext p part (variants.Word t) bracket over = refl
 text_in_movetext p part variants.CommentClose bracket over = refl
 text_in_movetext p part variants.End bracket over = absurd (cc)
 
-text_refusal_at : (p : Profile) (part : Part) (stage : Stage) (k : TokenKind) → IsTrue (is_open stage) → is_left_bracket (kind_of k) ≡ false
+text_refusal_at : (p : Profile) (part : Part) (stage : Stage) (k : TokenKind) → IsTrue (may_have_movetext stage) → is_left_bracket (kind_of k) ≡ false
     → is_end (kind_of k) ≡ false → (is_at AfterTags (at_stage stage part) && lacks_fen part.pairs) ≡ false
     → refusal p (at_stage stage part) (kind_of k) ≡ text_refusal p part (kind_of k)
 text_refusal_at p part Between k at bracket over free = absurd (cc)
-text_refusal_at p part AfterBracket k at bracket over free = absurd (cc)
+text_refusal_at p part AfterLeftBracket k at bracket over free = absurd (cc)
 text_refusal_at p part AfterName k at bracket over free = absurd (cc)
 text_refusal_at p part AfterValue k at bracket over free = absurd (cc)
 text_refusal_at p part AfterTags k at bracket over free =
@@ -200,15 +200,15 @@ text_refusal_at p part InMovetext k at bracket over free = text_in_movetext p pa
 
 -- a token of movetext, from a part at its stage
 pub record IsMovetext (part : Part) (k : TokenKind) : Type 0 where
-  pub stage : IsTrue (is_open part.stage)
+  pub stage : IsTrue (may_have_movetext part.stage)
   pub bracket : is_left_bracket (kind_of k) ≡ false
   pub over : is_end (kind_of k) ≡ false
   pub set_up : (is_at AfterTags part && lacks_fen part.pairs) ≡ false
 
-text_next_at : (part : Part) (stage : Stage) (k : TokenKind) → IsTrue (is_open stage) → is_left_bracket (kind_of k) ≡ false
+text_next_at : (part : Part) (stage : Stage) (k : TokenKind) → IsTrue (may_have_movetext stage) → is_left_bracket (kind_of k) ≡ false
     → is_end (kind_of k) ≡ false → next (at_stage stage part) (kind_of k) ≡ in_text part (kind_of k)
 text_next_at part Between k at bracket over = absurd (cc)
-text_next_at part AfterBracket k at bracket over = absurd (cc)
+text_next_at part AfterLeftBracket k at bracket over = absurd (cc)
 text_next_at part AfterName k at bracket over = absurd (cc)
 text_next_at part AfterValue k at bracket over = absurd (cc)
 text_next_at part AfterTags k at bracket over = leads_after_tags part.pairs part.name part.items (kind_of k) (textual k bracket over)

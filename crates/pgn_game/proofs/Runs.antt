@@ -6,12 +6,12 @@ use Rattle.pgn_lexer.specs.Tokens.{Kind, Token}
 use Rattle.pgn_lexer.specs.Laws.{IsLast, RisesTo}
 use Rattle.pgn_game.specs.declared.reason.Reason.{Reason}
 use Rattle.pgn_game.specs.declared.stage.Stage.{Stage}
-use Rattle.pgn_game.specs.declared.stage.Stage.TheVariants.{Between, AfterBracket, AfterName, AfterValue, AfterTags, InMovetext}
+use Rattle.pgn_game.specs.declared.stage.Stage.TheVariants.{Between, AfterLeftBracket, AfterName, AfterValue, AfterTags, InMovetext}
 use Rattle.pgn_game.specs.Profile.{Profile}
 use Rattle.pgn_game.specs.Pairs.{Pair}
 use Rattle.pgn_game.specs.Game.{Item, Game, Part, no_part}
 use Rattle.pgn_game.specs.FaultTable.{refusal, is_end}
-use Rattle.pgn_game.specs.Begun.{Next, going, whole, next, Begun, nothing_begun, begun_with, begun_after, Read, read_from, read}
+use Rattle.pgn_game.specs.Progress.{Next, going, whole, next, Progress, no_progress, progress_with, progress_after, Read, read_from, read}
 
 abbrev pub at : Stage → List Pair → List ℕ → List Item → Part
 at stage ps name items = record { stage = stage; pairs = ps; name = name; items = items }
@@ -28,33 +28,33 @@ abbrev pub kinds : List Token → List Kind
 kinds ts = map (λ t. t.kind) ts
 
 -- reading goes on where a token is not refused
-abbrev after_test : Profile → Begun → Token → List Token → Option Reason → Read
-after_test p b t ts (Some reason) = record { begun = b; fault = Some (record { at = t.at; reason = reason }) }
-after_test p b t ts None = read_from p (begun_after b t) ts
+abbrev after_test : Profile → Progress → Token → List Token → Option Reason → Read
+after_test p b t ts (Some reason) = record { progress = b; fault = Some (record { at = t.at; reason = reason }) }
+after_test p b t ts None = read_from p (progress_after b t) ts
 
-read_from-test : (p : Profile) (b : Begun) (t : Token) (ts : List Token) → read_from p b (t ∷ ts) ≡ after_test p b t ts (refusal p b.part t.kind)
+read_from-test : (p : Profile) (b : Progress) (t : Token) (ts : List Token) → read_from p b (t ∷ ts) ≡ after_test p b t ts (refusal p b.part t.kind)
 read_from-test p b t ts =
     elim (refusal p b.part t.kind)
-    as (λ o. elim o [ Some reason ↦ after_test p b t ts (Some reason) | None ↦ read_from p (begun_after b t) ts ] ≡ after_test p b t ts o) [
+    as (λ o. elim o [ Some reason ↦ after_test p b t ts (Some reason) | None ↦ read_from p (progress_after b t) ts ] ≡ after_test p b t ts o) [
       | Some reason ↦ refl
       | None ↦ refl
     ]
 
-passed : (p : Profile) (b : Begun) (t : Token) (ts : List Token) (o : Option Reason) → (after_test p b t ts o).fault ≡ None → o ≡ None
+passed : (p : Profile) (b : Progress) (t : Token) (ts : List Token) (o : Option Reason) → (after_test p b t ts o).fault ≡ None → o ≡ None
 passed p b t ts (Some reason) e = absurd (cc)
 passed p b t ts None e = refl
 
-pub first_passes : (p : Profile) (b : Begun) (t : Token) (ts : List Token) → (read_from p b (t ∷ ts)).fault ≡ None → refusal p b.part t.kind ≡ None
+pub first_passes : (p : Profile) (b : Progress) (t : Token) (ts : List Token) → (read_from p b (t ∷ ts)).fault ≡ None → refusal p b.part t.kind ≡ None
 first_passes p b t ts e = passed p b t ts (refusal p b.part t.kind) (ap (λ (r : Read). r.fault) (sym (read_from-test p b t ts)) ∙ e)
 
-pub goes_on : (p : Profile) (b : Begun) (t : Token) (ts : List Token) → refusal p b.part t.kind ≡ None → read_from p b (t ∷ ts) ≡ read_from p (begun_after b t) ts
+pub goes_on : (p : Profile) (b : Progress) (t : Token) (ts : List Token) → refusal p b.part t.kind ≡ None → read_from p b (t ∷ ts) ≡ read_from p (progress_after b t) ts
 goes_on p b t ts none = read_from-test p b t ts ∙ ap (after_test p b t ts) none
 
 -- From reading to the relation.
 
 -- what was read finished these games, behind those before
-record Read_on (p : Profile) (b : Begun) (ts : List Token) (gs : List Game) : Type 0 where
-  same : (read_from p b ts).begun.games ≡ b.games ++ gs
+record Read_on (p : Profile) (b : Progress) (ts : List Token) (gs : List Game) : Type 0 where
+  same : (read_from p b ts).progress.games ≡ b.games ++ gs
   runs : Runs p b.part (kinds ts) gs
 
 not_end : (k : Kind) → (IsLast k → ⊥) → is_end k ≡ false
@@ -63,13 +63,13 @@ not_end _ h = refl
 
 end_leads : (stage : Stage) (ps : List Pair) (name : List ℕ) (items : List Item) → (to : Part) × (next (at stage ps name items) tokens.end ≡ going to)
 end_leads Between ps name items = (at Between ps name items, refl)
-end_leads AfterBracket ps name items = (at AfterBracket ps name items, refl)
+end_leads AfterLeftBracket ps name items = (at AfterLeftBracket ps name items, refl)
 end_leads AfterName ps name items = (at AfterName ps name items, refl)
 end_leads AfterValue ps name items = (at AfterValue ps name items, refl)
 end_leads AfterTags ps name items = (at InMovetext ps name (items ++ []), refl)
 end_leads InMovetext ps name items = (at InMovetext ps name (items ++ []), refl)
 
-at_end : (p : Profile) (b : Begun) (place : ℕ) (k : Kind) → IsLast k → (read_from p b (record { at = place; kind = k } ∷ [])).fault ≡ None
+at_end : (p : Profile) (b : Progress) (place : ℕ) (k : Kind) → IsLast k → (read_from p b (record { at = place; kind = k } ∷ [])).fault ≡ None
     → Read_on p b (record { at = place; kind = k } ∷ []) []
 unfolding refusal
 at_end p b place (tokens.refused r) last e = absurd (cc)
@@ -78,17 +78,17 @@ at_end p b place tokens.end last e =
     let free = first_passes p b t [] e in
     let leads = end_leads b.part.stage b.part.pairs b.part.name b.part.items in
     record {
-      same = ap (λ (r : Read). r.begun.games) (goes_on p b t [] free) ∙ ap (λ (n : Next). (begun_with b.games n).games) leads.1 ∙ sym (append-nil b.games);
+      same = ap (λ (r : Read). r.progress.games) (goes_on p b t [] free) ∙ ap (λ (n : Next). (progress_with b.games n).games) leads.1 ∙ sym (append-nil b.games);
       runs = ends b.part free;
     }
 at_end p b place _ last e = absurd last
 
-one_more : (p : Profile) (b : Begun) (t : Token) (ts : List Token) → refusal p b.part t.kind ≡ None → is_end t.kind ≡ false → (n : Next) → next b.part t.kind ≡ n
-    → (gs : List Game) → Read_on p (begun_with b.games n) ts gs → (all : List Game) × Read_on p b (t ∷ ts) all
+one_more : (p : Profile) (b : Progress) (t : Token) (ts : List Token) → refusal p b.part t.kind ≡ None → is_end t.kind ≡ false → (n : Next) → next b.part t.kind ≡ n
+    → (gs : List Game) → Read_on p (progress_with b.games n) ts gs → (all : List Game) × Read_on p b (t ∷ ts) all
 one_more p b t ts free end (going to) leads gs rest = (
   gs,
   record {
-    same = ap (λ (r : Read). r.begun.games) (goes_on p b t ts free) ∙ ap (λ (n : Next). (read_from p (begun_with b.games n) ts).begun.games) leads ∙ rest.same;
+    same = ap (λ (r : Read). r.progress.games) (goes_on p b t ts free) ∙ ap (λ (n : Next). (read_from p (progress_with b.games n) ts).progress.games) leads ∙ rest.same;
     runs = goes b.part to t.kind (kinds ts) gs free end leads rest.runs;
   },
 )
@@ -96,36 +96,36 @@ one_more p b t ts free end (whole g) leads gs rest = (
   g ∷ gs,
   record {
     same =
-        ap (λ (r : Read). r.begun.games) (goes_on p b t ts free) ∙ ap (λ (n : Next). (read_from p (begun_with b.games n) ts).begun.games) leads ∙ rest.same
+        ap (λ (r : Read). r.progress.games) (goes_on p b t ts free) ∙ ap (λ (n : Next). (read_from p (progress_with b.games n) ts).progress.games) leads ∙ rest.same
         ∙ append_assoc b.games (g ∷ []) gs;
     runs = finishes b.part t.kind g (kinds ts) gs free end leads rest.runs;
   },
 )
 
-from_read : (p : Profile) (b : Begun) (ts : List Token) → RisesTo ts → (read_from p b ts).fault ≡ None → (gs : List Game) × Read_on p b ts gs
+from_read : (p : Profile) (b : Progress) (ts : List Token) → RisesTo ts → (read_from p b ts).fault ≡ None → (gs : List Game) × Read_on p b ts gs
 from_read p b [] rises e = absurd rises
 from_read p b (t ∷ []) rises e = ([], at_end p b t.at t.kind rises e)
 from_read p b (t ∷ u ∷ us) rises e =
     let free = first_passes p b t (u ∷ us) e in
     let here = goes_on p b t (u ∷ us) free in
-    let rest = from_read p (begun_after b t) (u ∷ us) rises.2 (ap (λ (r : Read). r.fault) (sym here) ∙ e) in
+    let rest = from_read p (progress_after b t) (u ∷ us) rises.2 (ap (λ (r : Read). r.fault) (sym here) ∙ e) in
     one_more p b t (u ∷ us) free (not_end t.kind rises.0) (next b.part t.kind) refl rest.0 rest.1
 
 -- From the relation to reading.
-record Read_well (p : Profile) (b : Begun) (ts : List Token) (gs : List Game) : Type 0 where
+record Read_well (p : Profile) (b : Progress) (ts : List Token) (gs : List Game) : Type 0 where
   fault : (read_from p b ts).fault ≡ None
-  games : (read_from p b ts).begun.games ≡ b.games ++ gs
+  games : (read_from p b ts).progress.games ≡ b.games ++ gs
 
-abbrev behind : List Game → Part → Begun
+abbrev behind : List Game → Part → Progress
 behind games part = record { games = games; part = part }
 
-read_one : (p : Profile) (b c : Begun) (t : Token) (ts : List Token) (gs all : List Game) → refusal p b.part t.kind ≡ None → begun_after b t ≡ c → c.games ++ gs ≡ b.games ++ all
+read_one : (p : Profile) (b c : Progress) (t : Token) (ts : List Token) (gs all : List Game) → refusal p b.part t.kind ≡ None → progress_after b t ≡ c → c.games ++ gs ≡ b.games ++ all
     → Read_well p c ts gs → Read_well p b (t ∷ ts) all
 read_one p b c t ts gs all free leads same h =
-    let here : read_from p b (t ∷ ts) ≡ read_from p c ts = goes_on p b t ts free ∙ ap (λ (x : Begun). read_from p x ts) leads in
+    let here : read_from p b (t ∷ ts) ≡ read_from p c ts = goes_on p b t ts free ∙ ap (λ (x : Progress). read_from p x ts) leads in
     record {
       fault = ap (λ (r : Read). r.fault) here ∙ h.fault;
-      games = ap (λ (r : Read). r.begun.games) here ∙ h.games ∙ same;
+      games = ap (λ (r : Read). r.progress.games) here ∙ h.games ∙ same;
     }
 
 to_read : (p : Profile) (part : Part) (ks : List Kind) (gs : List Game) → Runs p part ks gs → (ts : List Token) (before : List Game) → kinds ts ≡ ks
@@ -136,28 +136,28 @@ to_read p _ _ _ (ends part free) (t ∷ []) before e =
     let kind : t.kind ≡ tokens.end = cc in
     let leads = end_leads part.stage part.pairs part.name part.items in
     read_one p (behind before part) (behind before leads.0) t [] [] [] (ap (refusal p part) kind ∙ free)
-    (ap (λ (k : Kind). begun_with before (next part k)) kind ∙ ap (begun_with before) leads.1) refl
+    (ap (λ (k : Kind). progress_with before (next part k)) kind ∙ ap (progress_with before) leads.1) refl
     (record { fault = refl; games = sym (append-nil before) })
 to_read p _ _ _ (goes part to k ks gs free end leads runs) [] before e = absurd (cc)
 to_read p _ _ _ (goes part to k ks gs free end leads runs) (t ∷ ts) before e =
     let kind : t.kind ≡ k = cc in
     let rest : kinds ts ≡ ks = cc in
     read_one p (behind before part) (behind before to) t ts gs gs (ap (refusal p part) kind ∙ free)
-    (ap (λ (j : Kind). begun_with before (next part j)) kind ∙ ap (begun_with before) leads) refl
+    (ap (λ (j : Kind). progress_with before (next part j)) kind ∙ ap (progress_with before) leads) refl
     (to_read p to ks gs runs ts before rest)
 to_read p _ _ _ (finishes part k g ks gs free end leads runs) [] before e = absurd (cc)
 to_read p _ _ _ (finishes part k g ks gs free end leads runs) (t ∷ ts) before e =
     let kind : t.kind ≡ k = cc in
     let rest : kinds ts ≡ ks = cc in
     read_one p (behind before part) (behind (before ++ g ∷ []) no_part) t ts gs (g ∷ gs) (ap (refusal p part) kind ∙ free)
-    (ap (λ (j : Kind). begun_with before (next part j)) kind ∙ ap (begun_with before) leads) (append_assoc before (g ∷ []) gs)
+    (ap (λ (j : Kind). progress_with before (next part j)) kind ∙ ap (progress_with before) leads) (append_assoc before (g ∷ []) gs)
     (to_read p no_part ks gs runs ts (before ++ g ∷ []) rest)
 
 -- A list of tokens that ends with the one end, or with a refusal, is read to its end exactly if it
 -- runs.
 pub runs_as_read : (p : Profile) (ts : List Token) (gs : List Game) → RisesTo ts
-    → Runs p no_part (kinds ts) gs ↔ (((read p ts).fault ≡ None) × ((read p ts).begun.games ≡ gs))
+    → Runs p no_part (kinds ts) gs ↔ (((read p ts).fault ≡ None) × ((read p ts).progress.games ≡ gs))
 runs_as_read p ts gs rises = (
   λ runs. let h = to_read p no_part (kinds ts) gs runs ts [] refl in (h.fault, h.games),
-  λ h. let r = from_read p nothing_begun ts rises h.0 in subst (Runs p no_part (kinds ts)) (sym r.1.same ∙ h.1) r.1.runs,
+  λ h. let r = from_read p no_progress ts rises h.0 in subst (Runs p no_part (kinds ts)) (sym r.1.same ∙ h.1) r.1.runs,
 )

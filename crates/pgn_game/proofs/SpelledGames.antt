@@ -10,7 +10,7 @@ use Rattle.pgn_lexer.specs.Tokens.{Kind}
 use Rattle.pgn_lexer.specs.Written.{written}
 use Rattle.pgn_game.specs.FaultTable.{is_comment, is_score, is_result, marker_of}
 use Rattle.pgn_game.specs.Game.{Item, Game}
-use Rattle.pgn_game.specs.Here.{Level, start_of}
+use Rattle.pgn_game.specs.Levels.{Level, start_of}
 use Rattle.pgn_game.specs.Pairs.{Pair, value_of}
 use Rattle.pgn_game.specs.Profile.{Profile}
 use Rattle.pgn_game.specs.Spells.{AreDropped, SpellsPair, pair, SpellsPairs, no_pair, next_pair, KeepsTags, by_name, IsSetUp, SpellsText, no_more, token, move, variation, number, period, glyph, comment_open, word, comment_close, nothing_played, BeginsBare, IsResult, SpellsGame}

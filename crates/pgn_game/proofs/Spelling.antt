@@ -13,15 +13,15 @@ use Rattle.pgn_game.specs.declared.mode.Mode.{Mode}
 use Rattle.pgn_game.specs.declared.mode.Mode.TheVariants.{Full, Reduced}
 use Rattle.pgn_game.specs.declared.reason.Reason.TheVariants.{BadTagName, DuplicateTag, TooManyTags, BadResult, BadFen, TagLineTooLong, SetUpWithoutFen, ReducedFen, NoMoveBefore, TooDeep, UnmatchedClose, MarkerInVariation, ResultDiffers}
 use Rattle.pgn_game.specs.declared.stage.Stage.{Stage}
-use Rattle.pgn_game.specs.declared.stage.Stage.TheVariants.{Between, AfterBracket, AfterName, AfterValue, AfterTags, InMovetext}
+use Rattle.pgn_game.specs.declared.stage.Stage.TheVariants.{Between, AfterLeftBracket, AfterName, AfterValue, AfterTags, InMovetext}
 use Rattle.pgn_game.specs.Profile.{Profile}
 use Rattle.pgn_game.specs.Pairs.{Pair, value_of, has_pair, insert_pair}
 use Rattle.pgn_game.specs.Chess.{move_of}
 use Rattle.pgn_game.specs.Game as games
 use Rattle.pgn_game.specs.Game.{Item, Game, Part, no_part}
-use Rattle.pgn_game.specs.Here.{Level, Levels, levels_of, levels_after, depth, here, replayed, without_last, start_of}
+use Rattle.pgn_game.specs.Levels.{Level, Levels, levels_of, levels_after, depth, here, replayed, without_last, start_of}
 use Rattle.pgn_game.specs.FaultTable.{refusal, is_comment, in_name, is_result, is_score, is_number, is_end, is_at_limit, is_reduced, fen_field, fen_field_of, field_of, marker_of, lacks_fen, has_other_result}
-use Rattle.pgn_game.specs.Begun.{next, going, whole}
+use Rattle.pgn_game.specs.Progress.{next, going, whole}
 use Rattle.pgn_game.specs.Spells.{AreDropped, SpellsPair, pair, SpellsPairs, no_pair, next_pair, IsPair, by_name, IsSetUp, Names, nothing_played, has_played, SpellsText, no_more, token, move, variation, BeginsBare, IsResult, SpellsGame, SpellsGames, no_game, next_game}
 use Rattle.pgn_game.proofs.Runs.{at, Runs, ends, goes, finishes}
 use Rattle.pgn_game.proofs.Passing.{pass, drops_comments, comment_free, comment_stays, comment_goes, opening, opening_between, naming, valuing, closing, is_textual, after_tags, leads_after_tags, between, leads_between, varying, unvarying, starring, symbol_fault, symbolic}
@@ -56,7 +56,7 @@ name_fits Reduced q h = by_test (bytes_eq q.name (codes "FEN")) refl
     by_test true e = let full : Reduced ≡ Full = (h.fen ((bytes_eq-Decides q.name (codes "FEN")).0 e)).0 in absurd (cc)
 
 name_passes : (p : Profile) (ps : List Pair) (name : List ℕ) (items : List Item) (q : Pair) → IsFalse (has_pair ps q.name) → IsPair p.mode q
-    → refusal p (at AfterBracket ps name items) (tokens.symbol q.name) ≡ None
+    → refusal p (at AfterLeftBracket ps name items) (tokens.symbol q.name) ≡ None
 name_passes p ps name items q new h =
     let room = h.room in
     let short : nat_lt 249 (length q.name) ≡ false = grind (arith, nat_tests) in
@@ -97,9 +97,9 @@ pair_run p ps name _ rest _ gs (pair xs ys zs n v before_name before_value befor
     let q : Pair = record { name = n; value = v } in
     let free : nat_le p.tags (length ps) ≡ false = grind (arith, nat_tests) in
     subst (λ ks. Runs p (at AfterTags ps name []) ks gs) (sym (pair_kinds xs ys zs n v rest))
-    (goes (at AfterTags ps name []) (at AfterBracket ps name []) tokens.left_bracket _ gs (opening p ps name [] ∙ pass (nat_le p.tags (length ps)) TooManyTags None free refl) refl refl
-    (dropped_run p AfterBracket ps name [] refl xs _ gs before_name
-    (goes (at AfterBracket ps name []) (at AfterName ps n []) (tokens.symbol n) _ gs (name_passes p ps name [] q new is) refl refl
+    (goes (at AfterTags ps name []) (at AfterLeftBracket ps name []) tokens.left_bracket _ gs (opening p ps name [] ∙ pass (nat_le p.tags (length ps)) TooManyTags None free refl) refl refl
+    (dropped_run p AfterLeftBracket ps name [] refl xs _ gs before_name
+    (goes (at AfterLeftBracket ps name []) (at AfterName ps n []) (tokens.symbol n) _ gs (name_passes p ps name [] q new is) refl refl
     (dropped_run p AfterName ps n [] refl ys _ gs before_value
     (goes (at AfterName ps n []) (at AfterValue (insert_pair q ps) [] []) (tokens.str v) _ gs (value_passes p ps [] q is) refl refl
     (dropped_run p AfterValue (insert_pair q ps) [] [] refl zs _ gs before_bracket
@@ -136,12 +136,12 @@ move_leads ps name items s played h =
     symbol_leads ps name items s ∙ ap (λ (b : Bool). symbol_next ps name items s (is_number s) b (move_of place s)) h.no_marker
     ∙ ap (λ (b : Bool). symbol_next ps name items s b false (move_of place s)) h.no_number ∙ ap (symbol_next ps name items s false false) h.one
 
-opens_free : (p : Profile) (ps : List Pair) (name : List ℕ) (items : List Item) → (levels_of items).present.holds_move ≡ true → depth (levels_of items) < p.depth
+opens_free : (p : Profile) (ps : List Pair) (name : List ℕ) (items : List Item) → (levels_of items).present.has_own_move ≡ true → depth (levels_of items) < p.depth
     → refusal p (at InMovetext ps name items) tokens.left_paren ≡ None
 opens_free p ps name items holds room =
     let free : nat_le p.depth (depth (levels_of items)) ≡ false = grind (arith, nat_tests) in
     varying p ps name items
-    ∙ pass (not (levels_of items).present.holds_move) NoMoveBefore _ (ap not holds) (pass (nat_le p.depth (depth (levels_of items))) TooDeep None free refl)
+    ∙ pass (not (levels_of items).present.has_own_move) NoMoveBefore _ (ap not holds) (pass (nat_le p.depth (depth (levels_of items))) TooDeep None free refl)
 
 closes_free : (p : Profile) (ps : List Pair) (name : List ℕ) (items : List Item) → 0 < depth (levels_of items)
     → refusal p (at InMovetext ps name items) tokens.right_paren ≡ None
@@ -179,7 +179,7 @@ text_run p ps name deep l _ _ (variation _ _ ks ls items more holds room inner t
     let opened : levels_of (before ++ games.open_variation ∷ []) ≡ leveled (nothing_played (without_last l.trail)) (l ∷ around) =
     levels_more before games.open_variation ∙ ap (λ (x : Levels). levels_after x games.open_variation) at_level in
     let middle : List Item = (before ++ games.open_variation ∷ []) ++ items in
-    let holding : (levels_of before).present.holds_move ≡ true = ap (λ (x : Levels). x.present.holds_move) at_level ∙ holds in
+    let holding : (levels_of before).present.has_own_move ≡ true = ap (λ (x : Levels). x.present.has_own_move) at_level ∙ holds in
     let deepness : depth (levels_of before) ≡ deep = ap (λ (x : Levels). depth x) at_level ∙ at_depth in
     let deeper : depth (levels_of before) < p.depth = omega arith in
     subst (λ js. Runs p (at InMovetext ps name before) (tokens.left_paren ∷ js) gs) (sym (append_assoc ks (tokens.right_paren ∷ ls) rest))

@@ -7,9 +7,9 @@ use Rattle.chess_text.specs.Fen.{read as read_text}
 use Rattle.std.proofs.lemmas.Bool.{not-false}
 use Rattle.pgn_game.specs.Chess.{position_of}
 use Rattle.pgn_game.specs.Pairs.{Pair, value_of, has_pair, comes_before, insert_pair}
-use Rattle.pgn_game.specs.Here.{start_of, start_by, position_or_first}
+use Rattle.pgn_game.specs.Levels.{start_of, start_by, position_or_first}
 use Rattle.pgn_game.specs.FaultTable.{field_of, fen_field}
-use Rattle.pgn_game.specs.Judging.{start_told}
+use Rattle.pgn_game.specs.Judging.{fen_position}
 use Rattle.pgn_game.proofs.Exporting.{pick, value_of-cons, value_of-insert, bytes_eq-true, bytes_eq-refl}
 
 not_picked : (b : Bool) (v : List ℕ) (o : Option (List ℕ)) → is_some (pick b v o) ≡ false → (b ≡ false) × (is_some o ≡ false)
@@ -38,7 +38,7 @@ unfolding position_of
 is_position value = refl
 
 -- what a FEN tells, once its value is read
-pub told_read : (name value : List ℕ) (read : Result Parts FenFault) → not (bytes_eq name (codes "FEN")) ≡ false → read ≡ read_text value → start_told name value ≡ told_by true read
+pub told_read : (name value : List ℕ) (read : Result Parts FenFault) → not (bytes_eq name (codes "FEN")) ≡ false → read ≡ read_text value → fen_position name value ≡ told_by true read
 told_read name value read named reads =
     ap (λ b. told_by b (position_of value)) (not-false (bytes_eq name (codes "FEN")) named) ∙ ap (told_by true) (sym (reads ∙ is_position value))
 
@@ -55,7 +55,7 @@ found_by true (Ok first) name value ps start named reads none told =
     ∙ ap position_or_first reads ∙ same
 
 -- a FEN is where its game begins
-pub start_found : (name value : List ℕ) (ps : List Pair) (start : Parts) → has_pair ps name ≡ false → start_told name value ≡ Ok (Some start)
+pub start_found : (name value : List ℕ) (ps : List Pair) (start : Parts) → has_pair ps name ≡ false → fen_position name value ≡ Ok (Some start)
     → start_of (with_pair name value ps) ≡ start
 start_found name value ps start none told = found_by (bytes_eq name (codes "FEN")) (position_of value) name value ps start refl refl none told
 
@@ -66,7 +66,7 @@ kept_by true (Ok first) name value ps named told = absurd (cc)
 kept_by true (Err fault) name value ps named told = absurd (cc)
 
 -- another pair decides nothing of it
-pub start_kept : (name value : List ℕ) (ps : List Pair) → start_told name value ≡ Ok None → start_of (with_pair name value ps) ≡ start_of ps
+pub start_kept : (name value : List ℕ) (ps : List Pair) → fen_position name value ≡ Ok None → start_of (with_pair name value ps) ≡ start_of ps
 start_kept name value ps told = kept_by (bytes_eq name (codes "FEN")) (position_of value) name value ps refl told
 
 passes_by : (is : Bool) (read : Result Parts FenFault) (start : Option Parts) → told_by is read ≡ Ok start → (is && is_some (field_of read)) ≡ false
@@ -75,7 +75,7 @@ passes_by true (Ok first) start told = refl
 passes_by true (Err fault) start told = absurd (cc)
 
 -- a pair that is no FEN or a good one is not refused for it
-pub start_passes : (name value : List ℕ) (start : Option Parts) → start_told name value ≡ Ok start → (bytes_eq name (codes "FEN") && is_some (fen_field value)) ≡ false
+pub start_passes : (name value : List ℕ) (start : Option Parts) → fen_position name value ≡ Ok start → (bytes_eq name (codes "FEN") && is_some (fen_field value)) ≡ false
 start_passes name value start told = passes_by (bytes_eq name (codes "FEN")) (position_of value) start told
 
 faults_by : (is : Bool) (read : Result Parts FenFault) (field : ℕ) → told_by is read ≡ Err field → ((is && is_some (field_of read)) ≡ true) × (unwrap_or (field_of read) 0 ≡ field)
@@ -84,14 +84,14 @@ faults_by true (Ok first) field told = absurd (cc)
 faults_by true (Err fault) field told = (refl, cc)
 
 -- a FEN at fault is refused for the field
-pub start_faults : (name value : List ℕ) (field : ℕ) → start_told name value ≡ Err field
+pub start_faults : (name value : List ℕ) (field : ℕ) → fen_position name value ≡ Err field
     → ((bytes_eq name (codes "FEN") && is_some (fen_field value)) ≡ true) × (unwrap_or (fen_field value) 0 ≡ field)
 start_faults name value field told = faults_by (bytes_eq name (codes "FEN")) (position_of value) field told
 
 -- so a pair that is no FEN or a good one
-pub start_fine : (name value : List ℕ) → IsTrue (is_ok (start_told name value)) → (bytes_eq name (codes "FEN") && is_some (fen_field value)) ≡ false
-start_fine name value fine = by_told (start_told name value) refl fine
+pub start_fine : (name value : List ℕ) → IsTrue (is_ok (fen_position name value)) → (bytes_eq name (codes "FEN") && is_some (fen_field value)) ≡ false
+start_fine name value fine = by_told (fen_position name value) refl fine
   where
-    by_told : (r : Result (Option Parts) ℕ) → start_told name value ≡ r → IsTrue (is_ok r) → (bytes_eq name (codes "FEN") && is_some (fen_field value)) ≡ false
+    by_told : (r : Result (Option Parts) ℕ) → fen_position name value ≡ r → IsTrue (is_ok r) → (bytes_eq name (codes "FEN") && is_some (fen_field value)) ≡ false
     by_told (Ok start) e fine = start_passes name value start e
     by_told (Err field) e fine = absurd (cc)

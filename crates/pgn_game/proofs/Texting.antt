@@ -13,10 +13,10 @@ use Rattle.pgn_game.specs.Pairs.{Pair, value_of}
 use Rattle.pgn_game.specs.Chess.{move_of}
 use Rattle.pgn_game.specs.Game as games
 use Rattle.pgn_game.specs.Game.{Item, Game, Part}
-use Rattle.pgn_game.specs.Here.{levels_of, levels_after, first_level, depth, here, start_of}
+use Rattle.pgn_game.specs.Levels.{levels_of, levels_after, first_level, depth, here, start_of}
 use Rattle.pgn_game.specs.FaultTable.{refusal, is_score, is_number, is_end, is_at_limit, result_for, has_other_result}
-use Rattle.pgn_game.specs.Begun.{Next, next, going, whole, item_of}
-use Rattle.pgn_game.specs.Spells.{Stands, number, period, glyph, comment_open, word, comment_close, IsResult}
+use Rattle.pgn_game.specs.Progress.{Next, next, going, whole, item_of}
+use Rattle.pgn_game.specs.Spells.{StandsFor, number, period, glyph, comment_open, word, comment_close, IsResult}
 use Rattle.pgn_game.proofs.Runs.{at}
 use Rattle.pgn_game.proofs.Passing.{symbol_fault, symbolic}
 
@@ -86,7 +86,7 @@ pub no_other : (missing : Missing) (ps : List Pair) (name : List ℕ) (items : L
 no_other missing ps name items s is =
     ap (λ (b : Bool). elim (marked b s) [ None ↦ false | Some marker ↦ not (bytes_eq marker (unwrap_or (value_of ps (codes "Result")) (result_for missing marker))) ]) is
 
-pub stands_free : (p : Profile) (ps : List Pair) (name : List ℕ) (items : List Item) (k : Kind) (item : List Item) → Stands k item
+pub stands_free : (p : Profile) (ps : List Pair) (name : List ℕ) (items : List Item) (k : Kind) (item : List Item) → StandsFor k item
     → refusal p (at InMovetext ps name items) k ≡ None
 unfolding refusal
 stands_free p ps name items _ _ (number s is) =
@@ -102,7 +102,7 @@ stands_free p ps name items _ _ comment_open = refl
 stands_free p ps name items _ _ (word s) = refl
 stands_free p ps name items _ _ comment_close = refl
 
-pub stands_leads : (ps : List Pair) (name : List ℕ) (items : List Item) (k : Kind) (item : List Item) → Stands k item
+pub stands_leads : (ps : List Pair) (name : List ℕ) (items : List Item) (k : Kind) (item : List Item) → StandsFor k item
     → next (at InMovetext ps name items) k ≡ going (at InMovetext ps name (items ++ item))
 stands_leads ps name items _ _ (number s is) =
     symbol_leads ps name items s
@@ -114,7 +114,7 @@ stands_leads ps name items _ _ comment_open = refl
 stands_leads ps name items _ _ (word s) = refl
 stands_leads ps name items _ _ comment_close = refl
 
-pub stands_levels : (items : List Item) (k : Kind) (item : List Item) → Stands k item → levels_of (items ++ item) ≡ levels_of items
+pub stands_levels : (items : List Item) (k : Kind) (item : List Item) → StandsFor k item → levels_of (items ++ item) ≡ levels_of items
 stands_levels items _ _ (number s is) = ap levels_of (append-nil items)
 stands_levels items _ _ period = ap levels_of (append-nil items)
 stands_levels items _ _ (glyph n) = levels_more items (games.glyph n)
@@ -122,7 +122,7 @@ stands_levels items _ _ comment_open = levels_more items games.comment_open
 stands_levels items _ _ (word s) = levels_more items (games.word s)
 stands_levels items _ _ comment_close = levels_more items games.comment_close
 
-pub stands_goes : (k : Kind) (item : List Item) → Stands k item → is_end k ≡ false
+pub stands_goes : (k : Kind) (item : List Item) → StandsFor k item → is_end k ≡ false
 stands_goes _ _ (number s is) = refl
 stands_goes _ _ period = refl
 stands_goes _ _ (glyph n) = refl

@@ -15,23 +15,23 @@ use Rattle.pgn_game.specs.declared.accept.Accepted.TheVariants.{More}
 use Rattle.pgn_game.specs.declared.accept.Stopped.{Stopped}
 use Rattle.pgn_game.specs.declared.accept.Stopped.TheVariants.{Refused, Unwritten}
 use Rattle.pgn_game.specs.declared.judged.Judged.{Judged}
-use Rattle.pgn_game.specs.declared.judged.Judged.TheVariants.{Passed, PairOpen, Name, Value, PairClose, Entry as InText}
+use Rattle.pgn_game.specs.declared.judged.Judged.TheVariants.{Skipped, PairOpen, Name, Value, PairClose, Entry as InText}
 use Rattle.pgn_game.specs.declared.judged.Entry.TheVariants.{Number, Item as Put, Marker}
 use Rattle.pgn_game.specs.declared.mode.Mode.{Mode}
 use Rattle.pgn_game.specs.declared.mode.Mode.TheVariants.{Full, Reduced}
 use Rattle.pgn_game.specs.declared.reason.Reason.{Reason}
 use Rattle.pgn_game.specs.declared.stage.Stage.{Stage}
-use Rattle.pgn_game.specs.declared.stage.Stage.TheVariants.{Between, AfterBracket, AfterName, AfterValue, AfterTags, InMovetext}
+use Rattle.pgn_game.specs.declared.stage.Stage.TheVariants.{Between, AfterLeftBracket, AfterName, AfterValue, AfterTags, InMovetext}
 use Rattle.pgn_game.specs.Profile.{Profile}
 use Rattle.pgn_game.specs.Game.{Item, Part, move, glyph, comment_open, word, comment_close, open_variation, close_variation}
-use Rattle.pgn_game.specs.Here.{depth, here, levels_of, start_of}
+use Rattle.pgn_game.specs.Levels.{depth, here, levels_of, start_of}
 use Rattle.pgn_game.specs.FaultTable.{refusal, is_number, is_outside_pairs, is_score, levels_in, position_in, stage_number}
-use Rattle.pgn_game.specs.Begun.{Next, going, whole, next, Begun, nothing_begun, begun_after, Read, read_from, read}
+use Rattle.pgn_game.specs.Progress.{Next, going, whole, next, Progress, no_progress, progress_after, Read, read_from, read}
 use Rattle.pgn_game.specs.MostTried.{CostsIf, CostsToFind, is_written, CostsToWrite, added, CostsToAdd, CostsUnlessRefused, Tries, TriesUnwritten, MostFrom, MostTried, Raises, RaisesMost}
 use Rattle.pgn_game.specs.MostTried as tried
-use Rattle.pgn_game.specs.Movetext.{Levels, level_held}
+use Rattle.pgn_game.specs.Movetext.{HeldLevels, level_held}
 use Rattle.pgn_game.specs.Reading.{Reading, Agrees, has_move}
-use Rattle.pgn_game.specs.Judging.{Counts, Fits, IsOpen, Seeks, after, is_open, item_of, judged}
+use Rattle.pgn_game.specs.Judging.{Counts, Fits, IsOpen, Seeks, after, may_have_movetext, item_of, judged}
 use Rattle.pgn_game.specs.Putting.{Device, TriesItem, writes}
 use Rattle.pgn_game.specs.Handling.{GoesTo, TriesJudged, UnwrittenPairs, begins, readied}
 use Rattle.pgn_game.specs.Handling as handling
@@ -57,47 +57,47 @@ differ : {P : Type 0} (o : Option Reason) (reason : Reason) → o ≡ Some reaso
 differ o reason some none = absurd (cc)
 
 -- a token more
-pub most_more : (p : Profile) (b : Begun) (ts : List Token) (most : ℕ) → MostFrom p b ts most → (t : Token) (n : ℕ)
-    → (read_from p b ts).fault ≡ None → refusal p (read_from p b ts).begun.part t.kind ≡ None
-    → Tries p (read_from p b ts).begun.part t.kind n → MostFrom p b (ts ++ t ∷ []) (max most n)
+pub most_more : (p : Profile) (b : Progress) (ts : List Token) (most : ℕ) → MostFrom p b ts most → (t : Token) (n : ℕ)
+    → (read_from p b ts).fault ≡ None → refusal p (read_from p b ts).progress.part t.kind ≡ None
+    → Tries p (read_from p b ts).progress.part t.kind n → MostFrom p b (ts ++ t ∷ []) (max most n)
 most_more p b ts most (tried.none c) t n clear free tries =
-    subst (MostFrom p c (t ∷ [])) (most_of_none n) (tried.passes c t [] n 0 free tries (tried.none (begun_after c t)))
+    subst (MostFrom p c (t ∷ [])) (most_of_none n) (tried.passes c t [] n 0 free tries (tried.none (progress_after c t)))
 most_more p b ts most (tried.refused c x xs m reason some h) t n clear free tries =
     differ (refusal p c.part x.kind) reason some (first_passes p c x xs clear)
 most_more p b ts most (tried.passes c x xs m rest is h more) t n clear free tries =
-    let same : read_from p c (x ∷ xs) ≡ read_from p (begun_after c x) xs = goes_on p c x xs is in
+    let same : read_from p c (x ∷ xs) ≡ read_from p (progress_after c x) xs = goes_on p c x xs is in
     subst (MostFrom p c (x ∷ xs ++ t ∷ [])) (most_again m rest n)
     (tried.passes c x (xs ++ t ∷ []) m (max rest n) is h
-    (most_more p (begun_after c x) xs rest more t n (ap (λ (r : Read). r.fault) (sym same) ∙ clear)
-    (subst (λ (r : Read). refusal p r.begun.part t.kind ≡ None) same free)
-    (subst (λ (r : Read). Tries p r.begun.part t.kind n) same tries)))
+    (most_more p (progress_after c x) xs rest more t n (ap (λ (r : Read). r.fault) (sym same) ∙ clear)
+    (subst (λ (r : Read). refusal p r.progress.part t.kind ≡ None) same free)
+    (subst (λ (r : Read). Tries p r.progress.part t.kind n) same tries)))
 
 -- one that is refused, whatever comes behind it
-pub most_refused : (p : Profile) (b : Begun) (ts : List Token) (most : ℕ) → MostFrom p b ts most → (t : Token) (us : List Token) (n : ℕ) (why : Reason)
-    → (read_from p b ts).fault ≡ None → refusal p (read_from p b ts).begun.part t.kind ≡ Some why
-    → Tries p (read_from p b ts).begun.part t.kind n → MostFrom p b (ts ++ t ∷ us) (max most n)
+pub most_refused : (p : Profile) (b : Progress) (ts : List Token) (most : ℕ) → MostFrom p b ts most → (t : Token) (us : List Token) (n : ℕ) (why : Reason)
+    → (read_from p b ts).fault ≡ None → refusal p (read_from p b ts).progress.part t.kind ≡ Some why
+    → Tries p (read_from p b ts).progress.part t.kind n → MostFrom p b (ts ++ t ∷ us) (max most n)
 most_refused p b ts most (tried.none c) t us n why clear is tries =
     subst (MostFrom p c (t ∷ us)) (most_of_one n) (tried.refused c t us n why is tries)
 most_refused p b ts most (tried.refused c x xs m reason some h) t us n why clear is tries =
     differ (refusal p c.part x.kind) reason some (first_passes p c x xs clear)
 most_refused p b ts most (tried.passes c x xs m rest free h more) t us n why clear is tries =
-    let same : read_from p c (x ∷ xs) ≡ read_from p (begun_after c x) xs = goes_on p c x xs free in
+    let same : read_from p c (x ∷ xs) ≡ read_from p (progress_after c x) xs = goes_on p c x xs free in
     subst (MostFrom p c (x ∷ xs ++ t ∷ us)) (most_again m rest n)
     (tried.passes c x (xs ++ t ∷ us) m (max rest n) free h
-    (most_refused p (begun_after c x) xs rest more t us n why (ap (λ (r : Read). r.fault) (sym same) ∙ clear)
-    (subst (λ (r : Read). refusal p r.begun.part t.kind ≡ Some why) same is)
-    (subst (λ (r : Read). Tries p r.begun.part t.kind n) same tries)))
+    (most_refused p (progress_after c x) xs rest more t us n why (ap (λ (r : Read). r.fault) (sym same) ∙ clear)
+    (subst (λ (r : Read). refusal p r.progress.part t.kind ≡ Some why) same is)
+    (subst (λ (r : Read). Tries p r.progress.part t.kind n) same tries)))
 
 -- so from the start on
 pub most_with : (p : Profile) (given : List Token) (t : Token) (old new : ℕ) → MostTried p given old → (read p given).fault ≡ None
-    → refusal p (read p given).begun.part t.kind ≡ None → Raises (Tries p (read p given).begun.part t.kind) old new → MostTried p (given ++ t ∷ []) new
+    → refusal p (read p given).progress.part t.kind ≡ None → Raises (Tries p (read p given).progress.part t.kind) old new → MostTried p (given ++ t ∷ []) new
 most_with p given t old new before clear free raised =
-    subst (MostTried p (given ++ t ∷ [])) (sym raised.most) (most_more p nothing_begun given old before t raised.tried clear free raised.allowed)
+    subst (MostTried p (given ++ t ∷ [])) (sym raised.most) (most_more p no_progress given old before t raised.tried clear free raised.allowed)
 
 pub most_to_refused : (p : Profile) (given : List Token) (t : Token) (us : List Token) (why : Reason) (old new : ℕ) → MostTried p given old → (read p given).fault ≡ None
-    → refusal p (read p given).begun.part t.kind ≡ Some why → Raises (Tries p (read p given).begun.part t.kind) old new → MostTried p (given ++ t ∷ us) new
+    → refusal p (read p given).progress.part t.kind ≡ Some why → Raises (Tries p (read p given).progress.part t.kind) old new → MostTried p (given ++ t ∷ us) new
 most_to_refused p given t us why old new before clear is raised =
-    subst (MostTried p (given ++ t ∷ us)) (sym raised.most) (most_refused p nothing_begun given old before t us raised.tried why clear is raised.allowed)
+    subst (MostTried p (given ++ t ∷ us)) (sym raised.most) (most_refused p no_progress given old before t us raised.tried why clear is raised.allowed)
 
 -- nothing is tried for a refusal of the lexer
 pub raises_none : (p : Profile) (part : Part) (r : LexReason) (why : Reason) (most : ℕ) → refusal p part (tokens.refused r) ≡ Some why
@@ -122,7 +122,7 @@ part_probed r part agrees = by_stage r.stage refl
 
     by_stage : (stage : Stage) → r.stage ≡ stage → IsTrue (has_move part.items) → 0 < r.most_probes
     by_stage Between at = no_item (ap (λ (q : Part). q.items) (held_at r part Between agrees at))
-    by_stage AfterBracket at = no_item (text_at r part AfterBracket agrees at).0
+    by_stage AfterLeftBracket at = no_item (text_at r part AfterLeftBracket agrees at).0
     by_stage AfterName at = no_item (text_at r part AfterName agrees at).0
     by_stage AfterValue at = no_item (text_at r part AfterValue agrees at).0
     by_stage AfterTags at = no_item (text_at r part AfterTags agrees at).0
@@ -130,16 +130,16 @@ part_probed r part agrees = by_stage r.stage refl
 
 -- What the reader holds.
 position_held : (r : Reading) (to : Part) → IsOpen r to → r.text.levels.present.present ≡ position_in to
-position_held r to is = ap (λ (ls : Levels). ls.present.present) is.held.levels
+position_held r to is = ap (λ (ls : HeldLevels). ls.present.present) is.held.levels
 
 depth_held : (r : Reading) (to : Part) → IsOpen r to → length r.text.levels.around ≡ depth (levels_in to)
 depth_held r to is =
-    ap (λ (ls : Levels). length ls.around) is.held.levels ∙ length-map (levels_in to).around (level_held (start_of to.pairs))
+    ap (λ (ls : HeldLevels). length ls.around) is.held.levels ∙ length-map (levels_in to).around (level_held (start_of to.pairs))
 
 -- Where a symbol begins no game, the reader seeks its move where the model does.
-outside_by : (stage : Stage) (s : List ℕ) (q : Part) → begins stage (tokens.symbol s) ≡ false → q.stage ≡ stage → is_open stage ≡ is_outside_pairs q
+outside_by : (stage : Stage) (s : List ℕ) (q : Part) → begins stage (tokens.symbol s) ≡ false → q.stage ≡ stage → may_have_movetext stage ≡ is_outside_pairs q
 outside_by Between s q ready at = absurd (cc)
-outside_by AfterBracket s q ready at = sym (ap (λ (x : Stage). is_outside_pairs (record { stage = x; pairs = q.pairs; name = q.name; items = q.items })) at)
+outside_by AfterLeftBracket s q ready at = sym (ap (λ (x : Stage). is_outside_pairs (record { stage = x; pairs = q.pairs; name = q.name; items = q.items })) at)
 outside_by AfterName s q ready at = sym (ap (λ (x : Stage). is_outside_pairs (record { stage = x; pairs = q.pairs; name = q.name; items = q.items })) at)
 outside_by AfterValue s q ready at = sym (ap (λ (x : Stage). is_outside_pairs (record { stage = x; pairs = q.pairs; name = q.name; items = q.items })) at)
 outside_by AfterTags s q ready at = sym (ap (λ (x : Stage). is_outside_pairs (record { stage = x; pairs = q.pairs; name = q.name; items = q.items })) at)
@@ -165,12 +165,12 @@ module _ (old counted : Reading) (part : Part) (k : Kind) (m : Meets old counted
   found_met : (s : List ℕ) (n : ℕ) → begins counted.stage (tokens.symbol s) ≡ false → Seeks counted (tokens.symbol s) n → CostsToFind part (tokens.symbol s) n
   found_met s n ready h =
       let rest = not (is_score s || is_number s) in
-      let there : CostsIf (is_open counted.stage && rest) (position_in m.to) s n =
-      found_there (is_open counted.stage) rest (position_in m.to) counted.text.levels.present.present s n
+      let there : CostsIf (may_have_movetext counted.stage && rest) (position_in m.to) s n =
+      found_there (may_have_movetext counted.stage) rest (position_in m.to) counted.text.levels.present.present s n
       (λ at. position_held counted m.to (open_agrees counted m.to m.agrees at)) h in
-      let outside : is_open counted.stage ≡ is_outside_pairs part = outside_by counted.stage s m.to ready (sym m.agrees.stage) ∙ m.outside in
+      let outside : may_have_movetext counted.stage ≡ is_outside_pairs part = outside_by counted.stage s m.to ready (sym m.agrees.stage) ∙ m.outside in
       subst (λ (b : Bool). CostsIf (b && rest) (position_in part) s n) outside
-      (subst (λ (p : Parts). CostsIf (is_open counted.stage && rest) p s n) position_met there)
+      (subst (λ (p : Parts). CostsIf (may_have_movetext counted.stage && rest) p s n) position_met there)
 
 -- so for each kind of token
 pub finds_met : (old counted : Reading) (part : Part) (k : Kind) (n : ℕ) → Meets old counted part k → begins counted.stage k ≡ false → Seeks counted k n → CostsToFind part k n
@@ -210,7 +210,7 @@ adds_same r to n k same = subst (λ (l : List Item). AddsTo r to l n k) (sym (dr
 
 adds_judged : (tags levels : ℕ) (r : Reading) (to : Part) (j : Judged) (a : Accepted) (n k : ℕ) → Agrees r to → Fits tags levels r j
     → TriesJudged r j (Ok a) n k → AddsTo r to (added to (after j to)) n k
-adds_judged tags levels r to Passed a n k agrees fits h = adds_same r to n k h
+adds_judged tags levels r to Skipped a n k agrees fits h = adds_same r to n k h
 adds_judged tags levels r to PairOpen a n k agrees fits h = adds_same r to n k h
 adds_judged tags levels r to (Name name) a n k agrees fits h = adds_same r to n k h
 adds_judged tags levels r to (Value value) a n k agrees fits h = adds_same r to n k h
@@ -238,7 +238,7 @@ unwritten_more r i n k (handling.at_item h) = written_more (writes r.profile.mod
 unwritten_more r i n k (handling.in_section at same) = omega (arith, same)
 
 judged_more : (r : Reading) (j : Judged) (result : Result Accepted Stopped) (n k : ℕ) → TriesJudged r j result n k → n ≤ k
-judged_more r Passed result n k h = omega (arith, h)
+judged_more r Skipped result n k h = omega (arith, h)
 judged_more r PairOpen result n k h = omega (arith, h)
 judged_more r (Name name) result n k h = omega (arith, h)
 judged_more r (Value value) result n k h = omega (arith, h)
@@ -266,7 +266,7 @@ module _ (tags levels : ℕ) (old counted : Reading) (part : Part) (k : Kind) (m
       }
 
   unwritten_met : (j : Judged) → Fits tags levels counted j → next part k ≡ after j m.to → TriesJudged counted j (Err Unwritten) n new → TriesUnwritten old.profile part k new
-  unwritten_met Passed fits leads h = tried.at_token (tries_met Passed More fits leads h)
+  unwritten_met Skipped fits leads h = tried.at_token (tries_met Skipped More fits leads h)
   unwritten_met PairOpen fits leads h = tried.at_token (tries_met PairOpen More fits leads h)
   unwritten_met (Name name) fits leads h = tried.at_token (tries_met (Name name) More fits leads h)
   unwritten_met (Value value) fits leads h = tried.at_token (tries_met (Value value) More fits leads h)

@@ -16,16 +16,16 @@ use Rattle.pgn_game.specs.declared.mode.Mode.{Mode}
 use Rattle.pgn_game.specs.declared.mode.Mode.TheVariants.{Full, Reduced}
 use Rattle.pgn_game.specs.declared.reason.Reason.TheVariants.{BadTagName, DuplicateTag, TooManyTags, BadResult, BadFen, TagLineTooLong, SetUpWithoutFen, ReducedFen, MoveLimit, NoMoveBefore, TooDeep, UnmatchedClose, MarkerInVariation, ResultDiffers}
 use Rattle.pgn_game.specs.declared.stage.Stage.{Stage}
-use Rattle.pgn_game.specs.declared.stage.Stage.TheVariants.{Between, AfterBracket, AfterName, AfterValue, AfterTags, InMovetext}
+use Rattle.pgn_game.specs.declared.stage.Stage.TheVariants.{Between, AfterLeftBracket, AfterName, AfterValue, AfterTags, InMovetext}
 use Rattle.pgn_game.specs.Profile.{Profile}
 use Rattle.pgn_game.specs.Pairs.{Pair, value_of, has_pair, insert_pair}
 use Rattle.pgn_game.specs.Chess.{position_of, move_of}
 use Rattle.pgn_game.specs.Game as games
 use Rattle.pgn_game.specs.Game.{Item, Game, Part, no_part}
-use Rattle.pgn_game.specs.Here.{Level, Levels, levels_of, levels_after, depth, here, replayed, without_last, start_of}
+use Rattle.pgn_game.specs.Levels.{Level, Levels, levels_of, levels_after, depth, here, replayed, without_last, start_of}
 use Rattle.pgn_game.specs.FaultTable.{refusal, is_comment, in_name, is_result, is_score, is_number, is_end, is_at_limit, is_reduced, fen_field, fen_field_of, field_of, marker_of, lacks_fen, has_other_result}
-use Rattle.pgn_game.specs.Begun.{Next, next, going, whole}
-use Rattle.pgn_game.specs.Spells.{AreDropped, pair, SpellsPairs, no_pair, next_pair, by_name, IsSetUp, Stands, number, period, glyph, comment_open, word, comment_close, Names, nothing_played, has_played, SpellsText, no_more, token, move, variation, BeginsBare, IsResult, SpellsGame, SpellsGames, no_game, next_game}
+use Rattle.pgn_game.specs.Progress.{Next, next, going, whole}
+use Rattle.pgn_game.specs.Spells.{AreDropped, pair, SpellsPairs, no_pair, next_pair, by_name, IsSetUp, StandsFor, number, period, glyph, comment_open, word, comment_close, Names, nothing_played, has_played, SpellsText, no_more, token, move, variation, BeginsBare, IsResult, SpellsGame, SpellsGames, no_game, next_game}
 use Rattle.pgn_game.proofs.Runs.{at, Runs, ends, goes, finishes}
 use Rattle.pgn_game.specs.Judging.{or_else}
 use Rattle.pgn_game.proofs.Passing.{test_failed, rest_passed, opening, opening_between, naming, valuing, is_textual, after_tags, leads_after_tags, between, leads_between, varying, unvarying, starring, symbol_fault, symbolic}
@@ -47,7 +47,7 @@ data Closes (p : Profile) (first : Parts) : Level → List Level → List Kind �
   inside : (l m : Level) (around : List Level) (ks ls : List Kind) (items more : List Item) → SpellsText p first (deep around + 1) l ks items
       → Closes p first m around ls more → Closes p first l (m ∷ around) (ks ++ tokens.right_paren ∷ ls) (items ++ games.close_variation ∷ more)
 
-add_token : (p : Profile) (first : Parts) (l : Level) (around : List Level) (k : Kind) (ks : List Kind) (item items : List Item) → Stands k item
+add_token : (p : Profile) (first : Parts) (l : Level) (around : List Level) (k : Kind) (ks : List Kind) (item items : List Item) → StandsFor k item
     → Closes p first l around ks items → Closes p first l around (k ∷ ks) (item ++ items)
 add_token p first _ _ k _ item _ stands (outermost l ks items text) = outermost l (k ∷ ks) (item ++ items) (token 0 l k ks item items stands text)
 add_token p first _ _ k _ item _ stands (inside l m around ks ls items more text rest) =
@@ -64,7 +64,7 @@ add_move p first l _ _ s played _ _ names e (inside n m around ks ls items more 
     (move (deep around + 1) l s played ks items names (subst (λ x. SpellsText p first (deep around + 1) x ks items) e text)) rest
 
 -- a variation, with what comes behind it
-add_variation : (p : Profile) (first : Parts) (l : Level) (around : List Level) (ks ls : List Kind) (items more : List Item) → IsTrue l.holds_move → deep around < p.depth
+add_variation : (p : Profile) (first : Parts) (l : Level) (around : List Level) (ks ls : List Kind) (items more : List Item) → IsTrue l.has_own_move → deep around < p.depth
     → SpellsText p first (deep around + 1) (nothing_played (without_last l.trail)) ks items → Closes p first l around ls more
     → Closes p first l around (tokens.left_paren ∷ (ks ++ tokens.right_paren ∷ ls)) (games.open_variation ∷ (items ++ games.close_variation ∷ more))
 add_variation p first _ _ ks _ items _ holds room inner (outermost l ls more text) =
@@ -78,7 +78,7 @@ add_variation p first _ _ ks _ items _ holds room inner (inside l m around ls js
     (inside l m around (tokens.left_paren ∷ (ks ++ tokens.right_paren ∷ ls)) js (games.open_variation ∷ (items ++ games.close_variation ∷ more)) others
     (variation (deep around + 1) l ks ls items more holds room inner text) rest))
 
-add_open : (p : Profile) (first : Parts) (l n : Level) (around : List Level) (ks : List Kind) (items : List Item) → IsTrue l.holds_move → deep around < p.depth
+add_open : (p : Profile) (first : Parts) (l n : Level) (around : List Level) (ks : List Kind) (items : List Item) → IsTrue l.has_own_move → deep around < p.depth
     → n ≡ nothing_played (without_last l.trail) → Closes p first n (l ∷ around) ks items
     → Closes p first l around (tokens.left_paren ∷ ks) (games.open_variation ∷ items)
 add_open p first _ _ _ _ _ holds room e (inside n l around ks ls items more text rest) =
@@ -177,7 +177,7 @@ record Name_left (p : Profile) (ps : List Pair) (ks : List Kind) (gs : List Game
 
 abbrev Left : Profile → Stage → List Pair → List ℕ → List Item → List Kind → List Game → Type 0
 Left p Between ps name items ks gs = SpellsGames p ks gs
-Left p AfterBracket ps name items ks gs = Name_left p ps ks gs
+Left p AfterLeftBracket ps name items ks gs = Name_left p ps ks gs
 Left p AfterName ps name items ks gs = Value_left p ps name ks gs
 Left p AfterValue ps name items ks gs = Bracket_left p ps ks gs
 Left p AfterTags ps name items ks gs = Tags_left p ps ks gs
@@ -195,13 +195,13 @@ After p (going part) ks gs = Fits part.stage part.pairs part.items → Left p pa
 After p (whole g) ks gs = (later : List Game) × (gs ≡ g ∷ later) × SpellsGames p ks later
 
 -- Movetext, token by token.
-adds_token : (p : Profile) (ps : List Pair) (items : List Item) (x : Item) (k : Kind) → Stands k (x ∷ []) → levels_after (levels_of items) x ≡ levels_of items
+adds_token : (p : Profile) (ps : List Pair) (items : List Item) (x : Item) (k : Kind) → StandsFor k (x ∷ []) → levels_after (levels_of items) x ≡ levels_of items
     → Adds p ps items k (x ∷ [])
 adds_token p ps items x k stands same text more c =
     add_token p (start_of ps) (levels_of items).present (levels_of items).around k text (x ∷ []) more stands
     (subst (λ (ls : Levels). Closes p (start_of ps) ls.present ls.around text more) (levels_more items x ∙ same) c)
 
-adds_nothing : (p : Profile) (ps : List Pair) (items : List Item) (k : Kind) → Stands k [] → Adds p ps items k []
+adds_nothing : (p : Profile) (ps : List Pair) (items : List Item) (k : Kind) → StandsFor k [] → Adds p ps items k []
 adds_nothing p ps items k stands text more c =
     add_token p (start_of ps) (levels_of items).present (levels_of items).around k text [] more stands
     (subst (λ (xs : List Item). Closes p (start_of ps) (levels_of xs).present (levels_of xs).around text more) (append-nil items) c)
@@ -212,7 +212,7 @@ adds_move p ps items s played names text more c =
     add_move p (start_of ps) (levels_of items).present _ (levels_of items).around s played text more names refl
     (subst (λ (ls : Levels). Closes p (start_of ps) ls.present ls.around text more) (levels_more items (games.move played.mv)) c)
 
-adds_open : (p : Profile) (ps : List Pair) (items : List Item) → IsTrue (levels_of items).present.holds_move → depth (levels_of items) < p.depth
+adds_open : (p : Profile) (ps : List Pair) (items : List Item) → IsTrue (levels_of items).present.has_own_move → depth (levels_of items) < p.depth
     → Adds p ps items tokens.left_paren (games.open_variation ∷ [])
 adds_open p ps items holds room text more c =
     let e = deep-length (levels_of items).around in
@@ -248,10 +248,10 @@ no_one n e = grind (arith, nat_tests)
 open_step : (p : Profile) (ps : List Pair) (name : List ℕ) (items : List Item) (ks : List Kind) (gs : List Game) → refusal p (at InMovetext ps name items) tokens.left_paren ≡ None
     → Text_left p ps (items ++ games.open_variation ∷ []) ks gs → Text_left p ps items (tokens.left_paren ∷ ks) gs
 open_step p ps name items ks gs free h =
-    let e : or_else (not (levels_of items).present.holds_move) NoMoveBefore (or_else (nat_le p.depth (depth (levels_of items))) TooDeep None) ≡ None = sym (varying p ps name items) ∙ free in
-    let holds = was_false (levels_of items).present.holds_move (test_failed (not (levels_of items).present.holds_move) NoMoveBefore _ e) in
+    let e : or_else (not (levels_of items).present.has_own_move) NoMoveBefore (or_else (nat_le p.depth (depth (levels_of items))) TooDeep None) ≡ None = sym (varying p ps name items) ∙ free in
+    let holds = was_false (levels_of items).present.has_own_move (test_failed (not (levels_of items).present.has_own_move) NoMoveBefore _ e) in
     let room : nat_le p.depth (depth (levels_of items)) ≡ false =
-    test_failed (nat_le p.depth (depth (levels_of items))) TooDeep None (rest_passed (not (levels_of items).present.holds_move) NoMoveBefore _ e) in
+    test_failed (nat_le p.depth (depth (levels_of items))) TooDeep None (rest_passed (not (levels_of items).present.has_own_move) NoMoveBefore _ e) in
     text_more p ps items (games.open_variation ∷ []) tokens.left_paren ks gs (adds_open p ps items holds (below p.depth (depth (levels_of items)) room)) h
 
 close_step : (p : Profile) (ps : List Pair) (name : List ℕ) (items : List Item) (ks : List Kind) (gs : List Game) → refusal p (at InMovetext ps name items) tokens.right_paren ≡ None
@@ -429,7 +429,7 @@ name_dropped p ps k ks gs is h = record {
 }
 
 name_given : (p : Profile) (ps : List Pair) (name : List ℕ) (items : List Item) (s : List ℕ) (ks : List Kind) (gs : List Game)
-    → refusal p (at AfterBracket ps name items) (tokens.symbol s) ≡ None → Value_left p ps s ks gs → Name_left p ps (tokens.symbol s ∷ ks) gs
+    → refusal p (at AfterLeftBracket ps name items) (tokens.symbol s) ≡ None → Value_left p ps s ks gs → Name_left p ps (tokens.symbol s ∷ ks) gs
 name_given p ps name items s ks gs free h =
     let e = sym (naming p ps name items s) ∙ free in
     let f = rest_passed (not (list_all in_name s)) BadTagName _ e in
@@ -449,7 +449,7 @@ name_given p ps name items s ks gs free h =
     }
 
 name_step : (p : Profile) (ps : List Pair) (name : List ℕ) (items : List Item) (k : Kind) (ks : List Kind) (gs : List Game) → items ≡ []
-    → refusal p (at AfterBracket ps name items) k ≡ None → After p (next (at AfterBracket ps name items) k) ks gs → Name_left p ps (k ∷ ks) gs
+    → refusal p (at AfterLeftBracket ps name items) k ≡ None → After p (next (at AfterLeftBracket ps name items) k) ks gs → Name_left p ps (k ∷ ks) gs
 unfolding refusal
 name_step p ps name items tokens.comment_open ks gs none free after = name_dropped p ps tokens.comment_open ks gs refl (after none)
 name_step p ps name items (tokens.word s) ks gs none free after = name_dropped p ps (tokens.word s) ks gs refl (after none)
@@ -612,7 +612,7 @@ between_step p ps name items k ks gs no_pairs none free end after = between_text
 step : (p : Profile) (stage : Stage) (ps : List Pair) (name : List ℕ) (items : List Item) (k : Kind) (ks : List Kind) (gs : List Game) → Fits stage ps items
     → refusal p (at stage ps name items) k ≡ None → is_end k ≡ false → After p (next (at stage ps name items) k) ks gs → Left p stage ps name items (k ∷ ks) gs
 step p Between ps name items k ks gs fits free end after = between_step p ps name items k ks gs fits.0 fits.1 free end after
-step p AfterBracket ps name items k ks gs fits free end after = name_step p ps name items k ks gs fits free after
+step p AfterLeftBracket ps name items k ks gs fits free end after = name_step p ps name items k ks gs fits free after
 step p AfterName ps name items k ks gs fits free end after = value_step p ps name items k ks gs fits free after
 step p AfterValue ps name items k ks gs fits free end after = bracket_step p ps name items k ks gs fits free after
 step p AfterTags ps name items k ks gs fits free end after = tags_step p ps name items k ks gs fits free end after
@@ -623,7 +623,7 @@ at_end : (p : Profile) (stage : Stage) (ps : List Pair) (name : List ℕ) (items
     → Left p stage ps name items (tokens.end ∷ []) []
 unfolding refusal
 at_end p Between ps name items free = no_game [] refl
-at_end p AfterBracket ps name items free = absurd (cc)
+at_end p AfterLeftBracket ps name items free = absurd (cc)
 at_end p AfterName ps name items free = absurd (cc)
 at_end p AfterValue ps name items free = absurd (cc)
 at_end p AfterTags ps name items free = absurd (cc)

@@ -9,11 +9,11 @@ use Rattle.pgn_lexer.specs.Decided.{decided}
 use Rattle.pgn_lexer.specs.Stands.{Follows}
 use Rattle.pgn_game.specs.declared.reason.Reason.TheVariants.{ReadFault, InputTooLong}
 use Rattle.pgn_game.specs.declared.reason.Fault.{Fault}
-use Rattle.pgn_game.specs.declared.whole.Totals.{Totals}
+use Rattle.pgn_game.specs.declared.conversion.Totals.{Totals}
 use Rattle.pgn_game.specs.Profile.{Profile}
-use Rattle.pgn_game.specs.Here.{plies_of}
+use Rattle.pgn_game.specs.Levels.{plies_of}
 use Rattle.pgn_game.specs.Reading.{whole_plies}
-use Rattle.pgn_game.specs.Begun.{nothing_begun, Read, read, written, due, refused as is_refused, totals, verdict_of}
+use Rattle.pgn_game.specs.Progress.{no_progress, Read, read, written, due, refused as is_refused, totals, verdict_of}
 use Rattle.pgn_game.specs.Due.{Gains}
 use Rattle.pgn_game.specs.MostTried.{MostTried}
 use Rattle.pgn_game.specs.Feeding.{Converter, Stands, Stops, refused, unwritten, StopsWriting, StopsIn, at_token, too_long, FedFault, FedWhole, ReadsUpTo, Finishes}
@@ -22,21 +22,21 @@ use Rattle.pgn_game.specs.Converting as converting
 use Rattle.pgn_game.proofs.Growing.{torn-none, gains_none, gains_more, stops_more, stops_from}
 use Rattle.pgn_game.proofs.OneToken.{in_games, still_none-none}
 
-pub verdict_passes : (r : Read) → r.fault ≡ None → verdict_of r ≡ totals (record { games = length r.begun.games; plies = sum (map plies_of r.begun.games) })
-verdict_passes r e = ap (λ (o : Option Fault). elim o [ Some f ↦ is_refused f | None ↦ totals (record { games = length r.begun.games; plies = sum (map plies_of r.begun.games) }) ]) e
+pub verdict_passes : (r : Read) → r.fault ≡ None → verdict_of r ≡ totals (record { games = length r.progress.games; plies = sum (map plies_of r.progress.games) })
+verdict_passes r e = ap (λ (o : Option Fault). elim o [ Some f ↦ is_refused f | None ↦ totals (record { games = length r.progress.games; plies = sum (map plies_of r.progress.games) }) ]) e
 
 verdict_refused : (r : Read) (f : Fault) → r.fault ≡ Some f → verdict_of r ≡ is_refused f
-verdict_refused r f e = ap (λ (o : Option Fault). elim o [ Some f ↦ is_refused f | None ↦ totals (record { games = length r.begun.games; plies = sum (map plies_of r.begun.games) }) ]) e
+verdict_refused r f e = ap (λ (o : Option Fault). elim o [ Some f ↦ is_refused f | None ↦ totals (record { games = length r.progress.games; plies = sum (map plies_of r.progress.games) }) ]) e
 
-pub ended : (p : Profile) (u : List ℕ) (given : List Token) (new : Converter) (is_game : _) (t : Totals) (a c : Option (List ℕ)) → Finishes p u given new is_game a c
+pub ended : (p : Profile) (u : List ℕ) (given : List Token) (new : Converter) (finished_game : _) (t : Totals) (a c : Option (List ℕ)) → Finishes p u given new finished_game a c
     → t.games ≡ new.games → t.plies ≡ whole_plies new.reading → t.most_probes ≡ new.reading.most_probes → t.most_probes ≤ 1040 → AfterEnd p u given (Ok t) a c
-ended p u given new is_game t a c done games plies probes bound = (
+ended p u given new finished_game t a c done games plies probes bound = (
   verdict_passes (read p (tokens_of u)) done.has_read.passes
-      ∙ ap (λ n. totals (record { games = n; plies = sum (map plies_of (read p (tokens_of u)).begun.games) })) (sym (games ∙ done.has_read.games))
+      ∙ ap (λ n. totals (record { games = n; plies = sum (map plies_of (read p (tokens_of u)).progress.games) })) (sym (games ∙ done.has_read.games))
       ∙ ap (λ n. totals (record { games = t.games; plies = n })) (sym (plies ∙ done.has_read.plies)),
   record {
     most = bound;
-    some = λ moves. subst (λ n. 0 < n) (sym probes) (done.has_read.probed (in_games (read p (tokens_of u)).begun moves));
+    some = λ moves. subst (λ n. 0 < n) (sym probes) (done.has_read.probed (in_games (read p (tokens_of u)).progress moves));
     tried = subst (MostTried p (tokens_of u)) (sym probes) done.has_read.tried;
   },
   done.gains,
@@ -89,9 +89,9 @@ unread p left_old left left_new now a c at so keeps place =
 refused_text : (p : Profile) (s : List ℕ) (tokens more : List Token) (f : Fault) (a c : Option (List ℕ)) → tokens_of s ≡ tokens ++ more → (read p tokens).fault ≡ Some f → Gains p [] tokens a c
     → IsConverted p s (is_refused f) a c
 refused_text p s tokens more f a c cut fault gains =
-    let same : read p (tokens_of s) ≡ read p tokens = ap (read p) cut ∙ stops_from p nothing_begun tokens more f fault in (
+    let same : read p (tokens_of s) ≡ read p tokens = ap (read p) cut ∙ stops_from p no_progress tokens more f fault in (
       ap verdict_of same ∙ verdict_refused (read p tokens) f fault,
-      subst (λ (r : Read). Appends a c (written p r.begun)) (sym same) (appended p tokens a c gains),
+      subst (λ (r : Read). Appends a c (written p r.progress)) (sym same) (appended p tokens a c gains),
     )
 
 further_writing : (p : Profile) (given tokens more : List Token) (at : ℕ) (a c : Option (List ℕ)) → StopsWriting p given tokens at a c → StopsWriting p given (tokens ++ more) at a c

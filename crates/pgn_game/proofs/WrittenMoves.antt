@@ -22,7 +22,7 @@ use Rattle.pgn_lexer.specs.Tokens.{Kind}
 use Rattle.pgn_game.specs.Chess.{move_of, text_of_move, play}
 use Rattle.pgn_game.specs.FaultTable.{is_number, is_score}
 use Rattle.pgn_game.specs.Game.{Item}
-use Rattle.pgn_game.specs.Here.{Level, replayed, without_last}
+use Rattle.pgn_game.specs.Levels.{Level, replayed, without_last}
 use Rattle.pgn_game.specs.Profile.{Profile}
 use Rattle.pgn_game.specs.Spells.{Names, SpellsText, token, number, period}
 use Rattle.pgn_game.specs.Text.{number_before}

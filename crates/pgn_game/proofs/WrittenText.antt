@@ -16,9 +16,9 @@ use Rattle.chess_text.specs.declared.resolve.Played.{Played}
 use Rattle.pgn_game.specs.Chess.{text_of_move, is_black_to_move}
 use Rattle.pgn_game.specs.Game as games
 use Rattle.pgn_game.specs.Game.{Item}
-use Rattle.pgn_game.specs.Here.{Level, Levels, levels_after, back_to, depth, here, without_last, replayed}
+use Rattle.pgn_game.specs.Levels.{Level, Levels, levels_after, back_to, depth, here, without_last, replayed}
 use Rattle.pgn_game.specs.Profile.{Profile}
-use Rattle.pgn_game.specs.Spells.{Stands, Names, SpellsText, no_more, token, move, variation, number, period, glyph, comment_open, word, comment_close, nothing_played, has_played}
+use Rattle.pgn_game.specs.Spells.{StandsFor, Names, SpellsText, no_more, token, move, variation, number, period, glyph, comment_open, word, comment_close, nothing_played, has_played}
 use Rattle.pgn_game.specs.Text.{Placed, placed_from, tokens_from, tokens_at, number_before}
 use Rattle.pgn_game.proofs.EachOf.{all_append, all_front, all_behind}
 use Rattle.pgn_game.proofs.Items.{placed-append, tokens_from-append}
@@ -120,7 +120,7 @@ close_passes false more then f h = absurd h
 close_passes true more then f h = f false h
 
 written_again : (p : Profile) (first : Parts) (deep : ℕ) (l : Level) (k : Kind) (ks : List Kind) (item items : List Item) (t : List ℕ) (ts : List (List ℕ))
-    → Stands k item → AllShown (k ∷ []) (t ∷ []) → IsWritable k → Passes k → Rewritten p first deep l ks items ts → Rewritten p first deep l (k ∷ ks) (item ++ items) (t ∷ ts)
+    → StandsFor k item → AllShown (k ∷ []) (t ∷ []) → IsWritable k → Passes k → Rewritten p first deep l ks items ts → Rewritten p first deep l (k ∷ ks) (item ++ items) (t ∷ ts)
 written_again p first deep l k ks item items t ts stands shown writable passes r = record {
   kinds = k ∷ r.kinds;
   spells = token deep l k r.kinds item items stands r.spells;
@@ -146,7 +146,7 @@ variation_closes js ks ls ms inner rest false more then f h =
     behind true k = absurd k
 
 variation_again : (p : Profile) (first : Parts) (deep : ℕ) (l : Level) (ks ls : List Kind) (items more : List Item) (ts us : List (List ℕ))
-    → IsTrue l.holds_move → deep < p.depth → Rewritten p first (deep + 1) (nothing_played (without_last l.trail)) ks items ts → Rewritten p first deep l ls more us
+    → IsTrue l.has_own_move → deep < p.depth → Rewritten p first (deep + 1) (nothing_played (without_last l.trail)) ks items ts → Rewritten p first deep l ls more us
     → Rewritten p first deep l (tokens.left_paren ∷ (ks ++ tokens.right_paren ∷ ls)) (games.open_variation ∷ (items ++ games.close_variation ∷ more))
     (codes "(" ∷ (ts ++ codes ")" ∷ us))
 variation_again p first deep l ks ls items more ts us holds room a b = record {

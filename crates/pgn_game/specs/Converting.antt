@@ -11,9 +11,9 @@ use Rattle.pgn_lexer.specs.Decided.{decided}
 use Rattle.pgn_game.specs.declared.reason.Reason.{Reason}
 use Rattle.pgn_game.specs.declared.reason.Reason.TheVariants.{ReadFault, WriteFault, InputTooLong}
 use Rattle.pgn_game.specs.declared.reason.Fault.{Fault}
-use Rattle.pgn_game.specs.declared.whole.Totals.{Totals}
+use Rattle.pgn_game.specs.declared.conversion.Totals.{Totals}
 use Rattle.pgn_game.specs.Profile.{Profile}
-use Rattle.pgn_game.specs.Begun.{read, due, output, Verdict, refused as is_refused, totals, verdict}
+use Rattle.pgn_game.specs.Progress.{read, due, output, Verdict, refused as is_refused, totals, verdict}
 use Rattle.pgn_game.specs.Due.{Gains}
 use Rattle.pgn_game.specs.MostTried.{MostTried}
 use Rattle.pgn_game.specs.Feeding.{Converter, play_moves, Stands, StopsWriting, Stops}
@@ -31,7 +31,7 @@ IsConverted p s v before after = (verdict p s ≡ v) × Appends before after (ou
 -- was played.
 pub record CountsProbes (p : Profile) (s : List ℕ) (n : ℕ) : Type 0 where
   pub most : n ≤ 1040
-  pub some : IsTrue (play_moves (read p (tokens_of s)).begun.games) → 0 < n
+  pub some : IsTrue (play_moves (read p (tokens_of s)).progress.games) → 0 < n
   pub tried : MostTried p (tokens_of s) n
 
 -- the same with these numbers

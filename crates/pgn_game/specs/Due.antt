@@ -7,7 +7,7 @@ use Rattle.pgn_lexer.specs.Tokens.{Kind, Token}
 use Rattle.pgn_game.specs.Profile.{Profile}
 use Rattle.pgn_game.specs.Game.{Part}
 use Rattle.pgn_game.specs.Text.{game_text, torn}
-use Rattle.pgn_game.specs.Begun.{Next, going, whole, next, due}
+use Rattle.pgn_game.specs.Progress.{Next, going, whole, next, due}
 
 -- what is written of a game when a token has led so far
 abbrev pub text_next : Profile → Next → List ℕ

@@ -17,10 +17,10 @@ use Rattle.pgn_game.specs.declared.mode.Mode.TheVariants.{Full, Reduced}
 use Rattle.pgn_game.specs.Profile.{Profile, Missing, counts_as_unknown, takes_the_marker}
 use Rattle.pgn_game.specs.Pairs.{Pair, value_of, has_pair}
 use Rattle.pgn_game.specs.declared.stage.Stage.{Stage}
-use Rattle.pgn_game.specs.declared.stage.Stage.TheVariants.{Between, AfterBracket, AfterName, AfterValue, AfterTags, InMovetext}
+use Rattle.pgn_game.specs.declared.stage.Stage.TheVariants.{Between, AfterLeftBracket, AfterName, AfterValue, AfterTags, InMovetext}
 use Rattle.pgn_game.specs.Chess.{position_of, move_of, is_black_to_move}
 use Rattle.pgn_game.specs.Game.{Part}
-use Rattle.pgn_game.specs.Here.{Levels, levels_of, depth, here, start_of}
+use Rattle.pgn_game.specs.Levels.{Levels, levels_of, depth, here, start_of}
 
 -- Tests of a token.
 abbrev pub is_comment : Kind → Bool
@@ -68,7 +68,7 @@ is_string = is_string_with (λ text. true)
 -- each stage has a number of its own
 abbrev pub stage_number : Stage → ℕ
 stage_number Between = 0
-stage_number AfterBracket = 1
+stage_number AfterLeftBracket = 1
 stage_number AfterName = 2
 stage_number AfterValue = 3
 stage_number AfterTags = 4
@@ -194,24 +194,24 @@ row reason holds = record { holds = holds; reason = reason }
 -- (41).
 abbrev pub rows : Profile → Part → Kind → List Row
 rows p part k =
-    row ExpectedName (is_at AfterBracket part && not (is_symbol k || is_comment k))
-    ∷ row BadTagName (is_at AfterBracket part && is_symbol_with (λ name. not (list_all in_name name)) k)
-    ∷ row DuplicateTag (is_at AfterBracket part && is_symbol_with (has_pair part.pairs) k)
+    row ExpectedName (is_at AfterLeftBracket part && not (is_symbol k || is_comment k))
+    ∷ row BadTagName (is_at AfterLeftBracket part && is_symbol_with (λ name. not (list_all in_name name)) k)
+    ∷ row DuplicateTag (is_at AfterLeftBracket part && is_symbol_with (has_pair part.pairs) k)
     ∷ row TooManyTags (is_before_movetext part && is_left_bracket k && nat_le p.tags (length part.pairs))
     ∷ row ExpectedValue (is_at AfterName part && not (is_string k || is_comment k))
     ∷ row BadResult (is_at AfterName part && bytes_eq part.name (codes "Result") && is_string_with (λ value. not (is_result value)) k)
     ∷ row (BadFen (fen_field_of k)) (is_at AfterName part && bytes_eq part.name (codes "FEN") && is_string_with (λ value. is_some (fen_field value)) k)
-    ∷ row TagLineTooLong (is_at AfterBracket part && is_symbol_with (λ name. nat_lt 249 (length name)) k)
+    ∷ row TagLineTooLong (is_at AfterLeftBracket part && is_symbol_with (λ name. nat_lt 249 (length name)) k)
     ∷ row TagLineTooLong (is_at AfterName part && is_string_with (λ value. nat_lt 249 (length part.name + length (escaped value))) k)
     ∷ row ExpectedBracket (is_at AfterValue part && not (is_right_bracket k || is_comment k))
     ∷ row SetUpWithoutFen (is_at AfterTags part && not (is_left_bracket k || is_end k) && lacks_fen part.pairs)
-    ∷ row ReducedFen (is_at AfterBracket part && is_reduced p.mode && is_symbol_with (λ name. bytes_eq name (codes "FEN")) k)
+    ∷ row ReducedFen (is_at AfterLeftBracket part && is_reduced p.mode && is_symbol_with (λ name. bytes_eq name (codes "FEN")) k)
     ∷ row TagInMovetext (is_at InMovetext part && is_left_bracket k)
     ∷ row NotAMove (is_outside_pairs part && (is_right_bracket k || is_string k || is_move_with is_no_form part k))
     ∷ row IllegalMove (is_outside_pairs part && is_move_with is_no_move part k)
     ∷ row AmbiguousMove (is_outside_pairs part && is_move_with is_many_moves part k)
     ∷ row MoveLimit (is_outside_pairs part && is_move_with is_one_move part k && is_at_limit (position_in part))
-    ∷ row NoMoveBefore (is_outside_pairs part && is_left_paren k && not (levels_in part).present.holds_move)
+    ∷ row NoMoveBefore (is_outside_pairs part && is_left_paren k && not (levels_in part).present.has_own_move)
     ∷ row TooDeep (is_outside_pairs part && is_left_paren k && nat_le p.depth (depth (levels_in part)))
     ∷ row UnmatchedClose (is_outside_pairs part && is_right_paren k && (depth (levels_in part) == 0))
     ∷ row MarkerInVariation (is_outside_pairs part && is_marker k && nat_le 1 (depth (levels_in part)))

@@ -24,10 +24,10 @@ use Rattle.pgn_game.specs.Profile.{Profile, counts_as_unknown}
 use Rattle.pgn_game.specs.Pairs.{Pair, value_of}
 use Rattle.pgn_game.specs.TagSection.{exported}
 use Rattle.pgn_game.specs.Game.{Game}
-use Rattle.pgn_game.specs.Begun.{Begun, read, due}
+use Rattle.pgn_game.specs.Progress.{Progress, read, due}
 use Rattle.pgn_game.specs.MostTried.{MostTried, Raises, TriesUnwritten}
 use Rattle.pgn_game.specs.Due.{Gains}
-use Rattle.pgn_game.specs.Here.{plies_of, last_position}
+use Rattle.pgn_game.specs.Levels.{plies_of, last_position}
 use Rattle.pgn_game.specs.Reading.{Reading, Agrees, has_move, whole_plies}
 
 -- what is told of a game that is whole: its pairs, how many moves it has outside variations, and
@@ -66,14 +66,14 @@ held_if false reading = None
 -- What a converter keeps to. Before a fault its reader has not failed, and its counts stay small: a
 -- byte ends at most two tokens, so the games fit, and the moves; the end is one token more. A game
 -- is at hand only between games, and not after a fault.
-pub record IsSound (lexer : Standing) (reading : Reading) (games : ℕ) (is_at_hand is_finished : Bool) (fault : Option Fault) : Type 0 where
+pub record IsSound (lexer : Standing) (reading : Reading) (games : ℕ) (has_finished_game is_finished : Bool) (fault : Option Fault) : Type 0 where
   pub count : fault ≡ None → lexer.count ≤ 2 ^ 62
   pub going : fault ≡ None → reading.layout.has_failed ≡ false
   pub few : fault ≡ None → games + waiting lexer ≤ 2 * lexer.count + 2
   pub few_plies : fault ≡ None → reading.earlier_plies + reading.text.plies + waiting lexer ≤ 2 * lexer.count + 3
   pub fewer_plies : fault ≡ None → is_finished ≡ false → reading.earlier_plies + reading.text.plies + waiting lexer ≤ 2 * lexer.count + 2
-  pub between : IsTrue is_at_hand → reading.stage ≡ Between
-  pub no_fault : IsTrue is_at_hand → fault ≡ None
+  pub between : IsTrue has_finished_game → reading.stage ≡ Between
+  pub no_fault : IsTrue has_finished_game → fault ≡ None
 
 -- What is told of the game at hand: the value of a name in its tag section, how many moves outside
 -- variations it has, and the position after them.
@@ -96,7 +96,7 @@ abbrev pub play_moves : List Game → Bool
 play_moves games = list_any (λ g. has_move g.items) games
 
 -- a move is in one of the games, or in the part
-abbrev pub has_played : Begun → Bool
+abbrev pub has_played : Progress → Bool
 has_played b = play_moves b.games || has_move b.part.items
 
 -- The converter has read these tokens: none is refused, its reader agrees with the part that they
@@ -106,12 +106,12 @@ pub record HasRead (p : Profile) (c : Converter) (given : List Token) : Type 0 w
   pub profile : c.reading.profile ≡ p
   pub no_fault : c.fault ≡ None
   pub passes : (read p given).fault ≡ None
-  pub agrees : Agrees c.reading (read p given).begun.part
-  pub games : c.games ≡ length (read p given).begun.games
-  pub plies : whole_plies c.reading ≡ sum (map plies_of (read p given).begun.games)
-  pub probed : IsTrue (has_played (read p given).begun) → 0 < c.reading.most_probes
+  pub agrees : Agrees c.reading (read p given).progress.part
+  pub games : c.games ≡ length (read p given).progress.games
+  pub plies : whole_plies c.reading ≡ sum (map plies_of (read p given).progress.games)
+  pub probed : IsTrue (has_played (read p given).progress) → 0 < c.reading.most_probes
   pub tried : MostTried p given c.reading.most_probes
-  pub at_hand : IsLast c.at_hand (read p given).begun.games
+  pub at_hand : IsLast c.at_hand (read p given).progress.games
 
 -- The converter stands after the bytes u, of which the lexer has given these tokens; b, where there
 -- is one, is known to be next.
@@ -153,7 +153,7 @@ pub record FedAll (p : Profile) (u : List ℕ) (b : Option ℕ) (given : List To
   pub stands : Stands p new (u ++ piece) (still b piece) tokens
   pub decided : 0 < length piece → tokens ≡ decided (u ++ piece)
   pub empty : length piece ≡ 0 → tokens ≡ given
-  pub no_game : (read p tokens).begun.games ≡ (read p given).begun.games
+  pub no_game : (read p tokens).progress.games ≡ (read p given).progress.games
   pub none_at_hand : new.at_hand ≡ None
   pub gains : Gains p given tokens before after
 
@@ -168,8 +168,8 @@ pub record FedGame (p : Profile) (u : List ℕ) (given : List Token) (piece : Li
       → tokens ++ marker ∷ [] ≡ decided (u ++ take used piece)
   pub decided : IsDecided (u ++ take used piece) (drop used piece) (tokens ++ marker ∷ [])
   pub ends : EndsAt marker.kind marker.at (length u + used)
-  pub no_game : (read p tokens).begun.games ≡ (read p given).begun.games
-  pub one_game : (read p (tokens ++ marker ∷ [])).begun.games ≡ (read p given).begun.games ++ game ∷ []
+  pub no_game : (read p tokens).progress.games ≡ (read p given).progress.games
+  pub one_game : (read p (tokens ++ marker ∷ [])).progress.games ≡ (read p given).progress.games ++ game ∷ []
   pub at_hand : new.at_hand ≡ Some (hand_of game)
   pub gains : Gains p given (tokens ++ marker ∷ []) before after
 
@@ -181,20 +181,20 @@ pub record FedFault (p : Profile) (u : List ℕ) (b : Option ℕ) (given : List 
 
 -- the games that were whole before reading stopped
 abbrev pub games_before : {p : Profile} {given tokens : List Token} {before after : Option (List ℕ)} {f : Fault} → Stops p given tokens before after f → List Game
-games_before {p} {given} {tokens} (refused f fault gains) = (read p tokens).begun.games
-games_before {p} (unwritten at writing) = (read p writing.front).begun.games
+games_before {p} {given} {tokens} (refused f fault gains) = (read p tokens).progress.games
+games_before {p} (unwritten at writing) = (read p writing.front).progress.games
 
 -- what was read before that
-abbrev pub begun_before : {p : Profile} {given tokens : List Token} {before after : Option (List ℕ)} {f : Fault} → Stops p given tokens before after f → Begun
-begun_before {p} {given} {tokens} (refused f fault gains) = (read p tokens).begun
-begun_before {p} (unwritten at writing) = (read p writing.front).begun
+abbrev pub begun_before : {p : Profile} {given tokens : List Token} {before after : Option (List ℕ)} {f : Fault} → Stops p given tokens before after f → Progress
+begun_before {p} {given} {tokens} (refused f fault gains) = (read p tokens).progress
+begun_before {p} (unwritten at writing) = (read p writing.front).progress
 
 -- the most pairs that were tried for one token, up to the one at fault and with it
 abbrev pub MostAtStop : {p : Profile} {given tokens : List Token} {before after : Option (List ℕ)} {f : Fault} → Stops p given tokens before after f → ℕ → Type 0
 MostAtStop {p} {given} {tokens} (refused f fault gains) most = MostTried p tokens most
 MostAtStop {p} (unwritten at writing) most =
     (least : ℕ) × MostTried p writing.front least
-    × Raises (TriesUnwritten p (read p writing.front).begun.part writing.token.kind) least most
+    × Raises (TriesUnwritten p (read p writing.front).progress.part writing.token.kind) least most
 
 -- that, and some pair was tried if a move was played
 pub record CountsAtStop {p : Profile} {given tokens : List Token} {before after : Option (List ℕ)} {f : Fault}
@@ -205,7 +205,7 @@ pub record CountsAtStop {p : Profile} {given tokens : List Token} {before after 
 -- and before it no game was finished
 pub record FedToFault (p : Profile) (u : List ℕ) (b : Option ℕ) (given : List Token) (piece : List ℕ) (f : Fault) (most : ℕ) (before after : Option (List ℕ)) : Type 0 where
   pub fed : FedFault p u b given piece f before after
-  pub no_game : games_before fed.stops ≡ (read p given).begun.games
+  pub no_game : games_before fed.stops ≡ (read p given).progress.games
   pub counts : CountsAtStop fed.stops most
 
 -- How reading stops in a piece that follows the bytes u: at one of its tokens; or because the byte
@@ -285,11 +285,11 @@ Advances old new (GameEnd used) = waiting new < 2 * used + waiting old
 
 -- The text u has ended: all its tokens were read, and what they add to what was due was written. A
 -- game is at hand exactly if the call finished one.
-pub record Finishes (p : Profile) (u : List ℕ) (given : List Token) (new : Converter) (is_game : Bool) (before after : Option (List ℕ)) : Type 0 where
+pub record Finishes (p : Profile) (u : List ℕ) (given : List Token) (new : Converter) (finished_game : Bool) (before after : Option (List ℕ)) : Type 0 where
   pub has_read : HasRead p new (tokens_of u)
-  pub game : IsTrue is_game ↔ (length (read p given).begun.games < length (read p (tokens_of u)).begun.games)
-  pub at_hand : is_game ≡ true → (hand : AtHand) × (new.at_hand ≡ Some hand)
-  pub none_at_hand : is_game ≡ false → new.at_hand ≡ None
+  pub game : IsTrue finished_game ↔ (length (read p given).progress.games < length (read p (tokens_of u)).progress.games)
+  pub at_hand : finished_game ≡ true → (hand : AtHand) × (new.at_hand ≡ Some hand)
+  pub none_at_hand : finished_game ≡ false → new.at_hand ≡ None
   pub gains : Gains p given (tokens_of u) before after
 
 -- The text u has ended, but one of its tokens is refused, or a write failed; the games before that
@@ -300,7 +300,7 @@ pub record FinishesToFault (p : Profile) (u : List ℕ) (given : List Token) (ne
   pub counts : CountsAtStop stops new.reading.most_probes
 
 abbrev pub AfterFinish : Profile → List ℕ → List Token → Converter → Result Bool Fault → Option (List ℕ) → Option (List ℕ) → Type 0
-AfterFinish p u given new (Ok is_game) before after = Finishes p u given new is_game before after
+AfterFinish p u given new (Ok finished_game) before after = Finishes p u given new finished_game before after
 AfterFinish p u given new (Err f) before after = FinishesToFault p u given new f before after
 
 -- What `finish` does to a converter that stands after the bytes u, which are then the whole text.

@@ -3,7 +3,7 @@
 -- that are written (PGN 3.2.4, 8.1.1, 9.7).
 use Rattle.std.specs.Prelude.{List, map}
 use Rattle.pgn_game.specs.declared.mode.Mode.{Mode}
-use Rattle.pgn_game.specs.Here.{start_of, first_level}
+use Rattle.pgn_game.specs.Levels.{start_of, first_level}
 use Rattle.pgn_game.specs.Game.{Item, Game}
 use Rattle.pgn_game.specs.Pairs.{Pair}
 use Rattle.pgn_game.specs.TagSection.{exported}

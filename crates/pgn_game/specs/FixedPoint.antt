@@ -8,12 +8,12 @@ use Rattle.std.specs.Io.KnownBytes.{Appends}
 use Rattle.pgn_lexer.specs.TokensOf.{tokens_of}
 use Rattle.pgn_game.specs.declared.reason.Fault.{Fault}
 use Rattle.pgn_game.specs.declared.reason.Reason.TheVariants.{ReadFault, WriteFault}
-use Rattle.pgn_game.specs.declared.whole.Totals.{Totals}
+use Rattle.pgn_game.specs.declared.conversion.Totals.{Totals}
 use Rattle.pgn_game.specs.Profile.{Profile}
 use Rattle.pgn_game.specs.Game.{Game}
-use Rattle.pgn_game.specs.Here.{plies_of}
+use Rattle.pgn_game.specs.Levels.{plies_of}
 use Rattle.pgn_game.specs.Text.{text_of}
-use Rattle.pgn_game.specs.Begun.{Counted, read, output, verdict, totals}
+use Rattle.pgn_game.specs.Progress.{Counted, read, output, verdict, totals}
 use Rattle.pgn_game.specs.Spells.{Spells}
 use Rattle.pgn_game.specs.Converting.{Converts, ConvertsSlice}
 use Rattle.pgn_game.specs.Filled.{exported_pairs, filled}
@@ -86,7 +86,7 @@ ExportIsKeptOfSource = (p : Profile) (gs : List Game) (r : Result Totals Fault)
 
 -- the games of an input
 abbrev pub games_in : Profile → List ℕ → List Game
-games_in p s = (read p (tokens_of s)).begun.games
+games_in p s = (read p (tokens_of s)).progress.games
 
 -- An input that is converted without a fault, and with room for the tag lines of each game.
 pub record IsExportable (p : Profile) (s : List ℕ) : Type 0 where

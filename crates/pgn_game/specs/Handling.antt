@@ -20,7 +20,7 @@ use Rattle.pgn_game.specs.Game.{Item, Part}
 use Rattle.pgn_game.specs.TagSection.{tag_section}
 use Rattle.pgn_game.specs.Text.{torn}
 use Rattle.pgn_game.specs.FaultTable.{is_comment, is_end}
-use Rattle.pgn_game.specs.Begun.{Next}
+use Rattle.pgn_game.specs.Progress.{Next}
 use Rattle.pgn_game.specs.Due.{text_next}
 use Rattle.pgn_game.specs.Movetext.{begins_at}
 use Rattle.pgn_game.specs.Putting.{Device, TriesItem}
@@ -33,7 +33,7 @@ use Rattle.pgn_game.specs.Judging.{after, is_final, item_of}
 abbrev pub begun : Reading → Reading
 begun old = record old {
   stage = AfterTags;
-  tags = record { held = []; begun = None };
+  tags = record { held = []; pending_name = None };
   text = begins_at first_position;
   earlier_plies = old.earlier_plies + old.text.plies;
 }

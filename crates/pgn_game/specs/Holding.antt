@@ -6,7 +6,7 @@ use Rattle.pgn_game.specs.Pairs.{Pair, comes_before}
 -- what a contract sees: the pairs that are whole, and the name whose value is still to come
 pub record TagPairs : Type 0 where
   pub held : List Pair
-  pub begun : Option (List ℕ)
+  pub pending_name : Option (List ℕ)
 
 -- the name of the last pair
 abbrev pub last_name : List Pair → Option (List ℕ)
@@ -22,8 +22,8 @@ but_last (p ∷ q ∷ ps) = p ∷ but_last (q ∷ ps)
 
 -- with a flag whether the last one has only begun
 abbrev pub pairs_seen : List Pair → Bool → TagPairs
-pairs_seen ps true = record { held = but_last ps; begun = last_name ps }
-pairs_seen ps false = record { held = ps; begun = None }
+pairs_seen ps true = record { held = but_last ps; pending_name = last_name ps }
+pairs_seen ps false = record { held = ps; pending_name = None }
 
 -- how many pairs stand before the place of a name
 abbrev pub place_of : List ℕ → List Pair → ℕ
@@ -31,6 +31,6 @@ place_of name [] = 0
 place_of name (p ∷ ps) = elim (comes_before name p.name) [ true ↦ 0 | false ↦ 1 + place_of name ps ]
 
 -- how the pairs are held: at most so many, and one if a name has begun
-pub record AreHeld (most : ℕ) (ps : List Pair) (has_begun : Bool) : Type 0 where
+pub record AreHeld (most : ℕ) (ps : List Pair) (has_pending_name : Bool) : Type 0 where
   pub room : length ps ≤ most
-  pub some : IsTrue has_begun → 0 < length ps
+  pub some : IsTrue has_pending_name → 0 < length ps

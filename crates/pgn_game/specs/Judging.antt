@@ -8,7 +8,7 @@ use Rattle.pgn_layout.specs.TagLine.{escaped}
 use Rattle.pgn_lexer.specs.Tokens as tokens
 use Rattle.pgn_lexer.specs.Tokens.{Kind}
 use Rattle.pgn_game.specs.declared.judged.Judged.{Judged}
-use Rattle.pgn_game.specs.declared.judged.Judged.TheVariants.{Passed, PairOpen, Name, Value, PairClose, Entry as InText}
+use Rattle.pgn_game.specs.declared.judged.Judged.TheVariants.{Skipped, PairOpen, Name, Value, PairClose, Entry as InText}
 use Rattle.pgn_game.specs.declared.judged.Entry.{Entry}
 use Rattle.pgn_game.specs.declared.judged.Entry.TheVariants.{Number, Item as Put, Marker}
 use Rattle.pgn_game.specs.declared.judged.Item.{Item as CodeItem}
@@ -16,7 +16,7 @@ use Rattle.pgn_game.specs.declared.judged.Item.TheVariants.{Move, Glyph, Comment
 use Rattle.pgn_game.specs.declared.reason.Reason.{Reason}
 use Rattle.pgn_game.specs.declared.reason.Reason.TheVariants.{NotAMove, IllegalMove, AmbiguousMove, MoveLimit, NoMoveBefore, TooDeep, UnmatchedClose, MarkerInVariation, ResultDiffers}
 use Rattle.pgn_game.specs.declared.stage.Stage.{Stage}
-use Rattle.pgn_game.specs.declared.stage.Stage.TheVariants.{AfterBracket, AfterName, AfterValue, AfterTags, InMovetext}
+use Rattle.pgn_game.specs.declared.stage.Stage.TheVariants.{AfterLeftBracket, AfterName, AfterValue, AfterTags, InMovetext}
 use Rattle.pgn_game.specs.Profile.{Profile}
 use Rattle.pgn_game.specs.Pairs.{has_pair, insert_pair}
 use Rattle.pgn_game.specs.Chess.{move_of, position_of}
@@ -24,9 +24,9 @@ use Rattle.pgn_game.specs.Finding.{found_in}
 use Rattle.pgn_game.specs.MostTried.{CostsIf}
 use Rattle.pgn_game.specs.Game as games
 use Rattle.pgn_game.specs.Game.{Item, Game, Part}
-use Rattle.pgn_game.specs.Here.{depth, start_of}
+use Rattle.pgn_game.specs.Levels.{depth, start_of}
 use Rattle.pgn_game.specs.FaultTable.{refusal, marker_of, is_marker, is_number, is_score, has_other_result, is_move_with, is_no_form, is_no_move, is_many_moves, is_one_move, is_at_limit, levels_in, position_in}
-use Rattle.pgn_game.specs.Begun.{Next, going, whole, at_stage, next, in_text}
+use Rattle.pgn_game.specs.Progress.{Next, going, whole, at_stage, next, in_text}
 use Rattle.pgn_game.specs.Movetext.{Movetext, HoldsItems}
 use Rattle.pgn_game.specs.Reading.{Reading, Agrees, has_move, is_outside_the_table}
 
@@ -55,8 +55,8 @@ after_entry (Put i) part = going (with_items part (item_of i ∷ []))
 after_entry (Marker marker) part = whole (game_of part marker.now)
 
 abbrev pub after : Judged → Part → Next
-after Passed part = going part
-after PairOpen part = going (at_stage AfterBracket part)
+after Skipped part = going part
+after PairOpen part = going (at_stage AfterLeftBracket part)
 after (Name name) part =
     going (record { stage = AfterName; pairs = part.pairs; name = name.now; items = part.items })
 after (Value value) part = going (record {
@@ -82,14 +82,14 @@ leads part (Ok j) = Ok (after j part)
 leads part (Err reason) = Err reason
 
 -- the stages at which movetext can begin or go on
-abbrev pub is_open : Stage → Bool
-is_open AfterTags = true
-is_open InMovetext = true
-is_open _ = false
+abbrev pub may_have_movetext : Stage → Bool
+may_have_movetext AfterTags = true
+may_have_movetext InMovetext = true
+may_have_movetext _ = false
 
 -- the position of a FEN tag with this value, or its field at fault; no position for another tag
-abbrev pub start_told : List ℕ → List ℕ → Result (Option Parts) ℕ
-start_told name value = elim (bytes_eq name (codes "FEN")) [
+abbrev pub fen_position : List ℕ → List ℕ → Result (Option Parts) ℕ
+fen_position name value = elim (bytes_eq name (codes "FEN")) [
   | false ↦ Ok None
   | true ↦ elim (position_of value) [ Ok start ↦ Ok (Some start) | Err fault ↦ Err fault.field ]
 ]
@@ -116,7 +116,7 @@ EntryFits most text (Marker marker) = IsToken marker.now × (text.levels.around 
 -- the value of a name that has begun fits on its line, and of a FEN it is a position
 pub record ValueFits (name value : List ℕ) : Type 0 where
   pub fits : length name + length (escaped value) ≤ 249
-  pub told : IsTrue (is_ok (start_told name value))
+  pub told : IsTrue (is_ok (fen_position name value))
 
 -- some pair was tried for a move
 abbrev pub IsProbed : Entry → ℕ → Type 0
@@ -125,15 +125,15 @@ IsProbed e most = Unit {0}
 
 -- What was judged can be put on a reader of at most so many pairs and levels.
 abbrev pub Fits : ℕ → ℕ → Reading → Judged → Type 0
-Fits tags levels r Passed = Unit {0}
+Fits tags levels r Skipped = Unit {0}
 Fits tags levels r PairOpen = (r.stage ≡ AfterTags) × (length r.tags.held < tags)
 Fits tags levels r (Name name) =
-    (r.stage ≡ AfterBracket) × (length name.now ≤ 249) × (has_pair r.tags.held name.now ≡ false)
+    (r.stage ≡ AfterLeftBracket) × (length name.now ≤ 249) × (has_pair r.tags.held name.now ≡ false)
 Fits tags levels r (Value value) =
-    (r.stage ≡ AfterName) × IsSomeAnd r.tags.begun (λ name. ValueFits name value.now)
+    (r.stage ≡ AfterName) × IsSomeAnd r.tags.pending_name (λ name. ValueFits name value.now)
 Fits tags levels r PairClose = r.stage ≡ AfterValue
 Fits tags levels r (InText e) =
-    IsTrue (is_open r.stage) × EntryFits levels r.text e × IsProbed e r.most_probes
+    IsTrue (may_have_movetext r.stage) × EntryFits levels r.text e × IsProbed e r.most_probes
 
 -- The move that a symbol names, or why it names none: where movetext can begin or goes on, and of a
 -- symbol that is neither a marker nor a number.
@@ -142,7 +142,7 @@ found_of sought here s = elim sought [ true ↦ Some (found_in here (move_of her
 
 abbrev pub found : Reading → Kind → Option (Result Played Reason)
 found r (tokens.symbol s) =
-    found_of (is_open r.stage && not (is_score s || is_number s)) r.text.levels.present.present s
+    found_of (may_have_movetext r.stage && not (is_score s || is_number s)) r.text.levels.present.present s
 found r _ = None
 
 -- It was found, and its pairs are counted.
@@ -153,14 +153,14 @@ pub record Finds (r : Reading) (k : Kind) (result : Option (Result Played Reason
 -- how many pairs were tried for it
 abbrev pub Seeks : Reading → Kind → ℕ → Type 0
 Seeks r (tokens.symbol s) n =
-    CostsIf (is_open r.stage && not (is_score s || is_number s)) r.text.levels.present.present s n
+    CostsIf (may_have_movetext r.stage && not (is_score s || is_number s)) r.text.levels.present.present s n
 Seeks r k n = n ≡ 0
 
 -- the count of probes has risen, if anything has changed
 pub record Counts (old new : Reading) : Type 0 where
   pub same : new ≡ record old { most_probes = new.most_probes }
   pub more : old.most_probes ≤ new.most_probes
-  pub closed : is_open old.stage ≡ false → new ≡ old
+  pub closed : may_have_movetext old.stage ≡ false → new ≡ old
 
 -- it finishes a game, as a marker alone does
 abbrev pub is_final : Judged → Bool
@@ -189,7 +189,7 @@ Judges tags levels reader =
 -- The reader holds a part after whose pairs movetext begins, or in which it goes on.
 pub record IsOpen (reading : Reading) (part : Part) : Type 0 where
   pub stage : reading.stage ≡ part.stage
-  pub pairs : reading.tags ≡ record { held = part.pairs; begun = None }
+  pub pairs : reading.tags ≡ record { held = part.pairs; pending_name = None }
   pub fresh : reading.stage ≡ AfterTags → part.items ≡ []
   pub held : HoldsItems reading.profile.mode (start_of part.pairs) part.items
       reading.text reading.layout
@@ -212,7 +212,7 @@ text_refusal p part tokens.end = Some NotAMove
 text_refusal p part tokens.right_bracket = Some NotAMove
 text_refusal p part (tokens.str text) = Some NotAMove
 text_refusal p part tokens.left_paren =
-    or_else (not (levels_in part).present.holds_move) NoMoveBefore
+    or_else (not (levels_in part).present.has_own_move) NoMoveBefore
     (or_else (nat_le p.depth (depth (levels_in part))) TooDeep None)
 text_refusal p part tokens.right_paren = or_else (depth (levels_in part) == 0) UnmatchedClose None
 text_refusal p part tokens.asterisk =

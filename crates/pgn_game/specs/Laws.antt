@@ -2,7 +2,7 @@
 use Rattle.std.specs.Prelude.{◌≡◌, ℕ, List, ◌++◌}
 use Rattle.pgn_lexer.specs.Tokens.{Token}
 use Rattle.pgn_game.specs.Profile.{Profile}
-use Rattle.pgn_game.specs.Begun.{due}
+use Rattle.pgn_game.specs.Progress.{due}
 
 -- ys begins with xs
 abbrev pub IsPrefix : List ℕ → List ℕ → Type 0

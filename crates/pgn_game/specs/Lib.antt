@@ -8,7 +8,7 @@ pub mod Holding
 pub mod Profile
 pub mod Chess
 pub mod Game
-pub mod Here
+pub mod Levels
 pub mod Movetext
 pub mod Putting
 pub mod TagSection
@@ -16,7 +16,7 @@ pub mod SectionLines
 pub mod FaultTable
 pub mod Finding
 pub mod Text
-pub mod Begun
+pub mod Progress
 pub mod Tried
 pub mod MostTried
 pub mod Due

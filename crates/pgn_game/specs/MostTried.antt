@@ -19,10 +19,10 @@ use Rattle.pgn_game.specs.declared.accept.Stopped.TheVariants.{Refused, Unwritte
 use Rattle.pgn_game.specs.Profile.{Profile}
 use Rattle.pgn_game.specs.Chess.{play}
 use Rattle.pgn_game.specs.Game.{Item, move, Part}
-use Rattle.pgn_game.specs.Here.{depth}
+use Rattle.pgn_game.specs.Levels.{depth}
 use Rattle.pgn_game.specs.Text.{is_move}
 use Rattle.pgn_game.specs.FaultTable.{refusal, is_at, is_number, is_outside_pairs, is_score, levels_in, position_in}
-use Rattle.pgn_game.specs.Begun.{Next, going, whole, next, Begun, nothing_begun, begun_after}
+use Rattle.pgn_game.specs.Progress.{Next, going, whole, next, Progress, no_progress, progress_after}
 use Rattle.pgn_game.specs.Tried.{Costs}
 
 -- The move of a symbol is sought where movetext can begin or goes on, unless the symbol is a marker
@@ -83,17 +83,17 @@ pub data TriesUnwritten (p : Profile) (part : Part) (k : Kind) (n : ℕ) : Type 
 
 -- The most pairs that are tried for one of these tokens, which are read from here on. No token is
 -- read behind the first that is refused.
-pub data MostFrom (p : Profile) : Begun → List Token → ℕ → Type 0 where
-  none : (b : Begun) → MostFrom p b [] 0
-  refused : (b : Begun) (t : Token) (ts : List Token) (n : ℕ) (reason : Reason)
+pub data MostFrom (p : Profile) : Progress → List Token → ℕ → Type 0 where
+  none : (b : Progress) → MostFrom p b [] 0
+  refused : (b : Progress) (t : Token) (ts : List Token) (n : ℕ) (reason : Reason)
       → refusal p b.part t.kind ≡ Some reason → Tries p b.part t.kind n → MostFrom p b (t ∷ ts) n
-  passes : (b : Begun) (t : Token) (ts : List Token) (n most : ℕ) → refusal p b.part t.kind ≡ None
-      → Tries p b.part t.kind n → MostFrom p (begun_after b t) ts most
+  passes : (b : Progress) (t : Token) (ts : List Token) (n most : ℕ) → refusal p b.part t.kind ≡ None
+      → Tries p b.part t.kind n → MostFrom p (progress_after b t) ts most
       → MostFrom p b (t ∷ ts) (max n most)
 
 -- the most for one token of an input
 abbrev pub MostTried : Profile → List Token → ℕ → Type 0
-MostTried p ts most = MostFrom p nothing_begun ts most
+MostTried p ts most = MostFrom p no_progress ts most
 
 -- The most before a token, and with it.
 pub record Raises (IsTried : ℕ → Type 0) (old new : ℕ) : Type 0 where

@@ -7,9 +7,9 @@ use Rattle.pgn_lexer.specs.Tokens.{Token}
 use Rattle.pgn_game.specs.Profile.{Profile}
 use Rattle.pgn_game.specs.Pairs.{Pair}
 use Rattle.pgn_game.specs.Game.{Item, move}
-use Rattle.pgn_game.specs.Here.{start_of, first_level}
+use Rattle.pgn_game.specs.Levels.{start_of, first_level}
 use Rattle.pgn_game.specs.Text.{placed_from}
-use Rattle.pgn_game.specs.Begun.{read}
+use Rattle.pgn_game.specs.Progress.{read}
 
 -- A move has to be legal in this position (FIDE 3). Nothing is required of another item.
 abbrev pub is_legal_at : Parts → Item → Bool
@@ -26,5 +26,5 @@ plays_legally pairs items =
 -- game.
 abbrev pub MovesAreLegal : Type 0
 MovesAreLegal = (p : Profile) (ts : List Token)
-    → IsTrue (list_all (λ g. plays_legally g.pairs g.items) (read p ts).begun.games)
-    × IsTrue (plays_legally (read p ts).begun.part.pairs (read p ts).begun.part.items)
+    → IsTrue (list_all (λ g. plays_legally g.pairs g.items) (read p ts).progress.games)
+    × IsTrue (plays_legally (read p ts).progress.part.pairs (read p ts).progress.part.items)

@@ -8,34 +8,34 @@ use Rattle.pgn_game.specs.declared.levels.Level.{Level as CodeLevel}
 use Rattle.pgn_game.specs.declared.mode.Mode.{Mode}
 use Rattle.pgn_game.specs.Chess.{first_position}
 use Rattle.pgn_game.specs.Game.{Item}
-use Rattle.pgn_game.specs.Here.{Level as ModelLevel, Levels as ModelLevels, levels_of, first_level, replayed, without_last, main_moves}
+use Rattle.pgn_game.specs.Levels.{Level as ModelLevel, Levels as ModelLevels, levels_of, first_level, replayed, without_last, main_moves}
 use Rattle.pgn_game.specs.Text.{Placed, placed_from, is_move, written_items, tokens_out}
 
 -- a level: the present position, and the one before its last move, if it has one
-pub record Level : Type 0 where
+pub record HeldLevel : Type 0 where
   pub present : Parts
   pub before : Option Parts
 
 -- the level at hand, and those around it, the nearest first
-pub record Levels : Type 0 where
-  pub present : Level
-  pub around : List Level
+pub record HeldLevels : Type 0 where
+  pub present : HeldLevel
+  pub around : List HeldLevel
 
-abbrev pub level_at : Parts → Level
+abbrev pub level_at : Parts → HeldLevel
 level_at start = record { present = start; before = None }
 
-abbrev pub only_level : Parts → Levels
+abbrev pub only_level : Parts → HeldLevels
 only_level start = record { present = level_at start; around = [] }
 
 -- The levels as they are kept: the game's own first, at least one, and at most so many.
-abbrev pub level_of : CodeLevel → Level
+abbrev pub level_of : CodeLevel → HeldLevel
 level_of l = record { present = l.present; before = l.before }
 
-abbrev pub inside : Levels → List CodeLevel → Levels
+abbrev pub inside : HeldLevels → List CodeLevel → HeldLevels
 inside ls [] = ls
 inside ls (l ∷ more) = inside (record { present = level_of l; around = ls.present ∷ ls.around }) more
 
-abbrev pub levels_in : List CodeLevel → Levels
+abbrev pub levels_in : List CodeLevel → HeldLevels
 levels_in [] = only_level first_position
 levels_in (l ∷ more) = inside (record { present = level_of l; around = [] }) more
 
@@ -44,13 +44,13 @@ pub record AreHeld (most : ℕ) (levels : List CodeLevel) : Type 0 where
   pub room : length levels ≤ most
 
 -- the nearest of the levels around has become the one at hand
-abbrev pub IsBackIn : List Level → Levels → Type 0
+abbrev pub IsBackIn : List HeldLevel → HeldLevels → Type 0
 IsBackIn [] new = Unit {0}
 IsBackIn (l ∷ around) new = new ≡ record { present = l; around = around }
 
 -- What a contract sees of the movetext at hand.
 pub record Movetext : Type 0 where
-  pub levels : Levels
+  pub levels : HeldLevels
   pub plies : ℕ
   pub is_after_move : Bool
 
@@ -65,12 +65,12 @@ begun_at (Some start) text = begins_at start
 
 -- The levels of the definitions, as they are held: positions for moves.
 abbrev pub before_last : Parts → ModelLevel → Option Parts
-before_last start l = elim l.holds_move [ true ↦ Some (replayed start (without_last l.trail)) | false ↦ None ]
+before_last start l = elim l.has_own_move [ true ↦ Some (replayed start (without_last l.trail)) | false ↦ None ]
 
-abbrev pub level_held : Parts → ModelLevel → Level
+abbrev pub level_held : Parts → ModelLevel → HeldLevel
 level_held start l = record { present = replayed start l.trail; before = before_last start l }
 
-abbrev pub levels_held : Parts → ModelLevels → Levels
+abbrev pub levels_held : Parts → ModelLevels → HeldLevels
 levels_held start ls = record { present = level_held start ls.present; around = map (level_held start) ls.around }
 
 -- whether the last item that is written is a move

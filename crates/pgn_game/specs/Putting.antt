@@ -12,7 +12,7 @@ use Rattle.pgn_game.specs.declared.mode.Mode.TheVariants.{Full, Reduced}
 use Rattle.pgn_game.specs.Chess.{is_black_to_move}
 use Rattle.pgn_game.specs.Game.{Item}
 use Rattle.pgn_game.specs.Text.{is_move, number_before, tokens_at, full_text}
-use Rattle.pgn_game.specs.Movetext.{Movetext, Levels, HoldsItems, IsBackIn, level_at}
+use Rattle.pgn_game.specs.Movetext.{Movetext, HeldLevels, HoldsItems, IsBackIn, level_at}
 use Rattle.pgn_game.specs.MostTried.{CostsToWrite}
 use Rattle.pgn_game.specs.Judging.{item_of}
 
@@ -77,7 +77,7 @@ abbrev pub plies_in : Item → ℕ → ℕ
 plies_in i depth = elim (is_move i) [ true ↦ counted_at depth | false ↦ 0 ]
 
 -- the levels that it leads to
-abbrev pub LeadsLevels : CodeItem → Levels → Levels → Type 0
+abbrev pub LeadsLevels : CodeItem → HeldLevels → HeldLevels → Type 0
 LeadsLevels (Move played) old new =
     new ≡ record {
       present = record { present = played.now.next; before = Some old.present.present };

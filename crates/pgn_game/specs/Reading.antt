@@ -9,7 +9,7 @@ use Rattle.pgn_layout.specs.Layout.{Layout, holding}
 use Rattle.pgn_lexer.specs.Tokens.{Kind}
 use Rattle.pgn_game.specs.declared.reason.Reason.{Reason}
 use Rattle.pgn_game.specs.declared.stage.Stage.{Stage}
-use Rattle.pgn_game.specs.declared.stage.Stage.TheVariants.{Between, AfterBracket, AfterName, InMovetext}
+use Rattle.pgn_game.specs.declared.stage.Stage.TheVariants.{Between, AfterLeftBracket, AfterName, InMovetext}
 use Rattle.pgn_game.specs.declared.accept.Accepted.{Accepted}
 use Rattle.pgn_game.specs.declared.accept.Accepted.TheVariants.{More, Finished}
 use Rattle.pgn_game.specs.declared.accept.Stopped.{Stopped}
@@ -18,12 +18,12 @@ use Rattle.pgn_game.specs.Profile.{Profile}
 use Rattle.pgn_game.specs.Pairs.{has_pair}
 use Rattle.pgn_game.specs.Holding.{TagPairs}
 use Rattle.pgn_game.specs.Game.{Item, Game, Part, no_part}
-use Rattle.pgn_game.specs.Here.{start_of, plies_of, last_position}
+use Rattle.pgn_game.specs.Levels.{start_of, plies_of, last_position}
 use Rattle.pgn_game.specs.Text.{is_move}
 use Rattle.pgn_game.specs.Movetext.{Movetext, HoldsItems, begins_at}
 use Rattle.pgn_game.specs.Reason.{number_of}
 use Rattle.pgn_game.specs.FaultTable.{refusal, marker_of}
-use Rattle.pgn_game.specs.Begun.{Next, going, whole, next}
+use Rattle.pgn_game.specs.Progress.{Next, going, whole, next}
 use Rattle.pgn_game.specs.Due.{gain}
 
 -- What is asked for, how far the game is, its pairs, its movetext, how many moves outside
@@ -40,16 +40,16 @@ pub record Reading : Type 0 where
 -- What holds of the pairs at a stage: a name has begun after a name alone, and after a `[` there is
 -- room for one.
 abbrev pub AreSound : ℕ → Stage → TagPairs → Type 0
-AreSound most AfterBracket tags = (tags.begun ≡ None) × (length tags.held < most)
-AreSound most AfterName tags = IsSomeAnd tags.begun (λ name. length name ≤ 249)
-AreSound most _ tags = tags.begun ≡ None
+AreSound most AfterLeftBracket tags = (tags.pending_name ≡ None) × (length tags.held < most)
+AreSound most AfterName tags = IsSomeAnd tags.pending_name (λ name. length name ≤ 249)
+AreSound most _ tags = tags.pending_name ≡ None
 
 -- The pairs held are those of the part, and none has the name whose value is to come. Between games
 -- they may be those of the game before.
 abbrev pub HoldsPairs : Stage → TagPairs → Part → Type 0
 HoldsPairs Between tags part = part ≡ no_part
-HoldsPairs AfterName tags part = (tags ≡ record { held = part.pairs; begun = Some part.name }) × (has_pair part.pairs part.name ≡ false)
-HoldsPairs _ tags part = tags ≡ record { held = part.pairs; begun = None }
+HoldsPairs AfterName tags part = (tags ≡ record { held = part.pairs; pending_name = Some part.name }) × (has_pair part.pairs part.name ≡ false)
+HoldsPairs _ tags part = tags ≡ record { held = part.pairs; pending_name = None }
 
 -- a move is among the items
 abbrev pub has_move : List Item → Bool

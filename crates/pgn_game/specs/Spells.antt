@@ -18,7 +18,7 @@ use Rattle.pgn_game.specs.Pairs.{Pair, value_of, has_pair, insert_pair}
 use Rattle.pgn_game.specs.Chess.{position_of, move_of}
 use Rattle.pgn_game.specs.Game as games
 use Rattle.pgn_game.specs.Game.{Item, Game}
-use Rattle.pgn_game.specs.Here.{Level, without_last, replayed, start_of}
+use Rattle.pgn_game.specs.Levels.{Level, without_last, replayed, start_of}
 use Rattle.pgn_game.specs.FaultTable.{is_comment, in_name, is_score, is_result, marker_of, is_number, is_at_limit}
 
 -- Tag pairs (PGN 8.1).
@@ -68,13 +68,13 @@ IsSetUp ps = value_of ps (codes "SetUp") ≡ Some (codes "1") → IsTrue (has_pa
 
 -- A token that may be anywhere in movetext, and the item that it is. Numbers and periods are none:
 -- they decide nothing (PGN 8.2.2.1).
-pub data Stands : Kind → List Item → Type 0 where
-  number : (s : List ℕ) → IsTrue (is_number s) → Stands (tokens.symbol s) []
-  period : Stands tokens.period []
-  glyph : (n : ℕ) → Stands (tokens.glyph n) (games.glyph n ∷ [])
-  comment_open : Stands tokens.comment_open (games.comment_open ∷ [])
-  word : (s : List ℕ) → Stands (tokens.word s) (games.word s ∷ [])
-  comment_close : Stands tokens.comment_close (games.comment_close ∷ [])
+pub data StandsFor : Kind → List Item → Type 0 where
+  number : (s : List ℕ) → IsTrue (is_number s) → StandsFor (tokens.symbol s) []
+  period : StandsFor tokens.period []
+  glyph : (n : ℕ) → StandsFor (tokens.glyph n) (games.glyph n ∷ [])
+  comment_open : StandsFor tokens.comment_open (games.comment_open ∷ [])
+  word : (s : List ℕ) → StandsFor (tokens.word s) (games.word s ∷ [])
+  comment_close : StandsFor tokens.comment_close (games.comment_close ∷ [])
 
 -- The symbol, no number and no marker, is the text of one legal move (PGN 8.2.3). No move of Black
 -- has the number 99,999.
@@ -87,21 +87,21 @@ pub record Names (at : Parts) (s : List ℕ) (played : Played) : Type 0 where
 -- nothing is played yet: at the beginning of a game, and of a variation, which replaces the last
 -- move before it
 abbrev pub nothing_played : List Move → Level
-nothing_played trail = record { trail = trail; holds_move = false }
+nothing_played trail = record { trail = trail; has_own_move = false }
 
 abbrev pub has_played : Move → List Move → Level
-has_played m trail = record { trail = m ∷ trail; holds_move = true }
+has_played m trail = record { trail = m ∷ trail; has_own_move = true }
 
 -- The tokens of a game, or of one variation, from one place in it to its end: so many variations
 -- are open there, and these moves lead there from the first position. A variation comes after a
 -- move, and is movetext itself (PGN 8.2.5).
 pub data SpellsText (p : Profile) (first : Parts) : ℕ → Level → List Kind → List Item → Type 0 where
   no_more : (deep : ℕ) (l : Level) → SpellsText p first deep l [] []
-  token : (deep : ℕ) (l : Level) (k : Kind) (ks : List Kind) (item items : List Item) → Stands k item → SpellsText p first deep l ks items
+  token : (deep : ℕ) (l : Level) (k : Kind) (ks : List Kind) (item items : List Item) → StandsFor k item → SpellsText p first deep l ks items
       → SpellsText p first deep l (k ∷ ks) (item ++ items)
   move : (deep : ℕ) (l : Level) (s : List ℕ) (played : Played) (ks : List Kind) (items : List Item) → Names (replayed first l.trail) s played
       → SpellsText p first deep (has_played played.mv l.trail) ks items → SpellsText p first deep l (tokens.symbol s ∷ ks) (games.move played.mv ∷ items)
-  variation : (deep : ℕ) (l : Level) (ks ls : List Kind) (items more : List Item) → IsTrue l.holds_move → deep < p.depth
+  variation : (deep : ℕ) (l : Level) (ks ls : List Kind) (items more : List Item) → IsTrue l.has_own_move → deep < p.depth
       → SpellsText p first (deep + 1) (nothing_played (without_last l.trail)) ks items → SpellsText p first deep l ls more
       → SpellsText p first deep l (tokens.left_paren ∷ (ks ++ tokens.right_paren ∷ ls)) (games.open_variation ∷ (items ++ games.close_variation ∷ more))
 

@@ -22,16 +22,16 @@ use Rattle.pgn_game.specs.declared.converter.Stepped.{Stepped}
 use Rattle.pgn_game.specs.declared.converter.Stepped.TheVariants.{NeedMore, More, Finished, Ended, Failed}
 use Rattle.pgn_game.specs.Profile.{Profile}
 use Rattle.pgn_game.specs.Game.{Game}
-use Rattle.pgn_game.specs.Begun.{read}
+use Rattle.pgn_game.specs.Progress.{read}
 use Rattle.pgn_game.specs.Due.{Gains}
 use Rattle.pgn_game.specs.Feeding.{Converter, held_by, hand_of, IsLast, HasRead, Stands, Stops, games_before, CountsAtStop, FedAll, FedGame, FedToFault, CountsReason}
 
 -- the games read with one token more: none more, or one
 abbrev pub SameGames : Profile → List Token → List Token → Type 0
-SameGames p given tokens = (read p tokens).begun.games ≡ (read p given).begun.games
+SameGames p given tokens = (read p tokens).progress.games ≡ (read p given).progress.games
 
 abbrev pub OneGame : Profile → List Token → List Token → Game → Type 0
-OneGame p given tokens g = (read p tokens).begun.games ≡ (read p given).begun.games ++ g ∷ []
+OneGame p given tokens g = (read p tokens).progress.games ≡ (read p given).progress.games ++ g ∷ []
 
 -- a token was read
 pub record Took (p : Profile) (u : List ℕ) (given : List Token) (piece : List ℕ) (used : ℕ) (t : Token) (new : Converter) (before after : Option (List ℕ)) : Type 0 where
@@ -72,32 +72,32 @@ pub record TookEnd (p : Profile) (u : List ℕ) (given : List Token) (t : Token)
 -- a token of these is refused, or a write failed, and before it no game was finished
 pub record ClosedToFault (p : Profile) (given tokens : List Token) (f : Fault) (most : ℕ) (before after : Option (List ℕ)) : Type 0 where
   pub stops : Stops p given tokens before after f
-  pub no_game : games_before stops ≡ (read p given).begun.games
+  pub no_game : games_before stops ≡ (read p given).progress.games
   pub counts : CountsAtStop stops most
 
 -- What a step after the last piece results in. `⊥` means never: none is `NeedMore`.
-abbrev pub AfterClosing : Profile → List ℕ → List Token → Converter → Converter → Stepped → Option (List ℕ) → Option (List ℕ) → Type 0
-AfterClosing p u given old new NeedMore before after = ⊥
-AfterClosing p u given old new More before after = (t : Token) × TookLast p u given t new before after × SameGames p given (given ++ t ∷ []) × StaysBetween old new
-AfterClosing p u given old new Finished before after =
+abbrev pub AfterStepAtEnd : Profile → List ℕ → List Token → Converter → Converter → Stepped → Option (List ℕ) → Option (List ℕ) → Type 0
+AfterStepAtEnd p u given old new NeedMore before after = ⊥
+AfterStepAtEnd p u given old new More before after = (t : Token) × TookLast p u given t new before after × SameGames p given (given ++ t ∷ []) × StaysBetween old new
+AfterStepAtEnd p u given old new Finished before after =
     (t : Token) × TookLast p u given t new before after × ((g : Game) × OneGame p given (given ++ t ∷ []) g × (held_by new.reading ≡ hand_of g))
-AfterClosing p u given old new Ended before after = (t : Token) × TookEnd p u given t new before after × StaysBetween old new
-AfterClosing p u given old new (Failed f) before after = ClosedToFault p given (tokens_of u) f new.reading.most_probes before after
+AfterStepAtEnd p u given old new Ended before after = (t : Token) × TookEnd p u given t new before after × StaysBetween old new
+AfterStepAtEnd p u given old new (Failed f) before after = ClosedToFault p given (tokens_of u) f new.reading.most_probes before after
 
 -- What was read behind the last piece so far, and whether a game was finished there. It is still
 -- held while none is begun.
-pub record ClosedSoFar (p : Profile) (u : List ℕ) (given : List Token) (now : Converter) (is_game : Bool) (before after : Option (List ℕ)) : Type 0 where
+pub record ClosedSoFar (p : Profile) (u : List ℕ) (given : List Token) (now : Converter) (finished_game : Bool) (before after : Option (List ℕ)) : Type 0 where
   pub tokens : List Token
   pub left : HasLeft now.lexer u tokens
   pub has_read : HasRead p now tokens
-  pub no_fewer : length (read p given).begun.games ≤ length (read p tokens).begun.games
-  pub game : IsTrue is_game ↔ (length (read p given).begun.games < length (read p tokens).begun.games)
-  pub last : IsTrue is_game → now.reading.stage ≡ Between → IsLast (Some (held_by now.reading)) (read p tokens).begun.games
+  pub no_fewer : length (read p given).progress.games ≤ length (read p tokens).progress.games
+  pub game : IsTrue finished_game ↔ (length (read p given).progress.games < length (read p tokens).progress.games)
+  pub last : IsTrue finished_game → now.reading.stage ≡ Between → IsLast (Some (held_by now.reading)) (read p tokens).progress.games
   pub gains : Gains p given tokens before after
 
 abbrev pub ClosesSoFar : Converter → Converter → Bool → Option (List ℕ) → Option (List ℕ) → Type 0
-ClosesSoFar old now is_game before after =
-    (p : Profile) (u : List ℕ) (b : Option ℕ) (given : List Token) → Stands p old u b given → ClosedSoFar p u given now is_game before after
+ClosesSoFar old now finished_game before after =
+    (p : Profile) (u : List ℕ) (b : Option ℕ) (given : List Token) → Stands p old u b given → ClosedSoFar p u given now finished_game before after
 
 -- what an answer of the reader, to a token at this place, is for the converter
 abbrev pub stepped_of : ℕ → Result Accepted Stopped → Stepped
@@ -107,9 +107,9 @@ stepped_of at (Err (stopped.Refused reason)) = Failed (record { at = at; reason 
 stepped_of at (Err stopped.Unwritten) = Failed (record { at = at; reason = WriteFault })
 
 -- whether a step finished a game
-abbrev pub is_game : Stepped → Bool
-is_game Finished = true
-is_game _ = false
+abbrev pub finished_game : Stepped → Bool
+finished_game Finished = true
+finished_game _ = false
 
 -- whether it passed the end
 abbrev pub is_ended : Stepped → Bool
@@ -141,12 +141,12 @@ StepAdvances old piece new used Ended = ⊥
 StepAdvances old piece new used (Failed f) = Unit {0}
 
 -- behind the last piece a token was waiting
-abbrev pub CloseAdvances : Standing → Standing → Stepped → Type 0
-CloseAdvances old new NeedMore = ⊥
-CloseAdvances old new More = waiting new < waiting old
-CloseAdvances old new Finished = waiting new < waiting old
-CloseAdvances old new Ended = Unit {0}
-CloseAdvances old new (Failed f) = Unit {0}
+abbrev pub StepAtEndAdvances : Standing → Standing → Stepped → Type 0
+StepAtEndAdvances old new NeedMore = ⊥
+StepAtEndAdvances old new More = waiting new < waiting old
+StepAtEndAdvances old new Finished = waiting new < waiting old
+StepAtEndAdvances old new Ended = Unit {0}
+StepAtEndAdvances old new (Failed f) = Unit {0}
 
 -- a write that failed is counted, nothing else
 abbrev pub CountsStep : Stepped → ℕ → ℕ → Type 0

@@ -9,7 +9,7 @@ use Rattle.pgn_game.specs.declared.stage.Stage.TheVariants.{InMovetext}
 use Rattle.pgn_game.specs.Profile.{Profile, Missing, counts_as_unknown, takes_the_marker}
 use Rattle.pgn_game.specs.Chess.{text_of_move, is_black_to_move}
 use Rattle.pgn_game.specs.Game.{Item, move, glyph, comment_open, word, comment_close, open_variation, close_variation, Game, Part}
-use Rattle.pgn_game.specs.Here.{Levels, levels_after, first_level, start_of, depth, here}
+use Rattle.pgn_game.specs.Levels.{Levels, levels_after, first_level, start_of, depth, here}
 use Rattle.pgn_game.specs.TagSection.{tag_section}
 use Rattle.pgn_game.specs.FaultTable.{result_for}
 

@@ -6,22 +6,22 @@ ghost use Rattle.pgn_lexer.specs.Stands.{first, HasLeft};
 ghost use Rattle.pgn_game.specs.declared.reason.Reason.TheVariants.{InputTooLong, Lexical};
 ghost use Rattle.pgn_game.specs.declared.converter.Stepped.TheVariants.{NeedMore, Failed};
 ghost use Rattle.pgn_game.specs.Profile.{Profile};
-ghost use Rattle.pgn_game.specs.Stepping.{FeedsFront, AfterStep, AfterClosing, StepAdvances, CloseAdvances, CountsStep, stepped_of, games_after, fault_of_step, closed_with, is_game as is_of_game, is_ended as is_of_end};
+ghost use Rattle.pgn_game.specs.Stepping.{FeedsFront, AfterStep, AfterStepAtEnd, StepAdvances, StepAtEndAdvances, CountsStep, stepped_of, games_after, fault_of_step, closed_with, finished_game as step_finished_game, is_ended as is_of_end};
 ghost use Rattle.pgn_game.specs.Feeding.{HasRead, Stands, Feeds, KeepsGames, FeedsAll, Ends, Again, KeepsFault, CountsFault, Advances, profile_of, used_of, value_at_hand, plies_at_hand, position_at_hand};
 ghost use Rattle.pgn_game.specs.Reading.{whole_plies};
 
 use crate::accept::{Accepted, Stopped};
-use crate::kinds::is_end;
 use crate::mode::Mode;
 use crate::reader::Reader;
 use crate::reason::{Fault, Reason};
+use crate::token_tests::is_end;
 use chess_rules::position::Position;
 use pgn_layout::Sink;
 use pgn_lexer::{LexFault, Lexer, Outcome};
 use std::marker::Model;
 
 /// The most bytes of an input, and so the first place that no byte may have.
-const LONGEST: u64 = 1 << 62;
+const MAX_INPUT_LENGTH: u64 = 1 << 62;
 
 /// What `Converter::feed` did with a piece.
 #[derive(Clone, Copy, Debug, PartialEq, Eq)]
@@ -63,7 +63,7 @@ pub struct Converter<const T: usize, const L: usize> {
     lexer: Lexer,
     reader: Reader<T, L>,
     games: u64,
-    is_at_hand: bool,
+    has_finished_game: bool,
     is_finished: bool,
     fault: Option<Fault>,
 }
@@ -78,12 +78,13 @@ impl<const T: usize, const L: usize> Model for Converter<T, L> {
       lexer = c.lexer;
       reading = c.reader;
       games = c.games;
-      at_hand = held_if c.is_at_hand c.reader;
+      at_hand = held_if c.has_finished_game c.reader;
       is_finished = c.is_finished;
       fault = c.fault;
     } };
 
-    ghost invariant = { λ c. IsSound c.lexer c.reader c.games c.is_at_hand c.is_finished c.fault };
+    ghost invariant = { λ c. IsSound c.lexer c.reader c.games c.has_finished_game c.is_finished
+        c.fault };
 }
 
 impl<const T: usize, const L: usize> Converter<T, L> {
@@ -97,7 +98,7 @@ impl<const T: usize, const L: usize> Converter<T, L> {
             lexer: Lexer::new(),
             reader: Reader::new(mode),
             games: 0,
-            is_at_hand: false,
+            has_finished_game: false,
             is_finished: false,
             fault: None,
         }
@@ -194,18 +195,18 @@ impl<const T: usize, const L: usize> Converter<T, L> {
         if let Some(fault) = self.fault {
             return Err(fault);
         }
-        self.is_at_hand = false;
-        let mut is_game = false;
+        self.has_finished_game = false;
+        let mut finished_game = false;
         loop {
-            match self.close(out) {
-                // Never: see `AfterClosing`.
+            match self.step_at_end(out) {
+                // Never: see `AfterStepAtEnd`.
                 Stepped::NeedMore => {}
                 Stepped::More => {}
-                Stepped::Finished => is_game = true,
+                Stepped::Finished => finished_game = true,
                 Stepped::Ended => {
                     // `Ended` comes only between games.
-                    self.is_at_hand = is_game && self.reader.is_between();
-                    return Ok(is_game);
+                    self.has_finished_game = finished_game && self.reader.is_between();
+                    return Ok(finished_game);
                 }
                 Stepped::Failed(fault) => return Err(fault),
             }
@@ -219,7 +220,7 @@ impl<const T: usize, const L: usize> Converter<T, L> {
     pub fn tag(&self, name: &[u8]) -> Option<&[u8]>
         ensures { option_copied result ≡ value_at_hand self.now name.now }
     {
-        if self.is_at_hand {
+        if self.has_finished_game {
             return self.reader.value(name);
         }
         None
@@ -230,7 +231,7 @@ impl<const T: usize, const L: usize> Converter<T, L> {
     pub fn plies(&self) -> u64
         ensures { result ≡ plies_at_hand self.now }
     {
-        if self.is_at_hand {
+        if self.has_finished_game {
             return self.reader.plies();
         }
         0
@@ -241,7 +242,7 @@ impl<const T: usize, const L: usize> Converter<T, L> {
     pub fn position(&self) -> Option<&Position>
         ensures { option_copied result ≡ position_at_hand self.now }
     {
-        if self.is_at_hand {
+        if self.has_finished_game {
             return Some(self.reader.position());
         }
         None
@@ -308,7 +309,7 @@ impl<const T: usize, const L: usize> Converter<T, L> {
         ensures probes { self.old.reading.most_probes ≤ self.new.reading.most_probes }
         ensures counted { CountsFault result (W.failures out.old) (W.failures out.new) }
     {
-        self.is_at_hand = false;
+        self.has_finished_game = false;
         let mut at = 0;
         while at < piece.len() {
             let step = self.step(&piece[at..], out);
@@ -342,7 +343,7 @@ impl<const T: usize, const L: usize> Converter<T, L> {
         ensures fault { self.new.fault ≡ fault_of_step result.outcome }
         ensures games { self.new.games ≡ games_after result.outcome self.old.games }
         ensures probes { self.old.reading.most_probes ≤ self.new.reading.most_probes }
-        ensures hand { is_some self.new.at_hand ≡ is_of_game result.outcome }
+        ensures hand { is_some self.new.at_hand ≡ step_finished_game result.outcome }
         ensures going { self.new.is_finished ≡ self.old.is_finished }
         ensures counted { CountsStep result.outcome (W.failures out.old) (W.failures out.new) }
     {
@@ -357,7 +358,7 @@ impl<const T: usize, const L: usize> Converter<T, L> {
                 let at = token.at;
                 let accepted = self.reader.accept(token.kind, out);
                 let outcome = settle(at, accepted, &mut self.games, &mut self.fault);
-                self.is_at_hand = is_game(outcome);
+                self.has_finished_game = finished_game(outcome);
                 Step { used, outcome }
             }
             Outcome::Fault(fault) => Step {
@@ -369,14 +370,15 @@ impl<const T: usize, const L: usize> Converter<T, L> {
 
     /// Takes the next of the tokens that are left after the last piece. The end of the input is the
     /// last one.
-    fn close<W: Sink>(&mut self, out: &mut W) -> Stepped
+    fn step_at_end<W: Sink>(&mut self, out: &mut W) -> Stepped
         requires no_fault { self.old.fault ≡ None }
         requires going { self.old.is_finished ≡ false }
         requires hand { self.old.at_hand ≡ None }
         ensures after { (p : Profile) (u : List ℕ) (given : List Token)
             → HasLeft self.old.lexer u given → HasRead p self.old given
-            → AfterClosing p u given self.old self.new result (W.taken out.old) (W.taken out.new) }
-        ensures advances { CloseAdvances self.old.lexer self.new.lexer result }
+            → AfterStepAtEnd p u given self.old self.new result (W.taken out.old)
+            (W.taken out.new) }
+        ensures advances { StepAtEndAdvances self.old.lexer self.new.lexer result }
         ensures fault { self.new.fault ≡ fault_of_step result }
         ensures games { self.new.games ≡ games_after result self.old.games }
         ensures probes { self.old.reading.most_probes ≤ self.new.reading.most_probes }
@@ -405,7 +407,7 @@ fn within_limit(count: u64, piece: &[u8]) -> &[u8]
     requires { count ≤ 2 ^ 62 }
     ensures { result.now ≡ take (2 ^ 62 - count) piece.now }
 {
-    let room = LONGEST - count;
+    let room = MAX_INPUT_LENGTH - count;
     if piece.len() as u64 <= room {
         return piece;
     }
@@ -417,7 +419,7 @@ fn too_long(kept: &mut Option<Fault>) -> Fault
     ensures fault { result ≡ record { at = 2 ^ 62; reason = InputTooLong } }
     ensures kept { kept.new ≡ Some result }
 {
-    let at = LONGEST;
+    let at = MAX_INPUT_LENGTH;
     let reason = Reason::InputTooLong;
     *kept = Some(Fault { at, reason });
     Fault { at, reason }
@@ -471,8 +473,8 @@ fn lexical(fault: LexFault) -> Fault
 }
 
 // Whether the step finished a game.
-fn is_game(outcome: Stepped) -> bool
-    ensures { result ≡ is_of_game outcome }
+fn finished_game(outcome: Stepped) -> bool
+    ensures { result ≡ step_finished_game outcome }
 {
     match outcome {
         Stepped::Finished => true,

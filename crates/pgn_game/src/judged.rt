@@ -9,7 +9,7 @@ use chess_text::resolve::Played;
 #[derive(Clone, Copy)]
 pub enum Judged<'a> {
     /// A comment outside movetext, or the end between games: nothing.
-    Passed,
+    Skipped,
     /// The `[` of a tag pair.
     PairOpen,
     /// The name of a tag pair.

@@ -39,7 +39,7 @@ pub struct Levels<const L: usize> {
 }
 
 impl<const L: usize> Model for Levels<L> {
-    ghost use Rattle.pgn_game.specs.Movetext.{Levels as Seen, AreHeld, levels_in};
+    ghost use Rattle.pgn_game.specs.Movetext.{HeldLevels as Seen, AreHeld, levels_in};
 
     ghost Value = { Seen };
 
@@ -86,7 +86,7 @@ impl<const L: usize> Levels<L> {
 
     /// Whether a move was played at the current level.
     #[inline(always)]
-    pub fn holds_move(&self) -> bool
+    pub fn has_own_move(&self) -> bool
         ensures { result ≡ is_some self.now.present.before }
     {
         self.levels[self.levels.len() - 1].before.is_some()

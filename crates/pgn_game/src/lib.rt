@@ -5,10 +5,10 @@
 #![tactic(auto)]
 
 mod accept;
+mod conversion;
 mod converter;
 mod find;
 mod judged;
-mod kinds;
 pub mod laws;
 mod levels;
 mod mode;
@@ -21,12 +21,12 @@ mod section;
 mod source;
 mod stage;
 mod tags;
-mod whole;
+mod token_tests;
 
+pub use conversion::{Totals, convert, convert_slice};
 pub use converter::{Converter, Fed};
 pub use mode::Mode;
 pub use pgn_layout::{Nowhere, Outlet, Sink, WriteFault};
 pub use pgn_lexer::LexReason;
 pub use reason::{Fault, Reason};
 pub use source::{Inlet, ReadFailed, Source};
-pub use whole::{Totals, convert, convert_slice};

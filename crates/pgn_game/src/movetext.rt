@@ -11,7 +11,7 @@ ghost use Rattle.pgn_game.specs.Putting.{device, number_due, tokens_due, writes}
 use crate::judged::Item;
 use crate::levels::Levels;
 use crate::mode::Mode;
-use crate::number::{black_number, glyph_number, white_number};
+use crate::number::{black_number, glyph_text, white_number};
 use chess_rules::piece::Colour;
 use chess_rules::position::Position;
 use chess_rules::probes::Probes;
@@ -88,10 +88,10 @@ impl<const L: usize> Movetext<L> {
     }
 
     /// Whether a move was played at the current level.
-    pub fn holds_move(&self) -> bool
+    pub fn has_own_move(&self) -> bool
         ensures { result ≡ is_some self.now.levels.present.before }
     {
-        self.levels.holds_move()
+        self.levels.has_own_move()
     }
 
     /// How many moves outside variations there are.
@@ -180,7 +180,7 @@ impl<const L: usize> Movetext<L> {
     {
         match item {
             Item::Move(played) => self.write_move(played, probes, layout, out),
-            Item::Glyph(glyph) => layout.put(glyph_number(*glyph).as_slice(), out),
+            Item::Glyph(glyph) => layout.put(glyph_text(*glyph).as_slice(), out),
             Item::CommentOpen => layout.put(b"{", out),
             Item::Word(word) => layout.put(word, out),
             Item::CommentClose => layout.put(b"}", out),

@@ -25,7 +25,7 @@ pub fn black_number(number: u32) -> ArrayVec<u8, NUMBER_LENGTH>
 }
 
 /// Returns the text of a NAG: `$n` (PGN 8.2.4). The byte 36 is `$`.
-pub fn glyph_number(glyph: u8) -> ArrayVec<u8, NUMBER_LENGTH>
+pub fn glyph_text(glyph: u8) -> ArrayVec<u8, NUMBER_LENGTH>
     ensures text { result.items ≡ 36 ∷ decimal glyph }
     ensures token { IsToken result.items }
 {

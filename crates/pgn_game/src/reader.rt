@@ -10,15 +10,15 @@ ghost use Rattle.pgn_layout.specs.Layout.{holding};
 ghost use Rattle.pgn_game.specs.Pairs.{value_of};
 ghost use Rattle.pgn_game.specs.Chess.{first_position};
 ghost use Rattle.pgn_game.specs.TagSection.{exported};
-ghost use Rattle.pgn_game.specs.declared.stage.Stage.TheVariants.{Between, AfterBracket, AfterName};
+ghost use Rattle.pgn_game.specs.declared.stage.Stage.TheVariants.{Between, AfterLeftBracket, AfterName};
 ghost use Rattle.pgn_game.specs.declared.stage.Stage.TheVariants.{AfterValue, AfterTags};
 ghost use Rattle.pgn_game.specs.declared.stage.Stage.TheVariants.{InMovetext};
 ghost use Rattle.pgn_game.specs.declared.judged.Judged.TheVariants.{Entry as InText};
 ghost use Rattle.pgn_game.specs.Profile.{counts_as_unknown};
 ghost use Rattle.pgn_game.specs.Movetext.{begins_at};
 ghost use Rattle.pgn_game.specs.Reading.{Accepts, Agrees, Stays, FinishesAtMarker, CountsWrites};
-ghost use Rattle.pgn_game.specs.Judging.{Counts, Finds, Fits, Judges, JudgesEntry, Seeks, is_open};
-ghost use Rattle.pgn_game.specs.Judging.{start_told as told};
+ghost use Rattle.pgn_game.specs.Judging.{Counts, Finds, Fits, Judges, JudgesEntry, Seeks, may_have_movetext};
+ghost use Rattle.pgn_game.specs.Judging.{fen_position as position_in_fen};
 ghost use Rattle.pgn_game.specs.Putting.{device};
 ghost use Rattle.pgn_game.specs.Handling.{BeginsText, Puts, TriesJudged, begins, readied};
 ghost use Rattle.pgn_game.specs.MostTried.{RaisesMost};
@@ -30,7 +30,6 @@ ghost use Rattle.pgn_game.specs.FaultTable.{lacks_fen as set_up_lacks_fen, marke
 use crate::accept::{Accepted, Stopped};
 use crate::find::find_move;
 use crate::judged::{Entry, Item, Judged};
-use crate::kinds::{is_comment, is_end, is_number, is_result, is_score, is_tag_name};
 use crate::mode::Mode;
 use crate::movetext::Movetext;
 use crate::pair::TEXT_LENGTH;
@@ -38,6 +37,7 @@ use crate::reason::Reason;
 use crate::section::{exported_value, write_section};
 use crate::stage::Stage;
 use crate::tags::TagPairs;
+use crate::token_tests::{is_comment, is_end, is_number, is_result, is_score, is_tag_name};
 use chess_rules::position::Position;
 use chess_rules::probes::Probes;
 use chess_text::fen::read_fen;
@@ -96,7 +96,7 @@ impl<const T: usize, const L: usize> Reader<T, L> {
             missing_result = counts_as_unknown;
           };
           stage = Between;
-          tags = record { held = []; begun = None };
+          tags = record { held = []; pending_name = None };
           text = begins_at first_position;
           earlier_plies = 0;
           most_probes = 0;
@@ -220,7 +220,7 @@ impl<const T: usize, const L: usize> Reader<T, L> {
         let TokenKind::Symbol(text) = kind else {
             return None;
         };
-        if !self.is_open() || is_score(text) || is_number(text) {
+        if !self.may_have_movetext() || is_score(text) || is_number(text) {
             return None;
         }
         let found = find_move(self.text.present(), text, probes);
@@ -230,8 +230,8 @@ impl<const T: usize, const L: usize> Reader<T, L> {
 
     // Whether movetext can begin, or goes on.
     #[inline(always)]
-    fn is_open(&self) -> bool
-        ensures { result ≡ is_open self.now.stage }
+    fn may_have_movetext(&self) -> bool
+        ensures { result ≡ may_have_movetext self.now.stage }
     {
         match self.stage {
             Stage::AfterTags => true,
@@ -264,10 +264,10 @@ impl<const T: usize, const L: usize> Reader<T, L> {
         ensures { Judges T L self.now (kind_of kind.entry) result }
     {
         match self.stage {
-            Stage::Between => Ok(Judged::Passed),
-            Stage::AfterBracket => self.judge_name(kind),
+            Stage::Between => Ok(Judged::Skipped),
+            Stage::AfterLeftBracket => self.judge_name(kind),
             Stage::AfterName => self.judge_value(kind),
-            Stage::AfterValue => self.judge_bracket(kind),
+            Stage::AfterValue => self.judge_right_bracket(kind),
             Stage::AfterTags => self.judge_after_tags(kind, found),
             Stage::InMovetext => self.judge_in_movetext(kind, found),
         }
@@ -275,11 +275,11 @@ impl<const T: usize, const L: usize> Reader<T, L> {
 
     // The name of a pair, or a comment before it.
     fn judge_name<'a>(&self, kind: TokenKind<'a>) -> Result<Judged<'a>, Reason>
-        requires stage { self.now.stage ≡ AfterBracket }
+        requires stage { self.now.stage ≡ AfterLeftBracket }
         ensures { Judges T L self.now (kind_of kind.entry) result }
     {
         if is_comment(kind) {
-            return Ok(Judged::Passed);
+            return Ok(Judged::Skipped);
         }
         let TokenKind::Symbol(name) = kind else {
             return Err(Reason::ExpectedName);
@@ -305,16 +305,16 @@ impl<const T: usize, const L: usize> Reader<T, L> {
         ensures { Judges T L self.now (kind_of kind.entry) result }
     {
         if is_comment(kind) {
-            return Ok(Judged::Passed);
+            return Ok(Judged::Skipped);
         }
         let TokenKind::Str(value) = kind else {
             return Err(Reason::ExpectedValue);
         };
-        let name = self.tags.begun();
+        let name = self.tags.pending_name();
         if is_bad_result(name, value) {
             return Err(Reason::BadResult);
         }
-        if let Err(field) = start_told(name, value) {
+        if let Err(field) = fen_position(name, value) {
             return Err(Reason::BadFen(field));
         }
         if !fits_tag_line(name, value) {
@@ -324,12 +324,12 @@ impl<const T: usize, const L: usize> Reader<T, L> {
     }
 
     // The `]` of a pair, or a comment before it.
-    fn judge_bracket<'a>(&self, kind: TokenKind<'a>) -> Result<Judged<'a>, Reason>
+    fn judge_right_bracket<'a>(&self, kind: TokenKind<'a>) -> Result<Judged<'a>, Reason>
         requires stage { self.now.stage ≡ AfterValue }
         ensures { Judges T L self.now (kind_of kind.entry) result }
     {
         if is_comment(kind) {
-            return Ok(Judged::Passed);
+            return Ok(Judged::Skipped);
         }
         match kind {
             TokenKind::RightBracket => Ok(Judged::PairClose),
@@ -367,7 +367,7 @@ impl<const T: usize, const L: usize> Reader<T, L> {
 
     // Whether SetUp says 1, and there is no FEN (PGN 9.7).
     fn lacks_fen(&self) -> bool
-        requires { IsTrue (is_open self.now.stage) }
+        requires { IsTrue (may_have_movetext self.now.stage) }
         ensures { result ≡ set_up_lacks_fen self.now.tags.held }
     {
         self.tags.value(b"SetUp").unwrap_or(b"") == b"1".as_slice()
@@ -401,7 +401,7 @@ impl<const T: usize, const L: usize> Reader<T, L> {
         found: &'a Option<Result<Played, Reason>>,
     ) -> Result<Judged<'a>, Reason>
         requires found { Finds self.now (kind_of kind) found.now }
-        requires stage { IsTrue (is_open self.now.stage) }
+        requires stage { IsTrue (may_have_movetext self.now.stage) }
         requires token { HasLength (kind_of kind) }
         ensures { JudgesEntry T L self.now (kind_of kind.entry) result }
     {
@@ -413,8 +413,8 @@ impl<const T: usize, const L: usize> Reader<T, L> {
             TokenKind::CommentOpen => Ok(Judged::Entry(Entry::Item(Item::CommentOpen))),
             TokenKind::Word(word) => Ok(Judged::Entry(Entry::Item(Item::Word(word)))),
             TokenKind::CommentClose => Ok(Judged::Entry(Entry::Item(Item::CommentClose))),
-            TokenKind::LeftParen => self.judge_open(),
-            TokenKind::RightParen => self.judge_close(),
+            TokenKind::LeftParen => self.judge_variation_open(),
+            TokenKind::RightParen => self.judge_variation_close(),
             _ => Err(Reason::NotAMove),
         }
     }
@@ -427,7 +427,7 @@ impl<const T: usize, const L: usize> Reader<T, L> {
         found: &'a Option<Result<Played, Reason>>,
     ) -> Result<Judged<'a>, Reason>
         requires found { Finds self.now (symbol text.now) found.now }
-        requires stage { IsTrue (is_open self.now.stage) }
+        requires stage { IsTrue (may_have_movetext self.now.stage) }
         ensures { JudgesEntry T L self.now (symbol text.now) result }
     {
         match found {
@@ -445,11 +445,11 @@ impl<const T: usize, const L: usize> Reader<T, L> {
     }
 
     // A `(`: a variation begins (PGN 8.2.5).
-    fn judge_open<'a>(&self) -> Result<Judged<'a>, Reason>
-        requires stage { IsTrue (is_open self.now.stage) }
+    fn judge_variation_open<'a>(&self) -> Result<Judged<'a>, Reason>
+        requires stage { IsTrue (may_have_movetext self.now.stage) }
         ensures { JudgesEntry T L self.now left_paren result }
     {
-        if !self.text.holds_move() {
+        if !self.text.has_own_move() {
             return Err(Reason::NoMoveBefore);
         }
         if self.text.depth() + 1 >= L {
@@ -459,8 +459,8 @@ impl<const T: usize, const L: usize> Reader<T, L> {
     }
 
     // A `)`: the variation ends (PGN 8.2.5).
-    fn judge_close<'a>(&self) -> Result<Judged<'a>, Reason>
-        requires stage { IsTrue (is_open self.now.stage) }
+    fn judge_variation_close<'a>(&self) -> Result<Judged<'a>, Reason>
+        requires stage { IsTrue (may_have_movetext self.now.stage) }
         ensures { JudgesEntry T L self.now right_paren result }
     {
         if self.text.depth() == 0 {
@@ -471,7 +471,7 @@ impl<const T: usize, const L: usize> Reader<T, L> {
 
     // The marker of a game (PGN 8.2.6).
     fn judge_marker<'a>(&self, marker: &'a [u8]) -> Result<Judged<'a>, Reason>
-        requires stage { IsTrue (is_open self.now.stage) }
+        requires stage { IsTrue (may_have_movetext self.now.stage) }
         requires token { IsToken marker.now }
         ensures { (k : TokenKind) → marker_of (kind_of k) ≡ Some marker.now
             → JudgesEntry T L self.now (kind_of k) result }
@@ -504,9 +504,9 @@ impl<const T: usize, const L: usize> Reader<T, L> {
             → self.new.most_probes ≡ max self.old.most_probes probes.new }
     {
         match judged {
-            Judged::Passed => Ok(Accepted::More),
+            Judged::Skipped => Ok(Accepted::More),
             Judged::PairOpen => {
-                self.stage = Stage::AfterBracket;
+                self.stage = Stage::AfterLeftBracket;
                 Ok(Accepted::More)
             }
             Judged::Name(name) => {
@@ -515,7 +515,7 @@ impl<const T: usize, const L: usize> Reader<T, L> {
                 Ok(Accepted::More)
             }
             Judged::Value(value) => {
-                let start = start_told(self.tags.begun(), value).unwrap_or(None);
+                let start = fen_position(self.tags.pending_name(), value).unwrap_or(None);
                 self.tags.complete(value);
                 self.text.begin_at(start);
                 self.stage = Stage::AfterValue;
@@ -570,7 +570,7 @@ impl<const T: usize, const L: usize> Reader<T, L> {
     // Writes the tag section, where movetext is not begun yet.
     fn begin_movetext<W: Sink>(&mut self, out: &mut W) -> Result<(), WriteFault>
         requires going { self.old.layout.has_failed ≡ false }
-        requires stage { IsTrue (is_open self.old.stage) }
+        requires stage { IsTrue (may_have_movetext self.old.stage) }
         ensures begins { BeginsText self.old self.new result
             (device W.taken W.failures out.old out.new) }
     {
@@ -584,8 +584,8 @@ impl<const T: usize, const L: usize> Reader<T, L> {
 }
 
 // Parses the value of a FEN tag, or gives its field at fault; for another tag None (PGN 9.7.2).
-fn start_told(name: &[u8], value: &[u8]) -> Result<Option<Position>, u8>
-    ensures { result ≡ told name.now value.now }
+fn fen_position(name: &[u8], value: &[u8]) -> Result<Option<Position>, u8>
+    ensures { result ≡ position_in_fen name.now value.now }
 {
     if name != b"FEN".as_slice() {
         return Ok(None);

@@ -13,7 +13,7 @@ use std::marker::Model;
 #[derive(Drop)]
 pub struct TagPairs<const T: usize> {
     pairs: ArrayVec<TagPair, T>,
-    has_begun: bool,
+    has_pending_name: bool,
 }
 
 impl<const T: usize> Model for TagPairs<T> {
@@ -22,25 +22,25 @@ impl<const T: usize> Model for TagPairs<T> {
 
     ghost Value = { Seen };
 
-    ghost view = { λ t. pairs_seen (t.pairs.items) t.has_begun };
+    ghost view = { λ t. pairs_seen (t.pairs.items) t.has_pending_name };
 
-    ghost invariant = { λ t. AreHeld T t.pairs.items t.has_begun };
+    ghost invariant = { λ t. AreHeld T t.pairs.items t.has_pending_name };
 }
 
 impl<const T: usize> TagPairs<T> {
     /// Returns no pairs.
     pub fn new() -> Self
-        ensures { result ≡ record { held = []; begun = None } }
+        ensures { result ≡ record { held = []; pending_name = None } }
     {
         TagPairs {
             pairs: ArrayVec::new(),
-            has_begun: false,
+            has_pending_name: false,
         }
     }
 
     /// Whether there are `T` pairs.
     pub fn is_full(&self) -> bool
-        requires { self.now.begun ≡ None }
+        requires { self.now.pending_name ≡ None }
         ensures full { IsTrue result ↔ (length self.now.held ≡ T) }
         ensures room { length self.now.held ≤ T }
     {
@@ -49,7 +49,7 @@ impl<const T: usize> TagPairs<T> {
 
     /// Returns the value of a name, if it has one.
     pub fn value(&self, name: &[u8]) -> Option<&[u8]>
-        requires { self.now.begun ≡ None }
+        requires { self.now.pending_name ≡ None }
         ensures value { option_copied result ≡ value_of self.now.held name.now }
         ensures fits { IfSome result (λ value. length name.now + length (escaped value.now) ≤ 249) }
     {
@@ -58,7 +58,7 @@ impl<const T: usize> TagPairs<T> {
 
     /// Returns the pairs, in the order of their names.
     pub fn pairs(&self) -> &[TagPair]
-        requires { self.now.begun ≡ None }
+        requires { self.now.pending_name ≡ None }
         ensures { result.now ≡ self.now.held }
     {
         self.pairs.as_slice()
@@ -66,19 +66,19 @@ impl<const T: usize> TagPairs<T> {
 
     /// Adds a name that has no value yet.
     pub fn begin(&mut self, name: &[u8])
-        requires whole { self.old.begun ≡ None }
+        requires whole { self.old.pending_name ≡ None }
         requires room { length self.old.held < T }
         requires fits { length name.now ≤ 249 }
-        ensures { self.new ≡ record { held = self.old.held; begun = Some name.now } }
+        ensures { self.new ≡ record { held = self.old.held; pending_name = Some name.now } }
     {
         self.pairs.push(TagPair::new(name, b""));
-        self.has_begun = true;
+        self.has_pending_name = true;
     }
 
     /// Returns the name that has no value yet.
-    pub fn begun(&self) -> &[u8]
-        requires { IsSome self.now.begun }
-        ensures { self.now.begun ≡ Some result.now }
+    pub fn pending_name(&self) -> &[u8]
+        requires { IsSome self.now.pending_name }
+        ensures { self.now.pending_name ≡ Some result.now }
     {
         match self.pairs.last() {
             Some(pair) => pair.name(),
@@ -88,28 +88,28 @@ impl<const T: usize> TagPairs<T> {
 
     /// Adds the value of the name that has none yet.
     pub fn complete(&mut self, value: &[u8])
-        requires { IsSomeAnd self.old.begun
+        requires { IsSomeAnd self.old.pending_name
             (λ name. length name + length (escaped value.now) ≤ 249) }
-        ensures { IfSome self.old.begun (λ name. self.new
+        ensures { IfSome self.old.pending_name (λ name. self.new
             ≡ record {
               held = insert_pair (record { name = name; value = value.now }) self.old.held;
-              begun = None;
+              pending_name = None;
             }) }
     {
-        if let Some(begun) = self.pairs.pop() {
-            let pair = TagPair::new(begun.name(), value);
+        if let Some(pending) = self.pairs.pop() {
+            let pair = TagPair::new(pending.name(), value);
             let place = place_of(self.pairs.as_slice(), pair.name());
             self.pairs.insert(place, pair);
-            self.has_begun = false;
+            self.has_pending_name = false;
         }
     }
 
     /// Drops all pairs.
     pub fn clear(&mut self)
-        ensures { self.new ≡ record { held = []; begun = None } }
+        ensures { self.new ≡ record { held = []; pending_name = None } }
     {
         self.pairs.clear();
-        self.has_begun = false;
+        self.has_pending_name = false;
     }
 }
 

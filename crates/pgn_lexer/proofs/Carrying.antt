@@ -3,12 +3,12 @@ use Rattle.std.proofs.Common.{◌≡◌, ◌-◌, Bool, true, false, ℕ, zero, 
 use Rattle.std.specs.Prelude.{Option, None, Some, take_while, nat_lt, ◌⊎◌}
 use Rattle.std.specs.List.{AllByRecursion}
 use Rattle.pgn_lexer.specs.declared.token.LexFault.{LexFault}
-use Rattle.pgn_lexer.specs.declared.hand.Mode.{Mode}
-use Rattle.pgn_lexer.specs.declared.hand.Mode.TheVariants as modes
+use Rattle.pgn_lexer.specs.declared.partial_token.Mode.{Mode}
+use Rattle.pgn_lexer.specs.declared.partial_token.Mode.TheVariants as modes
 use Rattle.pgn_lexer.specs.Tokens.{Token, is_run}
 use Rattle.pgn_lexer.specs.TokensOf.{tokens_of}
 use Rattle.pgn_lexer.specs.Decided.{decided, known}
-use Rattle.pgn_lexer.specs.declared.hand.Form.{Form}
+use Rattle.pgn_lexer.specs.declared.partial_token.TokenForm.{TokenForm}
 use Rattle.pgn_lexer.specs.Held.{Held, to_come, token_of, kind_in, refusal, IsGoing}
 use Rattle.pgn_lexer.specs.Running.{RunsOut, StoodAt, EndsWithByte, EndsBeforeByte, RunsToToken, RunsToFault}
 use Rattle.pgn_lexer.specs.Scanned.{Scanned, more, token, fault}
@@ -54,7 +54,7 @@ pub going_fault : (m : Mode) → IsGoing m → fault_in_mode m ≡ None
 going_fault modes.Start going = refl
 going_fault modes.AfterEf going = refl
 going_fault modes.AfterEfBb going = refl
-going_fault modes.Column going = refl
+going_fault modes.LineStart going = refl
 going_fault modes.Outside going = refl
 going_fault modes.Escape going = refl
 going_fault modes.Symbol going = refl
@@ -74,7 +74,7 @@ failed_mode (modes.Failed g) f e = cc
 failed_mode modes.Start f e = cc
 failed_mode modes.AfterEf f e = cc
 failed_mode modes.AfterEfBb f e = cc
-failed_mode modes.Column f e = cc
+failed_mode modes.LineStart f e = cc
 failed_mode modes.Outside f e = cc
 failed_mode modes.Escape f e = cc
 failed_mode modes.Symbol f e = cc
@@ -94,7 +94,7 @@ going_or_failed (modes.Failed f) = inr (f, refl)
 going_or_failed modes.Start = inl tt
 going_or_failed modes.AfterEf = inl tt
 going_or_failed modes.AfterEfBb = inl tt
-going_or_failed modes.Column = inl tt
+going_or_failed modes.LineStart = inl tt
 going_or_failed modes.Outside = inl tt
 going_or_failed modes.Escape = inl tt
 going_or_failed modes.Symbol = inl tt
@@ -309,7 +309,7 @@ module _ (count : ℕ) (old new : Held) (piece : List ℕ) (used : ℕ) (t : Tok
 pub same_parts : (i j : Token) → i.at ≡ j.at → i.kind ≡ j.kind → i ≡ j
 same_parts i j at kind = ap (λ n. record { at = n; kind = i.kind }) at ∙ ap (λ k. record { at = j.at; kind = k }) kind
 
-pub scans_form : (count : ℕ) (old new : Held) (piece : List ℕ) (used : ℕ) (form : Form) (t : Token) → t.at ≡ new.at → t.kind ≡ kind_in form new.text
+pub scans_form : (count : ℕ) (old new : Held) (piece : List ℕ) (used : ℕ) (form : TokenForm) (t : Token) → t.at ≡ new.at → t.kind ≡ kind_in form new.text
     → RunsToToken count old piece (token_of form new) new used → Scans (ahead count old) piece (behind count new used) used (token t)
 scans_form count old new piece used form t at kind h =
     subst (λ t. Scans (ahead count old) piece (behind count new used) used (token t)) (sym (same_parts t (token_of form new) at kind))

@@ -192,9 +192,9 @@ control_class b e = told_control (class b) (sym (agree_below_at is_control (λ k
 pub control_comment : (b : ℕ) → is_control b ≡ true → comment_class b ≡ comments.Control
 control_comment b e = told_control_in_comment (comment_class b) (sym (agree_below_at is_control (λ k. tells_control_in_comment (comment_class k)) 128 b refl (control_small b e)) ∙ e)
 
-pub letter_comment : (b : ℕ) → continues_word b ≡ true → comment_class b ≡ comments.Letter
+pub letter_comment : (b : ℕ) → continues_word b ≡ true → comment_class b ≡ comments.WordByte
 letter_comment b e = with_letter (continues_word b) _ e
   where
-    with_letter : (s : Bool) (c : CommentClass) → s ≡ true → (if s then comments.Letter else c) ≡ comments.Letter
+    with_letter : (s : Bool) (c : CommentClass) → s ≡ true → (if s then comments.WordByte else c) ≡ comments.WordByte
     with_letter true c e = refl
     with_letter false c e = absurd (false≢true e)

@@ -3,8 +3,8 @@ use Rattle.std.proofs.Common.{◌≡◌, ℕ, ◌<◌, List, [], ◌∷◌, ◌+
 use Rattle.std.specs.Prelude.{None}
 use Rattle.pgn_lexer.specs.declared.token.LexFault.{LexFault}
 use Rattle.pgn_lexer.specs.declared.class.Single.TheVariants as singles
-use Rattle.pgn_lexer.specs.declared.hand.Form.{Form}
-use Rattle.pgn_lexer.specs.declared.hand.Form.TheVariants as forms
+use Rattle.pgn_lexer.specs.declared.partial_token.TokenForm.{TokenForm}
+use Rattle.pgn_lexer.specs.declared.partial_token.TokenForm.TheVariants as forms
 use Rattle.pgn_lexer.specs.Tokens.{Token, end}
 use Rattle.pgn_lexer.specs.Held.{Held, to_come, token_of, kind_in}
 use Rattle.pgn_lexer.specs.Scanned.{Scanned, token, fault}
@@ -14,7 +14,7 @@ use Rattle.pgn_lexer.proofs.Stepping.{ClosesToken, ClosesFault, ClosesEnd}
 use Rattle.pgn_lexer.proofs.Carrying.{going_fault, failed_mode, same_parts}
 
 -- a token of a form is no end
-gives_form : (form : Form) (text : List ℕ) (old new : Standing) (t : Token) → coming old [] ≡ t ∷ coming new [] → waiting new < waiting old → new.count ≡ old.count
+gives_form : (form : TokenForm) (text : List ℕ) (old new : Standing) (t : Token) → coming old [] ≡ t ∷ coming new [] → waiting new < waiting old → new.count ≡ old.count
     → Gives (kind_in form text) old new t
 gives_form (forms.Single singles.LeftBracket) text old new t comes less same = (comes, less, same)
 gives_form (forms.Single singles.RightBracket) text old new t comes less same = (comes, less, same)
@@ -29,7 +29,7 @@ gives_form forms.CommentOpen text old new t comes less same = (comes, less, same
 gives_form forms.Word text old new t comes less same = (comes, less, same)
 gives_form forms.CommentClose text old new t comes less same = (comes, less, same)
 
-next_form : (form : Form) (text u : List ℕ) (given : List Token) (new : Standing) (t : Token) → HasLeft new u (given ++ t ∷ []) → IsNext u given (kind_in form text) new t
+next_form : (form : TokenForm) (text u : List ℕ) (given : List Token) (new : Standing) (t : Token) → HasLeft new u (given ++ t ∷ []) → IsNext u given (kind_in form text) new t
 next_form (forms.Single singles.LeftBracket) text u given new t left = left
 next_form (forms.Single singles.RightBracket) text u given new t left = left
 next_form (forms.Single singles.LeftParen) text u given new t left = left
@@ -60,7 +60,7 @@ module _ (count : ℕ) (old new : Held) where
         stays = λ f failed. absurd (let none : fault_in_mode old.mode ≡ None = going_fault old.mode h.going in cc);
       }
 
-  pub finishes_token : (form : Form) (t : Token) → t.at ≡ new.at → t.kind ≡ kind_in form new.text → ClosesToken count old form new → Finishes before after (token t)
+  pub finishes_token : (form : TokenForm) (t : Token) → t.at ≡ new.at → t.kind ≡ kind_in form new.text → ClosesToken count old form new → Finishes before after (token t)
   finishes_token form t at kind h =
       subst (λ t. Finishes before after (token t)) (sym (same_parts t (token_of form new) at kind))
       (record {

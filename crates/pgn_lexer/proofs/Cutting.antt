@@ -155,8 +155,8 @@ from_word false at b s c e = ap (λ c. onto at (begins_line at true c b s) (toke
 
 word_goes : (braces : Bool) (at b : ℕ) (s : List ℕ) → continues_word b ≡ true → tokens_from at (word_within braces) (b ∷ s) ≡ tokens_from (at + 1) (word_within braces) s
 unfolding comment_tokens
-word_goes true at b s e = from_word true at b s comments.Letter (letter_comment b e)
-word_goes false at b s e = from_word false at b s comments.Letter (letter_comment b e)
+word_goes true at b s e = from_word true at b s comments.WordByte (letter_comment b e)
+word_goes false at b s e = from_word false at b s comments.WordByte (letter_comment b e)
 
 word_stops : (braces : Bool) (at : ℕ) (s : List ℕ) → StopsAt continues_word s → tokens_from at (word_within braces) s ≡ tokens_from at (within_of (rules.comment braces)) s
 word_stops true at [] stop = refl
@@ -167,8 +167,8 @@ word_stops false at (b ∷ s) stop = line_ends (comment_class b) at b s (sym (wo
 letter_first : (braces : Bool) (at b : ℕ) (s : List ℕ) → continues_word b ≡ true
     → tokens_from at (within_of (rules.comment braces)) (b ∷ s) ≡ onto at (word_at at (b ∷ take_while continues_word s)) (tokens_from (at + 1) (word_within braces) s)
 unfolding comment_tokens
-letter_first true at b s e = from_comment true at b s comments.Letter (letter_comment b e)
-letter_first false at b s e = from_comment false at b s comments.Letter (letter_comment b e)
+letter_first true at b s e = from_comment true at b s comments.WordByte (letter_comment b e)
+letter_first false at b s e = from_comment false at b s comments.WordByte (letter_comment b e)
 
 pub word_cut : (braces : Bool) (at b : ℕ) (run s : List ℕ) → continues_word b ≡ true → list_all continues_word run ≡ true → StopsAt continues_word s
     → tokens_from at (within_of (rules.comment braces)) (b ∷ (run ++ s)) ≡ onto at (word_at at (b ∷ run)) (tokens_from (at + 1 + length run) (within_of (rules.comment braces)) s)

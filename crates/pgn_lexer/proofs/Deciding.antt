@@ -2,9 +2,9 @@
 use Rattle.std.proofs.Common.{◌≡◌, ℕ, ◌+◌, ◌*◌, ◌≤◌, Bool, true, false, List, [], ◌∷◌, ◌++◌, length, sym, ap, ◌∙◌, append-nil, arith, length-append}
 use Rattle.std.specs.Prelude.{Option, None, Some, nat_le, if◌then◌else◌}
 use Rattle.pgn_lexer.specs.declared.token.LexReason.TheVariants.{SymbolTooLong, WordTooLong, GlyphRange}
-use Rattle.pgn_lexer.specs.declared.hand.Mode.{Mode}
-use Rattle.pgn_lexer.specs.declared.hand.Mode.TheVariants as modes
-use Rattle.pgn_lexer.specs.declared.hand.SuffixRun.TheVariants as runs
+use Rattle.pgn_lexer.specs.declared.partial_token.Mode.{Mode}
+use Rattle.pgn_lexer.specs.declared.partial_token.Mode.TheVariants as modes
+use Rattle.pgn_lexer.specs.declared.partial_token.SuffixRun.TheVariants as runs
 use Rattle.pgn_lexer.specs.Tokens.{Kind, Token, symbol, str, glyph, word, comment_close, end, refused}
 use Rattle.pgn_lexer.specs.Spelling.{gives, stops, symbol_at, word_at, numbered_at}
 use Rattle.pgn_lexer.specs.TokensOf.{onto, tokens_of}
@@ -60,7 +60,7 @@ glyph_apart n e =
     let same : n ≡ 10 * n + 1 = ap number_in e in
     omega arith
 
--- what comes of a token in hand with no byte more, and with 1 after it
+-- what comes of a partial token with no byte more, and with 1 after it
 symbol_differs : (at : ℕ) (text : List ℕ) (is js : List Token) (t : Token) → length text ≤ 255 → (c : Bool)
     → head (onto at (symbol_at at (text ++ [])) is) ≡ Some t → head (onto at (if c then gives (symbol (text ++ 49 ∷ [])) else stops at SymbolTooLong) js) ≡ Some t → ⊥
 symbol_differs at text is js t fits true e f =
@@ -99,7 +99,7 @@ differ modes.Start place at text t fits going sound none one mark quotes bf bbbf
     let same = one_kind 0 0 end (symbol (49 ∷ [])) t none one in cc
 differ modes.AfterEf place at text t fits going sound none one mark quotes bf bbbf = let same = one_place 0 3 _ _ t none bbbf in absurd (omega arith)
 differ modes.AfterEfBb place at text t fits going sound none one mark quotes bf bbbf = let same = one_place 0 3 _ _ t none bf in absurd (omega arith)
-differ modes.Column place at text t fits going sound none one mark quotes bf bbbf =
+differ modes.LineStart place at text t fits going sound none one mark quotes bf bbbf =
     let same = one_kind place place end (symbol (49 ∷ [])) t none one in cc
 differ modes.Outside place at text t fits going sound none one mark quotes bf bbbf =
     let same = one_kind place place end (symbol (49 ∷ [])) t none one in cc

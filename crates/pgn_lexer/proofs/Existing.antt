@@ -129,7 +129,7 @@ Cut w at s = (ts : List Token) × Cuts w at s ts
 
 -- what a byte that goes on with a comment's word, or not, says
 abbrev CommentSays : ℕ → CommentClass → Type 0
-CommentSays b comments.Letter = continues_word b ≡ true
+CommentSays b comments.WordByte = continues_word b ≡ true
 CommentSays b comments.LineEnd = is_line_end b ≡ true
 CommentSays b comments.Space = is_blank b ≡ true
 CommentSays b comments.CloseBrace = (b == 125) ≡ true
@@ -146,8 +146,8 @@ comment_says b = cases (continues_word b) (is_line_end b) (is_blank b) (b == 125
         small false e = leb-false 128 b e
 
     cases : (w l s c : Bool) → continues_word b ≡ w → is_line_end b ≡ l → is_blank b ≡ s → (b == 125) ≡ c
-        → (continues_word b ≡ false → is_control b ≡ tells_control_in_comment (if w then comments.Letter else (if l then comments.LineEnd else (if s then comments.Space else (if c then comments.CloseBrace else comments.Control)))))
-        → CommentSays b (if w then comments.Letter else (if l then comments.LineEnd else (if s then comments.Space else (if c then comments.CloseBrace else comments.Control))))
+        → (continues_word b ≡ false → is_control b ≡ tells_control_in_comment (if w then comments.WordByte else (if l then comments.LineEnd else (if s then comments.Space else (if c then comments.CloseBrace else comments.Control)))))
+        → CommentSays b (if w then comments.WordByte else (if l then comments.LineEnd else (if s then comments.Space else (if c then comments.CloseBrace else comments.Control))))
     cases true l s c ew el es ec same = ew
     cases false true s c ew el es ec same = el
     cases false false true c ew el es ec same = es
@@ -275,7 +275,7 @@ module _ (n at : ℕ) (on : Further n) where
 
   -- in a comment
   from_comment : (braces : Bool) (b : ℕ) (bs : List ℕ) → length bs ≤ n → (c : CommentClass) → CommentSays b c → Cut (rules.comment braces) at (b ∷ bs)
-  from_comment braces b bs short comments.Letter says = a_word braces b bs says short (split continues_word bs)
+  from_comment braces b bs short comments.WordByte says = a_word braces b bs says short (split continues_word bs)
   from_comment true b bs short comments.LineEnd says = let more = on (rules.comment true) (at + 1) bs short in (_, rules.between_words true at b bs more.0 (or_left (is_line_end b) (is_blank b) says) refl more.1)
   from_comment false b bs short comments.LineEnd says = let more = on (rules.outside true) (at + 1) bs short in (_, rules.closes_line at b bs more.0 says more.1)
   from_comment true b bs short comments.Space says = let more = on (rules.comment true) (at + 1) bs short in (_, rules.between_words true at b bs more.0 (or_right (is_line_end b) (is_blank b) says) refl more.1)

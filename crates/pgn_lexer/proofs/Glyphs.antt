@@ -3,11 +3,11 @@ use Rattle.std.proofs.Common.{◌≡◌, ℕ, ◌+◌, ◌-◌, ◌*◌, ◌<◌
 use Rattle.std.specs.Prelude.{take_while, nat_le, ◌==◌, ◌&&◌, if◌then◌else◌}
 use Rattle.std.proofs.lemmas.Bool.{leb-true, leb-false, le-leb, lt-leb}
 use Rattle.pgn_lexer.specs.declared.token.LexReason.TheVariants.{LoneDollar, GlyphRange, BadSuffix}
-use Rattle.pgn_lexer.specs.declared.hand.Mode.TheVariants as modes
-use Rattle.pgn_lexer.specs.declared.hand.Form.TheVariants as forms
-use Rattle.pgn_lexer.specs.declared.hand.Step.TheVariants.{Used, EndsBefore}
-use Rattle.pgn_lexer.specs.declared.hand.SuffixRun.{SuffixRun}
-use Rattle.pgn_lexer.specs.declared.hand.SuffixRun.TheVariants as runs
+use Rattle.pgn_lexer.specs.declared.partial_token.Mode.TheVariants as modes
+use Rattle.pgn_lexer.specs.declared.partial_token.TokenForm.TheVariants as forms
+use Rattle.pgn_lexer.specs.declared.partial_token.Step.TheVariants.{Used, EndsBefore}
+use Rattle.pgn_lexer.specs.declared.partial_token.SuffixRun.{SuffixRun}
+use Rattle.pgn_lexer.specs.declared.partial_token.SuffixRun.TheVariants as runs
 use Rattle.pgn_lexer.specs.Bytes.{is_digit, is_suffix}
 use Rattle.pgn_lexer.specs.Tokens.{glyph}
 use Rattle.pgn_lexer.specs.Spelling.{gives, stops, number_from, numbered_at, glyph_at, suffix_at}

@@ -3,9 +3,9 @@ use Rattle.std.proofs.Common.{◌≡◌, ℕ, ◌+◌, ◌≤◌, Bool, true, fa
 use Rattle.std.specs.Prelude.{◌==◌, ◌&&◌, if◌then◌else◌}
 use Rattle.std.proofs.lemmas.Bool.{eqb-true}
 use Rattle.pgn_lexer.specs.declared.token.LexReason.TheVariants.{StrayByte}
-use Rattle.pgn_lexer.specs.declared.hand.Mode.TheVariants as modes
-use Rattle.pgn_lexer.specs.declared.hand.Step.{Step}
-use Rattle.pgn_lexer.specs.declared.hand.Step.TheVariants.{Used, Ends, EndsBefore, Fault}
+use Rattle.pgn_lexer.specs.declared.partial_token.Mode.TheVariants as modes
+use Rattle.pgn_lexer.specs.declared.partial_token.Step.{Step}
+use Rattle.pgn_lexer.specs.declared.partial_token.Step.TheVariants.{Used, Ends, EndsBefore, Fault}
 use Rattle.pgn_lexer.specs.Bytes.{is_line_end}
 use Rattle.pgn_lexer.specs.Tokens.{Token}
 use Rattle.pgn_lexer.specs.Spelling.{class}
@@ -56,7 +56,7 @@ after_ef_gives at b text fits false e =
 
 pub after_ef_bb_gives : (at b : ℕ) (text : List ℕ) → length text ≤ 255 → (c : Bool) → (b == 191) ≡ c
     → let h : Held = record { mode = modes.AfterEfBb; at = at; text = text } in
-    Gives (front_of 2 h b) (if c then into h modes.Column Used else fails h 0 StrayByte)
+    Gives (front_of 2 h b) (if c then into h modes.LineStart Used else fails h 0 StrayByte)
 after_ef_bb_gives at b text fits true e =
     record { sound = record { room = (fits, tt); placed = tt }; going = tt; comes = λ s. ap (λ x. tokens_of (239 ∷ 187 ∷ x ∷ s)) (eqb-true b 191 e) }
 after_ef_bb_gives at b text fits false e =
@@ -64,7 +64,7 @@ after_ef_bb_gives at b text fits false e =
 
 pub escape_gives : (place at b : ℕ) (text : List ℕ) → length text ≤ 255 → (c : Bool) → is_line_end b ≡ c
     → let h : Held = record { mode = modes.Escape; at = at; text = text } in
-    Gives (front_of place h b) (if c then into h modes.Column Used else into h modes.Escape Used)
+    Gives (front_of place h b) (if c then into h modes.LineStart Used else into h modes.Escape Used)
 escape_gives place at b text fits true e =
     record { sound = record { room = (fits, tt); placed = tt }; going = tt; comes = λ s. ap (λ c. tokens_from (place + 1) (if c then column else in_escape) s) e }
 escape_gives place at b text fits false e =

@@ -5,7 +5,7 @@ use Rattle.pgn_lexer.specs.declared.class.Single.{Single}
 use Rattle.pgn_lexer.specs.declared.class.Single.TheVariants as singles
 use Rattle.pgn_lexer.specs.declared.class.Class.{Class}
 use Rattle.pgn_lexer.specs.declared.class.Class.TheVariants as classes
-use Rattle.pgn_lexer.specs.declared.hand.SuffixRun.TheVariants as runs
+use Rattle.pgn_lexer.specs.declared.partial_token.SuffixRun.TheVariants as runs
 use Rattle.pgn_lexer.specs.Bytes.{is_suffix}
 use Rattle.pgn_lexer.specs.Tokens.{Token, EndsAt, HasLength, glyph, is_run}
 use Rattle.pgn_lexer.specs.Spelling.{kind_of_single, Reading, closed, broken, gives, reading, suffix_at, string_at}

@@ -142,14 +142,14 @@ brace_from : (at : ℕ) (goes : Bool) (c : CommentClass) (b : ℕ) (bs : List �
 brace_from at goes comments.LineEnd b bs = tt
 brace_from at goes comments.Space b bs = tt
 brace_from at goes comments.CloseBrace b bs = λ last. last
-brace_from at goes comments.Letter b bs = word_from at goes b bs
+brace_from at goes comments.WordByte b bs = word_from at goes b bs
 brace_from at goes comments.Control b bs = omega arith
 
 line_from : (at : ℕ) (goes : Bool) (c : CommentClass) (b : ℕ) (bs : List ℕ) → FoundFrom at (begins_line at goes c b bs)
 line_from at goes comments.LineEnd b bs = λ last. last
 line_from at goes comments.Space b bs = tt
 line_from at goes comments.CloseBrace b bs = omega arith
-line_from at goes comments.Letter b bs = word_from at goes b bs
+line_from at goes comments.WordByte b bs = word_from at goes b bs
 line_from at goes comments.Control b bs = omega arith
 
 begins_from : (at : ℕ) (within : Within) (b : ℕ) (bs : List ℕ) → FoundFrom at (begins at within b bs)

@@ -2,10 +2,10 @@
 use Rattle.std.proofs.Common.{◌≡◌, ℕ, zero, suc, ◌+◌, ◌*◌, ◌<◌, ◌≤◌, Bool, List, [], ◌∷◌, ◌++◌, length, drop, refl, sym, ap, ◌∙◌, append-nil, append_assoc, arith, take-append-drop}
 use Rattle.std.specs.Prelude.{take_while, nat_lt}
 use Rattle.std.specs.List.{prefix_len}
-use Rattle.pgn_lexer.specs.declared.hand.Mode.{Mode}
-use Rattle.pgn_lexer.specs.declared.hand.Mode.TheVariants as modes
-use Rattle.pgn_lexer.specs.declared.hand.Step.{Step}
-use Rattle.pgn_lexer.specs.declared.hand.Step.TheVariants.{Used, Ends, EndsBefore, Fault}
+use Rattle.pgn_lexer.specs.declared.partial_token.Mode.{Mode}
+use Rattle.pgn_lexer.specs.declared.partial_token.Mode.TheVariants as modes
+use Rattle.pgn_lexer.specs.declared.partial_token.Step.{Step}
+use Rattle.pgn_lexer.specs.declared.partial_token.Step.TheVariants.{Used, Ends, EndsBefore, Fault}
 use Rattle.pgn_lexer.specs.Tokens.{Token}
 use Rattle.pgn_lexer.specs.TokensOf.{tokens_of}
 use Rattle.pgn_lexer.specs.Decided.{decided, known}
@@ -27,7 +27,7 @@ few : (m : Mode) → pending_in m ≤ 2
 few modes.Start = omega arith
 few modes.AfterEf = omega arith
 few modes.AfterEfBb = omega arith
-few modes.Column = omega arith
+few modes.LineStart = omega arith
 few modes.Outside = omega arith
 few modes.Escape = omega arith
 few modes.Symbol = omega arith

@@ -5,25 +5,25 @@ use Rattle.std.proofs.lemmas.Bool.{lt-ltb}
 use Rattle.std.proofs.lemmas.List.{take_all, take_more}
 use Rattle.std.proofs.Math.Seq.{drop-cons}
 use Rattle.pgn_lexer.specs.declared.token.LexFault.{LexFault}
-use Rattle.pgn_lexer.specs.declared.hand.Mode.{Mode}
+use Rattle.pgn_lexer.specs.declared.partial_token.Mode.{Mode}
 use Rattle.pgn_lexer.specs.declared.token.LexReason.TheVariants.{StringTooLong, SymbolTooLong, WordTooLong}
 use Rattle.pgn_lexer.specs.declared.class.Class.{Class}
 use Rattle.pgn_lexer.specs.declared.class.CommentClass.{CommentClass}
 use Rattle.pgn_lexer.specs.declared.class.CommentClass.TheVariants as comments
 use Rattle.pgn_lexer.specs.declared.class.StringClass.{StringClass}
 use Rattle.pgn_lexer.specs.declared.class.StringClass.TheVariants as strings
-use Rattle.pgn_lexer.specs.declared.hand.Mode.TheVariants.{Column, Outside, Symbol, Str, Brace, BraceWord, Failed}
-use Rattle.pgn_lexer.specs.declared.hand.Form.TheVariants as forms
+use Rattle.pgn_lexer.specs.declared.partial_token.Mode.TheVariants.{LineStart, Outside, Symbol, Str, Brace, BraceWord, Failed}
+use Rattle.pgn_lexer.specs.declared.partial_token.TokenForm.TheVariants as forms
 use Rattle.pgn_lexer.specs.Bytes.{continues_symbol}
 use Rattle.pgn_lexer.specs.Spelling.{class, comment_class, string_class}
-use Rattle.pgn_lexer.specs.declared.hand.Form.{Form}
-use Rattle.pgn_lexer.specs.declared.hand.Step.{Step}
-use Rattle.pgn_lexer.specs.declared.hand.Step.TheVariants.{Used, Ends, EndsBefore, Fault}
+use Rattle.pgn_lexer.specs.declared.partial_token.TokenForm.{TokenForm}
+use Rattle.pgn_lexer.specs.declared.partial_token.Step.{Step}
+use Rattle.pgn_lexer.specs.declared.partial_token.Step.TheVariants.{Used, Ends, EndsBefore, Fault}
 use Rattle.pgn_lexer.specs.Tokens.{EndsAt}
 use Rattle.pgn_lexer.specs.Held.{Held, to_come, kind_in, token_of, IsSound, IsGoing, pending, fault_in, fault_met}
 use Rattle.pgn_lexer.specs.Taking.{begin, begin_line, brace, brace_word, string, fails, grown, into, symbol, taken, taken_in, Takes}
 use Rattle.pgn_lexer.specs.Running.{IsOutside, Ran, RunsOn, StoodAt, RunGives, RunsToToken, RunsToFault, used_after, found_after}
-use Rattle.pgn_lexer.specs.declared.hand.Found.TheVariants as found
+use Rattle.pgn_lexer.specs.declared.partial_token.Found.TheVariants as found
 use Rattle.pgn_lexer.proofs.Steps.{StepGives, Uses, EndsIn, EndsAhead, Fails, front_of}
 use Rattle.pgn_lexer.proofs.Stepping.{step_gives}
 
@@ -87,7 +87,7 @@ module _ (place : ℕ) (old : Held) (piece : List ℕ) (h : Held) (i b : ℕ) (h
         comes = λ s. longer s ∙ g.comes s ∙ ap (λ p. to_come p new s) next_place;
       }
 
-  pub ran_ends : (form : Form) (new : Held) → Takes (taken (place + i) h b) new (Ends form) → RunsToToken place old piece (token_of form new) new (i + 1)
+  pub ran_ends : (form : TokenForm) (new : Held) → Takes (taken (place + i) h b) new (Ends form) → RunsToToken place old piece (token_of form new) new (i + 1)
   ran_ends form new t =
       let g : EndsIn (front_of (place + i) h b) form new = takes_gives (place + i) h b new (Ends form) ran.sound t in
       let few : pending new ≤ 1 = g.few in
@@ -111,7 +111,7 @@ module _ (place : ℕ) (old : Held) (piece : List ℕ) (h : Held) (i b : ℕ) (h
       omega arith
   moves new few less (suc j) e = omega arith
 
-  pub ran_ends_before : (form : Form) (new : Held) → Takes (taken (place + i) h b) new (EndsBefore form) → RunsToToken place old piece (token_of form new) new i
+  pub ran_ends_before : (form : TokenForm) (new : Held) → Takes (taken (place + i) h b) new (EndsBefore form) → RunsToToken place old piece (token_of form new) new i
   ran_ends_before form new t =
       let g : EndsAhead (front_of (place + i) h b) form new = takes_gives (place + i) h b new (EndsBefore form) ran.sound t in
       record {
@@ -174,7 +174,7 @@ still_symbol h new b t = symbol_goes_on h new b (continues_symbol b) (nat_lt (le
 taken_outside : (m : Mode) (place at b : ℕ) (text : List ℕ) (c : Class) → IsOutside m → class b ≡ c
     → let h : Held = record { mode = m; at = at; text = text } in
     begin_line place h b c ≡ begin place h b c → taken_in m place h b ≡ begin place h b c
-taken_outside Column place at b text c outside e same = ap (begin_line place (record { mode = Column; at = at; text = text }) b) e ∙ same
+taken_outside LineStart place at b text c outside e same = ap (begin_line place (record { mode = LineStart; at = at; text = text }) b) e ∙ same
 taken_outside Outside place at b text c outside e same = ap (begin place (record { mode = Outside; at = at; text = text }) b) e
 taken_outside _ place at b text c outside e same = absurd outside
 
@@ -191,7 +191,7 @@ unless_failed _ other = tt
 pub in_mode : (m n : Mode) → IsGoing n → m ≡ n → IsGoing m
 in_mode m n going e = subst (λ m. IsGoing m) (sym e) going
 
-pub between_tokens : (m : Mode) → (m ≡ Column) ⊎ (m ≡ Outside) → IsGoing m
+pub between_tokens : (m : Mode) → (m ≡ LineStart) ⊎ (m ≡ Outside) → IsGoing m
 between_tokens m (inl e) = subst (λ m. IsGoing m) (sym e) tt
 between_tokens m (inr e) = subst (λ m. IsGoing m) (sym e) tt
 
@@ -231,7 +231,7 @@ word_goes_on h new b true t = ap (λ (h : Held). h.mode) t.held
 word_goes_on h new b false t = let e : Used ≡ Fault (record { at = h.at; reason = WordTooLong }) = t.step in absurd (cc)
 
 still_in : (h new : Held) (b : ℕ) (c : CommentClass) → Takes (brace_word h b c) new Used → new.mode ≡ BraceWord
-still_in h new b comments.Letter t = word_goes_on h new b (nat_lt (length h.text) 79) t
+still_in h new b comments.WordByte t = word_goes_on h new b (nat_lt (length h.text) 79) t
 still_in h new b comments.LineEnd t = let e : Used ≡ EndsBefore forms.Word = t.step in absurd (cc)
 still_in h new b comments.Space t = let e : Used ≡ EndsBefore forms.Word = t.step in absurd (cc)
 still_in h new b comments.CloseBrace t = let e : Used ≡ EndsBefore forms.Word = t.step in absurd (cc)

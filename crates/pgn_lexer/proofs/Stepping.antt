@@ -2,11 +2,11 @@
 use Rattle.std.proofs.Common.{◌≡◌, ℕ, ◌+◌, ◌<◌, ◌≤◌, List, [], ◌∷◌, length, refl, sym, ap, subst, arith}
 use Rattle.std.specs.Prelude.{nat_lt, nat_le, ◌==◌, ◌-◌, ◌*◌}
 use Rattle.pgn_lexer.specs.declared.token.LexFault.{LexFault}
-use Rattle.pgn_lexer.specs.declared.hand.Mode.{Mode}
-use Rattle.pgn_lexer.specs.declared.hand.Mode.TheVariants as modes
-use Rattle.pgn_lexer.specs.declared.hand.Form.{Form}
-use Rattle.pgn_lexer.specs.declared.hand.Last.{Last}
-use Rattle.pgn_lexer.specs.declared.hand.Last.TheVariants as lasts
+use Rattle.pgn_lexer.specs.declared.partial_token.Mode.{Mode}
+use Rattle.pgn_lexer.specs.declared.partial_token.Mode.TheVariants as modes
+use Rattle.pgn_lexer.specs.declared.partial_token.TokenForm.{TokenForm}
+use Rattle.pgn_lexer.specs.declared.partial_token.AtEnd.{AtEnd}
+use Rattle.pgn_lexer.specs.declared.partial_token.AtEnd.TheVariants as lasts
 use Rattle.pgn_lexer.specs.Bytes.{is_line_end, is_digit, continues_symbol, is_suffix}
 use Rattle.pgn_lexer.specs.Tokens.{HasLength, symbol, glyph, word, end}
 use Rattle.pgn_lexer.specs.Spelling.{class, comment_class, string_class, symbol_at, word_at, suffix_at}
@@ -33,7 +33,7 @@ step_in modes.AfterEf place at b text fits sound =
     subst (λ p. Gives (front_of p (holds modes.AfterEf at text) b) (taken_in modes.AfterEf p (holds modes.AfterEf at text) b)) (sym sound.placed) (after_ef_gives at b text fits (b == 187) refl)
 step_in modes.AfterEfBb place at b text fits sound =
     subst (λ p. Gives (front_of p (holds modes.AfterEfBb at text) b) (taken_in modes.AfterEfBb p (holds modes.AfterEfBb at text) b)) (sym sound.placed) (after_ef_bb_gives at b text fits (b == 191) refl)
-step_in modes.Column place at b text fits sound = begin_line_gives (class b) place b (holds modes.Column at text) _ _ fits
+step_in modes.LineStart place at b text fits sound = begin_line_gives (class b) place b (holds modes.LineStart at text) _ _ fits
 step_in modes.Outside place at b text fits sound = begin_gives (class b) place b (holds modes.Outside at text) _ _ fits
 step_in modes.Escape place at b text fits sound = escape_gives place at b text fits (is_line_end b) refl
 step_in modes.Symbol place at b text fits sound = symbol_gives place at b text fits sound.room.1 sound.placed (continues_symbol b) refl (nat_lt (length text) 255) refl
@@ -54,7 +54,7 @@ unfolding taken
 step_gives place h b sound = step_in h.mode place h.at b h.text sound.room.0 sound
 
 -- what the end of the text gives
-pub record ClosesToken (place : ℕ) (h : Held) (form : Form) (new : Held) : Type 0 where
+pub record ClosesToken (place : ℕ) (h : Held) (form : TokenForm) (new : Held) : Type 0 where
   pub sound : IsSound place new
   pub fresh : IsGoing h.mode
   pub going : IsGoing new.mode
@@ -73,7 +73,7 @@ pub record ClosesEnd (place : ℕ) (h new : Held) : Type 0 where
   pub same : new ≡ h
   pub comes : to_come place h [] ≡ record { at = place; kind = end } ∷ []
 
-abbrev pub CloseGives : ℕ → Held → Held → Last → Type 0
+abbrev pub CloseGives : ℕ → Held → Held → AtEnd → Type 0
 CloseGives place h new lasts.End = ClosesEnd place h new
 CloseGives place h new (lasts.Token form) = ClosesToken place h form new
 CloseGives place h new (lasts.Fault fault) = ClosesFault place h fault new
@@ -86,7 +86,7 @@ close_in modes.Start place at text fits sound =
     subst (λ p. ClosedGives p (holds modes.Start at text) (closed_in modes.Start p (holds modes.Start at text))) (sym sound.placed) (record { going = tt; same = refl; comes = refl })
 close_in modes.AfterEf place at text fits sound = record { sound = record { room = (fits, tt); placed = tt }; fails = refl; stays = λ g e. absurd (cc); comes = refl }
 close_in modes.AfterEfBb place at text fits sound = record { sound = record { room = (fits, tt); placed = tt }; fails = refl; stays = λ g e. absurd (cc); comes = refl }
-close_in modes.Column place at text fits sound = record { going = tt; same = refl; comes = refl }
+close_in modes.LineStart place at text fits sound = record { going = tt; same = refl; comes = refl }
 close_in modes.Outside place at text fits sound = record { going = tt; same = refl; comes = refl }
 close_in modes.Escape place at text fits sound = record { going = tt; same = refl; comes = refl }
 close_in modes.Symbol place at text fits sound =
@@ -111,6 +111,6 @@ unfolding closed
 close_gives place h sound = close_in h.mode place h.at h.text sound.room.0 sound
 
 -- what a call that met the end of the text gives
-pub closes_gives : (place : ℕ) (h new : Held) (answer : Last) → IsSound place h → Closes (closed place h) new answer → CloseGives place h new answer
+pub closes_gives : (place : ℕ) (h new : Held) (answer : AtEnd) → IsSound place h → Closes (closed place h) new answer → CloseGives place h new answer
 closes_gives place h new answer sound t =
     subst (λ n. CloseGives place h n answer) (sym t.held) (subst (λ last. CloseGives place h (closed place h).held last) (sym t.last) (close_gives place h sound))

@@ -1,10 +1,10 @@
 -- What a step must give, of the tokens that come.
 use Rattle.std.proofs.Common.{◌≡◌, ℕ, ◌+◌, ◌<◌, ◌≤◌, List, [], ◌∷◌, true, false}
 use Rattle.pgn_lexer.specs.declared.token.LexFault.{LexFault}
-use Rattle.pgn_lexer.specs.declared.hand.Mode.TheVariants.{Failed}
-use Rattle.pgn_lexer.specs.declared.hand.Form.{Form}
-use Rattle.pgn_lexer.specs.declared.hand.Step.{Step}
-use Rattle.pgn_lexer.specs.declared.hand.Step.TheVariants.{Used, Ends, EndsBefore, Fault}
+use Rattle.pgn_lexer.specs.declared.partial_token.Mode.TheVariants.{Failed}
+use Rattle.pgn_lexer.specs.declared.partial_token.TokenForm.{TokenForm}
+use Rattle.pgn_lexer.specs.declared.partial_token.Step.{Step}
+use Rattle.pgn_lexer.specs.declared.partial_token.Step.TheVariants.{Used, Ends, EndsBefore, Fault}
 use Rattle.pgn_lexer.specs.Tokens.{Token, HasLength, EndsAt, is_run}
 use Rattle.pgn_lexer.specs.TokensOf.{Within, tokens_from}
 use Rattle.pgn_lexer.specs.Held.{Held, to_come, kind_in, token_of, refusal, IsSound, IsGoing, pending}
@@ -26,7 +26,7 @@ pub record Uses (f : Front) (new : Held) : Type 0 where
   pub comes : (s : List ℕ) → f.front s ≡ to_come (f.place + 1) new s
 
 -- a token ends with the byte
-pub record EndsIn (f : Front) (form : Form) (new : Held) : Type 0 where
+pub record EndsIn (f : Front) (form : TokenForm) (new : Held) : Type 0 where
   pub sound : IsSound (f.place + 1) new
   pub going : IsGoing new.mode
   pub before : new.at < f.place + 1
@@ -37,7 +37,7 @@ pub record EndsIn (f : Front) (form : Form) (new : Held) : Type 0 where
   pub comes : (s : List ℕ) → f.front s ≡ token_of form new ∷ to_come (f.place + 1) new s
 
 -- a token ends before the byte
-pub record EndsAhead (f : Front) (form : Form) (new : Held) : Type 0 where
+pub record EndsAhead (f : Front) (form : TokenForm) (new : Held) : Type 0 where
   pub sound : IsSound f.place new
   pub going : IsGoing new.mode
   pub before : new.at < f.place

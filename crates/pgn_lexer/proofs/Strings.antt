@@ -5,8 +5,8 @@ use Rattle.std.proofs.lemmas.Bool.{ltb-true}
 use Rattle.pgn_lexer.specs.declared.token.LexReason.TheVariants.{ControlByte, StringTooLong, UnclosedString}
 use Rattle.pgn_lexer.specs.declared.class.StringClass.{StringClass}
 use Rattle.pgn_lexer.specs.declared.class.StringClass.TheVariants as strings
-use Rattle.pgn_lexer.specs.declared.hand.Mode.TheVariants as modes
-use Rattle.pgn_lexer.specs.declared.hand.Step.TheVariants.{Used}
+use Rattle.pgn_lexer.specs.declared.partial_token.Mode.TheVariants as modes
+use Rattle.pgn_lexer.specs.declared.partial_token.Step.TheVariants.{Used}
 use Rattle.pgn_lexer.specs.Tokens.{Token, str}
 use Rattle.pgn_lexer.specs.Spelling.{string_class, Reading, closed, broken, datum, reading, string_at}
 use Rattle.pgn_lexer.specs.TokensOf.{quotes, after_quoted, onto, tokens_from}
@@ -159,7 +159,7 @@ module _ (place at b : ℕ) (text : List ℕ) (short : length text < 255) (began
 
   pub escaped_gives : (c : StringClass) → string_class b ≡ c
       → let h : Held = record { mode = modes.AfterBackslash; at = at; text = text } in
-      Gives (front_of place h b) (taking.escaped place h b c)
+      Gives (front_of place h b) (taking.after_backslash place h b c)
   escaped_gives strings.Quote e = taken_back strings.Quote (λ s. by_escaped strings.Quote s e)
   escaped_gives strings.LineEnd e = record { sound = record { room = (omega arith, tt); placed = tt }; fails = refl; comes = λ s. by_escaped strings.LineEnd s e }
   escaped_gives strings.Control e = record { sound = record { room = (omega arith, tt); placed = tt }; fails = refl; comes = λ s. by_escaped strings.Control s e }

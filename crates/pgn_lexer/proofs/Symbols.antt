@@ -3,15 +3,15 @@ use Rattle.std.proofs.Common.{◌≡◌, ℕ, ◌+◌, ◌<◌, ◌≤◌, Bool,
 use Rattle.std.specs.Prelude.{take_while, nat_lt, if◌then◌else◌}
 use Rattle.std.proofs.lemmas.Bool.{ltb-true, ltb-false, le-leb, lt-leb}
 use Rattle.pgn_lexer.specs.declared.token.LexReason.TheVariants.{SymbolTooLong}
-use Rattle.pgn_lexer.specs.declared.hand.Mode.TheVariants as modes
-use Rattle.pgn_lexer.specs.declared.hand.Form.TheVariants as forms
+use Rattle.pgn_lexer.specs.declared.partial_token.Mode.TheVariants as modes
+use Rattle.pgn_lexer.specs.declared.partial_token.TokenForm.TheVariants as forms
 use Rattle.pgn_lexer.specs.Bytes.{continues_symbol}
 use Rattle.pgn_lexer.specs.Tokens.{symbol}
 use Rattle.pgn_lexer.specs.Spelling.{gives, stops, symbol_at}
 use Rattle.pgn_lexer.specs.TokensOf.{outside}
 use Rattle.pgn_lexer.specs.Held.{Held}
 use Rattle.pgn_lexer.specs.Taking.{into, grown, fails}
-use Rattle.pgn_lexer.specs.declared.hand.Step.TheVariants.{EndsBefore}
+use Rattle.pgn_lexer.specs.declared.partial_token.Step.TheVariants.{EndsBefore}
 use Rattle.pgn_lexer.proofs.Runs.{symbol_goes, symbol_ends, run_grows, run_breaks, run_ends, run_closes}
 use Rattle.pgn_lexer.proofs.Steps.{Gives, front_of}
 

@@ -5,9 +5,9 @@ use Rattle.std.proofs.lemmas.Bool.{ltb-true, ltb-false, le-leb, lt-leb}
 use Rattle.pgn_lexer.specs.declared.token.LexReason.TheVariants.{WordTooLong}
 use Rattle.pgn_lexer.specs.declared.class.CommentClass.{CommentClass}
 use Rattle.pgn_lexer.specs.declared.class.CommentClass.TheVariants as comments
-use Rattle.pgn_lexer.specs.declared.hand.Mode.TheVariants as modes
-use Rattle.pgn_lexer.specs.declared.hand.Form.TheVariants as forms
-use Rattle.pgn_lexer.specs.declared.hand.Step.TheVariants as steps
+use Rattle.pgn_lexer.specs.declared.partial_token.Mode.TheVariants as modes
+use Rattle.pgn_lexer.specs.declared.partial_token.TokenForm.TheVariants as forms
+use Rattle.pgn_lexer.specs.declared.partial_token.Step.TheVariants as steps
 use Rattle.pgn_lexer.specs.Bytes.{is_line_end, is_blank, continues_word}
 use Rattle.pgn_lexer.specs.Tokens.{Token, word}
 use Rattle.pgn_lexer.specs.Spelling.{comment_class, gives, stops, word_at}
@@ -18,14 +18,14 @@ use Rattle.pgn_lexer.proofs.Runs.{run_grows, run_breaks, run_ends, run_closes}
 use Rattle.pgn_lexer.proofs.Steps.{Front, Gives, front_of}
 
 abbrev pub is_word_class : CommentClass → Bool
-is_word_class comments.Letter = true
+is_word_class comments.WordByte = true
 is_word_class _ = false
 
 -- the bytes of words are those of their class
 pub word_class : (b : ℕ) → continues_word b ≡ is_word_class (comment_class b)
 word_class b = cases (continues_word b) (is_line_end b) (is_blank b) (b == 125)
   where
-    cases : (w l s c : Bool) → w ≡ is_word_class (if w then comments.Letter else (if l then comments.LineEnd else (if s then comments.Space else (if c then comments.CloseBrace else comments.Control))))
+    cases : (w l s c : Bool) → w ≡ is_word_class (if w then comments.WordByte else (if l then comments.LineEnd else (if s then comments.Space else (if c then comments.CloseBrace else comments.Control))))
     cases true l s c = refl
     cases false true s c = refl
     cases false false true c = refl
@@ -47,7 +47,7 @@ brace_class comments.LineEnd place b h ended waits fits = record { sound = recor
 brace_class comments.Space place b h ended waits fits = record { sound = record { room = (fits, tt); placed = tt }; going = tt; comes = λ s. refl }
 brace_class comments.CloseBrace place b h ended waits fits =
     record { sound = record { room = (fits, tt); placed = tt }; going = tt; before = omega arith; lengths = tt; ends_at = refl; closed = refl; few = omega arith; comes = λ s. refl }
-brace_class comments.Letter place b h ended waits fits =
+brace_class comments.WordByte place b h ended waits fits =
     record { sound = record { room = (omega arith, (omega arith, omega arith)); placed = omega arith }; going = tt; comes = λ s. refl }
 brace_class comments.Control place b h ended waits fits = record { sound = record { room = (fits, tt); placed = tt }; fails = refl; comes = λ s. refl }
 
@@ -64,7 +64,7 @@ line_class comments.LineEnd place b h ended waits fits =
     record { sound = record { room = (fits, tt); placed = tt }; going = tt; before = omega arith; lengths = tt; ends_at = refl; closed = refl; few = omega arith; comes = λ s. refl }
 line_class comments.Space place b h ended waits fits = record { sound = record { room = (fits, tt); placed = tt }; going = tt; comes = λ s. refl }
 line_class comments.CloseBrace place b h ended waits fits = record { sound = record { room = (fits, tt); placed = tt }; fails = refl; comes = λ s. refl }
-line_class comments.Letter place b h ended waits fits =
+line_class comments.WordByte place b h ended waits fits =
     record { sound = record { room = (omega arith, (omega arith, omega arith)); placed = omega arith }; going = tt; comes = λ s. refl }
 line_class comments.Control place b h ended waits fits = record { sound = record { room = (fits, tt); placed = tt }; fails = refl; comes = λ s. refl }
 
@@ -84,19 +84,19 @@ pub brace_ends : (c : CommentClass) (place b : ℕ) (s : List ℕ) → is_word_c
 brace_ends comments.LineEnd place b s e = refl
 brace_ends comments.Space place b s e = refl
 brace_ends comments.CloseBrace place b s e = refl
-brace_ends comments.Letter place b s e = cc
+brace_ends comments.WordByte place b s e = cc
 brace_ends comments.Control place b s e = refl
 
 pub line_ends : (c : CommentClass) (place b : ℕ) (s : List ℕ) → is_word_class c ≡ false → line_tokens place true b s c ≡ line_tokens place false b s c
 line_ends comments.LineEnd place b s e = refl
 line_ends comments.Space place b s e = refl
 line_ends comments.CloseBrace place b s e = refl
-line_ends comments.Letter place b s e = cc
+line_ends comments.WordByte place b s e = cc
 line_ends comments.Control place b s e = refl
 
 module _ (place at b : ℕ) (text : List ℕ) (some : 0 < length text) (fits : length text ≤ 79) (began : place ≡ at + length text) where
   -- a letter more, in either comment
-  brace_letter : comment_class b ≡ comments.Letter → continues_word b ≡ true → (d : Bool) → nat_lt (length text) 79 ≡ d
+  brace_letter : comment_class b ≡ comments.WordByte → continues_word b ≡ true → (d : Bool) → nat_lt (length text) 79 ≡ d
       → let h : Held = record { mode = modes.BraceWord; at = at; text = text } in
       Gives (front_of place h b) (if d then taking.grown h modes.BraceWord b else taking.fails h h.at WordTooLong)
   brace_letter e w true room =
@@ -115,7 +115,7 @@ module _ (place at b : ℕ) (text : List ℕ) (some : 0 < length text) (fits : l
             (word_long at (text ++ b ∷ take_while continues_word s) (omega (arith, length-append text (b ∷ take_while continues_word s))));
       }
 
-  line_letter : comment_class b ≡ comments.Letter → continues_word b ≡ true → (d : Bool) → nat_lt (length text) 79 ≡ d
+  line_letter : comment_class b ≡ comments.WordByte → continues_word b ≡ true → (d : Bool) → nat_lt (length text) 79 ≡ d
       → let h : Held = record { mode = modes.LineWord; at = at; text = text } in
       Gives (front_of place h b) (if d then taking.grown h modes.LineWord b else taking.fails h h.at WordTooLong)
   line_letter e w true room =
@@ -176,7 +176,7 @@ module _ (place at b : ℕ) (text : List ℕ) (some : 0 < length text) (fits : l
   pub brace_word_gives : (c : CommentClass) → comment_class b ≡ c
       → let h : Held = record { mode = modes.BraceWord; at = at; text = text } in
       Gives (front_of place h b) (taking.brace_word h b c)
-  brace_word_gives comments.Letter e = brace_letter e (word_class b ∙ ap is_word_class e) (nat_lt (length text) 79) refl
+  brace_word_gives comments.WordByte e = brace_letter e (word_class b ∙ ap is_word_class e) (nat_lt (length text) 79) refl
   brace_word_gives comments.LineEnd e = brace_word_ends (ap is_word_class e)
   brace_word_gives comments.Space e = brace_word_ends (ap is_word_class e)
   brace_word_gives comments.CloseBrace e = brace_word_ends (ap is_word_class e)
@@ -185,7 +185,7 @@ module _ (place at b : ℕ) (text : List ℕ) (some : 0 < length text) (fits : l
   pub line_word_gives : (c : CommentClass) → comment_class b ≡ c
       → let h : Held = record { mode = modes.LineWord; at = at; text = text } in
       Gives (front_of place h b) (taking.line_word h b c)
-  line_word_gives comments.Letter e = line_letter e (word_class b ∙ ap is_word_class e) (nat_lt (length text) 79) refl
+  line_word_gives comments.WordByte e = line_letter e (word_class b ∙ ap is_word_class e) (nat_lt (length text) 79) refl
   line_word_gives comments.LineEnd e = line_word_ends (ap is_word_class e)
   line_word_gives comments.Space e = line_word_ends (ap is_word_class e)
   line_word_gives comments.CloseBrace e = line_word_ends (ap is_word_class e)

@@ -5,18 +5,18 @@
 use Rattle.std.specs.Prelude.{◌≡◌, ℕ, ◌+◌, ◌<◌, ◌≤◌, true, false, List, [], ◌∷◌, ◌++◌, take_while, length}
 use Rattle.pgn_lexer.specs.declared.token.LexFault.{LexFault}
 use Rattle.pgn_lexer.specs.declared.token.LexReason.TheVariants.{StrayByte}
-use Rattle.pgn_lexer.specs.declared.hand.Mode.{Mode}
-use Rattle.pgn_lexer.specs.declared.hand.Mode.TheVariants.{Start, AfterEf, AfterEfBb, Column, Outside, Escape, Symbol, Str, AfterBackslash, Dollar, Glyph, Suffix, Brace, BraceWord, Line, LineWord, Failed}
-use Rattle.pgn_lexer.specs.declared.hand.SuffixRun.{SuffixRun}
-use Rattle.pgn_lexer.specs.declared.hand.SuffixRun.TheVariants as runs
-use Rattle.pgn_lexer.specs.declared.hand.Form.{Form}
-use Rattle.pgn_lexer.specs.declared.hand.Form.TheVariants as forms
+use Rattle.pgn_lexer.specs.declared.partial_token.Mode.{Mode}
+use Rattle.pgn_lexer.specs.declared.partial_token.Mode.TheVariants.{Start, AfterEf, AfterEfBb, LineStart, Outside, Escape, Symbol, Str, AfterBackslash, Dollar, Glyph, Suffix, Brace, BraceWord, Line, LineWord, Failed}
+use Rattle.pgn_lexer.specs.declared.partial_token.SuffixRun.{SuffixRun}
+use Rattle.pgn_lexer.specs.declared.partial_token.SuffixRun.TheVariants as runs
+use Rattle.pgn_lexer.specs.declared.partial_token.TokenForm.{TokenForm}
+use Rattle.pgn_lexer.specs.declared.partial_token.TokenForm.TheVariants as forms
 use Rattle.pgn_lexer.specs.Bytes.{is_digit, continues_symbol, is_suffix, continues_word}
 use Rattle.pgn_lexer.specs.Tokens.{Kind, Token, symbol, str, glyph, comment_open, word, comment_close, refused}
 use Rattle.pgn_lexer.specs.Spelling.{kind_of_single, Reading, closed, broken, reading, number_from, symbol_at, word_at, glyph_at, numbered_at, suffix_at, string_at}
 use Rattle.pgn_lexer.specs.TokensOf.{column, outside, in_escape, in_symbol, in_glyph, in_suffix, quotes, backslash, brace, brace_word, line, line_word, onto, tokens_from, tokens_of}
 
--- where the token in hand began, and what was read of it
+-- where the partial token began, and what was read of it
 pub record Held : Type 0 where
   pub mode : Mode
   pub at : ℕ
@@ -27,7 +27,7 @@ abbrev pub refusal : LexFault → Token
 refusal f = record { at = f.at; kind = refused f.reason }
 
 -- the token of a form, at its place with its text
-abbrev pub kind_in : Form → List ℕ → Kind
+abbrev pub kind_in : TokenForm → List ℕ → Kind
 kind_in (forms.Single s) text = kind_of_single s
 kind_in forms.Symbol text = symbol text
 kind_in forms.Str text = str text
@@ -36,7 +36,7 @@ kind_in forms.CommentOpen text = comment_open
 kind_in forms.Word text = word text
 kind_in forms.CommentClose text = comment_close
 
-abbrev pub token_of : Form → Held → Token
+abbrev pub token_of : TokenForm → Held → Token
 token_of form h = record { at = h.at; kind = kind_in form h.text }
 
 -- the data so far, and those that come
@@ -58,7 +58,7 @@ abbrev pub to_come_in : Mode → ℕ → ℕ → List ℕ → List ℕ → List 
 to_come_in Start place at text s = tokens_of s
 to_come_in AfterEf place at text s = tokens_of (239 ∷ s)
 to_come_in AfterEfBb place at text s = tokens_of (239 ∷ 187 ∷ s)
-to_come_in Column place at text s = tokens_from place column s
+to_come_in LineStart place at text s = tokens_from place column s
 to_come_in Outside place at text s = tokens_from place outside s
 to_come_in Escape place at text s = tokens_from place in_escape s
 to_come_in Symbol place at text s = onto at (symbol_at at (text ++ take_while continues_symbol s)) (tokens_from place in_symbol s)
@@ -90,7 +90,7 @@ HasMore _ text = Unit {0}
 abbrev pub HasRoom : Mode → List ℕ → Type 0
 HasRoom mode text = (length text ≤ 255) × HasMore mode text
 
--- the token in hand began before the place
+-- the partial token began before the place
 abbrev pub IsPlaced : Mode → ℕ → ℕ → List ℕ → Type 0
 IsPlaced Start place at text = place ≡ 0
 IsPlaced AfterEf place at text = place ≡ 1

@@ -3,12 +3,12 @@
 -- Letters: s are any bytes that come after, t is a token, f a fault, h is what is held.
 use Rattle.std.specs.Prelude.{◌≡◌, true, false, ℕ, ◌+◌, ◌*◌, ◌<◌, ◌≤◌, ◌⊎◌, List, [], ◌∷◌, ◌++◌, length, take, drop}
 use Rattle.pgn_lexer.specs.declared.token.LexFault.{LexFault}
-use Rattle.pgn_lexer.specs.declared.hand.Mode.{Mode}
-use Rattle.pgn_lexer.specs.declared.hand.Mode.TheVariants.{Column, Outside, Failed}
-use Rattle.pgn_lexer.specs.declared.hand.Step.{Step}
-use Rattle.pgn_lexer.specs.declared.hand.Step.TheVariants.{Used, Ends, EndsBefore, Fault}
-use Rattle.pgn_lexer.specs.declared.hand.Found.{Found}
-use Rattle.pgn_lexer.specs.declared.hand.Found.TheVariants as found
+use Rattle.pgn_lexer.specs.declared.partial_token.Mode.{Mode}
+use Rattle.pgn_lexer.specs.declared.partial_token.Mode.TheVariants.{LineStart, Outside, Failed}
+use Rattle.pgn_lexer.specs.declared.partial_token.Step.{Step}
+use Rattle.pgn_lexer.specs.declared.partial_token.Step.TheVariants.{Used, Ends, EndsBefore, Fault}
+use Rattle.pgn_lexer.specs.declared.partial_token.Found.{Found}
+use Rattle.pgn_lexer.specs.declared.partial_token.Found.TheVariants as found
 use Rattle.pgn_lexer.specs.Tokens.{Token, HasLength, EndsAt, is_run}
 use Rattle.pgn_lexer.specs.TokensOf.{Within, tokens_from}
 use Rattle.pgn_lexer.specs.Held.{Held, to_come, token_of, refusal, IsSound, IsGoing, pending, fault_met}
@@ -89,7 +89,7 @@ RunsOn place piece i h new used found = (old : Held) → Ran place old piece h i
 
 -- between tokens, and in no comment
 abbrev pub IsOutside : Mode → Type 0
-IsOutside Column = Unit {0}
+IsOutside LineStart = Unit {0}
 IsOutside Outside = Unit {0}
 IsOutside _ = ⊥
 

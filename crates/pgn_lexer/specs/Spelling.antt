@@ -48,7 +48,7 @@ kind_of_single singles.Asterisk = asterisk
 -- what a byte is in a comment: } and the classes (PGN 5)
 abbrev pub comment_class : ℕ → CommentClass
 comment_class b =
-    if continues_word b then comments.Letter
+    if continues_word b then comments.WordByte
     else (if is_line_end b then comments.LineEnd
     else (if is_blank b then comments.Space
     else (if b == 125 then comments.CloseBrace

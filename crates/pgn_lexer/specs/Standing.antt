@@ -1,8 +1,8 @@
 -- **Definition**: what a contract sees of a lexer.
 use Rattle.std.specs.Prelude.{ℕ, List, Option, None, Some}
 use Rattle.pgn_lexer.specs.declared.token.LexFault.{LexFault}
-use Rattle.pgn_lexer.specs.declared.hand.Mode.{Mode}
-use Rattle.pgn_lexer.specs.declared.hand.Mode.TheVariants.{Failed}
+use Rattle.pgn_lexer.specs.declared.partial_token.Mode.{Mode}
+use Rattle.pgn_lexer.specs.declared.partial_token.Mode.TheVariants.{Failed}
 use Rattle.pgn_lexer.specs.Tokens.{Token}
 use Rattle.pgn_lexer.specs.Held.{Held, to_come, pending}
 

@@ -10,16 +10,16 @@ use Rattle.pgn_lexer.specs.declared.class.CommentClass.{CommentClass}
 use Rattle.pgn_lexer.specs.declared.class.CommentClass.TheVariants as comments
 use Rattle.pgn_lexer.specs.declared.class.StringClass.{StringClass}
 use Rattle.pgn_lexer.specs.declared.class.StringClass.TheVariants as strings
-use Rattle.pgn_lexer.specs.declared.hand.Mode.{Mode}
-use Rattle.pgn_lexer.specs.declared.hand.Mode.TheVariants.{Start, AfterEf, AfterEfBb, Column, Outside, Escape, Symbol, Str, AfterBackslash, Dollar, Glyph, Suffix, Brace, BraceWord, Line, LineWord, Failed}
-use Rattle.pgn_lexer.specs.declared.hand.SuffixRun.{SuffixRun}
-use Rattle.pgn_lexer.specs.declared.hand.SuffixRun.TheVariants as runs
-use Rattle.pgn_lexer.specs.declared.hand.Form.{Form}
-use Rattle.pgn_lexer.specs.declared.hand.Form.TheVariants as forms
-use Rattle.pgn_lexer.specs.declared.hand.Step.{Step}
-use Rattle.pgn_lexer.specs.declared.hand.Step.TheVariants.{Used, Ends, EndsBefore, Fault}
-use Rattle.pgn_lexer.specs.declared.hand.Last.{Last}
-use Rattle.pgn_lexer.specs.declared.hand.Last.TheVariants as lasts
+use Rattle.pgn_lexer.specs.declared.partial_token.Mode.{Mode}
+use Rattle.pgn_lexer.specs.declared.partial_token.Mode.TheVariants.{Start, AfterEf, AfterEfBb, LineStart, Outside, Escape, Symbol, Str, AfterBackslash, Dollar, Glyph, Suffix, Brace, BraceWord, Line, LineWord, Failed}
+use Rattle.pgn_lexer.specs.declared.partial_token.SuffixRun.{SuffixRun}
+use Rattle.pgn_lexer.specs.declared.partial_token.SuffixRun.TheVariants as runs
+use Rattle.pgn_lexer.specs.declared.partial_token.TokenForm.{TokenForm}
+use Rattle.pgn_lexer.specs.declared.partial_token.TokenForm.TheVariants as forms
+use Rattle.pgn_lexer.specs.declared.partial_token.Step.{Step}
+use Rattle.pgn_lexer.specs.declared.partial_token.Step.TheVariants.{Used, Ends, EndsBefore, Fault}
+use Rattle.pgn_lexer.specs.declared.partial_token.AtEnd.{AtEnd}
+use Rattle.pgn_lexer.specs.declared.partial_token.AtEnd.TheVariants as lasts
 use Rattle.pgn_lexer.specs.Bytes.{is_line_end, is_digit, continues_symbol, is_suffix}
 use Rattle.pgn_lexer.specs.Spelling.{class, comment_class, string_class}
 use Rattle.pgn_lexer.specs.Held.{Held}
@@ -33,8 +33,8 @@ abbrev pub into : Held → Mode → Step → Taken
 into h mode step = record { held = record { mode = mode; at = h.at; text = h.text }; step = step }
 
 -- the mode, the place and the text are set
-abbrev pub begun : Mode → ℕ → List ℕ → Step → Taken
-begun mode place text step = record { held = record { mode = mode; at = place; text = text }; step = step }
+abbrev pub set_at : Mode → ℕ → List ℕ → Step → Taken
+set_at mode place text step = record { held = record { mode = mode; at = place; text = text }; step = step }
 
 -- one byte more of the token
 abbrev pub grown : Held → Mode → ℕ → Taken
@@ -42,20 +42,20 @@ grown h mode b = record { held = record { mode = mode; at = h.at; text = h.text 
 
 -- the lexer rejects the text at this place, for good
 abbrev pub fails : Held → ℕ → LexReason → Taken
-fails h at reason = begun (Failed (record { at = at; reason = reason })) at h.text (Fault (record { at = at; reason = reason }))
+fails h at reason = set_at (Failed (record { at = at; reason = reason })) at h.text (Fault (record { at = at; reason = reason }))
 
 -- outside strings and comments
 abbrev pub begin : ℕ → Held → ℕ → Class → Taken
-begin place h b classes.LineEnd = begun Column place h.text Used
-begin place h b classes.Space = begun Outside place h.text Used
+begin place h b classes.LineEnd = set_at LineStart place h.text Used
+begin place h b classes.Space = set_at Outside place h.text Used
 begin place h b classes.Percent = fails h place StrayByte
-begin place h b classes.SymbolStart = begun Symbol place (b ∷ []) Used
-begin place h b classes.Quote = begun Str place [] Used
-begin place h b classes.Dollar = begun Dollar place h.text Used
-begin place h b classes.Suffix = begun (Suffix (if b == 33 then runs.Good else runs.Poor)) place h.text Used
-begin place h b classes.OpenBrace = begun Brace place h.text (Ends forms.CommentOpen)
-begin place h b classes.Semicolon = begun Line place h.text (Ends forms.CommentOpen)
-begin place h b (classes.Alone s) = begun Outside place h.text (Ends (forms.Single s))
+begin place h b classes.SymbolStart = set_at Symbol place (b ∷ []) Used
+begin place h b classes.Quote = set_at Str place [] Used
+begin place h b classes.Dollar = set_at Dollar place h.text Used
+begin place h b classes.Suffix = set_at (Suffix (if b == 33 then runs.Good else runs.Poor)) place h.text Used
+begin place h b classes.OpenBrace = set_at Brace place h.text (Ends forms.CommentOpen)
+begin place h b classes.Semicolon = set_at Line place h.text (Ends forms.CommentOpen)
+begin place h b (classes.Alone s) = set_at Outside place h.text (Ends (forms.Single s))
 begin place h b (classes.Refused r) = fails h place r
 
 -- in the first column
@@ -73,10 +73,10 @@ after_ef h b = if b == 187 then into h AfterEfBb Used else fails h 0 StrayByte
 
 -- and then only BF (191); the byte after the mark is in the first column
 abbrev pub after_ef_bb : Held → ℕ → Taken
-after_ef_bb h b = if b == 191 then into h Column Used else fails h 0 StrayByte
+after_ef_bb h b = if b == 191 then into h LineStart Used else fails h 0 StrayByte
 
 abbrev pub escape : Held → ℕ → Taken
-escape h b = if is_line_end b then into h Column Used else into h Escape Used
+escape h b = if is_line_end b then into h LineStart Used else into h Escape Used
 
 abbrev pub symbol : Held → ℕ → Taken
 symbol h b =
@@ -118,12 +118,12 @@ string place h b strings.Backslash = if nat_lt (length h.text) 255 then into h A
 string place h b strings.Plain = if nat_lt (length h.text) 255 then grown h Str b else fails h h.at StringTooLong
 
 -- the byte after a backslash; before another byte the backslash (92) is itself
-abbrev pub escaped : ℕ → Held → ℕ → StringClass → Taken
-escaped place h b strings.Quote = grown h Str b
-escaped place h b strings.LineEnd = fails h h.at UnclosedString
-escaped place h b strings.Control = fails h place ControlByte
-escaped place h b strings.Backslash = grown h Str b
-escaped place h b strings.Plain =
+abbrev pub after_backslash : ℕ → Held → ℕ → StringClass → Taken
+after_backslash place h b strings.Quote = grown h Str b
+after_backslash place h b strings.LineEnd = fails h h.at UnclosedString
+after_backslash place h b strings.Control = fails h place ControlByte
+after_backslash place h b strings.Backslash = grown h Str b
+after_backslash place h b strings.Plain =
     if nat_lt (length h.text) 254 then record { held = record { mode = Str; at = h.at; text = (h.text ++ 92 ∷ []) ++ b ∷ [] }; step = Used }
     else fails h h.at StringTooLong
 
@@ -131,37 +131,37 @@ abbrev pub word : Held → Mode → ℕ → Taken
 word h mode b = if nat_lt (length h.text) 79 then grown h mode b else fails h h.at WordTooLong
 
 abbrev pub brace : ℕ → Held → ℕ → CommentClass → Taken
-brace place h b comments.LineEnd = begun Brace place h.text Used
-brace place h b comments.Space = begun Brace place h.text Used
-brace place h b comments.CloseBrace = begun Outside place h.text (Ends forms.CommentClose)
-brace place h b comments.Letter = begun BraceWord place (b ∷ []) Used
+brace place h b comments.LineEnd = set_at Brace place h.text Used
+brace place h b comments.Space = set_at Brace place h.text Used
+brace place h b comments.CloseBrace = set_at Outside place h.text (Ends forms.CommentClose)
+brace place h b comments.WordByte = set_at BraceWord place (b ∷ []) Used
 brace place h b comments.Control = fails h place ControlByte
 
 abbrev pub brace_word : Held → ℕ → CommentClass → Taken
-brace_word h b comments.Letter = word h BraceWord b
+brace_word h b comments.WordByte = word h BraceWord b
 brace_word h b _ = into h Brace (EndsBefore forms.Word)
 
 abbrev pub line : ℕ → Held → ℕ → CommentClass → Taken
-line place h b comments.LineEnd = begun Column place h.text (Ends forms.CommentClose)
-line place h b comments.Space = begun Line place h.text Used
+line place h b comments.LineEnd = set_at LineStart place h.text (Ends forms.CommentClose)
+line place h b comments.Space = set_at Line place h.text Used
 line place h b comments.CloseBrace = fails h place BraceInLineComment
-line place h b comments.Letter = begun LineWord place (b ∷ []) Used
+line place h b comments.WordByte = set_at LineWord place (b ∷ []) Used
 line place h b comments.Control = fails h place ControlByte
 
 abbrev pub line_word : Held → ℕ → CommentClass → Taken
-line_word h b comments.Letter = word h LineWord b
+line_word h b comments.WordByte = word h LineWord b
 line_word h b _ = into h Line (EndsBefore forms.Word)
 
 abbrev pub taken_in : Mode → ℕ → Held → ℕ → Taken
 taken_in Start place h b = start place h b
 taken_in AfterEf place h b = after_ef h b
 taken_in AfterEfBb place h b = after_ef_bb h b
-taken_in Column place h b = begin_line place h b (class b)
+taken_in LineStart place h b = begin_line place h b (class b)
 taken_in Outside place h b = begin place h b (class b)
 taken_in Escape place h b = escape h b
 taken_in Symbol place h b = symbol h b
 taken_in Str place h b = string place h b (string_class b)
-taken_in AfterBackslash place h b = escaped place h b (string_class b)
+taken_in AfterBackslash place h b = after_backslash place h b (string_class b)
 taken_in Dollar place h b = dollar h b
 taken_in (Glyph n) place h b = glyph h n b
 taken_in (Suffix run) place h b = suffix h run b
@@ -179,9 +179,9 @@ taken place h b = taken_in h.mode place h b
 
 pub record Closed : Type 0 where
   pub held : Held
-  pub last : Last
+  pub last : AtEnd
 
-abbrev pub gives : Held → Mode → ℕ → Form → Closed
+abbrev pub gives : Held → Mode → ℕ → TokenForm → Closed
 gives h mode at form = record { held = record { mode = mode; at = at; text = h.text }; last = lasts.Token form }
 
 abbrev pub stops : Held → ℕ → LexReason → Closed
@@ -214,6 +214,6 @@ pub record Takes (t : Taken) (new : Held) (answer : Step) : Type 0 where
   pub held : new ≡ t.held
   pub step : answer ≡ t.step
 
-pub record Closes (t : Closed) (new : Held) (answer : Last) : Type 0 where
+pub record Closes (t : Closed) (new : Held) (answer : AtEnd) : Type 0 where
   pub held : new ≡ t.held
   pub last : answer ≡ t.last

@@ -44,12 +44,12 @@ after_first c = after_class c
 
 abbrev pub after_brace : CommentClass → Within
 after_brace comments.CloseBrace = outside
-after_brace comments.Letter = brace_word
+after_brace comments.WordByte = brace_word
 after_brace _ = brace
 
 abbrev pub after_line : CommentClass → Within
 after_line comments.LineEnd = column
-after_line comments.Letter = line_word
+after_line comments.WordByte = line_word
 after_line _ = line
 
 abbrev pub after_quoted : StringClass → Within
@@ -109,14 +109,14 @@ abbrev pub begins_brace : ℕ → Bool → CommentClass → ℕ → List ℕ →
 begins_brace at goes comments.LineEnd b bs = nothing
 begins_brace at goes comments.Space b bs = nothing
 begins_brace at goes comments.CloseBrace b bs = gives comment_close
-begins_brace at goes comments.Letter b bs = begins_word at goes b bs
+begins_brace at goes comments.WordByte b bs = begins_word at goes b bs
 begins_brace at goes comments.Control b bs = stops at ControlByte
 
 abbrev pub begins_line : ℕ → Bool → CommentClass → ℕ → List ℕ → Found
 begins_line at goes comments.LineEnd b bs = gives comment_close
 begins_line at goes comments.Space b bs = nothing
 begins_line at goes comments.CloseBrace b bs = stops at BraceInLineComment
-begins_line at goes comments.Letter b bs = begins_word at goes b bs
+begins_line at goes comments.WordByte b bs = begins_word at goes b bs
 begins_line at goes comments.Control b bs = stops at ControlByte
 
 -- what begins at a byte

@@ -40,7 +40,7 @@ pub(crate) enum CommentClass {
     Space,
     CloseBrace,
     /// Any byte of a word.
-    Letter,
+    WordByte,
     Control,
 }
 
@@ -67,7 +67,7 @@ const SYM: Class = Class::SymbolStart;
 
 const SUF: Class = Class::Suffix;
 
-const PER: Class = Class::Percent;
+const PCT: Class = Class::Percent;
 
 const QUO: Class = Class::Quote;
 
@@ -98,7 +98,7 @@ const BAD: Class = Class::Refused(LexReason::StrayByte);
 /// The class of each byte outside strings and comments, from byte 0 on.
 static CLASSES: [Class; 256] = [
     CTL, CTL, CTL, CTL, CTL, CTL, CTL, CTL, CTL, GAP, END, GAP, GAP, END, CTL, CTL, CTL, CTL, CTL,
-    CTL, CTL, CTL, CTL, CTL, CTL, CTL, CTL, CTL, CTL, CTL, CTL, CTL, GAP, SUF, QUO, BAD, DOL, PER,
+    CTL, CTL, CTL, CTL, CTL, CTL, CTL, CTL, CTL, CTL, CTL, CTL, CTL, GAP, SUF, QUO, BAD, DOL, PCT,
     BAD, BAD, LPA, RPA, AST, BAD, BAD, BAD, DOT, BAD, SYM, SYM, SYM, SYM, SYM, SYM, SYM, SYM, SYM,
     SYM, BAD, SEM, RES, BAD, RES, SUF, BAD, SYM, SYM, SYM, SYM, SYM, SYM, SYM, SYM, SYM, SYM, SYM,
     SYM, SYM, SYM, SYM, SYM, SYM, SYM, SYM, SYM, SYM, SYM, SYM, SYM, SYM, SYM, LBR, BAD, RBR, BAD,
@@ -128,26 +128,26 @@ const CGA: CommentClass = CommentClass::Space;
 
 const CLO: CommentClass = CommentClass::CloseBrace;
 
-const LET: CommentClass = CommentClass::Letter;
+const CWB: CommentClass = CommentClass::WordByte;
 
 const CCT: CommentClass = CommentClass::Control;
 
 /// The class of each byte in a comment, from byte 0 on.
 static COMMENT_CLASSES: [CommentClass; 256] = [
     CCT, CCT, CCT, CCT, CCT, CCT, CCT, CCT, CCT, CGA, CEN, CGA, CGA, CEN, CCT, CCT, CCT, CCT, CCT,
-    CCT, CCT, CCT, CCT, CCT, CCT, CCT, CCT, CCT, CCT, CCT, CCT, CCT, CGA, LET, LET, LET, LET, LET,
-    LET, LET, LET, LET, LET, LET, LET, LET, LET, LET, LET, LET, LET, LET, LET, LET, LET, LET, LET,
-    LET, LET, LET, LET, LET, LET, LET, LET, LET, LET, LET, LET, LET, LET, LET, LET, LET, LET, LET,
-    LET, LET, LET, LET, LET, LET, LET, LET, LET, LET, LET, LET, LET, LET, LET, LET, LET, LET, LET,
-    LET, LET, LET, LET, LET, LET, LET, LET, LET, LET, LET, LET, LET, LET, LET, LET, LET, LET, LET,
-    LET, LET, LET, LET, LET, LET, LET, LET, LET, LET, LET, CLO, LET, CCT, LET, LET, LET, LET, LET,
-    LET, LET, LET, LET, LET, LET, LET, LET, LET, LET, LET, LET, LET, LET, LET, LET, LET, LET, LET,
-    LET, LET, LET, LET, LET, LET, LET, LET, LET, LET, LET, LET, LET, LET, LET, LET, LET, LET, LET,
-    LET, LET, LET, LET, LET, LET, LET, LET, LET, LET, LET, LET, LET, LET, LET, LET, LET, LET, LET,
-    LET, LET, LET, LET, LET, LET, LET, LET, LET, LET, LET, LET, LET, LET, LET, LET, LET, LET, LET,
-    LET, LET, LET, LET, LET, LET, LET, LET, LET, LET, LET, LET, LET, LET, LET, LET, LET, LET, LET,
-    LET, LET, LET, LET, LET, LET, LET, LET, LET, LET, LET, LET, LET, LET, LET, LET, LET, LET, LET,
-    LET, LET, LET, LET, LET, LET, LET, LET, LET,
+    CCT, CCT, CCT, CCT, CCT, CCT, CCT, CCT, CCT, CCT, CCT, CCT, CCT, CGA, CWB, CWB, CWB, CWB, CWB,
+    CWB, CWB, CWB, CWB, CWB, CWB, CWB, CWB, CWB, CWB, CWB, CWB, CWB, CWB, CWB, CWB, CWB, CWB, CWB,
+    CWB, CWB, CWB, CWB, CWB, CWB, CWB, CWB, CWB, CWB, CWB, CWB, CWB, CWB, CWB, CWB, CWB, CWB, CWB,
+    CWB, CWB, CWB, CWB, CWB, CWB, CWB, CWB, CWB, CWB, CWB, CWB, CWB, CWB, CWB, CWB, CWB, CWB, CWB,
+    CWB, CWB, CWB, CWB, CWB, CWB, CWB, CWB, CWB, CWB, CWB, CWB, CWB, CWB, CWB, CWB, CWB, CWB, CWB,
+    CWB, CWB, CWB, CWB, CWB, CWB, CWB, CWB, CWB, CWB, CWB, CLO, CWB, CCT, CWB, CWB, CWB, CWB, CWB,
+    CWB, CWB, CWB, CWB, CWB, CWB, CWB, CWB, CWB, CWB, CWB, CWB, CWB, CWB, CWB, CWB, CWB, CWB, CWB,
+    CWB, CWB, CWB, CWB, CWB, CWB, CWB, CWB, CWB, CWB, CWB, CWB, CWB, CWB, CWB, CWB, CWB, CWB, CWB,
+    CWB, CWB, CWB, CWB, CWB, CWB, CWB, CWB, CWB, CWB, CWB, CWB, CWB, CWB, CWB, CWB, CWB, CWB, CWB,
+    CWB, CWB, CWB, CWB, CWB, CWB, CWB, CWB, CWB, CWB, CWB, CWB, CWB, CWB, CWB, CWB, CWB, CWB, CWB,
+    CWB, CWB, CWB, CWB, CWB, CWB, CWB, CWB, CWB, CWB, CWB, CWB, CWB, CWB, CWB, CWB, CWB, CWB, CWB,
+    CWB, CWB, CWB, CWB, CWB, CWB, CWB, CWB, CWB, CWB, CWB, CWB, CWB, CWB, CWB, CWB, CWB, CWB, CWB,
+    CWB, CWB, CWB, CWB, CWB, CWB, CWB, CWB, CWB,
 ];
 
 /// The class of a byte in a comment.

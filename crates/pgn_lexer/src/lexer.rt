@@ -2,14 +2,14 @@
 ghost use Rattle.std.specs.Prelude.{◌≡◌, ◌+◌, ◌<◌, ◌≤◌, ◌^◌, [], length, None};
 ghost use Rattle.std.specs.Borrow.{sem};
 
-use crate::hand::{Found, Hand, Last};
+use crate::partial_token::{AtEnd, Found, PartialToken};
 use crate::token::{Outcome, Scan, Token, TokenKind};
 use std::marker::Model;
 
 /// Reads a text in pieces of any length, and gives its tokens one by one.
 #[derive(Drop)]
 pub struct Lexer {
-    hand: Hand,
+    partial: PartialToken,
     count: u64,
 }
 
@@ -19,9 +19,9 @@ impl Model for Lexer {
 
     ghost Value = { Standing };
 
-    ghost view = { λ l. record { count = l.count; held = l.hand } };
+    ghost view = { λ l. record { count = l.count; held = l.partial } };
 
-    ghost invariant = { λ l. IsSound l.count l.hand };
+    ghost invariant = { λ l. IsSound l.count l.partial };
 }
 
 impl Lexer {
@@ -35,7 +35,7 @@ impl Lexer {
         ensures going { fault_of result ≡ None }
     {
         Lexer {
-            hand: Hand::new(),
+            partial: PartialToken::new(),
             count: 0,
         }
     }
@@ -65,7 +65,7 @@ impl Lexer {
         ensures* after { sem 𝓛 (Leaves self.entry
             (λ new. Scans self.old piece.now new result.used (scanned result.outcome))) }
     {
-        let (used, found) = self.hand.run(piece, self.count);
+        let (used, found) = self.partial.run(piece, self.count);
         self.count += used as u64;
         match found {
             Found::Nothing => Scan {
@@ -74,11 +74,11 @@ impl Lexer {
             },
             Found::Token(form) => Scan {
                 used,
-                outcome: Outcome::Token(self.hand.token(form)),
+                outcome: Outcome::Token(self.partial.token(form)),
             },
             Found::Fault => Scan {
                 used,
-                outcome: Outcome::Fault(self.hand.fault_met()),
+                outcome: Outcome::Fault(self.partial.fault_met()),
             },
         }
     }
@@ -92,13 +92,13 @@ impl Lexer {
     pub fn finish(&mut self) -> Outcome<'_>
         ensures* after { sem 𝓛 (Leaves self.entry (λ new. Finishes self.old new (scanned result))) }
     {
-        match self.hand.close(self.count) {
-            Last::End => Outcome::Token(Token {
+        match self.partial.close(self.count) {
+            AtEnd::End => Outcome::Token(Token {
                 at: self.count,
                 kind: TokenKind::End,
             }),
-            Last::Token(form) => Outcome::Token(self.hand.token(form)),
-            Last::Fault(fault) => Outcome::Fault(fault),
+            AtEnd::Token(form) => Outcome::Token(self.partial.token(form)),
+            AtEnd::Fault(fault) => Outcome::Fault(fault),
         }
     }
 }

@@ -7,9 +7,9 @@
 
 mod buffer;
 mod class;
-mod hand;
 mod laws;
 mod lexer;
+mod partial_token;
 mod token;
 
 pub use laws::{

@@ -2,8 +2,8 @@
 -- and behind that one the end alone.
 use Rattle.std.proofs.Common.{ℕ, Bool, true, false, List, [], ◌∷◌}
 use Rattle.std.specs.Prelude.{if◌then◌else◌}
-use Rattle.pgn_lexer.specs.declared.hand.Mode.{Mode}
-use Rattle.pgn_lexer.specs.declared.hand.Mode.TheVariants as modes
+use Rattle.pgn_lexer.specs.declared.partial_token.Mode.{Mode}
+use Rattle.pgn_lexer.specs.declared.partial_token.Mode.TheVariants as modes
 use Rattle.pgn_lexer.specs.declared.token.LexReason.TheVariants.{WordTooLong}
 use Rattle.pgn_lexer.specs.Spelling.{Found, gives, nothing, stops}
 use Rattle.pgn_lexer.specs.Tokens as tokens
@@ -29,7 +29,7 @@ left_in : (mode : Mode) (place at : ℕ) (text : List ℕ) → AreLast (to_come_
 left_in modes.Start place at text = quiet _ (end, tt)
 left_in modes.AfterEf place at text = quiet _ (refused _, tt)
 left_in modes.AfterEfBb place at text = quiet _ (refused _, tt)
-left_in modes.Column place at text = quiet _ (end, tt)
+left_in modes.LineStart place at text = quiet _ (end, tt)
 left_in modes.Outside place at text = quiet _ (end, tt)
 left_in modes.Escape place at text = quiet _ (end, tt)
 left_in modes.Symbol place at text = before_end at place _

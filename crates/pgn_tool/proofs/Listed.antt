@@ -16,7 +16,7 @@ use Rattle.pgn_game.specs.declared.mode.Mode.TheVariants.{Full}
 use Rattle.pgn_game.specs.declared.reason.Reason.TheVariants.{ReadFault, InputTooLong}
 use Rattle.pgn_game.specs.declared.reason.Fault.{Fault}
 use Rattle.pgn_game.specs.Game.{Game}
-use Rattle.pgn_game.specs.Begun.{Read, nothing_begun, read}
+use Rattle.pgn_game.specs.Progress.{Read, no_progress, read}
 use Rattle.pgn_game.specs.Feeding as feeding
 use Rattle.pgn_game.specs.Feeding.{AtHand, Converter, FedAll, FedGame, FedToFault, Finishes, IsLast, Stands, StopsIn, hand_of}
 use Rattle.pgn_tool.specs.Listing.{AfterLast, AfterPiece, CutsLine, IsListed, Listed, Lists, ListsNoMore, ListsToFault, ReadSoFar, Stops, game_line, hand_line, line_at_hand, lines_from, lines_of, list_profile, list_text, too_long, unread, unwritten}
@@ -94,7 +94,7 @@ module _ (u rest : List ℕ) (old new : Converter) (a b : Option (List ℕ)) (so
     next_line : lines_of tokens_now ≡ lines_of so.tokens ++ line_at_hand new
     unfolding tokens_now
     next_line =
-        let games = (read list_profile so.tokens).begun.games in
+        let games = (read list_profile so.tokens).progress.games in
         let has = fed.stands.has_read in
         let number : new.games ≡ 1 + length games = has.games ∙ ap (length {A = Game}) fed.one_game ∙ length-append games (fed.game ∷ []) ∙ omega arith in
         ap (lines_from 1) fed.one_game ∙ lines_one_more games fed.game
@@ -127,7 +127,7 @@ module _ (u rest : List ℕ) (old new : Converter) (a b : Option (List ℕ)) (so
         let text : u ++ rest ≡ (u ++ take used rest) ++ behind = sym (whole u rest used) in
         let tokens : tokens_of (u ++ rest) ≡ tokens_now ++ coming new.lexer behind = ap tokens_of text ∙ fed.stands.lexer.tokens behind (own_follows behind) in
         let grown = games_grow list_profile tokens_now (coming new.lexer behind) fed.stands.has_read.passes in
-        let games = (read list_profile tokens_now).begun.games in
+        let games = (read list_profile tokens_now).progress.games in
         let more = lines_from (1 + length games) grown.0 in
         let all : list_text (u ++ rest) ≡ lines_of tokens_now ++ more = ap lines_of tokens ∙ ap (lines_from 1) grown.1 ∙ lines_two 1 games grown.0 in
         let known : list_text (u ++ rest) ≡ (lines_of so.tokens ++ line_at_hand new) ++ more = all ∙ ap (λ l. l ++ more) next_line in
@@ -171,7 +171,7 @@ module _ (u rest : List ℕ) (old new : Converter) (a b : Option (List ℕ)) (so
   rest_stops f (feeding.at_token h to) counted = feeding.at_token h (by_stops to.fed.stops to.no_game counted)
     where
       by_stops : {h : Fault} (stops : feeding.Stops list_profile so.tokens to.fed.tokens None None h)
-          → feeding.games_before stops ≡ (read list_profile so.tokens).begun.games → feeding.CountsReason h.reason 0 0 → ListsToFault (u ++ rest) h a b
+          → feeding.games_before stops ≡ (read list_profile so.tokens).progress.games → feeding.CountsReason h.reason 0 0 → ListsToFault (u ++ rest) h a b
       by_stops (feeding.refused h fault gains) same counts =
           record {
             tokens = to.fed.tokens;
@@ -215,15 +215,15 @@ not_true h = absurd (cc)
 
 module _ (u : List ℕ) (old new : Converter) (a b : Option (List ℕ)) (so : Listed u [] old a b) where
   games : List Game
-  games = (read list_profile so.tokens).begun.games
+  games = (read list_profile so.tokens).progress.games
 
   adds : AddsOne games (read list_profile (tokens_of u))
   unfolding games
   adds =
       let left : tokens_of u ≡ so.tokens ++ coming old.lexer [] = ap tokens_of (sym (append-nil u)) ∙ so.stands.lexer.tokens [] tt in
-      let reads = ap (read list_profile) left ∙ read_more list_profile nothing_begun so.tokens (coming old.lexer []) so.stands.has_read.passes in
-      subst (AddsOne (read list_profile so.tokens).begun.games) (sym reads)
-      (last_games list_profile (read list_profile so.tokens).begun (coming old.lexer []) (left_over old.lexer))
+      let reads = ap (read list_profile) left ∙ read_more list_profile no_progress so.tokens (coming old.lexer []) so.stands.has_read.passes in
+      subst (AddsOne (read list_profile so.tokens).progress.games) (sym reads)
+      (last_games list_profile (read list_profile so.tokens).progress (coming old.lexer []) (left_over old.lexer))
 
   -- at most one game was finished with the end, and it is at hand
   last_line : (is_game : Bool) → Finishes list_profile u so.tokens new is_game None None → list_text u ≡ lines_of so.tokens ++ line_at_hand new
@@ -240,7 +240,7 @@ module _ (u : List ℕ) (old new : Converter) (a b : Option (List ℕ)) (so : Li
           absurd (omega (arith, longer, ap (length {A = Game}) same))
       by_games true is (inr (passes, (g, more))) =
           let hand = fed.at_hand is in
-          let last = subst (λ o. IsLast o (read list_profile (tokens_of u)).begun.games) hand.1 fed.has_read.at_hand in
+          let last = subst (λ o. IsLast o (read list_profile (tokens_of u)).progress.games) hand.1 fed.has_read.at_hand in
           let same : last.1 ≡ g = last_is last.0 games last.1 g (sym last.2 ∙ more) in
           let at_hand : new.at_hand ≡ Some (hand_of g) = hand.1 ∙ ap (λ h. Some h) (last.3 ∙ ap hand_of same) in
           let number : new.games ≡ 1 + length games = fed.has_read.games ∙ ap (length {A = Game}) more ∙ length-append games (g ∷ []) ∙ omega arith in
@@ -326,10 +326,10 @@ module _ (left_old left : Option (List ℕ)) (c : Converter) (a b : Option (List
       (λ more.
       let begun = to.next more in
       let same : read list_profile (tokens_of ((so.bytes ++ piece) ++ more)) ≡ read list_profile to.tokens =
-      ap (read list_profile) begun.1 ∙ read_stops list_profile nothing_begun to.tokens begun.0 f to.fault in
+      ap (read list_profile) begun.1 ∙ read_stops list_profile no_progress to.tokens begun.0 f to.fault in
       record {
         fault = ap (λ (r : Read). r.fault) same ∙ to.fault;
-        written = subst (λ (r : Read). Appends a d (lines_from 1 r.begun.games)) (sym same) to.written;
+        written = subst (λ (r : Read). Appends a d (lines_from 1 r.progress.games)) (sym same) to.written;
       }))
   read_stops_at piece new d (Refused _) consumed (feeding.too_long front rest cut place some before) =
       let text : so.bytes ++ piece ≡ (so.bytes ++ front) ++ rest = ap (λ xs. so.bytes ++ xs) cut ∙ sym (append_assoc so.bytes front rest) in

@@ -7,7 +7,7 @@ use Rattle.pgn_game.specs.declared.reason.Fault.{Fault}
 use Rattle.pgn_game.specs.Profile.{Profile}
 use Rattle.pgn_game.specs.Game.{Part}
 use Rattle.pgn_game.specs.FaultTable.{Row, first_holding, refusal, rows}
-use Rattle.pgn_game.specs.Begun.{Begun, Read, begun_after, read_from}
+use Rattle.pgn_game.specs.Progress.{Progress, Read, progress_after, read_from}
 use Rattle.pgn_tool.specs.Splitting.{IsOwn}
 use Rattle.pgn_tool.proofs.Reading.{reads_on}
 
@@ -37,12 +37,12 @@ refusal_own p part (tokens.refused r) reason e = subst IsOwn (same _ reason e) t
     same a b h = cc
 refusal_own p part k reason e = first_own (rows p part k) reason (rows_own p part k) e
 
-pub read_own : (p : Profile) (b : Begun) (ts : List Token) (f : Fault) → (read_from p b ts).fault ≡ Some f → IsOwn f.reason
+pub read_own : (p : Profile) (b : Progress) (ts : List Token) (f : Fault) → (read_from p b ts).fault ≡ Some f → IsOwn f.reason
 read_own p b [] f e = absurd (cc)
-read_own p b (t ∷ ts) f e = by_test (refusal p b.part t.kind) refl (read_own p (begun_after b t) ts f)
+read_own p b (t ∷ ts) f e = by_test (refusal p b.part t.kind) refl (read_own p (progress_after b t) ts f)
   where
     by_test : (o : Option Reason) → refusal p b.part t.kind ≡ o
-        → ((read_from p (begun_after b t) ts).fault ≡ Some f → IsOwn f.reason) → IsOwn f.reason
+        → ((read_from p (progress_after b t) ts).fault ≡ Some f → IsOwn f.reason) → IsOwn f.reason
     by_test (Some reason) is further =
         subst IsOwn (same reason (ap (λ (r : Read). r.fault) (sym (reads_on p b t ts (Some reason) is)) ∙ e)) (refusal_own p b.part t.kind reason is)
       where

@@ -6,29 +6,29 @@ use Rattle.pgn_lexer.specs.Tokens.{Kind, Token}
 use Rattle.pgn_game.specs.declared.reason.Reason.{Reason}
 use Rattle.pgn_game.specs.declared.reason.Fault.{Fault}
 use Rattle.pgn_game.specs.declared.stage.Stage.{Stage}
-use Rattle.pgn_game.specs.declared.stage.Stage.TheVariants.{Between, AfterBracket, AfterName, AfterValue, AfterTags, InMovetext}
+use Rattle.pgn_game.specs.declared.stage.Stage.TheVariants.{Between, AfterLeftBracket, AfterName, AfterValue, AfterTags, InMovetext}
 use Rattle.pgn_game.specs.Profile.{Profile}
 use Rattle.pgn_game.specs.Game.{Game, Part, no_part}
 use Rattle.pgn_game.specs.FaultTable.{refusal}
-use Rattle.pgn_game.specs.Begun.{Begun, Next, Read, begun_after, begun_with, going, next, next_in, nothing_begun, read, read_from, whole}
+use Rattle.pgn_game.specs.Progress.{Progress, Next, Read, progress_after, progress_with, going, next, next_in, no_progress, read, read_from, whole}
 
 -- ---- one token
 
-abbrev pub after_test : Profile → Begun → Token → List Token → Option Reason → Read
-after_test p b t ts (Some reason) = record { begun = b; fault = Some (record { at = t.at; reason = reason }) }
-after_test p b t ts None = read_from p (begun_after b t) ts
+abbrev pub after_test : Profile → Progress → Token → List Token → Option Reason → Read
+after_test p b t ts (Some reason) = record { progress = b; fault = Some (record { at = t.at; reason = reason }) }
+after_test p b t ts None = read_from p (progress_after b t) ts
 
-read_test : (p : Profile) (b : Begun) (t : Token) (ts : List Token) → read_from p b (t ∷ ts) ≡ after_test p b t ts (refusal p b.part t.kind)
+read_test : (p : Profile) (b : Progress) (t : Token) (ts : List Token) → read_from p b (t ∷ ts) ≡ after_test p b t ts (refusal p b.part t.kind)
 read_test p b t ts =
     elim (refusal p b.part t.kind) as (λ o. elim o [
-      | Some reason ↦ record { begun = b; fault = Some (record { at = t.at; reason = reason }) }
-      | None ↦ read_from p (begun_after b t) ts
+      | Some reason ↦ record { progress = b; fault = Some (record { at = t.at; reason = reason }) }
+      | None ↦ read_from p (progress_after b t) ts
     ] ≡ after_test p b t ts o) [
       | Some reason ↦ refl
       | None ↦ refl
     ]
 
-pub reads_on : (p : Profile) (b : Begun) (t : Token) (ts : List Token) (o : Option Reason) → refusal p b.part t.kind ≡ o → read_from p b (t ∷ ts) ≡ after_test p b t ts o
+pub reads_on : (p : Profile) (b : Progress) (t : Token) (ts : List Token) (o : Option Reason) → refusal p b.part t.kind ≡ o → read_from p b (t ∷ ts) ≡ after_test p b t ts o
 reads_on p b t ts o is = read_test p b t ts ∙ ap (after_test p b t ts) is
 
 -- ---- two parts
@@ -37,12 +37,12 @@ pub not_both : (o : Option Fault) (f : Fault) → o ≡ Some f → o ≡ None �
 not_both o f a b = cc
 
 -- behind a token that is refused nothing is read
-pub read_stops : (p : Profile) (b : Begun) (ts us : List Token) (f : Fault) → (read_from p b ts).fault ≡ Some f → read_from p b (ts ++ us) ≡ read_from p b ts
+pub read_stops : (p : Profile) (b : Progress) (ts us : List Token) (f : Fault) → (read_from p b ts).fault ≡ Some f → read_from p b (ts ++ us) ≡ read_from p b ts
 read_stops p b [] us f e = absurd (cc)
-read_stops p b (t ∷ ts) us f e = by_test (refusal p b.part t.kind) refl (read_stops p (begun_after b t) ts us f)
+read_stops p b (t ∷ ts) us f e = by_test (refusal p b.part t.kind) refl (read_stops p (progress_after b t) ts us f)
   where
     by_test : (o : Option Reason) → refusal p b.part t.kind ≡ o
-        → ((read_from p (begun_after b t) ts).fault ≡ Some f → read_from p (begun_after b t) (ts ++ us) ≡ read_from p (begun_after b t) ts)
+        → ((read_from p (progress_after b t) ts).fault ≡ Some f → read_from p (progress_after b t) (ts ++ us) ≡ read_from p (progress_after b t) ts)
         → read_from p b (t ∷ ts ++ us) ≡ read_from p b (t ∷ ts)
     by_test (Some reason) is further = reads_on p b t (ts ++ us) (Some reason) is ∙ sym (reads_on p b t ts (Some reason) is)
     by_test None is further =
@@ -51,21 +51,21 @@ read_stops p b (t ∷ ts) us f e = by_test (refusal p b.part t.kind) refl (read_
         ∙ sym (reads_on p b t ts None is)
 
 -- behind tokens of which none is refused the rest is read from where they led
-pub read_more : (p : Profile) (b : Begun) (ts us : List Token) → (read_from p b ts).fault ≡ None
-    → read_from p b (ts ++ us) ≡ read_from p (read_from p b ts).begun us
+pub read_more : (p : Profile) (b : Progress) (ts us : List Token) → (read_from p b ts).fault ≡ None
+    → read_from p b (ts ++ us) ≡ read_from p (read_from p b ts).progress us
 read_more p b [] us e = refl
-read_more p b (t ∷ ts) us e = by_test (refusal p b.part t.kind) refl (read_more p (begun_after b t) ts us)
+read_more p b (t ∷ ts) us e = by_test (refusal p b.part t.kind) refl (read_more p (progress_after b t) ts us)
   where
     by_test : (o : Option Reason) → refusal p b.part t.kind ≡ o
-        → ((read_from p (begun_after b t) ts).fault ≡ None → read_from p (begun_after b t) (ts ++ us) ≡ read_from p (read_from p (begun_after b t) ts).begun us)
-        → read_from p b (t ∷ ts ++ us) ≡ read_from p (read_from p b (t ∷ ts)).begun us
+        → ((read_from p (progress_after b t) ts).fault ≡ None → read_from p (progress_after b t) (ts ++ us) ≡ read_from p (read_from p (progress_after b t) ts).progress us)
+        → read_from p b (t ∷ ts ++ us) ≡ read_from p (read_from p b (t ∷ ts)).progress us
     by_test (Some reason) is further =
         absurd (not_both _ _ (ap (λ (r : Read). r.fault) (reads_on p b t ts (Some reason) is)) e)
     by_test None is further =
         let here = reads_on p b t ts None is in
         reads_on p b t (ts ++ us) None is
         ∙ further (ap (λ (r : Read). r.fault) (sym here) ∙ e)
-        ∙ ap (λ (r : Read). read_from p r.begun us) (sym here)
+        ∙ ap (λ (r : Read). read_from p r.progress us) (sym here)
 
 -- ---- games
 
@@ -79,24 +79,24 @@ extends_same gs = ([], sym (append-nil gs))
 extends_on : (a b c : List Game) → Extends a b → Extends b c → Extends a c
 extends_on a b c (x, h) (y, k) = (x ++ y, k ∙ ap (λ l. l ++ y) h ∙ append_assoc a x y)
 
-extends_next : (gs : List Game) (nx : Next) → Extends gs (begun_with gs nx).games
+extends_next : (gs : List Game) (nx : Next) → Extends gs (progress_with gs nx).games
 extends_next gs (going part) = extends_same gs
 extends_next gs (whole g) = (g ∷ [], refl)
 
-pub games_extend : (p : Profile) (b : Begun) (ts : List Token) → Extends b.games (read_from p b ts).begun.games
+pub games_extend : (p : Profile) (b : Progress) (ts : List Token) → Extends b.games (read_from p b ts).progress.games
 games_extend p b [] = extends_same b.games
-games_extend p b (t ∷ ts) = by_test (refusal p b.part t.kind) refl (games_extend p (begun_after b t) ts)
+games_extend p b (t ∷ ts) = by_test (refusal p b.part t.kind) refl (games_extend p (progress_after b t) ts)
   where
-    by_test : (o : Option Reason) → refusal p b.part t.kind ≡ o → Extends (begun_after b t).games (read_from p (begun_after b t) ts).begun.games
-        → Extends b.games (read_from p b (t ∷ ts)).begun.games
-    by_test (Some reason) is further = subst (λ (r : Read). Extends b.games r.begun.games) (sym (reads_on p b t ts (Some reason) is)) (extends_same b.games)
+    by_test : (o : Option Reason) → refusal p b.part t.kind ≡ o → Extends (progress_after b t).games (read_from p (progress_after b t) ts).progress.games
+        → Extends b.games (read_from p b (t ∷ ts)).progress.games
+    by_test (Some reason) is further = subst (λ (r : Read). Extends b.games r.progress.games) (sym (reads_on p b t ts (Some reason) is)) (extends_same b.games)
     by_test None is further =
-        subst (λ (r : Read). Extends b.games r.begun.games) (sym (reads_on p b t ts None is))
-        (extends_on b.games (begun_after b t).games _ (extends_next b.games (next b.part t.kind)) further)
+        subst (λ (r : Read). Extends b.games r.progress.games) (sym (reads_on p b t ts None is))
+        (extends_on b.games (progress_after b t).games _ (extends_next b.games (next b.part t.kind)) further)
 
-pub games_grow : (p : Profile) (ts us : List Token) → (read p ts).fault ≡ None → Extends (read p ts).begun.games (read p (ts ++ us)).begun.games
+pub games_grow : (p : Profile) (ts us : List Token) → (read p ts).fault ≡ None → Extends (read p ts).progress.games (read p (ts ++ us)).progress.games
 games_grow p ts us e =
-    subst (λ (r : Read). Extends (read p ts).begun.games r.begun.games) (sym (read_more p nothing_begun ts us e)) (games_extend p (read p ts).begun us)
+    subst (λ (r : Read). Extends (read p ts).progress.games r.progress.games) (sym (read_more p no_progress ts us e)) (games_extend p (read p ts).progress us)
 
 -- ---- tokens that finish no game
 
@@ -106,23 +106,23 @@ pub data IsQuiet : Kind → Type 0 where
   close : IsQuiet tokens.comment_close
   refused : (r : LexReason) → IsQuiet (tokens.refused r)
 
-at_end : (gs : List Game) (part : Part) (s : Stage) → (begun_with gs (next_in s part tokens.end)).games ≡ gs
+at_end : (gs : List Game) (part : Part) (s : Stage) → (progress_with gs (next_in s part tokens.end)).games ≡ gs
 at_end gs part s =
-    elim s as (λ w. (begun_with gs (next_in w part tokens.end)).games ≡ gs) [ Between ↦ refl | AfterBracket ↦ refl | AfterName ↦ refl | AfterValue ↦ refl | AfterTags ↦ refl | InMovetext ↦ refl ]
+    elim s as (λ w. (progress_with gs (next_in w part tokens.end)).games ≡ gs) [ Between ↦ refl | AfterLeftBracket ↦ refl | AfterName ↦ refl | AfterValue ↦ refl | AfterTags ↦ refl | InMovetext ↦ refl ]
 
-at_word : (gs : List Game) (part : Part) (text : List ℕ) (s : Stage) → (begun_with gs (next_in s part (tokens.word text))).games ≡ gs
+at_word : (gs : List Game) (part : Part) (text : List ℕ) (s : Stage) → (progress_with gs (next_in s part (tokens.word text))).games ≡ gs
 at_word gs part text s =
-    elim s as (λ w. (begun_with gs (next_in w part (tokens.word text))).games ≡ gs) [ Between ↦ refl | AfterBracket ↦ refl | AfterName ↦ refl | AfterValue ↦ refl | AfterTags ↦ refl | InMovetext ↦ refl ]
+    elim s as (λ w. (progress_with gs (next_in w part (tokens.word text))).games ≡ gs) [ Between ↦ refl | AfterLeftBracket ↦ refl | AfterName ↦ refl | AfterValue ↦ refl | AfterTags ↦ refl | InMovetext ↦ refl ]
 
-at_close : (gs : List Game) (part : Part) (s : Stage) → (begun_with gs (next_in s part tokens.comment_close)).games ≡ gs
+at_close : (gs : List Game) (part : Part) (s : Stage) → (progress_with gs (next_in s part tokens.comment_close)).games ≡ gs
 at_close gs part s =
-    elim s as (λ w. (begun_with gs (next_in w part tokens.comment_close)).games ≡ gs) [ Between ↦ refl | AfterBracket ↦ refl | AfterName ↦ refl | AfterValue ↦ refl | AfterTags ↦ refl | InMovetext ↦ refl ]
+    elim s as (λ w. (progress_with gs (next_in w part tokens.comment_close)).games ≡ gs) [ Between ↦ refl | AfterLeftBracket ↦ refl | AfterName ↦ refl | AfterValue ↦ refl | AfterTags ↦ refl | InMovetext ↦ refl ]
 
-at_refused : (gs : List Game) (part : Part) (r : LexReason) (s : Stage) → (begun_with gs (next_in s part (tokens.refused r))).games ≡ gs
+at_refused : (gs : List Game) (part : Part) (r : LexReason) (s : Stage) → (progress_with gs (next_in s part (tokens.refused r))).games ≡ gs
 at_refused gs part r s =
-    elim s as (λ w. (begun_with gs (next_in w part (tokens.refused r))).games ≡ gs) [ Between ↦ refl | AfterBracket ↦ refl | AfterName ↦ refl | AfterValue ↦ refl | AfterTags ↦ refl | InMovetext ↦ refl ]
+    elim s as (λ w. (progress_with gs (next_in w part (tokens.refused r))).games ≡ gs) [ Between ↦ refl | AfterLeftBracket ↦ refl | AfterName ↦ refl | AfterValue ↦ refl | AfterTags ↦ refl | InMovetext ↦ refl ]
 
-quiet_next : (b : Begun) (k : Kind) → IsQuiet k → (begun_with b.games (next b.part k)).games ≡ b.games
+quiet_next : (b : Progress) (k : Kind) → IsQuiet k → (progress_with b.games (next b.part k)).games ≡ b.games
 quiet_next b _ end = at_end b.games b.part b.part.stage
 quiet_next b _ (word text) = at_word b.games b.part text b.part.stage
 quiet_next b _ close = at_close b.games b.part b.part.stage
@@ -132,15 +132,15 @@ abbrev pub AreQuiet : List Token → Type 0
 AreQuiet [] = Unit {0}
 AreQuiet (t ∷ ts) = IsQuiet t.kind × AreQuiet ts
 
-pub quiet_games : (p : Profile) (b : Begun) (ts : List Token) → AreQuiet ts → (read_from p b ts).begun.games ≡ b.games
+pub quiet_games : (p : Profile) (b : Progress) (ts : List Token) → AreQuiet ts → (read_from p b ts).progress.games ≡ b.games
 quiet_games p b [] quiet = refl
-quiet_games p b (t ∷ ts) (here, rest) = by_test (refusal p b.part t.kind) refl (quiet_games p (begun_after b t) ts rest)
+quiet_games p b (t ∷ ts) (here, rest) = by_test (refusal p b.part t.kind) refl (quiet_games p (progress_after b t) ts rest)
   where
-    by_test : (o : Option Reason) → refusal p b.part t.kind ≡ o → (read_from p (begun_after b t) ts).begun.games ≡ (begun_after b t).games
-        → (read_from p b (t ∷ ts)).begun.games ≡ b.games
-    by_test (Some reason) is further = ap (λ (r : Read). r.begun.games) (reads_on p b t ts (Some reason) is)
+    by_test : (o : Option Reason) → refusal p b.part t.kind ≡ o → (read_from p (progress_after b t) ts).progress.games ≡ (progress_after b t).games
+        → (read_from p b (t ∷ ts)).progress.games ≡ b.games
+    by_test (Some reason) is further = ap (λ (r : Read). r.progress.games) (reads_on p b t ts (Some reason) is)
     by_test None is further =
-        ap (λ (r : Read). r.begun.games) (reads_on p b t ts None is) ∙ further ∙ quiet_next b t.kind here
+        ap (λ (r : Read). r.progress.games) (reads_on p b t ts None is) ∙ further ∙ quiet_next b t.kind here
 
 -- ---- the last token
 
@@ -156,22 +156,22 @@ end_passes p = refl
 
 -- no game more, or one and no fault
 abbrev pub AddsOne : List Game → Read → Type 0
-AddsOne gs r = (r.begun.games ≡ gs) ⊎ ((r.fault ≡ None) × ((g : Game) × (r.begun.games ≡ gs ++ g ∷ [])))
+AddsOne gs r = (r.progress.games ≡ gs) ⊎ ((r.fault ≡ None) × ((g : Game) × (r.progress.games ≡ gs ++ g ∷ [])))
 
-pub last_games : (p : Profile) (b : Begun) (ts : List Token) → AreLast ts → AddsOne b.games (read_from p b ts)
+pub last_games : (p : Profile) (b : Progress) (ts : List Token) → AreLast ts → AddsOne b.games (read_from p b ts)
 last_games p b _ (quiet ts q) = inl (quiet_games p b ts q)
 last_games p b _ (one t at) = by_test (refusal p b.part t.kind) refl
   where
     last : Token
     last = record { at = at; kind = tokens.end }
 
-    by_next : (nx : Next) → AddsOne b.games (read_from p (begun_with b.games nx) (last ∷ []))
-    by_next (going part) = inl (quiet_games p (begun_with b.games (going part)) (last ∷ []) (end, tt))
+    by_next : (nx : Next) → AddsOne b.games (read_from p (progress_with b.games nx) (last ∷ []))
+    by_next (going part) = inl (quiet_games p (progress_with b.games (going part)) (last ∷ []) (end, tt))
     by_next (whole g) =
-        let here = reads_on p (begun_with b.games (whole g)) last [] None (end_passes p) in
-        inr (ap (λ (r : Read). r.fault) here, (g, ap (λ (r : Read). r.begun.games) here))
+        let here = reads_on p (progress_with b.games (whole g)) last [] None (end_passes p) in
+        inr (ap (λ (r : Read). r.fault) here, (g, ap (λ (r : Read). r.progress.games) here))
 
     by_test : (o : Option Reason) → refusal p b.part t.kind ≡ o → AddsOne b.games (read_from p b (t ∷ last ∷ []))
-    by_test (Some reason) is = inl (ap (λ (r : Read). r.begun.games) (reads_on p b t (last ∷ []) (Some reason) is))
+    by_test (Some reason) is = inl (ap (λ (r : Read). r.progress.games) (reads_on p b t (last ∷ []) (Some reason) is))
     by_test None is =
         subst (λ (r : Read). AddsOne b.games r) (sym (reads_on p b t (last ∷ []) None is)) (by_next (next b.part t.kind))

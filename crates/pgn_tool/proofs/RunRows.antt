@@ -6,7 +6,7 @@ use Rattle.pgn_game.specs.declared.mode.Mode.TheVariants.{Full, Reduced}
 use Rattle.pgn_game.specs.declared.reason.Reason.TheVariants.{UnexpectedEnd}
 use Rattle.pgn_game.specs.FaultTable.{refusal}
 use Rattle.pgn_game.specs.TagSection.{roster}
-use Rattle.pgn_game.specs.Begun.{verdict}
+use Rattle.pgn_game.specs.Progress.{verdict}
 use Rattle.pgn_game.specs.Reason.{line_of}
 use Rattle.pgn_game.specs.Chess.{first_position}
 use Rattle.pgn_tool.specs.Listing.{hand_line}

@@ -9,11 +9,11 @@ use Rattle.pgn_game.specs.declared.mode.Mode.TheVariants.{Full}
 use Rattle.pgn_game.specs.declared.reason.Reason.{Reason}
 use Rattle.pgn_game.specs.declared.reason.Reason.TheVariants.{ReadFault, WriteFault}
 use Rattle.pgn_game.specs.declared.reason.Fault.{Fault}
-use Rattle.pgn_game.specs.declared.whole.Totals.{Totals}
+use Rattle.pgn_game.specs.declared.conversion.Totals.{Totals}
 use Rattle.pgn_game.specs.Profile.{Profile}
 use Rattle.pgn_lexer.specs.TokensOf.{tokens_of}
-use Rattle.pgn_game.specs.Begun.{Read, read, refused as is_refused, totals, verdict_of}
-use Rattle.pgn_game.specs.Here.{plies_of}
+use Rattle.pgn_game.specs.Progress.{Read, read, refused as is_refused, totals, verdict_of}
+use Rattle.pgn_game.specs.Levels.{plies_of}
 use Rattle.pgn_game.specs.Feeding.{profile_of}
 use Rattle.pgn_game.specs.Converting.{Converts, CountsDevices, Fails, IsConverted, refused, unread, unwritten, too_long}
 use Rattle.pgn_tool.specs.declared.list.Stopped.{Stopped}
@@ -219,13 +219,13 @@ list_blames ReadFault source out counts = omega (arith, counts)
 list_blames WriteFault source out counts = absurd counts
 list_blames _ source out counts = tt
 
-passes_verdict : (r : Read) → r.fault ≡ None → verdict_of r ≡ totals (record { games = length r.begun.games; plies = sum (map plies_of r.begun.games) })
+passes_verdict : (r : Read) → r.fault ≡ None → verdict_of r ≡ totals (record { games = length r.progress.games; plies = sum (map plies_of r.progress.games) })
 passes_verdict r e =
-    ap (λ (o : Option Fault). elim o [ Some f ↦ is_refused f | None ↦ totals (record { games = length r.begun.games; plies = sum (map plies_of r.begun.games) }) ]) e
+    ap (λ (o : Option Fault). elim o [ Some f ↦ is_refused f | None ↦ totals (record { games = length r.progress.games; plies = sum (map plies_of r.progress.games) }) ]) e
 
 refused_verdict : (r : Read) (f : Fault) → r.fault ≡ Some f → verdict_of r ≡ is_refused f
 refused_verdict r f e =
-    ap (λ (o : Option Fault). elim o [ Some f ↦ is_refused f | None ↦ totals (record { games = length r.begun.games; plies = sum (map plies_of r.begun.games) }) ]) e
+    ap (λ (o : Option Fault). elim o [ Some f ↦ is_refused f | None ↦ totals (record { games = length r.progress.games; plies = sum (map plies_of r.progress.games) }) ]) e
 
 stopped_answers : (s : List ℕ) (source out err : Device) (code : ℕ) (stopped : Stopped) → IsSmooth s source out
     → Stops (Some s) source.after out.before out.after stopped → EndsList (Err stopped) source out err code → Answers listing s out err code

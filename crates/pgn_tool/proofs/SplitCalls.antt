@@ -16,7 +16,7 @@ use Rattle.pgn_game.specs.declared.converter.Fed.{Fed}
 use Rattle.pgn_game.specs.Due.{Gains}
 use Rattle.pgn_game.specs.declared.reason.Fault.{Fault}
 use Rattle.pgn_game.specs.Text.{game_text, text_of}
-use Rattle.pgn_game.specs.Begun.{Read, nothing_begun, read}
+use Rattle.pgn_game.specs.Progress.{Read, no_progress, read}
 use Rattle.pgn_game.specs.Feeding as feeding
 use Rattle.pgn_game.specs.Feeding.{Converter, FedAll, FedGame, FedToFault, Stands, StopsIn, StopsWriting}
 use Rattle.pgn_tool.specs.declared.files.CreateFault.{CreateFault}
@@ -41,7 +41,7 @@ front_passes ts us passes = by_fault (read list_profile ts).fault refl
     by_fault : (o : Option Fault) → (read list_profile ts).fault ≡ o → (read list_profile ts).fault ≡ None
     by_fault None is = is
     by_fault (Some f) is =
-        absurd (not_both _ f (ap (λ (r : Read). r.fault) (read_stops list_profile nothing_begun ts us f is) ∙ is) passes)
+        absurd (not_both _ f (ap (λ (r : Read). r.fault) (read_stops list_profile no_progress ts us f is) ∙ is) passes)
 
 module _ {A : Type 0} (taken : A → Option (List ℕ)) (failures : A → ℕ) (u rest : List ℕ) (old new : Converter)
     (before log after : Option (List Event)) (file now : Option A) (count failed : ℕ)
@@ -182,10 +182,10 @@ pub cuts : {A : Type 0} → (taken : A → Option (List ℕ)) (failures : A → 
     → AreFiles taken before log file count given → Turned taken failures (one_more count) log file after now refusal failed → 0 < failed
     → closed_log ≡ added after (closing taken failures now)
     → (writing : StopsWriting list_profile given ts at (told taken log file) (told taken after now))
-    → (read list_profile writing.front).begun.games ≡ (read list_profile given).begun.games
+    → (read list_profile writing.front).progress.games ≡ (read list_profile given).progress.games
     → tokens_of u ≡ ts ++ rest → StopsAt writing.token.at why → CutsFile u why before closed_log
 cuts taken failures before log after closed_log file now count failed u given ts rest at refusal why files turned more closes writing same all stops =
-    let gs = (read list_profile given).begun.games in
+    let gs = (read list_profile given).progress.games in
     record {
       front = writing.front;
       token = writing.token;
@@ -218,7 +218,7 @@ module _ {A : Type 0} (taken : A → Option (List ℕ)) (failures : A → ℕ) (
   -- the files of tokens that finish no game more
   pub files_left : (ts : List Token) (gains : Gains list_profile so.tokens ts (told taken log file) (told taken after now))
       → Turned taken failures (one_more count) log file after now None failed → failed ≡ 0
-      → (read list_profile ts).begun.games ≡ (read list_profile so.tokens).begun.games → Logs before closed_log (files_of ts)
+      → (read list_profile ts).progress.games ≡ (read list_profile so.tokens).progress.games → Logs before closed_log (files_of ts)
   files_left ts gains turned zero same =
       if_on before so.files (λ b h.
       last_closed taken failures b after closed_log now count ts
@@ -233,7 +233,7 @@ module _ {A : Type 0} (taken : A → Option (List ℕ)) (failures : A → ℕ) (
   own_stops f turned zero own (feeding.at_token h to) = by_stops to.fed.stops to.no_game own
     where
       by_stops : {g : Fault} (stops : feeding.Stops list_profile so.tokens to.fed.tokens (told taken log file) (told taken after now) g)
-          → feeding.games_before stops ≡ (read list_profile so.tokens).begun.games → IsOwn g.reason → StopsOn u rest before closed_log (unsplit.Refused g)
+          → feeding.games_before stops ≡ (read list_profile so.tokens).progress.games → IsOwn g.reason → StopsOn u rest before closed_log (unsplit.Refused g)
       by_stops (feeding.refused g fault gains) same is =
           games.at_fault g (feeding.at_token g (record {
             tokens = to.fed.tokens;
@@ -260,8 +260,8 @@ module _ {A : Type 0} (taken : A → Option (List ℕ)) (failures : A → ℕ) (
   write_stops f why refusal turned is more settles (feeding.at_token h to) = by_stops to.fed.stops to.no_game is settles
     where
       by_stops : {g : Fault} (stops : feeding.Stops list_profile so.tokens to.fed.tokens (told taken log file) (told taken after now) g)
-          → feeding.games_before stops ≡ (read list_profile so.tokens).begun.games → g.reason ≡ WriteFault → settled {A = Fed} refusal (Err g) ≡ Err why → StopsOn u rest before closed_log why
-      by_stops (feeding.refused g fault gains) same wrong so_why = absurd (no_own_write g.reason wrong (read_own list_profile nothing_begun to.fed.tokens g fault))
+          → feeding.games_before stops ≡ (read list_profile so.tokens).progress.games → g.reason ≡ WriteFault → settled {A = Fed} refusal (Err g) ≡ Err why → StopsOn u rest before closed_log why
+      by_stops (feeding.refused g fault gains) same wrong so_why = absurd (no_own_write g.reason wrong (read_own list_profile no_progress to.fed.tokens g fault))
       by_stops (feeding.unwritten at writing) same wrong so_why =
           let all = to.fed.next [] (subst (λ n. Follows n []) (sym (still_own rest)) tt) in
           games.cut_file why

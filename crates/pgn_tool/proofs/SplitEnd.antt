@@ -13,7 +13,7 @@ use Rattle.pgn_game.specs.declared.reason.Fault.{Fault}
 use Rattle.pgn_game.specs.Game.{Game, no_part, Part}
 use Rattle.pgn_game.specs.FaultTable.{Row, first_holding, is_at, is_end, refusal, rows, stage_number}
 use Rattle.pgn_game.specs.Text.{torn, torn_at}
-use Rattle.pgn_game.specs.Begun.{Begun, Next, Read, begun_after, begun_with, due, going, next, next_in, nothing_begun, read, read_from, whole, written}
+use Rattle.pgn_game.specs.Progress.{Progress, Next, Read, progress_after, progress_with, due, going, next, next_in, no_progress, read, read_from, whole, written}
 use Rattle.pgn_game.specs.Due.{Gains}
 use Rattle.pgn_game.specs.Feeding as feeding
 use Rattle.pgn_game.specs.Feeding.{Converter, Finishes, FinishesToFault, StopsWriting}
@@ -22,7 +22,7 @@ use Rattle.pgn_lexer.specs.Laws.{IsLast, RisesTo, TokensRise}
 use Rattle.pgn_lexer.specs.declared.token.LexReason.{LexReason}
 use Rattle.pgn_game.specs.declared.mode.Mode.TheVariants.{Full}
 use Rattle.pgn_game.specs.declared.stage.Stage.{Stage}
-use Rattle.pgn_game.specs.declared.stage.Stage.TheVariants.{Between, AfterBracket, AfterName, AfterValue, AfterTags, InMovetext}
+use Rattle.pgn_game.specs.declared.stage.Stage.TheVariants.{Between, AfterLeftBracket, AfterName, AfterValue, AfterTags, InMovetext}
 use Rattle.pgn_tool.specs.declared.files.CreateFault.{CreateFault}
 use Rattle.pgn_tool.specs.declared.split.Unsplit.{Unsplit}
 use Rattle.pgn_tool.specs.declared.split.Unsplit.TheVariants as unsplit
@@ -39,8 +39,8 @@ use Rattle.pgn_tool.proofs.SplitFiles.{game_closed, grown, if_on, whole_on}
 use Rattle.pgn_tool.proofs.Splits.{log_on, not_both as split_not_both, opens, own_or_write, same_error, unrefused}
 
 -- where the last tokens finish a game, nothing is written of another one
-last_torn : (b : Begun) (ts : List Token) (g : Game) → AreLast ts → (read_from list_profile b ts).begun.games ≡ b.games ++ g ∷ []
-    → torn list_profile (read_from list_profile b ts).begun.part ≡ []
+last_torn : (b : Progress) (ts : List Token) (g : Game) → AreLast ts → (read_from list_profile b ts).progress.games ≡ b.games ++ g ∷ []
+    → torn list_profile (read_from list_profile b ts).progress.part ≡ []
 last_torn b _ g (quiet ts q) more =
     absurd (omega (arith, ap (length {A = Game}) (sym (quiet_games list_profile b ts q) ∙ more), length-append b.games (g ∷ [])))
 last_torn b _ g (one t at) more = by_test (refusal list_profile b.part t.kind) refl
@@ -48,45 +48,45 @@ last_torn b _ g (one t at) more = by_test (refusal list_profile b.part t.kind) r
     last : Token
     last = record { at = at; kind = tokens.end }
 
-    by_next : (nx : Next) → (read_from list_profile (begun_with b.games nx) (last ∷ [])).begun.games ≡ b.games ++ g ∷ []
-        → torn list_profile (read_from list_profile (begun_with b.games nx) (last ∷ [])).begun.part ≡ []
+    by_next : (nx : Next) → (read_from list_profile (progress_with b.games nx) (last ∷ [])).progress.games ≡ b.games ++ g ∷ []
+        → torn list_profile (read_from list_profile (progress_with b.games nx) (last ∷ [])).progress.part ≡ []
     by_next (going part) is =
-        absurd (omega (arith, ap (length {A = Game}) (sym (quiet_games list_profile (begun_with b.games (going part)) (last ∷ []) (end, tt)) ∙ is), length-append b.games (g ∷ [])))
+        absurd (omega (arith, ap (length {A = Game}) (sym (quiet_games list_profile (progress_with b.games (going part)) (last ∷ []) (end, tt)) ∙ is), length-append b.games (g ∷ [])))
     by_next (whole h) is =
-        ap (λ (r : Read). torn list_profile r.begun.part) (reads_on list_profile (begun_with b.games (whole h)) last [] None (end_passes list_profile))
+        ap (λ (r : Read). torn list_profile r.progress.part) (reads_on list_profile (progress_with b.games (whole h)) last [] None (end_passes list_profile))
 
-    by_test : (o : Option Reason) → refusal list_profile b.part t.kind ≡ o → torn list_profile (read_from list_profile b (t ∷ last ∷ [])).begun.part ≡ []
+    by_test : (o : Option Reason) → refusal list_profile b.part t.kind ≡ o → torn list_profile (read_from list_profile b (t ∷ last ∷ [])).progress.part ≡ []
     by_test (Some reason) is =
-        absurd (omega (arith, ap (length {A = Game}) (sym (ap (λ (r : Read). r.begun.games) (reads_on list_profile b t (last ∷ []) (Some reason) is)) ∙ more), length-append b.games (g ∷ [])))
+        absurd (omega (arith, ap (length {A = Game}) (sym (ap (λ (r : Read). r.progress.games) (reads_on list_profile b t (last ∷ []) (Some reason) is)) ∙ more), length-append b.games (g ∷ [])))
     by_test None is =
         let here = reads_on list_profile b t (last ∷ []) None is in
-        ap (λ (r : Read). torn list_profile r.begun.part) here
-        ∙ by_next (next b.part t.kind) (ap (λ (r : Read). r.begun.games) (sym here) ∙ more)
+        ap (λ (r : Read). torn list_profile r.progress.part) here
+        ∙ by_next (next b.part t.kind) (ap (λ (r : Read). r.progress.games) (sym here) ∙ more)
 
 -- one token more, which is not rejected
 one_token : (ts : List Token) (t : Token) → (read list_profile ts).fault ≡ None → (read list_profile (ts ++ t ∷ [])).fault ≡ None
-    → read list_profile (ts ++ t ∷ []) ≡ record { begun = begun_after (read list_profile ts).begun t; fault = None }
-one_token ts t passes all = by_test (refusal list_profile (read list_profile ts).begun.part t.kind) refl
+    → read list_profile (ts ++ t ∷ []) ≡ record { progress = progress_after (read list_profile ts).progress t; fault = None }
+one_token ts t passes all = by_test (refusal list_profile (read list_profile ts).progress.part t.kind) refl
   where
-    here : read list_profile (ts ++ t ∷ []) ≡ read_from list_profile (read list_profile ts).begun (t ∷ [])
-    here = read_more list_profile nothing_begun ts (t ∷ []) passes
+    here : read list_profile (ts ++ t ∷ []) ≡ read_from list_profile (read list_profile ts).progress (t ∷ [])
+    here = read_more list_profile no_progress ts (t ∷ []) passes
 
-    by_test : (o : Option Reason) → refusal list_profile (read list_profile ts).begun.part t.kind ≡ o
-        → read list_profile (ts ++ t ∷ []) ≡ record { begun = begun_after (read list_profile ts).begun t; fault = None }
+    by_test : (o : Option Reason) → refusal list_profile (read list_profile ts).progress.part t.kind ≡ o
+        → read list_profile (ts ++ t ∷ []) ≡ record { progress = progress_after (read list_profile ts).progress t; fault = None }
     by_test (Some reason) is =
-        absurd (not_both _ _ (ap (λ (r : Read). r.fault) (here ∙ reads_on list_profile (read list_profile ts).begun t [] (Some reason) is)) all)
-    by_test None is = here ∙ reads_on list_profile (read list_profile ts).begun t [] None is
+        absurd (not_both _ _ (ap (λ (r : Read). r.fault) (here ∙ reads_on list_profile (read list_profile ts).progress t [] (Some reason) is)) all)
+    by_test None is = here ∙ reads_on list_profile (read list_profile ts).progress t [] None is
 
 not_refused : (ts : List Token) (t : Token) → (read list_profile ts).fault ≡ None → (read list_profile (ts ++ t ∷ [])).fault ≡ None
-    → refusal list_profile (read list_profile ts).begun.part t.kind ≡ None
-not_refused ts t passes all = by_test (refusal list_profile (read list_profile ts).begun.part t.kind) refl
+    → refusal list_profile (read list_profile ts).progress.part t.kind ≡ None
+not_refused ts t passes all = by_test (refusal list_profile (read list_profile ts).progress.part t.kind) refl
   where
-    by_test : (o : Option Reason) → refusal list_profile (read list_profile ts).begun.part t.kind ≡ o
-        → refusal list_profile (read list_profile ts).begun.part t.kind ≡ None
+    by_test : (o : Option Reason) → refusal list_profile (read list_profile ts).progress.part t.kind ≡ o
+        → refusal list_profile (read list_profile ts).progress.part t.kind ≡ None
     by_test None is = is
     by_test (Some reason) is =
-        absurd (not_both _ _ (ap (λ (r : Read). r.fault) (read_more list_profile nothing_begun ts (t ∷ []) passes
-        ∙ reads_on list_profile (read list_profile ts).begun t [] (Some reason) is)) all)
+        absurd (not_both _ _ (ap (λ (r : Read). r.fault) (read_more list_profile no_progress ts (t ∷ []) passes
+        ∙ reads_on list_profile (read list_profile ts).progress t [] (Some reason) is)) all)
 
 -- two ways to part a list: one front goes on where the other ends
 abbrev Parted : List Token → List Token → List Token → List Token → Type 0
@@ -140,9 +140,9 @@ end_in_game part inside none =
 
 -- so nothing is written of a game that is not whole
 end_torn : (gs : List Game) (part : Part) (s : Stage) → part.stage ≡ s → refusal list_profile part tokens.end ≡ None
-    → torn list_profile (begun_with gs (next_in s part tokens.end)).part ≡ []
+    → torn list_profile (progress_with gs (next_in s part tokens.end)).part ≡ []
 end_torn gs part Between is none = ap (λ w. torn_at w Full part) is
-end_torn gs part AfterBracket is none = ap (λ w. torn_at w Full part) is
+end_torn gs part AfterLeftBracket is none = ap (λ w. torn_at w Full part) is
 end_torn gs part AfterName is none = ap (λ w. torn_at w Full part) is
 end_torn gs part AfterValue is none = ap (λ w. torn_at w Full part) is
 end_torn gs part AfterTags is none =
@@ -167,7 +167,7 @@ no_refusal part k r is none = some_none (ap (refusal list_profile part) (sym is)
 whole_torn : (ts : List Token) → RisesTo ts → (read list_profile ts).fault ≡ None → torn_in ts ≡ []
 whole_torn ts rises passes = by_last (last_token ts rises)
   where
-    by_kind : (b : Begun) (k : Kind) → IsLast k → refusal list_profile b.part k ≡ None → torn list_profile (begun_with b.games (next b.part k)).part ≡ []
+    by_kind : (b : Progress) (k : Kind) → IsLast k → refusal list_profile b.part k ≡ None → torn list_profile (progress_with b.games (next b.part k)).part ≡ []
     by_kind b tokens.end h none = end_torn b.games b.part b.part.stage refl none
     by_kind b (tokens.refused r) h none = absurd (no_refusal b.part (tokens.refused r) r refl none)
     by_kind b k h none = absurd h
@@ -176,8 +176,8 @@ whole_torn ts rises passes = by_last (last_token ts rises)
     by_last (front, t, is, last) =
         let all : (read list_profile (front ++ t ∷ [])).fault ≡ None = ap (λ l. (read list_profile l).fault) (sym is) ∙ passes in
         let before = front_passes front (t ∷ []) all in
-        ap torn_in is ∙ ap (λ (r : Read). torn list_profile r.begun.part) (one_token front t before all)
-        ∙ by_kind (read list_profile front).begun t.kind last (not_refused front t before all)
+        ap torn_in is ∙ ap (λ (r : Read). torn list_profile r.progress.part) (one_token front t before all)
+        ∙ by_kind (read list_profile front).progress t.kind last (not_refused front t before all)
 
 module _ {A : Type 0} (taken : A → Option (List ℕ)) (failures : A → ℕ) (u : List ℕ) (old new : Converter)
     (before log after closed_log : Option (List Event)) (file now : Option A) (count failed : ℕ)
@@ -185,25 +185,25 @@ module _ {A : Type 0} (taken : A → Option (List ℕ)) (failures : A → ℕ) (
   left : tokens_of u ≡ so.tokens ++ coming old.lexer []
   left = ap tokens_of (sym (append-nil u)) ∙ so.stands.lexer.tokens [] tt
 
-  reads : read list_profile (tokens_of u) ≡ read_from list_profile (read list_profile so.tokens).begun (coming old.lexer [])
-  reads = ap (read list_profile) left ∙ read_more list_profile nothing_begun so.tokens (coming old.lexer []) so.stands.has_read.passes
+  reads : read list_profile (tokens_of u) ≡ read_from list_profile (read list_profile so.tokens).progress (coming old.lexer [])
+  reads = ap (read list_profile) left ∙ read_more list_profile no_progress so.tokens (coming old.lexer []) so.stands.has_read.passes
 
-  adds : AddsOne (read list_profile so.tokens).begun.games (read list_profile (tokens_of u))
+  adds : AddsOne (read list_profile so.tokens).progress.games (read list_profile (tokens_of u))
   adds =
-      subst (AddsOne (read list_profile so.tokens).begun.games) (sym reads)
-      (last_games list_profile (read list_profile so.tokens).begun (coming old.lexer []) (left_over old.lexer))
+      subst (AddsOne (read list_profile so.tokens).progress.games) (sym reads)
+      (last_games list_profile (read list_profile so.tokens).progress (coming old.lexer []) (left_over old.lexer))
 
-  none_torn : (g : Game) → (read list_profile (tokens_of u)).begun.games ≡ (read list_profile so.tokens).begun.games ++ g ∷ [] → torn_in (tokens_of u) ≡ []
+  none_torn : (g : Game) → (read list_profile (tokens_of u)).progress.games ≡ (read list_profile so.tokens).progress.games ++ g ∷ [] → torn_in (tokens_of u) ≡ []
   none_torn g more =
-      ap (λ (r : Read). torn list_profile r.begun.part) reads
-      ∙ last_torn (read list_profile so.tokens).begun (coming old.lexer []) g (left_over old.lexer) (ap (λ (r : Read). r.begun.games) (sym reads) ∙ more)
+      ap (λ (r : Read). torn list_profile r.progress.part) reads
+      ∙ last_torn (read list_profile so.tokens).progress (coming old.lexer []) g (left_over old.lexer) (ap (λ (r : Read). r.progress.games) (sym reads) ∙ more)
 
   -- all was read, and perhaps one more game finished
   end_files : (gains : Gains list_profile so.tokens (tokens_of u) (told taken log file) (told taken after now))
       → Turned taken failures (one_more count) log file after now None failed → failed ≡ 0 → Logs before closed_log (files_of (tokens_of u))
   end_files gains turned zero = by_games adds
     where
-      by_games : AddsOne (read list_profile so.tokens).begun.games (read list_profile (tokens_of u)) → Logs before closed_log (files_of (tokens_of u))
+      by_games : AddsOne (read list_profile so.tokens).progress.games (read list_profile (tokens_of u)) → Logs before closed_log (files_of (tokens_of u))
       by_games (inl same) = files_left taken failures u [] old new before log after closed_log file now count failed so closes (tokens_of u) gains turned zero same
       by_games (inr (passes, (g, more))) =
           let none = none_torn g more in
@@ -240,50 +240,50 @@ module _ {A : Type 0} (taken : A → Option (List ℕ)) (failures : A → ℕ) (
 
     -- the end adds nothing after a marker
     before_end : (t : Token) (place : ℕ) → writing.front ≡ so.tokens ++ t ∷ [] → writing.token ≡ record { at = place; kind = tokens.end }
-        → (read list_profile writing.front).begun.games ≡ (read list_profile so.tokens).begun.games
-    before_end t place is end_is = by_next (next (read list_profile so.tokens).begun.part t.kind) refl
+        → (read list_profile writing.front).progress.games ≡ (read list_profile so.tokens).progress.games
+    before_end t place is end_is = by_next (next (read list_profile so.tokens).progress.part t.kind) refl
       where
         passes : (read list_profile writing.front).fault ≡ None
         passes = front_passes writing.front (writing.token ∷ []) writing.passes
 
-        here : read list_profile writing.front ≡ record { begun = begun_after (read list_profile so.tokens).begun t; fault = None }
+        here : read list_profile writing.front ≡ record { progress = progress_after (read list_profile so.tokens).progress t; fault = None }
         here =
             ap (read list_profile) is
             ∙ one_token so.tokens t so.stands.has_read.passes (ap (λ ts. (read list_profile ts).fault) (sym is) ∙ passes)
 
-        by_next : (nx : Next) → next (read list_profile so.tokens).begun.part t.kind ≡ nx
-            → (read list_profile writing.front).begun.games ≡ (read list_profile so.tokens).begun.games
+        by_next : (nx : Next) → next (read list_profile so.tokens).progress.part t.kind ≡ nx
+            → (read list_profile writing.front).progress.games ≡ (read list_profile so.tokens).progress.games
         by_next (going part) leads =
-            ap (λ (r : Read). r.begun.games) here ∙ ap (λ n. (begun_with (read list_profile so.tokens).begun.games n).games) leads
+            ap (λ (r : Read). r.progress.games) here ∙ ap (λ n. (progress_with (read list_profile so.tokens).progress.games n).games) leads
         by_next (whole h) leads =
-            let b : (read list_profile writing.front).begun ≡ record { games = (read list_profile so.tokens).begun.games ++ h ∷ []; part = no_part } =
-            ap (λ (r : Read). r.begun) here ∙ ap (begun_with (read list_profile so.tokens).begun.games) leads in
+            let b : (read list_profile writing.front).progress ≡ record { games = (read list_profile so.tokens).progress.games ++ h ∷ []; part = no_part } =
+            ap (λ (r : Read). r.progress) here ∙ ap (progress_with (read list_profile so.tokens).progress.games) leads in
             let behind = one_token writing.front writing.token passes writing.passes in
             let same : due list_profile (writing.front ++ writing.token ∷ []) ≡ due list_profile writing.front =
-            ap (λ (r : Read). written list_profile r.begun) behind
-            ∙ ap (λ t. written list_profile (begun_after (read list_profile writing.front).begun t)) end_is
-            ∙ ap (λ (x : Begun). written list_profile (begun_after x (record { at = place; kind = tokens.end }))) b
+            ap (λ (r : Read). written list_profile r.progress) behind
+            ∙ ap (λ t. written list_profile (progress_after (read list_profile writing.front).progress t)) end_is
+            ∙ ap (λ (x : Progress). written list_profile (progress_after x (record { at = place; kind = tokens.end }))) b
             ∙ ap (written list_profile) (sym b) in
             absurd (omega (arith, longer, writing.short, writing.least, ap (length {A = ℕ}) same))
 
     by_last : (mid left : List Token) → AreLast left → left ≡ mid ++ writing.token ∷ writing.rest → writing.front ≡ so.tokens ++ mid
-        → (read list_profile writing.front).begun.games ≡ (read list_profile so.tokens).begun.games
-    by_last [] left last parts is = ap (λ ts. (read list_profile ts).begun.games) (is ∙ append-nil so.tokens)
+        → (read list_profile writing.front).progress.games ≡ (read list_profile so.tokens).progress.games
+    by_last [] left last parts is = ap (λ ts. (read list_profile ts).progress.games) (is ∙ append-nil so.tokens)
     by_last (m ∷ mid) _ (quiet ts q) parts is =
-        ap (λ ts. (read list_profile ts).begun.games) is
-        ∙ ap (λ (r : Read). r.begun.games) (read_more list_profile nothing_begun so.tokens (m ∷ mid) so.stands.has_read.passes)
-        ∙ quiet_games list_profile (read list_profile so.tokens).begun (m ∷ mid) (quiet_front (m ∷ mid) _ (subst AreQuiet parts q))
+        ap (λ ts. (read list_profile ts).progress.games) is
+        ∙ ap (λ (r : Read). r.progress.games) (read_more list_profile no_progress so.tokens (m ∷ mid) so.stands.has_read.passes)
+        ∙ quiet_games list_profile (read list_profile so.tokens).progress (m ∷ mid) (quiet_front (m ∷ mid) _ (subst AreQuiet parts q))
     by_last (m ∷ []) _ (one t place) parts is = before_end m place is (second parts)
     by_last (m ∷ n ∷ mid) _ (one t place) parts is =
         absurd (omega (arith, ap (length {A = Token}) parts, length-append mid (writing.token ∷ writing.rest)))
 
-    games_same : (read list_profile writing.front).begun.games ≡ (read list_profile so.tokens).begun.games
+    games_same : (read list_profile writing.front).progress.games ≡ (read list_profile so.tokens).progress.games
     games_same = by_parts (parted so.tokens writing.front (coming old.lexer []) (writing.token ∷ writing.rest) (sym left ∙ writing.cut))
       where
         by_parts : Parted so.tokens writing.front (coming old.lexer []) (writing.token ∷ writing.rest)
-            → (read list_profile writing.front).begun.games ≡ (read list_profile so.tokens).begun.games
+            → (read list_profile writing.front).progress.games ≡ (read list_profile so.tokens).progress.games
         by_parts (inl (mid, is, parts)) = by_last mid (coming old.lexer []) (left_over old.lexer) parts is
-        by_parts (inr ([], is, parts)) = ap (λ ts. (read list_profile ts).begun.games) (sym (is ∙ append-nil writing.front))
+        by_parts (inr ([], is, parts)) = ap (λ ts. (read list_profile ts).progress.games) (sym (is ∙ append-nil writing.front))
         by_parts (inr (m ∷ mid, is, parts)) =
             absurd (no_sooner mid (is ∙ ap (λ x. writing.front ++ x ∷ mid) (sym (head parts)) ∙ sym (append_assoc writing.front (writing.token ∷ []) mid)))
 
@@ -291,7 +291,7 @@ module _ {A : Type 0} (taken : A → Option (List ℕ)) (failures : A → ℕ) (
       → Turned taken failures (one_more count) log file after now refusal failed → f.reason ≡ WriteFault → 0 < failed
       → settled {A = Bool} refusal (Err f) ≡ Err why → feeding.Stops list_profile so.tokens (tokens_of u) (told taken log file) (told taken after now) f → StopsAtEnd u before closed_log why
   write_ends _ why refusal grows turned is more settles (feeding.refused f fault gains) =
-      absurd (no_own_write f.reason is (read_own list_profile nothing_begun (tokens_of u) f fault))
+      absurd (no_own_write f.reason is (read_own list_profile no_progress (tokens_of u) f fault))
   write_ends _ why refusal grows turned is more settles (feeding.unwritten at writing) =
       games.cut_file why
       (cuts taken failures before log after closed_log file now count failed u so.tokens (tokens_of u) [] at refusal why so.files turned more closes writing
@@ -301,7 +301,7 @@ module _ {A : Type 0} (taken : A → Option (List ℕ)) (failures : A → ℕ) (
       → feeding.Stops list_profile so.tokens (tokens_of u) (told taken log file) (told taken after now) f → StopsAtEnd u before closed_log (unsplit.Refused f)
   own_ends _ turned zero own (feeding.refused f fault gains) = by_games adds
     where
-      by_games : AddsOne (read list_profile so.tokens).begun.games (read list_profile (tokens_of u)) → StopsAtEnd u before closed_log (unsplit.Refused f)
+      by_games : AddsOne (read list_profile so.tokens).progress.games (read list_profile (tokens_of u)) → StopsAtEnd u before closed_log (unsplit.Refused f)
       by_games (inl same) =
           games.at_fault f (record {
             fault = fault;

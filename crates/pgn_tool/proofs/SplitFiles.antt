@@ -11,11 +11,11 @@ use Rattle.pgn_game.specs.declared.reason.Reason.{Reason}
 use Rattle.pgn_game.specs.declared.reason.Fault.{Fault}
 use Rattle.pgn_game.specs.declared.mode.Mode.TheVariants.{Full}
 use Rattle.pgn_game.specs.Game.{Game, no_part}
-use Rattle.pgn_game.specs.Here.{start_of}
+use Rattle.pgn_game.specs.Levels.{start_of}
 use Rattle.pgn_game.specs.TagSection.{tag_section}
 use Rattle.pgn_game.specs.FaultTable.{refusal, result_for}
 use Rattle.pgn_game.specs.Text.{game_text, text_of, tokens_out, torn}
-use Rattle.pgn_game.specs.Begun.{Next, Read, begun_with, due, going, next, nothing_begun, read, read_from, whole}
+use Rattle.pgn_game.specs.Progress.{Next, Read, progress_with, due, going, next, no_progress, read, read_from, whole}
 use Rattle.pgn_tool.specs.Listing.{list_profile}
 use Rattle.pgn_tool.specs.Files.{Event, added, closed, closing, failures_in, has_text, is_text, made, number_after, opened, told, whole_files}
 use Rattle.pgn_tool.specs.Splitting.{IsWell, Turned}
@@ -32,21 +32,21 @@ text_and_one (h ∷ gs) g =
     ∙ sym (append_assoc (game_text list_profile h) (text_of list_profile gs) (game_text list_profile g))
 
 -- what tokens add to the text of the game that they go on with
-pub torn_on : (ts us : List Token) (text : List ℕ) → (read list_profile us).begun.games ≡ (read list_profile ts).begun.games
+pub torn_on : (ts us : List Token) (text : List ℕ) → (read list_profile us).progress.games ≡ (read list_profile ts).progress.games
     → due list_profile us ≡ due list_profile ts ++ text → torn_in us ≡ torn_in ts ++ text
 torn_on ts us text same more =
-    let before = text_of list_profile (read list_profile ts).begun.games in
+    let before = text_of list_profile (read list_profile ts).progress.games in
     append_cancel_left before (torn_in us) (torn_in ts ++ text)
     (ap (λ gs. text_of list_profile gs ++ torn_in us) (sym same) ∙ more ∙ append_assoc before (torn_in ts) text)
 
 -- and to that of the game that they finish
-pub whole_on : (ts us : List Token) (g : Game) (text : List ℕ) → (read list_profile us).begun.games ≡ (read list_profile ts).begun.games ++ g ∷ []
+pub whole_on : (ts us : List Token) (g : Game) (text : List ℕ) → (read list_profile us).progress.games ≡ (read list_profile ts).progress.games ++ g ∷ []
     → torn_in us ≡ [] → due list_profile us ≡ due list_profile ts ++ text → game_text list_profile g ≡ torn_in ts ++ text
 whole_on ts us g text one none more =
-    let before = text_of list_profile (read list_profile ts).begun.games in
+    let before = text_of list_profile (read list_profile ts).progress.games in
     append_cancel_left before (game_text list_profile g) (torn_in ts ++ text)
-    (sym (text_and_one (read list_profile ts).begun.games g) ∙ ap (text_of list_profile) (sym one)
-    ∙ sym (append-nil (text_of list_profile (read list_profile us).begun.games)) ∙ ap (λ l. text_of list_profile (read list_profile us).begun.games ++ l) (sym none)
+    (sym (text_and_one (read list_profile ts).progress.games g) ∙ ap (text_of list_profile) (sym one)
+    ∙ sym (append-nil (text_of list_profile (read list_profile us).progress.games)) ∙ ap (λ l. text_of list_profile (read list_profile us).progress.games ++ l) (sym none)
     ∙ more ∙ append_assoc before (torn_in ts) text)
 
 pub grown : (o n : Option (List ℕ)) (x text : List ℕ) → o ≡ Some x → Appends o n text → n ≡ Some (x ++ text)
@@ -67,27 +67,27 @@ nothing_torn : torn list_profile no_part ≡ []
 nothing_torn = refl
 
 pub after_marker : (ts : List Token) (m : Token) (g : Game) → (read list_profile ts).fault ≡ None → (read list_profile (ts ++ m ∷ [])).fault ≡ None
-    → (read list_profile (ts ++ m ∷ [])).begun.games ≡ (read list_profile ts).begun.games ++ g ∷ [] → torn_in (ts ++ m ∷ []) ≡ []
-after_marker ts m g passes all one = by_test (refusal list_profile (read list_profile ts).begun.part m.kind) refl
+    → (read list_profile (ts ++ m ∷ [])).progress.games ≡ (read list_profile ts).progress.games ++ g ∷ [] → torn_in (ts ++ m ∷ []) ≡ []
+after_marker ts m g passes all one = by_test (refusal list_profile (read list_profile ts).progress.part m.kind) refl
   where
-    here : read list_profile (ts ++ m ∷ []) ≡ read_from list_profile (read list_profile ts).begun (m ∷ [])
-    here = read_more list_profile nothing_begun ts (m ∷ []) passes
+    here : read list_profile (ts ++ m ∷ []) ≡ read_from list_profile (read list_profile ts).progress (m ∷ [])
+    here = read_more list_profile no_progress ts (m ∷ []) passes
 
-    by_next : (nx : Next) → (begun_with (read list_profile ts).begun.games nx).games ≡ (read list_profile ts).begun.games ++ g ∷ []
-        → torn list_profile (begun_with (read list_profile ts).begun.games nx).part ≡ []
-    by_next (going part) e = absurd (omega (arith, ap (length {A = Game}) e, length-append (read list_profile ts).begun.games (g ∷ [])))
+    by_next : (nx : Next) → (progress_with (read list_profile ts).progress.games nx).games ≡ (read list_profile ts).progress.games ++ g ∷ []
+        → torn list_profile (progress_with (read list_profile ts).progress.games nx).part ≡ []
+    by_next (going part) e = absurd (omega (arith, ap (length {A = Game}) e, length-append (read list_profile ts).progress.games (g ∷ [])))
     by_next (whole h) e = nothing_torn
 
-    by_test : (o : Option Reason) → refusal list_profile (read list_profile ts).begun.part m.kind ≡ o → torn_in (ts ++ m ∷ []) ≡ []
+    by_test : (o : Option Reason) → refusal list_profile (read list_profile ts).progress.part m.kind ≡ o → torn_in (ts ++ m ∷ []) ≡ []
     by_test (Some reason) is =
-        absurd (some_is_none (sym (ap (λ (r : Read). r.fault) (here ∙ reads_on list_profile (read list_profile ts).begun m [] (Some reason) is)) ∙ all))
+        absurd (some_is_none (sym (ap (λ (r : Read). r.fault) (here ∙ reads_on list_profile (read list_profile ts).progress m [] (Some reason) is)) ∙ all))
       where
         some_is_none : {f : Fault} → Some f ≡ None → ⊥
         some_is_none e = cc
     by_test None is =
-        let there = here ∙ reads_on list_profile (read list_profile ts).begun m [] None is in
-        ap (λ (r : Read). torn list_profile r.begun.part) there
-        ∙ by_next (next (read list_profile ts).begun.part m.kind) (ap (λ (r : Read). r.begun.games) (sym there) ∙ one)
+        let there = here ∙ reads_on list_profile (read list_profile ts).progress m [] None is in
+        ap (λ (r : Read). torn list_profile r.progress.part) there
+        ∙ by_next (next (read list_profile ts).progress.part m.kind) (ap (λ (r : Read). r.progress.games) (sym there) ∙ one)
 
 -- ---- files
 
@@ -112,14 +112,14 @@ told_none taken log b is = ap (λ l. told taken l None) is
 pub told_some : {A : Type 0} → (taken : A → Option (List ℕ)) (log : Option (List Event)) (b : List Event) (out : A) → log ≡ Some b → told taken log (Some out) ≡ taken out
 told_some taken log b out is = ap (λ l. told taken l (Some out)) is
 
-texts_same : (ts us : List Token) → (read list_profile us).begun.games ≡ (read list_profile ts).begun.games → texts_in us ≡ texts_in ts
+texts_same : (ts us : List Token) → (read list_profile us).progress.games ≡ (read list_profile ts).progress.games → texts_in us ≡ texts_in ts
 texts_same ts us same = ap (map (game_text list_profile)) same
 
 module _ {A : Type 0} (taken : A → Option (List ℕ)) (failures : A → ℕ) (b : List Event) where
   -- the tokens us finish no game besides those of ts
   pub files_on : (log after : Option (List Event)) (file now : Option A) (count : ℕ) (ts us : List Token) (text : List ℕ) (failed : ℕ)
       → FilesOf taken b log file count ts → Turned taken failures (one_more count) log file after now None failed
-      → (read list_profile us).begun.games ≡ (read list_profile ts).begun.games → due list_profile us ≡ due list_profile ts ++ text
+      → (read list_profile us).progress.games ≡ (read list_profile ts).progress.games → due list_profile us ≡ due list_profile ts ++ text
       → Appends (told taken log file) (told taken after now) text → FilesOf taken b after now count us
   files_on log after file now count ts us text failed so turned same more wrote = record {
     counted = so.counted ∙ ap (number_after 0) (sym (texts_same ts us same));
@@ -133,7 +133,7 @@ module _ {A : Type 0} (taken : A → Option (List ℕ)) (failures : A → ℕ) (
   pub game_closed : (after closed_log : Option (List Event)) (now left : Option A) (count new : ℕ) (ts us : List Token) (g : Game)
       → count ≡ number_after 0 (texts_in ts) → after ≡ Some (b ++ (whole_files 0 (texts_in ts) ++ opened (is_some now) count))
       → told taken after now ≡ Some (game_text list_profile g) → failures_in failures now ≡ 0
-      → (read list_profile us).begun.games ≡ (read list_profile ts).begun.games ++ g ∷ [] → torn_in us ≡ []
+      → (read list_profile us).progress.games ≡ (read list_profile ts).progress.games ++ g ∷ [] → torn_in us ≡ []
       → closed_log ≡ added after (closing taken failures now) → left ≡ None → new ≡ (if is_some now then one_more count else count)
       → FilesOf taken b closed_log left new us
   game_closed after closed_log None left count new ts us g counted logged text clean one none closes shut number =
@@ -141,7 +141,7 @@ module _ {A : Type 0} (taken : A → Option (List ℕ)) (failures : A → ℕ) (
   game_closed after closed_log (Some out) left count new ts us g counted logged text clean one none closes shut number =
       let games = texts_in ts in
       let own = game_text list_profile g in
-      let all : texts_in us ≡ games ++ own ∷ [] = ap (map (game_text list_profile)) one ∙ map-append (game_text list_profile) (read list_profile ts).begun.games (g ∷ []) in
+      let all : texts_in us ≡ games ++ own ∷ [] = ap (map (game_text list_profile)) one ∙ map-append (game_text list_profile) (read list_profile ts).progress.games (g ∷ []) in
       let steps : (made (one_more count) ∷ []) ++ (closed (taken out) (failures out) ∷ []) ≡ made (one_more (number_after 0 games)) ∷ closed (Some own) 0 ∷ [] =
       ap (λ n. made (one_more n) ∷ closed (taken out) (failures out) ∷ []) counted
       ∙ ap (λ t. made (one_more (number_after 0 games)) ∷ closed t (failures out) ∷ []) (sym (told_some taken after _ out logged) ∙ text)

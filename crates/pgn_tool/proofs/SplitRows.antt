@@ -6,7 +6,7 @@ use Rattle.pgn_lexer.specs.TokensOf.{tokens_of}
 use Rattle.pgn_game.specs.declared.reason.Reason.TheVariants.{UnmatchedClose}
 use Rattle.pgn_game.specs.FaultTable.{refusal}
 use Rattle.pgn_game.specs.TagSection.{roster}
-use Rattle.pgn_game.specs.Begun.{read}
+use Rattle.pgn_game.specs.Progress.{read}
 use Rattle.pgn_tool.specs.Listing.{list_profile}
 use Rattle.pgn_tool.specs.Files.{Event, closed, made}
 use Rattle.pgn_tool.specs.SplitGames.{files_of}

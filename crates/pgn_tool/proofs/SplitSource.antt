@@ -6,7 +6,7 @@ use Rattle.pgn_lexer.specs.Tokens.{Token}
 use Rattle.pgn_lexer.specs.TokensOf.{tokens_of}
 use Rattle.pgn_game.specs.declared.reason.Reason.TheVariants.{ReadFault, InputTooLong}
 use Rattle.pgn_game.specs.Text.{game_text, torn}
-use Rattle.pgn_game.specs.Begun.{Read, nothing_begun, read}
+use Rattle.pgn_game.specs.Progress.{Read, no_progress, read}
 use Rattle.pgn_game.specs.Feeding as feeding
 use Rattle.pgn_game.specs.Feeding.{Converter, Stands}
 use Rattle.pgn_tool.specs.declared.split.Unsplit.{Unsplit}
@@ -23,8 +23,8 @@ use Rattle.pgn_tool.proofs.SplitFiles.{if_on, last_closed}
 -- the files depend on what was read alone
 files_read : Read → List Event
 files_read r =
-    let texts = map (game_text list_profile) r.begun.games in
-    whole_files 0 texts ++ torn_file (number_after 0 texts) (torn list_profile r.begun.part)
+    let texts = map (game_text list_profile) r.progress.games in
+    whole_files 0 texts ++ torn_file (number_after 0 texts) (torn list_profile r.progress.part)
 
 same_files : (before after : Option (List Event)) (ts us : List Token) → read list_profile ts ≡ read list_profile us
     → Logs before after (files_of ts) → Logs before after (files_of us)
@@ -79,7 +79,7 @@ module _ {A : Type 0} (taken : A → Option (List ℕ)) (failures : A → ℕ) (
       (λ more.
       let begun = to.next more in
       let same : read list_profile (tokens_of ((so.bytes ++ piece) ++ more)) ≡ read list_profile to.tokens =
-      ap (read list_profile) begun.1 ∙ read_stops list_profile nothing_begun to.tokens begun.0 f to.fault in
+      ap (read list_profile) begun.1 ∙ read_stops list_profile no_progress to.tokens begun.0 f to.fault in
       record {
         fault = ap (λ (r : Read). r.fault) same ∙ to.fault;
         files = same_files before after to.tokens (tokens_of ((so.bytes ++ piece) ++ more)) (sym same) to.files;

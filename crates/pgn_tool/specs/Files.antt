@@ -4,9 +4,9 @@ use Rattle.pgn_layout.specs.Device.{one_more}
 use Rattle.pgn_tool.specs.declared.files.CreateFault.{CreateFault}
 use Rattle.pgn_tool.specs.declared.files.CreateFault.TheVariants.{Refused, NoMemory}
 
--- Files are made in the folder with this path from now on. File n was made, or was refused, or there
--- was no memory for it. A file was closed: the bytes that it had taken, where it tells them, and how
--- many of its calls had failed.
+-- Files are made in the folder with this path from now on. File n was made, or was refused, or
+-- there was no memory for it. A file was closed: the bytes that it had taken, where it tells them,
+-- and how many of its calls had failed.
 pub data Event : Type 0 where
   entered : List ℕ → Event
   made : ℕ → Event

@@ -19,7 +19,7 @@ use Rattle.pgn_game.specs.Profile.{Profile}
 use Rattle.pgn_game.specs.Pairs.{Pair, value_of}
 use Rattle.pgn_game.specs.TagSection.{exported}
 use Rattle.pgn_game.specs.Game.{Game}
-use Rattle.pgn_game.specs.Begun.{read}
+use Rattle.pgn_game.specs.Progress.{read}
 use Rattle.pgn_game.specs.Feeding.{AtHand, Converter, Stands, StopsIn, hand_of, profile_of}
 use Rattle.pgn_tool.specs.declared.list.Stopped.{Stopped}
 use Rattle.pgn_tool.specs.declared.list.Stopped.TheVariants.{Refused, Unwritten}
@@ -61,7 +61,7 @@ list_profile = profile_of 64 32 Full
 
 -- the lines of the games that are finished before the first of these tokens that is rejected
 abbrev pub lines_of : List Token → List ℕ
-lines_of ts = lines_from 1 (read list_profile ts).begun.games
+lines_of ts = lines_from 1 (read list_profile ts).progress.games
 
 -- the same of a text
 abbrev pub list_text : List ℕ → List ℕ

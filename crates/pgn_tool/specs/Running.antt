@@ -7,10 +7,10 @@ use Rattle.pgn_game.specs.declared.mode.Mode.TheVariants.{Full, Reduced}
 use Rattle.pgn_game.specs.declared.reason.Reason.{Reason}
 use Rattle.pgn_game.specs.declared.reason.Reason.TheVariants.{ReadFault, WriteFault}
 use Rattle.pgn_game.specs.declared.reason.Fault.{Fault}
-use Rattle.pgn_game.specs.declared.whole.Totals.{Totals}
+use Rattle.pgn_game.specs.declared.conversion.Totals.{Totals}
 use Rattle.pgn_game.specs.Profile.{Profile}
 use Rattle.pgn_game.specs.Reason.{line_of}
-use Rattle.pgn_game.specs.Begun.{Verdict, refused, totals, output, verdict}
+use Rattle.pgn_game.specs.Progress.{Verdict, refused, totals, output, verdict}
 use Rattle.pgn_game.specs.Feeding.{profile_of}
 use Rattle.pgn_game.specs.Converting.{Converts}
 use Rattle.pgn_tool.specs.declared.arguments.Task.{Task}

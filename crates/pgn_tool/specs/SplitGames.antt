@@ -9,7 +9,7 @@ use Rattle.pgn_lexer.specs.Stands.{IsDecided, first}
 use Rattle.pgn_game.specs.declared.reason.Reason.TheVariants.{ReadFault, WriteFault, InputTooLong}
 use Rattle.pgn_game.specs.declared.reason.Fault.{Fault}
 use Rattle.pgn_game.specs.Text.{game_text, text_of, torn}
-use Rattle.pgn_game.specs.Begun.{due, read}
+use Rattle.pgn_game.specs.Progress.{due, read}
 use Rattle.pgn_game.specs.Feeding.{Converter, Stands, StopsIn}
 use Rattle.pgn_tool.specs.declared.split.Unsplit.{Unsplit}
 use Rattle.pgn_tool.specs.declared.split.Unsplit.TheVariants.{Refused, NoMemory}
@@ -20,11 +20,11 @@ use Rattle.pgn_tool.specs.Files.{Event, added, closed, closing, made, number_aft
 
 -- the export texts of the games that are whole before the first of these tokens that is rejected
 abbrev pub texts_in : List Token → List (List ℕ)
-texts_in ts = map (game_text list_profile) (read list_profile ts).begun.games
+texts_in ts = map (game_text list_profile) (read list_profile ts).progress.games
 
 -- what is written by then of the game after them
 abbrev pub torn_in : List Token → List ℕ
-torn_in ts = torn list_profile (read list_profile ts).begun.part
+torn_in ts = torn list_profile (read list_profile ts).progress.part
 
 -- the file of a game that is not whole, after n others; it is made at its first byte
 abbrev pub torn_file : ℕ → List ℕ → List Event
@@ -86,7 +86,7 @@ pub record CutsFile (u : List ℕ) (why : Unsplit) (before after : Option (List 
   pub stops : StopsAt token.at why
   pub text : List ℕ
   pub due_text : due list_profile (front ++ token ∷ [])
-      ≡ text_of list_profile (read list_profile front).begun.games ++ text
+      ≡ text_of list_profile (read list_profile front).progress.games ++ text
   pub files : IfSome before (λ log. LogsCut log after (texts_in front) text)
 
 -- How a split stops: at the input's own fault; because a read failed behind the bytes u; because

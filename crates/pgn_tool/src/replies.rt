@@ -23,7 +23,7 @@ pub fn answer_fault<O: Sink, E: Sink>(fault: &ParseFault, out: &mut O, err: &mut
             let _ = write_all(err, text.as_bytes());
             2
         }
-        ParseFault::NoMemory => want_memory(err),
+        ParseFault::NoMemory => out_of_memory(err),
     }
 }
 
@@ -47,7 +47,7 @@ pub fn refuse_words<E: Sink>(err: &mut E) -> u8
 }
 
 /// Reports a lack of memory, and returns status 3.
-pub fn want_memory<E: Sink>(err: &mut E) -> u8
+pub fn out_of_memory<E: Sink>(err: &mut E) -> u8
     ensures status { result ≡ 3 }
     ensures told { Tells (device E.taken E.failures err.old err.new)
         (line (codes "out of memory")) }

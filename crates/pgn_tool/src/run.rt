@@ -7,7 +7,7 @@ ghost use Rattle.pgn_tool.specs.Program.{Carries, EndsUnopened, IsMissing, Ran, 
 
 use crate::arguments::{Task, parse};
 use crate::machine::{GameFolder, Input, Output, SystemFault};
-use crate::replies::{answer_fault, refuse_words, want_memory};
+use crate::replies::{answer_fault, out_of_memory, refuse_words};
 use crate::split::split_to;
 use crate::stream::{refuse, run_stream};
 use pgn_game::{Fault, Reason, Sink};
@@ -52,7 +52,7 @@ pub fn run<I: Input, O: Output, F: GameFolder, E: Sink>(
             Err(fault) => answer_fault(&fault, out, err),
         },
         Err(SystemFault::Refused) => refuse_words(err),
-        Err(SystemFault::NoMemory) => want_memory(err),
+        Err(SystemFault::NoMemory) => out_of_memory(err),
     }
 }
 
@@ -88,7 +88,7 @@ fn refuse_file<E: Sink>(fault: SystemFault, err: &mut E) -> u8
 {
     match fault {
         SystemFault::Refused => refuse(UNREADABLE, err),
-        SystemFault::NoMemory => want_memory(err),
+        SystemFault::NoMemory => out_of_memory(err),
     }
 }
 
@@ -142,6 +142,6 @@ fn run_buffered<I: Input, O: Output, E: Sink>(
 {
     match out.reserve() {
         Ok(()) => run_stream(task, input, out, err),
-        Err(_) => want_memory(err),
+        Err(_) => out_of_memory(err),
     }
 }

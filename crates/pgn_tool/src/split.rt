@@ -9,7 +9,7 @@ ghost use Rattle.pgn_tool.specs.Splitting.{CountsSplit, FeedResult, FilesAfter, 
 
 use crate::files::{CreateFault, GameFiles};
 use crate::game_sink::{Before, GameSink, Turn};
-use crate::replies::want_memory;
+use crate::replies::out_of_memory;
 use crate::stream::{LEVELS, TAGS, refuse};
 use pgn_game::laws::due_grows;
 use pgn_game::{Converter, Fault, Fed, Mode, Reason, Sink, Source};
@@ -52,7 +52,7 @@ pub fn split_to<R: Source, F: GameFiles, E: Sink>(reader: &mut R, files: &mut F,
     match answer {
         Ok(()) => 0,
         Err(Unsplit::Refused(fault)) => refuse(fault, err),
-        Err(Unsplit::NoMemory) => want_memory(err),
+        Err(Unsplit::NoMemory) => out_of_memory(err),
     }
 }
 

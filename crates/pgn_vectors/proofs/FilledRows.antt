@@ -12,7 +12,7 @@ use Rattle.pgn_game.specs.declared.mode.Mode.TheVariants.{Full, Reduced}
 use Rattle.pgn_game.specs.declared.reason.Reason.TheVariants.{Lexical, NotAMove, TooManyTags}
 use Rattle.pgn_game.specs.Profile.{Profile, counts_as_unknown, takes_the_marker}
 use Rattle.pgn_game.specs.declared.reason.Fault.{Fault}
-use Rattle.pgn_game.specs.Begun.{Counted, Verdict, refused, totals, output, verdict}
+use Rattle.pgn_game.specs.Progress.{Counted, Verdict, refused, totals, output, verdict}
 use Rattle.pgn_game.specs.Chess.{first_position, position_of, move_of, text_of_move, play}
 use Rattle.pgn_game.specs.FaultTable.{refusal}
 use Rattle.pgn_game.specs.Filled.{exported_pairs, filled}

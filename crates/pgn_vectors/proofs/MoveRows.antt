@@ -11,7 +11,7 @@ use Rattle.pgn_game.specs.Profile.{Profile, counts_as_unknown}
 use Rattle.pgn_game.specs.Chess.{first_position, position_of, move_of, text_of_move, play}
 use Rattle.pgn_game.specs.FaultTable.{refusal}
 use Rattle.pgn_game.specs.TagSection.{roster}
-use Rattle.pgn_game.specs.Begun.{Verdict, totals}
+use Rattle.pgn_game.specs.Progress.{Verdict, totals}
 use Rattle.pgn_vectors.proofs.WorkedRows.{plain, reduced, Gives, fault, unknown, head}
 
 abbrev not_deep : Profile

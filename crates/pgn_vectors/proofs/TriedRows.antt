@@ -11,7 +11,7 @@ use Rattle.pgn_lexer.specs.TokensOf.{tokens_of}
 use Rattle.pgn_game.specs.declared.reason.Reason.TheVariants.{NotAMove, IllegalMove}
 use Rattle.pgn_game.specs.Chess.{first_position, position_of, move_of, play}
 use Rattle.pgn_game.specs.FaultTable.{refusal}
-use Rattle.pgn_game.specs.Begun.{read}
+use Rattle.pgn_game.specs.Progress.{read}
 use Rattle.pgn_game.specs.Tried.{Costs}
 use Rattle.pgn_game.specs.MostTried.{MostTried, Tries, none, refused, passes}
 use Rattle.pgn_vectors.proofs.WorkedRows.{plain, reduced}
@@ -61,6 +61,6 @@ knight =
     (passes _ _ _ 0 0 refl (record { found = 0; finds = refl; writes = refl }) (none _)))
 
 -- the reduced format has no variation, so its moves are found and not written
-variation_reduced : Tries reduced (read reduced (tokens_of (codes "a3 ("))).begun.part (symbol (codes "Nf3")) 1
+variation_reduced : Tries reduced (read reduced (tokens_of (codes "a3 ("))).progress.part (symbol (codes "Nf3")) 1
 unfolding refusal Costs move_of play position_of first_position squares agreeing
 variation_reduced = record { found = 1; finds = refl; writes = refl }

@@ -12,7 +12,7 @@ use Rattle.pgn_game.specs.FaultTable.{refusal, rows}
 use Rattle.pgn_game.specs.Reason.{number_of}
 use Rattle.pgn_game.specs.Game.{no_part}
 use Rattle.pgn_game.specs.TagSection.{roster}
-use Rattle.pgn_game.specs.Begun.{output, verdict, Verdict, refused, totals}
+use Rattle.pgn_game.specs.Progress.{output, verdict, Verdict, refused, totals}
 
 abbrev pub plain : Profile
 plain = record { tags = 64; depth = 32; mode = Full; missing_result = counts_as_unknown }

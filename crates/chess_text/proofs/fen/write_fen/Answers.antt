@@ -11,7 +11,7 @@ pub push_field-requires : goal.push_field-requires
 push_field-requires c =
     omega (
       arith,
-      c.first_fields-text.ensures.short,
+      c.text_without_full-text.ensures.short,
       short_number c.as_bytes.result.now c.full.result (c.as_bytes.ensures.value ∙ c.format.ensures.text) c.full.ensures.limit,
     )
 
@@ -19,8 +19,8 @@ pub returns-clause-short : goal.returns-clause-short
 returns-clause-short c =
     omega (
       arith,
-      c.first_fields-text.ensures.short,
+      c.text_without_full-text.ensures.short,
       ap (λ (t : List ℕ). length t) c.push_field.ensures,
-      length-append c.first_fields-text.result.items (32 ∷ c.as_bytes.result.now),
+      length-append c.text_without_full-text.result.items (32 ∷ c.as_bytes.result.now),
       short_number c.as_bytes.result.now c.full.result (c.as_bytes.ensures.value ∙ c.format.ensures.text) c.full.ensures.limit,
     )

@@ -13,7 +13,7 @@ returns-clause-text c =
     ∙ ap₂ (λ (s t : List ℕ). s ++ t)
     (c.push_capture.ensures
     ∙ ap₂ (λ (s t : List ℕ). s ++ t)
-    (c.push_told_apart.ensures.text
+    (c.push_disambiguation.ensures.text
     ∙ ap₂ (λ (s t : List ℕ). s ++ t)
     (c.push.ensures.items ∙ ap₂ (λ (s : List ℕ) d. s ++ d ∷ []) c.new-text.ensures c.letter.ensures.value)
     (apart_same m.from (rivals p k m) c.rivals_of-rivals.result.any c.rivals_of-rivals.result.on_file c.rivals_of-rivals.result.on_rank

@@ -46,6 +46,6 @@ returns-clause-runs g c =
       splits = split.ensures.splits _ c.close.ensures.log;
       counted = split.ensures.counted;
       ends =
-          subst (λ (r : Result Unit Unsplit). EndsSplit r (device g.E.Sink.taken g.E.Sink.failures c.args.err.now c.want_memory.new.err) c.want_memory.result)
-          (sym is) (c.want_memory.ensures.status, c.want_memory.ensures.told);
+          subst (λ (r : Result Unit Unsplit). EndsSplit r (device g.E.Sink.taken g.E.Sink.failures c.args.err.now c.out_of_memory.new.err) c.out_of_memory.result)
+          (sym is) (c.out_of_memory.ensures.status, c.out_of_memory.ensures.told);
     }

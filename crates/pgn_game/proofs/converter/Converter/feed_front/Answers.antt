@@ -159,7 +159,7 @@ returns g c =
 
 pub invariant_of-self : goal.invariant_of-self
 invariant_of-self g c =
-    sound_at_none c.self.inside.lexer c.self.inside.reader c.self.inside.games c.self.inside.is_at_hand c.self.inside.is_finished c.self.inside.fault c.self.invariant
+    sound_at_none c.self.inside.lexer c.self.inside.reader c.self.inside.games c.self.inside.has_finished_game c.self.inside.is_finished c.self.inside.fault c.self.invariant
 
 pub overflow_add-at : goal.overflow_add-at
 overflow_add-at g c =

@@ -3,16 +3,16 @@ use Rattle.pgn_lexer.specs.Standing.{waiting}
 use Rattle.pgn_game.specs.Stepping.{ClosesSoFar}
 use Rattle.pgn_game.proofs.converter.Converter.finish.Given as goal
 
-abbrev pub invariant-loop-is_game : goal.invariant-loop-is_game
-invariant-loop-is_game g l =
+abbrev pub invariant-loop-finished_game : goal.invariant-loop-finished_game
+invariant-loop-finished_game g l =
     record {
       fault : l.self.fault ≡ None;
       hand : l.self.at_hand ≡ None;
       going : l.self.is_finished ≡ false;
       probes : l.fn.self.reading.most_probes ≤ l.self.reading.most_probes;
       counted : g.W.Sink.failures l.out ≡ g.W.Sink.failures l.fn.out;
-      closes : ClosesSoFar l.fn.self l.self l.is_game (g.W.Sink.taken l.fn.out) (g.W.Sink.taken l.out);
+      closes : ClosesSoFar l.fn.self l.self l.finished_game (g.W.Sink.taken l.fn.out) (g.W.Sink.taken l.out);
     }
 
-abbrev pub decreases-loop-is_game : goal.decreases-loop-is_game
-decreases-loop-is_game g l = waiting l.self.lexer
+abbrev pub decreases-loop-finished_game : goal.decreases-loop-finished_game
+decreases-loop-finished_game g l = waiting l.self.lexer

@@ -1,5 +1,5 @@
 use Rattle.std.proofs.Common.{◌-◌, [], refl, sym, ap, subst}
-use Rattle.pgn_game.specs.Begun.{nothing_begun}
+use Rattle.pgn_game.specs.Progress.{no_progress}
 use Rattle.pgn_game.specs.Game.{no_part}
 use Rattle.pgn_game.specs.MostTried.{MostTried, none}
 use Rattle.pgn_game.specs.Reading.{Reading, Agrees, whole_plies}
@@ -19,7 +19,7 @@ returns-clause-stands g c =
         games = refl;
         plies = ap whole_plies is;
         probed = λ moves. absurd (cc);
-        tried = subst (MostTried (profile_of g.row.T (g.row.L - 1) c.args.mode) []) (sym (ap (λ (r : Reading). r.most_probes) is)) (none nothing_begun);
+        tried = subst (MostTried (profile_of g.row.T (g.row.L - 1) c.args.mode) []) (sym (ap (λ (r : Reading). r.most_probes) is)) (none no_progress);
         at_hand = tt;
       };
     }

@@ -1,5 +1,5 @@
 use Rattle.std.proofs.Common.{◌+◌, ◌*◌, ◌<◌, is_some, arith, sym, ap, subst, refl, ◌∙◌}
-use Rattle.pgn_game.specs.Stepping.{games_after, is_game as is_of_game}
+use Rattle.pgn_game.specs.Stepping.{games_after, finished_game as is_of_game}
 use Rattle.pgn_game.proofs.AtEnd.{counts_token}
 use Rattle.pgn_game.proofs.Sizes.{fits_reader}
 use Rattle.pgn_lexer.specs.Standing.{waiting}
@@ -21,7 +21,7 @@ returns-in-Token-clause-after g c p u given stands =
     let scans = c.next-scan.follows.holds-at-none in
     let carries = rw c.in-Token.is at scans.carries in
     let ends = rw c.in-Token.is at scans.ends in
-    rw (c.settle-outcome.ensures.outcome, c.is_game-self-inside.ensures, c.settle-outcome.ensures.games, c.settle-outcome.ensures.fault, c.settle-outcome.ensures.outcome)
+    rw (c.settle-outcome.ensures.outcome, c.finished_game-self-inside.ensures, c.settle-outcome.ensures.games, c.settle-outcome.ensures.fault, c.settle-outcome.ensures.outcome)
     (took p _ u given c.args.piece.now _ _ c.next-scan.follows.lender-at-none c.accept-accepted.new.self c.self.inside.is_finished _ _ c.accept-accepted.result
     here (carries u _ given here.lexer (follows_own c.args.piece.now)) ends scans.count c.accept-accepted.ensures.profile c.accept-accepted.ensures.probes
     (c.accept-accepted.ensures.accepts _ here.has_read.agrees) (c.accept-accepted.ensures.tried _ here.has_read.agrees))
@@ -137,4 +137,4 @@ returns-in-Token-clause-advances g c =
     (subst (λ (s : Converter). waiting c.next-scan.follows.lender-at-none < 2 * c.next-scan.result.used + waiting s.lexer) c.self.view_is sooner))
 
 pub returns-in-Token-clause-hand : goal.returns-in-Token-clause-hand
-returns-in-Token-clause-hand g c = rw c.is_game-self-inside.ensures (is_some_held (is_of_game c.settle-outcome.result) c.accept-accepted.new.self)
+returns-in-Token-clause-hand g c = rw c.finished_game-self-inside.ensures (is_some_held (is_of_game c.settle-outcome.result) c.accept-accepted.new.self)

@@ -1,7 +1,7 @@
 use Rattle.std.proofs.Common.{◌≡◌, ℕ, arith, refl, sym, ap, ◌∙◌}
 use Rattle.pgn_game.specs.Reading.{whole_plies, plies_behind}
 use Rattle.pgn_game.specs.declared.stage.Stage.{Stage}
-use Rattle.pgn_game.specs.declared.stage.Stage.TheVariants.{Between, AfterBracket, AfterName, AfterValue, AfterTags, InMovetext}
+use Rattle.pgn_game.specs.declared.stage.Stage.TheVariants.{Between, AfterLeftBracket, AfterName, AfterValue, AfterTags, InMovetext}
 use Rattle.pgn_game.specs.Feeding.{Converter}
 use Rattle.pgn_game.proofs.Sizes.{fits_reader}
 use Rattle.pgn_game.proofs.converter.Converter.whole_plies.Goals as goal
@@ -9,7 +9,7 @@ use Rattle.pgn_game.proofs.converter.Converter.whole_plies.Goals as goal
 -- in a game its own moves are not counted yet
 plies_elsewhere : (stage : Stage) (earlier plies : ℕ) → (stage ≡ Between → ⊥) → plies_behind stage earlier plies ≡ earlier
 plies_elsewhere Between earlier plies inside = absurd (inside refl)
-plies_elsewhere AfterBracket earlier plies inside = refl
+plies_elsewhere AfterLeftBracket earlier plies inside = refl
 plies_elsewhere AfterName earlier plies inside = refl
 plies_elsewhere AfterValue earlier plies inside = refl
 plies_elsewhere AfterTags earlier plies inside = refl

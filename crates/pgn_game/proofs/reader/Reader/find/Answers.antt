@@ -1,5 +1,5 @@
 use Rattle.pgn_game.proofs.Sizes.{reader_alike}
 use Rattle.pgn_game.proofs.reader.Reader.find.Goals as goal
 
-pub is_open-requires : goal.is_open-requires
-is_open-requires g c = search reader_alike
+pub may_have_movetext-requires : goal.may_have_movetext-requires
+may_have_movetext-requires g c = search reader_alike

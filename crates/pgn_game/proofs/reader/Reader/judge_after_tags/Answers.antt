@@ -8,9 +8,9 @@ use Rattle.pgn_game.specs.declared.stage.Stage.TheVariants.{AfterTags}
 use Rattle.pgn_game.specs.Game.{Part}
 use Rattle.pgn_game.specs.Holding.{TagPairs}
 use Rattle.pgn_game.specs.FaultTable.{refusal}
-use Rattle.pgn_game.specs.Begun.{next}
+use Rattle.pgn_game.specs.Progress.{next}
 use Rattle.pgn_game.specs.Reading.{Reading, Agrees}
-use Rattle.pgn_game.specs.Judging.{is_open}
+use Rattle.pgn_game.specs.Judging.{may_have_movetext}
 use Rattle.pgn_game.proofs.Refusing.{hit, pass, end_after_tags, open_refusal, open_next, refuses_set_up}
 use Rattle.pgn_game.proofs.Stages.{no_bracket, no_end, lacks_of}
 use Rattle.pgn_game.proofs.Judging.{refused, goes, entry_at, free_after_tags, part_stage, held_at}
@@ -64,6 +64,6 @@ returns-else-lacks_fen g c =
     let old = c.args.self.now in
     let bracket = no_bracket c.args.kind c.in_default.not-LeftBracket in
     let over = no_end c.args.kind c.in_default.not-End in
-    entry_at g.row.T g.row.L old c.args.kind _ (ap is_open c.requires.stage) bracket over
+    entry_at g.row.T g.row.L old c.args.kind _ (ap may_have_movetext c.requires.stage) bracket over
     (λ part agrees. free_after_tags part (lacks_of old part false agrees c.requires.stage (sym c.lacks_fen.ensures ∙ c.if-lacks_fen.false)))
     c.judge_entry.ensures

@@ -4,7 +4,7 @@ use Rattle.pgn_lexer.specs.declared.token.TokenKind.{TokenKind}
 use Rattle.pgn_game.specs.declared.reason.Reason.TheVariants.{TagInMovetext, UnexpectedEnd}
 use Rattle.pgn_game.specs.declared.stage.Stage.TheVariants.{InMovetext}
 use Rattle.pgn_game.specs.FaultTable.{refusal}
-use Rattle.pgn_game.specs.Judging.{is_open}
+use Rattle.pgn_game.specs.Judging.{may_have_movetext}
 use Rattle.pgn_game.proofs.Refusing.{end_in_movetext, bracket_in_movetext}
 use Rattle.pgn_game.proofs.Stages.{no_bracket, no_end}
 use Rattle.pgn_game.proofs.Judging.{refused, entry_at, free_in_movetext, part_stage}
@@ -27,4 +27,4 @@ returns-in_default g c =
     let old = c.args.self.now in
     let bracket = no_bracket c.args.kind c.in_default.not-LeftBracket in
     let over = no_end c.args.kind c.in_default.not-End in
-    entry_at g.row.T g.row.L old c.args.kind _ (ap is_open c.requires.stage) bracket over (free_in_movetext old c.requires.stage) c.judge_entry.ensures
+    entry_at g.row.T g.row.L old c.args.kind _ (ap may_have_movetext c.requires.stage) bracket over (free_in_movetext old c.requires.stage) c.judge_entry.ensures

@@ -6,7 +6,7 @@ use Rattle.pgn_game.specs.declared.judged.Judged.TheVariants.{Entry as InText}
 use Rattle.pgn_game.specs.declared.judged.Entry.TheVariants.{Marker}
 use Rattle.pgn_game.specs.declared.reason.Reason.TheVariants.{MarkerInVariation, ResultDiffers}
 use Rattle.pgn_game.specs.Pairs.{Pair, value_of}
-use Rattle.pgn_game.specs.Here.{depth}
+use Rattle.pgn_game.specs.Levels.{depth}
 use Rattle.pgn_game.specs.Holding.{TagPairs}
 use Rattle.pgn_game.specs.FaultTable.{levels_in}
 use Rattle.pgn_game.specs.Reading.{Reading}

@@ -5,9 +5,9 @@ use Rattle.pgn_lexer.specs.declared.token.TokenKind.{TokenKind}
 use Rattle.pgn_game.specs.declared.judged.Judged.TheVariants.{Name}
 use Rattle.pgn_game.specs.declared.mode.Mode.{Mode}
 use Rattle.pgn_game.specs.declared.reason.Reason.TheVariants.{ExpectedName, BadTagName, DuplicateTag, TagLineTooLong, ReducedFen}
-use Rattle.pgn_game.specs.declared.stage.Stage.TheVariants.{AfterBracket}
+use Rattle.pgn_game.specs.declared.stage.Stage.TheVariants.{AfterLeftBracket}
 use Rattle.pgn_game.specs.Holding.{TagPairs}
-use Rattle.pgn_game.specs.Begun.{next}
+use Rattle.pgn_game.specs.Progress.{next}
 use Rattle.pgn_game.specs.FaultTable.{refusal, is_reduced}
 use Rattle.pgn_game.specs.Reading.{Reading}
 use Rattle.pgn_game.proofs.Refusing.{hit, pass, expected_name, name_refusal, name_next}
@@ -16,19 +16,19 @@ use Rattle.pgn_game.proofs.reader.Reader.judge_name.Goals as goal
 
 pub returns-then-is_comment : goal.returns-then-is_comment
 returns-then-is_comment g c =
-    comment g.row.T g.row.L c.args.self.now c.args.kind AfterBracket c.requires.stage refl (sym c.if-is_comment.true ∙ c.is_comment.ensures)
+    comment g.row.T g.row.L c.args.self.now c.args.kind AfterLeftBracket c.requires.stage refl (sym c.if-is_comment.true ∙ c.is_comment.ensures)
 
 pub returns-in_default : goal.returns-in_default
 returns-in_default g c =
     let old = c.args.self.now in
     refused g.row.T g.row.L old (kind_of c.args.kind) ExpectedName refl (λ part agrees.
-    expected_name old.profile part c.args.kind (part_stage old part AfterBracket agrees c.requires.stage) (sym c.if-is_comment.false ∙ c.is_comment.ensures) c.in_default.not-Symbol)
+    expected_name old.profile part c.args.kind (part_stage old part AfterLeftBracket agrees c.requires.stage) (sym c.if-is_comment.false ∙ c.is_comment.ensures) c.in_default.not-Symbol)
 
 pub returns-then-not-is_tag_name : goal.returns-then-not-is_tag_name
 returns-then-not-is_tag_name g c =
     let old = c.args.self.now in
     refused g.row.T g.row.L old (kind_of c.args.kind) BadTagName refl (λ part agrees.
-    ap (λ (k : TokenKind). refusal old.profile part (kind_of k)) c.in-Symbol.is ∙ name_refusal old.profile part c.in-Symbol.name.now (part_stage old part AfterBracket agrees c.requires.stage)
+    ap (λ (k : TokenKind). refusal old.profile part (kind_of k)) c.in-Symbol.is ∙ name_refusal old.profile part c.in-Symbol.name.now (part_stage old part AfterLeftBracket agrees c.requires.stage)
     ∙ hit _ _ _ (ap not (sym c.is_tag_name.ensures ∙ c.if-not-is_tag_name.true)))
 
 pub returns-then-is_some : goal.returns-then-is_some
@@ -36,8 +36,8 @@ returns-then-is_some g c =
     let old = c.args.self.now in
     let v = c.self.view_is in
     refused g.row.T g.row.L old (kind_of c.args.kind) DuplicateTag refl (λ part agrees.
-    let same = ap (λ (r : Reading). r.tags.held) v ∙ ap (λ (t : TagPairs). t.held) (held_at old part AfterBracket agrees c.requires.stage) in
-    ap (λ (k : TokenKind). refusal old.profile part (kind_of k)) c.in-Symbol.is ∙ name_refusal old.profile part c.in-Symbol.name.now (part_stage old part AfterBracket agrees c.requires.stage)
+    let same = ap (λ (r : Reading). r.tags.held) v ∙ ap (λ (t : TagPairs). t.held) (held_at old part AfterLeftBracket agrees c.requires.stage) in
+    ap (λ (k : TokenKind). refusal old.profile part (kind_of k)) c.in-Symbol.is ∙ name_refusal old.profile part c.in-Symbol.name.now (part_stage old part AfterLeftBracket agrees c.requires.stage)
     ∙ pass _ _ _ (ap not (sym c.is_tag_name.ensures ∙ c.if-not-is_tag_name.false))
     ∙ hit _ _ _ (has_pair_found c.self.inside.tags.held part.pairs c.in-Symbol.name.now c.value.result true same c.value.ensures.value (sym c.if-is_some.true ∙ c.is_some.ensures)))
 
@@ -46,8 +46,8 @@ returns-then-name-gt-TEXT_LENGTH g c =
     let old = c.args.self.now in
     let v = c.self.view_is in
     refused g.row.T g.row.L old (kind_of c.args.kind) TagLineTooLong refl (λ part agrees.
-    let same = ap (λ (r : Reading). r.tags.held) v ∙ ap (λ (t : TagPairs). t.held) (held_at old part AfterBracket agrees c.requires.stage) in
-    ap (λ (k : TokenKind). refusal old.profile part (kind_of k)) c.in-Symbol.is ∙ name_refusal old.profile part c.in-Symbol.name.now (part_stage old part AfterBracket agrees c.requires.stage)
+    let same = ap (λ (r : Reading). r.tags.held) v ∙ ap (λ (t : TagPairs). t.held) (held_at old part AfterLeftBracket agrees c.requires.stage) in
+    ap (λ (k : TokenKind). refusal old.profile part (kind_of k)) c.in-Symbol.is ∙ name_refusal old.profile part c.in-Symbol.name.now (part_stage old part AfterLeftBracket agrees c.requires.stage)
     ∙ pass _ _ _ (ap not (sym c.is_tag_name.ensures ∙ c.if-not-is_tag_name.false))
     ∙ pass _ _ _ (has_pair_found c.self.inside.tags.held part.pairs c.in-Symbol.name.now c.value.result false same c.value.ensures.value (sym c.if-is_some.false ∙ c.is_some.ensures))
     ∙ hit _ _ _ (lt-ltb 249 (length c.in-Symbol.name.now) c.if-name-gt-TEXT_LENGTH.true))
@@ -57,8 +57,8 @@ returns-then-is_reduced_fen g c =
     let old = c.args.self.now in
     let v = c.self.view_is in
     refused g.row.T g.row.L old (kind_of c.args.kind) ReducedFen refl (λ part agrees.
-    let same = ap (λ (r : Reading). r.tags.held) v ∙ ap (λ (t : TagPairs). t.held) (held_at old part AfterBracket agrees c.requires.stage) in
-    ap (λ (k : TokenKind). refusal old.profile part (kind_of k)) c.in-Symbol.is ∙ name_refusal old.profile part c.in-Symbol.name.now (part_stage old part AfterBracket agrees c.requires.stage)
+    let same = ap (λ (r : Reading). r.tags.held) v ∙ ap (λ (t : TagPairs). t.held) (held_at old part AfterLeftBracket agrees c.requires.stage) in
+    ap (λ (k : TokenKind). refusal old.profile part (kind_of k)) c.in-Symbol.is ∙ name_refusal old.profile part c.in-Symbol.name.now (part_stage old part AfterLeftBracket agrees c.requires.stage)
     ∙ pass _ _ _ (ap not (sym c.is_tag_name.ensures ∙ c.if-not-is_tag_name.false))
     ∙ pass _ _ _ (has_pair_found c.self.inside.tags.held part.pairs c.in-Symbol.name.now c.value.result false same c.value.ensures.value (sym c.if-is_some.false ∙ c.is_some.ensures))
     ∙ pass _ _ _ (le-ltb 249 (length c.in-Symbol.name.now) c.if-name-gt-TEXT_LENGTH.false)
@@ -75,11 +75,11 @@ returns g c =
       has_pair_found c.self.inside.tags.held old.tags.held name c.value.result false (ap (λ (r : Reading). r.tags.held) v) c.value.ensures.value (sym c.if-is_some.false ∙ c.is_some.ensures),
     )
     (λ e. absurd (cc)) (λ part agrees.
-    let same = ap (λ (r : Reading). r.tags.held) v ∙ ap (λ (t : TagPairs). t.held) (held_at old part AfterBracket agrees c.requires.stage) in (
-      ap (λ (k : TokenKind). refusal old.profile part (kind_of k)) c.in-Symbol.is ∙ name_refusal old.profile part c.in-Symbol.name.now (part_stage old part AfterBracket agrees c.requires.stage)
+    let same = ap (λ (r : Reading). r.tags.held) v ∙ ap (λ (t : TagPairs). t.held) (held_at old part AfterLeftBracket agrees c.requires.stage) in (
+      ap (λ (k : TokenKind). refusal old.profile part (kind_of k)) c.in-Symbol.is ∙ name_refusal old.profile part c.in-Symbol.name.now (part_stage old part AfterLeftBracket agrees c.requires.stage)
           ∙ pass _ _ _ (ap not (sym c.is_tag_name.ensures ∙ c.if-not-is_tag_name.false))
           ∙ pass _ _ _ (has_pair_found c.self.inside.tags.held part.pairs c.in-Symbol.name.now c.value.result false same c.value.ensures.value (sym c.if-is_some.false ∙ c.is_some.ensures))
           ∙ pass _ _ _ (le-ltb 249 (length c.in-Symbol.name.now) c.if-name-gt-TEXT_LENGTH.false)
           ∙ pass _ _ _ (ap (λ (m : Mode). is_reduced m && bytes_eq c.in-Symbol.name.now (codes "FEN")) (sym (ap (λ (r : Reading). r.profile.mode) v)) ∙ sym c.is_reduced_fen.ensures ∙ c.if-is_reduced_fen.false),
-      ap (λ (k : TokenKind). next part (kind_of k)) c.in-Symbol.is ∙ name_next part name (part_stage old part AfterBracket agrees c.requires.stage),
+      ap (λ (k : TokenKind). next part (kind_of k)) c.in-Symbol.is ∙ name_next part name (part_stage old part AfterLeftBracket agrees c.requires.stage),
     ))

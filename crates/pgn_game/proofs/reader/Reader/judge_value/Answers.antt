@@ -10,16 +10,16 @@ use Rattle.pgn_game.specs.declared.reason.Reason.TheVariants.{ExpectedValue, Bad
 use Rattle.pgn_game.specs.declared.stage.Stage.TheVariants.{AfterName}
 use Rattle.pgn_game.specs.Game.{Part}
 use Rattle.pgn_game.specs.FaultTable.{refusal, is_result as is_any_result}
-use Rattle.pgn_game.specs.Begun.{next}
+use Rattle.pgn_game.specs.Progress.{next}
 use Rattle.pgn_game.specs.Reading.{Reading, Agrees}
-use Rattle.pgn_game.specs.Judging.{ValueFits, start_told as told}
+use Rattle.pgn_game.specs.Judging.{ValueFits, fen_position as told}
 use Rattle.pgn_game.proofs.Refusing.{hit, pass, expected_value, value_refusal, value_next}
 use Rattle.pgn_game.proofs.Starting.{start_fine, start_faults}
 use Rattle.pgn_game.proofs.Judging.{comment, refused, goes, part_stage, held_at, begun_name}
 use Rattle.pgn_game.proofs.reader.Reader.judge_value.Goals as goal
 
 -- the name that the reader was given is the part's
-name_of : (old : Reading) (begun : Option (List ℕ)) (name : List ℕ) → begun ≡ old.tags.begun → begun ≡ Some name → old.stage ≡ AfterName
+name_of : (old : Reading) (begun : Option (List ℕ)) (name : List ℕ) → begun ≡ old.tags.pending_name → begun ≡ Some name → old.stage ≡ AfterName
     → (part : Part) → Agrees old part → name ≡ part.name
 name_of old begun name same is at part agrees = begun_name old.tags part name (held_at old part AfterName agrees at).0 (sym same ∙ is)
 
@@ -52,7 +52,7 @@ returns-then-is_bad_result g c =
     let old = c.args.self.now in
     let value = c.in-Str.value.now in
     refused g.row.T g.row.L old (kind_of c.args.kind) BadResult refl (λ part agrees.
-    let name = name_of old c.self.inside.tags.begun c.begun-name.result.now (ap (λ (r : Reading). r.tags.begun) c.self.view_is) c.begun-name.ensures c.requires.stage part agrees in
+    let name = name_of old c.self.inside.tags.pending_name c.pending_name-name.result.now (ap (λ (r : Reading). r.tags.pending_name) c.self.view_is) c.pending_name-name.ensures c.requires.stage part agrees in
     ap (λ (k : TokenKind). refusal old.profile part (kind_of k)) c.in-Str.is ∙ value_refusal old.profile part value (part_stage old part AfterName agrees c.requires.stage)
     ∙ hit _ _ _ (ap (bad value) (sym name) ∙ sym c.is_bad_result.ensures ∙ c.if-is_bad_result.true))
 
@@ -61,8 +61,8 @@ returns-in-Err g c =
     let old = c.args.self.now in
     let value = c.in-Str.value.now in
     refused g.row.T g.row.L old (kind_of c.args.kind) (BadFen c.in-Err.field) refl (λ part agrees.
-    let name = name_of old c.self.inside.tags.begun c.begun-name.result.now (ap (λ (r : Reading). r.tags.begun) c.self.view_is) c.begun-name.ensures c.requires.stage part agrees in
-    let fault = start_faults part.name value c.in-Err.field (ap (λ (n : List ℕ). told n value) (sym name) ∙ sym c.start_told.ensures ∙ c.in-Err.is) in
+    let name = name_of old c.self.inside.tags.pending_name c.pending_name-name.result.now (ap (λ (r : Reading). r.tags.pending_name) c.self.view_is) c.pending_name-name.ensures c.requires.stage part agrees in
+    let fault = start_faults part.name value c.in-Err.field (ap (λ (n : List ℕ). told n value) (sym name) ∙ sym c.fen_position.ensures ∙ c.in-Err.is) in
     ap (λ (k : TokenKind). refusal old.profile part (kind_of k)) c.in-Str.is ∙ value_refusal old.profile part value (part_stage old part AfterName agrees c.requires.stage)
     ∙ pass _ _ _ (ap (bad value) (sym name) ∙ sym c.is_bad_result.ensures ∙ c.if-is_bad_result.false)
     ∙ hit _ _ _ fault.0 ∙ ap (λ n. Some (BadFen n)) fault.1)
@@ -72,23 +72,23 @@ returns-then-not-fits_tag_line g c =
     let old = c.args.self.now in
     let value = c.in-Str.value.now in
     refused g.row.T g.row.L old (kind_of c.args.kind) TagLineTooLong refl (λ part agrees.
-    let name = name_of old c.self.inside.tags.begun c.begun-name.result.now (ap (λ (r : Reading). r.tags.begun) c.self.view_is) c.begun-name.ensures c.requires.stage part agrees in
+    let name = name_of old c.self.inside.tags.pending_name c.pending_name-name.result.now (ap (λ (r : Reading). r.tags.pending_name) c.self.view_is) c.pending_name-name.ensures c.requires.stage part agrees in
     ap (λ (k : TokenKind). refusal old.profile part (kind_of k)) c.in-Str.is ∙ value_refusal old.profile part value (part_stage old part AfterName agrees c.requires.stage)
     ∙ pass _ _ _ (ap (bad value) (sym name) ∙ sym c.is_bad_result.ensures ∙ c.if-is_bad_result.false)
-    ∙ pass _ _ _ (start_fine part.name value (subst (λ (n : List ℕ). IsTrue (is_ok (told n value))) name (rw (sym c.start_told.ensures) (is_fine c.start_told.result c.in_default-start_told.not-Err))))
-    ∙ hit _ _ _ (ap (long value) (sym name) ∙ too_long (length c.begun-name.result.now + length (escaped value)) c.fits_tag_line.result c.if-not-fits_tag_line.true c.fits_tag_line.ensures.1))
+    ∙ pass _ _ _ (start_fine part.name value (subst (λ (n : List ℕ). IsTrue (is_ok (told n value))) name (rw (sym c.fen_position.ensures) (is_fine c.fen_position.result c.in_default-fen_position.not-Err))))
+    ∙ hit _ _ _ (ap (long value) (sym name) ∙ too_long (length c.pending_name-name.result.now + length (escaped value)) c.fits_tag_line.result c.if-not-fits_tag_line.true c.fits_tag_line.ensures.1))
 
 pub returns : goal.returns
 returns g c =
     let old = c.args.self.now in
     let value = c.in-Str.value.now in
-    let begun : old.tags.begun ≡ Some c.begun-name.result.now = sym (ap (λ (r : Reading). r.tags.begun) c.self.view_is) ∙ c.begun-name.ensures in
-    let tells : IsTrue (is_ok (told c.begun-name.result.now value)) = rw (sym c.start_told.ensures) (is_fine c.start_told.result c.in_default-start_told.not-Err) in
+    let begun : old.tags.pending_name ≡ Some c.pending_name-name.result.now = sym (ap (λ (r : Reading). r.tags.pending_name) c.self.view_is) ∙ c.pending_name-name.ensures in
+    let tells : IsTrue (is_ok (told c.pending_name-name.result.now value)) = rw (sym c.fen_position.ensures) (is_fine c.fen_position.result c.in_default-fen_position.not-Err) in
     let fits = c.fits_tag_line.ensures.0 c.if-not-fits_tag_line.false in
     goes g.row.T g.row.L old (kind_of c.args.kind) (Value c.in-Str.value)
     (c.requires.stage, subst (λ (o : Option (List ℕ)). IsSomeAnd o (λ n. ValueFits n value)) (sym begun) (record { fits = fits; told = tells }))
     (λ e. absurd (cc)) (λ part agrees.
-    let name = name_of old old.tags.begun c.begun-name.result.now refl begun c.requires.stage part agrees in
+    let name = name_of old old.tags.pending_name c.pending_name-name.result.now refl begun c.requires.stage part agrees in
     let at = part_stage old part AfterName agrees c.requires.stage in (
       ap (λ (k : TokenKind). refusal old.profile part (kind_of k)) c.in-Str.is ∙ value_refusal old.profile part value at
           ∙ pass _ _ _ (ap (bad value) (sym name) ∙ sym c.is_bad_result.ensures ∙ c.if-is_bad_result.false)

@@ -15,12 +15,12 @@ is_first : initial ≡ first_position
 unfolding first_position
 is_first = refl
 
-begun_by : (old : Reading) (tags : TagPairs) (text : Movetext) (plies : ℕ) → tags ≡ record { held = []; begun = None } → text ≡ begins_at first_position → plies ≡ old.text.plies
+begun_by : (old : Reading) (tags : TagPairs) (text : Movetext) (plies : ℕ) → tags ≡ record { held = []; pending_name = None } → text ≡ begins_at first_position → plies ≡ old.text.plies
     → record old { stage = AfterTags; tags = tags; text = text; earlier_plies = old.earlier_plies + plies } ≡ begun old
 begun_by old tags text plies clear begins count =
     ap (λ (t : TagPairs). record old { stage = AfterTags; tags = t; text = text; earlier_plies = old.earlier_plies + plies }) clear
-    ∙ ap (λ (t : Movetext). record old { stage = AfterTags; tags = record { held = []; begun = None }; text = t; earlier_plies = old.earlier_plies + plies }) begins
-    ∙ ap (λ n. record old { stage = AfterTags; tags = record { held = []; begun = None }; text = begins_at first_position; earlier_plies = old.earlier_plies + n }) count
+    ∙ ap (λ (t : Movetext). record old { stage = AfterTags; tags = record { held = []; pending_name = None }; text = t; earlier_plies = old.earlier_plies + plies }) begins
+    ∙ ap (λ n. record old { stage = AfterTags; tags = record { held = []; pending_name = None }; text = begins_at first_position; earlier_plies = old.earlier_plies + n }) count
 
 pub returns : goal.returns
 returns g c =

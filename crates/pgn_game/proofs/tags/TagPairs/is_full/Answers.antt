@@ -5,8 +5,8 @@ use Rattle.pgn_game.proofs.tags.TagPairs.is_full.Goals as goal
 
 pub returns-clause-full : goal.returns-clause-full
 returns-clause-full g c =
-    rw (← whole-held c.self.inside.pairs.items c.self.inside.has_begun c.args.self.now c.self.view_is c.requires c.self.invariant.some) (grind (arith, nat_tests))
+    rw (← whole-held c.self.inside.pairs.items c.self.inside.has_pending_name c.args.self.now c.self.view_is c.requires c.self.invariant.some) (grind (arith, nat_tests))
 
 pub returns-clause-room : goal.returns-clause-room
 returns-clause-room g c =
-    rw (← whole-held c.self.inside.pairs.items c.self.inside.has_begun c.args.self.now c.self.view_is c.requires c.self.invariant.some) (omega (arith, c.self.invariant.room))
+    rw (← whole-held c.self.inside.pairs.items c.self.inside.has_pending_name c.args.self.now c.self.view_is c.requires c.self.invariant.some) (omega (arith, c.self.invariant.room))

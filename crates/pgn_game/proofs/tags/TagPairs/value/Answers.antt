@@ -6,4 +6,4 @@ use Rattle.pgn_game.proofs.tags.TagPairs.value.Goals as goal
 pub returns-clause-value : goal.returns-clause-value
 returns-clause-value g c =
     c.value_in.ensures.value ∙ ap (λ (ps : List Pair). value_of ps c.args.name.now) (c.as_slice.ensures.value
-    ∙ whole-held c.self.inside.pairs.items c.self.inside.has_begun c.args.self.now c.self.view_is c.requires c.self.invariant.some)
+    ∙ whole-held c.self.inside.pairs.items c.self.inside.has_pending_name c.args.self.now c.self.view_is c.requires c.self.invariant.some)

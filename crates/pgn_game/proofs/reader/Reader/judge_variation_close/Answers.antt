@@ -1,0 +1,28 @@
+use Rattle.std.proofs.Common.{◌≡◌, ℕ, ◌==◌, length, refl, sym, ap, ◌∙◌, arith}
+use Rattle.std.proofs.lemmas.Bool.{ne_eqb}
+use Rattle.pgn_lexer.specs.Tokens.{right_paren}
+use Rattle.pgn_game.specs.declared.judged.Judged.TheVariants.{Entry as InText}
+use Rattle.pgn_game.specs.declared.judged.Entry.TheVariants.{Item as Put}
+use Rattle.pgn_game.specs.declared.judged.Item.TheVariants.{Close}
+use Rattle.pgn_game.specs.declared.reason.Reason.TheVariants.{UnmatchedClose}
+use Rattle.pgn_game.specs.Levels.{depth}
+use Rattle.pgn_game.specs.FaultTable.{levels_in}
+use Rattle.pgn_game.specs.Reading.{Reading}
+use Rattle.pgn_game.proofs.Refusing.{hit, pass}
+use Rattle.pgn_game.proofs.Judging.{entry_refused, entry_goes}
+use Rattle.pgn_game.proofs.InText.{depth_is}
+use Rattle.pgn_game.proofs.reader.Reader.judge_variation_close.Goals as goal
+
+pub returns-then-depth-eq0 : goal.returns-then-depth-eq0
+returns-then-depth-eq0 g c =
+    let old = c.args.self.now in
+    entry_refused g.row.T g.row.L old right_paren UnmatchedClose refl (λ part is.
+    hit _ _ _ (ap (λ (n : ℕ). n == 0)
+    (sym (depth_is old part is) ∙ sym (ap (λ (r : Reading). length r.text.levels.around) c.self.view_is) ∙ sym c.depth.ensures.value ∙ c.if-depth-eq0.true)))
+
+pub returns : goal.returns
+returns g c =
+    let old = c.args.self.now in
+    let deep : c.depth.result ≡ length old.text.levels.around = c.depth.ensures.value ∙ ap (λ (r : Reading). length r.text.levels.around) c.self.view_is in
+    entry_goes g.row.T g.row.L old right_paren (InText (Put Close)) (c.requires.stage, omega (arith, deep, c.if-depth-eq0.false), tt) (λ e. absurd (cc))
+    (λ part is. (pass _ _ _ (ne_eqb (depth (levels_in part)) 0 (λ e. c.if-depth-eq0.false (deep ∙ depth_is old part is ∙ e))), refl))
