@@ -227,8 +227,8 @@ module _ {A : Type 0} (taken : A → Option (List ℕ)) (failures : A → ℕ) (
 
   -- a fault of the input
   own_stops : (f : Fault) → Turned taken failures (one_more count) log file after now None failed → failed ≡ 0 → IsOwn f.reason
-      → StopsIn u rest (λ fault. FedToFault list_profile u (first rest) so.tokens rest fault (told taken log file) (told taken after now))
-      (λ front. (c : Converter) × FedAll list_profile u (first rest) so.tokens front c (told taken log file) (told taken after now)) f
+      → StopsIn u rest (λ fault. FedToFault list_profile u (first rest) so.tokens rest fault new.reading.most_probes (told taken log file) (told taken after now))
+      (λ front. (c : Converter) × FedAll list_profile u (first rest) so.tokens front c (told taken log file) (told taken after now) × (new.reading ≡ c.reading)) f
       → StopsOn u rest before closed_log (unsplit.Refused f)
   own_stops f turned zero own (feeding.at_token h to) = by_stops to.fed.stops to.no_game own
     where
@@ -242,7 +242,7 @@ module _ {A : Type 0} (taken : A → Option (List ℕ)) (failures : A → ℕ) (
             files = files_left to.fed.tokens gains turned zero same;
           }))
       by_stops (feeding.unwritten at writing) same is = absurd is
-  own_stops f turned zero own (feeding.too_long front more parts place some (c, fed)) =
+  own_stops f turned zero own (feeding.too_long front more parts place some (c, fed, same_reading)) =
       let full : front ≡ [] → so.tokens ≡ decided u =
       λ none. so.at_limit (ap (length {A = ℕ}) (sym (ap (λ xs. u ++ xs) none ∙ append-nil u)) ∙ place) in
       let is = front_decided taken failures u rest old new before log after file now count failed so turned front full c _ _ fed in
@@ -254,8 +254,8 @@ module _ {A : Type 0} (taken : A → Option (List ℕ)) (failures : A → ℕ) (
   -- a file that could not be made or written
   write_stops : (f : Fault) (why : Unsplit) (refusal : Option CreateFault) → Turned taken failures (one_more count) log file after now refusal failed
       → f.reason ≡ WriteFault → 0 < failed → settled {A = Fed} refusal (Err f) ≡ Err why
-      → StopsIn u rest (λ fault. FedToFault list_profile u (first rest) so.tokens rest fault (told taken log file) (told taken after now))
-      (λ front. (c : Converter) × FedAll list_profile u (first rest) so.tokens front c (told taken log file) (told taken after now)) f
+      → StopsIn u rest (λ fault. FedToFault list_profile u (first rest) so.tokens rest fault new.reading.most_probes (told taken log file) (told taken after now))
+      (λ front. (c : Converter) × FedAll list_profile u (first rest) so.tokens front c (told taken log file) (told taken after now) × (new.reading ≡ c.reading)) f
       → StopsOn u rest before closed_log why
   write_stops f why refusal turned is more settles (feeding.at_token h to) = by_stops to.fed.stops to.no_game is settles
     where
@@ -267,7 +267,7 @@ module _ {A : Type 0} (taken : A → Option (List ℕ)) (failures : A → ℕ) (
           games.cut_file why
           (cuts taken failures before log after closed_log file now count failed (u ++ rest) so.tokens to.fed.tokens all.0 at refusal why so.files turned more closes writing same
           (ap tokens_of (sym (append-nil (u ++ rest))) ∙ all.1) (at_place refusal at writing.token.at why so_why writing.place))
-  write_stops f why refusal turned is more settles (feeding.too_long front behind parts place some (c, fed)) = absurd (cc)
+  write_stops f why refusal turned is more settles (feeding.too_long front behind parts place some (c, fed, same_reading)) = absurd (cc)
 
   pub call_stops : (refusal : Option CreateFault) (answer : Result Fed Fault) (result : Result Fed Unsplit) (why : Unsplit)
       → Turned taken failures (one_more count) log file after now refusal failed → feeding.CountsFault answer 0 failed
