@@ -1,8 +1,9 @@
 //! The program, built by Cargo. **Not proved.**
 //!
 //! This file, `arguments` and `folder` are written for Cargo, on the real `clap` and the real
-//! standard library. They stand for files of the proved program that need its toolchain. The other
-//! modules are those of the proved program, without their contracts.
+//! standard library. They are in place of files of the proved program that need its toolchain:
+//! `main`, `run`, `machine`, `standard`, `arguments` and `folder`. The other modules are those of
+//! the proved program, without their contracts.
 
 mod arguments;
 mod files;
