@@ -1,3 +1,3 @@
--- Definitions that the contracts of pgn_c cite.
+-- **Bookkeeping**: the list of this crate's files of definitions.
 pub mod Results
 pub mod Positions

@@ -1,4 +1,4 @@
--- **Definition.** Results about positions and moves, as C gets them.
+-- **Definition**: results about positions and moves, as C gets them.
 use Rattle.std.specs.Prelude.{◌≡◌, ℕ, ◌<◌, ◌≤◌, List, [], ◌++◌, length, drop, option_map, Result, Ok, Err}
 use Rattle.chess_rules.specs.declared.position.Parts.{Parts}
 use Rattle.chess_text.specs.declared.fen.FenFault.{FenFault}

@@ -26,7 +26,7 @@ use Rattle.pgn_game.specs.Progress.{Next, going, whole, next, Progress, no_progr
 use Rattle.pgn_game.specs.Tried.{Costs}
 
 -- The move of a symbol is sought where movetext can begin or goes on, unless the symbol is a marker
--- or a number.
+-- or a number; also if another row of the table rejects the symbol.
 abbrev pub is_sought : Part → List ℕ → Bool
 is_sought part s = is_outside_pairs part && not (is_score s || is_number s)
 
@@ -77,6 +77,7 @@ pub record Tries (p : Profile) (part : Part) (k : Kind) (n : ℕ) : Type 0 where
 
 -- The same for a token whose text could not be written: its pairs were tried before. But where
 -- movetext begins with it, the tag section comes first, and the failed write may be one of those.
+-- There both numbers are allowed.
 pub data TriesUnwritten (p : Profile) (part : Part) (k : Kind) (n : ℕ) : Type 0 where
   at_token : Tries p part k n → TriesUnwritten p part k n
   in_section : is_at InMovetext part ≡ false → CostsToFind part k n → TriesUnwritten p part k n

@@ -1,5 +1,5 @@
 -- What each call of the converter makes of the files of the games so far.
-use Rattle.std.proofs.Common.{◌≡◌, ◌∙◌, ℕ, ◌+◌, ◌<◌, true, false, List, [], ◌∷◌, ◌++◌, length, length-append, map, take, drop, Option, None, Some, Result, Ok, Err, refl, sym, ap, ap₂, subst, inl, inr, ◌⊎◌, arith, append_assoc, append-nil, is_some}
+use Rattle.std.proofs.Common.{◌≡◌, ◌∙◌, ℕ, ◌+◌, ◌<◌, ◌≤◌, true, false, List, [], ◌∷◌, ◌++◌, length, length-append, length-take, map, take, drop, Option, None, Some, Result, Ok, Err, refl, sym, ap, ap₂, subst, inl, inr, ◌⊎◌, arith, append_assoc, append-nil, is_some}
 use Rattle.std.specs.Prelude.{if◌then◌else◌}
 use Rattle.std.specs.Io.KnownBytes.{Appends}
 use Rattle.std.proofs.Math.Seq.{take-append-add}
@@ -30,7 +30,7 @@ use Rattle.pgn_tool.specs.SplitGames as games
 use Rattle.pgn_tool.specs.SplitGames.{AreFiles, CutFile, CutsFile, FilesOf, Logs, LogsCut, SplitSoFar, SplitsNoMore, SplitsToFault, StopsAt, StopsOn, cut, files_of, texts_in, torn_in}
 use Rattle.pgn_tool.proofs.Listed.{decided_here, decided_last, further, still_own, whole}
 use Rattle.pgn_tool.proofs.Reading.{not_both, read_stops}
-use Rattle.pgn_tool.proofs.SplitFiles.{after_marker, files_on, game_closed, grown, if_on, last_closed, told_some, whole_on}
+use Rattle.pgn_tool.proofs.SplitFiles.{after_marker, files_on, game_closed, grown, if_on, last_closed, told_none, told_some, whole_on}
 use Rattle.pgn_tool.proofs.OwnFaults.{read_own}
 use Rattle.pgn_tool.proofs.Splits.{log_on, never_open, not_both as split_not_both, opens, own_or_write, same_error, unrefused}
 
@@ -130,43 +130,54 @@ not_made taken b log after closed_log file count ts step so shut logged closes =
     log_on (Some b) after closed_log (whole_files 0 (texts_in ts)) (step ∷ []) [] (step ∷ [])
     (log_on (Some b) log after (whole_files 0 (texts_in ts)) _ _ (step ∷ []) so.logged logged (ap (λ o. opened o count ++ step ∷ []) shut)) closes refl
 
+-- a file that was not made has taken nothing
+taken_none : (torn text : List ℕ) (n : ℕ) → n < length text → Some [] ≡ Some (torn ++ take n text) → length torn + n ≡ 0
+taken_none torn text n short e = omega (arith, short, ap (length {A = ℕ}) (inner [] (torn ++ take n text) e), length-append torn (take n text), length-take n text)
+  where
+    inner : (a b : List ℕ) → Some a ≡ Some b → a ≡ b
+    inner a b h = cc
+
 -- a write that failed, of a text that had to be written
 cut_of : {A : Type 0} → (taken : A → Option (List ℕ)) (failures : A → ℕ) (b : List Event) (log after closed_log : Option (List Event))
-    (file now : Option A) (count failed : ℕ) (ts : List Token) (text : List ℕ) (n : ℕ) (refusal : Option CreateFault)
+    (file now : Option A) (count failed : ℕ) (ts : List Token) (text : List ℕ) (n least : ℕ) (refusal : Option CreateFault)
     → FilesOf taken b log file count ts → Turned taken failures (one_more count) log file after now refusal failed
-    → 0 < failed → n < length text → Appends (told taken log file) (told taken after now) (take n text)
-    → closed_log ≡ added after (closing taken failures now) → LogsCut b closed_log (texts_in ts) (torn_in ts ++ text)
-cut_of taken failures b log after closed_log file None count failed ts text n None so turned more short wrote closes =
+    → 0 < failed → n < length text → least ≤ length (torn_in ts) + n → Appends (told taken log file) (told taken after now) (take n text)
+    → closed_log ≡ added after (closing taken failures now) → LogsCut b closed_log (texts_in ts) (torn_in ts ++ text) least
+cut_of taken failures b log after closed_log file None count failed ts text n least None so turned more short low wrote closes =
     absurd (omega (arith, more, turned.clean refl))
-cut_of taken failures b log after closed_log file (Some out) count failed ts text n None so turned more short wrote closes =
+cut_of taken failures b log after closed_log file (Some out) count failed ts text n least None so turned more short low wrote closes =
     let here = log_on (Some b) log after (whole_files 0 (texts_in ts)) _ _ _ so.logged turned.logged (opens (is_some file) true count turned.stays) in
     let bytes : taken out ≡ Some (take (length (torn_in ts) + n) (torn_in ts ++ text)) =
     sym (told_some taken after _ out here) ∙ grown _ _ (torn_in ts) (take n text) so.text wrote ∙ ap (λ l. Some l) (sym (take-append-add (torn_in ts) text n)) in
     record {
       last = made (one_more (number_after 0 (texts_in ts))) ∷ closed (Some (take (length (torn_in ts) + n) (torn_in ts ++ text))) (failures out) ∷ [];
-      cut = cut (length (torn_in ts) + n) (failures out) (omega (arith, short, length-append (torn_in ts) text)) (omega (arith, more, turned.clean refl));
+      cut = cut (length (torn_in ts) + n) (failures out) low (omega (arith, short, length-append (torn_in ts) text)) (omega (arith, more, turned.clean refl));
       logged =
           log_on (Some b) after closed_log (whole_files 0 (texts_in ts)) _ _ _ here closes
           (ap (λ k. made (one_more k) ∷ closed (taken out) (failures out) ∷ []) so.counted
           ∙ ap (λ t. made (one_more (number_after 0 (texts_in ts))) ∷ closed t (failures out) ∷ []) bytes);
     }
-cut_of taken failures b log after closed_log file None count failed ts text n (Some creating.Refused) so turned more short wrote closes =
+cut_of taken failures b log after closed_log file None count failed ts text n least (Some creating.Refused) so turned more short low wrote closes =
+    let here = log_on (Some b) log after (whole_files 0 (texts_in ts)) _ _ _ so.logged turned.logged refl in
+    let nothing = taken_none (torn_in ts) text n short (sym (told_none taken after _ here) ∙ grown _ _ (torn_in ts) (take n text) so.text wrote) in
     record {
       last = refused (one_more (number_after 0 (texts_in ts))) ∷ [];
-      cut = games.not_made;
+      cut = games.not_made (omega (arith, low, nothing)) (omega (arith, short, length-append (torn_in ts) text));
       logged =
           not_made taken b log after closed_log file count ts _ so (never_open (is_some file) false turned.stays refl) turned.logged closes
           ∙ ap (λ k. Some (b ++ (whole_files 0 (texts_in ts) ++ refused (one_more k) ∷ []))) so.counted;
     }
-cut_of taken failures b log after closed_log file None count failed ts text n (Some creating.NoMemory) so turned more short wrote closes =
+cut_of taken failures b log after closed_log file None count failed ts text n least (Some creating.NoMemory) so turned more short low wrote closes =
+    let here = log_on (Some b) log after (whole_files 0 (texts_in ts)) _ _ _ so.logged turned.logged refl in
+    let nothing = taken_none (torn_in ts) text n short (sym (told_none taken after _ here) ∙ grown _ _ (torn_in ts) (take n text) so.text wrote) in
     record {
       last = without_memory (one_more (number_after 0 (texts_in ts))) ∷ [];
-      cut = games.no_memory;
+      cut = games.no_memory (omega (arith, low, nothing)) (omega (arith, short, length-append (torn_in ts) text));
       logged =
           not_made taken b log after closed_log file count ts _ so (never_open (is_some file) false turned.stays refl) turned.logged closes
           ∙ ap (λ k. Some (b ++ (whole_files 0 (texts_in ts) ++ without_memory (one_more k) ∷ []))) so.counted;
     }
-cut_of taken failures b log after closed_log file (Some out) count failed ts text n (Some r) so turned more short wrote closes =
+cut_of taken failures b log after closed_log file (Some out) count failed ts text n least (Some r) so turned more short low wrote closes =
     absurd (false≢true (sym (turned.shut refl)))
 
 -- a write fault at this place, or want of memory for a file
@@ -198,8 +209,16 @@ cuts taken failures before log after closed_log file now count failed u given ts
           writing.due_for ∙ append_assoc (text_of list_profile gs) (torn_in given) writing.text
           ∙ ap (λ l. text_of list_profile l ++ (torn_in given ++ writing.text)) (sym same);
       files = if_on before files (λ b h.
-          subst (λ l. LogsCut b closed_log l (torn_in given ++ writing.text)) (ap (map (game_text list_profile)) (sym same))
-          (cut_of taken failures b log after closed_log file now count failed given writing.text writing.count refusal h turned more writing.short writing.appended closes));
+          subst (λ l. LogsCut b closed_log l (torn_in given ++ writing.text) (length (torn_in writing.front))) (ap (map (game_text list_profile)) (sym same))
+          (cut_of taken failures b log after closed_log file now count failed given writing.text writing.count (length (torn_in writing.front)) refusal h turned more writing.short
+          (omega (
+            arith,
+            writing.least,
+            length-append (text_of list_profile (read list_profile writing.front).progress.games) (torn_in writing.front),
+            length-append (text_of list_profile (read list_profile given).progress.games) (torn_in given),
+            ap (λ gs. length (text_of list_profile gs)) same,
+          ))
+          writing.appended closes));
     }
 
 -- ---- a call that reports why it stops

@@ -89,7 +89,7 @@ module _ {A : Type 0} (taken : A → Option (List ℕ)) (failures : A → ℕ) (
       subst (λ n. Stops left_old left_new before after (Refused (record { at = n; reason = InputTooLong }))) place
       (games.too_long (so.bytes ++ front) rest (subst (Consumes left_old left_new) text (read_all piece consumed)) place some split)
   read_stops_at piece why after consumed (games.cut_file _ cut) =
-      games.unwritten (so.bytes ++ piece) [] why (subst (Consumes left_old left_new) (sym (append-nil (so.bytes ++ piece))) (read_all piece consumed)) cut
+      games.unwritten (so.bytes ++ piece) why (read_all piece consumed) cut
 
   pub read_ends : (r : Result Unit Unsplit) (after : Option (List Event)) → Consumes left left_new [] → IsAtEnd left_new → AfterLast so.bytes r before after
       → Splits left_old left_new r before after
@@ -102,4 +102,4 @@ module _ {A : Type 0} (taken : A → Option (List ℕ)) (failures : A → ℕ) (
       by_result (Ok x) h = known_whole left_old left_new so.bytes (λ s. IsSplitWhole s before after) all end h
       by_result (Err _) (games.at_fault f h) = games.rejected f (known_whole left_old left_new so.bytes (λ s. IsSplit s f before after) all end h)
       by_result (Err why) (games.cut_file _ cut) =
-          games.unwritten so.bytes [] why (subst (Consumes left_old left_new) (sym (append-nil so.bytes)) all) cut
+          games.unwritten so.bytes why all cut

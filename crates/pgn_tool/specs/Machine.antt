@@ -1,4 +1,6 @@
--- **Definition.** What a machine gives to a run: files to read, and devices.
+-- **Definition**: what a machine gives to a run: files to read, and devices.
+-- The real machine reports nothing here. What is said of machines that report holds for the program
+-- all the same: it is generic, so it does the same on each.
 use Rattle.std.specs.Prelude.{◌≡◌, ℕ, Bool, List, Option, Some, Result, Ok, Err}
 use Rattle.pgn_tool.specs.declared.machine.SystemFault.{SystemFault}
 use Rattle.pgn_tool.specs.Files.{Event}

@@ -1,4 +1,4 @@
--- **Definition.** What a run of the program does to the devices of a machine, by its words.
+-- **Definition**: what a run of the program does to the devices of a machine, by its words.
 use Rattle.std.specs.Prelude.{◌≡◌, ℕ, ◌≤◌, Bool, true, List, [], ◌∷◌, map, codes, Option, None, Some, Result, Ok, Err, String, Vec, string_bytes}
 use Rattle.std.specs.Global.{Global}
 use Rattle.pgn_game.specs.declared.reason.Reason.TheVariants.{ReadFault}
@@ -80,8 +80,8 @@ RunsOpened (Split dir file) source out is_short files files_after err status =
 RunsOpened task source out is_short files files_after err status =
     RunsStream (job_of task) source out is_short err status × (files_after ≡ files)
 
--- How a task is carried out: its file is not opened, and nothing else is done; or it runs on what
--- is read.
+-- How a task is carried out: its file is not opened, and nothing is written to standard output or
+-- to files; or it runs on what is read.
 pub data Carries (task : Task) (m : Machine) (status : ℕ) : Type 0 where
   unopened : (name : List ℕ) (fault : SystemFault) → file_of (request_of task) ≡ Some name
       → m.input.refusal ≡ Some fault

@@ -1,5 +1,5 @@
 -- **Definition**: which files a split makes of the games of a text, and what each of them holds.
-use Rattle.std.specs.Prelude.{◌≡◌, ℕ, ◌^◌, ◌<◌, List, [], ◌∷◌, ◌++◌, length, take, drop, map, Option, None, Some, Result, Ok, Err, IfSome, is_some}
+use Rattle.std.specs.Prelude.{◌≡◌, ℕ, ◌^◌, ◌<◌, ◌≤◌, List, [], ◌∷◌, ◌++◌, length, take, drop, map, Option, None, Some, Result, Ok, Err, IfSome, is_some}
 use Rattle.std.specs.Io.KnownBytes.{Consumes}
 use Rattle.pgn_layout.specs.Device.{one_more}
 use Rattle.pgn_lexer.specs.Tokens.{Token}
@@ -56,18 +56,19 @@ pub record SplitsNoMore (u : List ℕ) (before after : Option (List Event)) : Ty
   pub passes : (read list_profile (decided u)).fault ≡ None
   pub files : Logs before after (files_of (decided u))
 
--- The last file, after n others, where it could not be made or written: a prefix of its text was
--- written, and not all.
-pub data CutFile (n : ℕ) (text : List ℕ) : List Event → Type 0 where
-  not_made : CutFile n text (refused (one_more n) ∷ [])
-  no_memory : CutFile n text (without_memory (one_more n) ∷ [])
-  cut : (count failures : ℕ) → count < length text → 0 < failures
-      → CutFile n text (made (one_more n) ∷ closed (Some (take count text)) failures ∷ [])
+-- The last file, after n others, if it could not be made or written: of its text a prefix was
+-- written, at least so many bytes, and not all. A file that was not made has none.
+pub data CutFile (n : ℕ) (text : List ℕ) (least : ℕ) : List Event → Type 0 where
+  not_made : least ≡ 0 → 0 < length text → CutFile n text least (refused (one_more n) ∷ [])
+  no_memory : least ≡ 0 → 0 < length text → CutFile n text least (without_memory (one_more n) ∷ [])
+  cut : (count failures : ℕ) → least ≤ count → count < length text → 0 < failures
+      → CutFile n text least (made (one_more n) ∷ closed (Some (take count text)) failures ∷ [])
 
--- n whole files with these texts were made, and the last one is such a file
-pub record LogsCut (log : List Event) (after : Option (List Event)) (texts : List (List ℕ)) (text : List ℕ) : Type 0 where
+-- whole files with these texts were made, and the last one is such a file
+pub record LogsCut (log : List Event) (after : Option (List Event)) (texts : List (List ℕ)) (text : List ℕ)
+    (least : ℕ) : Type 0 where
   pub last : List Event
-  pub cut : CutFile (number_after 0 texts) text last
+  pub cut : CutFile (number_after 0 texts) text least last
   pub logged : after ≡ Some (log ++ (whole_files 0 texts ++ last))
 
 -- how a split stops whose file could not be made or written, at the token with this place
@@ -76,7 +77,8 @@ StopsAt place NoMemory = Unit {0}
 StopsAt place (Refused f) = f ≡ record { at = place; reason = WriteFault }
 
 -- A file could not be made or written when the bytes u were read. The games before it have their
--- files, and `text` is what had to be written of its own game up to the token at fault.
+-- files, and `text` is what had to be written of its own game up to the token at fault. What had to
+-- be written up to the tokens before is written: so it is the first token with text missing.
 pub record CutsFile (u : List ℕ) (why : Unsplit) (before after : Option (List Event)) : Type 0 where
   pub front : List Token
   pub token : Token
@@ -87,7 +89,7 @@ pub record CutsFile (u : List ℕ) (why : Unsplit) (before after : Option (List 
   pub text : List ℕ
   pub due_text : due list_profile (front ++ token ∷ [])
       ≡ text_of list_profile (read list_profile front).progress.games ++ text
-  pub files : IfSome before (λ log. LogsCut log after (texts_in front) text)
+  pub files : IfSome before (λ log. LogsCut log after (texts_in front) text (length (torn_in front)))
 
 -- How a split stops: at the input's own fault; because a read failed behind the bytes u; because
 -- the byte at place 2^62 came; or because a file could not be made or written when the bytes u were
@@ -100,7 +102,7 @@ pub data Stops (left_old left_new : Option (List ℕ)) (before after : Option (L
   too_long : (u rest : List ℕ) → Consumes left_old left_new (u ++ rest) → length u ≡ 2 ^ 62
       → 0 < length rest → SplitsNoMore u before after
       → Stops left_old left_new before after (Refused (record { at = length u; reason = InputTooLong }))
-  unwritten : (u rest : List ℕ) (why : Unsplit) → Consumes left_old left_new (u ++ rest)
+  unwritten : (u : List ℕ) (why : Unsplit) → Consumes left_old left_new u
       → CutsFile u why before after → Stops left_old left_new before after why
 
 -- What the source has left is split, up to its end.
