@@ -37,7 +37,9 @@ type Splitter = Converter<TAGS, LEVELS>;
 ///   would have written of that game.
 /// - 3: there was no memory for making a file, and `err` says so.
 ///
-/// A file that cannot be made counts as a write that failed.
+/// A file that cannot be made counts as a write that failed. The function is not inlined: its
+/// converter would be on the stack of the other tasks too.
+#[inline(never)]
 pub fn split_to<R: Source, F: GameFiles, E: Sink>(reader: &mut R, files: &mut F, err: &mut E) -> u8
     ensures status { result ≤ 3 }
     ensures untouched { result ≡ 0 → err.new ≡ err.old }
