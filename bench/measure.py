@@ -21,7 +21,7 @@ PARTS = (
     ("find", ("pgn_game::find::", "chess_text::form::", "chess_text::resolve::")),
     ("write_san", ("chess_text::san::",)),
     ("layout and sinks", ("pgn_layout::", "pgn_game::number::", "std::io::buffered::")),
-    ("converter's loop", ("pgn_game::converter::", "pgn_game::conversion::")),
+    ("converter's loop", ("pgn_game::converter::", "pgn_game::conversion::", "pgn_tool::stream::")),
     ("reader and levels", ("pgn_game::", "chess_text::")),
 )
 # The main functions of the parts. If the compiler inlines one, its caller's part has its cost.
