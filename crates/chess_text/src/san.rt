@@ -31,10 +31,10 @@ use chess_rules::square::Square;
 ///   go there, `x` for a capture, and the target.
 /// - Mate has `#` at the end, any other check `+`.
 ///
-/// The move must be legal, and `next` must be the position after it. This counts the pairs that it
-/// tries, at most 1,032, and the count must have room for them. For a queen, a rook, a bishop or a
-/// knight it tries one for each member of `origins`. If `next` is in check, it adds those of one
-/// `has_legal_move`.
+/// `played.mv` must be legal, and `played.next` the position after it. This counts the pairs that
+/// it tries, at most 1,032, and the count must have room for them. For a queen, a rook, a bishop or
+/// a knight it tries one for each member of `origins`. If `played.next` is in check, it adds those
+/// of one `has_legal_move`.
 pub fn write_san(position: &Position, played: &Played, probes: &mut Probes) -> ArrayVec<u8, 7>
     requires legal { legal position.now played.now.mv ≡ Some played.now.next }
     requires room { probes.old + 1032 < 2 ^ 32 }

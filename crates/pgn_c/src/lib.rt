@@ -56,10 +56,11 @@ pub extern "C" fn pgn_check(text: &[u8]) -> PgnResult
 /// Converts the games of a text from import format to export format, into the front of a buffer.
 ///
 /// Mode 0 is the full format (PGN 3.2), mode 1 the reduced one (PGN 3.2.4). Whatever the result,
-/// the bytes written are a front of the export text, and the others of the buffer are unchanged.
+/// the bytes written are a prefix of the export text, and the others of the buffer are unchanged.
 ///
 /// - Status 0: the buffer has the whole export text.
-/// - Status 1: the text has a fault. The buffer has the text up to the token before it.
+/// - Status 1: the text has a fault. The buffer has the export text of every game before it, and
+///   the complete lines of the game at fault.
 /// - Status 2: the buffer is full, and more is to be written. The place is that of the token whose
 ///   text is not all written.
 /// - Status 3: there is no such mode. Nothing was read or written.

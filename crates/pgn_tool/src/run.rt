@@ -24,10 +24,10 @@ const UNREADABLE: Fault = Fault {
 /// The first word is the program's name. First the words are parsed, then the file that they name
 /// is opened, then the task is carried out: on standard input where no file is named.
 ///
-/// - 0: there was no fault, or help was shown.
-/// - 1: there was a fault, or standard output could not be written. A file that cannot be opened
-///   is a fault: `byte 0: input cannot be read`.
-/// - 2: the words cannot be read, or ask for no task.
+/// - 0: there was no fault, or help or the version was shown.
+/// - 1: there was a fault, or an output could not be written. A file that cannot be opened is a
+///   fault: `byte 0: input cannot be read`.
+/// - 2: the words cannot be read, or are a mistake.
 /// - 3: there was no memory.
 ///
 /// `err` has the reason, unless the status is 0.
