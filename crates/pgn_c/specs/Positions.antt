@@ -1,13 +1,12 @@
 -- **Definition**: results about positions and moves, as C gets them.
-use Rattle.std.specs.Prelude.{◌≡◌, ℕ, ◌<◌, ◌≤◌, List, [], ◌++◌, length, drop, option_map, Result, Ok, Err}
+use Rattle.std.specs.Prelude.{◌≡◌, ℕ, ◌<◌, ◌≤◌, List, [], ◌++◌, length, drop, Result, Ok, Err}
 use Rattle.chess_rules.specs.declared.position.Parts.{Parts}
 use Rattle.chess_text.specs.declared.fen.FenFault.{FenFault}
 use Rattle.chess_text.specs.declared.resolve.Played.{Played}
 use Rattle.chess_text.specs.Fen.{fen_text}
-use Rattle.chess_text.specs.Form.{form_of}
-use Rattle.chess_text.specs.Reads.{reads}
 use Rattle.chess_text.specs.San.{san}
 use Rattle.pgn_game.specs.declared.reason.Reason.{Reason}
+use Rattle.pgn_game.specs.Chess.{move_of}
 use Rattle.pgn_game.specs.Finding.{found_in}
 use Rattle.pgn_game.specs.Reason.{number_of}
 use Rattle.pgn_c.specs.declared.fen.PgnText.{PgnText}
@@ -34,7 +33,7 @@ Normalizes (Err fault) before after result =
 
 -- the move that a text names in a position, or why it names none
 abbrev pub named : Parts → List ℕ → Result Played Reason
-named position text = found_in position (option_map (reads position) (form_of text))
+named position text = found_in position (move_of position text)
 
 -- the SAN of a move that was found, and the position after it
 abbrev pub move_result : Parts → Result Played Reason → PgnMove

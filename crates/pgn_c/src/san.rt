@@ -1,20 +1,16 @@
 //! The move that a text names in a position, as C gets it.
-ghost use Rattle.std.specs.Prelude.{◌≡◌, [], Some, Ok, Err, IfOk};
+ghost use Rattle.std.specs.Prelude.{◌≡◌, [], Some, Ok, Err};
 ghost use Rattle.chess_rules.specs.Legal.{legal};
-ghost use Rattle.pgn_game.specs.FaultTable.{is_at_limit as at_limit};
 ghost use Rattle.pgn_c.specs.Results as results;
 ghost use Rattle.pgn_c.specs.Positions.{move_result, named, san_result};
 
 use crate::pgn_result::{FAULT, OK, padded};
-use chess_rules::piece::Colour;
 use chess_rules::position::Position;
 use chess_rules::probes::Probes;
 use chess_text::fen::write_fen;
-use chess_text::form::read_form;
-use chess_text::laws::the_one_move_is_read;
-use chess_text::resolve::{Played, SanFault, resolve};
+use chess_text::resolve::Played;
 use chess_text::san::write_san;
-use pgn_game::Reason;
+use pgn_game::find_move;
 
 /// A move and the position after it, `struct pgn_move` in C.
 #[repr(C)]
@@ -36,38 +32,10 @@ pub struct PgnMove {
 pub fn name_move(position: &Position, text: &[u8]) -> PgnMove
     ensures { result ≡ move_result position.now (named position.now text.now) }
 {
-    match find_move(position, text) {
+    match find_move(position, text, &mut Probes::new()) {
         Ok(played) => written_move(position, &played),
         Err(reason) => no_move(reason.number() as u32, 0),
     }
-}
-
-// The one legal move that the text names.
-fn find_move(position: &Position, text: &[u8]) -> Result<Played, Reason>
-    ensures found { result ≡ named position.now text.now }
-    ensures legal { IfOk result (λ played. legal position.now played.mv ≡ Some played.next) }
-{
-    the_one_move_is_read();
-    let Some(form) = read_form(text) else {
-        return Err(Reason::NotAMove);
-    };
-    match resolve(position, &form, &mut Probes::new()) {
-        Err(SanFault::NoMove) => Err(Reason::IllegalMove),
-        Err(SanFault::Ambiguous) => Err(Reason::AmbiguousMove),
-        Ok(played) => {
-            if is_at_limit(position) {
-                return Err(Reason::MoveLimit);
-            }
-            Ok(played)
-        }
-    }
-}
-
-// Whether a move from here would lead to a number above 99,999.
-fn is_at_limit(position: &Position) -> bool
-    ensures { result ≡ at_limit position.now }
-{
-    position.side() == Colour::Black && position.full() == 99_999
 }
 
 // The result for a legal move.

@@ -16,9 +16,14 @@ use chess_text::resolve::{Played, SanFault, resolve};
 
 /// Returns the one legal move that the text names in this position (PGN 8.2.3).
 ///
+/// `probes` is new. Afterwards it is the number of pairs that were tried, at most 8.
+///
 /// # Errors
 ///
-/// `NotAMove`, `IllegalMove`, `AmbiguousMove` or `MoveLimit`.
+/// - `Reason::NotAMove` if the text is no form of a move.
+/// - `Reason::IllegalMove` if no legal move has this form.
+/// - `Reason::AmbiguousMove` if more than one has it.
+/// - `Reason::MoveLimit` if the number of the next move would be above 99,999.
 pub fn find_move(position: &Position, text: &[u8], probes: &mut Probes) -> Result<Played, Reason>
     requires { probes.old ≡ 0 }
     ensures found { result ≡ found_in position.now (move_of position.now text.now) }

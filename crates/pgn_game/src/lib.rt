@@ -25,6 +25,7 @@ mod token_tests;
 
 pub use conversion::{Totals, convert, convert_slice};
 pub use converter::{Converter, Fed};
+pub use find::find_move;
 pub use mode::Mode;
 pub use pgn_layout::{Nowhere, Outlet, Sink, WriteFault};
 pub use pgn_lexer::LexReason;
