@@ -18,7 +18,7 @@ IN_MEMORY = "/dev/shm"
 # belong to the part that calls them: so legality is a cost of find and of write_san.
 PARTS = (
     ("lexer", ("pgn_lexer::",)),
-    ("find", ("pgn_game::find::", "chess_text::form::", "chess_text::resolve::")),
+    ("find", ("pgn_game::find::", "chess_text::form::", "chess_text::resolution::")),
     ("write_san", ("chess_text::san::",)),
     ("layout and sinks", ("pgn_layout::", "pgn_game::number::", "std::io::buffered::")),
     ("converter's loop", ("pgn_game::converter::", "pgn_game::conversion::", "pgn_tool::stream::")),

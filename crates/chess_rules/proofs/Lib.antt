@@ -24,7 +24,7 @@ pub mod Extremes
 pub mod FirstOn
 pub mod Sets
 pub mod Attackers
-pub mod Origins
+pub mod CandidateSets
 pub mod Homes
 pub mod Plain
 pub mod Steppers

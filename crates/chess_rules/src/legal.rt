@@ -13,6 +13,21 @@ use crate::step::is_step;
 /// Returns the position after the move, or `None` if the move is not legal. (FIDE Laws 3.10.1)
 ///
 /// This counts as one pair tried, and the count must have room for it.
+///
+/// # Examples
+///
+/// ```
+/// use chess_rules::{Move, Position, Probes, Square, try_pair};
+///
+/// let e2 = Square::new(4, 1).unwrap();
+/// let e4 = Square::new(4, 3).unwrap();
+/// let mv = Move { from: e2, to: e4, promotion: None };
+/// let mut probes = Probes::new();
+/// let next = try_pair(&Position::initial(), mv, &mut probes).unwrap();
+/// assert_eq!(next.at(e2), None);
+/// assert!(try_pair(&next, mv, &mut probes).is_none());
+/// assert_eq!(probes.count(), 2);
+/// ```
 #[inline(always)]
 pub fn try_pair(position: &Position, mv: Move, probes: &mut Probes) -> Option<Position>
     requires { probes.old + 1 < 2 ^ 32 }

@@ -5,18 +5,25 @@
 
 mod attack;
 mod board;
-pub mod candidates;
+mod candidates;
 mod contents;
 mod direction;
 pub mod laws;
-pub mod legal;
+mod legal;
 mod pairs;
-pub mod piece;
-pub mod position;
-pub mod probes;
-pub mod square;
+mod piece;
+mod position;
+mod probes;
+mod square;
 mod step;
 mod tables;
 #[cfg(test)]
 mod tests;
 mod word;
+
+pub use candidates::origins;
+pub use legal::{has_legal_move, in_check, try_pair};
+pub use piece::{Colour, Kind, Piece, Promotion};
+pub use position::{Move, Parts, Position, PositionFault, Rights};
+pub use probes::Probes;
+pub use square::Square;

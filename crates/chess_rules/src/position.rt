@@ -135,6 +135,31 @@ impl Position {
     /// # Errors
     ///
     /// The first rule that the parts break, in the order of `PositionFault`.
+    ///
+    /// # Examples
+    ///
+    /// ```
+    /// use chess_rules::{Colour, Kind, Parts, Piece, Position, PositionFault, Rights};
+    ///
+    /// let no_rights = Rights {
+    ///     white_short: false,
+    ///     white_long: false,
+    ///     black_short: false,
+    ///     black_long: false,
+    /// };
+    /// let mut parts = Parts {
+    ///     board: [None; 64],
+    ///     side: Colour::White,
+    ///     rights: no_rights,
+    ///     target: None,
+    ///     half: 0,
+    ///     full: 1,
+    /// };
+    /// assert_eq!(Position::build(&parts).err(), Some(PositionFault::Kings));
+    /// parts.board[4] = Some(Piece { colour: Colour::White, kind: Kind::King });
+    /// parts.board[60] = Some(Piece { colour: Colour::Black, kind: Kind::King });
+    /// assert!(Position::build(&parts).is_ok());
+    /// ```
     pub fn build(parts: &Parts) -> Result<Position, PositionFault>
         ensures { result ≡ spec.built parts.now }
     {

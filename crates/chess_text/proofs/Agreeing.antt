@@ -15,8 +15,8 @@ use Rattle.chess_rules.specs.Step.{own, kind_of, short_wing, long_wing, short_ri
 use Rattle.chess_rules.specs.Legal.{legal, is_legal}
 use Rattle.chess_text.specs.declared.form.Form.{Form}
 use Rattle.chess_text.specs.declared.form.Form.TheVariants.{Castle, Man}
-use Rattle.chess_text.specs.declared.resolve.Played.{Played}
-use Rattle.chess_text.specs.declared.resolve.SanFault.TheVariants.{NoMove, Ambiguous}
+use Rattle.chess_text.specs.declared.resolution.Played.{Played}
+use Rattle.chess_text.specs.declared.resolution.SanFault.TheVariants.{NoMove, Ambiguous}
 use Rattle.chess_text.specs.Reads.{hints_fit, same_promotion, is_castling, describes, agrees, with_next, played, castling_move, move_from, moves_to_try, agreeing, only}
 use Rattle.chess_text.specs.Laws.{ReadsTheOne, ReadsNone, ReadsTwo}
 use Rattle.chess_text.proofs.Castling.{stepped, squares_same}

@@ -9,8 +9,8 @@ use Rattle.chess_rules.specs.Square.{Square, same_square}
 use Rattle.chess_rules.specs.Step.{home, Wing, short_wing, long_wing, short_right, long_right, is_king_move, stand_ready, is_unattacked, castles, castles_short, castles_long}
 use Rattle.chess_rules.specs.Legal.{legal}
 use Rattle.chess_text.specs.declared.form.Form.TheVariants.{Castle}
-use Rattle.chess_text.specs.declared.resolve.Played.{Played}
-use Rattle.chess_text.specs.declared.resolve.SanFault.TheVariants.{NoMove}
+use Rattle.chess_text.specs.declared.resolution.Played.{Played}
+use Rattle.chess_text.specs.declared.resolution.SanFault.TheVariants.{NoMove}
 use Rattle.chess_text.specs.Reads.{is_castling, describes, with_next, played, castling_move, agreeing, only, reads}
 use Rattle.chess_text.proofs.Castling.{squares_same}
 

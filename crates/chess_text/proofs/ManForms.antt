@@ -17,7 +17,7 @@ use Rattle.chess_rules.specs.Candidate.{sees, is_candidate, candidates}
 use Rattle.chess_rules.specs.Laws.{CandidatesComplete}
 use Rattle.chess_text.specs.declared.form.Form.{Form}
 use Rattle.chess_text.specs.declared.form.Form.TheVariants.{Man}
-use Rattle.chess_text.specs.declared.resolve.Played.{Played}
+use Rattle.chess_text.specs.declared.resolution.Played.{Played}
 use Rattle.chess_text.specs.Reads.{hints_fit, same_promotion, is_castling, describes, played, move_from, agreeing, only, reads, man_fits}
 use Rattle.chess_text.proofs.CastleForms.{played_none}
 use Rattle.chess_text.proofs.Finding.{filter_map-map, filter_map-filter, only_permuted}

@@ -12,9 +12,9 @@ use Rattle.chess_rules.specs.Legal.{legal, is_legal}
 use Rattle.chess_rules.specs.Candidate.{candidates}
 use Rattle.chess_text.specs.declared.form.Form.{Form}
 use Rattle.chess_text.specs.declared.form.Form.TheVariants.{Castle, Man}
-use Rattle.chess_text.specs.declared.resolve.Played.{Played}
-use Rattle.chess_text.specs.declared.resolve.SanFault.{SanFault}
-use Rattle.chess_text.specs.declared.resolve.SanFault.TheVariants.{NoMove, Ambiguous}
+use Rattle.chess_text.specs.declared.resolution.Played.{Played}
+use Rattle.chess_text.specs.declared.resolution.SanFault.{SanFault}
+use Rattle.chess_text.specs.declared.resolution.SanFault.TheVariants.{NoMove, Ambiguous}
 
 -- if the text gives a file or rank, it is that one (8.2.3.4)
 abbrev pub hint_fits : Option ℕ → ℕ → Bool

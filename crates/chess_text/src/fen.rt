@@ -9,7 +9,7 @@ use crate::field::{
 };
 use crate::placement::{board_text, read_placement};
 use arrayvec::ArrayVec;
-use chess_rules::position::{Parts, Position};
+use chess_rules::{Parts, Position};
 use itoa::Buffer;
 
 /// Why a text spells no position.
@@ -30,6 +30,18 @@ pub struct FenFault {
 ///
 /// The lowest field that is no spelling, or 7 if the six fields make no position
 /// (`Position::build`).
+///
+/// # Examples
+///
+/// ```
+/// use chess_text::{FenFault, read_fen};
+///
+/// let position = read_fen(b"8/8/8/8/8/k7/p7/K7 w - - 12 83").unwrap();
+/// assert_eq!(position.half(), 12);
+/// assert_eq!(position.full(), 83);
+/// // The fourth field is the en passant target.
+/// assert_eq!(read_fen(b"8/8/8/8/8/k7/p7/K7 w - e9 0 1").err(), Some(FenFault { field: 4 }));
+/// ```
 pub fn read_fen(text: &[u8]) -> Result<Position, FenFault>
     ensures { result ≡ read text.now }
 {
@@ -111,6 +123,16 @@ fn field_length(text: &[u8]) -> usize
 /// Writes a FEN: returns the canonical text of the position. (PGN 16.1.3)
 ///
 /// It has the longest runs of empty squares, no leading zeros, and at most 93 bytes.
+///
+/// # Examples
+///
+/// ```
+/// use chess_rules::Position;
+/// use chess_text::write_fen;
+///
+/// let text = write_fen(&Position::initial());
+/// assert_eq!(text.as_slice(), b"rnbqkbnr/pppppppp/8/8/8/8/PPPPPPPP/RNBQKBNR w KQkq - 0 1");
+/// ```
 pub fn write_fen(position: &Position) -> ArrayVec<u8, 93>
     ensures text { result.items ≡ fen_text position.now }
     ensures short { length result.items ≤ 93 }

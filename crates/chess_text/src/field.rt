@@ -5,9 +5,7 @@ ghost use Rattle.std.specs.Prelude.{◌≡◌, ◌∷◌, []};
 ghost use Rattle.chess_text.specs.Field as spec;
 
 use arrayvec::ArrayVec;
-use chess_rules::piece::Colour;
-use chess_rules::position::Rights;
-use chess_rules::square::Square;
+use chess_rules::{Colour, Rights, Square};
 
 // Reads a side: `w` or `b`. (PGN 16.1.3.2)
 pub(crate) fn read_side(text: &[u8]) -> Option<Colour>

@@ -3,8 +3,7 @@
 ghost use Rattle.std.specs.Prelude.{◌≡◌, ◌≤◌, length};
 ghost use Rattle.chess_text.specs.Form as spec;
 
-use chess_rules::piece::{Kind, Promotion};
-use chess_rules::square::Square;
+use chess_rules::{Kind, Promotion, Square};
 
 /// What the text of a move says by itself, without a position. (PGN 8.2.3)
 #[derive(Clone, Copy, Debug, PartialEq, Eq)]
@@ -30,6 +29,16 @@ pub enum Form {
 /// The pattern is `[KQRBNP]? [a-h]? [1-8]? x? [a-h][1-8] (=?[QRBN])? [+#]*`, without spaces. The
 /// parts are the piece (none is a pawn), the origin's file and rank, the capture, the target, the
 /// promotion and the marks. Or it is `O-O`, `O-O-O`, `0-0` or `0-0-0`, and marks.
+///
+/// # Examples
+///
+/// ```
+/// use chess_text::{Form, read_form};
+///
+/// assert_eq!(read_form(b"O-O+"), Some(Form::Castle { long: false }));
+/// assert!(read_form(b"Nbxd7").is_some());
+/// assert_eq!(read_form(b"castles"), None);
+/// ```
 pub fn read_form(text: &[u8]) -> Option<Form>
     ensures { result ≡ spec.form_of text.now }
 {

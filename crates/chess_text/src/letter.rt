@@ -3,7 +3,7 @@
 ghost use Rattle.std.specs.Prelude.{◌≡◌, ◌≤◌};
 ghost use Rattle.chess_text.specs.Letter as spec;
 
-use chess_rules::piece::{Colour, Kind, Piece};
+use chess_rules::{Colour, Kind, Piece};
 
 // The capital letter of a kind. (PGN 8.2.3.2)
 pub(crate) fn letter(kind: Kind) -> u8

@@ -3,13 +3,18 @@
 //! No call allocates.
 #![tactic(auto)]
 
-pub mod fen;
+mod fen;
 mod field;
-pub mod form;
+mod form;
 pub mod laws;
 mod letter;
 mod placement;
-pub mod resolve;
-pub mod san;
+mod resolution;
+mod san;
 #[cfg(test)]
 mod tests;
+
+pub use fen::{FenFault, read_fen, write_fen};
+pub use form::{Form, read_form};
+pub use resolution::{Played, SanFault, resolve};
+pub use san::write_san;

@@ -10,9 +10,7 @@ ghost use Rattle.chess_text.specs.Ranks.{ranks_before};
 
 use crate::letter::{piece_letter, piece_of};
 use arrayvec::ArrayVec;
-use chess_rules::piece::Piece;
-use chess_rules::position::Position;
-use chess_rules::square::Square;
+use chess_rules::{Piece, Position, Square};
 
 const EMPTY_RANK: [Option<Piece>; 8] = [None; 8];
 

@@ -12,15 +12,12 @@ ghost use Rattle.chess_text.specs.San as spec;
 ghost use Rattle.chess_text.specs.San.{MarkPairs};
 
 use crate::letter::letter;
-use crate::resolve::{Played, is_castling};
+use crate::resolution::{Played, is_castling};
 use arrayvec::ArrayVec;
-use chess_rules::candidates::origins;
 use chess_rules::laws::candidates_are_complete;
-use chess_rules::legal::{has_legal_move, in_check, try_pair};
-use chess_rules::piece::{Kind, Promotion};
-use chess_rules::position::{Move, Position};
-use chess_rules::probes::Probes;
-use chess_rules::square::Square;
+use chess_rules::{
+    Kind, Move, Position, Probes, Promotion, Square, has_legal_move, in_check, origins, try_pair,
+};
 
 /// Writes SAN: returns the text of a legal move, 1 to 7 bytes. (PGN 8.2.3)
 ///
@@ -35,6 +32,20 @@ use chess_rules::square::Square;
 /// it tries, at most 1,032, and the count must have room for them. For a queen, a rook, a bishop or
 /// a knight it tries one for each member of `origins`. If `played.next` is in check, it adds those
 /// of one `has_legal_move`.
+///
+/// # Examples
+///
+/// ```
+/// use chess_rules::Probes;
+/// use chess_text::{read_fen, read_form, resolve, write_san};
+///
+/// let fen = b"rnbqkbnr/pppp1ppp/8/4p3/6P1/5P2/PPPPP2P/RNBQKBNR b KQkq g3 0 2";
+/// let position = read_fen(fen).unwrap();
+/// let mut probes = Probes::new();
+/// let form = read_form(b"Qd8h4").unwrap();
+/// let played = resolve(&position, &form, &mut probes).unwrap();
+/// assert_eq!(write_san(&position, &played, &mut probes).as_slice(), b"Qh4#");
+/// ```
 pub fn write_san(position: &Position, played: &Played, probes: &mut Probes) -> ArrayVec<u8, 7>
     requires legal { legal position.now played.now.mv ≡ Some played.now.next }
     requires room { probes.old + 1032 < 2 ^ 32 }

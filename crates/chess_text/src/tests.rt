@@ -1,11 +1,11 @@
 //! Outside values: the standard's own texts, positions that are in wide use for tests, and texts
 //! that are none.
 
-mod resolve;
+mod resolution;
 mod san;
 
 use crate::fen::{FenFault, read_fen, write_fen};
-use chess_rules::position::Position;
+use chess_rules::Position;
 use std::process::Abort;
 
 // Texts that are canonical already.

@@ -6,19 +6,16 @@
 ghost use Rattle.std.specs.Prelude.{◌≡◌, ◌+◌, ◌≤◌, ◌^◌, ◌⊎◌, length, false, Ok, OnOk, IfErr, Some, IsSomeAnd};
 ghost use Rattle.chess_rules.specs.declared.position.Parts.{Parts};
 ghost use Rattle.chess_text.specs.declared.form.Form.{Form};
-ghost use Rattle.chess_text.specs.declared.resolve.Played.{Played};
+ghost use Rattle.chess_text.specs.declared.resolution.Played.{Played};
 ghost use Rattle.chess_text.specs.Fen.{read};
 ghost use Rattle.chess_text.specs.Form.{form_of};
 ghost use Rattle.chess_text.specs.Reads.{reads};
 ghost use Rattle.chess_text.specs.San.{san};
 
 use arrayvec::ArrayVec;
-use chess_rules::probes::Probes;
-use chess_text::fen::{read_fen, write_fen};
-use chess_text::form::read_form;
+use chess_rules::Probes;
 use chess_text::laws::the_one_move_is_read;
-use chess_text::resolve::resolve;
-use chess_text::san::write_san;
+use chess_text::{read_fen, read_form, resolve, write_fen, write_san};
 use pgn_game::{
     Converter, Fault, Fed, Inlet, Mode, Nowhere, Outlet, Reason, Sink, Source, WriteFault,
 };

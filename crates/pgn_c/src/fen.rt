@@ -4,8 +4,8 @@ ghost use Rattle.chess_text.specs.Fen.{fen_text};
 ghost use Rattle.pgn_c.specs.Positions.{Puts};
 
 use crate::pgn_result::{FAULT, FULL, OK};
-use chess_rules::position::Position;
-use chess_text::fen::write_fen;
+use chess_rules::Position;
+use chess_text::write_fen;
 
 /// The result for a FEN, `struct pgn_text` in C.
 #[repr(C)]

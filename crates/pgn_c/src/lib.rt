@@ -28,10 +28,10 @@ pub use crate::pgn_result::PgnResult;
 use crate::pgn_result::{fault_result, no_mode, totals_result};
 pub use crate::san::PgnMove;
 use crate::san::{name_move, no_position};
-use chess_text::fen::read_fen;
+use chess_text::read_fen;
 use pgn_game::laws::due_grows;
 use pgn_game::{Fault, Mode, Nowhere, Totals, convert_slice};
-use pgn_lexer::decided_is_prefix;
+use pgn_lexer::laws::decided_is_prefix;
 use std::marker::{Brand, PhantomData};
 
 /// The most tag pairs of a game.

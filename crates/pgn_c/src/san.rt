@@ -5,11 +5,8 @@ ghost use Rattle.pgn_c.specs.Results as results;
 ghost use Rattle.pgn_c.specs.Positions.{move_result, named, san_result};
 
 use crate::pgn_result::{FAULT, OK, padded};
-use chess_rules::position::Position;
-use chess_rules::probes::Probes;
-use chess_text::fen::write_fen;
-use chess_text::resolve::Played;
-use chess_text::san::write_san;
+use chess_rules::{Position, Probes};
+use chess_text::{Played, write_fen, write_san};
 use pgn_game::find_move;
 
 /// A move and the position after it, `struct pgn_move` in C.

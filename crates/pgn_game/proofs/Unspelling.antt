@@ -6,9 +6,9 @@ use Rattle.std.proofs.lemmas.Slice.Eq.{bytes_eq-Decides}
 use Rattle.std.proofs.lemmas.Bool.Decides.{nat_tests}
 use Rattle.chess_rules.specs.declared.position.Parts.{Parts}
 use Rattle.chess_text.specs.declared.fen.FenFault.{FenFault}
-use Rattle.chess_text.specs.declared.resolve.Played.{Played}
-use Rattle.chess_text.specs.declared.resolve.SanFault.{SanFault}
-use Rattle.chess_text.specs.declared.resolve.SanFault.TheVariants.{NoMove, Ambiguous}
+use Rattle.chess_text.specs.declared.resolution.Played.{Played}
+use Rattle.chess_text.specs.declared.resolution.SanFault.{SanFault}
+use Rattle.chess_text.specs.declared.resolution.SanFault.TheVariants.{NoMove, Ambiguous}
 use Rattle.pgn_layout.specs.TagLine.{escaped}
 use Rattle.pgn_lexer.specs.Tokens as tokens
 use Rattle.pgn_lexer.specs.Tokens.{Kind}

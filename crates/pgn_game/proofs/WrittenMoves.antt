@@ -11,7 +11,7 @@ use Rattle.chess_rules.specs.Attacks.{king_attacked}
 use Rattle.chess_rules.specs.Board.{other}
 use Rattle.chess_rules.specs.Laws.{LeavesPosition}
 use Rattle.chess_rules.specs.Position.{is_position, position_fault, one_king, pawn_on_edge, target_fits}
-use Rattle.chess_text.specs.declared.resolve.Played.{Played}
+use Rattle.chess_text.specs.declared.resolution.Played.{Played}
 use Rattle.chess_text.specs.Laws.{ReadsTheOne}
 use Rattle.chess_text.specs.WrittenMove.{is_letter, is_move_byte, begins_with_letter, IsMoveSymbol, WrittenMoveIsSymbol, WrittenMoveIsRead}
 use Rattle.pgn_lexer.specs.Bytes.{is_digit, starts_symbol, continues_symbol}

@@ -12,7 +12,7 @@ use Rattle.pgn_lexer.specs.Sound.{IsSoundKind, CommentsClose}
 use Rattle.pgn_lexer.specs.Tokens as tokens
 use Rattle.pgn_lexer.specs.Tokens.{Kind}
 use Rattle.pgn_lexer.specs.Written.{written}
-use Rattle.chess_text.specs.declared.resolve.Played.{Played}
+use Rattle.chess_text.specs.declared.resolution.Played.{Played}
 use Rattle.pgn_game.specs.Chess.{text_of_move, is_black_to_move}
 use Rattle.pgn_game.specs.Game as games
 use Rattle.pgn_game.specs.Game.{Item}

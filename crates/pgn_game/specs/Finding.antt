@@ -1,9 +1,9 @@
 -- **Bookkeeping**: the move that a symbol means, or the row of the fault table that rejects it.
 use Rattle.std.specs.Prelude.{true, false, Option, None, Some, Result, Ok, Err}
 use Rattle.chess_rules.specs.declared.position.Parts.{Parts}
-use Rattle.chess_text.specs.declared.resolve.Played.{Played}
-use Rattle.chess_text.specs.declared.resolve.SanFault.{SanFault}
-use Rattle.chess_text.specs.declared.resolve.SanFault.TheVariants.{NoMove, Ambiguous}
+use Rattle.chess_text.specs.declared.resolution.Played.{Played}
+use Rattle.chess_text.specs.declared.resolution.SanFault.{SanFault}
+use Rattle.chess_text.specs.declared.resolution.SanFault.TheVariants.{NoMove, Ambiguous}
 use Rattle.pgn_game.specs.declared.reason.Reason.{Reason}
 use Rattle.pgn_game.specs.declared.reason.Reason.TheVariants.{NotAMove, IllegalMove, AmbiguousMove, MoveLimit}
 use Rattle.pgn_game.specs.FaultTable.{is_at_limit}

@@ -35,6 +35,18 @@ pub struct Totals {
 /// - `Reason::ReadFault` if a read failed, at the number of bytes read.
 /// - `Reason::WriteFault` if a write failed, at the first token with text missing.
 /// - `Reason::InputTooLong` if the input has a byte at place 2^62.
+///
+/// # Examples
+///
+/// ```
+/// use pgn_game::{Inlet, Mode, Outlet, convert};
+///
+/// let mut reader = Inlet::new(b"e4 e5 Nf3 *".as_slice());
+/// let mut writer = Outlet::new(Vec::new());
+/// let totals = convert::<64, 33, _, _>(&mut reader, &mut writer, Mode::Full).unwrap();
+/// assert_eq!((totals.games, totals.plies), (1, 3));
+/// assert!(writer.into_inner().ends_with(b"\n1. e4 e5 2. Nf3 *\n\n"));
+/// ```
 pub fn convert<const T: usize, const L: usize, R: Source, W: Sink>(
     reader: &mut R,
     writer: &mut W,
@@ -70,6 +82,16 @@ pub fn convert<const T: usize, const L: usize, R: Source, W: Sink>(
 /// # Errors
 ///
 /// As `convert`, except that no read can fail.
+///
+/// # Examples
+///
+/// ```
+/// use pgn_game::{Mode, Nowhere, Reason, convert_slice};
+///
+/// let text = b"e4 e5 Ke3 *";
+/// let fault = convert_slice::<64, 33, _>(text, &mut Nowhere, Mode::Full).err().unwrap();
+/// assert_eq!((fault.at, fault.reason), (6, Reason::IllegalMove));
+/// ```
 pub fn convert_slice<const T: usize, const L: usize, W: Sink>(
     text: &[u8],
     writer: &mut W,

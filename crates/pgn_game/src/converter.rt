@@ -15,7 +15,7 @@ use crate::mode::Mode;
 use crate::reader::Reader;
 use crate::reason::{Fault, Reason};
 use crate::token_tests::is_end;
-use chess_rules::position::Position;
+use chess_rules::Position;
 use pgn_layout::Sink;
 use pgn_lexer::{LexFault, Lexer, Outcome};
 use std::marker::Model;
@@ -58,6 +58,22 @@ struct Step {
 ///
 /// A game has at most `T` tag pairs, and its variations are at most `L - 1` deep. `L` is at least
 /// 1.
+///
+/// # Examples
+///
+/// ```
+/// use pgn_game::{Converter, Fed, Mode, Outlet};
+///
+/// let mut out = Outlet::new(Vec::new());
+/// let mut converter = Converter::<64, 33>::new(Mode::Full);
+/// let text = b"1. e4 e5 * 1. d4";
+/// assert_eq!(converter.feed(text, &mut out).unwrap(), Fed::Game(10));
+/// assert_eq!(converter.plies(), 2);
+/// assert_eq!(converter.tag(b"Result"), Some(b"*".as_slice()));
+/// assert_eq!(converter.feed(&text[10..], &mut out).unwrap(), Fed::All);
+/// // The second game has no marker.
+/// assert_eq!(converter.finish(&mut out).err().unwrap().at, 16);
+/// ```
 #[derive(Drop)]
 pub struct Converter<const T: usize, const L: usize> {
     lexer: Lexer,

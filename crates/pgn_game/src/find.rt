@@ -7,12 +7,9 @@ ghost use Rattle.pgn_game.specs.Finding.{found_in};
 ghost use Rattle.pgn_game.specs.Tried.{Costs};
 
 use crate::reason::Reason;
-use chess_rules::piece::Colour;
-use chess_rules::position::Position;
-use chess_rules::probes::Probes;
-use chess_text::form::read_form;
+use chess_rules::{Colour, Position, Probes};
 use chess_text::laws::the_one_move_is_read;
-use chess_text::resolve::{Played, SanFault, resolve};
+use chess_text::{Played, SanFault, read_form, resolve};
 
 /// Returns the one legal move that the text names in this position (PGN 8.2.3).
 ///
@@ -24,6 +21,18 @@ use chess_text::resolve::{Played, SanFault, resolve};
 /// - `Reason::IllegalMove` if no legal move has this form.
 /// - `Reason::AmbiguousMove` if more than one has it.
 /// - `Reason::MoveLimit` if the number of the next move would be above 99,999.
+///
+/// # Examples
+///
+/// ```
+/// use chess_rules::{Position, Probes};
+/// use pgn_game::{Reason, find_move};
+///
+/// let position = Position::initial();
+/// assert!(find_move(&position, b"e4", &mut Probes::new()).is_ok());
+/// let fault = find_move(&position, b"e5", &mut Probes::new()).err();
+/// assert_eq!(fault, Some(Reason::IllegalMove));
+/// ```
 pub fn find_move(position: &Position, text: &[u8], probes: &mut Probes) -> Result<Played, Reason>
     requires { probes.old ≡ 0 }
     ensures found { result ≡ found_in position.now (move_of position.now text.now) }

@@ -3,7 +3,7 @@ ghost use Rattle.std.specs.Prelude.{◌≡◌};
 ghost use Rattle.pgn_game.specs.Text.{is_move as is_of_move};
 ghost use Rattle.pgn_game.specs.Judging.{item_of};
 
-use chess_text::resolve::Played;
+use chess_text::Played;
 
 /// What a token means: nothing, a step of a tag pair, or an entry of movetext.
 #[derive(Clone, Copy)]

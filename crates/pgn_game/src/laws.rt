@@ -9,8 +9,10 @@ use chess_text::laws::{
     a_written_move_is_a_symbol, a_written_move_is_read_as_itself, reading_is_spelling,
     the_one_move_is_read,
 };
-use pgn_layout::lines_keep_tokens;
-use pgn_lexer::{numbers_are_symbols, tokens_are_sound, tokens_rise, written_tokens_are_read_back};
+use pgn_layout::laws::lines_keep_tokens;
+use pgn_lexer::laws::{
+    numbers_are_symbols, tokens_are_sound, tokens_rise, written_tokens_are_read_back,
+};
 
 /// Output only grows: that for some tokens is a prefix of that for these and more.
 pub fn due_grows()

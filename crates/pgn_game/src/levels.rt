@@ -4,7 +4,7 @@ ghost use Rattle.pgn_game.specs.Chess.{first_position};
 ghost use Rattle.pgn_game.specs.Movetext.{level_at, only_level, IsBackIn};
 
 use arrayvec::ArrayVec;
-use chess_rules::position::Position;
+use chess_rules::Position;
 use std::marker::Model;
 
 /// A level: the current position, and the one before its last move, if it has a move.

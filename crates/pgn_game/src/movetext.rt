@@ -12,11 +12,8 @@ use crate::judged::Item;
 use crate::levels::Levels;
 use crate::mode::Mode;
 use crate::number::{black_number, glyph_text, white_number};
-use chess_rules::piece::Colour;
-use chess_rules::position::Position;
-use chess_rules::probes::Probes;
-use chess_text::resolve::Played;
-use chess_text::san::write_san;
+use chess_rules::{Colour, Position, Probes};
+use chess_text::{Played, write_san};
 use pgn_layout::{Layout, Sink, WriteFault};
 use std::marker::Model;
 

@@ -25,6 +25,22 @@ const LINE_WITH_LF_LENGTH: usize = LINE_LENGTH + 1;
 /// A call returns [`WriteFault`] if the sink fails. It has then written a prefix of its text, and
 /// not all of it. Each later call that takes a sink returns `WriteFault` again and leaves the sink
 /// as it is.
+///
+/// # Examples
+///
+/// ```
+/// use pgn_layout::{Layout, Outlet};
+///
+/// let mut out = Outlet::new(Vec::new());
+/// let mut layout = Layout::new();
+/// layout.tag(b"Event", b"?", &mut out).unwrap();
+/// layout.end_tags(&mut out).unwrap();
+/// for token in [b"1.", b"e4", b"e5"] {
+///     layout.put(token, &mut out).unwrap();
+/// }
+/// layout.end_game(&mut out).unwrap();
+/// assert_eq!(out.into_inner(), b"[Event \"?\"]\n\n1. e4 e5\n\n");
+/// ```
 #[derive(Drop)]
 pub struct Layout {
     line: ArrayVec<u8, LINE_WITH_LF_LENGTH>,

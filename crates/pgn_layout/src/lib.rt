@@ -5,7 +5,7 @@
 //! [`Sink`]: an [`Outlet`] over a `std::io::Write`, or [`Nowhere`].
 #![tactic(auto)]
 
-mod laws;
+pub mod laws;
 mod layout;
 mod nowhere;
 mod outlet;
@@ -14,7 +14,6 @@ mod tag_line;
 #[cfg(test)]
 mod tests;
 
-pub use laws::{lines_are_those_put, lines_keep_tokens, tokens_determine_lines};
 pub use layout::Layout;
 pub use nowhere::Nowhere;
 pub use outlet::Outlet;

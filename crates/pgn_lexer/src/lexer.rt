@@ -7,6 +7,27 @@ use crate::token::{Outcome, Scan, Token, TokenKind};
 use std::marker::Model;
 
 /// Reads a text in pieces of any length, and gives its tokens one by one.
+///
+/// # Examples
+///
+/// ```
+/// use pgn_lexer::{Lexer, Outcome};
+///
+/// let text = b"1. e4 *";
+/// let mut lexer = Lexer::new();
+/// let mut at = 0;
+/// let mut places = Vec::new();
+/// loop {
+///     let scan = lexer.next(&text[at..]);
+///     at += scan.used;
+///     match scan.outcome {
+///         Outcome::Token(token) => places.push(token.at),
+///         Outcome::NeedMore => break,
+///         Outcome::Fault(fault) => panic!("{:?}", fault),
+///     }
+/// }
+/// assert_eq!(places, [0, 1, 3, 6]);
+/// ```
 #[derive(Drop)]
 pub struct Lexer {
     partial: PartialToken,

@@ -7,15 +7,11 @@
 
 mod buffer;
 mod class;
-mod laws;
+pub mod laws;
 mod lexer;
 mod partial_token;
 mod token;
 
-pub use laws::{
-    decided_is_prefix, known_is_prefix, lexes_once, numbers_are_symbols, tokens_are_sound,
-    tokens_rise, written_tokens_are_read_back,
-};
 pub use lexer::Lexer;
 pub use token::{LexFault, LexReason, Outcome, Scan, Token, TokenKind};
 

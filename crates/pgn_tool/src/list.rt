@@ -5,7 +5,7 @@ ghost use Rattle.pgn_tool.specs.Listing.{CountsList, CountsSink, Lists, ListsLas
 ghost use Rattle.pgn_game.specs.Feeding.{value_at_hand};
 
 use crate::stream::{LEVELS, TAGS};
-use chess_text::fen::write_fen;
+use chess_text::write_fen;
 use itoa::Buffer;
 use pgn_game::{Converter, Fault, Fed, Mode, Nowhere, Reason, Sink, Source, WriteFault};
 use pgn_layout::write_all;

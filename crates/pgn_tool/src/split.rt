@@ -13,7 +13,7 @@ use crate::replies::out_of_memory;
 use crate::stream::{LEVELS, TAGS, refuse};
 use pgn_game::laws::due_grows;
 use pgn_game::{Converter, Fault, Fed, Mode, Reason, Sink, Source};
-use pgn_lexer::tokens_rise;
+use pgn_lexer::laws::tokens_rise;
 use std::marker::{Brand, PhantomData};
 
 /// Why a split ends before the input does.

@@ -2,15 +2,12 @@
 
 use crate::fen::read_fen;
 use crate::form::{Form, read_form};
-use crate::resolve::{Played, resolve};
+use crate::resolution::{Played, resolve};
 use crate::san::write_san;
 use crate::tests::POSITIONS;
-use chess_rules::candidates::origins;
-use chess_rules::legal::{has_legal_move, in_check, try_pair};
-use chess_rules::piece::{Kind, Promotion};
-use chess_rules::position::{Move, Position};
-use chess_rules::probes::Probes;
-use chess_rules::square::Square;
+use chess_rules::{
+    Kind, Move, Position, Probes, Promotion, Square, has_legal_move, in_check, origins, try_pair,
+};
 use std::process::Abort;
 
 const KINDS: [Kind; 6] = [

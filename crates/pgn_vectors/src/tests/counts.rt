@@ -1,11 +1,8 @@
 //! How many pairs of squares are tried for a move.
 use crate::Vector;
 use crate::tests::runs::{converted, tables};
-use chess_rules::candidates::origins;
-use chess_rules::piece::Kind;
-use chess_rules::position::Position;
-use chess_rules::square::Square;
-use chess_text::fen::read_fen;
+use chess_rules::{Kind, Position, Square, origins};
+use chess_text::read_fen;
 use pgn_game::Mode;
 use std::process::Abort;
 use std::test::Fail;

@@ -1,6 +1,6 @@
 //! The game just finished, and faults that stay.
 use crate::tests::runs::{HEAD, LONE_MARKER, Usual, feed, feed_once, finish};
-use chess_text::fen::write_fen;
+use chess_text::write_fen;
 use pgn_game::{Fault, Fed, Mode, Nowhere, Outlet, Reason};
 use std::process::Abort;
 use std::test::Fail;

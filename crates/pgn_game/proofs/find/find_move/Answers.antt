@@ -2,9 +2,9 @@ use Rattle.std.proofs.Common.{◌≡◌, Bool, true, false, List, ℕ, ◌+◌, 
 use Rattle.std.specs.Prelude.{Option, Result, Ok, Err, option_map}
 use Rattle.chess_rules.specs.declared.position.Parts.{Parts}
 use Rattle.chess_text.specs.declared.form.Form.{Form}
-use Rattle.chess_text.specs.declared.resolve.Played.{Played}
-use Rattle.chess_text.specs.declared.resolve.SanFault.{SanFault}
-use Rattle.chess_text.specs.declared.resolve.SanFault.TheVariants.{NoMove, Ambiguous}
+use Rattle.chess_text.specs.declared.resolution.Played.{Played}
+use Rattle.chess_text.specs.declared.resolution.SanFault.{SanFault}
+use Rattle.chess_text.specs.declared.resolution.SanFault.TheVariants.{NoMove, Ambiguous}
 use Rattle.chess_text.specs.Form.{form_of}
 use Rattle.chess_text.specs.Reads.{reads}
 use Rattle.pgn_game.specs.declared.reason.Reason.{Reason}

@@ -5,11 +5,11 @@ use Rattle.std.proofs.lemmas.List.Sorted.{length_permutation}
 use Rattle.chess_rules.specs.Square.{Square}
 use Rattle.chess_rules.specs.Candidate.{candidates}
 use Rattle.chess_text.specs.declared.form.Form.TheVariants.{Man}
-use Rattle.chess_text.specs.declared.resolve.Played.{Played}
+use Rattle.chess_text.specs.declared.resolution.Played.{Played}
 use Rattle.chess_text.proofs.Finding.{still_none, first_one, second_one, not_at_once, at_the_end}
 use Rattle.chess_text.proofs.ManForms.{from_square, reads_candidates, tried_at}
-use Rattle.chess_text.proofs.resolve.resolve_man.Goals as goal
-use Rattle.chess_text.proofs.resolve.resolve_man.Goals.{in-Some+else-is_some, in_default}
+use Rattle.chess_text.proofs.resolution.resolve_man.Goals as goal
+use Rattle.chess_text.proofs.resolution.resolve_man.Goals.{in-Some+else-is_some, in_default}
 
 pub returns-then-is_some-clause-answer : goal.returns-then-is_some-clause-answer
 returns-then-is_some-clause-answer c =

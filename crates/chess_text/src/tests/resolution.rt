@@ -2,10 +2,8 @@
 
 use crate::fen::{read_fen, write_fen};
 use crate::form::Form;
-use crate::resolve::{SanFault, resolve};
-use chess_rules::piece::{Kind, Promotion};
-use chess_rules::probes::Probes;
-use chess_rules::square::Square;
+use crate::resolution::{SanFault, resolve};
+use chess_rules::{Kind, Probes, Promotion, Square};
 use std::process::Abort;
 
 const FIRST: &str = "rnbqkbnr/pppppppp/8/8/8/8/PPPPPPPP/RNBQKBNR w KQkq - 0 1";

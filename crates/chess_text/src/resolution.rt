@@ -7,17 +7,12 @@ ghost use Rattle.chess_rules.specs.Candidate.{candidates};
 ghost use Rattle.chess_rules.specs.Legal.{is_legal};
 ghost use Rattle.chess_rules.specs.Step.{own};
 ghost use Rattle.chess_text.specs.declared.form.Form.TheVariants.{Castle, Man};
-ghost use Rattle.chess_text.specs.declared.resolve.SanFault.TheVariants.{Ambiguous};
+ghost use Rattle.chess_text.specs.declared.resolution.SanFault.TheVariants.{Ambiguous};
 ghost use Rattle.chess_text.specs.Reads as spec;
 
 use crate::form::Form;
-use chess_rules::candidates::origins;
 use chess_rules::laws::candidates_are_complete;
-use chess_rules::legal::try_pair;
-use chess_rules::piece::{Colour, Kind, Promotion};
-use chess_rules::position::{Move, Position};
-use chess_rules::probes::Probes;
-use chess_rules::square::Square;
+use chess_rules::{Colour, Kind, Move, Position, Probes, Promotion, Square, origins, try_pair};
 
 /// A legal move, and the position after it.
 #[derive(Clone, Copy)]
@@ -51,6 +46,21 @@ pub enum SanFault {
 ///
 /// - `NoMove` exactly if no legal move agrees.
 /// - `Ambiguous` exactly if two or more agree.
+///
+/// # Examples
+///
+/// ```
+/// use chess_rules::{Position, Probes, Square};
+/// use chess_text::{SanFault, read_form, resolve};
+///
+/// let position = Position::initial();
+/// let mut probes = Probes::new();
+/// let form = read_form(b"Nf3").unwrap();
+/// let played = resolve(&position, &form, &mut probes).unwrap();
+/// assert_eq!(played.mv.from, Square::new(6, 0).unwrap());
+/// let form = read_form(b"Nd2").unwrap();
+/// assert_eq!(resolve(&position, &form, &mut probes).err(), Some(SanFault::NoMove));
+/// ```
 pub fn resolve(position: &Position, form: &Form, probes: &mut Probes) -> Result<Played, SanFault>
     requires { probes.old + 8 < 2 ^ 32 }
     ensures answer { result ≡ spec.reads position.now form.now }

@@ -1,7 +1,7 @@
 use Rattle.std.proofs.Common.{sym, ◌∙◌}
 use Rattle.chess_text.specs.Reads.{man_fits}
 use Rattle.chess_text.proofs.CastleForms.{played_none}
-use Rattle.chess_text.proofs.resolve.try_man.Goals as goal
+use Rattle.chess_text.proofs.resolution.try_man.Goals as goal
 
 pub returns-in_default-clause-played : goal.returns-in_default-clause-played
 returns-in_default-clause-played c =
