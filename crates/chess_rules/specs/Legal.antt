@@ -10,7 +10,8 @@ use Rattle.chess_rules.specs.Board.{other}
 use Rattle.chess_rules.specs.Attacks.{king_attacked}
 use Rattle.chess_rules.specs.Step.{step}
 
--- the side that moved has left its king safe: the parts q after a step have the other side to move
+-- The king of the side that moved is not attacked. q is the position after a step, so the other
+-- side is to move in it.
 abbrev pub king_is_safe : Parts → Bool
 king_is_safe q = not (king_attacked q.board (other q.side))
 

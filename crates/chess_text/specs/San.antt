@@ -121,8 +121,10 @@ piece_pairs (Some x) p m = kind_pairs x.kind p m
 abbrev pub apart_pairs : Parts → Move → ℕ
 apart_pairs p m = piece_pairs (at p.board m.from) p m
 
--- From n pairs tried to m: none without check. On check as many as `has_legal_move` tries: at most
--- 1,024, and on mate one for each kind, target and candidate.
+-- How many pairs are tried for the mark: their count is n before and m after it, and q is the
+-- position after the move. If the move does not give check, no pair is tried. If it does, as many
+-- are tried as by `has_legal_move`: at most 1,024, and on mate one for each kind, target and
+-- candidate.
 pub record MarkPairs (q : Parts) (n m : ℕ) : Type 0 where
   pub rises : n ≤ m
   pub most : m ≤ n + 1024

@@ -44,14 +44,14 @@ same_kind _ _ = false
 abbrev pub same_token : Token → Token → Bool
 same_token s t = (s.at == t.at) && same_kind s.kind t.kind
 
--- their longest common prefix
+-- the longest common prefix of two lists of tokens
 abbrev pub common : List Token → List Token → List Token
 common [] us = []
 common (t ∷ ts) [] = []
 common (t ∷ ts) (u ∷ us) = elim (same_token t u) [ true ↦ t ∷ common ts us | false ↦ [] ]
 
--- The tokens that the tokens of six texts all begin with: u alone, and u with one of five ends
--- after it, which are `1`, `!`, `""`, BF and BB BF.
+-- The tokens that u decides. Six texts are compared: u itself, and u followed by `1`, by `!`, by
+-- `""`, by the byte BF and by the bytes BB BF. The tokens of all six begin with these tokens.
 abbrev pub decided : List ℕ → List Token
 decided u =
     common (tokens_of u) (
@@ -60,6 +60,6 @@ decided u =
     common (tokens_of (u ++ 34 ∷ 34 ∷ [])) (
     common (tokens_of (u ++ 191 ∷ [])) (tokens_of (u ++ 187 ∷ 191 ∷ []))))))
 
--- what is decided once the byte b has come, of the tokens placed before it
+-- the tokens that u and the byte b after it decide, without those that begin at b or later
 abbrev pub known : List ℕ → ℕ → List Token
 known u b = take_while (λ t. nat_lt t.at (length u)) (decided (u ++ b ∷ []))

@@ -154,13 +154,13 @@ pub data StopsAtEnd (u : List ℕ) (before after : Option (List Event)) : Unspli
   at_fault : (f : Fault) → IsSplit u f before after → StopsAtEnd u before after (Refused f)
   cut_file : (why : Unsplit) → CutsFile u why before after → StopsAtEnd u before after why
 
--- once the file is closed that is open, if one is
+-- P holds of the log `after`, to which the closing of the open file was added, if one is open
 abbrev pub OnceClosed : {A : Type 0} → (A → Option (List ℕ)) → (A → ℕ) → Option (List Event) → Option A
     → (Option (List Event) → Type 0) → Type 0
 OnceClosed taken failures log file P =
     (after : Option (List Event)) → after ≡ added log (closing taken failures file) → P after
 
--- what a piece comes to that was fed after the bytes u, and the end after them
+-- The result of feeding a piece after the bytes u: it is split too, or the split stops in it.
 abbrev pub AfterPiece : {A : Type 0} → (A → Option (List ℕ)) → (A → ℕ) → List ℕ → List ℕ → Converter
     → Result Unit Unsplit → Option (List Event) → Option (List Event) → Option A → ℕ → Type 0
 AfterPiece taken failures u piece new (Ok done) before log file count =
@@ -168,11 +168,12 @@ AfterPiece taken failures u piece new (Ok done) before log file count =
 AfterPiece taken failures u piece new (Err why) before log file count =
     OnceClosed taken failures log file (λ after. StopsOn u piece before after why)
 
+-- the result of the end after the bytes u, which are then the whole text
 abbrev pub AfterLast : List ℕ → Result Unit Unsplit → Option (List Event) → Option (List Event) → Type 0
 AfterLast u (Ok done) before after = IsSplitWhole u before after
 AfterLast u (Err why) before after = StopsAtEnd u before after why
 
--- so wherever the files before began
+-- A call fed a piece: this holds for all bytes u and all earlier files that fit its state.
 abbrev pub SplitsPiece : {A : Type 0} → (A → Option (List ℕ)) → (A → ℕ) → Converter → List ℕ → Converter
     → Result Unit Unsplit → (log : Option (List Event)) (file : Option A) (count : ℕ)
     → (log_after : Option (List Event)) (file_after : Option A) (count_after : ℕ) → Type 0
@@ -180,6 +181,7 @@ SplitsPiece taken failures old piece new result log file count log_after file_af
     (u : List ℕ) (before : Option (List Event)) → SplitSoFar taken u [] old before log file count
     → AfterPiece taken failures u piece new result before log_after file_after count_after
 
+-- a call fed the first `at` bytes of a piece, and no byte of them is rejected
 abbrev pub SplitsOn : {A : Type 0} → (A → Option (List ℕ)) → Converter → List ℕ → ℕ → Converter
     → (log : Option (List Event)) (file : Option A) (count : ℕ)
     → (log_after : Option (List Event)) (file_after : Option A) (count_after : ℕ) → Type 0
@@ -187,6 +189,7 @@ SplitsOn taken old piece at new log file count log_after file_after count_after 
     (u : List ℕ) (before : Option (List Event)) → SplitSoFar taken u [] old before log file count
     → SplitSoFar taken (u ++ take at piece) (drop at piece) new before log_after file_after count_after
 
+-- a call finished the text
 abbrev pub SplitsLast : {A : Type 0} → (A → Option (List ℕ)) → (A → ℕ) → Converter → Result Unit Unsplit
     → (log : Option (List Event)) (file : Option A) (count : ℕ)
     → (log_after : Option (List Event)) (file_after : Option A) → Type 0
@@ -194,7 +197,7 @@ SplitsLast taken failures old result log file count log_after file_after =
     (u : List ℕ) (before : Option (List Event)) → SplitSoFar taken u [] old before log file count
     → OnceClosed taken failures log_after file_after (λ after. AfterLast u result before after)
 
--- what was read of a source so far, and split
+-- The bytes that were read from a source so far, and their split.
 pub record ReadSoFar {A : Type 0} (taken : A → Option (List ℕ)) (left_old left_now : Option (List ℕ)) (c : Converter)
     (before log : Option (List Event)) (file : Option A) (count : ℕ) : Type 0 where
   pub bytes : List ℕ
