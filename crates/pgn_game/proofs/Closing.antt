@@ -1,6 +1,6 @@
 -- What putting a marker comes to, and a token of movetext whose section cannot be written.
 use Rattle.std.proofs.Common.{◌≡◌, ℕ, List, [], ◌∷◌, ◌++◌, length, drop, Option, Bor, refl, sym, ap, subst, ◌∙◌, append_assoc, length-append, arith}
-use Rattle.std.specs.Prelude.{IsTrue, codes, Ok, Err, All}
+use Rattle.std.specs.Prelude.{IsTrue, Ok, Err, All}
 use Rattle.std.proofs.Math.Seq.{drop-append-add, drop-append_seam}
 use Rattle.std.proofs.KnownBytes.{Appends-trans}
 use Rattle.std.specs.Io.KnownBytes.{Appends}
@@ -17,7 +17,7 @@ use Rattle.pgn_game.specs.declared.judged.Entry.TheVariants.{Number, Item as Put
 use Rattle.pgn_game.specs.declared.mode.Mode.{Mode}
 use Rattle.pgn_game.specs.declared.stage.Stage.{Stage}
 use Rattle.pgn_game.specs.declared.stage.Stage.TheVariants.{Between, AfterLeftBracket, AfterName, AfterValue, AfterTags, InMovetext}
-use Rattle.pgn_game.specs.Profile.{Profile, Missing, counts_as_unknown}
+use Rattle.pgn_game.specs.Profile.{Profile, Missing, counts_as, known_result}
 use Rattle.pgn_game.specs.Pairs.{Pair}
 use Rattle.pgn_game.specs.Game.{Item, Part}
 use Rattle.pgn_game.specs.Levels.{Level as ModelLevel, Levels as ModelLevels, depth, start_of, outermost, replayed, last_position}
@@ -29,7 +29,7 @@ use Rattle.pgn_game.specs.Movetext.{HeldLevel}
 use Rattle.pgn_game.specs.Reading.{Reading, IsBehind, plies_behind}
 use Rattle.pgn_game.specs.Judging.{EntryFits, IsOpen, after_entry, game_of, may_have_movetext, item_of}
 use Rattle.pgn_game.specs.Putting.{Device}
-use Rattle.pgn_game.specs.Handling.{BeginsText, Puts, gain_to, section_due}
+use Rattle.pgn_game.specs.Handling.{BeginsText, Puts, gain_to, section_due, section_due_of}
 use Rattle.pgn_game.proofs.Appending.{front_of_more, front_after}
 use Rattle.pgn_game.proofs.Adding.{from_to}
 use Rattle.pgn_game.proofs.Items.{game_ends}
@@ -54,39 +54,40 @@ part_at stage ps name items = record { stage = stage; pairs = ps; name = name; i
 nothing_full : (mode : Mode) (ps : List Pair) (items : List Item) (rest : List ℕ) → items ≡ [] → full_text mode (start_of ps) items ++ rest ≡ rest
 nothing_full mode ps items rest none = ap (λ (l : List ℕ). l ++ rest) (ap (λ (is : List Item). full_text mode (start_of ps) is) none ∙ no_text mode (start_of ps))
 
-gain_at : (mode : Mode) (stage : Stage) (ps : List Pair) (name : List ℕ) (items : List Item) (lines rest : List ℕ) → IsTrue (may_have_movetext stage) → (stage ≡ AfterTags → items ≡ [])
+gain_at : (mode : Mode) (result : List ℕ) (stage : Stage) (ps : List Pair) (name : List ℕ) (items : List Item) (lines rest : List ℕ) → IsTrue (may_have_movetext stage) → (stage ≡ AfterTags → items ≡ [])
     → lines ≡ full_text mode (start_of ps) items ++ rest
-    → drop (length (torn_at stage mode (part_at stage ps name items))) (tag_section mode (codes "*") ps ++ lines) ≡ section_due stage mode ps ++ rest
-gain_at mode Between ps name items lines rest at fresh is = absurd (cc)
-gain_at mode AfterLeftBracket ps name items lines rest at fresh is = absurd (cc)
-gain_at mode AfterName ps name items lines rest at fresh is = absurd (cc)
-gain_at mode AfterValue ps name items lines rest at fresh is = absurd (cc)
-gain_at mode AfterTags ps name items lines rest at fresh is = ap (λ l. tag_section mode (codes "*") ps ++ l) (is ∙ nothing_full mode ps items rest (fresh refl))
-gain_at mode InMovetext ps name items lines rest at fresh is =
-    let section = tag_section mode (codes "*") ps in
+    → drop (length (torn_at stage mode result (part_at stage ps name items))) (tag_section mode result ps ++ lines) ≡ section_due stage mode result ps ++ rest
+gain_at mode result Between ps name items lines rest at fresh is = absurd (cc)
+gain_at mode result AfterLeftBracket ps name items lines rest at fresh is = absurd (cc)
+gain_at mode result AfterName ps name items lines rest at fresh is = absurd (cc)
+gain_at mode result AfterValue ps name items lines rest at fresh is = absurd (cc)
+gain_at mode result AfterTags ps name items lines rest at fresh is = ap (λ l. tag_section mode result ps ++ l) (is ∙ nothing_full mode ps items rest (fresh refl))
+gain_at mode result InMovetext ps name items lines rest at fresh is =
+    let section = tag_section mode result ps in
     let full = full_text mode (start_of ps) items in
     ap (λ n. drop n (section ++ lines)) (length-append section full) ∙ drop-append-add section lines (length full)
     ∙ ap (drop (length full)) is ∙ drop-append_seam full rest
 
-gain_of : (p : Profile) (part : Part) (marker : List ℕ) → p.missing_result ≡ counts_as_unknown → IsTrue (may_have_movetext part.stage) → (part.stage ≡ AfterTags → part.items ≡ [])
+gain_of : (p : Profile) (part : Part) (marker : List ℕ) → p.missing_result ≡ counts_as (known_result p.missing_result) → IsTrue (may_have_movetext part.stage) → (part.stage ≡ AfterTags → part.items ≡ [])
     → All IsToken (tokens_out p.mode (start_of part.pairs) part.items) → IsToken marker
-    → gain_to p part (whole (game_of part marker)) ≡ section_due part.stage p.mode part.pairs ++ ending (line_of p.mode part.pairs part.items) marker
-gain_of p part marker unknown at fresh each token =
+    → gain_to p part (whole (game_of part marker)) ≡ section_due part.stage p.mode (known_result p.missing_result) part.pairs ++ ending (line_of p.mode part.pairs part.items) marker
+gain_of p part marker known at fresh each token =
+    let result = known_result p.missing_result in
     let lines = text_of_lines (lines_of (tokens_out p.mode (start_of part.pairs) part.items ++ marker ∷ [])) in
     let ts = tokens_out p.mode (start_of part.pairs) part.items in
-    ap (λ (m : Missing). drop (length (torn_for m p.mode part)) (tag_section p.mode (result_for m marker) part.pairs ++ lines ++ 10 ∷ [])) unknown
-    ∙ ap (drop (length (torn_for counts_as_unknown p.mode part))) (append_assoc (tag_section p.mode (codes "*") part.pairs) lines (10 ∷ []))
-    ∙ gain_at p.mode part.stage part.pairs part.name part.items (game_lines p.mode part.pairs part.items marker) (ending (line_of p.mode part.pairs part.items) marker) at fresh
+    ap (λ (m : Missing). drop (length (torn_for m p.mode part)) (tag_section p.mode (result_for m marker) part.pairs ++ lines ++ 10 ∷ [])) known
+    ∙ ap (drop (length (torn_for (counts_as result) p.mode part))) (append_assoc (tag_section p.mode result part.pairs) lines (10 ∷ []))
+    ∙ gain_at p.mode result part.stage part.pairs part.name part.items (game_lines p.mode part.pairs part.items marker) (ending (line_of p.mode part.pairs part.items) marker) at fresh
     (game_ends ts marker each token
     ∙ append_assoc (text_of_lines (full_lines (lines_of ts))) (text_at (last_line (lines_of ts)) (Put marker)) (text_at (line_at (last_line (lines_of ts)) (Put marker)) EndGame))
 
 -- what is due for a marker, of a reader that holds the part
-due_is : (old : Reading) (part : Part) (marker : List ℕ) → old.profile.missing_result ≡ counts_as_unknown → IsTrue (may_have_movetext old.stage) → IsToken marker → IsOpen old part
-    → section_due old.stage old.profile.mode old.tags.held ++ ending old.layout.line marker ≡ gain_to old.profile part (whole (game_of part marker))
-due_is old part marker unknown at token is =
+due_is : (old : Reading) (part : Part) (marker : List ℕ) → old.profile.missing_result ≡ counts_as (known_result old.profile.missing_result) → IsTrue (may_have_movetext old.stage) → IsToken marker → IsOpen old part
+    → section_due_of old ++ ending old.layout.line marker ≡ gain_to old.profile part (whole (game_of part marker))
+due_is old part marker known at token is =
     ap (λ (l : List ℕ). l ++ ending old.layout.line marker) (section_is old part is)
-    ∙ ap (λ (l : Layout). section_due part.stage old.profile.mode part.pairs ++ ending l.line marker) is.held.line
-    ∙ sym (gain_of old.profile part marker unknown (open_stage old part is at) (λ e. is.fresh (is.stage ∙ e)) is.held.tokens token)
+    ∙ ap (λ (l : Layout). section_due part.stage old.profile.mode (known_result old.profile.missing_result) part.pairs ++ ending l.line marker) is.held.line
+    ∙ sym (gain_of old.profile part marker known (open_stage old part is at) (λ e. is.fresh (is.stage ∙ e)) is.held.tokens token)
 
 -- At depth 0 the moves that lead here are those outside variations.
 at_depth_0 : (ls : ModelLevels) (around : List ModelLevel) → ls.around ≡ around → length around ≡ 0 → (outermost ls.present ls.around).trail ≡ ls.present.trail
@@ -118,11 +119,11 @@ rest_of old part Number = lines_gain old.profile.mode part.pairs part.items []
 rest_of old part (PutItem i) = lines_gain old.profile.mode part.pairs part.items (item_of i ∷ [])
 rest_of old part (Marker marker) = ending old.layout.line marker.now
 
-entry_gain : (levels : ℕ) (old : Reading) (part : Part) (e : Entry) → EntryFits levels old.text e → old.profile.missing_result ≡ counts_as_unknown → IsTrue (may_have_movetext old.stage)
-    → IsOpen old part → section_due old.stage old.profile.mode old.tags.held ++ rest_of old part e ≡ gain_to old.profile part (after_entry e part)
-entry_gain levels old part Number fits unknown at is = gain_is old part [] unknown at is
-entry_gain levels old part (PutItem i) fits unknown at is = gain_is old part (item_of i ∷ []) unknown at is
-entry_gain levels old part (Marker marker) fits unknown at is = due_is old part marker.now unknown at fits.0 is
+entry_gain : (levels : ℕ) (old : Reading) (part : Part) (e : Entry) → EntryFits levels old.text e → old.profile.missing_result ≡ counts_as (known_result old.profile.missing_result) → IsTrue (may_have_movetext old.stage)
+    → IsOpen old part → section_due_of old ++ rest_of old part e ≡ gain_to old.profile part (after_entry e part)
+entry_gain levels old part Number fits known at is = gain_is old part [] known at is
+entry_gain levels old part (PutItem i) fits known at is = gain_is old part (item_of i ∷ []) known at is
+entry_gain levels old part (Marker marker) fits known at is = due_is old part marker.now known at fits.0 is
 
 -- The section could not be written.
 pub puts_unbegun : (levels : ℕ) (old new : Reading) (e : Entry) (f : WriteFault) (d : Device) → IsTrue (may_have_movetext old.stage) → EntryFits levels old.text e
@@ -131,7 +132,7 @@ puts_unbegun levels old new e f d at fits begins =
     unwritten old new (InText e) d (record { profile = begins.profile; plies = omega (arith, begins.earlier, begins.plies); probes = omega (arith, begins.probes) })
     begins.counted (λ part agrees.
     let is = open_agrees old part agrees at in
-    subst (AppendsFront d.before d.after) (entry_gain levels old part e fits begins.unknown at is) (front_of_more d.before d.after _ (rest_of old part e) begins.text))
+    subst (AppendsFront d.before d.after) (entry_gain levels old part e fits begins.known at is) (front_of_more d.before d.after _ (rest_of old part e) begins.text))
 
 -- How the game ends, once its section is written.
 pub record EndsText (old begun : Reading) (marker : List ℕ) (a b : Option (List ℕ)) (n m : ℕ) : Type 0 where
@@ -158,8 +159,8 @@ ends_well old begun new marker a b d c n m k ends put last rest empty counted =
             leads = subst (λ (r : Reading). IsBehind r (game_of part marker.now)) (sym same) (behind old part marker.now ends.outside is);
             plies = ap (λ (s : Stage). plies_behind s new.earlier_plies new.text.plies) (ap (λ (r : Reading). r.stage) same)
                 ∙ omega (arith, earlier, plies, is.held.plies, plies_before old ends.at);
-            appended = subst (Appends a c) (ap (λ (l : List ℕ). section_due old.stage old.profile.mode old.tags.held ++ ending l marker.now) (of_line old begun ends.begins.begun)
-                ∙ due_is old part marker.now ends.begins.unknown ends.at ends.token is)
+            appended = subst (Appends a c) (ap (λ (l : List ℕ). section_due_of old ++ ending l marker.now) (of_line old begun ends.begins.begun)
+                ∙ due_is old part marker.now ends.begins.known ends.at ends.token is)
                 (Appends-trans a b c _ _ ends.begins.text (Appends-trans b d c _ _ put last));
           };
       keeps = record {
@@ -187,6 +188,6 @@ ends_ill old begun new marker a b c n m k ends front rest counted =
     })
     (counted ∙ ap one_more begins.counted) (λ part agrees.
     let is = open_agrees old part agrees ends.at in
-    subst (AppendsFront a c) (ap (λ (l : List ℕ). section_due old.stage old.profile.mode old.tags.held ++ ending l marker.now) (of_line old begun begins.begun)
-    ∙ due_is old part marker.now begins.unknown ends.at ends.token is)
+    subst (AppendsFront a c) (ap (λ (l : List ℕ). section_due_of old ++ ending l marker.now) (of_line old begun begins.begun)
+    ∙ due_is old part marker.now begins.known ends.at ends.token is)
     (front_after a b c _ _ begins.text front))

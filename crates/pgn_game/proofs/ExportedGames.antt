@@ -20,7 +20,7 @@ use Rattle.pgn_game.specs.FixedPoint.{HasRoom}
 use Rattle.pgn_game.specs.Game.{Game}
 use Rattle.pgn_game.specs.Levels.{start_of, start_by, position_or_first}
 use Rattle.pgn_game.specs.Pairs.{Pair, value_of, has_pair}
-use Rattle.pgn_game.specs.Profile.{Profile, Missing, counts_as_unknown, takes_the_marker}
+use Rattle.pgn_game.specs.Profile.{Profile, Missing, counts_as, takes_the_marker}
 use Rattle.pgn_game.specs.Spells.{KeepsTags, IsPair, by_name, IsResult}
 use Rattle.pgn_game.specs.TagSection.{roster, roster_pairs, with_set_up, other_pairs, exported}
 use Rattle.pgn_game.proofs.EachOf.{all_append}
@@ -37,8 +37,8 @@ use Rattle.std.proofs.Common.{arith}
 -- The Result that is exported where it is missing.
 same_result : (missing : Missing) (o : Option (List ℕ)) (m : List ℕ) → IsResult missing o m → unwrap_or o (result_for missing m) ≡ unwrap_or o m
 same_result takes_the_marker o m is = refl
-same_result counts_as_unknown (Some v) m is = refl
-same_result counts_as_unknown None m is = sym is
+same_result (counts_as text) (Some v) m is = refl
+same_result (counts_as text) None m is = sym is
 
 roster_result : (r m : List ℕ) (ps : List Pair) → unwrap_or (value_of ps (codes "Result")) r ≡ unwrap_or (value_of ps (codes "Result")) m → roster_pairs r ps ≡ roster_pairs m ps
 unfolding roster

@@ -106,14 +106,14 @@ or_seven false false false false false true g = refl
 or_seven false false false false false false true = refl
 or_seven false false false false false false false = refl
 
-in_roster_any : (name : List ℕ) → in_roster name ≡ any_named name (roster (42 ∷ []))
+in_roster_any : (result : List ℕ) (name : List ℕ) → in_roster name ≡ any_named name (roster result)
 unfolding roster
-in_roster_any name =
+in_roster_any result name =
     or_seven (bytes_eq name (codes "Event")) (bytes_eq name (codes "Site")) (bytes_eq name (codes "Date")) (bytes_eq name (codes "Round"))
     (bytes_eq name (codes "White")) (bytes_eq name (codes "Black")) (bytes_eq name (codes "Result"))
 
-in_roster-value : (name : List ℕ) → in_roster name ≡ is_some (value_of (roster (42 ∷ [])) name)
-in_roster-value name = in_roster_any name ∙ any_named-value name (roster (42 ∷ []))
+in_roster-value : (result : List ℕ) (name : List ℕ) → in_roster name ≡ is_some (value_of (roster result) name)
+in_roster-value result name = in_roster_any result name ∙ any_named-value name (roster result)
 
 -- pairs that a name is not one of do not change its value
 skip_pick : (p name : List ℕ) (v : List ℕ) (b r : Bool) (o q : Option (List ℕ)) → r ≡ in_roster p → (b ≡ true → p ≡ name) → in_roster name ≡ false → o ≡ q
@@ -201,30 +201,30 @@ no_set_up ps name e =
     ]
 
 -- A name of the roster has its value in the section, or what stands for it
-exported_roster : (mode : Mode) (ps : List Pair) (name unknown : List ℕ) → value_of (roster (42 ∷ [])) name ≡ Some unknown
-    → value_of (exported mode (42 ∷ []) ps) name ≡ Some (unwrap_or (value_of ps name) unknown)
-exported_roster Reduced ps name unknown e = value_of-defaults ps (roster (42 ∷ [])) name ∙ ap (defaulted (value_of ps name)) e
-exported_roster Full ps name unknown e =
-    value_of-append (roster_pairs (42 ∷ []) ps) (other_pairs (with_set_up ps)) name
-    ∙ ap (λ o. either_of o (value_of (other_pairs (with_set_up ps)) name)) (value_of-defaults ps (roster (42 ∷ [])) name ∙ ap (defaulted (value_of ps name)) e)
+exported_roster : (result : List ℕ) (mode : Mode) (ps : List Pair) (name unknown : List ℕ) → value_of (roster result) name ≡ Some unknown
+    → value_of (exported mode result ps) name ≡ Some (unwrap_or (value_of ps name) unknown)
+exported_roster result Reduced ps name unknown e = value_of-defaults ps (roster result) name ∙ ap (defaulted (value_of ps name)) e
+exported_roster result Full ps name unknown e =
+    value_of-append (roster_pairs result ps) (other_pairs (with_set_up ps)) name
+    ∙ ap (λ o. either_of o (value_of (other_pairs (with_set_up ps)) name)) (value_of-defaults ps (roster result) name ∙ ap (defaulted (value_of ps name)) e)
 
 -- another name has in full mode what the pairs with SetUp have
-exported_other : (ps : List Pair) (name : List ℕ) → value_of (roster (42 ∷ [])) name ≡ None
-    → value_of (exported Full (42 ∷ []) ps) name ≡ value_of (with_set_up ps) name
-exported_other ps name e =
-    value_of-append (roster_pairs (42 ∷ []) ps) (other_pairs (with_set_up ps)) name
-    ∙ ap (λ o. either_of o (value_of (other_pairs (with_set_up ps)) name)) (value_of-defaults ps (roster (42 ∷ [])) name ∙ ap (defaulted (value_of ps name)) e)
-    ∙ value_of-others (with_set_up ps) name (in_roster-value name ∙ ap is_some e)
+exported_other : (result : List ℕ) (ps : List Pair) (name : List ℕ) → value_of (roster result) name ≡ None
+    → value_of (exported Full result ps) name ≡ value_of (with_set_up ps) name
+exported_other result ps name e =
+    value_of-append (roster_pairs result ps) (other_pairs (with_set_up ps)) name
+    ∙ ap (λ o. either_of o (value_of (other_pairs (with_set_up ps)) name)) (value_of-defaults ps (roster result) name ∙ ap (defaulted (value_of ps name)) e)
+    ∙ value_of-others (with_set_up ps) name (in_roster-value result name ∙ ap is_some e)
 
-roster_without_set_up : value_of (roster (42 ∷ [])) (codes "SetUp") ≡ None
+roster_without_set_up : (result : List ℕ) → value_of (roster result) (codes "SetUp") ≡ None
 unfolding roster
-roster_without_set_up = refl
+roster_without_set_up result = refl
 
 -- SetUp is not of the roster
-other_than_set_up : (name unknown : List ℕ) (b : Bool) → value_of (roster (42 ∷ [])) name ≡ Some unknown → bytes_eq name (codes "SetUp") ≡ b → b ≡ false
-other_than_set_up name unknown false e is = refl
-other_than_set_up name unknown true e is =
-    let none : None ≡ Some unknown = sym roster_without_set_up ∙ ap (value_of (roster (42 ∷ []))) (sym (bytes_eq-true name (codes "SetUp") is)) ∙ e in
+other_than_set_up : (result : List ℕ) (name unknown : List ℕ) (b : Bool) → value_of (roster result) name ≡ Some unknown → bytes_eq name (codes "SetUp") ≡ b → b ≡ false
+other_than_set_up result name unknown false e is = refl
+other_than_set_up result name unknown true e is =
+    let none : None ≡ Some unknown = sym (roster_without_set_up result) ∙ ap (value_of (roster result)) (sym (bytes_eq-true name (codes "SetUp") is)) ∙ e in
     absurd (cc)
 
 either_unknown : (value : Option (List ℕ)) (unknown : List ℕ) → Some (unwrap_or value unknown) ≡ either_of value (Some unknown)
@@ -235,20 +235,20 @@ either_none : (value : Option (List ℕ)) → value ≡ either_of value None
 either_none (Some v) = refl
 either_none None = refl
 
-exported_by : (mode : Mode) (ps : List Pair) (name : List ℕ) (unknown : Option (List ℕ)) → value_of (roster (42 ∷ [])) name ≡ unknown → (unknown ≡ None → mode ≡ Reduced → ⊥)
-    → value_of (exported mode (42 ∷ []) ps) name ≡ either_of (value_of (with_set_up ps) name) unknown
-exported_by mode ps name (Some u) e some =
-    exported_roster mode ps name u e
-    ∙ ap (λ o. Some (unwrap_or o u)) (sym (no_set_up ps name (other_than_set_up name u (bytes_eq name (codes "SetUp")) e refl)))
+exported_by : (result : List ℕ) (mode : Mode) (ps : List Pair) (name : List ℕ) (unknown : Option (List ℕ)) → value_of (roster result) name ≡ unknown → (unknown ≡ None → mode ≡ Reduced → ⊥)
+    → value_of (exported mode result ps) name ≡ either_of (value_of (with_set_up ps) name) unknown
+exported_by result mode ps name (Some u) e some =
+    exported_roster result mode ps name u e
+    ∙ ap (λ o. Some (unwrap_or o u)) (sym (no_set_up ps name (other_than_set_up result name u (bytes_eq name (codes "SetUp")) e refl)))
     ∙ either_unknown (value_of (with_set_up ps) name) u
-exported_by Full ps name None e some = exported_other ps name e ∙ either_none (value_of (with_set_up ps) name)
-exported_by Reduced ps name None e some = absurd (some refl refl)
+exported_by result Full ps name None e some = exported_other result ps name e ∙ either_none (value_of (with_set_up ps) name)
+exported_by result Reduced ps name None e some = absurd (some refl refl)
 
 -- what a name has in the section: its value with SetUp, or what stands for it in the roster
-pub exported_either : (mode : Mode) (ps : List Pair) (name : List ℕ) → (value_of (roster (42 ∷ [])) name ≡ None → mode ≡ Reduced → ⊥)
-    → value_of (exported mode (42 ∷ []) ps) name ≡ either_of (value_of (with_set_up ps) name) (value_of (roster (42 ∷ [])) name)
-exported_either mode ps name some = exported_by mode ps name (value_of (roster (42 ∷ [])) name) refl some
+pub exported_either : (result : List ℕ) (mode : Mode) (ps : List Pair) (name : List ℕ) → (value_of (roster result) name ≡ None → mode ≡ Reduced → ⊥)
+    → value_of (exported mode result ps) name ≡ either_of (value_of (with_set_up ps) name) (value_of (roster result) name)
+exported_either result mode ps name some = exported_by result mode ps name (value_of (roster result) name) refl some
 
 -- and none in reduced mode, where the roster has it not
-pub exported_none : (ps : List Pair) (name : List ℕ) → value_of (roster (42 ∷ [])) name ≡ None → value_of (exported Reduced (42 ∷ []) ps) name ≡ None
-exported_none ps name e = value_of-defaults ps (roster (42 ∷ [])) name ∙ ap (defaulted (value_of ps name)) e
+pub exported_none : (result : List ℕ) (ps : List Pair) (name : List ℕ) → value_of (roster result) name ≡ None → value_of (exported Reduced result ps) name ≡ None
+exported_none result ps name e = value_of-defaults ps (roster result) name ∙ ap (defaulted (value_of ps name)) e

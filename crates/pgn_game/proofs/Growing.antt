@@ -7,7 +7,7 @@ use Rattle.pgn_lexer.specs.Tokens.{Kind, Token}
 use Rattle.pgn_game.specs.declared.reason.Reason.{Reason}
 use Rattle.pgn_game.specs.declared.reason.Fault.{Fault}
 use Rattle.pgn_game.specs.declared.mode.Mode.{Mode}
-use Rattle.pgn_game.specs.Profile.{Profile, Missing, counts_as_unknown, takes_the_marker}
+use Rattle.pgn_game.specs.Profile.{Profile, Missing, counts_as, takes_the_marker}
 use Rattle.pgn_game.specs.Game.{Game, Part, no_part}
 use Rattle.pgn_game.specs.FaultTable.{refusal}
 use Rattle.pgn_game.specs.Text.{game_text, text_of, torn, torn_for}
@@ -69,7 +69,7 @@ text_of-snoc p (x ∷ xs) g = ap (λ l. game_text p x ++ l) (text_of-snoc p xs g
 
 -- where no game is begun, nothing stands written of one
 pub torn-none : (missing : Missing) (mode : Mode) → torn_for missing mode no_part ≡ []
-torn-none counts_as_unknown mode = refl
+torn-none (counts_as text) mode = refl
 torn-none takes_the_marker mode = refl
 
 -- what is written when a token has led so far

@@ -12,7 +12,7 @@ use Rattle.pgn_lexer.specs.declared.token.TokenKind.{TokenKind}
 use Rattle.pgn_lexer.specs.declared.token.TokenKind.TheVariants as variants
 use Rattle.pgn_game.specs.declared.reason.Reason.{Reason}
 use Rattle.pgn_game.specs.declared.reason.Reason.TheVariants.{NotAMove, IllegalMove, AmbiguousMove, MoveLimit, MarkerInVariation, ResultDiffers}
-use Rattle.pgn_game.specs.Profile.{Profile, Missing, counts_as_unknown}
+use Rattle.pgn_game.specs.Profile.{Profile, Missing, counts_as}
 use Rattle.pgn_game.specs.Chess.{move_of}
 use Rattle.pgn_game.specs.Pairs.{Pair, value_of}
 use Rattle.pgn_game.specs.Game as games
@@ -216,34 +216,35 @@ marker_refusal p part (variants.Word t) marker is = absurd (cc)
 marker_refusal p part variants.CommentClose marker is = absurd (cc)
 marker_refusal p part variants.End marker is = absurd (cc)
 
--- whether a marker differs from the value for Result, or from `*`
-abbrev pub differs : Option (List ℕ) → List ℕ → Bool
-differs value marker = not (bytes_eq marker (unwrap_or value (codes "*")))
+-- whether a marker differs from the value for Result, or else from this text
+abbrev pub differs : List ℕ → Option (List ℕ) → List ℕ → Bool
+differs missing value marker = not (bytes_eq marker (unwrap_or value missing))
 
-other_is : (p : Profile) (ps : List Pair) (marker : List ℕ) → p.missing_result ≡ counts_as_unknown → other_if p.missing_result ps (Some marker) ≡ differs (value_of ps (codes "Result")) marker
-other_is p ps marker unknown = ap (λ (m : Missing). other_if m ps (Some marker)) unknown
+other_is : (p : Profile) (ps : List Pair) (missing marker : List ℕ) → p.missing_result ≡ counts_as missing
+    → other_if p.missing_result ps (Some marker) ≡ differs missing (value_of ps (codes "Result")) marker
+other_is p ps missing marker known = ap (λ (m : Missing). other_if m ps (Some marker)) known
 
-marker_tested : (p : Profile) (part : Part) (marker : List ℕ) (inside other : Bool) → nat_le 1 (depth (levels_in part)) ≡ inside → p.missing_result ≡ counts_as_unknown
-    → differs (value_of part.pairs (codes "Result")) marker ≡ other
+marker_tested : (p : Profile) (part : Part) (missing marker : List ℕ) (inside other : Bool) → nat_le 1 (depth (levels_in part)) ≡ inside → p.missing_result ≡ counts_as missing
+    → differs missing (value_of part.pairs (codes "Result")) marker ≡ other
     → marker_rows p part marker ≡ or_else inside MarkerInVariation (or_else (other && (depth (levels_in part) == 0)) ResultDiffers None)
-marker_tested p part marker inside other within unknown test =
+marker_tested p part missing marker inside other within known test =
     ap (λ (b : Bool). or_else b MarkerInVariation (or_else (other_if p.missing_result part.pairs (Some marker) && (depth (levels_in part) == 0)) ResultDiffers None)) within
-    ∙ ap (λ (b : Bool). or_else inside MarkerInVariation (or_else (b && (depth (levels_in part) == 0)) ResultDiffers None)) (other_is p part.pairs marker unknown ∙ test)
+    ∙ ap (λ (b : Bool). or_else inside MarkerInVariation (or_else (b && (depth (levels_in part) == 0)) ResultDiffers None)) (other_is p part.pairs missing marker known ∙ test)
 
 pub marker_inside : (old : Reading) (k : TokenKind) (marker : List ℕ) (part : Part) → marker_of (kind_of k) ≡ Some marker → nat_le 1 (depth (levels_in part)) ≡ true
     → text_refusal old.profile part (kind_of k) ≡ Some MarkerInVariation
 marker_inside old k marker part is within = marker_refusal old.profile part k marker is ∙ hit _ MarkerInVariation _ within
 
-pub marker_differs : (old : Reading) (k : TokenKind) (marker : List ℕ) (part : Part) → marker_of (kind_of k) ≡ Some marker → depth (levels_in part) ≡ 0 → old.profile.missing_result ≡ counts_as_unknown
-    → differs (value_of part.pairs (codes "Result")) marker ≡ true → text_refusal old.profile part (kind_of k) ≡ Some ResultDiffers
-marker_differs old k marker part is none unknown test =
-    marker_refusal old.profile part k marker is ∙ marker_tested old.profile part marker false true (ap (λ n. nat_le 1 n) none) unknown test
+pub marker_differs : (old : Reading) (k : TokenKind) (missing marker : List ℕ) (part : Part) → marker_of (kind_of k) ≡ Some marker → depth (levels_in part) ≡ 0
+    → old.profile.missing_result ≡ counts_as missing → differs missing (value_of part.pairs (codes "Result")) marker ≡ true → text_refusal old.profile part (kind_of k) ≡ Some ResultDiffers
+marker_differs old k missing marker part is none known test =
+    marker_refusal old.profile part k marker is ∙ marker_tested old.profile part missing marker false true (ap (λ n. nat_le 1 n) none) known test
     ∙ ap (λ n. or_else (n == 0) ResultDiffers None) none
 
-pub marker_free : (old : Reading) (k : TokenKind) (marker : List ℕ) (part : Part) → marker_of (kind_of k) ≡ Some marker → depth (levels_in part) ≡ 0 → old.profile.missing_result ≡ counts_as_unknown
-    → differs (value_of part.pairs (codes "Result")) marker ≡ false → text_refusal old.profile part (kind_of k) ≡ None
-marker_free old k marker part is none unknown test =
-    marker_refusal old.profile part k marker is ∙ marker_tested old.profile part marker false false (ap (λ n. nat_le 1 n) none) unknown test
+pub marker_free : (old : Reading) (k : TokenKind) (missing marker : List ℕ) (part : Part) → marker_of (kind_of k) ≡ Some marker → depth (levels_in part) ≡ 0
+    → old.profile.missing_result ≡ counts_as missing → differs missing (value_of part.pairs (codes "Result")) marker ≡ false → text_refusal old.profile part (kind_of k) ≡ None
+marker_free old k missing marker part is none known test =
+    marker_refusal old.profile part k marker is ∙ marker_tested old.profile part missing marker false false (ap (λ n. nat_le 1 n) none) known test
 
 abbrev leads_to : Part → Kind → Option (List ℕ) → Next
 leads_to part k o = elim o [ Some m ↦ whole (game_of part m) | None ↦ going (with_items part (items_of part k)) ]
@@ -251,18 +252,18 @@ leads_to part k o = elim o [ Some m ↦ whole (game_of part m) | None ↦ going 
 pub marker_whole : (part : Part) (k : Kind) (marker : List ℕ) → marker_of k ≡ Some marker → in_text part k ≡ whole (game_of part marker)
 marker_whole part k marker is = ap (leads_to part k) is
 
--- the test of a reader that knows the unknown value
+-- the test of a reader that has the text of a missing Result
 unwrap_copied : (o : Option (Bor (List ℕ))) (d : Bor (List ℕ)) → (unwrap_or o d).now ≡ unwrap_or (option_copied o) d.now
 unwrap_copied None d = refl
 unwrap_copied (Some x) d = refl
 
-pub test_of : (held : List Pair) (value : Option (Bor (List ℕ))) (d known : Bor (List ℕ)) (marker : List ℕ) (test : Bool) (tags : List Pair) → held ≡ tags
-    → option_copied value ≡ value_of held (codes "Result") → d.now ≡ codes "*" → known ≡ unwrap_or value d → test ≡ not (bytes_eq marker known.now)
-    → differs (value_of tags (codes "Result")) marker ≡ test
-test_of held value d known marker test tags same found star is tested =
+pub test_of : (held : List Pair) (value : Option (Bor (List ℕ))) (d known : Bor (List ℕ)) (missing marker : List ℕ) (test : Bool) (tags : List Pair) → held ≡ tags
+    → option_copied value ≡ value_of held (codes "Result") → d.now ≡ missing → known ≡ unwrap_or value d → test ≡ not (bytes_eq marker known.now)
+    → differs missing (value_of tags (codes "Result")) marker ≡ test
+test_of held value d known missing marker test tags same found text is tested =
     sym (
-    tested ∙ ap (λ (n : List ℕ). not (bytes_eq marker n)) (ap (λ (x : Bor (List ℕ)). x.now) is ∙ unwrap_copied value d ∙ ap (unwrap_or (option_copied value)) star)
-    ∙ ap (λ (o : Option (List ℕ)). differs o marker) (found ∙ ap (λ (ps : List Pair). value_of ps (codes "Result")) same)
+    tested ∙ ap (λ (n : List ℕ). not (bytes_eq marker n)) (ap (λ (x : Bor (List ℕ)). x.now) is ∙ unwrap_copied value d ∙ ap (unwrap_or (option_copied value)) text)
+    ∙ ap (λ (o : Option (List ℕ)). differs missing o marker) (found ∙ ap (λ (ps : List Pair). value_of ps (codes "Result")) same)
     )
 
 pub none_around : {A : Type 0} (ls : List A) → length ls ≡ 0 → ls ≡ []

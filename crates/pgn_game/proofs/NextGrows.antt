@@ -7,7 +7,7 @@ use Rattle.pgn_layout.specs.Lines.{lines_of, text_of as text_of_lines}
 use Rattle.pgn_game.specs.declared.mode.Mode.{Mode}
 use Rattle.pgn_game.specs.declared.stage.Stage.{Stage}
 use Rattle.pgn_game.specs.declared.stage.Stage.TheVariants.{Between, AfterLeftBracket, AfterName, AfterValue, AfterTags, InMovetext}
-use Rattle.pgn_game.specs.Profile.{Profile, Missing, counts_as_unknown, takes_the_marker}
+use Rattle.pgn_game.specs.Profile.{Profile, Missing, counts_as, takes_the_marker}
 use Rattle.pgn_game.specs.Pairs.{Pair}
 use Rattle.pgn_game.specs.Game.{Item, Part}
 use Rattle.pgn_game.specs.Levels.{start_of}
@@ -33,27 +33,27 @@ module _ (tags deepest : ℕ) (mode : Mode) (ps : List Pair) (name : List ℕ) (
   abbrev Grows : Missing → Stage → Kind → Type 0
   Grows missing stage k = IsPrefix (torn (profile missing) (part stage)) (text_next (profile missing) (next_in stage (part stage) k))
 
-  in_movetext_grows : (k : Kind) → Grows counts_as_unknown InMovetext k
-  in_movetext_grows k =
+  in_movetext_grows : (text : List ℕ) (k : Kind) → Grows (counts_as text) InMovetext k
+  in_movetext_grows text k =
       elim (marker_of k)
-      as (λ o. IsPrefix (torn (profile counts_as_unknown) (part InMovetext)) (text_next (profile counts_as_unknown) (elim o [
+      as (λ o. IsPrefix (torn (profile (counts_as text)) (part InMovetext)) (text_next (profile (counts_as text)) (elim o [
         | Some marker ↦ whole (record { pairs = ps; items = items; marker = marker })
         | None ↦ going (record { stage = InMovetext; pairs = ps; name = name; items = items ++ items_of (part InMovetext) k })
       ]))) [
-        | Some marker ↦ subst (IsPrefix (torn (profile counts_as_unknown) (part InMovetext)))
-            (sym (append_assoc (tag_section mode (42 ∷ []) ps) (text_of_lines (lines_of (tokens_out mode (start_of ps) items ++ marker ∷ []))) (10 ∷ [])))
-            (behind (tag_section mode (42 ∷ []) ps) _ _ (full_text_marker mode (start_of ps) items marker))
-        | None ↦ behind (tag_section mode (42 ∷ []) ps) _ _ (full_text_grows mode (start_of ps) items (items_of (part InMovetext) k))
+        | Some marker ↦ subst (IsPrefix (torn (profile (counts_as text)) (part InMovetext)))
+            (sym (append_assoc (tag_section mode text ps) (text_of_lines (lines_of (tokens_out mode (start_of ps) items ++ marker ∷ []))) (10 ∷ [])))
+            (behind (tag_section mode text ps) _ _ (full_text_marker mode (start_of ps) items marker))
+        | None ↦ behind (tag_section mode text ps) _ _ (full_text_grows mode (start_of ps) items (items_of (part InMovetext) k))
       ]
 
   stage_grows : (missing : Missing) (stage : Stage) (k : Kind) → Grows missing stage k
   stage_grows takes_the_marker stage k = (_, refl)
-  stage_grows counts_as_unknown InMovetext k = in_movetext_grows k
-  stage_grows counts_as_unknown Between k = (_, refl)
-  stage_grows counts_as_unknown AfterLeftBracket k = (_, refl)
-  stage_grows counts_as_unknown AfterName k = (_, refl)
-  stage_grows counts_as_unknown AfterValue k = (_, refl)
-  stage_grows counts_as_unknown AfterTags k = (_, refl)
+  stage_grows (counts_as text) InMovetext k = in_movetext_grows text k
+  stage_grows (counts_as text) Between k = (_, refl)
+  stage_grows (counts_as text) AfterLeftBracket k = (_, refl)
+  stage_grows (counts_as text) AfterName k = (_, refl)
+  stage_grows (counts_as text) AfterValue k = (_, refl)
+  stage_grows (counts_as text) AfterTags k = (_, refl)
 
 pub next_grows : (p : Profile) (part : Part) (k : Kind) → IsPrefix (torn p part) (text_next p (next part k))
 next_grows p part k = stage_grows p.tags p.depth p.mode part.pairs part.name part.items p.missing_result part.stage k

@@ -11,7 +11,7 @@ use Rattle.pgn_game.specs.declared.judged.Judged.TheVariants.{Value}
 use Rattle.pgn_game.specs.declared.stage.Stage.{Stage}
 use Rattle.pgn_game.specs.declared.stage.Stage.TheVariants.{Between, AfterLeftBracket, AfterName, AfterValue, AfterTags, InMovetext}
 use Rattle.pgn_game.specs.declared.accept.Accepted.TheVariants.{More}
-use Rattle.pgn_game.specs.Profile.{Profile, Missing, counts_as_unknown, takes_the_marker}
+use Rattle.pgn_game.specs.Profile.{Profile, Missing, counts_as, takes_the_marker}
 use Rattle.pgn_game.specs.Pairs.{Pair, has_pair}
 use Rattle.pgn_game.specs.Game.{Item, Part}
 use Rattle.pgn_game.specs.Levels.{start_of}
@@ -34,12 +34,12 @@ nothing_torn p stage ps name items before = by_profile p.missing_result stage be
   where
     by_profile : (missing : Missing) (s : Stage) → (s ≡ InMovetext → ⊥) → torn_for missing p.mode (record { stage = s; pairs = ps; name = name; items = items }) ≡ []
     by_profile takes_the_marker s before = refl
-    by_profile counts_as_unknown Between before = refl
-    by_profile counts_as_unknown AfterLeftBracket before = refl
-    by_profile counts_as_unknown AfterName before = refl
-    by_profile counts_as_unknown AfterValue before = refl
-    by_profile counts_as_unknown AfterTags before = refl
-    by_profile counts_as_unknown InMovetext before = absurd (before refl)
+    by_profile (counts_as text) Between before = refl
+    by_profile (counts_as text) AfterLeftBracket before = refl
+    by_profile (counts_as text) AfterName before = refl
+    by_profile (counts_as text) AfterValue before = refl
+    by_profile (counts_as text) AfterTags before = refl
+    by_profile (counts_as text) InMovetext before = absurd (before refl)
 
 pub no_torn : (p : Profile) (part : Part) (stage : Stage) → part.stage ≡ stage → (stage ≡ InMovetext → ⊥) → torn p part ≡ []
 no_torn p part stage at before = nothing_torn p part.stage part.pairs part.name part.items (λ e. before (sym at ∙ e))

@@ -1,6 +1,6 @@
 -- What putting a token of movetext adds to what stands written of its game, and to the reader.
 use Rattle.std.proofs.Common.{◌≡◌, ℕ, ◌<◌, ◌≤◌, Bool, true, false, ◌||◌, List, [], ◌∷◌, ◌++◌, length, drop, Option, None, refl, sym, ap, subst, ◌∙◌, append-nil, length-append, arith}
-use Rattle.std.specs.Prelude.{IsTrue, codes, Ok, Err}
+use Rattle.std.specs.Prelude.{IsTrue, Ok, Err}
 use Rattle.std.specs.List.{list_any}
 use Rattle.std.proofs.lemmas.List.Folds.{list_any-append}
 use Rattle.std.proofs.Math.Seq.{drop-append-add, drop-length}
@@ -20,7 +20,7 @@ use Rattle.pgn_game.specs.declared.stage.Stage.{Stage}
 use Rattle.pgn_game.specs.declared.stage.Stage.TheVariants.{Between, AfterLeftBracket, AfterName, AfterValue, AfterTags, InMovetext}
 use Rattle.pgn_game.specs.declared.accept.Accepted.TheVariants.{More}
 use Rattle.pgn_game.specs.declared.accept.Stopped.TheVariants.{Unwritten}
-use Rattle.pgn_game.specs.Profile.{Profile, Missing, counts_as_unknown}
+use Rattle.pgn_game.specs.Profile.{Profile, Missing, counts_as, known_result}
 use Rattle.pgn_game.specs.Pairs.{Pair}
 use Rattle.pgn_game.specs.Game.{Item, Part}
 use Rattle.pgn_game.specs.Levels.{start_of}
@@ -31,7 +31,7 @@ use Rattle.pgn_game.specs.Movetext.{HoldsItems}
 use Rattle.pgn_game.specs.Reading.{Reading, Agrees, HoldsPairs, HoldsText, has_move, plies_behind, whole_plies}
 use Rattle.pgn_game.specs.Judging.{IsOpen, IsProbed, after, may_have_movetext, item_of, with_items}
 use Rattle.pgn_game.specs.Putting.{Device, Adds}
-use Rattle.pgn_game.specs.Handling.{BeginsText, Goes, Keeps, Puts, gain_to, section_due}
+use Rattle.pgn_game.specs.Handling.{BeginsText, Goes, Keeps, Puts, gain_to, section_due, section_due_of}
 use Rattle.pgn_game.proofs.Appending.{front_after}
 use Rattle.pgn_game.proofs.Adding.{from_to}
 use Rattle.pgn_game.proofs.Judging.{open_agrees}
@@ -52,16 +52,16 @@ same_lines : (mode : Mode) (ps : List Pair) (items more : List Item) → items �
 same_lines mode ps items more none =
     ap (λ (n : ℕ). drop n (full_text mode (start_of ps) (items ++ more))) (sym (ap (λ (is : List Item). length (full_text mode (start_of ps) is)) none ∙ ap (length {A = ℕ}) (no_text mode (start_of ps))))
 
-gain_at : (mode : Mode) (stage : Stage) (ps : List Pair) (name : List ℕ) (items more : List Item) → IsTrue (may_have_movetext stage) → (stage ≡ AfterTags → items ≡ [])
-    → drop (length (torn_at stage mode (part_at stage ps name items))) (torn_at InMovetext mode (part_at InMovetext ps name (items ++ more)))
-    ≡ section_due stage mode ps ++ lines_gain mode ps items more
-gain_at mode Between ps name items more at fresh = absurd (cc)
-gain_at mode AfterLeftBracket ps name items more at fresh = absurd (cc)
-gain_at mode AfterName ps name items more at fresh = absurd (cc)
-gain_at mode AfterValue ps name items more at fresh = absurd (cc)
-gain_at mode AfterTags ps name items more at fresh = ap (λ l. tag_section mode (codes "*") ps ++ l) (same_lines mode ps items more (fresh refl))
-gain_at mode InMovetext ps name items more at fresh =
-    let section = tag_section mode (codes "*") ps in
+gain_at : (mode : Mode) (result : List ℕ) (stage : Stage) (ps : List Pair) (name : List ℕ) (items more : List Item) → IsTrue (may_have_movetext stage) → (stage ≡ AfterTags → items ≡ [])
+    → drop (length (torn_at stage mode result (part_at stage ps name items))) (torn_at InMovetext mode result (part_at InMovetext ps name (items ++ more)))
+    ≡ section_due stage mode result ps ++ lines_gain mode ps items more
+gain_at mode result Between ps name items more at fresh = absurd (cc)
+gain_at mode result AfterLeftBracket ps name items more at fresh = absurd (cc)
+gain_at mode result AfterName ps name items more at fresh = absurd (cc)
+gain_at mode result AfterValue ps name items more at fresh = absurd (cc)
+gain_at mode result AfterTags ps name items more at fresh = ap (λ l. tag_section mode result ps ++ l) (same_lines mode ps items more (fresh refl))
+gain_at mode result InMovetext ps name items more at fresh =
+    let section = tag_section mode result ps in
     let old = full_text mode (start_of ps) items in
     let new = full_text mode (start_of ps) (items ++ more) in
     ap (λ n. drop n (section ++ new)) (length-append section old) ∙ drop-append-add section new (length old)
@@ -71,19 +71,21 @@ pub open_stage : (old : Reading) (part : Part) → IsOpen old part → IsTrue (m
 open_stage old part is at = subst (λ (s : Stage). IsTrue (may_have_movetext s)) is.stage at
 
 -- what is due of the section is the part's
-pub section_is : (old : Reading) (part : Part) → IsOpen old part → section_due old.stage old.profile.mode old.tags.held ≡ section_due part.stage old.profile.mode part.pairs
+pub section_is : (old : Reading) (part : Part) → IsOpen old part
+    → section_due_of old ≡ section_due part.stage old.profile.mode (known_result old.profile.missing_result) part.pairs
 section_is old part is =
-    ap (λ (s : Stage). section_due s old.profile.mode old.tags.held) is.stage
-    ∙ ap (λ (ps : List Pair). section_due part.stage old.profile.mode ps) (ap (λ t. t.held) is.pairs)
+    let result = known_result old.profile.missing_result in
+    ap (λ (s : Stage). section_due s old.profile.mode result old.tags.held) is.stage
+    ∙ ap (λ (ps : List Pair). section_due part.stage old.profile.mode result ps) (ap (λ t. t.held) is.pairs)
 
 -- What items add: the tag section, where movetext begins, and what they add to the full lines.
-pub gain_is : (old : Reading) (part : Part) (more : List Item) → old.profile.missing_result ≡ counts_as_unknown → IsTrue (may_have_movetext old.stage) → IsOpen old part
-    → section_due old.stage old.profile.mode old.tags.held ++ lines_gain old.profile.mode part.pairs part.items more ≡ gain_to old.profile part (going (with_items part more))
-gain_is old part more unknown at is =
+pub gain_is : (old : Reading) (part : Part) (more : List Item) → old.profile.missing_result ≡ counts_as (known_result old.profile.missing_result) → IsTrue (may_have_movetext old.stage) → IsOpen old part
+    → section_due_of old ++ lines_gain old.profile.mode part.pairs part.items more ≡ gain_to old.profile part (going (with_items part more))
+gain_is old part more known at is =
     let p = old.profile in
     ap (λ l. l ++ lines_gain p.mode part.pairs part.items more) (section_is old part is)
-    ∙ sym (ap (λ (m : Missing). drop (length (torn_for m p.mode part)) (torn_for m p.mode (with_items part more))) unknown
-    ∙ gain_at p.mode part.stage part.pairs part.name part.items more (open_stage old part is at) (λ e. is.fresh (is.stage ∙ e)))
+    ∙ sym (ap (λ (m : Missing). drop (length (torn_for m p.mode part)) (torn_for m p.mode (with_items part more))) known
+    ∙ gain_at p.mode (known_result p.missing_result) part.stage part.pairs part.name part.items more (open_stage old part is at) (λ e. is.fresh (is.stage ∙ e)))
 
 -- The section was written: so it is said of the reader as its fields make it.
 pub begins_as : (old begun held : Reading) (d : Device) → held ≡ begun → BeginsText {A = Unit {0}} {E = WriteFault} old begun (Ok tt) d
@@ -168,7 +170,7 @@ puts_number old new d at well begins =
     (subst (λ (r : Reading). HoldsItems old.profile.mode (start_of ps) (items ++ []) r.text r.layout) (sym begins.begun)
     (subst (λ (l : List Item). HoldsItems old.profile.mode (start_of ps) l old.text old.layout) (sym (append-nil items)) is.held))
     (λ has. subst (λ (n : ℕ). 0 < n) (sym begins.probes) (is.probed (subst (λ (l : List Item). IsTrue (has_move l)) (append-nil items) has)))
-    (subst (Appends d.before d.after) (sym (append-nil _) ∙ ap (λ l. section_due old.stage old.profile.mode old.tags.held ++ l) (sym nothing) ∙ gain_is old part [] begins.unknown at is) begins.text))
+    (subst (Appends d.before d.after) (sym (append-nil _) ∙ ap (λ l. section_due_of old ++ l) (sym nothing) ∙ gain_is old part [] begins.known at is) begins.text))
 
 -- where a move was played, some pair was tried
 probed_with : (old : Reading) (part : Part) (i : CodeItem) (most : ℕ) → IsProbed (Put i) old.most_probes → old.most_probes ≤ most
@@ -214,8 +216,8 @@ puts_item old begun new i a b c n m k at put begins next adds =
     goes_with old begun new part (item_of i ∷ []) (from_to a c n k) at is begins.begun next
     (subst (λ (p : Profile). HoldsItems p.mode (start_of part.pairs) (part.items ++ item_of i ∷ []) new.text new.layout) begins.profile added.0)
     (probed_with old part i new.most_probes put most is.probed)
-    (subst (Appends a c) (ap (λ (p : Profile). section_due old.stage old.profile.mode old.tags.held ++ lines_gain p.mode part.pairs part.items (item_of i ∷ [])) begins.profile
-    ∙ gain_is old part (item_of i ∷ []) begins.unknown at is) (Appends-trans a b c _ _ begins.text added.1)))
+    (subst (Appends a c) (ap (λ (p : Profile). section_due_of old ++ lines_gain p.mode part.pairs part.items (item_of i ∷ [])) begins.profile
+    ∙ gain_is old part (item_of i ∷ []) begins.known at is) (Appends-trans a b c _ _ begins.text added.1)))
 
 pub fails_item : (old begun new : Reading) (i : CodeItem) (f : WriteFault) (a b c : Option (List ℕ)) (n m k : ℕ) → IsTrue (may_have_movetext old.stage)
     → BeginsText {A = Unit} {E = WriteFault} old begun (Ok tt) (from_to a b n m) → IsAfterItem begun new
@@ -226,6 +228,6 @@ fails_item old begun new i f a b c n m k at begins next adds =
     (record { profile = next.profile ∙ begins.profile; plies = omega (arith, next.earlier, begins.earlier, begins.plies, adds.plies); probes = omega (arith, next.probes, begins.probes) })
     (adds.counted ∙ ap one_more begins.counted) (λ part agrees.
     let is = open_agrees old part agrees at in
-    subst (AppendsFront a c) (ap (λ (p : Profile). section_due old.stage old.profile.mode old.tags.held ++ lines_gain p.mode part.pairs part.items (item_of i ∷ [])) begins.profile
-    ∙ gain_is old part (item_of i ∷ []) begins.unknown at is)
+    subst (AppendsFront a c) (ap (λ (p : Profile). section_due_of old ++ lines_gain p.mode part.pairs part.items (item_of i ∷ [])) begins.profile
+    ∙ gain_is old part (item_of i ∷ []) begins.known at is)
     (front_after a b c _ _ begins.text (adds.adds (start_of part.pairs) part.items (begun_held old begun part is begins.begun))))

@@ -106,21 +106,21 @@ others_without_fen ps none = plain_lines ps ∙ ap (λ b. tag_lines (other_pairs
 pub others_with_fen : (ps : List Pair) → has_pair ps (codes "FEN") ≡ true → lines_about (place_of (codes "SetUp") ps) ps ≡ tag_lines (other_pairs (with_set_up ps))
 others_with_fen ps some = set_up_lines ps ∙ ap (λ b. tag_lines (other_pairs (set_up_if b ps))) (sym some)
 
-pub reduced_section : (ps : List Pair) → text_by (roster_line ps) (roster (42 ∷ [])) ++ 10 ∷ [] ≡ tag_section Reduced (42 ∷ []) ps
-reduced_section ps = ap (λ l. l ++ 10 ∷ []) (roster_lines ps (roster (42 ∷ [])))
+pub reduced_section : (result : List ℕ) (ps : List Pair) → text_by (roster_line ps) (roster result) ++ 10 ∷ [] ≡ tag_section Reduced result ps
+reduced_section result ps = ap (λ l. l ++ 10 ∷ []) (roster_lines ps (roster result))
 
-pub full_section : (ps : List Pair) → (text_by (roster_line ps) (roster (42 ∷ [])) ++ tag_lines (other_pairs (with_set_up ps))) ++ 10 ∷ [] ≡ tag_section Full (42 ∷ []) ps
-full_section ps =
+pub full_section : (result : List ℕ) (ps : List Pair) → (text_by (roster_line ps) (roster result) ++ tag_lines (other_pairs (with_set_up ps))) ++ 10 ∷ [] ≡ tag_section Full result ps
+full_section result ps =
     ap (λ l. l ++ 10 ∷ [])
     (
-    ap (λ l. l ++ tag_lines (other_pairs (with_set_up ps))) (roster_lines ps (roster (42 ∷ [])))
-    ∙ sym (tag_lines-append (roster_pairs (42 ∷ []) ps) (other_pairs (with_set_up ps)))
+    ap (λ l. l ++ tag_lines (other_pairs (with_set_up ps))) (roster_lines ps (roster result))
+    ∙ sym (tag_lines-append (roster_pairs result ps) (other_pairs (with_set_up ps)))
     )
 
 -- the roster stands first in both modes
-pub roster_first : (mode : Mode) (ps : List Pair) → (rest : List ℕ) × (tag_section mode (42 ∷ []) ps ≡ text_by (roster_line ps) (roster (42 ∷ [])) ++ rest)
-roster_first Reduced ps = (10 ∷ [], sym (reduced_section ps))
-roster_first Full ps = (
+pub roster_first : (result : List ℕ) (mode : Mode) (ps : List Pair) → (rest : List ℕ) × (tag_section mode result ps ≡ text_by (roster_line ps) (roster result) ++ rest)
+roster_first result Reduced ps = (10 ∷ [], sym (reduced_section result ps))
+roster_first result Full ps = (
   tag_lines (other_pairs (with_set_up ps)) ++ 10 ∷ [],
-  sym (full_section ps) ∙ append_assoc (text_by (roster_line ps) (roster (42 ∷ []))) (tag_lines (other_pairs (with_set_up ps))) (10 ∷ []),
+  sym (full_section result ps) ∙ append_assoc (text_by (roster_line ps) (roster result)) (tag_lines (other_pairs (with_set_up ps))) (10 ∷ []),
 )

@@ -6,7 +6,7 @@ use Rattle.pgn_lexer.specs.TokensOf.{tokens_of}
 use Rattle.pgn_lexer.specs.Laws.{RisesTo}
 use Rattle.chess_text.specs.declared.resolution.Played.{Played}
 use Rattle.pgn_game.specs.declared.mode.Mode.TheVariants.{Full}
-use Rattle.pgn_game.specs.Profile.{Profile, counts_as_unknown}
+use Rattle.pgn_game.specs.Profile.{Profile, counts_as}
 use Rattle.pgn_game.specs.Pairs.{Pair}
 use Rattle.pgn_game.specs.Chess.{first_position}
 use Rattle.pgn_game.specs.Game as games
@@ -17,7 +17,7 @@ use Rattle.pgn_game.proofs.Runs.{kinds, runs_as_read}
 use Rattle.pgn_game.proofs.Spelling.{games_run}
 
 abbrev pub plain : Profile
-plain = record { tags = 64; depth = 32; mode = Full; missing_result = counts_as_unknown }
+plain = record { tags = 64; depth = 32; mode = Full; missing_result = counts_as (codes "*") }
 
 abbrev pub game : List Pair → List Item → Game
 game ps items = record { pairs = ps; items = items; marker = codes "*" }

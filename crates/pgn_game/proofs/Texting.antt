@@ -8,7 +8,7 @@ use Rattle.chess_text.specs.declared.resolution.SanFault.{SanFault}
 use Rattle.pgn_lexer.specs.Tokens as tokens
 use Rattle.pgn_lexer.specs.Tokens.{Kind}
 use Rattle.pgn_game.specs.declared.stage.Stage.TheVariants.{InMovetext}
-use Rattle.pgn_game.specs.Profile.{Profile, Missing, counts_as_unknown, takes_the_marker}
+use Rattle.pgn_game.specs.Profile.{Profile, Missing, counts_as, takes_the_marker}
 use Rattle.pgn_game.specs.Pairs.{Pair, value_of}
 use Rattle.pgn_game.specs.Chess.{move_of}
 use Rattle.pgn_game.specs.Game as games
@@ -34,12 +34,12 @@ was_true false e = absurd (cc)
 
 pub result_is : (missing : Missing) (o : Option (List ℕ)) (marker : List ℕ) → IsFalse (differs missing o marker) → IsResult missing o marker
 result_is missing (Some v) marker h = (bytes_eq-Decides marker v).0 (was_true (bytes_eq marker v) h)
-result_is counts_as_unknown None marker h = (bytes_eq-Decides marker (codes "*")).0 (was_true (bytes_eq marker (codes "*")) h)
+result_is (counts_as text) None marker h = (bytes_eq-Decides marker text).0 (was_true (bytes_eq marker text) h)
 result_is takes_the_marker None marker h = tt
 
 pub result_meets : (missing : Missing) (o : Option (List ℕ)) (marker : List ℕ) → IsResult missing o marker → IsFalse (differs missing o marker)
 result_meets missing (Some v) marker h = ap not ((bytes_eq-Decides marker v).1 h)
-result_meets counts_as_unknown None marker h = ap not ((bytes_eq-Decides marker (codes "*")).1 h)
+result_meets (counts_as text) None marker h = ap not ((bytes_eq-Decides marker text).1 h)
 result_meets takes_the_marker None marker h = ap not ((bytes_eq-Decides marker marker).1 refl)
 
 abbrev pub marked : Bool → List ℕ → Option (List ℕ)

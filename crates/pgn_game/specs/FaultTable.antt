@@ -14,7 +14,7 @@ use Rattle.pgn_game.specs.declared.reason.Reason.{Reason}
 use Rattle.pgn_game.specs.declared.reason.Reason.TheVariants.{Lexical, ExpectedName, BadTagName, DuplicateTag, TooManyTags, ExpectedValue, BadResult, BadFen, TagLineTooLong, ExpectedBracket, SetUpWithoutFen, ReducedFen, TagInMovetext, NotAMove, IllegalMove, AmbiguousMove, MoveLimit, NoMoveBefore, TooDeep, UnmatchedClose, MarkerInVariation, ResultDiffers, UnexpectedEnd}
 use Rattle.pgn_game.specs.declared.mode.Mode.{Mode}
 use Rattle.pgn_game.specs.declared.mode.Mode.TheVariants.{Full, Reduced}
-use Rattle.pgn_game.specs.Profile.{Profile, Missing, counts_as_unknown, takes_the_marker}
+use Rattle.pgn_game.specs.Profile.{Profile, Missing, counts_as, takes_the_marker}
 use Rattle.pgn_game.specs.Pairs.{Pair, value_of, has_pair}
 use Rattle.pgn_game.specs.declared.stage.Stage.{Stage}
 use Rattle.pgn_game.specs.declared.stage.Stage.TheVariants.{Between, AfterLeftBracket, AfterName, AfterValue, AfterTags, InMovetext}
@@ -169,7 +169,7 @@ is_reduced Reduced = true
 
 -- the value of a missing Result
 abbrev pub result_for : Missing → List ℕ → List ℕ
-result_for counts_as_unknown marker = codes "*"
+result_for (counts_as text) marker = text
 result_for takes_the_marker marker = marker
 
 -- A marker that is not the Result. A marker that is taken for a missing Result equals itself.
@@ -190,8 +190,8 @@ row reason holds = record { holds = holds; reason = reason }
 
 -- The table, lowest number first. These rules are our own: a name is given once (22), a game has at
 -- most so many pairs (23), SetUp 1 needs a FEN (30), the reduced format has no FEN (31), no number
--- is above 99,999 (36), variations are at most so deep (38), and a missing Result counts as `*`
--- (41).
+-- is above 99,999 (36), variations are at most so deep (38), and the profile says what a missing
+-- Result is (41).
 abbrev pub rows : Profile → Part → Kind → List Row
 rows p part k =
     row ExpectedName (is_at AfterLeftBracket part && not (is_symbol k || is_comment k))

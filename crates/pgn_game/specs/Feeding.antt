@@ -20,7 +20,7 @@ use Rattle.pgn_game.specs.declared.reason.Fault.{Fault}
 use Rattle.pgn_game.specs.declared.stage.Stage.TheVariants.{Between}
 use Rattle.pgn_game.specs.declared.converter.Fed.{Fed}
 use Rattle.pgn_game.specs.declared.converter.Fed.TheVariants.{All, Game as GameEnd}
-use Rattle.pgn_game.specs.Profile.{Profile, counts_as_unknown}
+use Rattle.pgn_game.specs.Profile.{Profile, counts_as, known_result}
 use Rattle.pgn_game.specs.Pairs.{Pair, value_of}
 use Rattle.pgn_game.specs.TagSection.{exported}
 use Rattle.pgn_game.specs.Game.{Game}
@@ -52,7 +52,7 @@ pub record Converter : Type 0 where
 
 -- the profile of a converter for at most so many pairs and levels
 abbrev pub profile_of : ℕ → ℕ → Mode → Profile
-profile_of most depth mode = record { tags = most; depth = depth; mode = mode; missing_result = counts_as_unknown }
+profile_of most depth mode = record { tags = most; depth = depth; mode = mode; missing_result = counts_as (codes "*") }
 
 -- what the reader still holds of a game
 abbrev pub held_by : Reading → AtHand
@@ -78,7 +78,7 @@ pub record IsSound (lexer : Standing) (reading : Reading) (games : ℕ) (has_fin
 -- What is told of the game at hand: the value of a name in its tag section, how many moves outside
 -- variations it has, and the position after them.
 abbrev pub value_at_hand : Converter → List ℕ → Option (List ℕ)
-value_at_hand c name = elim c.at_hand [ None ↦ None | Some hand ↦ value_of (exported c.reading.profile.mode (codes "*") hand.pairs) name ]
+value_at_hand c name = elim c.at_hand [ None ↦ None | Some hand ↦ value_of (exported c.reading.profile.mode (known_result c.reading.profile.missing_result) hand.pairs) name ]
 
 abbrev pub plies_at_hand : Converter → ℕ
 plies_at_hand c = elim c.at_hand [ None ↦ 0 | Some hand ↦ hand.plies ]

@@ -1,5 +1,5 @@
 -- **Bookkeeping**: what putting a judged token does to the reader and to its sink.
-use Rattle.std.specs.Prelude.{◌≡◌, ℕ, ◌+◌, ◌≤◌, Bool, true, false, ◌||◌, not, IsTrue, List, [], length, drop, codes, None, Result, Ok, Err, OnOk}
+use Rattle.std.specs.Prelude.{◌≡◌, ℕ, ◌+◌, ◌≤◌, Bool, true, false, ◌||◌, not, IsTrue, List, [], length, drop, None, Result, Ok, Err, OnOk}
 use Rattle.std.specs.Io.KnownBytes.{Appends}
 use Rattle.pgn_layout.specs.Device.{AppendsFront, Counts, Writes}
 use Rattle.pgn_lexer.specs.Tokens.{Kind}
@@ -13,7 +13,7 @@ use Rattle.pgn_game.specs.declared.accept.Stopped.TheVariants.{Refused, Unwritte
 use Rattle.pgn_game.specs.declared.judged.Judged.{Judged}
 use Rattle.pgn_game.specs.declared.judged.Judged.TheVariants.{Entry as InText}
 use Rattle.pgn_game.specs.declared.judged.Entry.TheVariants.{Item as Put}
-use Rattle.pgn_game.specs.Profile.{Profile, counts_as_unknown}
+use Rattle.pgn_game.specs.Profile.{Profile, counts_as, known_result}
 use Rattle.pgn_game.specs.Pairs.{Pair}
 use Rattle.pgn_game.specs.Chess.{first_position}
 use Rattle.pgn_game.specs.Game.{Item, Part}
@@ -98,17 +98,22 @@ pub record Puts (old : Reading) (j : Judged) (new : Reading) (r : Result Accepte
   pub finished : FinishesFinal j new r
   pub counted : CountsWrites r d.failures d.failures_after
 
--- what is written of a game before its items: its tag section, where movetext begins
-abbrev pub section_due : Stage → Mode → List Pair → List ℕ
-section_due InMovetext mode ps = []
-section_due _ mode ps = tag_section mode (codes "*") ps
+-- What is written of a game before its items: its tag section, where movetext begins. `result` is
+-- the value of a missing Result.
+abbrev pub section_due : Stage → Mode → List ℕ → List Pair → List ℕ
+section_due InMovetext mode result ps = []
+section_due _ mode result ps = tag_section mode result ps
+
+-- the same, for a reader
+abbrev pub section_due_of : Reading → List ℕ
+section_due_of r = section_due r.stage r.profile.mode (known_result r.profile.missing_result) r.tags.held
 
 -- The tag section was written, where it was due, and nothing else has changed.
 pub record BeginsText {A E : Type 0} (old new : Reading) (r : Result A E)
     (d : Device) : Type 0 where
-  pub text : Writes d.before d.after r (section_due old.stage old.profile.mode old.tags.held)
+  pub text : Writes d.before d.after r (section_due_of old)
   pub begun : OnOk r (new ≡ record old { stage = InMovetext })
-  pub unknown : old.profile.missing_result ≡ counts_as_unknown
+  pub known : old.profile.missing_result ≡ counts_as (known_result old.profile.missing_result)
   pub profile : new.profile ≡ old.profile
   pub earlier : new.earlier_plies ≡ old.earlier_plies
   pub plies : new.text.plies ≡ old.text.plies

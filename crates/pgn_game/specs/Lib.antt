@@ -5,6 +5,7 @@ pub mod Pairs
 pub mod Judging
 pub mod Handling
 pub mod Holding
+pub mod Markers
 pub mod Profile
 pub mod Chess
 pub mod Game

@@ -1,11 +1,17 @@
 -- **Definition**: what a caller asks for: two limits, a format, and what a missing Result is.
-use Rattle.std.specs.Prelude.{ℕ}
+use Rattle.std.specs.Prelude.{ℕ, List, []}
 use Rattle.pgn_game.specs.declared.mode.Mode.{Mode}
 
--- what a game without a Result pair has in its place: `*`, or the marker that ends the game
+-- what a game without a Result pair has in its place: always this text, or the marker that ends the
+-- game
 pub data Missing : Type 0 where
-  counts_as_unknown : Missing
+  counts_as : List ℕ → Missing
   takes_the_marker : Missing
+
+-- what is known of a missing Result before the marker: its text, or nothing
+abbrev pub known_result : Missing → List ℕ
+known_result (counts_as text) = text
+known_result takes_the_marker = []
 
 -- the most tag pairs of a game, the greatest depth of variations, which parts are written, and what
 -- a missing Result is

@@ -13,7 +13,7 @@ use Rattle.pgn_lexer.specs.Tokens as tokens
 use Rattle.pgn_lexer.specs.Tokens.{Kind, Token}
 use Rattle.pgn_game.specs.declared.mode.Mode.{Mode}
 use Rattle.pgn_game.specs.declared.mode.Mode.TheVariants.{Full}
-use Rattle.pgn_game.specs.Profile.{Profile, Missing, counts_as_unknown, takes_the_marker}
+use Rattle.pgn_game.specs.Profile.{Profile, Missing, counts_as, takes_the_marker}
 use Rattle.pgn_game.specs.Pairs.{Pair, value_of, has_pair, insert_pair}
 use Rattle.pgn_game.specs.Chess.{position_of, move_of}
 use Rattle.pgn_game.specs.Game as games
@@ -115,7 +115,7 @@ BeginsBare (k ∷ ks) = IsFalse (is_comment k)
 -- the marker is the Result, or the value of a missing one
 abbrev pub IsResult : Missing → Option (List ℕ) → List ℕ → Type 0
 IsResult missing (Some value) marker = marker ≡ value
-IsResult counts_as_unknown None marker = marker ≡ codes "*"
+IsResult (counts_as text) None marker = marker ≡ text
 IsResult takes_the_marker None marker = Unit {0}
 
 -- A game: comments that are dropped, pairs, movetext, and a marker outside all variations. Without

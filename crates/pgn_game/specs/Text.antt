@@ -6,7 +6,7 @@ use Rattle.pgn_game.specs.declared.mode.Mode.{Mode}
 use Rattle.pgn_game.specs.declared.mode.Mode.TheVariants.{Full, Reduced}
 use Rattle.pgn_game.specs.declared.stage.Stage.{Stage}
 use Rattle.pgn_game.specs.declared.stage.Stage.TheVariants.{InMovetext}
-use Rattle.pgn_game.specs.Profile.{Profile, Missing, counts_as_unknown, takes_the_marker}
+use Rattle.pgn_game.specs.Profile.{Profile, Missing, counts_as, takes_the_marker}
 use Rattle.pgn_game.specs.Chess.{text_of_move, is_black_to_move}
 use Rattle.pgn_game.specs.Game.{Item, move, glyph, comment_open, word, comment_close, open_variation, close_variation, Game, Part}
 use Rattle.pgn_game.specs.Levels.{Levels, levels_after, first_level, start_of, depth, here}
@@ -78,12 +78,13 @@ text_of p (g ∷ gs) = game_text p g ++ text_of p gs
 abbrev pub full_text : Mode → Parts → List Item → List ℕ
 full_text mode start items = text_of_lines (full_lines (lines_of (tokens_out mode start items)))
 
-abbrev pub torn_at : Stage → Mode → Part → List ℕ
-torn_at InMovetext mode part = tag_section mode (codes "*") part.pairs ++ full_text mode (start_of part.pairs) part.items
-torn_at _ mode part = []
+-- `result` is the value of a missing Result
+abbrev pub torn_at : Stage → Mode → List ℕ → Part → List ℕ
+torn_at InMovetext mode result part = tag_section mode result part.pairs ++ full_text mode (start_of part.pairs) part.items
+torn_at _ mode result part = []
 
 abbrev pub torn_for : Missing → Mode → Part → List ℕ
-torn_for counts_as_unknown mode part = torn_at part.stage mode part
+torn_for (counts_as text) mode part = torn_at part.stage mode text part
 torn_for takes_the_marker mode part = []
 
 -- What is written of the current game: nothing while it has no movetext; then its tag section and

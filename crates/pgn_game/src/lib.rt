@@ -11,6 +11,7 @@ mod find;
 mod judged;
 pub mod laws;
 mod levels;
+mod marker;
 mod mode;
 mod movetext;
 mod number;

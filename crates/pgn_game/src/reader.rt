@@ -14,7 +14,7 @@ ghost use Rattle.pgn_game.specs.declared.stage.Stage.TheVariants.{Between, After
 ghost use Rattle.pgn_game.specs.declared.stage.Stage.TheVariants.{AfterValue, AfterTags};
 ghost use Rattle.pgn_game.specs.declared.stage.Stage.TheVariants.{InMovetext};
 ghost use Rattle.pgn_game.specs.declared.judged.Judged.TheVariants.{Entry as InText};
-ghost use Rattle.pgn_game.specs.Profile.{counts_as_unknown};
+ghost use Rattle.pgn_game.specs.Profile.{counts_as, known_result};
 ghost use Rattle.pgn_game.specs.Movetext.{begins_at};
 ghost use Rattle.pgn_game.specs.Reading.{Accepts, Agrees, Stays, FinishesAtMarker, CountsWrites};
 ghost use Rattle.pgn_game.specs.Judging.{Counts, Finds, Fits, Judges, JudgesEntry, Seeks, may_have_movetext};
@@ -30,6 +30,7 @@ ghost use Rattle.pgn_game.specs.FaultTable.{lacks_fen as set_up_lacks_fen, marke
 use crate::accept::{Accepted, Stopped};
 use crate::find::find_move;
 use crate::judged::{Entry, Item, Judged};
+use crate::marker::Marker;
 use crate::mode::Mode;
 use crate::movetext::Movetext;
 use crate::pair::TEXT_LENGTH;
@@ -49,6 +50,7 @@ use std::marker::Model;
 #[derive(Drop)]
 pub struct Reader<const T: usize, const L: usize> {
     mode: Mode,
+    missing_result: Marker,
     stage: Stage,
     tags: TagPairs<T>,
     text: Movetext<L>,
@@ -59,7 +61,8 @@ pub struct Reader<const T: usize, const L: usize> {
 
 impl<const T: usize, const L: usize> Model for Reader<T, L> {
     ghost use Rattle.std.specs.Prelude.{◌-◌, ◌≤◌};
-    ghost use Rattle.pgn_game.specs.Profile.{counts_as_unknown};
+    ghost use Rattle.pgn_game.specs.Profile.{counts_as};
+    ghost use Rattle.pgn_game.specs.Markers.{marker_text};
     ghost use Rattle.pgn_game.specs.Reading.{Reading, AreSound};
 
     ghost Value = { Reading };
@@ -69,7 +72,7 @@ impl<const T: usize, const L: usize> Model for Reader<T, L> {
         tags = T;
         depth = L - 1;
         mode = r.mode;
-        missing_result = counts_as_unknown;
+        missing_result = counts_as (marker_text r.missing_result);
       };
       stage = r.stage;
       tags = r.tags;
@@ -91,7 +94,7 @@ impl<const T: usize, const L: usize> Reader<T, L> {
             tags = T;
             depth = L - 1;
             mode = mode;
-            missing_result = counts_as_unknown;
+            missing_result = counts_as (codes "*");
           };
           stage = Between;
           tags = record { held = []; pending_name = None };
@@ -103,6 +106,7 @@ impl<const T: usize, const L: usize> Reader<T, L> {
     {
         Reader {
             mode,
+            missing_result: Marker::Unknown,
             stage: Stage::Between,
             tags: TagPairs::new(),
             text: Movetext::new(),
@@ -112,14 +116,14 @@ impl<const T: usize, const L: usize> Reader<T, L> {
         }
     }
 
-    /// The value of a name in the tag section of the game before, its defaults included: 42 is `*`,
-    /// the default of Result.
+    /// The value of a name in the tag section of the game before, its defaults included.
     pub fn value(&self, name: &[u8]) -> Option<&[u8]>
         requires { self.now.stage ≡ Between }
         ensures { option_copied result
-            ≡ value_of (exported self.now.profile.mode (42 ∷ []) self.now.tags.held) name.now }
+            ≡ value_of (exported self.now.profile.mode
+            (known_result self.now.profile.missing_result) self.now.tags.held) name.now }
     {
-        exported_value(self.mode, self.tags.pairs(), name)
+        exported_value(self.mode, self.missing_result, self.tags.pairs(), name)
     }
 
     /// How many moves outside variations the game has so far, or had.
@@ -477,7 +481,8 @@ impl<const T: usize, const L: usize> Reader<T, L> {
         if self.text.depth() > 0 {
             return Err(Reason::MarkerInVariation);
         }
-        if marker != self.tags.value(b"Result").unwrap_or(b"*") {
+        let missing = self.missing_result.text();
+        if marker != self.tags.value(b"Result").unwrap_or(missing) {
             return Err(Reason::ResultDiffers);
         }
         Ok(Judged::Entry(Entry::Marker(marker)))
@@ -575,7 +580,13 @@ impl<const T: usize, const L: usize> Reader<T, L> {
         if self.stage == Stage::InMovetext {
             return Ok(());
         }
-        write_section(self.mode, self.tags.pairs(), &mut self.layout, out)?;
+        write_section(
+            self.mode,
+            self.missing_result,
+            self.tags.pairs(),
+            &mut self.layout,
+            out,
+        )?;
         self.stage = Stage::InMovetext;
         Ok(())
     }

@@ -1,12 +1,14 @@
 //! The tag section of a game.
-ghost use Rattle.std.specs.Prelude.{◌≡◌, ◌+◌, ◌<◌, ◌≤◌, [], ◌∷◌, false, Some, None, IsTrue, IfSome, OnOk, OnErr, codes, length, slice_get, unwrap_or};
+ghost use Rattle.std.specs.Prelude.{◌≡◌, ◌+◌, ◌<◌, ◌≤◌, false, Some, None, IsTrue, IfSome, OnOk, OnErr, codes, length, slice_get, unwrap_or};
 ghost use Rattle.std.specs.Option.{option_copied};
 ghost use Rattle.pgn_layout.specs.Device.{Counts, Writes};
 ghost use Rattle.pgn_layout.specs.TagLine.{escaped};
+ghost use Rattle.pgn_game.specs.Markers.{marker_text};
 ghost use Rattle.pgn_game.specs.Pairs.{value_of, has_pair};
 ghost use Rattle.pgn_game.specs.SectionLines.{text_by, roster_line, other_line};
 ghost use Rattle.pgn_game.specs.TagSection.{roster, in_roster, exported, other_pairs, tag_lines, tag_section, with_set_up};
 
+use crate::marker::Marker;
 use crate::mode::Mode;
 use crate::pair::TagPair;
 use crate::tags::{place_of, value_in};
@@ -20,26 +22,27 @@ const FROM_FEN: &[u8] = b"1";
 
 /// Writes the tag section: the roster, in full mode the other pairs, and an empty line (PGN 8.1).
 ///
-/// A roster pair that the game lacks has its default, which is `*` for Result. Beside a FEN, SetUp
-/// is 1 (PGN 9.7.1).
+/// A roster pair that the game lacks has its default, which for Result is `missing_result`. Beside
+/// a FEN, SetUp is 1 (PGN 9.7.1).
 ///
 /// # Errors
 ///
 /// `WriteFault` if a write failed. A prefix of the section was written.
 pub fn write_section<W: Sink>(
     mode: Mode,
+    missing_result: Marker,
     pairs: &[TagPair],
     layout: &mut Layout,
     out: &mut W,
 ) -> Result<(), WriteFault>
     requires going { layout.old.has_failed ≡ false }
     ensures text { Writes (W.taken out.old) (W.taken out.new) result
-        (tag_section mode (42 ∷ []) pairs.now) }
+        (tag_section mode (marker_text missing_result) pairs.now) }
     ensures line { OnOk result (layout.new ≡ layout.old) }
     ensures failed { OnErr result (IsTrue layout.new.has_failed) }
     ensures counted { Counts result (W.failures out.old) (W.failures out.new) }
 {
-    write_roster(pairs, layout, out)?;
+    write_roster(missing_result, pairs, layout, out)?;
     match mode {
         Mode::Reduced => layout.end_tags(out),
         Mode::Full => {
@@ -50,10 +53,16 @@ pub fn write_section<W: Sink>(
 }
 
 /// Returns the value of this name in the tag section, if there is one.
-pub fn exported_value<'a>(mode: Mode, pairs: &'a [TagPair], name: &[u8]) -> Option<&'a [u8]>
-    ensures { option_copied result ≡ value_of (exported mode (42 ∷ []) pairs.now) name.now }
+pub fn exported_value<'a>(
+    mode: Mode,
+    missing_result: Marker,
+    pairs: &'a [TagPair],
+    name: &[u8],
+) -> Option<&'a [u8]>
+    ensures { option_copied result
+        ≡ value_of (exported mode (marker_text missing_result) pairs.now) name.now }
 {
-    let unknown = unknown_value(name);
+    let unknown = unknown_value(missing_result, name);
     if unknown.is_none() && mode == Mode::Reduced {
         return None;
     }
@@ -74,12 +83,12 @@ fn value_with_set_up<'a>(pairs: &'a [TagPair], name: &[u8]) -> Option<&'a [u8]>
 }
 
 // The default of a missing roster tag (PGN 8.1.1).
-fn unknown_value(name: &[u8]) -> Option<&'static [u8]>
-    ensures value { option_copied result ≡ value_of (roster (42 ∷ [])) name.now }
+fn unknown_value(missing_result: Marker, name: &[u8]) -> Option<&'static [u8]>
+    ensures value { option_copied result ≡ value_of (roster (marker_text missing_result)) name.now }
     ensures fits { IfSome result (λ unknown. length name.now + length (escaped unknown.now) ≤ 249) }
 {
     for index in 0..7 {
-        let (known, unknown) = roster_pair(index);
+        let (known, unknown) = roster_pair(missing_result, index);
         if name == known {
             return Some(unknown);
         }
@@ -89,19 +98,20 @@ fn unknown_value(name: &[u8]) -> Option<&'static [u8]>
 
 // Writes the pairs of the roster.
 fn write_roster<W: Sink>(
+    missing_result: Marker,
     pairs: &[TagPair],
     layout: &mut Layout,
     out: &mut W,
 ) -> Result<(), WriteFault>
     requires going { layout.old.has_failed ≡ false }
     ensures text { Writes (W.taken out.old) (W.taken out.new) result
-        (text_by (roster_line pairs.now) (roster (42 ∷ []))) }
+        (text_by (roster_line pairs.now) (roster (marker_text missing_result))) }
     ensures line { OnOk result (layout.new ≡ layout.old) }
     ensures failed { OnErr result (IsTrue layout.new.has_failed) }
     ensures counted { Counts result (W.failures out.old) (W.failures out.new) }
 {
     for index in 0..7 {
-        let (name, unknown) = roster_pair(index);
+        let (name, unknown) = roster_pair(missing_result, index);
         let value = value_or(pairs, name, unknown);
         layout.tag(name, value, out)?;
     }
@@ -190,9 +200,9 @@ fn write_other<W: Sink>(
 
 #[tactic(auto, unfolding(crate::specs::TagSection::roster))]
 // A name of the roster and its default, by its place in the roster (PGN 8.1.1).
-fn roster_pair(index: usize) -> (&'static [u8], &'static [u8])
+fn roster_pair(missing_result: Marker, index: usize) -> (&'static [u8], &'static [u8])
     requires { index < 7 }
-    ensures pair { slice_get (roster (42 ∷ [])) index
+    ensures pair { slice_get (roster (marker_text missing_result)) index
         ≡ Some (record { name = result.0.now; value = result.1.now }) }
     ensures fits { length result.0.now + length (escaped result.1.now) ≤ 249 }
 {
@@ -203,7 +213,7 @@ fn roster_pair(index: usize) -> (&'static [u8], &'static [u8])
         3 => (b"Round", b"?"),
         4 => (b"White", b"?"),
         5 => (b"Black", b"?"),
-        _ => (b"Result", b"*"),
+        _ => (b"Result", missing_result.text()),
     }
 }
 

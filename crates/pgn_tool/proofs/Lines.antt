@@ -8,7 +8,7 @@ use Rattle.std.proofs.lemmas.List.{take-append-le}
 use Rattle.chess_rules.specs.declared.position.Parts.{Parts}
 use Rattle.chess_text.specs.Fen.{fen_text}
 use Rattle.pgn_layout.specs.Device.{AppendsFront, Writes}
-use Rattle.pgn_game.specs.declared.mode.Mode.{Mode}
+use Rattle.pgn_game.specs.Profile.{Profile, known_result}
 use Rattle.pgn_game.specs.Pairs.{value_of}
 use Rattle.pgn_game.specs.TagSection.{exported}
 use Rattle.pgn_game.specs.Feeding.{AtHand, Converter, plies_at_hand, position_at_hand, value_at_hand}
@@ -35,22 +35,22 @@ writes_after (Ok x) a b c xs ys first more = Appends-trans a b c _ _ first more
 writes_after (Err e) a b c xs ys first more = front_after a b c xs ys first more
 
 -- the line of the game at hand by what a converter tells
-line_told : (o : Option AtHand) (number : ℕ) (mode : Mode) (p : Parts) → Some p ≡ option_map (λ hand. hand.position) o
-    → elim o [ None ↦ [] | Some hand ↦ hand_line number mode hand ]
-    ≡ six_fields (decimal number) (unwrap_or (elim o [ None ↦ None | Some hand ↦ value_of (exported mode (codes "*") hand.pairs) (codes "White") ]) [])
-    (unwrap_or (elim o [ None ↦ None | Some hand ↦ value_of (exported mode (codes "*") hand.pairs) (codes "Black") ]) [])
-    (unwrap_or (elim o [ None ↦ None | Some hand ↦ value_of (exported mode (codes "*") hand.pairs) (codes "Result") ]) [])
+line_told : (o : Option AtHand) (number : ℕ) (by : Profile) (p : Parts) → Some p ≡ option_map (λ hand. hand.position) o
+    → elim o [ None ↦ [] | Some hand ↦ hand_line number by hand ]
+    ≡ six_fields (decimal number) (unwrap_or (elim o [ None ↦ None | Some hand ↦ value_of (exported by.mode (known_result by.missing_result) hand.pairs) (codes "White") ]) [])
+    (unwrap_or (elim o [ None ↦ None | Some hand ↦ value_of (exported by.mode (known_result by.missing_result) hand.pairs) (codes "Black") ]) [])
+    (unwrap_or (elim o [ None ↦ None | Some hand ↦ value_of (exported by.mode (known_result by.missing_result) hand.pairs) (codes "Result") ]) [])
     (decimal (elim o [ None ↦ 0 | Some hand ↦ hand.plies ])) (fen_text p)
 unfolding hand_line
-line_told None number mode p e = absurd (cc)
-line_told (Some hand) number mode p e =
-    ap (λ q. six_fields (decimal number) (value_told mode hand.pairs (codes "White")) (value_told mode hand.pairs (codes "Black"))
-    (value_told mode hand.pairs (codes "Result")) (decimal hand.plies) (fen_text q)) (ap (λ o. unwrap_or o p) (sym e))
+line_told None number by p e = absurd (cc)
+line_told (Some hand) number by p e =
+    ap (λ q. six_fields (decimal number) (value_told by hand.pairs (codes "White")) (value_told by hand.pairs (codes "Black"))
+    (value_told by hand.pairs (codes "Result")) (decimal hand.plies) (fen_text q)) (ap (λ o. unwrap_or o p) (sym e))
 
 pub line_at_hand-told : (k : Converter) (p : Parts) → Some p ≡ position_at_hand k
     → line_at_hand k ≡ six_fields (decimal k.games) (unwrap_or (value_at_hand k (codes "White")) []) (unwrap_or (value_at_hand k (codes "Black")) [])
     (unwrap_or (value_at_hand k (codes "Result")) []) (decimal (plies_at_hand k)) (fen_text p)
-line_at_hand-told k p e = line_told k.at_hand k.games k.reading.profile.mode p e
+line_at_hand-told k p e = line_told k.at_hand k.games k.reading.profile p e
 
 -- a line by other spellings of its fields
 pub six_as : (a b c d e f k l m n o p : List ℕ) → a ≡ k → b ≡ l → c ≡ m → d ≡ n → e ≡ o → f ≡ p → six_fields a b c d e f ≡ six_fields k l m n o p

@@ -11,8 +11,7 @@ use Rattle.pgn_lexer.specs.TokensOf.{tokens_of}
 use Rattle.pgn_lexer.specs.Decided.{decided}
 use Rattle.pgn_lexer.specs.Standing.{coming}
 use Rattle.pgn_lexer.specs.Stands.{Follows, IsDecided, first, still}
-use Rattle.pgn_game.specs.declared.mode.Mode.{Mode}
-use Rattle.pgn_game.specs.declared.mode.Mode.TheVariants.{Full}
+use Rattle.pgn_game.specs.Profile.{Profile}
 use Rattle.pgn_game.specs.declared.reason.Reason.TheVariants.{ReadFault, InputTooLong}
 use Rattle.pgn_game.specs.declared.reason.Fault.{Fault}
 use Rattle.pgn_game.specs.Game.{Game}
@@ -38,13 +37,13 @@ lines_one_more : (gs : List Game) (g : Game) → lines_from 1 (gs ++ g ∷ []) �
 lines_one_more gs g = lines_two 1 gs (g ∷ []) ∙ ap (λ l. lines_from 1 gs ++ l) (append-nil (game_line (1 + length gs) g))
 
 -- the line of the last game is the one at hand
-hand_is : (o : Option AtHand) (number other : ℕ) (mode : Mode) (g : Game) → o ≡ Some (hand_of g) → number ≡ other → mode ≡ Full
-    → elim o [ None ↦ [] | Some hand ↦ hand_line number mode hand ] ≡ game_line other g
-hand_is o number other mode g is same full =
-    ap (λ o. elim o [ None ↦ [] | Some hand ↦ hand_line number mode hand ]) is ∙ ap (λ n. hand_line n mode (hand_of g)) same ∙ ap (λ m. hand_line other m (hand_of g)) full
+hand_is : (o : Option AtHand) (number other : ℕ) (p : Profile) (g : Game) → o ≡ Some (hand_of g) → number ≡ other → p ≡ list_profile
+    → elim o [ None ↦ [] | Some hand ↦ hand_line number p hand ] ≡ game_line other g
+hand_is o number other p g is same listed =
+    ap (λ o. elim o [ None ↦ [] | Some hand ↦ hand_line number p hand ]) is ∙ ap (λ n. hand_line n p (hand_of g)) same ∙ ap (λ q. hand_line other q (hand_of g)) listed
 
 no_hand : (c : Converter) → c.at_hand ≡ None → line_at_hand c ≡ []
-no_hand c is = ap (λ (o : Option AtHand). elim o [ None ↦ [] | Some hand ↦ hand_line c.games c.reading.profile.mode hand ]) is
+no_hand c is = ap (λ (o : Option AtHand). elim o [ None ↦ [] | Some hand ↦ hand_line c.games c.reading.profile hand ]) is
 
 -- ---- a piece
 
@@ -98,7 +97,7 @@ module _ (u rest : List ℕ) (old new : Converter) (a b : Option (List ℕ)) (so
         let has = fed.stands.has_read in
         let number : new.games ≡ 1 + length games = has.games ∙ ap (length {A = Game}) fed.one_game ∙ length-append games (fed.game ∷ []) ∙ omega arith in
         ap (lines_from 1) fed.one_game ∙ lines_one_more games fed.game
-        ∙ ap (λ l. lines_of so.tokens ++ l) (sym (hand_is new.at_hand new.games (1 + length games) new.reading.profile.mode fed.game fed.at_hand number (ap (λ p. p.mode) has.profile)))
+        ∙ ap (λ l. lines_of so.tokens ++ l) (sym (hand_is new.at_hand new.games (1 + length games) new.reading.profile fed.game fed.at_hand number has.profile))
 
     pub game_listed : (c : Option (List ℕ)) → Appends b c (line_at_hand new) → Listed (u ++ take used rest) (drop used rest) new a c
     unfolding tokens_now
@@ -246,7 +245,7 @@ module _ (u : List ℕ) (old new : Converter) (a b : Option (List ℕ)) (so : Li
           let number : new.games ≡ 1 + length games = fed.has_read.games ∙ ap (length {A = Game}) more ∙ length-append games (g ∷ []) ∙ omega arith in
           ap (lines_from 1) more ∙ lines_one_more games g
           ∙ ap (λ l. lines_of so.tokens ++ l)
-          (sym (hand_is new.at_hand new.games (1 + length games) new.reading.profile.mode g at_hand number (ap (λ p. p.mode) fed.has_read.profile)))
+          (sym (hand_is new.at_hand new.games (1 + length games) new.reading.profile g at_hand number fed.has_read.profile))
 
   pub last_listed : (is_game : Bool) (c : Option (List ℕ)) → Finishes list_profile u so.tokens new is_game None None → Appends b c (line_at_hand new) → IsListed u None a c
   last_listed is_game c fed wrote =

@@ -10,12 +10,11 @@ use Rattle.pgn_lexer.specs.Tokens.{Token}
 use Rattle.pgn_lexer.specs.TokensOf.{tokens_of}
 use Rattle.pgn_lexer.specs.Decided.{decided}
 use Rattle.pgn_lexer.specs.Stands.{IsDecided, first}
-use Rattle.pgn_game.specs.declared.mode.Mode.{Mode}
 use Rattle.pgn_game.specs.declared.mode.Mode.TheVariants.{Full}
 use Rattle.pgn_game.specs.declared.reason.Reason.{Reason}
 use Rattle.pgn_game.specs.declared.reason.Reason.TheVariants.{ReadFault, WriteFault, InputTooLong}
 use Rattle.pgn_game.specs.declared.reason.Fault.{Fault}
-use Rattle.pgn_game.specs.Profile.{Profile}
+use Rattle.pgn_game.specs.Profile.{Profile, known_result}
 use Rattle.pgn_game.specs.Pairs.{Pair, value_of}
 use Rattle.pgn_game.specs.TagSection.{exported}
 use Rattle.pgn_game.specs.Game.{Game}
@@ -26,9 +25,13 @@ use Rattle.pgn_tool.specs.declared.list.Stopped.TheVariants.{Refused, Unwritten}
 
 -- ---- lines
 
+-- what is listed is read in full, with at most 64 tag pairs of a game and variations to depth 32
+abbrev pub list_profile : Profile
+list_profile = profile_of 64 32 Full
+
 -- the value of a name in the tag section of a game with these pairs, its defaults included
-abbrev pub value_told : Mode → List Pair → List ℕ → List ℕ
-value_told mode pairs name = unwrap_or (value_of (exported mode (codes "*") pairs) name) []
+abbrev pub value_told : Profile → List Pair → List ℕ → List ℕ
+value_told p pairs name = unwrap_or (value_of (exported p.mode (known_result p.missing_result) pairs) name) []
 
 -- a field, and the byte that ends it
 abbrev pub field : List ℕ → ℕ → List ℕ
@@ -40,24 +43,20 @@ six_fields number white black result plies position =
     field number 9 ++ field white 9 ++ field black 9 ++ field result 9 ++ field plies 9 ++ field position 10
 
 -- the line of a game just finished; the name is `unfoldable`, so that goals show it as it is
-unfoldable pub hand_line : ℕ → Mode → AtHand → List ℕ
-hand_line number mode hand =
-    six_fields (decimal number) (value_told mode hand.pairs (codes "White")) (value_told mode hand.pairs (codes "Black"))
-    (value_told mode hand.pairs (codes "Result")) (decimal hand.plies) (fen_text hand.position)
+unfoldable pub hand_line : ℕ → Profile → AtHand → List ℕ
+hand_line number p hand =
+    six_fields (decimal number) (value_told p hand.pairs (codes "White")) (value_told p hand.pairs (codes "Black"))
+    (value_told p hand.pairs (codes "Result")) (decimal hand.plies) (fen_text hand.position)
 
 -- the line of a game: its number, White, Black, Result, how many moves it has outside variations,
 -- and the position after these
 abbrev pub game_line : ℕ → Game → List ℕ
-game_line number g = hand_line number Full (hand_of g)
+game_line number g = hand_line number list_profile (hand_of g)
 
 -- the lines of games, one after another, numbered from there
 abbrev pub lines_from : ℕ → List Game → List ℕ
 lines_from number [] = []
 lines_from number (g ∷ gs) = game_line number g ++ lines_from (number + 1) gs
-
--- what is listed is read in full, with at most 64 tag pairs of a game and variations to depth 32
-abbrev pub list_profile : Profile
-list_profile = profile_of 64 32 Full
 
 -- the lines of the games that are finished before the first of these tokens that is rejected
 abbrev pub lines_of : List Token → List ℕ
@@ -69,7 +68,7 @@ list_text s = lines_of (tokens_of s)
 
 -- the line of the game just finished, or nothing if there is none
 abbrev pub line_at_hand : Converter → List ℕ
-line_at_hand c = elim c.at_hand [ None ↦ [] | Some hand ↦ hand_line c.games c.reading.profile.mode hand ]
+line_at_hand c = elim c.at_hand [ None ↦ [] | Some hand ↦ hand_line c.games c.reading.profile hand ]
 
 -- ---- how a list ends
 

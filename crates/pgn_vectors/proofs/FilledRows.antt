@@ -10,7 +10,7 @@ use Rattle.pgn_lexer.specs.TokensOf.{tokens_of}
 use Rattle.pgn_lexer.specs.declared.token.LexReason.TheVariants as lexical
 use Rattle.pgn_game.specs.declared.mode.Mode.TheVariants.{Full, Reduced}
 use Rattle.pgn_game.specs.declared.reason.Reason.TheVariants.{Lexical, NotAMove, TooManyTags}
-use Rattle.pgn_game.specs.Profile.{Profile, counts_as_unknown, takes_the_marker}
+use Rattle.pgn_game.specs.Profile.{Profile, counts_as, takes_the_marker}
 use Rattle.pgn_game.specs.declared.reason.Fault.{Fault}
 use Rattle.pgn_game.specs.Progress.{Counted, Verdict, refused, totals, output, verdict}
 use Rattle.pgn_game.specs.Chess.{first_position, position_of, move_of, text_of_move, play}
@@ -145,7 +145,7 @@ kept_result = (refl, refl)
 
 -- Where a game may have fewer pairs than its tag section has lines, its text is refused.
 abbrev seven_pairs : Profile
-seven_pairs = record { tags = 7; depth = 0; mode = Full; missing_result = counts_as_unknown }
+seven_pairs = record { tags = 7; depth = 0; mode = Full; missing_result = counts_as (codes "*") }
 
 abbrev eighth_line : List ℕ
 eighth_line = unknown ++ codes "[Result \"*\"]\n[A \"1\"]\n\n*\n\n"
@@ -199,7 +199,7 @@ bare_word_not_kept c = not_kept plain (text_of plain (bare_word ∷ [])) _ c bar
 
 -- Seven lines are always written, so fewer than seven pairs are too few for any game.
 abbrev six_pairs : Profile
-six_pairs = record { tags = 6; depth = 0; mode = Reduced; missing_result = counts_as_unknown }
+six_pairs = record { tags = 6; depth = 0; mode = Reduced; missing_result = counts_as (codes "*") }
 
 six_are_few : Gives six_pairs (codes "*") (counted 1) (head ++ codes "*\n\n")
 unfolding refusal roster
@@ -211,7 +211,7 @@ seventh_line = (refl, refl)
 
 -- A FEN alone has nine lines: the roster, itself and its SetUp.
 abbrev eight_pairs : Profile
-eight_pairs = record { tags = 8; depth = 0; mode = Full; missing_result = counts_as_unknown }
+eight_pairs = record { tags = 8; depth = 0; mode = Full; missing_result = counts_as (codes "*") }
 
 nine_lines : length (exported_pairs Full (game (fen ∷ []) [] (codes "*"))) ≡ 9
 unfolding roster

@@ -7,7 +7,7 @@ use Rattle.chess_text.specs.Reads.{agreeing}
 use Rattle.pgn_lexer.specs.declared.token.LexReason.TheVariants as lexical
 use Rattle.pgn_game.specs.declared.mode.Mode.TheVariants.{Full}
 use Rattle.pgn_game.specs.declared.reason.Reason.TheVariants.{Lexical, BadFen, SetUpWithoutFen, TagInMovetext, NotAMove, IllegalMove, AmbiguousMove, MoveLimit, NoMoveBefore, TooDeep, UnmatchedClose, MarkerInVariation, ResultDiffers, UnexpectedEnd}
-use Rattle.pgn_game.specs.Profile.{Profile, counts_as_unknown}
+use Rattle.pgn_game.specs.Profile.{Profile, counts_as}
 use Rattle.pgn_game.specs.Chess.{first_position, position_of, move_of, text_of_move, play}
 use Rattle.pgn_game.specs.FaultTable.{refusal}
 use Rattle.pgn_game.specs.TagSection.{roster}
@@ -15,13 +15,13 @@ use Rattle.pgn_game.specs.Progress.{Verdict, totals}
 use Rattle.pgn_vectors.proofs.WorkedRows.{plain, reduced, Gives, fault, unknown, head}
 
 abbrev not_deep : Profile
-not_deep = record { tags = 64; depth = 0; mode = Full; missing_result = counts_as_unknown }
+not_deep = record { tags = 64; depth = 0; mode = Full; missing_result = counts_as (codes "*") }
 
 abbrev one_deep : Profile
-one_deep = record { tags = 4; depth = 1; mode = Full; missing_result = counts_as_unknown }
+one_deep = record { tags = 4; depth = 1; mode = Full; missing_result = counts_as (codes "*") }
 
 abbrev two_deep : Profile
-two_deep = record { tags = 4; depth = 2; mode = Full; missing_result = counts_as_unknown }
+two_deep = record { tags = 4; depth = 2; mode = Full; missing_result = counts_as (codes "*") }
 
 -- one game with so many moves outside variations
 abbrev pub played : ℕ → Verdict

@@ -6,7 +6,7 @@ use Rattle.pgn_lexer.specs.declared.token.LexReason.TheVariants as lexical
 use Rattle.pgn_game.specs.declared.mode.Mode.TheVariants.{Full, Reduced}
 use Rattle.pgn_game.specs.declared.reason.Reason.{Reason}
 use Rattle.pgn_game.specs.declared.reason.Reason.TheVariants.{Lexical, ExpectedName, BadTagName, DuplicateTag, TooManyTags, ExpectedValue, BadResult, TagLineTooLong, ExpectedBracket, ReducedFen, NotAMove, NoMoveBefore, ResultDiffers, UnexpectedEnd}
-use Rattle.pgn_game.specs.Profile.{Profile, counts_as_unknown, takes_the_marker}
+use Rattle.pgn_game.specs.Profile.{Profile, counts_as, takes_the_marker}
 use Rattle.pgn_game.specs.Chess.{move_of}
 use Rattle.pgn_game.specs.FaultTable.{refusal, rows}
 use Rattle.pgn_game.specs.Reason.{number_of}
@@ -15,19 +15,19 @@ use Rattle.pgn_game.specs.TagSection.{roster}
 use Rattle.pgn_game.specs.Progress.{output, verdict, Verdict, refused, totals}
 
 abbrev pub plain : Profile
-plain = record { tags = 64; depth = 32; mode = Full; missing_result = counts_as_unknown }
+plain = record { tags = 64; depth = 32; mode = Full; missing_result = counts_as (codes "*") }
 
 abbrev two_pairs : Profile
-two_pairs = record { tags = 2; depth = 32; mode = Full; missing_result = counts_as_unknown }
+two_pairs = record { tags = 2; depth = 32; mode = Full; missing_result = counts_as (codes "*") }
 
 abbrev pub reduced : Profile
-reduced = record { tags = 64; depth = 32; mode = Reduced; missing_result = counts_as_unknown }
+reduced = record { tags = 64; depth = 32; mode = Reduced; missing_result = counts_as (codes "*") }
 
 abbrev reduced_full : Profile
-reduced_full = record { tags = 2; depth = 32; mode = Reduced; missing_result = counts_as_unknown }
+reduced_full = record { tags = 2; depth = 32; mode = Reduced; missing_result = counts_as (codes "*") }
 
 abbrev no_pairs : Profile
-no_pairs = record { tags = 0; depth = 32; mode = Full; missing_result = counts_as_unknown }
+no_pairs = record { tags = 0; depth = 32; mode = Full; missing_result = counts_as (codes "*") }
 
 abbrev checked : Profile
 checked = record { tags = 64; depth = 32; mode = Full; missing_result = takes_the_marker }

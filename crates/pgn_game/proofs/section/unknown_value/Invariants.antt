@@ -1,7 +1,8 @@
-use Rattle.std.proofs.Common.{◌≡◌, ◌∷◌, [], drop}
+use Rattle.std.proofs.Common.{◌≡◌, drop}
+use Rattle.pgn_game.specs.Markers.{marker_text}
 use Rattle.pgn_game.specs.Pairs.{value_of}
 use Rattle.pgn_game.specs.TagSection.{roster}
 use Rattle.pgn_game.proofs.section.unknown_value.Given as goal
 
 abbrev pub invariant-loop-index : goal.invariant-loop-index
-invariant-loop-index l = value_of (roster (42 ∷ [])) l.name ≡ value_of (drop l.index (roster (42 ∷ []))) l.name
+invariant-loop-index l = value_of (roster (marker_text l.missing_result)) l.name ≡ value_of (drop l.index (roster (marker_text l.missing_result))) l.name

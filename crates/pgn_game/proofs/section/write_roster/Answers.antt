@@ -1,4 +1,4 @@
-use Rattle.std.proofs.Common.{◌≡◌, ℕ, Bool, ◌+◌, List, [], ◌∷◌, ◌∙◌, length, take, ap, sym, subst, arith, refl}
+use Rattle.std.proofs.Common.{◌≡◌, ℕ, Bool, ◌+◌, List, ◌∙◌, length, take, ap, sym, subst, arith, refl}
 use Rattle.std.specs.Prelude.{Option, Some, slice_get, unwrap_or}
 use Rattle.std.proofs.lemmas.Result.{err_from_is_err_and}
 use Rattle.std.proofs.lemmas.List.{take_all}
@@ -6,6 +6,7 @@ use Rattle.std.specs.Io.KnownBytes.{Appends}
 use Rattle.pgn_layout.specs.Device.{AppendsFront}
 use Rattle.pgn_layout.specs.TagLine.{tag_line}
 use Rattle.pgn_layout.specs.Layout.{Layout}
+use Rattle.pgn_game.specs.Markers.{marker_text}
 use Rattle.pgn_game.specs.Pairs.{Pair, value_of}
 use Rattle.pgn_game.specs.SectionLines.{roster_line, text_by}
 use Rattle.pgn_game.specs.TagSection.{roster}
@@ -13,41 +14,41 @@ use Rattle.pgn_game.proofs.Appending.{next_text, next_front, within_at}
 use Rattle.pgn_game.proofs.section.write_roster.Goals as goal
 
 -- the line of the pair at a place of the roster
-next_line : (held : List Pair) (i : ℕ) (name unknown value : List ℕ) (a b c : Option (List ℕ)) → slice_get (roster (42 ∷ [])) i ≡ Some (record { name = name; value = unknown })
-    → value ≡ unwrap_or (value_of held name) unknown → Appends a b (text_by (roster_line held) (take i (roster (42 ∷ [])))) → Appends b c (tag_line name value)
-    → Appends a c (text_by (roster_line held) (take (i + 1) (roster (42 ∷ []))))
-next_line held i name unknown value a b c at is done next =
-    let p = within_at (roster (42 ∷ [])) i (record { name = name; value = unknown }) at in
-    next_text (roster_line held) (roster (42 ∷ [])) i (record { name = name; value = unknown }) a b c p.0 p.1 done (subst (λ v. Appends b c (tag_line name v)) is next)
+next_line : (result : List ℕ) (held : List Pair) (i : ℕ) (name unknown value : List ℕ) (a b c : Option (List ℕ)) → slice_get (roster result) i ≡ Some (record { name = name; value = unknown })
+    → value ≡ unwrap_or (value_of held name) unknown → Appends a b (text_by (roster_line held) (take i (roster result))) → Appends b c (tag_line name value)
+    → Appends a c (text_by (roster_line held) (take (i + 1) (roster result)))
+next_line result held i name unknown value a b c at is done next =
+    let p = within_at (roster result) i (record { name = name; value = unknown }) at in
+    next_text (roster_line held) (roster result) i (record { name = name; value = unknown }) a b c p.0 p.1 done (subst (λ v. Appends b c (tag_line name v)) is next)
 
-front_of_line : (held : List Pair) (i : ℕ) (name unknown value : List ℕ) (a b c : Option (List ℕ)) → slice_get (roster (42 ∷ [])) i ≡ Some (record { name = name; value = unknown })
-    → value ≡ unwrap_or (value_of held name) unknown → Appends a b (text_by (roster_line held) (take i (roster (42 ∷ [])))) → AppendsFront b c (tag_line name value)
-    → AppendsFront a c (text_by (roster_line held) (roster (42 ∷ [])))
-front_of_line held i name unknown value a b c at is done next =
-    let p = within_at (roster (42 ∷ [])) i (record { name = name; value = unknown }) at in
-    next_front (roster_line held) (roster (42 ∷ [])) i (record { name = name; value = unknown }) a b c p.0 p.1 done (subst (λ v. AppendsFront b c (tag_line name v)) is next)
+front_of_line : (result : List ℕ) (held : List Pair) (i : ℕ) (name unknown value : List ℕ) (a b c : Option (List ℕ)) → slice_get (roster result) i ≡ Some (record { name = name; value = unknown })
+    → value ≡ unwrap_or (value_of held name) unknown → Appends a b (text_by (roster_line held) (take i (roster result))) → AppendsFront b c (tag_line name value)
+    → AppendsFront a c (text_by (roster_line held) (roster result))
+front_of_line result held i name unknown value a b c at is done next =
+    let p = within_at (roster result) i (record { name = name; value = unknown }) at in
+    next_front (roster_line held) (roster result) i (record { name = name; value = unknown }) a b c p.0 p.1 done (subst (λ v. AppendsFront b c (tag_line name v)) is next)
 
-seven : length (roster (42 ∷ [])) ≡ 7
+seven : (result : List ℕ) → length (roster result) ≡ 7
 unfolding roster
-seven = refl
+seven result = refl
 
 pub returns-in_err-tag-clause-text : goal.returns-in_err-tag-clause-text
 returns-in_err-tag-clause-text g c =
     let p = err_from_is_err_and c.from_residual.result c.from_residual.ensures.1 in
     rw p.1
-    (front_of_line c.args.pairs.now c.loop-index.index c.roster_pair.result.0.now c.roster_pair.result.1.now c.value_or-value.result.now _ _ _
+    (front_of_line (marker_text c.args.missing_result) c.args.pairs.now c.loop-index.index c.roster_pair.result.0.now c.roster_pair.result.1.now c.value_or-value.result.now _ _ _
     c.roster_pair.ensures.pair c.value_or-value.ensures.value c.loop-index.invariant.2 (c.in_err-tag.ensures.text (ap (λ (l : Layout). l.has_failed) c.loop-index.invariant.0 ∙ c.requires.going)))
 
 pub loop-index-preserved : goal.loop-index-preserved
 loop-index-preserved g c = (
   c.in_ok-tag.ensures.line ∙ ap (λ (b : Bool). record { line = c.loop-index.layout.line; has_failed = b }) (sym (ap (λ (l : Layout). l.has_failed) c.loop-index.invariant.0 ∙ c.requires.going)) ∙ c.loop-index.invariant.0,
   c.in_ok-tag.ensures.faults.counted (ap (λ (l : Layout). l.has_failed) c.loop-index.invariant.0 ∙ c.requires.going) ∙ c.loop-index.invariant.1,
-  next_line c.args.pairs.now c.loop-index.index c.roster_pair.result.0.now c.roster_pair.result.1.now c.value_or-value.result.now _ _ _
+  next_line (marker_text c.args.missing_result) c.args.pairs.now c.loop-index.index c.roster_pair.result.0.now c.roster_pair.result.1.now c.value_or-value.result.now _ _ _
       c.roster_pair.ensures.pair c.value_or-value.ensures.value c.loop-index.invariant.2 (c.in_ok-tag.ensures.text (ap (λ (l : Layout). l.has_failed) c.loop-index.invariant.0 ∙ c.requires.going)),
 )
 
 pub returns-clause-text : goal.returns-clause-text
 returns-clause-text g c =
     let held = c.args.pairs.now in
-    let all : take c.loop-index.index (roster (42 ∷ [])) ≡ roster (42 ∷ []) = take_all c.loop-index.index (roster (42 ∷ [])) (omega (arith, seven, c.loop-index-test.false)) in
+    let all : take c.loop-index.index (roster (marker_text c.args.missing_result)) ≡ roster (marker_text c.args.missing_result) = take_all c.loop-index.index (roster (marker_text c.args.missing_result)) (omega (arith, seven (marker_text c.args.missing_result), c.loop-index-test.false)) in
     subst (λ ps. Appends (g.W.Sink.taken c.args.out.now) (g.W.Sink.taken c.loop-index.out) (text_by (roster_line held) ps)) all c.loop-index.invariant.2

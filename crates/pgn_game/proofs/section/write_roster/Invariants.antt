@@ -1,5 +1,6 @@
-use Rattle.std.proofs.Common.{◌≡◌, ◌∷◌, [], take}
+use Rattle.std.proofs.Common.{◌≡◌, take}
 use Rattle.std.specs.Io.KnownBytes.{Appends}
+use Rattle.pgn_game.specs.Markers.{marker_text}
 use Rattle.pgn_game.specs.SectionLines.{roster_line, text_by}
 use Rattle.pgn_game.specs.TagSection.{roster}
 use Rattle.pgn_game.proofs.section.write_roster.Given as goal
@@ -7,4 +8,4 @@ use Rattle.pgn_game.proofs.section.write_roster.Given as goal
 abbrev pub invariant-loop-index : goal.invariant-loop-index
 invariant-loop-index g l =
     (l.layout ≡ l.fn.layout) × (g.W.Sink.failures l.out ≡ g.W.Sink.failures l.fn.out)
-    × Appends (g.W.Sink.taken l.fn.out) (g.W.Sink.taken l.out) (text_by (roster_line l.pairs) (take l.index (roster (42 ∷ []))))
+    × Appends (g.W.Sink.taken l.fn.out) (g.W.Sink.taken l.out) (text_by (roster_line l.pairs) (take l.index (roster (marker_text l.missing_result))))

@@ -1,4 +1,4 @@
-use Rattle.std.proofs.Common.{ℕ, rules, arith, ap, ◌∙◌}
+use Rattle.std.proofs.Common.{ap, ◌∙◌}
 use Rattle.pgn_game.specs.Feeding.{Converter}
 use Rattle.pgn_game.proofs.Sizes.{fits_reader}
 use Rattle.pgn_game.proofs.converter.Converter.most_probes.Goals as goal

@@ -1,5 +1,5 @@
 use Rattle.std.proofs.Common.{Bool, None, Some, sym, ap, ◌∙◌}
-use Rattle.pgn_game.specs.Feeding.{Converter, held_if, plies_at_hand}
+use Rattle.pgn_game.specs.Feeding.{held_if, plies_at_hand}
 use Rattle.pgn_game.proofs.Sizes.{fits_reader}
 use Rattle.pgn_game.proofs.converter.Converter.plies.Goals as goal
 

@@ -5,6 +5,7 @@ use Rattle.pgn_lexer.specs.Scanned.{kind_of}
 use Rattle.pgn_game.specs.declared.judged.Judged.TheVariants.{Entry as InText}
 use Rattle.pgn_game.specs.declared.judged.Entry.TheVariants.{Marker}
 use Rattle.pgn_game.specs.declared.reason.Reason.TheVariants.{MarkerInVariation, ResultDiffers}
+use Rattle.pgn_game.specs.Markers.{marker_text}
 use Rattle.pgn_game.specs.Pairs.{Pair, value_of}
 use Rattle.pgn_game.specs.Levels.{depth}
 use Rattle.pgn_game.specs.Holding.{TagPairs}
@@ -26,25 +27,27 @@ returns-then-ne g c = λ k is.
     let old = c.args.self.now in
     let v = c.self.view_is in
     let marker = c.args.marker.now in
-    let unknown = sym (ap (λ (r : Reading). r.profile.missing_result) v) in
-    let test = test_of c.self.inside.tags.held c.value.result _ c.unwrap_or.result marker true old.tags.held (ap (λ (r : Reading). r.tags.held) v)
-    c.value.ensures.value refl c.unwrap_or.ensures (sym c.if-ne.true ∙ c.ne.ensures) in
+    let missing = marker_text c.self.inside.missing_result in
+    let known = sym (ap (λ (r : Reading). r.profile.missing_result) v) in
+    let test = test_of c.self.inside.tags.held c.value.result _ c.unwrap_or.result missing marker true old.tags.held (ap (λ (r : Reading). r.tags.held) v)
+    c.value.ensures.value c.text-missing.ensures.text c.unwrap_or.ensures (sym c.if-ne.true ∙ c.ne.ensures) in
     entry_refused g.row.T g.row.L old (kind_of k) ResultDiffers refl (λ part op.
-    marker_differs old k marker part is
-    (omega (arith, c.if-depth-gt0.false, c.depth.ensures.value, depth_is old part op, ap (λ (r : Reading). length r.text.levels.around) v)) unknown
-    (ap (λ (ps : List Pair). differs (value_of ps (codes "Result")) marker) (sym (ap (λ (t : TagPairs). t.held) op.pairs)) ∙ test))
+    marker_differs old k missing marker part is
+    (omega (arith, c.if-depth-gt0.false, c.depth.ensures.value, depth_is old part op, ap (λ (r : Reading). length r.text.levels.around) v)) known
+    (ap (λ (ps : List Pair). differs missing (value_of ps (codes "Result")) marker) (sym (ap (λ (t : TagPairs). t.held) op.pairs)) ∙ test))
 
 pub returns : goal.returns
 returns g c = λ k is.
     let old = c.args.self.now in
     let v = c.self.view_is in
     let marker = c.args.marker.now in
-    let unknown = sym (ap (λ (r : Reading). r.profile.missing_result) v) in
+    let missing = marker_text c.self.inside.missing_result in
+    let known = sym (ap (λ (r : Reading). r.profile.missing_result) v) in
     let none : length old.text.levels.around ≡ 0 = omega (arith, c.if-depth-gt0.false, c.depth.ensures.value, ap (λ (r : Reading). length r.text.levels.around) v) in
-    let test = test_of c.self.inside.tags.held c.value.result _ c.unwrap_or.result marker false old.tags.held (ap (λ (r : Reading). r.tags.held) v)
-    c.value.ensures.value refl c.unwrap_or.ensures (sym c.if-ne.false ∙ c.ne.ensures) in
+    let test = test_of c.self.inside.tags.held c.value.result _ c.unwrap_or.result missing marker false old.tags.held (ap (λ (r : Reading). r.tags.held) v)
+    c.value.ensures.value c.text-missing.ensures.text c.unwrap_or.ensures (sym c.if-ne.false ∙ c.ne.ensures) in
     entry_goes g.row.T g.row.L old (kind_of k) (InText (Marker c.args.marker)) (c.requires.stage, (c.requires.token, none_around old.text.levels.around none), tt) (λ e. ap is_some is) (λ part op. (
-      marker_free old k marker part is (sym (depth_is old part op) ∙ none) unknown
-          (ap (λ (ps : List Pair). differs (value_of ps (codes "Result")) marker) (sym (ap (λ (t : TagPairs). t.held) op.pairs)) ∙ test),
+      marker_free old k missing marker part is (sym (depth_is old part op) ∙ none) known
+          (ap (λ (ps : List Pair). differs missing (value_of ps (codes "Result")) marker) (sym (ap (λ (t : TagPairs). t.held) op.pairs)) ∙ test),
       marker_whole part (kind_of k) marker is,
     ))
