@@ -1,5 +1,5 @@
 //! Numbers in movetext.
-ghost use Rattle.std.specs.Prelude.{◌≡◌, ◌+◌, ◌≤◌, ◌++◌, ◌∷◌, decimal, codes, length};
+ghost use Rattle.std.specs.Prelude.{◌≡◌, ◌<◌, ◌≤◌, ◌++◌, ◌∷◌, decimal, codes, length};
 ghost use Rattle.pgn_layout.specs.Lines.{IsToken};
 
 use arrayvec::ArrayVec;
@@ -13,7 +13,10 @@ pub fn white_number(number: u32) -> ArrayVec<u8, NUMBER_LENGTH>
     ensures text { result.items ≡ decimal number ++ codes "." }
     ensures token { IsToken result.items }
 {
-    numbered(b"", number, b".")
+    let mut text = ArrayVec::new();
+    append_number(&mut text, number);
+    text.push(b'.');
+    text
 }
 
 /// Returns Black's move number: `n...` (PGN 8.2.2.2).
@@ -21,7 +24,10 @@ pub fn black_number(number: u32) -> ArrayVec<u8, NUMBER_LENGTH>
     ensures text { result.items ≡ decimal number ++ codes "..." }
     ensures token { IsToken result.items }
 {
-    numbered(b"", number, b"...")
+    let mut text = ArrayVec::new();
+    append_number(&mut text, number);
+    let _ = text.try_extend_from_slice(b"...");
+    text
 }
 
 /// Returns the text of a NAG: `$n` (PGN 8.2.4). The byte 36 is `$`.
@@ -29,27 +35,20 @@ pub fn glyph_text(glyph: u8) -> ArrayVec<u8, NUMBER_LENGTH>
     ensures text { result.items ≡ 36 ∷ decimal glyph }
     ensures token { IsToken result.items }
 {
-    numbered(b"$", glyph as u32, b"")
-}
-
-// A number between two texts, of three bytes together at most.
-fn numbered(before: &[u8], number: u32, after: &[u8]) -> ArrayVec<u8, NUMBER_LENGTH>
-    requires { length before.now + length after.now ≤ 3 }
-    ensures text { result.items ≡ before.now ++ decimal number ++ after.now }
-    ensures token { IsToken result.items }
-{
     let mut text = ArrayVec::new();
-    let mut buffer = Buffer::new();
-    append(&mut text, before);
-    append(&mut text, buffer.format(number).as_bytes());
-    append(&mut text, after);
+    text.push(b'$');
+    append_number(&mut text, glyph as u32);
     text
 }
 
-// Adds the bytes at the text's end.
-fn append(text: &mut ArrayVec<u8, NUMBER_LENGTH>, bytes: &[u8])
-    requires { length text.old.items + length bytes.now ≤ 13 }
-    ensures { text.new.items ≡ text.old.items ++ bytes.now }
+// Adds the number's digits at the text's end: one to ten bytes.
+#[inline(always)]
+fn append_number(text: &mut ArrayVec<u8, NUMBER_LENGTH>, number: u32)
+    requires { length text.old.items ≤ 1 }
+    ensures text { text.new.items ≡ text.old.items ++ decimal number }
+    ensures some { 0 < length (decimal number) }
+    ensures few { length (decimal number) ≤ 10 }
 {
-    let _ = text.try_extend_from_slice(bytes);
+    let mut buffer = Buffer::new();
+    let _ = text.try_extend_from_slice(buffer.format(number).as_bytes());
 }
