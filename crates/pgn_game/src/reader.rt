@@ -571,6 +571,7 @@ impl<const T: usize, const L: usize> Reader<T, L> {
     }
 
     // Writes the tag section, where movetext is not begun yet.
+    #[inline(always)]
     fn begin_movetext<W: Sink>(&mut self, out: &mut W) -> Result<(), WriteFault>
         requires going { self.old.layout.has_failed ≡ false }
         requires stage { IsTrue (may_have_movetext self.old.stage) }

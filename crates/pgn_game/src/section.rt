@@ -28,6 +28,7 @@ const FROM_FEN: &[u8] = b"1";
 /// # Errors
 ///
 /// `WriteFault` if a write failed. A prefix of the section was written.
+#[inline(never)]
 pub fn write_section<W: Sink>(
     mode: Mode,
     missing_result: Marker,
