@@ -1,11 +1,13 @@
 -- Pairs that come one after another, and what is asked of each beside those before it.
-use Rattle.std.proofs.Common.{◌≡◌, ℕ, suc, ◌+◌, ◌<◌, ◌≤◌, Bool, true, false, ◌||◌, List, [], ◌∷◌, length, refl, sym, ap, ◌∙◌, arith, Option, Some}
-use Rattle.std.specs.Prelude.{IsFalse, is_some, bytes_eq}
+use Rattle.std.proofs.Common.{◌≡◌, ℕ, suc, ◌+◌, ◌<◌, ◌≤◌, Bool, true, false, List, [], ◌∷◌, length, refl, sym, ap, ◌∙◌, arith, Option, None, Some}
+use Rattle.std.specs.Prelude.{IsFalse, bytes_eq}
 use Rattle.std.specs.List.{AllByRecursion, fold}
-use Rattle.std.proofs.lemmas.Slice.Eq.{bytes_eq-Decides}
+use Rattle.std.proofs.lemmas.Bool.{or_parts, or_from}
 use Rattle.pgn_game.specs.Profile.{Profile}
-use Rattle.pgn_game.specs.Pairs.{Pair, value_of, has_pair, comes_before, insert_pair}
+use Rattle.pgn_game.specs.Pairs.{Pair, value_of, has_pair, insert_pair}
 use Rattle.pgn_game.specs.Spells.{IsPair, AreDistinct, KeepsTags}
+use Rattle.pgn_game.proofs.PairOrder.{InOrder, order-insert}
+use Rattle.pgn_game.proofs.PairValues.{bytes_eq-true, bytes_eq-sym, either_of, either_none, pick, value_of-cons, value_of-put, has-cons, has-insert, not_among, no_value, by_insert, all-insert}
 
 abbrev pub with_pairs : List Pair → List Pair → List Pair
 with_pairs ps qs = fold (λ sorted q. insert_pair q sorted) ps qs
@@ -16,62 +18,7 @@ Takes p ps [] = Unit {0}
 Takes p ps (q ∷ qs) = (length ps < p.tags) × IsFalse (has_pair ps q.name) × IsPair p.mode q × Takes p (insert_pair q ps) qs
 
 pub length-insert : (q : Pair) (ps : List Pair) → length (insert_pair q ps) ≡ suc (length ps)
-length-insert q [] = refl
-length-insert q (r ∷ rs) =
-    let more = length-insert q rs in
-    elim (comes_before q.name r.name) as (λ b. length {A = Pair} (elim b [ true ↦ q ∷ r ∷ rs | false ↦ r ∷ insert_pair q rs ]) ≡ suc (suc (length rs))) [
-      | true ↦ refl
-      | false ↦ ap suc more
-    ]
-
-abbrev first_or : Bool → List ℕ → Option (List ℕ) → Option (List ℕ)
-first_or b value rest = elim b [ true ↦ Some value | false ↦ rest ]
-
-is_some-first_or : (b : Bool) (value : List ℕ) (rest : Option (List ℕ)) → is_some (first_or b value rest) ≡ (b || is_some rest)
-is_some-first_or true value rest = refl
-is_some-first_or false value rest = refl
-
-or_swap : (a b c : Bool) → (a || (b || c)) ≡ (b || (a || c))
-or_swap true true c = refl
-or_swap true false c = refl
-or_swap false true c = refl
-or_swap false false c = refl
-
-has-cons : (q : Pair) (ps : List Pair) (name : List ℕ) → has_pair (q ∷ ps) name ≡ (bytes_eq q.name name || has_pair ps name)
-has-cons q ps name = is_some-first_or (bytes_eq q.name name) q.value (value_of ps name)
-
--- a name is among the pairs with one more
-pub has-insert : (q : Pair) (ps : List Pair) (name : List ℕ) → has_pair (insert_pair q ps) name ≡ (bytes_eq q.name name || has_pair ps name)
-has-insert q [] name = has-cons q [] name
-has-insert q (r ∷ rs) name =
-    let more = has-insert q rs name in
-    elim (comes_before q.name r.name)
-    as (λ b. has_pair (elim b [ true ↦ q ∷ r ∷ rs | false ↦ r ∷ insert_pair q rs ]) name ≡ (bytes_eq q.name name || has_pair (r ∷ rs) name)) [
-      | true ↦ has-cons q (r ∷ rs) name
-      | false ↦
-          has-cons r (insert_pair q rs) name ∙ ap (λ (x : Bool). bytes_eq r.name name || x) more
-          ∙ or_swap (bytes_eq r.name name) (bytes_eq q.name name) (has_pair rs name) ∙ ap (λ (x : Bool). bytes_eq q.name name || x) (sym (has-cons r rs name))
-    ]
-
-same_bool : (a b : Bool) → (a ≡ true → b ≡ true) → (b ≡ true → a ≡ true) → a ≡ b
-same_bool true b f g = sym (f refl)
-same_bool false true f g = g refl
-same_bool false false f g = refl
-
-bytes_eq-sym : (a b : List ℕ) → bytes_eq a b ≡ bytes_eq b a
-bytes_eq-sym a b =
-    same_bool (bytes_eq a b) (bytes_eq b a) (λ e. (bytes_eq-Decides b a).1 (sym ((bytes_eq-Decides a b).0 e))) (λ e. (bytes_eq-Decides a b).1 (sym ((bytes_eq-Decides b a).0 e)))
-
-or_left : (a b : Bool) → (a || b) ≡ false → a ≡ false
-or_left true b e = absurd (cc)
-or_left false b e = refl
-
-or_right : (a b : Bool) → (a || b) ≡ false → b ≡ false
-or_right true b e = absurd (cc)
-or_right false b e = e
-
-or_both : (a b : Bool) → a ≡ false → b ≡ false → (a || b) ≡ false
-or_both a b e f = ap (λ (x : Bool). x || b) e ∙ f
+length-insert q ps = by_insert (λ qs l. length l ≡ suc (length qs)) q (λ qs. refl) (λ r rs l more. ap suc more) ps
 
 -- none of the names is among the pairs
 abbrev Apart : List Pair → List Pair → Type 0
@@ -85,17 +32,17 @@ apart_less : (q : Pair) (ps qs : List Pair) → Apart (insert_pair q ps) qs → 
 apart_less q ps [] h = (tt, refl)
 apart_less q ps (r ∷ rs) h =
     let rest = apart_less q ps rs h.1 in
-    let here : (bytes_eq q.name r.name || has_pair ps r.name) ≡ false = sym (has-insert q ps r.name) ∙ h.0 in (
-      (or_right (bytes_eq q.name r.name) (has_pair ps r.name) here, rest.0),
-      has-cons r rs q.name ∙ or_both (bytes_eq r.name q.name) (has_pair rs q.name) (bytes_eq-sym r.name q.name ∙ or_left (bytes_eq q.name r.name) (has_pair ps r.name) here) rest.1,
+    let here = or_parts (bytes_eq q.name r.name) (has_pair ps r.name) (sym (has-insert q ps r.name) ∙ h.0) in (
+      (here.1, rest.0),
+      has-cons r rs q.name ∙ or_from (bytes_eq r.name q.name) (has_pair rs q.name) (bytes_eq-sym r.name q.name ∙ here.0) rest.1,
     )
 
 apart_more : (q : Pair) (ps qs : List Pair) → Apart ps qs → IsFalse (has_pair qs q.name) → Apart (insert_pair q ps) qs
 apart_more q ps [] h new = tt
 apart_more q ps (r ∷ rs) h new =
-    let there : (bytes_eq r.name q.name || has_pair rs q.name) ≡ false = sym (has-cons r rs q.name) ∙ new in (
-      has-insert q ps r.name ∙ or_both (bytes_eq q.name r.name) (has_pair ps r.name) (bytes_eq-sym q.name r.name ∙ or_left (bytes_eq r.name q.name) (has_pair rs q.name) there) h.0,
-      apart_more q ps rs h.1 (or_right (bytes_eq r.name q.name) (has_pair rs q.name) there),
+    let there = not_among r rs q.name new in (
+      has-insert q ps r.name ∙ or_from (bytes_eq q.name r.name) (has_pair ps r.name) (bytes_eq-sym q.name r.name ∙ there.0) h.0,
+      apart_more q ps rs h.1 there.1,
     )
 
 -- From what is asked of each pair in turn to what is asked of all.
@@ -139,3 +86,26 @@ takes_from p ps (q ∷ qs) count each distinct apart =
 
 pub takes : (p : Profile) (qs : List Pair) → KeepsTags p qs → Takes p [] qs
 takes p qs h = let count = h.count in takes_from p [] qs (omega arith) h.each h.distinct (apart_from_none qs)
+
+-- The values of names in pairs of new names, all put in.
+put_later : (q : Pair) (n : List ℕ) (b : Bool) (o more : Option (List ℕ)) → bytes_eq q.name n ≡ b → (q.name ≡ n → o ≡ None)
+    → either_of (pick b q.value o) more ≡ either_of o (pick b q.value more)
+put_later q n true o more is new = ap (λ x. either_of x (Some q.value)) (sym (new (bytes_eq-true q.name n is)))
+put_later q n false o more is new = refl
+
+pub value_of-all : (p : Profile) (ps qs : List Pair) (n : List ℕ) → Takes p ps qs → value_of (with_pairs ps qs) n ≡ either_of (value_of ps n) (value_of qs n)
+value_of-all p ps [] n h = sym (either_none (value_of ps n))
+value_of-all p ps (q ∷ qs) n h =
+    value_of-all p (insert_pair q ps) qs n h.3
+    ∙ ap (λ o. either_of o (value_of qs n)) (value_of-put q ps n h.1)
+    ∙ put_later q n (bytes_eq q.name n) (value_of ps n) (value_of qs n) refl (λ e. no_value (value_of ps n) (ap (has_pair ps) (sym e) ∙ h.1))
+    ∙ ap (either_of (value_of ps n)) (sym (value_of-cons q qs n))
+
+-- what is all put in is in order, and has what each has
+pub order-all : (p : Profile) (ps qs : List Pair) → Takes p ps qs → InOrder ps → InOrder (with_pairs ps qs)
+order-all p ps [] h order = order
+order-all p ps (q ∷ qs) h order = order-all p (insert_pair q ps) qs h.3 (order-insert q ps h.1 order)
+
+pub all-all : (P : Pair → Type 0) (ps qs : List Pair) → AllByRecursion P ps → AllByRecursion P qs → AllByRecursion P (with_pairs ps qs)
+all-all P ps [] h k = h
+all-all P ps (q ∷ qs) h k = all-all P (insert_pair q ps) qs (all-insert P q ps k.0 h) k.1

@@ -1,6 +1,6 @@
 -- The text of a game that sound tokens spelled: it spells the game with its defaults filled in, and
 -- that game has the same text.
-use Rattle.std.proofs.Common.{◌≡◌, ℕ, ◌≤◌, true, false, List, [], ◌∷◌, ◌++◌, length, refl, sym, ap, subst, Option, None, Some}
+use Rattle.std.proofs.Common.{◌≡◌, ℕ, ◌≤◌, true, List, [], ◌∷◌, ◌++◌, length, refl, sym, ap, subst, Option, None, Some}
 use Rattle.std.specs.Prelude.{codes, unwrap_or, IsTrue, Ok, Result}
 use Rattle.std.specs.List.{AllByRecursion, list_all}
 use Rattle.chess_rules.specs.declared.position.Parts.{Parts}
@@ -19,15 +19,15 @@ use Rattle.pgn_game.specs.Filled.{exported_pairs}
 use Rattle.pgn_game.specs.FixedPoint.{HasRoom}
 use Rattle.pgn_game.specs.Game.{Game}
 use Rattle.pgn_game.specs.Levels.{start_of, start_by, position_or_first}
-use Rattle.pgn_game.specs.Pairs.{Pair, value_of, has_pair}
+use Rattle.pgn_game.specs.Pairs.{Pair, value_of}
 use Rattle.pgn_game.specs.Profile.{Profile, Missing, counts_as, takes_the_marker}
 use Rattle.pgn_game.specs.Spells.{KeepsTags, IsPair, by_name, IsResult}
 use Rattle.pgn_game.specs.TagSection.{roster, roster_pairs, with_set_up, other_pairs, exported}
-use Rattle.pgn_game.proofs.EachOf.{all_append}
-use Rattle.pgn_game.proofs.Exporting.{with_default, set_up, set_up_if, without_set_up}
-use Rattle.pgn_game.proofs.ExportedPairs.{by_marker, each_default, keeps_exported, by_name_values, by_name_order}
+use Rattle.pgn_game.proofs.Collecting.{all-all}
+use Rattle.pgn_game.proofs.Exporting.{with_default, set_up, on_roster, all-exported}
+use Rattle.pgn_game.proofs.ExportedPairs.{by_marker, keeps_exported, by_name_values, by_name_order}
 use Rattle.pgn_game.proofs.PairOrder.{InOrder}
-use Rattle.pgn_game.proofs.PairValues.{found, all-all, all-insert, all-filter}
+use Rattle.pgn_game.proofs.PairValues.{found}
 use Rattle.pgn_game.proofs.Pieces.{IsSoundPair}
 use Rattle.pgn_game.proofs.SpelledGames.{SoundGame, marker_is_result}
 use Rattle.pgn_game.specs.TagSection.{in_roster}
@@ -75,42 +75,23 @@ unknown_pair : (name : List ℕ) → IsSymbol name → IsSoundPair (record { nam
 unknown_pair name is = record { name = is; value = data_of (codes "?") refl (omega arith) }
 
 sound_roster : (m : List ℕ) → is_result m ≡ true → AllByRecursion IsSoundPair (roster m)
-unfolding roster
-sound_roster m is = (
-  unknown_pair (codes "Event") (symbol_of (codes "Event") refl refl (omega arith)),
-  (
-    unknown_pair (codes "Site") (symbol_of (codes "Site") refl refl (omega arith)),
-    (
-      record { name = symbol_of (codes "Date") refl refl (omega arith); value = data_of (codes "????.??.??") refl (omega arith) },
-      (
-        unknown_pair (codes "Round") (symbol_of (codes "Round") refl refl (omega arith)),
-        (
-          unknown_pair (codes "White") (symbol_of (codes "White") refl refl (omega arith)),
-          (
-            unknown_pair (codes "Black") (symbol_of (codes "Black") refl refl (omega arith)),
-            (record { name = symbol_of (codes "Result") refl refl (omega arith); value = marker_data m is }, tt),
-          ),
-        ),
-      ),
-    ),
-  ),
-)
-
-sound_set_up : (ps : List Pair) → AllByRecursion IsSoundPair ps → AllByRecursion IsSoundPair (with_set_up ps)
-sound_set_up ps h =
-    elim (has_pair ps (codes "FEN")) as (λ b. AllByRecursion IsSoundPair (set_up_if b ps)) [
-      | true ↦
-          all-insert IsSoundPair set_up (without_set_up ps)
-          (record { name = symbol_of (codes "SetUp") refl refl (omega arith); value = data_of (codes "1") refl (omega arith) })
-          (all-filter IsSoundPair (λ p. not (bytes_eq p.name (codes "SetUp"))) ps h)
-      | false ↦ h
-    ]
+sound_roster m is =
+    on_roster IsSoundPair m (unknown_pair (codes "Event") (symbol_of (codes "Event") refl refl (omega arith)))
+    (unknown_pair (codes "Site") (symbol_of (codes "Site") refl refl (omega arith)))
+    (record {
+      name = symbol_of (codes "Date") refl refl (omega arith);
+      value = data_of (codes "????.??.??") refl (omega arith);
+    })
+    (unknown_pair (codes "Round") (symbol_of (codes "Round") refl refl (omega arith)))
+    (unknown_pair (codes "White") (symbol_of (codes "White") refl refl (omega arith)))
+    (unknown_pair (codes "Black") (symbol_of (codes "Black") refl refl (omega arith)))
+    (record { name = symbol_of (codes "Result") refl refl (omega arith); value = marker_data m is })
 
 sound_exported : (mode : Mode) (m : List ℕ) (ps : List Pair) → is_result m ≡ true → AllByRecursion IsSoundPair ps → AllByRecursion IsSoundPair (exported mode m ps)
-sound_exported Full m ps is h =
-    all_append IsSoundPair (roster_pairs m ps) (other_pairs (with_set_up ps)) (each_default IsSoundPair ps (roster m) h (sound_roster m is))
-    (all-filter IsSoundPair (λ p. not (in_roster p.name)) (with_set_up ps) (sound_set_up ps h))
-sound_exported Reduced m ps is h = each_default IsSoundPair ps (roster m) h (sound_roster m is)
+sound_exported mode m ps is h =
+    let one : IsSoundPair set_up =
+    record { name = symbol_of (codes "SetUp") refl refl (omega arith); value = data_of (codes "1") refl (omega arith) } in
+    all-exported IsSoundPair mode m ps one (sound_roster m is) h
 
 pub some_exported : (mode : Mode) (m : List ℕ) (ps : List Pair) → exported mode m ps ≡ [] → ⊥
 unfolding roster

@@ -1,5 +1,5 @@
 -- Exported tag pairs are tag pairs of a game again, and exporting them again changes nothing.
-use Rattle.std.proofs.Common.{◌≡◌, ℕ, ◌+◌, ◌≤◌, Bool, true, false, cond, List, [], ◌∷◌, ◌++◌, length, map, refl, sym, ap, subst, ◌∙◌, arith, Option, None, Some, inl, inr}
+use Rattle.std.proofs.Common.{◌≡◌, ℕ, ◌+◌, ◌≤◌, Bool, true, false, cond, List, [], ◌∷◌, ◌++◌, length, map, drop, refl, sym, ap, subst, ◌∙◌, arith, Option, None, Some, inl, inr}
 use Rattle.std.specs.Prelude.{◌&&◌, ◌||◌, not, bytes_eq, is_some, unwrap_or, codes, IsTrue, IsFalse}
 use Rattle.std.specs.List.{AllByRecursion, list_all}
 use Rattle.std.proofs.lemmas.Bool.{false≢true, cases_Bool, or_cases}
@@ -12,34 +12,12 @@ use Rattle.pgn_game.specs.TagSection.{roster, in_roster, roster_pairs, with_set_
 use Rattle.pgn_game.specs.FaultTable.{in_name, is_score, is_result}
 use Rattle.pgn_game.specs.Levels.{start_by, start_of}
 use Rattle.pgn_game.specs.Spells.{IsPair, AreDistinct, KeepsTags, IsSetUp, by_name}
-use Rattle.pgn_game.proofs.Collecting.{takes}
-use Rattle.pgn_game.proofs.EachOf.{all_append}
-use Rattle.pgn_game.proofs.Exporting.{bytes_eq-true, bytes_eq-refl, bytes_eq-sym, pick, either_of, with_default, defaulted, value_of-defaults, value_of-append, any_named, any_named-value, or_seven, without_set_up, set_up, set_up_if, no_fen, no_set_up}
-use Rattle.pgn_game.proofs.PairOrder.{InOrder, order-insert, order-filter, same_pairs}
-use Rattle.pgn_game.proofs.PairValues.{no_value, value_of-put, value_of-kept, value_of-all, order-all, all-insert, all-filter, found, distinct_in_order}
+use Rattle.pgn_game.proofs.Collecting.{takes, value_of-all, order-all}
+use Rattle.pgn_game.proofs.Exporting.{with_default, without_set_up, set_up, set_up_if, set_up_gone, set_up_values, no_fen, no_set_up, other_value, exported_known, exported_other, exported_none, no_set_up_of, on_roster, all-exported}
+use Rattle.pgn_game.proofs.PairOrder.{InOrder, order-insert, order-filter, same_pairs, distinct_in_order}
+use Rattle.pgn_game.proofs.PairValues.{bytes_eq-true, bytes_eq-refl, pick, found}
 
--- SetUp beside a FEN.
-set_up_gone : (ps : List Pair) → has_pair (without_set_up ps) (codes "SetUp") ≡ false
-set_up_gone ps = ap is_some (value_of-kept (λ m. not (bytes_eq m (codes "SetUp"))) ps (codes "SetUp"))
-
-hidden : (b c : Bool) (v : List ℕ) (o : Option (List ℕ)) → c ≡ b → pick b v (cond (not c) o None) ≡ pick b v o
-hidden true c v o e = refl
-hidden false c v o e = ap (λ (x : Bool). cond (not x) o None) e
-
-with_one : (ps : List Pair) (n : List ℕ) → value_of (set_up_if true ps) n ≡ pick (bytes_eq (codes "SetUp") n) (codes "1") (value_of ps n)
-with_one ps n =
-    value_of-put set_up (without_set_up ps) n (set_up_gone ps)
-    ∙ ap (pick (bytes_eq (codes "SetUp") n) (codes "1")) (value_of-kept (λ m. not (bytes_eq m (codes "SetUp"))) ps n)
-    ∙ hidden (bytes_eq (codes "SetUp") n) (bytes_eq n (codes "SetUp")) (codes "1") (value_of ps n) (bytes_eq-sym n (codes "SetUp"))
-
-set_up_values : (ps : List Pair) (n : List ℕ)
-    → value_of (with_set_up ps) n ≡ pick (has_pair ps (codes "FEN") && bytes_eq (codes "SetUp") n) (codes "1") (value_of ps n)
-set_up_values ps n =
-    elim (has_pair ps (codes "FEN")) as (λ b. value_of (set_up_if b ps) n ≡ pick (b && bytes_eq (codes "SetUp") n) (codes "1") (value_of ps n)) [
-      | true ↦ with_one ps n
-      | false ↦ refl
-    ]
-
+-- The pairs that are exported beside the roster are in order.
 order_set_up : (ps : List Pair) → InOrder ps → InOrder (with_set_up ps)
 order_set_up ps h =
     elim (has_pair ps (codes "FEN")) as (λ b. InOrder (set_up_if b ps)) [
@@ -49,40 +27,6 @@ order_set_up ps h =
 
 order_others : (ps : List Pair) → InOrder ps → InOrder (other_pairs (with_set_up ps))
 order_others ps h = order-filter (λ p. not (in_roster p.name)) (with_set_up ps) (order_set_up ps h)
-
--- The roster.
-in_roster_any : (m n : List ℕ) → in_roster n ≡ any_named n (roster m)
-unfolding roster
-in_roster_any m n =
-    or_seven (bytes_eq n (codes "Event")) (bytes_eq n (codes "Site")) (bytes_eq n (codes "Date")) (bytes_eq n (codes "Round")) (bytes_eq n (codes "White"))
-    (bytes_eq n (codes "Black")) (bytes_eq n (codes "Result"))
-
-not_of_roster : (m n : List ℕ) → in_roster n ≡ false → value_of (roster m) n ≡ None
-not_of_roster m n e = no_value (value_of (roster m) n) (sym (any_named-value n (roster m)) ∙ sym (in_roster_any m n) ∙ e)
-
-roster_value : (m : List ℕ) (ps : List Pair) (n : List ℕ) → value_of (roster_pairs m ps) n ≡ defaulted (value_of ps n) (value_of (roster m) n)
-roster_value m ps n = value_of-defaults ps (roster m) n
-
-other_value : (ps : List Pair) (n : List ℕ) → value_of (other_pairs (with_set_up ps)) n ≡ cond (not (in_roster n)) (value_of (with_set_up ps) n) None
-other_value ps n = value_of-kept (λ m. not (in_roster m)) (with_set_up ps) n
-
-full_value : (m : List ℕ) (ps : List Pair) (n : List ℕ) → value_of (exported Full m ps) n
-    ≡ either_of (defaulted (value_of ps n) (value_of (roster m) n)) (value_of (other_pairs (with_set_up ps)) n)
-full_value m ps n =
-    value_of-append (roster_pairs m ps) (other_pairs (with_set_up ps)) n
-    ∙ ap (λ o. either_of o (value_of (other_pairs (with_set_up ps)) n)) (roster_value m ps n)
-
--- the value of a name of the roster, and of another name
-known : (mode : Mode) (m : List ℕ) (ps : List Pair) (n d : List ℕ) → value_of (roster m) n ≡ Some d
-    → value_of (exported mode m ps) n ≡ Some (unwrap_or (value_of ps n) d)
-known Full m ps n d e =
-    full_value m ps n ∙ ap (λ o. either_of (defaulted (value_of ps n) o) (value_of (other_pairs (with_set_up ps)) n)) e
-known Reduced m ps n d e = roster_value m ps n ∙ ap (defaulted (value_of ps n)) e
-
-pub other_known : (m : List ℕ) (ps : List Pair) (n : List ℕ) → in_roster n ≡ false → value_of (exported Full m ps) n ≡ value_of (with_set_up ps) n
-other_known m ps n e =
-    full_value m ps n ∙ ap (λ o. either_of (defaulted (value_of ps n) o) (value_of (other_pairs (with_set_up ps)) n)) (not_of_roster m n e)
-    ∙ other_value ps n ∙ ap (λ (b : Bool). cond (not b) (value_of (with_set_up ps) n) None) e
 
 -- Exporting again.
 abbrev Same_values : Mode → List ℕ → List Pair → List Pair → Type 0
@@ -97,29 +41,22 @@ same_default fs ps (d ∷ ds) h =
 roster_again : (mode : Mode) (m : List ℕ) (ps fs : List Pair) → Same_values mode m ps fs → roster_pairs m fs ≡ roster_pairs m ps
 unfolding roster
 roster_again mode m ps fs same =
-    same_default fs ps (roster m) (
-      value (codes "Event") (codes "?") refl,
-      (
-        value (codes "Site") (codes "?") refl,
-        (
-          value (codes "Date") (codes "????.??.??") refl,
-          (
-            value (codes "Round") (codes "?") refl,
-            (value (codes "White") (codes "?") refl, (value (codes "Black") (codes "?") refl, (value (codes "Result") m refl, tt))),
-          ),
-        ),
-      ),
-    )
+    same_default fs ps (roster m) (on_roster (λ d. value_of fs d.name ≡ Some (unwrap_or (value_of ps d.name) d.value)) m
+    (value (codes "Event") (codes "?") refl) (value (codes "Site") (codes "?") refl)
+    (value (codes "Date") (codes "????.??.??") refl)
+    (value (codes "Round") (codes "?") refl) (value (codes "White") (codes "?") refl)
+    (value (codes "Black") (codes "?") refl)
+    (value (codes "Result") m refl))
   where
     value : (n d : List ℕ) → value_of (roster m) n ≡ Some d → value_of fs n ≡ Some (unwrap_or (value_of ps n) d)
-    value n d e = same n ∙ known mode m ps n d e
+    value n d e = same n ∙ exported_known mode m ps n d e
 
 pick_again : (b : Bool) (v : List ℕ) (o : Option (List ℕ)) → pick b v (pick b v o) ≡ pick b v o
 pick_again true v o = refl
 pick_again false v o = refl
 
 fen_again : (m : List ℕ) (ps fs : List Pair) → Same_values Full m ps fs → value_of fs (codes "FEN") ≡ value_of ps (codes "FEN")
-fen_again m ps fs same = same (codes "FEN") ∙ other_known m ps (codes "FEN") refl ∙ no_set_up ps (codes "FEN") refl
+fen_again m ps fs same = same (codes "FEN") ∙ exported_other m ps (codes "FEN") refl ∙ no_set_up ps (codes "FEN") refl
 
 set_up_again : (m : List ℕ) (ps fs : List Pair) (n : List ℕ) → Same_values Full m ps fs → in_roster n ≡ false
     → value_of (with_set_up fs) n ≡ value_of (with_set_up ps) n
@@ -128,7 +65,7 @@ set_up_again m ps fs n same other =
     let b = has_pair ps (codes "FEN") && c in
     set_up_values fs n
     ∙ ap (λ o. pick (is_some o && c) (codes "1") (value_of fs n)) (fen_again m ps fs same)
-    ∙ ap (pick b (codes "1")) (same n ∙ other_known m ps n other ∙ set_up_values ps n)
+    ∙ ap (pick b (codes "1")) (same n ∙ exported_other m ps n other ∙ set_up_values ps n)
     ∙ pick_again b (codes "1") (value_of ps n)
     ∙ sym (set_up_values ps n)
 
@@ -151,15 +88,11 @@ exported_again Reduced m ps fs h k same = roster_again Reduced m ps fs same
 
 -- Where the game begins, its SetUp, and its Result.
 no_value_in_reduced : (m : List ℕ) (ps fs : List Pair) (n : List ℕ) → Same_values Reduced m ps fs → value_of (roster m) n ≡ None → value_of fs n ≡ None
-no_value_in_reduced m ps fs n same e = same n ∙ roster_value m ps n ∙ ap (defaulted (value_of ps n)) e
+no_value_in_reduced m ps fs n same e = same n ∙ exported_none m ps n e
 
 no_fen_of : (m : List ℕ) → value_of (roster m) (codes "FEN") ≡ None
 unfolding roster
 no_fen_of m = refl
-
-no_set_up_of : (m : List ℕ) → value_of (roster m) (codes "SetUp") ≡ None
-unfolding roster
-no_set_up_of m = refl
 
 result_of : (m : List ℕ) → value_of (roster m) (codes "Result") ≡ Some m
 unfolding roster
@@ -179,13 +112,13 @@ is_set_up_again Full m ps fs h same e =
     ap is_some (fen_again m ps fs same)
     ∙ elim (cases_Bool (has_pair ps (codes "FEN"))) [
       | inl has ↦ has
-      | inr none ↦ h (sym (no_fen ps (codes "SetUp") none) ∙ sym (other_known m ps (codes "SetUp") refl) ∙ sym (same (codes "SetUp")) ∙ e)
+      | inr none ↦ h (sym (same (codes "SetUp") ∙ exported_other m ps (codes "SetUp") refl ∙ no_fen ps (codes "SetUp") none) ∙ e)
     ]
 is_set_up_again Reduced m ps fs h same e = let none = no_value_in_reduced m ps fs (codes "SetUp") same (no_set_up_of m) in absurd (cc)
 
 pub result_again : (mode : Mode) (m : List ℕ) (ps fs : List Pair) → Same_values mode m ps fs
     → value_of fs (codes "Result") ≡ Some (unwrap_or (value_of ps (codes "Result")) m)
-result_again mode m ps fs same = same (codes "Result") ∙ known mode m ps (codes "Result") m (result_of m)
+result_again mode m ps fs same = same (codes "Result") ∙ exported_known mode m ps (codes "Result") m (result_of m)
 
 -- What is asked of pairs.
 differ : (a b : List ℕ) → bytes_eq a b ≡ false → a ≡ b → ⊥
@@ -220,61 +153,27 @@ result_pair : (mode : Mode) (m : List ℕ) → is_result m ≡ true → IsPair m
 result_pair mode m e = record { name = refl; room = marker_room m e; result = λ f. e; fen = λ f. absurd (differ (codes "Result") (codes "FEN") refl f) }
 
 each_of_roster : (mode : Mode) (m : List ℕ) → is_result m ≡ true → AllByRecursion (IsPair mode) (roster m)
-unfolding roster
-each_of_roster mode m e = (
-  plain_pair mode (codes "Event") (codes "?") refl (omega arith) refl refl,
-  (
-    plain_pair mode (codes "Site") (codes "?") refl (omega arith) refl refl,
-    (
-      plain_pair mode (codes "Date") (codes "????.??.??") refl (omega arith) refl refl,
-      (
-        plain_pair mode (codes "Round") (codes "?") refl (omega arith) refl refl,
-        (
-          plain_pair mode (codes "White") (codes "?") refl (omega arith) refl refl,
-          (plain_pair mode (codes "Black") (codes "?") refl (omega arith) refl refl, (result_pair mode m e, tt)),
-        ),
-      ),
-    ),
-  ),
-)
-
-pub each_default : (P : Pair → Type 0) (ps ds : List Pair) → AllByRecursion P ps → AllByRecursion P ds → AllByRecursion P (map (with_default ps) ds)
-each_default P ps [] h k = tt
-each_default P ps (d ∷ ds) h k = (by_value (value_of ps d.name) refl, each_default P ps ds h k.1)
-  where
-    by_value : (o : Option (List ℕ)) → value_of ps d.name ≡ o → P (record { name = d.name; value = unwrap_or o d.value })
-    by_value None e = k.0
-    by_value (Some v) e = found P ps d.name v h e
-
-each_with_set_up : (mode : Mode) (ps : List Pair) → AllByRecursion (IsPair mode) ps → AllByRecursion (IsPair mode) (with_set_up ps)
-each_with_set_up mode ps h =
-    elim (has_pair ps (codes "FEN")) as (λ b. AllByRecursion (IsPair mode) (set_up_if b ps)) [
-      | true ↦
-          all-insert (IsPair mode) set_up (without_set_up ps) (plain_pair mode (codes "SetUp") (codes "1") refl (omega arith) refl refl)
-          (all-filter (IsPair mode) (λ p. not (bytes_eq p.name (codes "SetUp"))) ps h)
-      | false ↦ h
-    ]
+each_of_roster mode m e =
+    on_roster (IsPair mode) m (plain_pair mode (codes "Event") (codes "?") refl (omega arith) refl refl)
+    (plain_pair mode (codes "Site") (codes "?") refl (omega arith) refl refl)
+    (plain_pair mode (codes "Date") (codes "????.??.??") refl (omega arith) refl refl)
+    (plain_pair mode (codes "Round") (codes "?") refl (omega arith) refl refl)
+    (plain_pair mode (codes "White") (codes "?") refl (omega arith) refl refl)
+    (plain_pair mode (codes "Black") (codes "?") refl (omega arith) refl refl) (result_pair mode m e)
 
 each_exported : (mode : Mode) (m : List ℕ) (ps : List Pair) → is_result m ≡ true → AllByRecursion (IsPair mode) ps → AllByRecursion (IsPair mode) (exported mode m ps)
-each_exported Full m ps e h =
-    all_append (IsPair Full) (roster_pairs m ps) (other_pairs (with_set_up ps)) (each_default (IsPair Full) ps (roster m) h (each_of_roster Full m e))
-    (all-filter (IsPair Full) (λ p. not (in_roster p.name)) (with_set_up ps) (each_with_set_up Full ps h))
-each_exported Reduced m ps e h = each_default (IsPair Reduced) ps (roster m) h (each_of_roster Reduced m e)
+each_exported mode m ps e h =
+    all-exported (IsPair mode) mode m ps (plain_pair mode (codes "SetUp") (codes "1") refl (omega arith) refl refl)
+    (each_of_roster mode m e) h
 
 -- no name is exported twice
 roster_distinct : (m : List ℕ) (ps others : List Pair) → ((n : List ℕ) → in_roster n ≡ true → IsFalse (has_pair others n)) → AreDistinct others
     → AreDistinct (roster_pairs m ps ++ others)
 unfolding roster
-roster_distinct m ps others apart h = (
-  apart (codes "Event") refl,
-  (
-    apart (codes "Site") refl,
-    (
-      apart (codes "Date") refl,
-      (apart (codes "Round") refl, (apart (codes "White") refl, (apart (codes "Black") refl, (apart (codes "Result") refl, h)))),
-    ),
-  ),
-)
+roster_distinct m ps others off h =
+    let rest : AreDistinct (drop 4 (roster_pairs m ps) ++ others) =
+    (off (codes "White") refl, (off (codes "Black") refl, (off (codes "Result") refl, h))) in
+    (off (codes "Event") refl, (off (codes "Site") refl, (off (codes "Date") refl, (off (codes "Round") refl, rest))))
 
 roster_alone : (m : List ℕ) (ps : List Pair) → AreDistinct (roster_pairs m ps)
 unfolding roster

@@ -2,6 +2,7 @@
 -- these have the same text.
 use Rattle.std.proofs.Common.{◌≡◌, ℕ, false, List, [], ◌∷◌, ◌++◌, length, map, refl, sym, ap, subst, ◌∙◌, append_assoc, append-nil, Some}
 use Rattle.std.specs.Prelude.{codes}
+use Rattle.std.proofs.ByRecursion.{All-append, All-map}
 use Rattle.std.specs.List.{AllByRecursion}
 use Rattle.chess_rules.specs.Laws.{LeavesPosition}
 use Rattle.chess_text.specs.Laws.{ReadsTheOne, ReadsFen}
@@ -11,7 +12,7 @@ use Rattle.pgn_layout.specs.Lines.{lines_of, text_of as text_of_lines}
 use Rattle.pgn_lexer.specs.Laws.{NumbersAreSymbols, KindsAreReadBack, TokensAreSound}
 use Rattle.pgn_lexer.specs.Sound.{IsSoundKind, CommentsClose}
 use Rattle.pgn_lexer.specs.Tokens as tokens
-use Rattle.pgn_lexer.specs.Tokens.{Kind, Token}
+use Rattle.pgn_lexer.specs.Tokens.{Kind}
 use Rattle.pgn_lexer.specs.TokensOf.{tokens_of}
 use Rattle.pgn_lexer.specs.Written.{written, AreEnded, IsReadable}
 use Rattle.pgn_game.specs.FaultTable.{marker_of, result_for}
@@ -24,7 +25,7 @@ use Rattle.pgn_game.specs.Profile.{Profile}
 use Rattle.pgn_game.specs.Spells.{by_name, SpellsText, nothing_played, IsResult, SpellsGame, SpellsGames, no_game, next_game}
 use Rattle.pgn_game.specs.TagSection.{tag_section, tag_lines}
 use Rattle.pgn_game.specs.Text.{tokens_out, game_text, text_of}
-use Rattle.pgn_game.proofs.EachOf.{all_append, all_front, all_behind, all_map}
+use Rattle.pgn_game.proofs.EachOf.{all_front, all_behind}
 use Rattle.pgn_game.proofs.ExportedGames.{ExportedPairs, exported_of, exported_result, given_result, some_exported, start_is_position}
 use Rattle.pgn_game.proofs.ExportedPairs.{exported_again, start_again, is_set_up_again, result_again, by_name_order}
 use Rattle.pgn_game.proofs.MainText.{kept, KeptText, kept_text}
@@ -84,7 +85,7 @@ module _ (one_read : ReadsTheOne) (leaves : LeavesPosition) (is_symbol : Written
       (section_pieces (tag_kinds (exported_pairs p.mode g)) text (game_pairs p g) lines (tag_pieces (exported_pairs p.mode g) e.sound)
       (line_pieces text (game_tokens p g) lines
       (shown-append k.kinds (h.last ∷ []) (tokens_out p.mode (start_of g.pairs) g.items) (g.marker ∷ []) k.shown (marker_shown h.last g.marker h.marker))
-      (all_append IsWritable k.kinds (h.last ∷ []) k.writable (marker_writable h.last g.marker h.marker h.sound_marker, tt))
+      (All-append IsWritable k.kinds _ k.writable (marker_writable h.last g.marker h.marker h.sound_marker, tt))
       (lines_keep (game_tokens p g))))
 
   result_meets : (p : Profile) (g : Game) → SoundGame p g → ExportedPairs p g
@@ -189,7 +190,7 @@ module _ (one_read : ReadsTheOne) (leaves : LeavesPosition) (is_symbol : Written
     pub exported_games : (p : Profile) (gs : List Game) → AreExportable p gs → WrittenGames p gs
     exported_games p gs h =
         let is = sound h.source in
-        written_games p (kinds (tokens_of h.source)) gs h.spelled (all_map IsSoundKind (λ t. t.kind) (tokens_of h.source) is.texts) is.comments h.room
+        written_games p (kinds (tokens_of h.source)) gs h.spelled (All-map IsSoundKind (λ t. t.kind) (tokens_of h.source) is.texts) is.comments h.room
 
     pub text_spells : TextSpells
     text_spells p gs h =

@@ -16,7 +16,7 @@ use Rattle.pgn_game.specs.Profile.{Profile, Missing, counts_as}
 use Rattle.pgn_game.specs.Chess.{move_of}
 use Rattle.pgn_game.specs.Pairs.{Pair, value_of}
 use Rattle.pgn_game.specs.Game as games
-use Rattle.pgn_game.specs.Game.{Item, Part}
+use Rattle.pgn_game.specs.Game.{Part}
 use Rattle.pgn_game.specs.Levels.{Level as ModelLevel, depth, start_of, replayed, without_last}
 use Rattle.pgn_game.specs.FaultTable.{marker_of, is_number, is_score, is_no_form, is_no_move, is_many_moves, is_one_move, is_at_limit, levels_in, position_in, result_for}
 use Rattle.pgn_game.specs.Finding.{found_in}

@@ -1,6 +1,7 @@
 -- Movetext of more items: its tokens, and the lines that are full.
-use Rattle.std.proofs.Common.{◌≡◌, ℕ, ◌<◌, Bool, true, false, cond, List, [], ◌∷◌, ◌++◌, length, refl, sym, ap, subst, ◌∙◌, append_assoc, append-nil, length-append, arith}
-use Rattle.std.specs.Prelude.{All, filter, fold}
+use Rattle.std.proofs.Common.{◌≡◌, ℕ, ◌<◌, Bool, true, false, List, [], ◌∷◌, ◌++◌, length, refl, sym, ap, subst, ◌∙◌, append_assoc, append-nil, length-append, arith}
+use Rattle.std.proofs.lemmas.List.Elements.{filter-append}
+use Rattle.std.specs.Prelude.{All, fold}
 use Rattle.std.proofs.lemmas.List.Elements.{All-nil, All-cons, All-head, All-tail, All-append}
 use Rattle.chess_rules.specs.declared.position.Parts.{Parts}
 use Rattle.pgn_layout.specs.Lines.{IsToken, has_room, lines_from, lines_of, full_lines, last_line, text_of as text_of_lines}
@@ -85,14 +86,6 @@ full_lines-front (l ∷ m ∷ ls) =
 pub placed-append : (start : Parts) (ls : Levels) (xs ys : List Item) → placed_from start ls (xs ++ ys) ≡ placed_from start ls xs ++ placed_from start (fold levels_after ls xs) ys
 placed-append start ls [] ys = refl
 placed-append start ls (x ∷ xs) ys = ap (λ l. record { position = here start ls; depth = depth ls; item = x } ∷ l) (placed-append start (levels_after ls x) xs ys)
-
-pub filter-append : {A : Type 0} (p : A → Bool) (xs ys : List A) → filter p (xs ++ ys) ≡ filter p xs ++ filter p ys
-filter-append p [] ys = refl
-filter-append p (x ∷ xs) ys =
-    elim (p x) as (λ v. cond v (x ∷ filter p (xs ++ ys)) (filter p (xs ++ ys)) ≡ cond v (x ∷ filter p xs) (filter p xs) ++ filter p ys) [
-      | true ↦ ap (λ l. x ∷ l) (filter-append p xs ys)
-      | false ↦ filter-append p xs ys
-    ]
 
 written-append : (mode : Mode) (xs ys : List Placed) → written_items mode (xs ++ ys) ≡ written_items mode xs ++ written_items mode ys
 written-append Full xs ys = refl

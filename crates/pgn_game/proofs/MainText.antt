@@ -4,6 +4,7 @@ use Rattle.std.proofs.Common.{◌≡◌, ℕ, suc, ◌+◌, Bool, true, false, c
 use Rattle.std.specs.Prelude.{◌==◌, filter, fold, IsTrue}
 use Rattle.std.specs.List.{AllByRecursion}
 use Rattle.std.proofs.lemmas.Bool.{ne_eqb}
+use Rattle.std.proofs.lemmas.List.Elements.{filter-append}
 use Rattle.std.proofs.lemmas.List.Sums.{fold-append}
 use Rattle.chess_rules.specs.declared.position.Parts.{Parts}
 use Rattle.chess_rules.specs.Laws.{LeavesPosition}
@@ -23,7 +24,6 @@ use Rattle.pgn_game.specs.Profile.{Profile}
 use Rattle.pgn_game.specs.Spells.{SpellsText, no_more, token, move, variation, number, period, glyph, comment_open, word, comment_close, nothing_played, has_played}
 use Rattle.pgn_game.specs.Text.{Placed, placed_from, is_main_move, written_items, tokens_from, tokens_out}
 use Rattle.pgn_game.proofs.EachOf.{all_behind}
-use Rattle.pgn_game.proofs.Items.{filter-append}
 use Rattle.pgn_game.proofs.Pieces.{IsWritable, AllShown}
 use Rattle.pgn_game.proofs.WrittenText.{level_in, around_again, close_at, placed_variation, rewritten}
 

@@ -1,9 +1,12 @@
 -- The order of names is a strict order of all names; and pairs in this order.
 use Rattle.std.proofs.Common.{◌≡◌, ℕ, ◌<◌, ◌⊎◌, inl, inr, Bool, true, false, cond, List, [], ◌∷◌, refl, sym, ap, ◌∙◌, arith, Option, None, Some, le-ltb, lt-ltb, eq-eqb}
 use Rattle.std.specs.Prelude.{◌||◌, ◌&&◌, ◌==◌, nat_lt, bytes_eq, filter, is_some}
+use Rattle.std.specs.List.{AllByRecursion}
+use Rattle.std.proofs.ByRecursion.{All-weaker, all_kept_by}
 use Rattle.std.proofs.lemmas.Bool.{false≢true, or_cases, and_parts, ltb-true, eqb-true, cases_order}
 use Rattle.pgn_game.specs.Pairs.{Pair, value_of, has_pair, comes_before, insert_pair}
-use Rattle.pgn_game.proofs.Exporting.{bytes_eq-true, bytes_eq-refl, pick, value_of-cons}
+use Rattle.pgn_game.specs.Spells.{AreDistinct}
+use Rattle.pgn_game.proofs.PairValues.{bytes_eq-true, bytes_eq-refl, pick, value_of-cons, not_among, all-insert}
 
 -- Names, byte after byte.
 abbrev goes_first : ℕ → ℕ → Bool → Bool
@@ -53,7 +56,7 @@ comparable-cons x y xs ys e (inl h) = inl (by_rest x y (comes_before xs ys) e h)
 comparable-cons x y xs ys e (inr (inl h)) = inr (inl (ap (λ z. z ∷ xs) e ∙ ap (λ zs. y ∷ zs) h))
 comparable-cons x y xs ys e (inr (inr h)) = inr (inr (by_rest y x (comes_before ys xs) (sym e) h))
 
-pub comparable : (a b : List ℕ) → Comparable a b
+comparable : (a b : List ℕ) → Comparable a b
 comparable [] [] = inr (inl refl)
 comparable [] (y ∷ ys) = inl refl
 comparable (x ∷ xs) [] = inr (inr refl)
@@ -65,34 +68,17 @@ comparable (x ∷ xs) (y ∷ ys) =
     ]
 
 -- Pairs in the order of their names, no name twice.
-abbrev pub AllAfter : List ℕ → List Pair → Type 0
-AllAfter name [] = Unit {0}
-AllAfter name (q ∷ qs) = (comes_before name q.name ≡ true) × AllAfter name qs
+abbrev AllAfter : List ℕ → List Pair → Type 0
+AllAfter name qs = AllByRecursion (λ q. comes_before name q.name ≡ true) qs
 
 abbrev pub InOrder : List Pair → Type 0
 InOrder [] = Unit {0}
 InOrder (q ∷ qs) = AllAfter q.name qs × InOrder qs
 
 further_after : (name next : List ℕ) (qs : List Pair) → comes_before name next ≡ true → AllAfter next qs → AllAfter name qs
-further_after name next [] e h = tt
-further_after name next (q ∷ qs) e h = (before-trans name next q.name e h.0, further_after name next qs e h.1)
-
-after-insert : (name : List ℕ) (q : Pair) (qs : List Pair) → comes_before name q.name ≡ true → AllAfter name qs → AllAfter name (insert_pair q qs)
-after-insert name q [] e h = (e, tt)
-after-insert name q (r ∷ rs) e h =
-    let more = after-insert name q rs e h.1 in
-    elim (comes_before q.name r.name) as (λ b. AllAfter name (elim b [ true ↦ q ∷ r ∷ rs | false ↦ r ∷ insert_pair q rs ])) [
-      | true ↦ (e, h)
-      | false ↦ (h.0, more)
-    ]
-
--- What it says of the pairs that a name is not among them.
-parts_of_pick : (b : Bool) (value : List ℕ) (o : Option (List ℕ)) → is_some (pick b value o) ≡ false → (b ≡ false) × (is_some o ≡ false)
-parts_of_pick true value o e = absurd (false≢true (sym e))
-parts_of_pick false value o e = (refl, e)
-
-pub not_among : (r : Pair) (rs : List Pair) (name : List ℕ) → has_pair (r ∷ rs) name ≡ false → (bytes_eq r.name name ≡ false) × (has_pair rs name ≡ false)
-not_among r rs name e = parts_of_pick (bytes_eq r.name name) r.value (value_of rs name) (ap is_some (sym (value_of-cons r rs name)) ∙ e)
+further_after name next qs e h =
+    All-weaker (λ q. comes_before next q.name ≡ true) (λ q. comes_before name q.name ≡ true)
+    (λ q f. before-trans name next q.name e f) qs h
 
 comes_later : (q r : List ℕ) → comes_before q r ≡ false → bytes_eq r q ≡ false → comes_before r q ≡ true
 comes_later q r e other =
@@ -111,31 +97,32 @@ order-insert q (r ∷ rs) new h =
     by_test : InOrder (insert_pair q rs) → bytes_eq r.name q.name ≡ false → (b : Bool) → comes_before q.name r.name ≡ b
         → InOrder (elim b [ true ↦ q ∷ r ∷ rs | false ↦ r ∷ insert_pair q rs ])
     by_test rest other true e = ((e, further_after q.name r.name rs e h.0), h)
-    by_test rest other false e = (after-insert r.name q rs (comes_later q.name r.name e other) h.0, rest)
-
-after-filter : (f : Pair → Bool) (name : List ℕ) (qs : List Pair) → AllAfter name qs → AllAfter name (filter f qs)
-after-filter f name [] h = tt
-after-filter f name (q ∷ qs) h =
-    let more = after-filter f name qs h.1 in
-    elim (f q) as (λ b. AllAfter name (cond b (q ∷ filter f qs) (filter f qs))) [ true ↦ (h.0, more) | false ↦ more ]
+    by_test rest other false e =
+        (all-insert (λ p. comes_before r.name p.name ≡ true) q rs (comes_later q.name r.name e other) h.0, rest)
 
 pub order-filter : (f : Pair → Bool) (qs : List Pair) → InOrder qs → InOrder (filter f qs)
 order-filter f [] h = tt
 order-filter f (q ∷ qs) h =
+    let after = all_kept_by f (λ p. comes_before q.name p.name ≡ true) qs h.0 in
     let more = order-filter f qs h.1 in
-    elim (f q) as (λ b. InOrder (cond b (q ∷ filter f qs) (filter f qs))) [ true ↦ (after-filter f q.name qs h.0, more) | false ↦ more ]
+    elim (f q) as (λ b. InOrder (cond b (q ∷ filter f qs) (filter f qs))) [ true ↦ (after, more) | false ↦ more ]
 
 -- a name before all others is none of them
 other_name : (name next : List ℕ) → comes_before name next ≡ true → (b : Bool) → bytes_eq next name ≡ b → b ≡ false
 other_name name next e true is = absurd (never_itself name (ap (comes_before name) (sym (bytes_eq-true next name is)) ∙ e))
 other_name name next e false is = refl
 
-pub absent : (name : List ℕ) (qs : List Pair) → AllAfter name qs → value_of qs name ≡ None
+absent : (name : List ℕ) (qs : List Pair) → AllAfter name qs → value_of qs name ≡ None
 absent name [] h = refl
 absent name (q ∷ qs) h =
     value_of-cons q qs name
     ∙ ap (λ b. pick b q.value (value_of qs name)) (other_name name q.name h.0 (bytes_eq q.name name) refl)
     ∙ absent name qs h.1
+
+-- names in order are distinct
+pub distinct_in_order : (ps : List Pair) → InOrder ps → AreDistinct ps
+distinct_in_order [] h = tt
+distinct_in_order (q ∷ qs) h = (ap is_some (absent q.name qs h.0), distinct_in_order qs h.1)
 
 -- Pairs in order are determined by the values of the names.
 value_first : (q : Pair) (qs : List Pair) → value_of (q ∷ qs) q.name ≡ Some q.value

@@ -1,44 +1,91 @@
--- The values of names in pairs that are put in order, filtered, or all put in one after another.
-use Rattle.std.proofs.Common.{◌≡◌, ℕ, Bool, true, false, cond, List, [], ◌∷◌, refl, sym, ap, ◌∙◌, Option, None, Some}
+-- The values of names in pairs that are joined, filtered, or put in one after another.
+use Rattle.std.proofs.Common.{◌≡◌, ℕ, ◌||◌, Bool, true, false, cond, List, [], ◌∷◌, ◌++◌, refl, sym, ap, subst, ◌∙◌, Option, None, Some}
 use Rattle.std.specs.Prelude.{bytes_eq, filter, is_some}
 use Rattle.std.specs.List.{AllByRecursion}
-use Rattle.std.proofs.lemmas.Bool.{false≢true}
-use Rattle.pgn_game.specs.Profile.{Profile}
+use Rattle.std.proofs.lemmas.Bool.{false≢true, or_parts}
+use Rattle.std.proofs.lemmas.Slice.Eq.{bytes_eq-Decides}
 use Rattle.pgn_game.specs.Pairs.{Pair, value_of, has_pair, comes_before, insert_pair}
-use Rattle.pgn_game.specs.Spells.{AreDistinct}
-use Rattle.pgn_game.proofs.Collecting.{Takes, with_pairs}
-use Rattle.pgn_game.proofs.Exporting.{bytes_eq-true, bytes_eq-refl, pick, either_of, value_of-cons}
-use Rattle.pgn_game.proofs.PairOrder.{InOrder, not_among, order-insert, absent}
+
+pub bytes_eq-true : (xs ys : List ℕ) → bytes_eq xs ys ≡ true → xs ≡ ys
+bytes_eq-true xs ys e = (bytes_eq-Decides xs ys).0 e
+
+pub bytes_eq-refl : (xs ys : List ℕ) → xs ≡ ys → bytes_eq xs ys ≡ true
+bytes_eq-refl xs ys e = (bytes_eq-Decides xs ys).1 e
+
+same_bool : (a b : Bool) → (a ≡ true → b ≡ true) → (b ≡ true → a ≡ true) → a ≡ b
+same_bool true b there back = sym (there refl)
+same_bool false true there back = back refl
+same_bool false false there back = refl
+
+-- the tests of equality of texts agree either way round
+pub bytes_eq-sym : (xs ys : List ℕ) → bytes_eq xs ys ≡ bytes_eq ys xs
+bytes_eq-sym xs ys =
+    same_bool (bytes_eq xs ys) (bytes_eq ys xs) (λ e. bytes_eq-refl ys xs (sym (bytes_eq-true xs ys e)))
+    (λ e. bytes_eq-refl xs ys (sym (bytes_eq-true ys xs e)))
 
 pub no_value : (o : Option (List ℕ)) → is_some o ≡ false → o ≡ None
 no_value None e = refl
 no_value (Some v) e = absurd (false≢true (sym e))
 
-pick_swap : (b c : Bool) (v w : List ℕ) (o : Option (List ℕ)) → (b ≡ true → c ≡ true → ⊥) → pick b v (pick c w o) ≡ pick c w (pick b v o)
-pick_swap true true v w o apart = absurd (apart refl refl)
-pick_swap true false v w o apart = refl
-pick_swap false c v w o apart = refl
+-- The value of a name, from whether the first pair has this name.
+abbrev pub pick : Bool → List ℕ → Option (List ℕ) → Option (List ℕ)
+pick true v o = Some v
+pick false v o = o
 
-two_names : (r q n : List ℕ) → bytes_eq r q ≡ false → bytes_eq r n ≡ true → bytes_eq q n ≡ true → ⊥
-two_names r q n other e f = false≢true (sym other ∙ bytes_eq-refl r q (bytes_eq-true r n e ∙ sym (bytes_eq-true q n f)))
-
--- a pair of a new name, put in its place
-pub value_of-put : (q : Pair) (qs : List Pair) (n : List ℕ) → has_pair qs q.name ≡ false
-    → value_of (insert_pair q qs) n ≡ pick (bytes_eq q.name n) q.value (value_of qs n)
-value_of-put q [] n new = value_of-cons q [] n
-value_of-put q (r ∷ rs) n new =
-    let apart = not_among r rs q.name new in
-    let rest = value_of-put q rs n apart.1 in
-    elim (comes_before q.name r.name)
-    as (λ b. value_of (elim b [ true ↦ q ∷ r ∷ rs | false ↦ r ∷ insert_pair q rs ]) n ≡ pick (bytes_eq q.name n) q.value (value_of (r ∷ rs) n)) [
-      | true ↦ value_of-cons q (r ∷ rs) n
-      | false ↦
-          value_of-cons r (insert_pair q rs) n ∙ ap (pick (bytes_eq r.name n) r.value) rest
-          ∙ pick_swap (bytes_eq r.name n) (bytes_eq q.name n) r.value q.value (value_of rs n) (two_names r.name q.name n apart.0)
-          ∙ ap (pick (bytes_eq q.name n) q.value) (sym (value_of-cons r rs n))
+pub value_of-cons : (p : Pair) (ps : List Pair) (name : List ℕ) → value_of (p ∷ ps) name ≡ pick (bytes_eq p.name name) p.value (value_of ps name)
+value_of-cons p ps name =
+    elim (bytes_eq p.name name)
+    as (λ b. elim b [ true ↦ Some p.value | false ↦ value_of ps name ] ≡ pick b p.value (value_of ps name)) [
+      | true ↦ refl
+      | false ↦ refl
     ]
 
--- pairs whose names pass a test
+some_pick : (b : Bool) (v : List ℕ) (o : Option (List ℕ)) → is_some (pick b v o) ≡ (b || is_some o)
+some_pick true v o = refl
+some_pick false v o = refl
+
+pub has-cons : (q : Pair) (ps : List Pair) (name : List ℕ)
+    → has_pair (q ∷ ps) name ≡ (bytes_eq q.name name || has_pair ps name)
+has-cons q ps name = ap is_some (value_of-cons q ps name) ∙ some_pick (bytes_eq q.name name) q.value (value_of ps name)
+
+-- a name that no pair has
+pub not_among : (r : Pair) (rs : List Pair) (name : List ℕ) → has_pair (r ∷ rs) name ≡ false → (bytes_eq r.name name ≡ false) × (has_pair rs name ≡ false)
+not_among r rs name e = or_parts (bytes_eq r.name name) (has_pair rs name) (sym (has-cons r rs name) ∙ e)
+
+-- the pair of a name that has a value
+found_at : (P : Pair → Type 0) (q : Pair) (n v : List ℕ) (o : Option (List ℕ)) (b : Bool) → P q → bytes_eq q.name n ≡ b
+    → (o ≡ Some v → P (record { name = n; value = v })) → pick b q.value o ≡ Some v → P (record { name = n; value = v })
+found_at P q n v o true h is rest e =
+    let name : q.name ≡ n = bytes_eq-true q.name n is in
+    let value : q.value ≡ v = cc in
+    subst (λ x. P (record { name = n; value = x })) value (subst (λ x. P (record { name = x; value = q.value })) name h)
+found_at P q n v o false h is rest e = rest e
+
+pub found : (P : Pair → Type 0) (ps : List Pair) (n v : List ℕ) → AllByRecursion P ps → value_of ps n ≡ Some v → P (record { name = n; value = v })
+found P [] n v h e = absurd (cc)
+found P (q ∷ qs) n v h e =
+    found_at P q n v (value_of qs n) (bytes_eq q.name n) h.0 refl (found P qs n v h.1) (sym (value_of-cons q qs n) ∙ e)
+
+-- Pairs that are joined.
+abbrev pub either_of : Option (List ℕ) → Option (List ℕ) → Option (List ℕ)
+either_of (Some value) other = Some value
+either_of None other = other
+
+pub either_none : (o : Option (List ℕ)) → either_of o None ≡ o
+either_none None = refl
+either_none (Some v) = refl
+
+pick_either : (b : Bool) (v : List ℕ) (o p : Option (List ℕ)) → pick b v (either_of o p) ≡ either_of (pick b v o) p
+pick_either true v o p = refl
+pick_either false v o p = refl
+
+pub value_of-append : (ps qs : List Pair) (name : List ℕ) → value_of (ps ++ qs) name ≡ either_of (value_of ps name) (value_of qs name)
+value_of-append [] qs name = refl
+value_of-append (p ∷ ps) qs name =
+    value_of-cons p (ps ++ qs) name ∙ ap (pick (bytes_eq p.name name) p.value) (value_of-append ps qs name)
+    ∙ pick_either (bytes_eq p.name name) p.value (value_of ps name) (value_of qs name) ∙ ap (λ o. either_of o (value_of qs name)) (sym (value_of-cons p ps name))
+
+-- Pairs whose names pass a test.
 kept_or_not : (f : List ℕ → Bool) (p : Pair) (n : List ℕ) (k b : Bool) (F : List Pair) (o : Option (List ℕ)) → f p.name ≡ k → bytes_eq p.name n ≡ b
     → value_of F n ≡ cond (f n) o None → value_of (cond k (p ∷ F) F) n ≡ cond (f n) (pick b p.value o) None
 kept_or_not f p n true true F o e is rest =
@@ -56,67 +103,60 @@ value_of-kept f (p ∷ ps) n =
     kept_or_not f p n (f p.name) (bytes_eq p.name n) (filter (λ q. f q.name) ps) (value_of ps n) refl refl (value_of-kept f ps n)
     ∙ ap (λ o. cond (f n) o None) (sym (value_of-cons p ps n))
 
--- pairs of new names, all put in
-put_later : (q : Pair) (n : List ℕ) (b : Bool) (o more : Option (List ℕ)) → bytes_eq q.name n ≡ b → (q.name ≡ n → o ≡ None)
-    → either_of (pick b q.value o) more ≡ either_of o (pick b q.value more)
-put_later q n true o more is new = ap (λ x. either_of x (Some q.value)) (sym (new (bytes_eq-true q.name n is)))
-put_later q n false o more is new = refl
-
-pub either_none : (o : Option (List ℕ)) → either_of o None ≡ o
-either_none None = refl
-either_none (Some v) = refl
-
-pub value_of-all : (p : Profile) (ps qs : List Pair) (n : List ℕ) → Takes p ps qs → value_of (with_pairs ps qs) n ≡ either_of (value_of ps n) (value_of qs n)
-value_of-all p ps [] n h = sym (either_none (value_of ps n))
-value_of-all p ps (q ∷ qs) n h =
-    value_of-all p (insert_pair q ps) qs n h.3
-    ∙ ap (λ o. either_of o (value_of qs n)) (value_of-put q ps n h.1)
-    ∙ put_later q n (bytes_eq q.name n) (value_of ps n) (value_of qs n) refl (λ e. no_value (value_of ps n) (ap (has_pair ps) (sym e) ∙ h.1))
-    ∙ ap (either_of (value_of ps n)) (sym (value_of-cons q qs n))
-
--- what is all put in is in order
-pub order-all : (p : Profile) (ps qs : List Pair) → Takes p ps qs → InOrder ps → InOrder (with_pairs ps qs)
-order-all p ps [] h order = order
-order-all p ps (q ∷ qs) h order = order-all p (insert_pair q ps) qs h.3 (order-insert q ps h.1 order)
-
--- Facts on each pair.
-pub all-insert : (P : Pair → Type 0) (q : Pair) (qs : List Pair) → P q → AllByRecursion P qs → AllByRecursion P (insert_pair q qs)
-all-insert P q [] h hs = (h, tt)
-all-insert P q (r ∷ rs) h hs =
-    let more = all-insert P q rs h hs.1 in
-    elim (comes_before q.name r.name) as (λ b. AllByRecursion P (elim b [ true ↦ q ∷ r ∷ rs | false ↦ r ∷ insert_pair q rs ])) [
-      | true ↦ (h, hs)
-      | false ↦ (hs.0, more)
+-- A pair put in: what holds where it comes first, and of a pair before it, holds of all.
+pub by_insert : (P : List Pair → List Pair → Type 0) (q : Pair) → ((qs : List Pair) → P qs (q ∷ qs))
+    → ((r : Pair) (rs more : List Pair) → P rs more → P (r ∷ rs) (r ∷ more)) → (qs : List Pair)
+    → P qs (insert_pair q qs)
+by_insert P q first later [] = first []
+by_insert P q first later (r ∷ rs) =
+    let rest = later r rs (insert_pair q rs) (by_insert P q first later rs) in
+    elim (comes_before q.name r.name) as (λ b. P (r ∷ rs) (elim b [ true ↦ q ∷ r ∷ rs | false ↦ r ∷ insert_pair q rs ])) [
+      | true ↦ first (r ∷ rs)
+      | false ↦ rest
     ]
 
-pub all-filter : (P : Pair → Type 0) (f : Pair → Bool) (qs : List Pair) → AllByRecursion P qs → AllByRecursion P (filter f qs)
-all-filter P f [] hs = tt
-all-filter P f (q ∷ qs) hs =
-    let more = all-filter P f qs hs.1 in
-    elim (f q) as (λ b. AllByRecursion P (cond b (q ∷ filter f qs) (filter f qs))) [ true ↦ (hs.0, more) | false ↦ more ]
+or_swap : (a b c : Bool) → (a || (b || c)) ≡ (b || (a || c))
+or_swap true true c = refl
+or_swap true false c = refl
+or_swap false b c = refl
 
-pub all-all : (P : Pair → Type 0) (ps qs : List Pair) → AllByRecursion P ps → AllByRecursion P qs → AllByRecursion P (with_pairs ps qs)
-all-all P ps [] h k = h
-all-all P ps (q ∷ qs) h k = all-all P (insert_pair q ps) qs (all-insert P q ps k.0 h) k.1
+-- a name is among the pairs with one more
+pub has-insert : (q : Pair) (ps : List Pair) (name : List ℕ) → has_pair (insert_pair q ps) name ≡ (bytes_eq q.name name || has_pair ps name)
+has-insert q ps name =
+    by_insert (λ qs l. has_pair l name ≡ (bytes_eq q.name name || has_pair qs name)) q (λ qs. has-cons q qs name)
+    (λ r rs l more.
+    has-cons r l name ∙ ap (λ (x : Bool). bytes_eq r.name name || x) more
+    ∙ or_swap (bytes_eq r.name name) (bytes_eq q.name name) (has_pair rs name)
+    ∙ ap (λ (x : Bool). bytes_eq q.name name || x) (sym (has-cons r rs name))) ps
 
--- the pair of a name that has a value
-found_at : (P : Pair → Type 0) (q : Pair) (n v : List ℕ) (o : Option (List ℕ)) (b : Bool) → P q → bytes_eq q.name n ≡ b
-    → (o ≡ Some v → P (record { name = n; value = v })) → pick b q.value o ≡ Some v → P (record { name = n; value = v })
-found_at P q n v o true h is rest e =
-    let name : q.name ≡ n = bytes_eq-true q.name n is in
-    let value : q.value ≡ v = cc in
-    found P q n v name value h
-  where
-    found : (P : Pair → Type 0) (q : Pair) (n v : List ℕ) → q.name ≡ n → q.value ≡ v → P q → P (record { name = n; value = v })
-    found P q n v e f h = rw (e, f) at h
-found_at P q n v o false h is rest e = rest e
+-- it does not change the values of other names
+pub value_of-insert : (p : Pair) (qs : List Pair) (name : List ℕ) → bytes_eq p.name name ≡ false → value_of (insert_pair p qs) name ≡ value_of qs name
+value_of-insert p qs name e =
+    by_insert (λ ps l. value_of l name ≡ value_of ps name) p
+    (λ ps. value_of-cons p ps name ∙ ap (λ b. pick b p.value (value_of ps name)) e)
+    (λ r rs l e. value_of-cons r l name ∙ ap (pick (bytes_eq r.name name) r.value) e ∙ sym (value_of-cons r rs name)) qs
 
-pub found : (P : Pair → Type 0) (ps : List Pair) (n v : List ℕ) → AllByRecursion P ps → value_of ps n ≡ Some v → P (record { name = n; value = v })
-found P [] n v h e = absurd (cc)
-found P (q ∷ qs) n v h e =
-    found_at P q n v (value_of qs n) (bytes_eq q.name n) h.0 refl (found P qs n v h.1) (sym (value_of-cons q qs n) ∙ e)
+pick_swap : (b c : Bool) (v w : List ℕ) (o : Option (List ℕ)) → (b ≡ true → c ≡ true → ⊥) → pick b v (pick c w o) ≡ pick c w (pick b v o)
+pick_swap true true v w o apart = absurd (apart refl refl)
+pick_swap true false v w o apart = refl
+pick_swap false c v w o apart = refl
 
--- names in order are distinct
-pub distinct_in_order : (ps : List Pair) → InOrder ps → AreDistinct ps
-distinct_in_order [] h = tt
-distinct_in_order (q ∷ qs) h = (ap is_some (absent q.name qs h.0), distinct_in_order qs h.1)
+two_names : (r q n : List ℕ) → bytes_eq r q ≡ false → bytes_eq r n ≡ true → bytes_eq q n ≡ true → ⊥
+two_names r q n other e f = false≢true (sym other ∙ bytes_eq-refl r q (bytes_eq-true r n e ∙ sym (bytes_eq-true q n f)))
+
+-- a pair of a new name
+pub value_of-put : (q : Pair) (qs : List Pair) (n : List ℕ) → has_pair qs q.name ≡ false
+    → value_of (insert_pair q qs) n ≡ pick (bytes_eq q.name n) q.value (value_of qs n)
+value_of-put q qs n =
+    by_insert (λ ps l. has_pair ps q.name ≡ false → value_of l n ≡ pick (bytes_eq q.name n) q.value (value_of ps n)) q
+    (λ ps new. value_of-cons q ps n)
+    (λ r rs l more new.
+    let apart = not_among r rs q.name new in
+    value_of-cons r l n ∙ ap (pick (bytes_eq r.name n) r.value) (more apart.1)
+    ∙ pick_swap (bytes_eq r.name n) (bytes_eq q.name n) r.value q.value (value_of rs n) (two_names r.name q.name n apart.0)
+    ∙ ap (pick (bytes_eq q.name n) q.value) (sym (value_of-cons r rs n))) qs
+
+pub all-insert : (P : Pair → Type 0) (q : Pair) (qs : List Pair) → P q → AllByRecursion P qs → AllByRecursion P (insert_pair q qs)
+all-insert P q qs h =
+    by_insert (λ ps l. AllByRecursion P ps → AllByRecursion P l) q (λ ps hs. (h, hs))
+    (λ r rs l more hs. (hs.0, more hs.1)) qs

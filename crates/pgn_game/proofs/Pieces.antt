@@ -1,6 +1,7 @@
 -- Texts in pieces that a lexer reads back: tag lines, and the lines of movetext.
 use Rattle.std.proofs.Common.{◌≡◌, ℕ, Bool, true, false, List, [], ◌∷◌, ◌++◌, refl, sym, ap, subst, ◌∙◌, append_assoc, inl, inr}
 use Rattle.std.specs.Prelude.{◌==◌, codes, decimal, IsTrue}
+use Rattle.std.proofs.ByRecursion.{All-append}
 use Rattle.std.specs.List.{AllByRecursion}
 use Rattle.std.proofs.lemmas.Bool.{or_cases, eqb-true}
 use Rattle.pgn_layout.specs.LineText.{is_gap, IsTextOf, no_token, next_token}
@@ -14,7 +15,7 @@ use Rattle.pgn_lexer.specs.Written.{Piece, text_of_pieces, kinds_in, IsPiece, Is
 use Rattle.pgn_game.specs.Pairs.{Pair}
 use Rattle.pgn_game.specs.TagSection.{tag_lines}
 use Rattle.pgn_game.specs.Spells.{SpellsPairs, no_pair, next_pair, pair}
-use Rattle.pgn_game.proofs.EachOf.{all_append, all_front, all_behind}
+use Rattle.pgn_game.proofs.EachOf.{all_front, all_behind}
 
 -- a kind that has a text of its own, and is made as it has to be
 abbrev pub IsWritable : Kind → Type 0
@@ -64,7 +65,7 @@ both_pieces ks ls s t a b = record {
   pieces = a.pieces ++ b.pieces;
   text = text-append a.pieces b.pieces ∙ ap (λ x. x ++ text_of_pieces b.pieces) a.text ∙ ap (λ x. s ++ x) b.text;
   kinds = kinds-append a.pieces b.pieces ∙ ap (λ x. x ++ kinds_in b.pieces) a.kinds ∙ ap (λ x. ks ++ x) b.kinds;
-  sound = all_append IsPiece a.pieces b.pieces a.sound b.sound;
+  sound = All-append IsPiece a.pieces b.pieces a.sound b.sound;
   ended = λ more h. subst AreEnded (sym (append_assoc a.pieces b.pieces more)) (a.ended (b.pieces ++ more) (b.ended more h));
 }
 

@@ -4,7 +4,7 @@ use Rattle.std.specs.Prelude.{codes, bytes_eq, is_some, IsTrue, unwrap_or, Ok}
 use Rattle.std.specs.List.{list_all}
 use Rattle.pgn_layout.specs.TagLine.{escaped}
 use Rattle.pgn_lexer.specs.Tokens as tokens
-use Rattle.pgn_lexer.specs.Tokens.{Kind, left_bracket, right_bracket, symbol, str}
+use Rattle.pgn_lexer.specs.Tokens.{left_bracket, right_bracket, symbol, str}
 use Rattle.pgn_lexer.specs.Scanned.{kind_of}
 use Rattle.pgn_lexer.specs.declared.token.TokenKind.{TokenKind}
 use Rattle.pgn_lexer.specs.declared.token.TokenKind.TheVariants as variants

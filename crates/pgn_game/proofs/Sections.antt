@@ -9,7 +9,8 @@ use Rattle.pgn_game.specs.Holding.{place_of}
 use Rattle.pgn_game.specs.Pairs.{Pair, value_of, has_pair, comes_before, insert_pair}
 use Rattle.pgn_game.specs.TagSection.{roster, in_roster, roster_pairs, other_pairs, with_set_up, tag_lines, tag_section}
 use Rattle.pgn_game.specs.SectionLines.{text_by, roster_line, other_line}
-use Rattle.pgn_game.proofs.Exporting.{bytes_eq-true, without_set_up, set_up, set_up_if}
+use Rattle.pgn_game.proofs.Exporting.{without_set_up, set_up, set_up_if}
+use Rattle.pgn_game.proofs.PairValues.{bytes_eq-true}
 
 tag_lines-append : (ps qs : List Pair) → tag_lines (ps ++ qs) ≡ tag_lines ps ++ tag_lines qs
 tag_lines-append [] qs = refl

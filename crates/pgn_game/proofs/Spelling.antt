@@ -18,7 +18,7 @@ use Rattle.pgn_game.specs.Profile.{Profile}
 use Rattle.pgn_game.specs.Pairs.{Pair, value_of, has_pair, insert_pair}
 use Rattle.pgn_game.specs.Chess.{move_of}
 use Rattle.pgn_game.specs.Game as games
-use Rattle.pgn_game.specs.Game.{Item, Game, Part, no_part}
+use Rattle.pgn_game.specs.Game.{Item, Game, no_part}
 use Rattle.pgn_game.specs.Levels.{Level, Levels, levels_of, levels_after, depth, here, replayed, without_last, start_of}
 use Rattle.pgn_game.specs.FaultTable.{refusal, is_comment, in_name, is_result, is_score, is_number, is_end, is_at_limit, is_reduced, fen_field, fen_field_of, field_of, marker_of, lacks_fen, has_other_result}
 use Rattle.pgn_game.specs.Progress.{next, going, whole}

@@ -1,32 +1,16 @@
 -- Where a game begins, from its pairs.
-use Rattle.std.proofs.Common.{◌≡◌, ℕ, ◌&&◌, Bool, true, false, not, List, [], ◌∷◌, Option, None, Some, refl, sym, ap, ◌∙◌}
+use Rattle.std.proofs.Common.{◌≡◌, ℕ, ◌&&◌, Bool, true, false, not, List, ◌∷◌, Option, None, Some, refl, sym, ap, ◌∙◌}
 use Rattle.std.specs.Prelude.{codes, bytes_eq, is_ok, is_some, unwrap_or, IsTrue, Result, Ok, Err}
 use Rattle.chess_rules.specs.declared.position.Parts.{Parts}
 use Rattle.chess_text.specs.declared.fen.FenFault.{FenFault}
 use Rattle.chess_text.specs.Fen.{read as read_text}
 use Rattle.std.proofs.lemmas.Bool.{not-false}
 use Rattle.pgn_game.specs.Chess.{position_of}
-use Rattle.pgn_game.specs.Pairs.{Pair, value_of, has_pair, comes_before, insert_pair}
+use Rattle.pgn_game.specs.Pairs.{Pair, value_of, has_pair, insert_pair}
 use Rattle.pgn_game.specs.Levels.{start_of, start_by, position_or_first}
 use Rattle.pgn_game.specs.FaultTable.{field_of, fen_field}
 use Rattle.pgn_game.specs.Judging.{fen_position}
-use Rattle.pgn_game.proofs.Exporting.{pick, value_of-cons, value_of-insert, bytes_eq-true, bytes_eq-refl}
-
-not_picked : (b : Bool) (v : List ℕ) (o : Option (List ℕ)) → is_some (pick b v o) ≡ false → (b ≡ false) × (is_some o ≡ false)
-not_picked true v o none = absurd (cc)
-not_picked false v o none = (refl, none)
-
--- a pair whose name is new is found where it is put in
-value_of-found : (p : Pair) (qs : List Pair) → has_pair qs p.name ≡ false → value_of (insert_pair p qs) p.name ≡ Some p.value
-value_of-found p [] none = value_of-cons p [] p.name ∙ ap (λ b. pick b p.value None) (bytes_eq-refl p.name p.name refl)
-value_of-found p (q ∷ qs) none =
-    let out = not_picked (bytes_eq q.name p.name) q.value (value_of qs p.name) (ap is_some (sym (value_of-cons q qs p.name)) ∙ none) in
-    elim (comes_before p.name q.name) as (λ b. value_of (elim b [ true ↦ p ∷ q ∷ qs | false ↦ q ∷ insert_pair p qs ]) p.name ≡ Some p.value) [
-      | true ↦ value_of-cons p (q ∷ qs) p.name ∙ ap (λ b. pick b p.value (value_of (q ∷ qs) p.name)) (bytes_eq-refl p.name p.name refl)
-      | false ↦
-          value_of-cons q (insert_pair p qs) p.name ∙ ap (λ b. pick b q.value (value_of (insert_pair p qs) p.name)) out.0
-          ∙ value_of-found p qs out.1
-    ]
+use Rattle.pgn_game.proofs.PairValues.{pick, value_of-put, value_of-insert, bytes_eq-true, bytes_eq-refl}
 
 -- what a pair tells of where its game begins, from whether it is a FEN, and from what its value is
 -- read as
@@ -51,7 +35,10 @@ found_by false read name value ps start named reads none told = absurd (cc)
 found_by true (Err fault) name value ps start named reads none told = absurd (cc)
 found_by true (Ok first) name value ps start named reads none told =
     let same : first ≡ start = cc in
-    ap start_by (ap (value_of (with_pair name value ps)) (sym (bytes_eq-true name (codes "FEN") named)) ∙ value_of-found (record { name = name; value = value }) ps none)
+    let found_there =
+    value_of-put (record { name = name; value = value }) ps name none
+    ∙ ap (λ b. pick b value (value_of ps name)) (bytes_eq-refl name name refl) in
+    ap start_by (ap (value_of (with_pair name value ps)) (sym (bytes_eq-true name (codes "FEN") named)) ∙ found_there)
     ∙ ap position_or_first reads ∙ same
 
 -- a FEN is where its game begins

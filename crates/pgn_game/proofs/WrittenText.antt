@@ -1,6 +1,7 @@
 -- The movetext that is written of a game spells the same items again.
 use Rattle.std.proofs.Common.{◌≡◌, ℕ, ◌+◌, ◌<◌, Bool, true, false, List, [], ◌∷◌, ◌++◌, refl, sym, ap, subst, ◌∙◌, append_assoc}
 use Rattle.std.specs.Prelude.{codes, decimal, fold, IsTrue}
+use Rattle.std.proofs.ByRecursion.{All-append}
 use Rattle.std.specs.List.{AllByRecursion}
 use Rattle.std.proofs.lemmas.List.Sums.{fold-append}
 use Rattle.chess_rules.specs.declared.position.Parts.{Parts}
@@ -20,7 +21,7 @@ use Rattle.pgn_game.specs.Levels.{Level, Levels, levels_after, back_to, depth, h
 use Rattle.pgn_game.specs.Profile.{Profile}
 use Rattle.pgn_game.specs.Spells.{StandsFor, Names, SpellsText, no_more, token, move, variation, number, period, glyph, comment_open, word, comment_close, nothing_played, has_played}
 use Rattle.pgn_game.specs.Text.{Placed, placed_from, tokens_from, tokens_at, number_before}
-use Rattle.pgn_game.proofs.EachOf.{all_append, all_front, all_behind}
+use Rattle.pgn_game.proofs.EachOf.{all_front, all_behind}
 use Rattle.pgn_game.proofs.Items.{placed-append, tokens_from-append}
 use Rattle.pgn_game.proofs.Pieces.{IsWritable, AllShown, none_shown, next_shown, shown-append, single}
 use Rattle.pgn_game.proofs.WrittenMoves.{ArePositions, last_position, earlier_positions, plays_on, writable_move, names_again, number_kinds, number_shown, number_spells, number_writable, number_closes}
@@ -156,7 +157,7 @@ variation_again p first deep l ks ls items more ts us holds room a b = record {
       next_shown (tokens.left_paren ∷ []) (a.kinds ++ tokens.right_paren ∷ b.kinds) (codes "(") (ts ++ codes ")" ∷ us) (single tokens.left_paren)
       (shown-append a.kinds (tokens.right_paren ∷ b.kinds) ts (codes ")" ∷ us) a.shown
       (next_shown (tokens.right_paren ∷ []) b.kinds (codes ")") us (single tokens.right_paren) b.shown));
-  writable = (tt, all_append IsWritable a.kinds (tokens.right_paren ∷ b.kinds) a.writable (tt, b.writable));
+  writable = (tt, All-append IsWritable a.kinds (tokens.right_paren ∷ b.kinds) a.writable (tt, b.writable));
   closes = variation_closes a.kinds ks ls b.kinds a.closes b.closes;
 }
 
@@ -194,7 +195,8 @@ module _ (one_read : ReadsTheOne) (leaves : LeavesPosition) (is_symbol : Written
             (number_shown one_read leaves is_symbol is_read numbers b is_black at.full (tokens.symbol text ∷ r.kinds) (text ∷ ts)
             (next_shown (tokens.symbol text ∷ []) r.kinds text ts (single (tokens.symbol text)) r.shown));
         writable =
-            all_append IsWritable (number_kinds one_read leaves is_symbol is_read numbers b is_black at.full) (tokens.symbol text ∷ r.kinds)
+            All-append IsWritable (number_kinds one_read leaves is_symbol is_read numbers b is_black at.full)
+            (tokens.symbol text ∷ r.kinds)
             (number_writable one_read leaves is_symbol is_read numbers at b is_black here)
             (writable_move one_read leaves is_symbol is_read numbers at s x names, r.writable);
         closes = closes r b is_black at.full text;

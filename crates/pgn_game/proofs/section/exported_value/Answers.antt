@@ -8,7 +8,8 @@ use denote.Enum.Bare.{sameb, same_true}
 use Rattle.pgn_game.specs.Markers.{marker_text}
 use Rattle.pgn_game.specs.Pairs.{value_of}
 use Rattle.pgn_game.specs.TagSection.{roster, exported}
-use Rattle.pgn_game.proofs.Exporting.{exported_either, exported_none, either_of}
+use Rattle.pgn_game.proofs.Exporting.{exported_either, exported_none}
+use Rattle.pgn_game.proofs.PairValues.{either_of}
 use Rattle.pgn_game.proofs.section.exported_value.Goals as goal
 use Rattle.pgn_game.proofs.section.exported_value.Goals.{else-is_none-via-then-is_none+else-eq, else-is_none-via-else-is_none}
 
@@ -40,7 +41,8 @@ returns-in-Some c =
       | else-is_none-via-else-is_none w ↦
           some_copied c.unknown_value-unknown.result c.is_none.result c.is_none.ensures w.if-is_none.false (c.unknown_value-unknown.ensures.value ∙ none)
     ] in
-    sym (exported_either (marker_text c.args.missing_result) c.args.mode held name other ∙ ap (λ o. either_of o (value_of (roster (marker_text c.args.missing_result)) name)) (sym c.in-Some.ensures.value))
+    sym (exported_either c.args.mode (marker_text c.args.missing_result) held name other
+    ∙ ap (λ o. either_of o (value_of (roster (marker_text c.args.missing_result)) name)) (sym c.in-Some.ensures.value))
 
 pub returns-in-None : goal.returns-in-None
 returns-in-None c =
@@ -53,4 +55,5 @@ returns-in-None c =
       | else-is_none-via-else-is_none w ↦
           some_copied c.unknown_value-unknown.result c.is_none.result c.is_none.ensures w.if-is_none.false (c.unknown_value-unknown.ensures.value ∙ none)
     ] in
-    sym (exported_either (marker_text c.args.missing_result) c.args.mode held name other ∙ ap (λ o. either_of o (value_of (roster (marker_text c.args.missing_result)) name)) (sym c.in-None.ensures.value) ∙ sym c.unknown_value-unknown.ensures.value)
+    sym (exported_either c.args.mode (marker_text c.args.missing_result) held name other
+    ∙ ap (λ o. either_of o (value_of (roster (marker_text c.args.missing_result)) name)) (sym c.in-None.ensures.value) ∙ sym c.unknown_value-unknown.ensures.value)
