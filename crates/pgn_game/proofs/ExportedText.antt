@@ -31,7 +31,7 @@ use Rattle.pgn_game.proofs.ExportedPairs.{exported_again, start_again, is_set_up
 use Rattle.pgn_game.proofs.MainText.{kept, KeptText, kept_text}
 use Rattle.pgn_game.proofs.Pieces.{IsWritable, AllShown, none_shown, next_shown, single, shown-append, PiecesOf, no_pieces, both_pieces, line_feed, line_pieces, tag_kinds, tag_pieces, tags_spell, tags_close}
 use Rattle.pgn_game.proofs.Runs.{kinds}
-use Rattle.pgn_game.proofs.SpelledGames.{SoundGame, sound_game, marker_opens, marker_written, marker_writable}
+use Rattle.pgn_game.proofs.SpelledGames.{SoundGame, sound_game, marker_opens, marker_closed, marker_written, marker_writable}
 
 -- The text of one game.
 pub record WrittenGame (p : Profile) (g : Game) : Type 0 where
@@ -125,11 +125,6 @@ module _ (one_read : ReadsTheOne) (leaves : LeavesPosition) (is_symbol : Written
       (tags_close (exported_pairs p.mode g) (k.kinds ++ h.last ∷ more)
       (k.closes (h.last ∷ h.later) (h.last ∷ more) (λ d c. marker_opens h.last g.marker d h.later more h.marker c closes)
       (marker_closed h.last g.marker more h.marker closes) h.closes))
-    where
-      marker_closed : (last : Kind) (marker : List ℕ) (more : List Kind) → marker_of last ≡ Some marker → CommentsClose false more → CommentsClose false (last ∷ more)
-      marker_closed tokens.asterisk marker more is c = c
-      marker_closed (tokens.symbol s) marker more is c = c
-      marker_closed _ marker more is c = absurd (cc)
 
   game_again : (p : Profile) (g : Game) (h : SoundGame p g) → ExportedPairs p g → KeptText p.mode p (start_of g.pairs) h.text g.items
       → game_text p (filled p.mode g) ≡ game_text p g

@@ -21,11 +21,11 @@ use Rattle.pgn_game.specs.Game as games
 use Rattle.pgn_game.specs.Game.{Item}
 use Rattle.pgn_game.specs.Levels.{Level, Levels, levels_after, first_level, back_to, depth, here, main_moves, outermost, without_last}
 use Rattle.pgn_game.specs.Profile.{Profile}
-use Rattle.pgn_game.specs.Spells.{SpellsText, no_more, token, move, variation, number, period, glyph, comment_open, word, comment_close, nothing_played, has_played}
+use Rattle.pgn_game.specs.Spells.{SpellsText, no_more, token, move, variation, nothing_played, has_played}
 use Rattle.pgn_game.specs.Text.{Placed, placed_from, is_main_move, written_items, tokens_from, tokens_out}
 use Rattle.pgn_game.proofs.EachOf.{all_behind}
 use Rattle.pgn_game.proofs.Pieces.{IsWritable, AllShown}
-use Rattle.pgn_game.proofs.WrittenText.{level_in, around_again, close_at, placed_variation, rewritten}
+use Rattle.pgn_game.proofs.WrittenText.{level_in, aside, around_again, close_at, placed_variation, rewritten}
 
 -- Inside variations no move is one outside them.
 inside : (n : ℕ) → (suc n == 0) ≡ false
@@ -34,12 +34,8 @@ inside n = ne_eqb (suc n) 0 (λ e. absurd (omega arith))
 none_main : (p : Profile) (first : Parts) (deep : ℕ) (l : Level) (ks : List Kind) (items : List Item) → SpellsText p first deep l ks items → (m : Level) (around : List Level)
     → filter is_main_move (placed_from first (level_in l (m ∷ around)) items) ≡ []
 none_main p first _ _ _ _ (no_more deep l) m around = refl
-none_main p first _ _ _ _ (token deep l _ ks _ items (number s is) rest) m around = none_main p first deep l ks items rest m around
-none_main p first _ _ _ _ (token deep l _ ks _ items period rest) m around = none_main p first deep l ks items rest m around
-none_main p first _ _ _ _ (token deep l _ ks _ items (glyph n) rest) m around = none_main p first deep l ks items rest m around
-none_main p first _ _ _ _ (token deep l _ ks _ items comment_open rest) m around = none_main p first deep l ks items rest m around
-none_main p first _ _ _ _ (token deep l _ ks _ items (word s) rest) m around = none_main p first deep l ks items rest m around
-none_main p first _ _ _ _ (token deep l _ ks _ items comment_close rest) m around = none_main p first deep l ks items rest m around
+none_main p first _ _ _ _ (token deep l k ks item items stands rest) m around =
+    (aside k item items first (level_in l (m ∷ around)) stands).1 ∙ none_main p first deep l ks items rest m around
 none_main p first _ _ _ _ (move deep l s x ks items names rest) m around =
     let at = level_in l (m ∷ around) in
     let this : Placed = record { position = here first at; depth = depth at; item = games.move x.mv } in
@@ -90,23 +86,26 @@ record Main (p : Profile) (first : Parts) (deep : ℕ) (l : Level) (items : List
   placed : placed_from first (level_in l []) (main_items first l items) ≡ placed_main first l items
   levels : fold levels_after (level_in l []) (main_items first l items) ≡ fold levels_after (level_in l []) items
 
+-- items that add no move outside variations, before others
+main_same : (p : Profile) (first : Parts) (deep : ℕ) (l : Level) (items more : List Item)
+    → placed_main first l items ≡ placed_main first l more
+    → fold levels_after (level_in l []) items ≡ fold levels_after (level_in l []) more → Main p first deep l more
+    → Main p first deep l items
+main_same p first deep l items more e same r = record {
+  kinds = r.kinds;
+  spells = subst (λ xs. SpellsText p first deep l r.kinds (map (λ i. i.item) xs)) (sym e) r.spells;
+  sound = r.sound;
+  closes = r.closes;
+  placed = ap (λ xs. placed_from first (level_in l []) (map (λ i. i.item) xs)) e ∙ r.placed ∙ sym e;
+  levels = ap (λ xs. fold levels_after (level_in l []) (map (λ i. i.item) xs)) e ∙ r.levels ∙ sym same;
+}
+
 main : (p : Profile) (first : Parts) (deep : ℕ) (l : Level) (ks : List Kind) (items : List Item) → SpellsText p first deep l ks items → AllByRecursion IsSoundKind ks
     → Main p first deep l items
 main p first _ _ _ _ (no_more deep l) sound = record { kinds = []; spells = no_more deep l; sound = tt; closes = λ more h. h; placed = refl; levels = refl }
-main p first _ _ _ _ (token deep l _ ks _ items (number s is) rest) sound = main p first deep l ks items rest sound.1
-main p first _ _ _ _ (token deep l _ ks _ items period rest) sound = main p first deep l ks items rest sound.1
-main p first _ _ _ _ (token deep l _ ks _ items (glyph n) rest) sound =
-    let r = main p first deep l ks items rest sound.1 in
-    record { kinds = r.kinds; spells = r.spells; sound = r.sound; closes = r.closes; placed = r.placed; levels = r.levels }
-main p first _ _ _ _ (token deep l _ ks _ items comment_open rest) sound =
-    let r = main p first deep l ks items rest sound.1 in
-    record { kinds = r.kinds; spells = r.spells; sound = r.sound; closes = r.closes; placed = r.placed; levels = r.levels }
-main p first _ _ _ _ (token deep l _ ks _ items (word s) rest) sound =
-    let r = main p first deep l ks items rest sound.1 in
-    record { kinds = r.kinds; spells = r.spells; sound = r.sound; closes = r.closes; placed = r.placed; levels = r.levels }
-main p first _ _ _ _ (token deep l _ ks _ items comment_close rest) sound =
-    let r = main p first deep l ks items rest sound.1 in
-    record { kinds = r.kinds; spells = r.spells; sound = r.sound; closes = r.closes; placed = r.placed; levels = r.levels }
+main p first _ _ _ _ (token deep l k ks item items stands rest) sound =
+    let same = aside k item items first (level_in l []) stands in
+    main_same p first deep l (item ++ items) items same.1 same.0 (main p first deep l ks items rest sound.1)
 main p first _ _ _ _ (move deep l s x ks items names rest) sound =
     let r = main p first deep (has_played x.mv l.trail) ks items rest sound.1 in
     let this : Placed = record { position = here first (level_in l []); depth = 0; item = games.move x.mv } in
@@ -119,16 +118,9 @@ main p first _ _ _ _ (move deep l s x ks items names rest) sound =
       levels = r.levels;
     }
 main p first _ _ _ _ (variation deep l ks ls items more holds room inner rest) sound =
-    let r = main p first deep l ls more rest (all_behind IsSoundKind ks (tokens.right_paren ∷ ls) sound.1).1 in
-    let e = main_variation p first deep l ks items more inner in
-    record {
-      kinds = r.kinds;
-      spells = subst (λ xs. SpellsText p first deep l r.kinds (map (λ i. i.item) xs)) (sym e) r.spells;
-      sound = r.sound;
-      closes = r.closes;
-      placed = ap (λ xs. placed_from first (level_in l []) (map (λ i. i.item) xs)) e ∙ r.placed ∙ sym e;
-      levels = ap (λ xs. fold levels_after (level_in l []) (map (λ i. i.item) xs)) e ∙ r.levels ∙ sym (levels_variation p first deep l ks items more inner);
-    }
+    main_same p first deep l (games.open_variation ∷ (items ++ games.close_variation ∷ more)) more
+    (main_variation p first deep l ks items more inner) (levels_variation p first deep l ks items more inner)
+    (main p first deep l ls more rest (all_behind IsSoundKind ks (tokens.right_paren ∷ ls) sound.1).1)
 
 -- What is kept of items, in either mode.
 abbrev pub kept : Mode → Parts → List Item → List Item

@@ -1,7 +1,8 @@
 -- What is known of a game that a text spells: its tokens are sound, and its comments close.
 use Rattle.std.proofs.Common.{◌≡◌, ℕ, ◌+◌, Bool, true, false, List, [], ◌∷◌, ◌++◌, refl, sym, ap, subst, ◌∙◌, append_assoc, None, Some}
-use Rattle.std.specs.Prelude.{◌||◌, codes, bytes_eq, IsTrue}
+use Rattle.std.specs.Prelude.{◌||◌, codes, bytes_eq}
 use Rattle.std.specs.List.{AllByRecursion, list_all}
+use Rattle.std.proofs.ByRecursion.{All-append}
 use Rattle.std.proofs.lemmas.Bool.{false≢true, and_parts}
 use Rattle.chess_rules.specs.declared.position.Parts.{Parts}
 use Rattle.pgn_lexer.specs.Sound.{IsSoundKind, CommentsClose}
@@ -13,7 +14,7 @@ use Rattle.pgn_game.specs.Game.{Item, Game}
 use Rattle.pgn_game.specs.Levels.{Level, start_of}
 use Rattle.pgn_game.specs.Pairs.{Pair, value_of}
 use Rattle.pgn_game.specs.Profile.{Profile}
-use Rattle.pgn_game.specs.Spells.{AreDropped, SpellsPair, pair, SpellsPairs, no_pair, next_pair, KeepsTags, by_name, IsSetUp, SpellsText, no_more, token, move, variation, number, period, glyph, comment_open, word, comment_close, nothing_played, BeginsBare, IsResult, SpellsGame}
+use Rattle.pgn_game.specs.Spells.{AreDropped, SpellsPair, pair, SpellsPairs, no_pair, next_pair, KeepsTags, by_name, IsSetUp, SpellsText, no_more, token, move, variation, StandsFor, number, period, glyph, comment_open, word, comment_close, nothing_played, BeginsBare, IsResult, SpellsGame}
 use Rattle.pgn_game.proofs.EachOf.{all_front, all_behind}
 use Rattle.pgn_game.proofs.Pieces.{IsSoundPair, IsWritable}
 
@@ -21,130 +22,112 @@ use Rattle.pgn_game.proofs.Pieces.{IsSoundPair, IsWritable}
 abbrev Closes : List Kind → Type 0
 Closes ks = (c : Bool) × CommentsClose c ks
 
--- behind a token that is none, no comment is open
-abbrev ShutsComments : Kind → Type 0
-ShutsComments k = (c : Bool) (ks : List Kind) → CommentsClose c (k ∷ ks) → CommentsClose false ks
+-- an error ends all tokens, so behind it nothing is known
+abbrev pub GoesOn : Kind → Type 0
+GoesOn (tokens.refused r) = ⊥
+GoesOn _ = Unit {0}
 
-symbol_shuts : (s : List ℕ) → ShutsComments (tokens.symbol s)
-symbol_shuts s false ks h = h
-symbol_shuts s true ks h = absurd h
+-- what is open behind a token; no comment is, before a token that is none of a comment and behind it
+around_token : (k : Kind) (c : Bool) (ks : List Kind) → GoesOn k → CommentsClose c (k ∷ ks)
+    → (d : Bool) × CommentsClose d ks × (is_comment k ≡ false → (c ≡ false) × (d ≡ false))
+around_token (tokens.refused r) c ks on h = absurd on
+around_token tokens.comment_open false ks on h = (true, h, λ is. absurd (cc))
+around_token (tokens.word s) false ks on h = absurd h
+around_token (tokens.word s) true ks on h = (true, h, λ is. absurd (cc))
+around_token tokens.comment_close false ks on h = absurd h
+around_token tokens.comment_close true ks on h = (false, h, λ is. absurd (cc))
+around_token _ false ks on h = (false, h, λ is. (refl, refl))
+around_token _ true ks on h = absurd h
 
-string_shuts : (s : List ℕ) → ShutsComments (tokens.str s)
-string_shuts s false ks h = h
-string_shuts s true ks h = absurd h
+pub plain : (k : Kind) (c : Bool) (ks : List Kind) → GoesOn k → is_comment k ≡ false → CommentsClose c (k ∷ ks)
+    → (c ≡ false) × CommentsClose false ks
+plain k c ks on is h =
+    let a = around_token k c ks on h in
+    let none = a.2 is in (none.0, subst (λ d. CommentsClose d ks) none.1 a.1)
 
-left_bracket_shuts : ShutsComments tokens.left_bracket
-left_bracket_shuts false ks h = h
-left_bracket_shuts true ks h = absurd h
+behind : (xs : List Kind) (c : Bool) (ks : List Kind) → AllByRecursion GoesOn xs → CommentsClose c (xs ++ ks)
+    → Closes ks
+behind [] c ks on h = (c, h)
+behind (x ∷ xs) c ks on h = let next = around_token x c (xs ++ ks) on.0 h in behind xs next.0 ks on.1 next.1
 
-right_bracket_shuts : ShutsComments tokens.right_bracket
-right_bracket_shuts false ks h = h
-right_bracket_shuts true ks h = absurd h
+comment_goes_on : (k : Kind) → is_comment k ≡ true → GoesOn k
+comment_goes_on (tokens.refused r) is = absurd (false≢true is)
+comment_goes_on _ is = tt
 
-left_paren_shuts : ShutsComments tokens.left_paren
-left_paren_shuts false ks h = h
-left_paren_shuts true ks h = absurd h
-
-right_paren_shuts : ShutsComments tokens.right_paren
-right_paren_shuts false ks h = h
-right_paren_shuts true ks h = absurd h
-
-period_shuts : ShutsComments tokens.period
-period_shuts false ks h = h
-period_shuts true ks h = absurd h
-
-glyph_shuts : (n : ℕ) → ShutsComments (tokens.glyph n)
-glyph_shuts n false ks h = h
-glyph_shuts n true ks h = absurd h
-
-behind_comment : (k : Kind) (c : Bool) (ks : List Kind) → IsTrue (is_comment k) → CommentsClose c (k ∷ ks) → Closes ks
-behind_comment tokens.comment_open false ks is h = (true, h)
-behind_comment tokens.comment_open true ks is h = absurd h
-behind_comment (tokens.word s) false ks is h = absurd h
-behind_comment (tokens.word s) true ks is h = (true, h)
-behind_comment tokens.comment_close false ks is h = absurd h
-behind_comment tokens.comment_close true ks is h = (false, h)
-behind_comment _ c ks is h = absurd (false≢true is)
-
-behind_dropped : (xs : List Kind) (c : Bool) (ks : List Kind) → AreDropped xs → CommentsClose c (xs ++ ks) → Closes ks
-behind_dropped [] c ks are h = (c, h)
-behind_dropped (x ∷ xs) c ks are h =
+dropped_go_on : (xs : List Kind) → AreDropped xs → AllByRecursion GoesOn xs
+dropped_go_on [] are = tt
+dropped_go_on (x ∷ xs) are =
     let both = and_parts (is_comment x) (list_all is_comment xs) are in
-    let next = behind_comment x c (xs ++ ks) both.0 h in
-    behind_dropped xs next.0 ks both.1 next.1
+    (comment_goes_on x both.0, dropped_go_on xs both.1)
 
 behind_pair : (ks : List Kind) (q : Pair) (c : Bool) (ls : List Kind) → SpellsPair ks q → CommentsClose c (ks ++ ls) → CommentsClose false ls
 behind_pair _ _ c ls (pair xs ys zs name value d e f) h =
-    let a = left_bracket_shuts c (xs ++ tokens.symbol name ∷ (ys ++ tokens.str value ∷ (zs ++ tokens.right_bracket ∷ ls))) (simp append_assoc at h) in
-    let b = behind_dropped xs false (tokens.symbol name ∷ (ys ++ tokens.str value ∷ (zs ++ tokens.right_bracket ∷ ls))) d a in
-    let g = behind_dropped ys false (tokens.str value ∷ (zs ++ tokens.right_bracket ∷ ls)) e (symbol_shuts name b.0 (ys ++ tokens.str value ∷ (zs ++ tokens.right_bracket ∷ ls)) b.1) in
-    let i = behind_dropped zs false (tokens.right_bracket ∷ ls) f (string_shuts value g.0 (zs ++ tokens.right_bracket ∷ ls) g.1) in
-    right_bracket_shuts i.0 ls i.1
+    let last = tokens.right_bracket ∷ ls in
+    let valued = tokens.str value ∷ (zs ++ last) in
+    let named = tokens.symbol name ∷ (ys ++ valued) in
+    let a = around_token tokens.left_bracket c (xs ++ named) tt (simp append_assoc at h) in
+    let b = behind xs a.0 named (dropped_go_on xs d) a.1 in
+    let g = behind (tokens.symbol name ∷ ys) b.0 valued (tt, dropped_go_on ys e) b.1 in
+    let i = behind (tokens.str value ∷ zs) g.0 last (tt, dropped_go_on zs f) g.1 in
+    (plain tokens.right_bracket i.0 ls tt refl i.1).1
 
 behind_pairs : (ks : List Kind) (qs : List Pair) (ls : List Kind) → SpellsPairs ks qs → CommentsClose false (ks ++ ls) → CommentsClose false ls
 behind_pairs _ _ ls no_pair h = h
 behind_pairs _ _ ls (next_pair ks js q qs first rest) h =
     behind_pairs js qs ls rest (behind_pair ks q false (js ++ ls) first (subst (CommentsClose false) (append_assoc ks js ls) h))
 
-behind_text : (p : Profile) (first : Parts) (deep : ℕ) (l : Level) (ks : List Kind) (items : List Item) → SpellsText p first deep l ks items
-    → (c : Bool) (ls : List Kind) → CommentsClose c (ks ++ ls) → Closes ls
-behind_text p first _ _ _ _ (no_more deep l) c ls h = (c, h)
-behind_text p first _ _ _ _ (token deep l _ ks _ items (number s is) rest) c ls h = behind_text p first deep l ks items rest false ls (symbol_shuts s c (ks ++ ls) h)
-behind_text p first _ _ _ _ (token deep l _ ks _ items period rest) c ls h = behind_text p first deep l ks items rest false ls (period_shuts c (ks ++ ls) h)
-behind_text p first _ _ _ _ (token deep l _ ks _ items (glyph n) rest) c ls h = behind_text p first deep l ks items rest false ls (glyph_shuts n c (ks ++ ls) h)
-behind_text p first _ _ _ _ (token deep l _ ks _ items comment_open rest) c ls h =
-    let next = behind_comment tokens.comment_open c (ks ++ ls) refl h in behind_text p first deep l ks items rest next.0 ls next.1
-behind_text p first _ _ _ _ (token deep l _ ks _ items (word s) rest) c ls h =
-    let next = behind_comment (tokens.word s) c (ks ++ ls) refl h in behind_text p first deep l ks items rest next.0 ls next.1
-behind_text p first _ _ _ _ (token deep l _ ks _ items comment_close rest) c ls h =
-    let next = behind_comment tokens.comment_close c (ks ++ ls) refl h in behind_text p first deep l ks items rest next.0 ls next.1
-behind_text p first _ _ _ _ (move deep l s x ks items names rest) c ls h =
-    behind_text p first deep _ ks items rest false ls (symbol_shuts s c (ks ++ ls) h)
-behind_text p first _ _ _ _ (variation deep l ks js items more holds room inner rest) c ls h =
-    let a = left_paren_shuts c ((ks ++ tokens.right_paren ∷ js) ++ ls) h in
-    let b = behind_text p first (deep + 1) _ ks items inner false (tokens.right_paren ∷ (js ++ ls)) (subst (CommentsClose false) (append_assoc ks (tokens.right_paren ∷ js) ls) a) in
-    behind_text p first deep l js more rest false ls (right_paren_shuts b.0 (js ++ ls) b.1)
+item_goes_on : (k : Kind) (item : List Item) → StandsFor k item → GoesOn k
+item_goes_on _ _ (number s is) = tt
+item_goes_on _ _ period = tt
+item_goes_on _ _ (glyph n) = tt
+item_goes_on _ _ comment_open = tt
+item_goes_on _ _ (word s) = tt
+item_goes_on _ _ comment_close = tt
+
+text_goes_on : (p : Profile) (first : Parts) (deep : ℕ) (l : Level) (ks : List Kind) (items : List Item)
+    → SpellsText p first deep l ks items → AllByRecursion GoesOn ks
+text_goes_on p first _ _ _ _ (no_more deep l) = tt
+text_goes_on p first _ _ _ _ (token deep l k ks item items stands rest) =
+    (item_goes_on k item stands, text_goes_on p first deep l ks items rest)
+text_goes_on p first _ _ _ _ (move deep l s x ks items names rest) = (tt, text_goes_on p first deep _ ks items rest)
+text_goes_on p first _ _ _ _ (variation deep l ks js items more holds room inner rest) =
+    let all = All-append GoesOn ks (tokens.right_paren ∷ js) (text_goes_on p first (deep + 1) _ ks items inner)
+    (tt, text_goes_on p first deep l js more rest) in (tt, all)
 
 -- a marker is no comment
-pub marker_shuts : (k : Kind) (marker : List ℕ) → marker_of k ≡ Some marker → ShutsComments k
-marker_shuts tokens.asterisk marker is false ks h = h
-marker_shuts tokens.asterisk marker is true ks h = absurd h
-marker_shuts (tokens.symbol s) marker is c ks h = symbol_shuts s c ks h
-marker_shuts _ marker is c ks h = absurd (cc)
+marker_goes_on : (k : Kind) (marker : List ℕ) → marker_of k ≡ Some marker → GoesOn k × (is_comment k ≡ false)
+marker_goes_on tokens.asterisk marker is = (tt, refl)
+marker_goes_on (tokens.symbol s) marker is = (tt, refl)
+marker_goes_on _ marker is = absurd (cc)
+
+marker_plain : (k : Kind) (marker : List ℕ) (c : Bool) (ks : List Kind) → marker_of k ≡ Some marker
+    → CommentsClose c (k ∷ ks)
+    → (c ≡ false) × CommentsClose false ks
+marker_plain k marker c ks is h = let on = marker_goes_on k marker is in plain k c ks on.0 on.1 h
+
+pub marker_closed : (k : Kind) (marker : List ℕ) (ks : List Kind) → marker_of k ≡ Some marker → CommentsClose false ks
+    → CommentsClose false (k ∷ ks)
+marker_closed tokens.asterisk marker ks is h = h
+marker_closed (tokens.symbol s) marker ks is h = h
+marker_closed _ marker ks is h = absurd (cc)
 
 pub marker_opens : (k : Kind) (marker : List ℕ) (c : Bool) (ks ls : List Kind) → marker_of k ≡ Some marker → CommentsClose c (k ∷ ks) → CommentsClose false ls → CommentsClose c (k ∷ ls)
-marker_opens tokens.asterisk marker false ks ls is h more = more
-marker_opens tokens.asterisk marker true ks ls is h more = absurd h
-marker_opens (tokens.symbol s) marker false ks ls is h more = more
-marker_opens (tokens.symbol s) marker true ks ls is h more = absurd h
-marker_opens _ marker c ks ls is h more = absurd (cc)
-
-shut_marker : (k : Kind) (marker : List ℕ) (c : Bool) (ks : List Kind) → marker_of k ≡ Some marker → CommentsClose c (k ∷ ks) → CommentsClose false (k ∷ ks)
-shut_marker k marker false ks is h = h
-shut_marker tokens.asterisk marker true ks is h = absurd h
-shut_marker (tokens.symbol s) marker true ks is h = absurd h
-shut_marker _ marker true ks is h = absurd (cc)
-
--- movetext that begins with no comment
-bare_text : (p : Profile) (first : Parts) (deep : ℕ) (l : Level) (ks : List Kind) (items : List Item) → SpellsText p first deep l ks items → BeginsBare ks
-    → (c : Bool) (k : Kind) (marker : List ℕ) (ls : List Kind) → marker_of k ≡ Some marker → CommentsClose c (ks ++ k ∷ ls) → CommentsClose false (ks ++ k ∷ ls)
-bare_text p first _ _ _ _ (no_more deep l) bare c k marker ls is h = shut_marker k marker c ls is h
-bare_text p first _ _ _ _ (token deep l _ ks _ items (number s n) rest) bare c k marker ls is h = symbol_shuts s c (ks ++ k ∷ ls) h
-bare_text p first _ _ _ _ (token deep l _ ks _ items period rest) bare c k marker ls is h = period_shuts c (ks ++ k ∷ ls) h
-bare_text p first _ _ _ _ (token deep l _ ks _ items (glyph n) rest) bare c k marker ls is h = glyph_shuts n c (ks ++ k ∷ ls) h
-bare_text p first _ _ _ _ (token deep l _ ks _ items comment_open rest) bare c k marker ls is h = absurd (false≢true (sym bare))
-bare_text p first _ _ _ _ (token deep l _ ks _ items (word s) rest) bare c k marker ls is h = absurd (false≢true (sym bare))
-bare_text p first _ _ _ _ (token deep l _ ks _ items comment_close rest) bare c k marker ls is h = absurd (false≢true (sym bare))
-bare_text p first _ _ _ _ (move deep l s x ks items names rest) bare c k marker ls is h = symbol_shuts s c (ks ++ k ∷ ls) h
-bare_text p first _ _ _ _ (variation deep l ks js items more holds room inner rest) bare c k marker ls is h =
-    left_paren_shuts c ((ks ++ tokens.right_paren ∷ js) ++ k ∷ ls) h
+marker_opens k marker c ks ls is h more =
+    subst (λ b. CommentsClose b (k ∷ ls)) (sym (marker_plain k marker c ks is h).0) (marker_closed k marker ls is more)
 
 -- no comment is open where movetext begins
-before_text : (p : Profile) (first : Parts) (l : Level) (tags text : List Kind) (given : List Pair) (items : List Item) (c : Bool) (k : Kind) (marker : List ℕ) (ls : List Kind)
-    → SpellsPairs tags given → (given ≡ [] → BeginsBare text) → SpellsText p first 0 l text items → marker_of k ≡ Some marker
+bare_text : (ks : List Kind) (c : Bool) (k : Kind) (marker : List ℕ) (ls : List Kind) → AllByRecursion GoesOn ks
+    → BeginsBare ks
+    → marker_of k ≡ Some marker → CommentsClose c (ks ++ k ∷ ls) → CommentsClose false (ks ++ k ∷ ls)
+bare_text [] c k marker ls on bare is h = subst (λ b. CommentsClose b (k ∷ ls)) (marker_plain k marker c ls is h).0 h
+bare_text (t ∷ ts) c k marker ls on bare is h =
+    subst (λ b. CommentsClose b (t ∷ (ts ++ k ∷ ls))) (plain t c (ts ++ k ∷ ls) on.0 bare h).0 h
+
+before_text : (tags text : List Kind) (given : List Pair) (c : Bool) (k : Kind) (marker : List ℕ) (ls : List Kind)
+    → SpellsPairs tags given → (given ≡ [] → BeginsBare text) → AllByRecursion GoesOn text → marker_of k ≡ Some marker
     → CommentsClose c (tags ++ (text ++ k ∷ ls)) → CommentsClose false (text ++ k ∷ ls)
-before_text p first l _ text _ items c k marker ls no_pair bare spells is h = bare_text p first 0 l text items spells (bare refl) c k marker ls is h
-before_text p first l _ text _ items c k marker ls (next_pair ks js q qs one rest) bare spells is h =
+before_text _ text _ c k marker ls no_pair bare on is h = bare_text text c k marker ls on (bare refl) is h
+before_text _ text _ c k marker ls (next_pair ks js q qs one rest) bare on is h =
     behind_pairs js qs (text ++ k ∷ ls) rest
     (behind_pair ks q c (js ++ (text ++ k ∷ ls)) one (subst (CommentsClose c) (append_assoc ks js (text ++ k ∷ ls)) h))
 
@@ -208,9 +191,10 @@ sound_game p ks ls g h sound closes =
     let sound_behind = all_behind IsSoundKind h.before (h.tags ++ (h.text ++ h.last ∷ [])) (subst (AllByRecursion IsSoundKind) h.tokens sound) in
     let sound_rest = all_behind IsSoundKind h.tags (h.text ++ h.last ∷ []) sound_behind in
     let all = subst (CommentsClose false) (ap (λ xs. xs ++ ls) h.tokens ∙ game_kinds h.before h.tags h.text h.last ls) closes in
-    let some = behind_dropped h.before false (h.tags ++ (h.text ++ h.last ∷ ls)) h.dropped all in
-    let text = before_text p (start_of g.pairs) (nothing_played []) h.tags h.text h.given g.items some.0 h.last g.marker ls h.pairs h.bare h.items h.marker some.1 in
-    let end = behind_text p (start_of g.pairs) 0 (nothing_played []) h.text g.items h.items false (h.last ∷ ls) text in (
+    let some = behind h.before false (h.tags ++ (h.text ++ h.last ∷ ls)) (dropped_go_on h.before h.dropped) all in
+    let on = text_goes_on p (start_of g.pairs) 0 (nothing_played []) h.text g.items h.items in
+    let text = before_text h.tags h.text h.given some.0 h.last g.marker ls h.pairs h.bare on h.marker some.1 in
+    let end = behind h.text false (h.last ∷ ls) on text in (
       record {
         given = h.given;
         text = h.text;
@@ -227,5 +211,5 @@ sound_game p ks ls g h sound closes =
         closes = text;
         result = h.result;
       },
-      marker_shuts h.last g.marker h.marker end.0 ls end.1,
+      (marker_plain h.last g.marker end.0 ls h.marker end.1).1,
     )

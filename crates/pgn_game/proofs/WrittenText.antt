@@ -1,6 +1,6 @@
 -- The movetext that is written of a game spells the same items again.
 use Rattle.std.proofs.Common.{◌≡◌, ℕ, ◌+◌, ◌<◌, Bool, true, false, List, [], ◌∷◌, ◌++◌, refl, sym, ap, subst, ◌∙◌, append_assoc}
-use Rattle.std.specs.Prelude.{codes, decimal, fold, IsTrue}
+use Rattle.std.specs.Prelude.{codes, filter, fold, IsTrue}
 use Rattle.std.proofs.ByRecursion.{All-append}
 use Rattle.std.specs.List.{AllByRecursion}
 use Rattle.std.proofs.lemmas.List.Sums.{fold-append}
@@ -15,30 +15,40 @@ use Rattle.pgn_lexer.specs.Tokens.{Kind}
 use Rattle.pgn_lexer.specs.Written.{written}
 use Rattle.chess_text.specs.declared.resolution.Played.{Played}
 use Rattle.pgn_game.specs.Chess.{text_of_move, is_black_to_move}
+use Rattle.pgn_game.specs.FaultTable.{is_comment}
 use Rattle.pgn_game.specs.Game as games
 use Rattle.pgn_game.specs.Game.{Item}
 use Rattle.pgn_game.specs.Levels.{Level, Levels, levels_after, back_to, depth, here, without_last, replayed}
 use Rattle.pgn_game.specs.Profile.{Profile}
 use Rattle.pgn_game.specs.Spells.{StandsFor, Names, SpellsText, no_more, token, move, variation, number, period, glyph, comment_open, word, comment_close, nothing_played, has_played}
-use Rattle.pgn_game.specs.Text.{Placed, placed_from, tokens_from, tokens_at, number_before}
+use Rattle.pgn_game.specs.Text.{Placed, placed_from, is_main_move, tokens_from, tokens_at, number_before}
 use Rattle.pgn_game.proofs.EachOf.{all_front, all_behind}
 use Rattle.pgn_game.proofs.Items.{placed-append, tokens_from-append}
 use Rattle.pgn_game.proofs.Pieces.{IsWritable, AllShown, none_shown, next_shown, shown-append, single}
+use Rattle.pgn_game.proofs.SpelledGames.{GoesOn, plain}
 use Rattle.pgn_game.proofs.WrittenMoves.{ArePositions, last_position, earlier_positions, plays_on, writable_move, names_again, number_kinds, number_shown, number_spells, number_writable, number_closes}
 
 abbrev pub level_in : Level → List Level → Levels
 level_in l around = record { present = l; around = around }
 
+-- A token anywhere in movetext leaves the levels as they are, and is no move.
+pub aside : (k : Kind) (item items : List Item) (first : Parts) (ls : Levels) → StandsFor k item
+    → (fold levels_after ls (item ++ items) ≡ fold levels_after ls items)
+    × (filter is_main_move (placed_from first ls (item ++ items)) ≡ filter is_main_move (placed_from first ls items))
+aside _ _ items first ls (number s is) = (refl, refl)
+aside _ _ items first ls period = (refl, refl)
+aside _ _ items first ls (glyph n) = (refl, refl)
+aside _ _ items first ls comment_open = (refl, refl)
+aside _ _ items first ls (word s) = (refl, refl)
+aside _ _ items first ls comment_close = (refl, refl)
+
 -- movetext closes the variations that it opens
 pub around_again : (p : Profile) (first : Parts) (deep : ℕ) (l : Level) (ks : List Kind) (items : List Item) → SpellsText p first deep l ks items
     → (around : List Level) → (fold levels_after (level_in l around) items).around ≡ around
 around_again p first _ _ _ _ (no_more deep l) around = refl
-around_again p first _ _ _ _ (token deep l _ ks _ items (number s is) rest) around = around_again p first deep l ks items rest around
-around_again p first _ _ _ _ (token deep l _ ks _ items period rest) around = around_again p first deep l ks items rest around
-around_again p first _ _ _ _ (token deep l _ ks _ items (glyph n) rest) around = around_again p first deep l ks items rest around
-around_again p first _ _ _ _ (token deep l _ ks _ items comment_open rest) around = around_again p first deep l ks items rest around
-around_again p first _ _ _ _ (token deep l _ ks _ items (word s) rest) around = around_again p first deep l ks items rest around
-around_again p first _ _ _ _ (token deep l _ ks _ items comment_close rest) around = around_again p first deep l ks items rest around
+around_again p first _ _ _ _ (token deep l k ks item items stands rest) around =
+    ap (λ (x : Levels). x.around) (aside k item items first (level_in l around) stands).0
+    ∙ around_again p first deep l ks items rest around
 around_again p first _ _ _ _ (move deep l s x ks items names rest) around = around_again p first deep (has_played x.mv l.trail) ks items rest around
 around_again p first _ _ _ _ (variation deep l ks ls items more holds room inner rest) around =
     let at = level_in (nothing_played (without_last l.trail)) (l ∷ around) in
@@ -82,13 +92,9 @@ pub record Rewritten (p : Profile) (first : Parts) (deep : ℕ) (l : Level) (ks 
 abbrev IsLeftOut : Kind → Type 0
 IsLeftOut k = (c : Bool) (more : List Kind) → CommentsClose c (k ∷ more) → CommentsClose c more
 
-number_out : (s : List ℕ) → IsLeftOut (tokens.symbol s)
-number_out s false more h = h
-number_out s true more h = absurd h
-
-period_out : IsLeftOut tokens.period
-period_out false more h = h
-period_out true more h = absurd h
+no_comment : (k : Kind) → GoesOn k → is_comment k ≡ false → IsLeftOut k
+no_comment k on is c more h =
+    let none = plain k c more on is h in subst (λ b. CommentsClose b more) (sym none.0) none.1
 
 left_out : (p : Profile) (first : Parts) (deep : ℕ) (l : Level) (k : Kind) (ks : List Kind) (items : List Item) (ts : List (List ℕ)) → IsLeftOut k
     → Rewritten p first deep l ks items ts → Rewritten p first deep l (k ∷ ks) items ts
@@ -104,34 +110,26 @@ left_out p first deep l k ks items ts out r = record {
 abbrev Passes : Kind → Type 0
 Passes k = (c : Bool) (more then : List Kind) → ((d : Bool) → CommentsClose d more → CommentsClose d then) → CommentsClose c (k ∷ more) → CommentsClose c (k ∷ then)
 
-glyph_passes : (n : ℕ) → Passes (tokens.glyph n)
-glyph_passes n false more then f h = f false h
-glyph_passes n true more then f h = absurd h
+passes : (k : Kind) → Passes k
+passes tokens.comment_open false more then f h = f true h
+passes (tokens.word s) false more then f h = h
+passes (tokens.word s) true more then f h = f true h
+passes tokens.comment_close false more then f h = h
+passes tokens.comment_close true more then f h = f false h
+passes (tokens.refused r) true more then f h = tt
+passes _ false more then f h = f false h
+passes _ true more then f h = h
 
-open_passes : Passes tokens.comment_open
-open_passes false more then f h = f true h
-open_passes true more then f h = absurd h
-
-word_passes : (s : List ℕ) → Passes (tokens.word s)
-word_passes s false more then f h = absurd h
-word_passes s true more then f h = f true h
-
-close_passes : Passes tokens.comment_close
-close_passes false more then f h = absurd h
-close_passes true more then f h = f false h
-
-written_again : (p : Profile) (first : Parts) (deep : ℕ) (l : Level) (k : Kind) (ks : List Kind) (item items : List Item) (t : List ℕ) (ts : List (List ℕ))
-    → StandsFor k item → AllShown (k ∷ []) (t ∷ []) → IsWritable k → Passes k → Rewritten p first deep l ks items ts → Rewritten p first deep l (k ∷ ks) (item ++ items) (t ∷ ts)
-written_again p first deep l k ks item items t ts stands shown writable passes r = record {
+written_again : (p : Profile) (first : Parts) (deep : ℕ) (l : Level) (k : Kind) (ks : List Kind) (item items : List Item) (ts : List (List ℕ))
+    → StandsFor k item → IsWritable k → Rewritten p first deep l ks items ts
+    → Rewritten p first deep l (k ∷ ks) (item ++ items) (written k ∷ ts)
+written_again p first deep l k ks item items ts stands writable r = record {
   kinds = k ∷ r.kinds;
   spells = token deep l k r.kinds item items stands r.spells;
-  shown = shown-append (k ∷ []) r.kinds (t ∷ []) ts shown r.shown;
+  shown = next_shown (k ∷ []) r.kinds (written k) ts (single k) r.shown;
   writable = (writable, r.writable);
-  closes = λ c more then f h. passes c (ks ++ more) (r.kinds ++ then) (λ d. r.closes d more then f) h;
+  closes = λ c more then f h. passes k c (ks ++ more) (r.kinds ++ then) (λ d. r.closes d more then f) h;
 }
-
-one_shown : (k : Kind) → AllShown (k ∷ []) (written k ∷ [])
-one_shown k = next_shown (k ∷ []) [] (written k) [] (single k) none_shown
 
 -- A variation.
 variation_closes : (js ks ls ms : List Kind) → InPlaceOf js ks → InPlaceOf ms ls
@@ -217,20 +215,22 @@ module _ (one_read : ReadsTheOne) (leaves : LeavesPosition) (is_symbol : Written
   rewritten p first _ _ _ _ (no_more deep l) h sound around b =
       record { kinds = []; spells = no_more deep l; shown = none_shown; writable = tt; closes = λ c more then f k. f c k }
   rewritten p first _ _ _ _ (token deep l _ ks _ items (number s is) rest) h sound around b =
-      left_out p first deep l (tokens.symbol s) ks items _ (number_out s) (rewritten p first deep l ks items rest h sound.1 around b)
+      left_out p first deep l _ ks items _ (no_comment (tokens.symbol s) tt refl)
+      (rewritten p first deep l ks items rest h sound.1 around b)
   rewritten p first _ _ _ _ (token deep l _ ks _ items period rest) h sound around b =
-      left_out p first deep l tokens.period ks items _ period_out (rewritten p first deep l ks items rest h sound.1 around b)
+      left_out p first deep l _ ks items _ (no_comment tokens.period tt refl)
+      (rewritten p first deep l ks items rest h sound.1 around b)
   rewritten p first _ _ _ _ (token deep l _ ks _ items (glyph n) rest) h sound around b =
-      written_again p first deep l (tokens.glyph n) ks (games.glyph n ∷ []) items (36 ∷ decimal n) _ (glyph n) (one_shown (tokens.glyph n)) sound.0 (glyph_passes n)
+      written_again p first deep l _ ks _ items _ (glyph n) sound.0
       (rewritten p first deep l ks items rest h sound.1 around false)
   rewritten p first _ _ _ _ (token deep l _ ks _ items comment_open rest) h sound around b =
-      written_again p first deep l tokens.comment_open ks (games.comment_open ∷ []) items (codes "{") _ comment_open (one_shown tokens.comment_open) tt open_passes
+      written_again p first deep l _ ks _ items _ comment_open tt
       (rewritten p first deep l ks items rest h sound.1 around false)
   rewritten p first _ _ _ _ (token deep l _ ks _ items (word s) rest) h sound around b =
-      written_again p first deep l (tokens.word s) ks (games.word s ∷ []) items s _ (word s) (one_shown (tokens.word s)) sound.0 (word_passes s)
+      written_again p first deep l _ ks _ items _ (word s) sound.0
       (rewritten p first deep l ks items rest h sound.1 around false)
   rewritten p first _ _ _ _ (token deep l _ ks _ items comment_close rest) h sound around b =
-      written_again p first deep l tokens.comment_close ks (games.comment_close ∷ []) items (codes "}") _ comment_close (one_shown tokens.comment_close) tt close_passes
+      written_again p first deep l _ ks _ items _ comment_close tt
       (rewritten p first deep l ks items rest h sound.1 around false)
   rewritten p first _ _ _ _ (move deep l s x ks items names rest) h sound around b =
       move_again p first deep l s x ks items _ b names h
