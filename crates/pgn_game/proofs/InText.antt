@@ -202,19 +202,9 @@ asterisk_marker : (p : Profile) (part : Part) (marker : List ℕ) → codes "*" 
 asterisk_marker p part marker e = ap (λ (m : List ℕ). marker_rows p part m) e
 
 pub marker_refusal : (p : Profile) (part : Part) (k : TokenKind) (marker : List ℕ) → marker_of (kind_of k) ≡ Some marker → text_refusal p part (kind_of k) ≡ marker_rows p part marker
-marker_refusal p part variants.LeftBracket marker is = absurd (cc)
-marker_refusal p part variants.RightBracket marker is = absurd (cc)
-marker_refusal p part variants.LeftParen marker is = absurd (cc)
-marker_refusal p part variants.RightParen marker is = absurd (cc)
-marker_refusal p part variants.Period marker is = absurd (cc)
 marker_refusal p part variants.Asterisk marker is = let e : codes "*" ≡ marker = cc in asterisk_marker p part marker e
 marker_refusal p part (variants.Symbol t) marker is = symbol_marker p part t.now marker is
-marker_refusal p part (variants.Str t) marker is = absurd (cc)
-marker_refusal p part (variants.Glyph n) marker is = absurd (cc)
-marker_refusal p part variants.CommentOpen marker is = absurd (cc)
-marker_refusal p part (variants.Word t) marker is = absurd (cc)
-marker_refusal p part variants.CommentClose marker is = absurd (cc)
-marker_refusal p part variants.End marker is = absurd (cc)
+marker_refusal p part _ marker is = absurd (cc)
 
 -- whether a marker differs from the value for Result, or else from this text
 abbrev pub differs : List ℕ → Option (List ℕ) → List ℕ → Bool

@@ -32,7 +32,7 @@ pub rest_passed : (test : Bool) (reason : Reason) (rest : Option Reason) → or_
 rest_passed true reason rest e = absurd (cc)
 rest_passed false reason rest e = e
 
-pub and_false : (b : Bool) → (b && false) ≡ false
+and_false : (b : Bool) → (b && false) ≡ false
 and_false true = refl
 and_false false = refl
 
@@ -48,62 +48,33 @@ no_value_rows p name =
     pass (bytes_eq name (codes "Result") && false) BadResult _ (and_false (bytes_eq name (codes "Result")))
     (pass (bytes_eq name (codes "FEN") && false) (BadFen 0) None (and_false (bytes_eq name (codes "FEN"))) refl)
 
+reduced_row : (p : Profile) → or_else (is_reduced p.mode && false) ReducedFen None ≡ None
+reduced_row p = pass (is_reduced p.mode && false) ReducedFen None (and_false (is_reduced p.mode)) refl
+
 pub comment_free : (p : Profile) (stage : Stage) (ps : List Pair) (name : List ℕ) (items : List Item) (k : Kind) → IsTrue (drops_comments stage) → IsTrue (is_comment k)
     → refusal p (at stage ps name items) k ≡ None
 unfolding refusal
-comment_free p Between ps name items tokens.comment_open drops is = refl
-comment_free p Between ps name items (tokens.word s) drops is = refl
-comment_free p Between ps name items tokens.comment_close drops is = refl
-comment_free p AfterLeftBracket ps name items tokens.comment_open drops is = pass (is_reduced p.mode && false) ReducedFen None (and_false (is_reduced p.mode)) refl
-comment_free p AfterLeftBracket ps name items (tokens.word s) drops is = pass (is_reduced p.mode && false) ReducedFen None (and_false (is_reduced p.mode)) refl
-comment_free p AfterLeftBracket ps name items tokens.comment_close drops is = pass (is_reduced p.mode && false) ReducedFen None (and_false (is_reduced p.mode)) refl
+comment_free p AfterTags ps name items k drops is = absurd (cc)
+comment_free p InMovetext ps name items k drops is = absurd (cc)
+comment_free p AfterLeftBracket ps name items tokens.comment_open drops is = reduced_row p
+comment_free p AfterLeftBracket ps name items (tokens.word s) drops is = reduced_row p
+comment_free p AfterLeftBracket ps name items tokens.comment_close drops is = reduced_row p
 comment_free p AfterName ps name items tokens.comment_open drops is = no_value_rows p name
 comment_free p AfterName ps name items (tokens.word s) drops is = no_value_rows p name
 comment_free p AfterName ps name items tokens.comment_close drops is = no_value_rows p name
-comment_free p AfterValue ps name items tokens.comment_open drops is = refl
-comment_free p AfterValue ps name items (tokens.word s) drops is = refl
-comment_free p AfterValue ps name items tokens.comment_close drops is = refl
-comment_free p AfterTags ps name items k drops is = absurd (cc)
-comment_free p InMovetext ps name items k drops is = absurd (cc)
-comment_free p stage ps name items tokens.left_bracket drops is = absurd (cc)
-comment_free p stage ps name items tokens.right_bracket drops is = absurd (cc)
-comment_free p stage ps name items tokens.left_paren drops is = absurd (cc)
-comment_free p stage ps name items tokens.right_paren drops is = absurd (cc)
-comment_free p stage ps name items tokens.period drops is = absurd (cc)
-comment_free p stage ps name items tokens.asterisk drops is = absurd (cc)
-comment_free p stage ps name items (tokens.symbol s) drops is = absurd (cc)
-comment_free p stage ps name items (tokens.str s) drops is = absurd (cc)
-comment_free p stage ps name items (tokens.glyph n) drops is = absurd (cc)
-comment_free p stage ps name items tokens.end drops is = absurd (cc)
-comment_free p stage ps name items (tokens.refused r) drops is = absurd (cc)
+comment_free p _ ps name items tokens.comment_open drops is = refl
+comment_free p _ ps name items (tokens.word s) drops is = refl
+comment_free p _ ps name items tokens.comment_close drops is = refl
+comment_free p _ ps name items _ drops is = absurd (cc)
 
 pub comment_stays : (stage : Stage) (ps : List Pair) (name : List ℕ) (items : List Item) (k : Kind) → IsTrue (drops_comments stage) → IsTrue (is_comment k)
     → next (at stage ps name items) k ≡ going (at stage ps name items)
-comment_stays Between ps name items tokens.comment_open drops is = refl
-comment_stays Between ps name items (tokens.word s) drops is = refl
-comment_stays Between ps name items tokens.comment_close drops is = refl
-comment_stays AfterLeftBracket ps name items tokens.comment_open drops is = refl
-comment_stays AfterLeftBracket ps name items (tokens.word s) drops is = refl
-comment_stays AfterLeftBracket ps name items tokens.comment_close drops is = refl
-comment_stays AfterName ps name items tokens.comment_open drops is = refl
-comment_stays AfterName ps name items (tokens.word s) drops is = refl
-comment_stays AfterName ps name items tokens.comment_close drops is = refl
-comment_stays AfterValue ps name items tokens.comment_open drops is = refl
-comment_stays AfterValue ps name items (tokens.word s) drops is = refl
-comment_stays AfterValue ps name items tokens.comment_close drops is = refl
 comment_stays AfterTags ps name items k drops is = absurd (cc)
 comment_stays InMovetext ps name items k drops is = absurd (cc)
-comment_stays stage ps name items tokens.left_bracket drops is = absurd (cc)
-comment_stays stage ps name items tokens.right_bracket drops is = absurd (cc)
-comment_stays stage ps name items tokens.left_paren drops is = absurd (cc)
-comment_stays stage ps name items tokens.right_paren drops is = absurd (cc)
-comment_stays stage ps name items tokens.period drops is = absurd (cc)
-comment_stays stage ps name items tokens.asterisk drops is = absurd (cc)
-comment_stays stage ps name items (tokens.symbol s) drops is = absurd (cc)
-comment_stays stage ps name items (tokens.str s) drops is = absurd (cc)
-comment_stays stage ps name items (tokens.glyph n) drops is = absurd (cc)
-comment_stays stage ps name items tokens.end drops is = absurd (cc)
-comment_stays stage ps name items (tokens.refused r) drops is = absurd (cc)
+comment_stays _ ps name items tokens.comment_open drops is = refl
+comment_stays _ ps name items (tokens.word s) drops is = refl
+comment_stays _ ps name items tokens.comment_close drops is = refl
+comment_stays _ ps name items _ drops is = absurd (cc)
 
 pub comment_goes : (k : Kind) → IsTrue (is_comment k) → is_end k ≡ false
 comment_goes tokens.end is = absurd (cc)
@@ -159,34 +130,14 @@ unfolding refusal
 after_tags p ps name items tokens.left_bracket is = absurd (cc)
 after_tags p ps name items tokens.end is = absurd (cc)
 after_tags p ps name items (tokens.refused r) is = absurd (cc)
-after_tags p ps name items tokens.right_bracket is = refl
-after_tags p ps name items tokens.left_paren is = refl
-after_tags p ps name items tokens.right_paren is = refl
-after_tags p ps name items tokens.period is = refl
-after_tags p ps name items tokens.asterisk is = refl
-after_tags p ps name items (tokens.symbol s) is = refl
-after_tags p ps name items (tokens.str s) is = refl
-after_tags p ps name items (tokens.glyph n) is = refl
-after_tags p ps name items tokens.comment_open is = refl
-after_tags p ps name items (tokens.word s) is = refl
-after_tags p ps name items tokens.comment_close is = refl
+after_tags p ps name items _ is = refl
 
 pub leads_after_tags : (ps : List Pair) (name : List ℕ) (items : List Item) (k : Kind) → IsTrue (is_textual k)
     → next (at AfterTags ps name items) k ≡ next (at InMovetext ps name items) k
 leads_after_tags ps name items tokens.left_bracket is = absurd (cc)
 leads_after_tags ps name items tokens.end is = absurd (cc)
 leads_after_tags ps name items (tokens.refused r) is = absurd (cc)
-leads_after_tags ps name items tokens.right_bracket is = refl
-leads_after_tags ps name items tokens.left_paren is = refl
-leads_after_tags ps name items tokens.right_paren is = refl
-leads_after_tags ps name items tokens.period is = refl
-leads_after_tags ps name items tokens.asterisk is = refl
-leads_after_tags ps name items (tokens.symbol s) is = refl
-leads_after_tags ps name items (tokens.str s) is = refl
-leads_after_tags ps name items (tokens.glyph n) is = refl
-leads_after_tags ps name items tokens.comment_open is = refl
-leads_after_tags ps name items (tokens.word s) is = refl
-leads_after_tags ps name items tokens.comment_close is = refl
+leads_after_tags ps name items _ is = refl
 
 -- without pairs
 pub between : (p : Profile) (ps : List Pair) (name : List ℕ) (items : List Item) (k : Kind) → IsTrue (is_textual k) → IsFalse (is_comment k)
@@ -195,34 +146,20 @@ unfolding refusal
 between p ps name items tokens.left_bracket is bare = absurd (cc)
 between p ps name items tokens.end is bare = absurd (cc)
 between p ps name items (tokens.refused r) is bare = absurd (cc)
-between p ps name items tokens.right_bracket is bare = refl
-between p ps name items tokens.left_paren is bare = refl
-between p ps name items tokens.right_paren is bare = refl
-between p ps name items tokens.period is bare = refl
-between p ps name items tokens.asterisk is bare = refl
-between p ps name items (tokens.symbol s) is bare = refl
-between p ps name items (tokens.str s) is bare = refl
-between p ps name items (tokens.glyph n) is bare = refl
 between p ps name items tokens.comment_open is bare = absurd (cc)
 between p ps name items (tokens.word s) is bare = absurd (cc)
 between p ps name items tokens.comment_close is bare = absurd (cc)
+between p ps name items _ is bare = refl
 
 pub leads_between : (ps : List Pair) (name : List ℕ) (items : List Item) (k : Kind) → IsTrue (is_textual k) → IsFalse (is_comment k)
     → next (at Between ps name items) k ≡ next (at InMovetext ps name items) k
 leads_between ps name items tokens.left_bracket is bare = absurd (cc)
 leads_between ps name items tokens.end is bare = absurd (cc)
 leads_between ps name items (tokens.refused r) is bare = absurd (cc)
-leads_between ps name items tokens.right_bracket is bare = refl
-leads_between ps name items tokens.left_paren is bare = refl
-leads_between ps name items tokens.right_paren is bare = refl
-leads_between ps name items tokens.period is bare = refl
-leads_between ps name items tokens.asterisk is bare = refl
-leads_between ps name items (tokens.symbol s) is bare = refl
-leads_between ps name items (tokens.str s) is bare = refl
-leads_between ps name items (tokens.glyph n) is bare = refl
 leads_between ps name items tokens.comment_open is bare = absurd (cc)
 leads_between ps name items (tokens.word s) is bare = absurd (cc)
 leads_between ps name items tokens.comment_close is bare = absurd (cc)
+leads_between ps name items _ is bare = refl
 
 -- what a variation and its end are refused for
 pub varying : (p : Profile) (ps : List Pair) (name : List ℕ) (items : List Item)

@@ -43,19 +43,11 @@ comment_passes p part k stage at out is =
 expected_name_at : (p : Profile) (part : Part) (k : TokenKind) → false ≡ is_comment (kind_of k) → ((text : Bor (List ℕ)) → k ≡ variants.Symbol text → ⊥)
     → refusal p (at_stage AfterLeftBracket part) (kind_of k) ≡ Some ExpectedName
 unfolding refusal
-expected_name_at p part variants.LeftBracket is other = refl
-expected_name_at p part variants.RightBracket is other = refl
-expected_name_at p part variants.LeftParen is other = refl
-expected_name_at p part variants.RightParen is other = refl
-expected_name_at p part variants.Period is other = refl
-expected_name_at p part variants.Asterisk is other = refl
 expected_name_at p part (variants.Symbol t) is other = absurd (other t refl)
-expected_name_at p part (variants.Str t) is other = refl
-expected_name_at p part (variants.Glyph n) is other = refl
 expected_name_at p part variants.CommentOpen is other = absurd (cc)
 expected_name_at p part (variants.Word t) is other = absurd (cc)
 expected_name_at p part variants.CommentClose is other = absurd (cc)
-expected_name_at p part variants.End is other = refl
+expected_name_at p part _ is other = refl
 
 pub expected_name : (p : Profile) (part : Part) (k : TokenKind) → part.stage ≡ AfterLeftBracket → false ≡ is_comment (kind_of k) → ((text : Bor (List ℕ)) → k ≡ variants.Symbol text → ⊥)
     → refusal p part (kind_of k) ≡ Some ExpectedName
@@ -64,19 +56,11 @@ expected_name p part k at is other = at_the_stage (λ q. refusal p q (kind_of k)
 expected_value_at : (p : Profile) (part : Part) (k : TokenKind) → false ≡ is_comment (kind_of k) → ((text : Bor (List ℕ)) → k ≡ variants.Str text → ⊥)
     → refusal p (at_stage AfterName part) (kind_of k) ≡ Some ExpectedValue
 unfolding refusal
-expected_value_at p part variants.LeftBracket is other = refl
-expected_value_at p part variants.RightBracket is other = refl
-expected_value_at p part variants.LeftParen is other = refl
-expected_value_at p part variants.RightParen is other = refl
-expected_value_at p part variants.Period is other = refl
-expected_value_at p part variants.Asterisk is other = refl
-expected_value_at p part (variants.Symbol t) is other = refl
 expected_value_at p part (variants.Str t) is other = absurd (other t refl)
-expected_value_at p part (variants.Glyph n) is other = refl
 expected_value_at p part variants.CommentOpen is other = absurd (cc)
 expected_value_at p part (variants.Word t) is other = absurd (cc)
 expected_value_at p part variants.CommentClose is other = absurd (cc)
-expected_value_at p part variants.End is other = refl
+expected_value_at p part _ is other = refl
 
 pub expected_value : (p : Profile) (part : Part) (k : TokenKind) → part.stage ≡ AfterName → false ≡ is_comment (kind_of k) → ((text : Bor (List ℕ)) → k ≡ variants.Str text → ⊥)
     → refusal p part (kind_of k) ≡ Some ExpectedValue
@@ -85,19 +69,11 @@ expected_value p part k at is other = at_the_stage (λ q. refusal p q (kind_of k
 expected_bracket_at : (p : Profile) (part : Part) (k : TokenKind) → false ≡ is_comment (kind_of k) → (k ≡ variants.RightBracket → ⊥)
     → refusal p (at_stage AfterValue part) (kind_of k) ≡ Some ExpectedBracket
 unfolding refusal
-expected_bracket_at p part variants.LeftBracket is other = refl
 expected_bracket_at p part variants.RightBracket is other = absurd (other refl)
-expected_bracket_at p part variants.LeftParen is other = refl
-expected_bracket_at p part variants.RightParen is other = refl
-expected_bracket_at p part variants.Period is other = refl
-expected_bracket_at p part variants.Asterisk is other = refl
-expected_bracket_at p part (variants.Symbol t) is other = refl
-expected_bracket_at p part (variants.Str t) is other = refl
-expected_bracket_at p part (variants.Glyph n) is other = refl
 expected_bracket_at p part variants.CommentOpen is other = absurd (cc)
 expected_bracket_at p part (variants.Word t) is other = absurd (cc)
 expected_bracket_at p part variants.CommentClose is other = absurd (cc)
-expected_bracket_at p part variants.End is other = refl
+expected_bracket_at p part _ is other = refl
 
 pub expected_bracket : (p : Profile) (part : Part) (k : TokenKind) → part.stage ≡ AfterValue → false ≡ is_comment (kind_of k) → (k ≡ variants.RightBracket → ⊥)
     → refusal p part (kind_of k) ≡ Some ExpectedBracket
@@ -156,35 +132,15 @@ open_next part at = at_the_stage (λ q. next q left_bracket ≡ going (at_stage 
 -- a token that is neither a `[` nor the end may be one of movetext
 textual : (k : TokenKind) → is_left_bracket (kind_of k) ≡ false → is_end (kind_of k) ≡ false → IsTrue (is_textual (kind_of k))
 textual variants.LeftBracket bracket over = absurd (cc)
-textual variants.RightBracket bracket over = refl
-textual variants.LeftParen bracket over = refl
-textual variants.RightParen bracket over = refl
-textual variants.Period bracket over = refl
-textual variants.Asterisk bracket over = refl
-textual (variants.Symbol t) bracket over = refl
-textual (variants.Str t) bracket over = refl
-textual (variants.Glyph n) bracket over = refl
-textual variants.CommentOpen bracket over = refl
-textual (variants.Word t) bracket over = refl
-textual variants.CommentClose bracket over = refl
 textual variants.End bracket over = absurd (cc)
+textual _ bracket over = refl
 
 text_in_movetext : (p : Profile) (part : Part) (k : TokenKind) → is_left_bracket (kind_of k) ≡ false → is_end (kind_of k) ≡ false
     → refusal p (at_stage InMovetext part) (kind_of k) ≡ text_refusal p part (kind_of k)
 unfolding refusal
 text_in_movetext p part variants.LeftBracket bracket over = absurd (cc)
-text_in_movetext p part variants.RightBracket bracket over = refl
-text_in_movetext p part variants.LeftParen bracket over = refl
-text_in_movetext p part variants.RightParen bracket over = refl
-text_in_movetext p part variants.Period bracket over = refl
-text_in_movetext p part variants.Asterisk bracket over = refl
-text_in_movetext p part (variants.Symbol t) bracket over = refl
-text_in_movetext p part (variants.Str t) bracket over = refl
-text_in_movetext p part (variants.Glyph n) bracket over = refl
-text_in_movetext p part variants.CommentOpen bracket over = refl
-text_in_movetext p part (variants.Word t) bracket over = refl
-text_in_movetext p part variants.CommentClose bracket over = refl
 text_in_movetext p part variants.End bracket over = absurd (cc)
+text_in_movetext p part _ bracket over = refl
 
 text_refusal_at : (p : Profile) (part : Part) (stage : Stage) (k : TokenKind) → IsTrue (may_have_movetext stage) → is_left_bracket (kind_of k) ≡ false
     → is_end (kind_of k) ≡ false → (is_at AfterTags (at_stage stage part) && lacks_fen part.pairs) ≡ false

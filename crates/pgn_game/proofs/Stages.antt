@@ -13,33 +13,11 @@ use Rattle.pgn_game.proofs.Judging.{held_at}
 -- a token that is no `[`, and one that is not the end
 pub no_bracket : (k : TokenKind) → (k ≡ variants.LeftBracket → ⊥) → is_left_bracket (kind_of k) ≡ false
 no_bracket variants.LeftBracket other = absurd (other refl)
-no_bracket variants.RightBracket other = refl
-no_bracket variants.LeftParen other = refl
-no_bracket variants.RightParen other = refl
-no_bracket variants.Period other = refl
-no_bracket variants.Asterisk other = refl
-no_bracket (variants.Symbol t) other = refl
-no_bracket (variants.Str t) other = refl
-no_bracket (variants.Glyph n) other = refl
-no_bracket variants.CommentOpen other = refl
-no_bracket (variants.Word t) other = refl
-no_bracket variants.CommentClose other = refl
-no_bracket variants.End other = refl
+no_bracket _ other = refl
 
 pub no_end : (k : TokenKind) → (k ≡ variants.End → ⊥) → is_end (kind_of k) ≡ false
-no_end variants.LeftBracket other = refl
-no_end variants.RightBracket other = refl
-no_end variants.LeftParen other = refl
-no_end variants.RightParen other = refl
-no_end variants.Period other = refl
-no_end variants.Asterisk other = refl
-no_end (variants.Symbol t) other = refl
-no_end (variants.Str t) other = refl
-no_end (variants.Glyph n) other = refl
-no_end variants.CommentOpen other = refl
-no_end (variants.Word t) other = refl
-no_end variants.CommentClose other = refl
 no_end variants.End other = absurd (other refl)
+no_end _ other = refl
 
 -- the pairs held are those of the part, so SetUp asks for the same
 pub lacks_of : (old : Reading) (part : Part) (lacks : Bool) → Agrees old part → old.stage ≡ AfterTags → lacks_fen old.tags.held ≡ lacks → lacks_fen part.pairs ≡ lacks
