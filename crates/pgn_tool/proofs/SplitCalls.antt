@@ -24,7 +24,7 @@ use Rattle.pgn_tool.specs.declared.files.CreateFault.TheVariants as creating
 use Rattle.pgn_tool.specs.declared.split.Unsplit.{Unsplit}
 use Rattle.pgn_tool.specs.declared.split.Unsplit.TheVariants as unsplit
 use Rattle.pgn_tool.specs.Listing.{list_profile}
-use Rattle.pgn_tool.specs.Files.{Event, added, closed, closing, made, number_after, opened, refused, told, whole_files, without_memory}
+use Rattle.pgn_tool.specs.Files.{Event, added, closed, closing, event_of_fault, made, number_after, opened, told, whole_files}
 use Rattle.pgn_tool.specs.Splitting.{IsOwn, Turned, settled}
 use Rattle.pgn_tool.specs.SplitGames as games
 use Rattle.pgn_tool.specs.SplitGames.{AreFiles, CutFile, CutsFile, FilesOf, Logs, LogsCut, SplitSoFar, SplitsNoMore, SplitsToFault, StopsAt, StopsOn, cut, files_of, texts_in, torn_in}
@@ -157,25 +157,15 @@ cut_of taken failures b log after closed_log file (Some out) count failed ts tex
           (ap (λ k. made (one_more k) ∷ closed (taken out) (failures out) ∷ []) so.counted
           ∙ ap (λ t. made (one_more (number_after 0 (texts_in ts))) ∷ closed t (failures out) ∷ []) bytes);
     }
-cut_of taken failures b log after closed_log file None count failed ts text n least (Some creating.Refused) so turned more short low wrote closes =
+cut_of taken failures b log after closed_log file None count failed ts text n least (Some fault) so turned more short low wrote closes =
     let here = log_on (Some b) log after (whole_files 0 (texts_in ts)) _ _ _ so.logged turned.logged refl in
     let nothing = taken_none (torn_in ts) text n short (sym (told_none taken after _ here) ∙ grown _ _ (torn_in ts) (take n text) so.text wrote) in
     record {
-      last = refused (one_more (number_after 0 (texts_in ts))) ∷ [];
-      cut = games.not_made (omega (arith, low, nothing)) (omega (arith, short, length-append (torn_in ts) text));
+      last = event_of_fault (one_more (number_after 0 (texts_in ts))) fault ∷ [];
+      cut = games.not_made fault (omega (arith, low, nothing)) (omega (arith, short, length-append (torn_in ts) text));
       logged =
           not_made taken b log after closed_log file count ts _ so (never_open (is_some file) false turned.stays refl) turned.logged closes
-          ∙ ap (λ k. Some (b ++ (whole_files 0 (texts_in ts) ++ refused (one_more k) ∷ []))) so.counted;
-    }
-cut_of taken failures b log after closed_log file None count failed ts text n least (Some creating.NoMemory) so turned more short low wrote closes =
-    let here = log_on (Some b) log after (whole_files 0 (texts_in ts)) _ _ _ so.logged turned.logged refl in
-    let nothing = taken_none (torn_in ts) text n short (sym (told_none taken after _ here) ∙ grown _ _ (torn_in ts) (take n text) so.text wrote) in
-    record {
-      last = without_memory (one_more (number_after 0 (texts_in ts))) ∷ [];
-      cut = games.no_memory (omega (arith, low, nothing)) (omega (arith, short, length-append (torn_in ts) text));
-      logged =
-          not_made taken b log after closed_log file count ts _ so (never_open (is_some file) false turned.stays refl) turned.logged closes
-          ∙ ap (λ k. Some (b ++ (whole_files 0 (texts_in ts) ++ without_memory (one_more k) ∷ []))) so.counted;
+          ∙ ap (λ k. Some (b ++ (whole_files 0 (texts_in ts) ++ event_of_fault (one_more k) fault ∷ []))) so.counted;
     }
 cut_of taken failures b log after closed_log file (Some out) count failed ts text n least (Some r) so turned more short low wrote closes =
     absurd (false≢true (sym (turned.shut refl)))

@@ -14,7 +14,8 @@ use Rattle.pgn_game.specs.Feeding.{Converter, Stands, StopsIn}
 use Rattle.pgn_tool.specs.declared.split.Unsplit.{Unsplit}
 use Rattle.pgn_tool.specs.declared.split.Unsplit.TheVariants.{Refused, NoMemory}
 use Rattle.pgn_tool.specs.Listing.{list_profile}
-use Rattle.pgn_tool.specs.Files.{Event, added, closed, closing, made, number_after, opened, refused, told, whole_files, without_memory}
+use Rattle.pgn_tool.specs.Files.{Event, added, closed, closing, event_of_fault, made, number_after, opened, told, whole_files}
+use Rattle.pgn_tool.specs.declared.files.CreateFault.{CreateFault}
 
 -- ---- the files of a text
 
@@ -59,8 +60,8 @@ pub record SplitsNoMore (u : List ℕ) (before after : Option (List Event)) : Ty
 -- The last file, after n others, if it could not be made or written: of its text a prefix was
 -- written, at least so many bytes, and not all. A file that was not made has none.
 pub data CutFile (n : ℕ) (text : List ℕ) (least : ℕ) : List Event → Type 0 where
-  not_made : least ≡ 0 → 0 < length text → CutFile n text least (refused (one_more n) ∷ [])
-  no_memory : least ≡ 0 → 0 < length text → CutFile n text least (without_memory (one_more n) ∷ [])
+  not_made : (fault : CreateFault) → least ≡ 0 → 0 < length text
+      → CutFile n text least (event_of_fault (one_more n) fault ∷ [])
   cut : (count failures : ℕ) → least ≤ count → count < length text → 0 < failures
       → CutFile n text least (made (one_more n) ∷ closed (Some (take count text)) failures ∷ [])
 
