@@ -1,6 +1,6 @@
 -- What the end of the input makes of the files of the games so far.
 use Rattle.std.proofs.Common.{◌≡◌, ◌∙◌, ℕ, ◌+◌, ◌<◌, Bool, List, [], ◌∷◌, ◌++◌, length, length-append, Option, None, Some, Result, Ok, Err, refl, sym, ap, subst, inl, inr, ◌⊎◌, arith, append_assoc, append-nil, is_some, true, false, ◌&&◌, ◌||◌, IfSome}
-use Rattle.std.specs.Prelude.{◌==◌}
+use Rattle.std.specs.Prelude.{◌==◌, codes}
 use Rattle.std.proofs.lemmas.Bool.{false≢true}
 use Rattle.pgn_layout.specs.Device.{one_more}
 use Rattle.pgn_lexer.specs.Tokens as tokens
@@ -141,10 +141,10 @@ end_in_game part inside none =
 -- so nothing is written of a game that is not whole
 end_torn : (gs : List Game) (part : Part) (s : Stage) → part.stage ≡ s → refusal list_profile part tokens.end ≡ None
     → torn list_profile (progress_with gs (next_in s part tokens.end)).part ≡ []
-end_torn gs part Between is none = ap (λ w. torn_at w Full part) is
-end_torn gs part AfterLeftBracket is none = ap (λ w. torn_at w Full part) is
-end_torn gs part AfterName is none = ap (λ w. torn_at w Full part) is
-end_torn gs part AfterValue is none = ap (λ w. torn_at w Full part) is
+end_torn gs part Between is none = ap (λ w. torn_at w Full (codes "*") part) is
+end_torn gs part AfterLeftBracket is none = ap (λ w. torn_at w Full (codes "*") part) is
+end_torn gs part AfterName is none = ap (λ w. torn_at w Full (codes "*") part) is
+end_torn gs part AfterValue is none = ap (λ w. torn_at w Full (codes "*") part) is
 end_torn gs part AfterTags is none =
     absurd (end_in_game part (ap (λ w. (stage_number AfterTags == stage_number w) || (stage_number InMovetext == stage_number w)) is) none)
 end_torn gs part InMovetext is none =
