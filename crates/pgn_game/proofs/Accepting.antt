@@ -1,6 +1,6 @@
 -- From what a token is judged to mean, and what putting that comes to, to what the reader answers.
 use Rattle.std.proofs.Common.{◌≡◌, ℕ, ◌+◌, ◌<◌, ◌≤◌, Bool, true, false, ◌||◌, not, List, length, drop, Option, None, Some, refl, sym, ap, subst, ◌∙◌, arith}
-use Rattle.std.specs.Prelude.{IsTrue, Result, Ok, Err}
+use Rattle.std.specs.Prelude.{IsTrue, IsFalse, Result, Ok, Err}
 use Rattle.std.specs.Io.KnownBytes.{Appends}
 use Rattle.pgn_layout.specs.Device.{AppendsFront}
 use Rattle.pgn_lexer.specs.Tokens.{Kind}
@@ -9,8 +9,6 @@ use Rattle.pgn_lexer.specs.declared.token.TokenKind.{TokenKind}
 use Rattle.pgn_game.specs.declared.accept.Accepted.{Accepted}
 use Rattle.pgn_game.specs.declared.accept.Accepted.TheVariants.{More, Finished}
 use Rattle.pgn_game.specs.declared.judged.Judged.{Judged}
-use Rattle.pgn_game.specs.declared.accept.Stopped.{Stopped}
-use Rattle.pgn_game.specs.declared.accept.Stopped.TheVariants.{Refused, Unwritten}
 use Rattle.pgn_game.specs.declared.reason.Reason.{Reason}
 use Rattle.pgn_game.specs.declared.stage.Stage.{Stage}
 use Rattle.pgn_game.specs.declared.stage.Stage.TheVariants.{Between, AfterLeftBracket, AfterName, AfterValue, AfterTags, InMovetext}
@@ -20,7 +18,9 @@ use Rattle.pgn_game.specs.Text.{torn}
 use Rattle.pgn_game.specs.FaultTable.{refusal, is_at, is_comment, is_end, is_outside_pairs}
 use Rattle.pgn_game.specs.Progress.{Next, at_stage, next}
 use Rattle.pgn_game.specs.Due.{text_next}
-use Rattle.pgn_game.specs.Reading.{Reading, Agrees, Answers, Stays, FinishesAtMarker, Leads, HoldsText, plies_behind, plies_next, whole_plies}
+use Rattle.pgn_game.specs.MostTried.{Raises, Tries, TriesUnwritten}
+use Rattle.pgn_game.specs.Reading as reading
+use Rattle.pgn_game.specs.Reading.{Reading, Agrees, Answers, IsStopped, CountsStop, is_outside_the_table, Stays, FinishesAtMarker, Leads, HoldsText, plies_behind, plies_next, whole_plies}
 use Rattle.pgn_game.specs.Judging.{Counts, Marks, may_have_movetext, judged, outcome_of}
 use Rattle.pgn_game.specs.Putting.{Device}
 use Rattle.pgn_game.specs.Handling.{GoesTo, FinishesFinal, begins, begun, readied}
@@ -107,15 +107,21 @@ counts_on r n part InMovetext at more h = (h.0, λ has. let some : 0 < r.most_pr
 agrees_on : (r : Reading) (n : ℕ) (part : Part) → r.most_probes ≤ n → Agrees r part → Agrees (record r { most_probes = n }) part
 agrees_on r n part more agrees = record { stage = agrees.stage; pairs = agrees.pairs; text = counts_on r n part r.stage refl more agrees.text }
 
+-- how many pairs are tried for a token that means something
+abbrev pub PutRaises : Profile → Part → Kind → Result Accepted Reason → ℕ → ℕ → Type 0
+PutRaises p part k (Ok accepted) old new = Raises (Tries p part k) old new
+PutRaises p part k (Err reason) old new = Raises (TriesUnwritten p part k) old new
+
 -- what putting comes to is what the reader answers
-answers_by : (old counted new : Reading) (part to : Part) (k : Kind) (there : Next) (r : Result Accepted Stopped) (d : Device) → counted.profile ≡ old.profile
+answers_by : (old counted new : Reading) (part to : Part) (k : Kind) (there : Next) (r : Result Accepted Reason) (d : Device) → counted.profile ≡ old.profile
     → whole_plies counted ≡ whole_plies old → torn old.profile to ≡ torn old.profile part → (refusal old.profile part k ≡ None) × (next part k ≡ there)
-    → GoesTo counted to there new r d → Answers old part k new r d.before d.after
-answers_by old counted new part to k there (Ok accepted) d profile plies same says goes = record {
+    → GoesTo counted to there new r d → PutRaises old.profile part k r old.most_probes new.most_probes → Answers old part k new r d.before d.after
+answers_by old counted new part to k there (Ok accepted) d profile plies same says goes tried = record {
   free = says.0;
   leads = subst (λ (x : Next). Leads x accepted new) (sym says.1) goes.leads;
   plies = goes.plies ∙ ap (λ n. n + plies_next there) plies ∙ ap (λ (x : Next). whole_plies old + plies_next x) (sym says.1);
   appended = subst (Appends d.before d.after) (gain_same old counted part to k there profile same says.1) goes.appended;
+  tried = tried;
 }
   where
     gain_same : (old counted : Reading) (part to : Part) (k : Kind) (there : Next) → counted.profile ≡ old.profile → torn old.profile to ≡ torn old.profile part → next part k ≡ there
@@ -123,13 +129,13 @@ answers_by old counted new part to k there (Ok accepted) d profile plies same sa
     gain_same old counted part to k there profile same leads =
         ap (λ (p : Profile). drop (length (torn p to)) (text_next p there)) profile
         ∙ ap (λ (t : List ℕ). drop (length t) (text_next old.profile there)) same ∙ ap (λ (x : Next). drop (length (torn old.profile part)) (text_next old.profile x)) (sym leads)
-answers_by old counted new part to k there (Err (Refused reason)) d profile plies same says goes = absurd goes
-answers_by old counted new part to k there (Err Unwritten) d profile plies same says goes = (
-  says.0,
-  subst (AppendsFront d.before d.after)
-      (ap (λ (p : Profile). drop (length (torn p to)) (text_next p there)) profile
-      ∙ ap (λ (t : List ℕ). drop (length t) (text_next old.profile there)) same ∙ ap (λ (x : Next). drop (length (torn old.profile part)) (text_next old.profile x)) (sym says.1)) goes,
-)
+answers_by old counted new part to k there (Err reason) d profile plies same says (is, front) tried =
+    subst (λ (r : Reason). IsStopped old part k new d.before d.after r) (sym is)
+    (reading.unwritten says.0
+    (subst (AppendsFront d.before d.after)
+    (ap (λ (p : Profile). drop (length (torn p to)) (text_next p there)) profile
+    ∙ ap (λ (t : List ℕ). drop (length t) (text_next old.profile there)) same ∙ ap (λ (x : Next). drop (length (torn old.profile part)) (text_next old.profile x)) (sym says.1)) front)
+    tried)
 
 -- so once its move was sought and the pairs that were tried are counted
 pub meets_counted : (old ready counted : Reading) (part : Part) (k : TokenKind) → Agrees old part → ready ≡ readied old (kind_of k) → Counts ready counted
@@ -150,14 +156,19 @@ meets_counted old ready counted part k agrees is counts =
     }
 
 -- A token that means something is put.
-pub accepted : (old ready counted new : Reading) (part : Part) (k : TokenKind) (after_it : Part → Next) (r : Result Accepted Stopped) (d : Device) → Agrees old part
+pub accepted : (old ready counted new : Reading) (part : Part) (k : TokenKind) (after_it : Part → Next) (r : Result Accepted Reason) (d : Device) → Agrees old part
     → ready ≡ readied old (kind_of k) → Counts ready counted → ((q : Part) → Agrees counted q → judged counted.profile q (kind_of k) ≡ Ok (after_it q))
-    → ((q : Part) → Agrees counted q → GoesTo counted q (after_it q) new r d) → Answers old part (kind_of k) new r d.before d.after
-accepted old ready counted new part k after_it r d agrees is counts judges goes =
+    → ((q : Part) → Agrees counted q → GoesTo counted q (after_it q) new r d)
+    → PutRaises old.profile part (kind_of k) r old.most_probes new.most_probes → Answers old part (kind_of k) new r d.before d.after
+accepted old ready counted new part k after_it r d agrees is counts judges goes tried =
     let m = meets_counted old ready counted part k agrees is counts in
     let says = m.same ∙ ap (λ (p : Profile). judged p m.to (kind_of k)) (sym m.profile) ∙ judges m.to m.agrees in
     answers_by old counted new part m.to (kind_of k) (after_it m.to) r d m.profile m.plies m.torn
-    (said_ok (refusal old.profile part (kind_of k)) (next part (kind_of k)) (after_it m.to) says) (goes m.to m.agrees)
+    (said_ok (refusal old.profile part (kind_of k)) (next part (kind_of k)) (after_it m.to) says) (goes m.to m.agrees) tried
+
+-- a refusal counts no failure
+pub counts_refused : (reason : Reason) (n : ℕ) → IsFalse (is_outside_the_table reason) → CountsStop (is_outside_the_table reason) reason n n
+counts_refused reason n h = subst (λ b. CountsStop b reason n n) (sym h) refl
 
 -- One that means nothing is refused.
 pub refused : (old ready counted : Reading) (part : Part) (k : TokenKind) (reason : Reason) → Agrees old part → ready ≡ readied old (kind_of k) → Counts ready counted
@@ -206,14 +217,14 @@ keeps_found old ready found k is counts =
     }
 
 -- so where nothing was put, nothing has changed
-pub stays_found : (old found new : Reading) (k : Kind) (r : Result Accepted Stopped) → KeepsFound old found k → Stays found new r → Stays old new r
+pub stays_found : (old found new : Reading) (k : Kind) (r : Result Accepted Reason) → KeepsFound old found k → Stays found new r → Stays old new r
 stays_found old found new k (Ok More) keeps stays =
     λ at. let same = stays at in same ∙ keeps.stays (ap (λ (x : Reading). x.stage) (sym same) ∙ at)
 stays_found old found new k (Ok Finished) keeps stays = tt
-stays_found old found new k (Err stopped) keeps stays = tt
+stays_found old found new k (Err reason) keeps stays = tt
 
 -- what finishes a game is a marker
-pub finishes_at_marker : (k : Kind) (j : Judged) (new : Reading) (r : Result Accepted Stopped) → Marks k j → FinishesFinal j new r → FinishesAtMarker k new r
+pub finishes_at_marker : (k : Kind) (j : Judged) (new : Reading) (r : Result Accepted Reason) → Marks k j → FinishesFinal j new r → FinishesAtMarker k new r
 finishes_at_marker k j new (Ok More) marks finishes = tt
 finishes_at_marker k j new (Ok Finished) marks finishes = (marks finishes.0, finishes.1)
-finishes_at_marker k j new (Err stopped) marks finishes = tt
+finishes_at_marker k j new (Err reason) marks finishes = tt

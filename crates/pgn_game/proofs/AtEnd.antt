@@ -1,6 +1,6 @@
 -- Steps behind the last piece.
 use Rattle.std.proofs.Common.{◌≡◌, ℕ, ◌+◌, ◌<◌, ◌≤◌, Bool, true, false, List, [], ◌∷◌, ◌++◌, length, Option, None, Some, Result, Ok, Err, refl, sym, ap, subst, ◌∙◌, append-nil, append_assoc, length-append, le_refl, arith}
-use Rattle.std.specs.Prelude.{◌*◌, ◌^◌, IsTrue, IsFalse, OnOk, is_some, ◌↔◌}
+use Rattle.std.specs.Prelude.{◌*◌, ◌^◌, IsTrue, OnOk, is_some, ◌↔◌}
 use Rattle.pgn_lexer.specs.declared.token.LexFault.{LexFault}
 use Rattle.pgn_lexer.specs.Tokens.{Kind, Token}
 use Rattle.pgn_lexer.specs.Tokens as tokens
@@ -11,24 +11,20 @@ use Rattle.pgn_lexer.specs.Stands.{HasLeft, IsNext, Gives, Follows}
 use Rattle.pgn_game.specs.declared.stage.Stage.{Stage}
 use Rattle.pgn_game.specs.declared.stage.Stage.TheVariants.{Between, AfterLeftBracket, AfterName, AfterValue, AfterTags, InMovetext}
 use Rattle.pgn_game.specs.declared.accept.Accepted.{Accepted}
-use Rattle.pgn_game.specs.declared.accept.Accepted.TheVariants as accepted
-use Rattle.pgn_game.specs.declared.accept.Stopped.{Stopped}
-use Rattle.pgn_game.specs.declared.accept.Stopped.TheVariants as stopped
+use Rattle.pgn_game.specs.declared.accept.Accepted.TheVariants.{More, Finished}
 use Rattle.pgn_game.specs.declared.reason.Reason.{Reason}
 use Rattle.pgn_game.specs.declared.reason.Reason.TheVariants.{Lexical, ExpectedName, BadTagName, DuplicateTag, TooManyTags, ExpectedValue, BadResult, BadFen, TagLineTooLong, ExpectedBracket, SetUpWithoutFen, ReducedFen, TagInMovetext, NotAMove, IllegalMove, AmbiguousMove, MoveLimit, NoMoveBefore, TooDeep, UnmatchedClose, MarkerInVariation, ResultDiffers, UnexpectedEnd, ReadFault, WriteFault, InputTooLong, Changed}
 use Rattle.pgn_game.specs.declared.reason.Fault.{Fault}
-use Rattle.pgn_game.specs.declared.converter.Stepped.{Stepped}
-use Rattle.pgn_game.specs.declared.converter.Stepped.TheVariants.{NeedMore, More, Finished, Ended, Failed}
 use Rattle.pgn_game.specs.Profile.{Profile}
 use Rattle.pgn_game.specs.Pairs.{Pair}
 use Rattle.pgn_game.specs.Game.{Item, Game}
 use Rattle.pgn_game.specs.FaultTable.{refusal, is_end, marker_of}
 use Rattle.pgn_game.specs.Progress.{next, progress_with, Progress, Read, read}
 use Rattle.pgn_game.specs.Due.{Gains}
-use Rattle.pgn_game.specs.Reading.{Reading, Answers, Stays, FinishesAtMarker, CountsWrites, is_outside_the_table}
-use Rattle.pgn_game.specs.Feeding.{Converter, IsSound, held_by, held_if, IsLast, HasRead, Stands, unwritten, Finishes, FinishesToFault, CountsAtStop, CountsReason}
-use Rattle.pgn_game.specs.MostTried.{RaisesMost}
-use Rattle.pgn_game.specs.Stepping.{SameGames, ClosedToFault, AfterStepAtEnd, StepAtEndAdvances, ClosedSoFar, StaysBetween, stepped_of, is_ended, games_after, closed_with, fault_of_step, CountsStep}
+use Rattle.pgn_game.specs.Reading as reading
+use Rattle.pgn_game.specs.Reading.{Reading, Answers, Stays, FinishesAtMarker, CountsStop, CountsWrites, is_outside_the_table}
+use Rattle.pgn_game.specs.Feeding.{Converter, IsSound, held_by, held_if, IsLast, HasRead, Stands, unwritten, Finishes, FinishesToFault, CountsAtStop, CountsFault, CountsReason}
+use Rattle.pgn_game.specs.Stepping.{SameGames, ClosedToFault, AfterStepAtEnd, StepAtEndAdvances, ClosedSoFar, StaysBetween, outcome_at, is_ended, games_after, closed_with, fault_of_step}
 use Rattle.pgn_game.proofs.Growing.{gains_none, gains_more, stops_more, games_still, counts_still, read-passes}
 use Rattle.pgn_game.proofs.OneToken.{stepped, gains_token, same_games, has_read_more, one_game, has_read_game, stops_refused, writing, stops_lexical, none_before_refused, none_before_unwritten, none_before_lexical, count_at_refused, count_at_unwritten, count_at_lexical}
 
@@ -140,17 +136,16 @@ let_go : (p : Profile) (c : Converter) (given : List Token) → HasRead p c give
 let_go p c given h = record { profile = h.profile; no_fault = h.no_fault; passes = h.passes; agrees = h.agrees; games = h.games; plies = h.plies; probed = h.probed; tried = h.tried; at_hand = tt }
 
 -- a converter after a step behind the last piece
-abbrev pub closed : Standing → Reading → ℕ → Bool → Stepped → Converter
+abbrev pub closed : Standing → Reading → ℕ → Bool → Result (Option Accepted) Fault → Converter
 closed l r games finished outcome = record (stepped l r games finished outcome) { at_hand = None }
 
 pub closes : (p : Profile) (old : Converter) (u : List ℕ) (given : List Token) (t : Token) (l : Standing) (new : Reading) (finished : Bool) (a c : Option (List ℕ))
-    (e : Bool) (r : Result Accepted Stopped) → is_end t.kind ≡ e → HasRead p old given → Left u given e l t → new.profile ≡ old.reading.profile → old.reading.most_probes ≤ new.most_probes
+    (e : Bool) (r : Result Accepted Reason) → is_end t.kind ≡ e → HasRead p old given → Left u given e l t → new.profile ≡ old.reading.profile → old.reading.most_probes ≤ new.most_probes
     → Answers old.reading (read p given).progress.part t.kind new r a c
-    → RaisesMost old.reading.profile (read p given).progress.part t.kind r old.reading.most_probes new.most_probes
     → Stays old.reading new r → FinishesAtMarker t.kind new r
-    → AfterStepAtEnd p u given old (closed l new old.games finished (stepped_of t.at r)) (closed_with e (stepped_of t.at r)) a c
-closes p old u given t l new finished a c true (Ok accepted.More) is_e has_read left profile probes h tries stays at_marker =
-    let more = has_read_more p old given t l new finished has_read profile probes h.free h.leads h.plies tries in
+    → AfterStepAtEnd p u given old (closed l new old.games finished (outcome_at t.at r)) (closed_with e (outcome_at t.at r)) a c
+closes p old u given t l new finished a c true (Ok More) is_e has_read left profile probes h stays at_marker =
+    let more = has_read_more p old given t l new finished has_read profile probes h.free h.leads h.plies h.tried in
     let passes = subst (λ q. refusal q (read p given).progress.part t.kind ≡ None) has_read.profile h.free in (
       t,
       record {
@@ -163,59 +158,49 @@ closes p old u given t l new finished a c true (Ok accepted.More) is_e has_read 
       },
       stays,
     )
-closes p old u given t l new finished a c false (Ok accepted.More) is_e has_read left profile probes h tries stays at_marker = (
+closes p old u given t l new finished a c false (Ok More) is_e has_read left profile probes h stays at_marker = (
   t,
   record {
     left = left;
-    has_read = let_go p _ _ (has_read_more p old given t l new finished has_read profile probes h.free h.leads h.plies tries);
+    has_read = let_go p _ _ (has_read_more p old given t l new finished has_read profile probes h.free h.leads h.plies h.tried);
     gains = gains_token p old given t l new finished has_read profile probes a c h.free h.appended;
   },
   same_games p old given t l new finished has_read profile probes h.free h.leads,
   stays,
 )
-closes p old u given t l new finished a c true (Ok accepted.Finished) is_e has_read left profile probes h tries stays at_marker =
+closes p old u given t l new finished a c true (Ok Finished) is_e has_read left profile probes h stays at_marker =
     absurd (differ (sym is_e ∙ marker_or_end t.kind at_marker.0))
   where
     differ : true ≡ false → ⊥
     differ e = absurd (cc)
-closes p old u given t l new finished a c false (Ok accepted.Finished) is_e has_read left profile probes h tries stays at_marker = (
+closes p old u given t l new finished a c false (Ok Finished) is_e has_read left profile probes h stays at_marker = (
   t,
   record {
     left = left;
-    has_read = let_go p _ _ (has_read_game p old given t l new finished has_read profile probes h.free h.leads h.plies tries);
+    has_read = let_go p _ _ (has_read_game p old given t l new finished has_read profile probes h.free h.leads h.plies h.tried);
     gains = gains_token p old given t l new finished has_read profile probes a c h.free h.appended;
   },
   one_game p old given t l new finished has_read profile probes h.free h.leads,
 )
-closes p old u given t l new finished a c e (Err (stopped.Refused reason)) is_e has_read left profile probes (some, wrote) tries stays at_marker =
+closes p old u given t l new finished a c e (Err why) is_e has_read left profile probes (reading.refused reason some wrote tries) stays at_marker =
     let rest = tokens_left u given e l t left in
-    fails e (subst (λ ts. ClosedToFault p given ts (record { at = t.at; reason = reason }) new.most_probes a c) (sym rest.1)
+    (subst (λ ts. ClosedToFault p given ts (record { at = t.at; reason = reason }) new.most_probes a c) (sym rest.1)
     (record {
       stops = stops_refused p old given t l new finished has_read profile probes rest.0 a c reason some wrote;
       no_game = none_before_refused p old given t l new finished has_read profile probes rest.0 a c reason some wrote;
       counts = count_at_refused p old given t l new finished has_read profile probes rest.0 a c reason some wrote tries;
     }))
-  where
-    fails : (e : Bool) → ClosedToFault p given (tokens_of u) (record { at = t.at; reason = reason }) new.most_probes a c
-        → AfterStepAtEnd p u given old (closed l new old.games finished (Failed (record { at = t.at; reason = reason }))) (closed_with e (Failed (record { at = t.at; reason = reason }))) a c
-    fails true h = h
-    fails false h = h
-closes p old u given t l new finished a c e (Err stopped.Unwritten) is_e has_read left profile probes (none, wrote) tries stays at_marker =
+closes p old u given t l new finished a c e (Err why) is_e has_read left profile probes (reading.unwritten none wrote tries) stays at_marker =
     let rest = tokens_left u given e l t left in
-    fails e (subst (λ ts. ClosedToFault p given ts (record { at = t.at; reason = WriteFault }) new.most_probes a c) (sym rest.1)
+    (subst (λ ts. ClosedToFault p given ts (record { at = t.at; reason = WriteFault }) new.most_probes a c) (sym rest.1)
     (record {
       stops = unwritten t.at (writing p old given t l new finished has_read profile probes rest.0 a c none wrote);
       no_game = none_before_unwritten p old given t l new finished has_read profile probes rest.0 a c none wrote;
       counts = count_at_unwritten p old given t l new finished has_read profile probes rest.0 a c none wrote tries;
     }))
-  where
-    fails : (e : Bool) → ClosedToFault p given (tokens_of u) (record { at = t.at; reason = WriteFault }) new.most_probes a c
-        → AfterStepAtEnd p u given old (closed l new old.games finished (stepped_of t.at (Err stopped.Unwritten))) (closed_with e (stepped_of t.at (Err stopped.Unwritten))) a c
-    fails true h = h
-    fails false h = h
 
 pub closes_fault : (p : Profile) (old new : Converter) (u : List ℕ) (given : List Token) (f : LexFault) (o : Option (List ℕ)) → HasRead p old given
-    → tokens_of u ≡ given ++ refusal_token f ∷ [] → new.reading ≡ old.reading → AfterStepAtEnd p u given old new (Failed (record { at = f.at; reason = Lexical f.reason })) o o
+    → tokens_of u ≡ given ++ refusal_token f ∷ [] → new.reading ≡ old.reading → AfterStepAtEnd p u given old new (Err (record { at = f.at; reason = Lexical f.reason })) o o
 closes_fault p old new u given f o has_read whole same =
     subst (λ ts. ClosedToFault p given ts (record { at = f.at; reason = Lexical f.reason }) new.reading.most_probes o o) (sym whole)
     (record {
@@ -224,105 +209,87 @@ closes_fault p old new u given f o has_read whole same =
       counts = subst (λ (r : Reading). CountsAtStop (stops_lexical p given f o has_read.passes) r.most_probes) (sym same) (count_at_lexical p old given f o has_read);
     })
 
--- how a token waits, and how it ends
-pub advances : (e : Bool) (old new : Standing) (outcome : Stepped) → Nearer e old new → (outcome ≡ Finished → e ≡ false) → (outcome ≡ NeedMore → ⊥)
-    → StepAtEndAdvances old new (closed_with e outcome)
-advances true old new NeedMore near marker some = some refl
-advances false old new NeedMore near marker some = some refl
-advances true old new More near marker some = tt
-advances false old new More near marker some = near.0
-advances true old new Finished near marker some = absurd (differ (marker refl))
+-- the end has neither a fault of its own nor a failure
+pub fault_of_closed : (e : Bool) (outcome : Result (Option Accepted) Fault) → fault_of_step outcome ≡ fault_of_step (closed_with e outcome)
+fault_of_closed true (Ok o) = refl
+fault_of_closed false (Ok o) = refl
+fault_of_closed e (Err f) = refl
+
+-- a token that finishes no game is counted as none, and the end is no marker
+pub games_of_closed : (k : Kind) (after : Reading) (at : ℕ) (e : Bool) (r : Result Accepted Reason) (games : ℕ) → is_end k ≡ e → FinishesAtMarker k after r
+    → games_after (outcome_at at r) games ≡ games_after (closed_with e (outcome_at at r)) games
+games_of_closed k after at true (Ok More) games is_e marker = refl
+games_of_closed k after at false (Ok More) games is_e marker = refl
+games_of_closed k after at true (Ok Finished) games is_e marker = absurd (differ (sym is_e ∙ marker_or_end k marker.0))
   where
     differ : true ≡ false → ⊥
     differ h = absurd (cc)
-advances false old new Finished near marker some = near.0
-advances true old new Ended near marker some = tt
-advances false old new Ended near marker some = tt
-advances true old new (Failed f) near marker some = tt
-advances false old new (Failed f) near marker some = tt
+games_of_closed k after at false (Ok Finished) games is_e marker = refl
+games_of_closed k after at e (Err reason) games is_e marker = refl
 
--- the end has neither a fault of its own nor a failure
-pub fault_of_closed : (e : Bool) (outcome : Stepped) → fault_of_step outcome ≡ fault_of_step (closed_with e outcome)
-fault_of_closed true NeedMore = refl
-fault_of_closed false NeedMore = refl
-fault_of_closed true More = refl
-fault_of_closed false More = refl
-fault_of_closed true Finished = refl
-fault_of_closed false Finished = refl
-fault_of_closed true Ended = refl
-fault_of_closed false Ended = refl
-fault_of_closed true (Failed f) = refl
-fault_of_closed false (Failed f) = refl
+-- an error of the reader counts as the fault that it is
+counts_reason : (r : Reason) (old new : ℕ) → CountsWrites (Err r) old new → CountsReason r old new
+counts_reason (Lexical x) old new h = by_test (is_outside_the_table (Lexical x)) h
+  where
+    differ : Lexical x ≡ WriteFault → ⊥
+    differ e = absurd (cc)
 
--- the end finishes no game
-pub games_of_closed : (e : Bool) (outcome : Stepped) (games : ℕ) → games_after outcome games ≡ games_after (closed_with e outcome) games
-games_of_closed true NeedMore games = refl
-games_of_closed false NeedMore games = refl
-games_of_closed true More games = refl
-games_of_closed false More games = refl
-games_of_closed true Finished games = refl
-games_of_closed false Finished games = refl
-games_of_closed true Ended games = refl
-games_of_closed false Ended games = refl
-games_of_closed true (Failed f) games = refl
-games_of_closed false (Failed f) games = refl
+    by_test : (b : Bool) → CountsStop b (Lexical x) old new → new ≡ old
+    by_test false h = h
+    by_test true h = absurd (differ h.0)
+counts_reason ExpectedName old new h = h
+counts_reason BadTagName old new h = h
+counts_reason DuplicateTag old new h = h
+counts_reason TooManyTags old new h = h
+counts_reason ExpectedValue old new h = h
+counts_reason BadResult old new h = h
+counts_reason (BadFen field) old new h = h
+counts_reason TagLineTooLong old new h = h
+counts_reason ExpectedBracket old new h = h
+counts_reason SetUpWithoutFen old new h = h
+counts_reason ReducedFen old new h = h
+counts_reason TagInMovetext old new h = h
+counts_reason NotAMove old new h = h
+counts_reason IllegalMove old new h = h
+counts_reason AmbiguousMove old new h = h
+counts_reason MoveLimit old new h = h
+counts_reason NoMoveBefore old new h = h
+counts_reason TooDeep old new h = h
+counts_reason UnmatchedClose old new h = h
+counts_reason MarkerInVariation old new h = h
+counts_reason ResultDiffers old new h = h
+counts_reason UnexpectedEnd old new h = h
+counts_reason WriteFault old new h = h.1
+counts_reason ReadFault old new h = absurd (differ h.0)
+  where
+    differ : ReadFault ≡ WriteFault → ⊥
+    differ e = absurd (cc)
+counts_reason InputTooLong old new h = absurd (differ h.0)
+  where
+    differ : InputTooLong ≡ WriteFault → ⊥
+    differ e = absurd (cc)
+counts_reason Changed old new h = absurd (differ h.0)
+  where
+    differ : Changed ≡ WriteFault → ⊥
+    differ e = absurd (cc)
 
--- an answer of the reader counts as the step that it is
-counts_refused : (r : Reason) (old new : ℕ) → new ≡ old → IsFalse (is_outside_the_table r) → CountsReason r old new
-counts_refused (Lexical x) old new same h = same
-counts_refused ExpectedName old new same h = same
-counts_refused BadTagName old new same h = same
-counts_refused DuplicateTag old new same h = same
-counts_refused TooManyTags old new same h = same
-counts_refused ExpectedValue old new same h = same
-counts_refused BadResult old new same h = same
-counts_refused (BadFen field) old new same h = same
-counts_refused TagLineTooLong old new same h = same
-counts_refused ExpectedBracket old new same h = same
-counts_refused SetUpWithoutFen old new same h = same
-counts_refused ReducedFen old new same h = same
-counts_refused TagInMovetext old new same h = same
-counts_refused NotAMove old new same h = same
-counts_refused IllegalMove old new same h = same
-counts_refused AmbiguousMove old new same h = same
-counts_refused MoveLimit old new same h = same
-counts_refused NoMoveBefore old new same h = same
-counts_refused TooDeep old new same h = same
-counts_refused UnmatchedClose old new same h = same
-counts_refused MarkerInVariation old new same h = same
-counts_refused ResultDiffers old new same h = same
-counts_refused UnexpectedEnd old new same h = same
-counts_refused ReadFault old new same h = absurd (cc)
-counts_refused WriteFault old new same h = absurd (cc)
-counts_refused InputTooLong old new same h = absurd (cc)
-counts_refused Changed old new same h = absurd (cc)
+pub counts_token : (at : ℕ) (r : Result Accepted Reason) (old new : ℕ) → CountsWrites r old new → CountsFault (outcome_at at r) old new
+counts_token at (Ok accepted) old new h = h
+counts_token at (Err reason) old new h = counts_reason reason old new h
 
-pub counts_token : (at : ℕ) (r : Result Accepted Stopped) (old new : ℕ) → CountsWrites r old new → CountsStep (stepped_of at r) old new
-counts_token at (Ok accepted.More) old new h = h
-counts_token at (Ok accepted.Finished) old new h = h
-counts_token at (Err (stopped.Refused reason)) old new h = counts_refused reason old new h.0 h.1
-counts_token at (Err stopped.Unwritten) old new h = h
-
-pub counts_closed : (e : Bool) (outcome : Stepped) (old new : ℕ) → CountsStep outcome old new → CountsStep (closed_with e outcome) old new
-counts_closed true NeedMore old new h = h
-counts_closed false NeedMore old new h = h
-counts_closed true More old new h = h
-counts_closed false More old new h = h
-counts_closed true Finished old new h = h
-counts_closed false Finished old new h = h
-counts_closed true Ended old new h = h
-counts_closed false Ended old new h = h
-counts_closed true (Failed f) old new h = h
-counts_closed false (Failed f) old new h = h
+pub counts_closed : (e : Bool) (outcome : Result (Option Accepted) Fault) (old new : ℕ) → CountsFault outcome old new → CountsFault (closed_with e outcome) old new
+counts_closed true (Ok o) old new h = h
+counts_closed false (Ok o) old new h = h
+counts_closed e (Err f) old new h = h
 
 -- A token behind the last piece keeps the counts small. The end takes no byte, but it is the last
 -- one.
-pub sound_behind : (old new : Standing) (before after : Reading) (games at : ℕ) (k : Kind) (e : Bool) (r : Result Accepted Stopped) → is_end k ≡ e → Nearer e old new
+pub sound_behind : (old new : Standing) (before after : Reading) (games at : ℕ) (k : Kind) (e : Bool) (r : Result Accepted Reason) → is_end k ≡ e → Nearer e old new
     → FinishesAtMarker k after r → OnOk r (after.layout.has_failed ≡ false) → old.count ≤ 2 ^ 62 → games + waiting old ≤ 2 * old.count + 2
     → before.earlier_plies + before.text.plies + waiting old ≤ 2 * old.count + 2
     → after.earlier_plies + after.text.plies ≤ before.earlier_plies + before.text.plies + 1
-    → IsSound new after (games_after (stepped_of at r) games) false (is_ended (closed_with e (stepped_of at r))) (fault_of_step (stepped_of at r))
-sound_behind old new before after games at k true (Ok accepted.More) is_e near marker going count few plies more =
+    → IsSound new after (games_after (outcome_at at r) games) false (is_ended (closed_with e (outcome_at at r))) (fault_of_step (outcome_at at r))
+sound_behind old new before after games at k true (Ok More) is_e near marker going count few plies more =
     let still = ap waiting near in
     let place = ap (λ (l : Standing). l.count) near in
     record {
@@ -334,7 +301,7 @@ sound_behind old new before after games at k true (Ok accepted.More) is_e near m
       between = λ is. absurd (cc);
       no_fault = λ is. absurd (cc);
     }
-sound_behind old new before after games at k false (Ok accepted.More) is_e near marker going count few plies more =
+sound_behind old new before after games at k false (Ok More) is_e near marker going count few plies more =
     record {
       count = λ none. omega (arith, count, near.1);
       going = λ none. going;
@@ -344,12 +311,12 @@ sound_behind old new before after games at k false (Ok accepted.More) is_e near 
       between = λ is. absurd (cc);
       no_fault = λ is. absurd (cc);
     }
-sound_behind old new before after games at k true (Ok accepted.Finished) is_e near marker going count few plies more =
+sound_behind old new before after games at k true (Ok Finished) is_e near marker going count few plies more =
     absurd (differ (sym is_e ∙ marker_or_end k marker.0))
   where
     differ : true ≡ false → ⊥
     differ e = absurd (cc)
-sound_behind old new before after games at k false (Ok accepted.Finished) is_e near marker going count few plies more =
+sound_behind old new before after games at k false (Ok Finished) is_e near marker going count few plies more =
     record {
       count = λ none. omega (arith, count, near.1);
       going = λ none. going;
@@ -359,17 +326,7 @@ sound_behind old new before after games at k false (Ok accepted.Finished) is_e n
       between = λ is. absurd (cc);
       no_fault = λ is. absurd (cc);
     }
-sound_behind old new before after games at k e (Err (stopped.Refused reason)) is_e near marker going count few plies more =
-    record {
-      count = λ none. absurd (cc);
-      going = λ none. absurd (cc);
-      few = λ none. absurd (cc);
-      few_plies = λ none. absurd (cc);
-      fewer_plies = λ none is. absurd (cc);
-      between = λ is. absurd (cc);
-      no_fault = λ is. absurd (cc);
-    }
-sound_behind old new before after games at k e (Err stopped.Unwritten) is_e near marker going count few plies more =
+sound_behind old new before after games at k e (Err reason) is_e near marker going count few plies more =
     record {
       count = λ none. absurd (cc);
       going = λ none. absurd (cc);
@@ -415,7 +372,7 @@ module _ (p : Profile) (u : List ℕ) (given : List Token) (now new : Converter)
       (subst (λ (r : Reading). IsLast (Some (held_by r)) (read p so.tokens).progress.games) (sym kept)
       (so.last h (ap (λ (r : Reading). r.stage) (sym kept) ∙ between)))
 
-  pub closed_more : AfterStepAtEnd p u so.tokens now new More c d → ClosedSoFar p u given new finished_game a d
+  pub closed_more : AfterStepAtEnd p u so.tokens now new (Ok (Some More)) c d → ClosedSoFar p u given new finished_game a d
   closed_more (t, took, same, stays) =
       record {
         tokens = so.tokens ++ t ∷ [];
@@ -427,7 +384,7 @@ module _ (p : Profile) (u : List ℕ) (given : List Token) (now new : Converter)
         gains = gains_more p given so.tokens _ a c d so.gains took.gains;
       }
 
-  pub closed_game : AfterStepAtEnd p u so.tokens now new Finished c d → ClosedSoFar p u given new true a d
+  pub closed_game : AfterStepAtEnd p u so.tokens now new (Ok (Some Finished)) c d → ClosedSoFar p u given new true a d
   closed_game (t, took, (g, one, held)) =
       let count : length (read p (so.tokens ++ t ∷ [])).progress.games ≡ length (read p so.tokens).progress.games + 1 =
       ap (length {A = Game}) one ∙ length-append (read p so.tokens).progress.games (g ∷ []) in
@@ -441,7 +398,7 @@ module _ (p : Profile) (u : List ℕ) (given : List Token) (now new : Converter)
         gains = gains_more p given so.tokens _ a c d so.gains took.gains;
       }
 
-  pub closed_end : (flag : Bool) → AfterStepAtEnd p u so.tokens now new Ended c d → (new.reading.stage ≡ Between → flag ≡ finished_game)
+  pub closed_end : (flag : Bool) → AfterStepAtEnd p u so.tokens now new (Ok None) c d → (new.reading.stage ≡ Between → flag ≡ finished_game)
       → Finishes p u given (record { lexer = new.lexer; reading = new.reading; games = new.games; at_hand = held_if flag new.reading; is_finished = new.is_finished; fault = new.fault }) finished_game a d
   closed_end flag (t, took, stays) e =
       let h = took.has_read in
@@ -459,7 +416,7 @@ module _ (p : Profile) (u : List ℕ) (given : List Token) (now new : Converter)
       hands ts true h = h refl
       hands ts false h = tt
 
-  pub closed_fault : (f : Fault) → AfterStepAtEnd p u so.tokens now new (Failed f) c d → new.games ≡ now.games → FinishesToFault p u given new f a d
+  pub closed_fault : (f : Fault) → AfterStepAtEnd p u so.tokens now new (Err f) c d → new.games ≡ now.games → FinishesToFault p u given new f a d
   closed_fault f to same =
       record {
         stops = stops_more p given so.tokens (tokens_of u) f a c d so.gains to.stops;
@@ -481,19 +438,16 @@ sound_behind_fault lexer reading games is_finished f =
     }
 
 -- behind the last piece a token was waiting, unless it is the end
-pub closes_sooner : (old new : Standing) (after : Reading) (at : ℕ) (k : Kind) (e : Bool) (r : Result Accepted Stopped) → is_end k ≡ e → Nearer e old new
-    → FinishesAtMarker k after r → StepAtEndAdvances old new (closed_with e (stepped_of at r))
-closes_sooner old new after at k true (Ok accepted.More) is_e near marker = tt
-closes_sooner old new after at k false (Ok accepted.More) is_e near marker = near.0
-closes_sooner old new after at k true (Ok accepted.Finished) is_e near marker = absurd (differ (sym is_e ∙ marker_or_end k marker.0))
+pub closes_sooner : (old new : Standing) (after : Reading) (at : ℕ) (k : Kind) (e : Bool) (r : Result Accepted Reason) → is_end k ≡ e → Nearer e old new
+    → FinishesAtMarker k after r → StepAtEndAdvances old new (closed_with e (outcome_at at r))
+closes_sooner old new after at k true (Ok More) is_e near marker = tt
+closes_sooner old new after at k false (Ok More) is_e near marker = near.0
+closes_sooner old new after at k true (Ok Finished) is_e near marker = absurd (differ (sym is_e ∙ marker_or_end k marker.0))
   where
     differ : true ≡ false → ⊥
     differ e = absurd (cc)
-closes_sooner old new after at k false (Ok accepted.Finished) is_e near marker = near.0
-closes_sooner old new after at k true (Err (stopped.Refused reason)) is_e near marker = tt
-closes_sooner old new after at k false (Err (stopped.Refused reason)) is_e near marker = tt
-closes_sooner old new after at k true (Err stopped.Unwritten) is_e near marker = tt
-closes_sooner old new after at k false (Err stopped.Unwritten) is_e near marker = tt
+closes_sooner old new after at k false (Ok Finished) is_e near marker = near.0
+closes_sooner old new after at k e (Err reason) is_e near marker = tt
 
 -- while no game is at hand a converter owes no more
 pub sound_at_none : (lexer : Standing) (reading : Reading) (games : ℕ) (has_finished_game is_finished : Bool) (fault : Option Fault) → IsSound lexer reading games has_finished_game is_finished fault

@@ -10,7 +10,7 @@ use Rattle.pgn_layout.specs.Device.{AppendsFront, one_more}
 use Rattle.pgn_layout.specs.Lines.{IsToken, lines_of, full_lines, last_line, text_of as text_of_lines}
 use Rattle.pgn_layout.specs.Layout.{Layout, holding, Put, EndGame, text_at, line_at}
 use Rattle.pgn_game.specs.declared.accept.Accepted.TheVariants.{Finished}
-use Rattle.pgn_game.specs.declared.accept.Stopped.TheVariants.{Unwritten}
+use Rattle.pgn_game.specs.declared.reason.Reason.TheVariants as reasons
 use Rattle.pgn_game.specs.declared.judged.Judged.TheVariants.{Entry as InText}
 use Rattle.pgn_game.specs.declared.judged.Entry.{Entry}
 use Rattle.pgn_game.specs.declared.judged.Entry.TheVariants.{Number, Item as PutItem, Marker}
@@ -127,7 +127,7 @@ entry_gain levels old part (Marker marker) fits known at is = due_is old part ma
 
 -- The section could not be written.
 pub puts_unbegun : (levels : ℕ) (old new : Reading) (e : Entry) (f : WriteFault) (d : Device) → IsTrue (may_have_movetext old.stage) → EntryFits levels old.text e
-    → BeginsText {A = Unit} old new (Err f) d → Puts old (InText e) new (Err Unwritten) d
+    → BeginsText {A = Unit} old new (Err f) d → Puts old (InText e) new (Err reasons.WriteFault) d
 puts_unbegun levels old new e f d at fits begins =
     unwritten old new (InText e) d (record { profile = begins.profile; plies = omega (arith, begins.earlier, begins.plies); probes = omega (arith, begins.probes) })
     begins.counted (λ part agrees.
@@ -177,7 +177,7 @@ ends_well old begun new marker a b d c n m k ends put last rest empty counted =
 -- a write failed behind the section
 pub ends_ill : (old begun new : Reading) (marker : Bor (List ℕ)) (a b c : Option (List ℕ)) (n m k : ℕ) → EndsText old begun marker.now a b n m
     → AppendsFront b c (ending begun.layout.line marker.now) → new ≡ record begun { layout = new.layout } → k ≡ one_more m
-    → Puts old (InText (Marker marker)) new (Err Unwritten) (from_to a c n k)
+    → Puts old (InText (Marker marker)) new (Err reasons.WriteFault) (from_to a c n k)
 ends_ill old begun new marker a b c n m k ends front rest counted =
     let begins = ends.begins in
     unwritten old new (InText (Marker marker)) (from_to a c n k)

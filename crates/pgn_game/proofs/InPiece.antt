@@ -2,7 +2,7 @@
 use Rattle.std.proofs.Common.{◌≡◌, ℕ, ◌+◌, ◌-◌, ◌<◌, ◌≤◌, ◌^◌, zero, suc, false, List, [], ◌∷◌, ◌++◌, length, take, drop, Option, None, Some, refl, sym, ap, subst, ◌∙◌, append_assoc, append-nil, length-append, length-drop, length-take, length-take-le, le_refl, take_all, drop_of_length-le, inl, inr, arith}
 use Rattle.std.proofs.Math.Seq.{take-add}
 use Rattle.std.proofs.lemmas.List.{take-append-drop, take-take, drop-take, drop-drop}
-use Rattle.std.specs.Prelude.{is_some}
+use Rattle.std.specs.Prelude.{is_some, Ok, Err}
 use Rattle.pgn_lexer.specs.Tokens.{Token, EndsAt}
 use Rattle.pgn_lexer.specs.TokensOf.{tokens_of}
 use Rattle.pgn_lexer.specs.Decided.{decided}
@@ -10,7 +10,7 @@ use Rattle.pgn_lexer.specs.Stands.{Follows, IsDecided, first, still}
 use Rattle.pgn_game.specs.declared.reason.Reason.{Reason}
 use Rattle.pgn_game.specs.declared.reason.Reason.TheVariants.{InputTooLong}
 use Rattle.pgn_game.specs.declared.reason.Fault.{Fault}
-use Rattle.pgn_game.specs.declared.converter.Stepped.TheVariants.{NeedMore, More, Finished, Failed}
+use Rattle.pgn_game.specs.declared.accept.Accepted.TheVariants.{More, Finished}
 use Rattle.pgn_game.specs.Profile.{Profile}
 use Rattle.pgn_game.specs.Reading.{Reading}
 use Rattle.pgn_game.specs.Feeding.{AtHand, Converter, Stands, AreNext, FedAll, FedGame, FedToFault, StopsIn, too_long, CountsReason}
@@ -114,7 +114,7 @@ module _ (p : Profile) (u : List ℕ) (b : Option ℕ) (given : List Token) (pie
       (subst (λ xs. IsDecided xs (drop used (drop at piece)) ts) (further u piece at used) h)
 
   -- one token more
-  pub so_far_more : (new : Converter) (used : ℕ) → AfterStep p (u ++ take at piece) so.tokens (drop at piece) new used More c d → SoFar p u b given piece (at + used) new a d
+  pub so_far_more : (new : Converter) (used : ℕ) → AfterStep p (u ++ take at piece) so.tokens (drop at piece) new used (Ok (Some More)) c d → SoFar p u b given piece (at + used) new a d
   so_far_more new used (t, took, same) =
       record {
         tokens = so.tokens ++ t ∷ [];
@@ -126,7 +126,7 @@ module _ (p : Profile) (u : List ℕ) (b : Option ℕ) (given : List Token) (pie
       }
 
   -- no token more
-  pub fed_all : (new : Converter) (used : ℕ) → AfterStep p (u ++ take at piece) so.tokens (drop at piece) new used NeedMore c d → new.at_hand ≡ None → FedAll p u b given piece new a d
+  pub fed_all : (new : Converter) (used : ℕ) → AfterStep p (u ++ take at piece) so.tokens (drop at piece) new used (Ok None) c d → new.at_hand ≡ None → FedAll p u b given piece new a d
   fed_all new used (all, stands, is_decided, gains) hand =
       record {
         tokens = so.tokens;
@@ -144,7 +144,7 @@ module _ (p : Profile) (u : List ℕ) (b : Option ℕ) (given : List Token) (pie
 
   -- a marker
   pub fed_game : (new : Converter) (used : ℕ) → length u + length piece ≤ 2 ^ 62
-      → AfterStep p (u ++ take at piece) so.tokens (drop at piece) new used Finished c d → FedGame p u given piece (at + used) new a d
+      → AfterStep p (u ++ take at piece) so.tokens (drop at piece) new used (Ok (Some Finished)) c d → FedGame p u given piece (at + used) new a d
   fed_game new used short (t, took, (g, one, hand)) =
       let place : length (u ++ take at piece) + used ≡ length u + (at + used) =
       omega (arith, length-append u (take at piece), length-take-le at piece (omega arith)) in
@@ -164,7 +164,7 @@ module _ (p : Profile) (u : List ℕ) (b : Option ℕ) (given : List Token) (pie
       }
 
   -- a fault
-  pub fed_fault : (new : Converter) (used : ℕ) (f : Fault) → AfterStep p (u ++ take at piece) so.tokens (drop at piece) new used (Failed f) c d → FedToFault p u b given piece f new.reading.most_probes a d
+  pub fed_fault : (new : Converter) (used : ℕ) (f : Fault) → AfterStep p (u ++ take at piece) so.tokens (drop at piece) new used (Err f) c d → FedToFault p u b given piece f new.reading.most_probes a d
   fed_fault new used f to_fault =
       let fed = to_fault.fed in
       record {

@@ -15,23 +15,21 @@ use Rattle.pgn_lexer.specs.Scanned.{more, token, fault}
 use Rattle.pgn_lexer.specs.Standing.{Standing, coming, waiting}
 use Rattle.pgn_lexer.specs.Stands.{StandsAfter, Follows, AfterScan, first, still}
 use Rattle.pgn_game.specs.declared.accept.Accepted.{Accepted}
-use Rattle.pgn_game.specs.declared.accept.Accepted.TheVariants as accepted
-use Rattle.pgn_game.specs.declared.accept.Stopped.{Stopped}
-use Rattle.pgn_game.specs.declared.accept.Stopped.TheVariants as stopped
+use Rattle.pgn_game.specs.declared.accept.Accepted.TheVariants.{More, Finished}
 use Rattle.pgn_game.specs.declared.reason.Reason.{Reason}
 use Rattle.pgn_game.specs.declared.reason.Reason.TheVariants.{Lexical}
-use Rattle.pgn_game.specs.declared.converter.Stepped.{Stepped}
-use Rattle.pgn_game.specs.declared.converter.Stepped.TheVariants.{NeedMore, More, Finished, Failed}
+use Rattle.pgn_game.specs.declared.reason.Fault.{Fault}
 use Rattle.pgn_game.specs.Profile.{Profile}
 use Rattle.pgn_game.specs.Game.{Game, Part}
 use Rattle.pgn_game.specs.FaultTable.{refusal}
 use Rattle.pgn_game.specs.Progress.{Next, going, whole, next, Progress, progress_with, progress_after, Read, read}
 use Rattle.pgn_game.specs.Due.{gain, Gains}
 use Rattle.pgn_game.specs.Levels.{plies_of}
+use Rattle.pgn_game.specs.Reading as reading
 use Rattle.pgn_game.specs.Reading.{Reading, Agrees, IsBehind, has_move, whole_plies, plies_next, Leads, Answers}
 use Rattle.pgn_game.specs.Feeding.{AtHand, hand_of, Converter, held_by, held_if, play_moves, has_played, HasRead, Stands, Stops, refused, unwritten, StopsWriting, AreNext, games_before, CountsAtStop}
-use Rattle.pgn_game.specs.Stepping.{SameGames, OneGame, AfterStep, stepped_of, finished_game, games_after, fault_of_step, StepAdvances}
-use Rattle.pgn_game.specs.MostTried.{MostTried, Raises, RaisesMost, Tries, TriesUnwritten}
+use Rattle.pgn_game.specs.Stepping.{SameGames, OneGame, AfterStep, outcome_at, finished_game, games_after, fault_of_step, StepAdvances}
+use Rattle.pgn_game.specs.MostTried.{MostTried, Raises, Tries, TriesUnwritten}
 use Rattle.pgn_game.proofs.TriedPairs.{most_with, most_to_refused, part_probed, raises_none}
 use Rattle.pgn_game.proofs.Growing.{read-passes, read-refuses, due-passes, due-refuses, gains_none, gains_nothing}
 
@@ -45,17 +43,17 @@ follows_own [] = tt
 follows_own (x ∷ xs) = refl
 
 -- what a token leads to, with the games before
-leads_more : (nx : Next) (games : List Game) (r : Reading) → Leads nx accepted.More r → ((progress_with games nx).games ≡ games) × Agrees r (progress_with games nx).part
+leads_more : (nx : Next) (games : List Game) (r : Reading) → Leads nx More r → ((progress_with games nx).games ≡ games) × Agrees r (progress_with games nx).part
 leads_more (going part) games r h = (refl, h)
 leads_more (whole g) games r h = absurd h
 
-leads_finished : (nx : Next) (games : List Game) (r : Reading) → Leads nx accepted.Finished r
+leads_finished : (nx : Next) (games : List Game) (r : Reading) → Leads nx Finished r
     → (g : Game) × ((progress_with games nx).games ≡ games ++ g ∷ []) × Agrees r (progress_with games nx).part × IsBehind r g × (plies_next nx ≡ plies_of g)
 leads_finished (going part) games r h = absurd h
 leads_finished (whole g) games r h = (g, refl, h.agrees, h, refl)
 
 -- a token that finishes no game counts no move
-plies_more : (nx : Next) (r : Reading) → Leads nx accepted.More r → plies_next nx ≡ 0
+plies_more : (nx : Next) (r : Reading) → Leads nx More r → plies_next nx ≡ 0
 plies_more (going part) r h = refl
 plies_more (whole g) r h = absurd h
 
@@ -84,7 +82,7 @@ length-snoc : (games : List Game) (g : Game) → length (games ++ g ∷ []) ≡ 
 length-snoc games g = length-append games (g ∷ [])
 
 -- a converter after a step
-abbrev pub stepped : Standing → Reading → ℕ → Bool → Stepped → Converter
+abbrev pub stepped : Standing → Reading → ℕ → Bool → Result (Option Accepted) Fault → Converter
 stepped l r games finished outcome =
     record {
       lexer = l;
@@ -141,12 +139,12 @@ module _ (p : Profile) (old : Converter) (given : List Token) (t : Token) (l : S
   probed_before moves = let some = has_read.probed moves in omega (arith, some, probes)
 
   -- the game goes on
-  pub same_games : refusal old.reading.profile b.part t.kind ≡ None → Leads (next b.part t.kind) accepted.More new → SameGames p given (given ++ t ∷ [])
+  pub same_games : refusal old.reading.profile b.part t.kind ≡ None → Leads (next b.part t.kind) More new → SameGames p given (given ++ t ∷ [])
   same_games h leads = ap (λ (r : Read). r.progress.games) (reads h) ∙ (leads_more (next b.part t.kind) b.games new leads).0
 
-  pub has_read_more : refusal old.reading.profile b.part t.kind ≡ None → Leads (next b.part t.kind) accepted.More new
+  pub has_read_more : refusal old.reading.profile b.part t.kind ≡ None → Leads (next b.part t.kind) More new
       → whole_plies new ≡ whole_plies old.reading + plies_next (next b.part t.kind)
-      → Raises (Tries old.reading.profile b.part t.kind) old.reading.most_probes new.most_probes → HasRead p (stepped l new old.games finished More) (given ++ t ∷ [])
+      → Raises (Tries old.reading.profile b.part t.kind) old.reading.most_probes new.most_probes → HasRead p (stepped l new old.games finished (Ok (Some More))) (given ++ t ∷ [])
   has_read_more h leads plies tries =
       let more = leads_more (next b.part t.kind) b.games new leads in
       let same = same_games h leads in
@@ -167,15 +165,15 @@ module _ (p : Profile) (old : Converter) (given : List Token) (t : Token) (l : S
       }
 
   -- the game is whole
-  pub one_game : refusal old.reading.profile b.part t.kind ≡ None → Leads (next b.part t.kind) accepted.Finished new
+  pub one_game : refusal old.reading.profile b.part t.kind ≡ None → Leads (next b.part t.kind) Finished new
       → (g : Game) × OneGame p given (given ++ t ∷ []) g × (held_by new ≡ hand_of g)
   one_game h leads =
       let done = leads_finished (next b.part t.kind) b.games new leads in
       (done.0, ap (λ (r : Read). r.progress.games) (reads h) ∙ done.1, hand_behind new done.0 done.3)
 
-  pub has_read_game : refusal old.reading.profile b.part t.kind ≡ None → Leads (next b.part t.kind) accepted.Finished new
+  pub has_read_game : refusal old.reading.profile b.part t.kind ≡ None → Leads (next b.part t.kind) Finished new
       → whole_plies new ≡ whole_plies old.reading + plies_next (next b.part t.kind)
-      → Raises (Tries old.reading.profile b.part t.kind) old.reading.most_probes new.most_probes → HasRead p (stepped l new old.games finished Finished) (given ++ t ∷ [])
+      → Raises (Tries old.reading.profile b.part t.kind) old.reading.most_probes new.most_probes → HasRead p (stepped l new old.games finished (Ok (Some Finished))) (given ++ t ∷ [])
   has_read_game h leads plies tries =
       let done = leads_finished (next b.part t.kind) b.games new leads in
       let one = ap (λ (r : Read). r.progress.games) (reads h) ∙ done.1 in
@@ -283,33 +281,32 @@ still_none-none (x ∷ xs) = refl
 
 -- What the reader answers to a token of the piece.
 pub took : (p : Profile) (old : Converter) (u : List ℕ) (given : List Token) (piece : List ℕ) (used : ℕ) (t : Token) (l : Standing) (new : Reading) (finished : Bool)
-    (a c : Option (List ℕ)) (r : Result Accepted Stopped) → Stands p old u (first piece) given → AfterScan u (first piece) given piece l used (token t)
+    (a c : Option (List ℕ)) (r : Result Accepted Reason) → Stands p old u (first piece) given → AfterScan u (first piece) given piece l used (token t)
     → EndsAt t.kind t.at l.count → l.count ≡ old.lexer.count + used → new.profile ≡ old.reading.profile → old.reading.most_probes ≤ new.most_probes
     → Answers old.reading (read p given).progress.part t.kind new r a c
-    → RaisesMost old.reading.profile (read p given).progress.part t.kind r old.reading.most_probes new.most_probes
-    → AfterStep p u given piece (stepped l new old.games finished (stepped_of t.at r)) used (stepped_of t.at r) a c
-took p old u given piece used t l new finished a c (Ok accepted.More) stands scan ends count profile probes h tries = (
+    → AfterStep p u given piece (stepped l new old.games finished (outcome_at t.at r)) used (outcome_at t.at r) a c
+took p old u given piece used t l new finished a c (Ok More) stands scan ends count profile probes h = (
   t,
   record {
-    stands = record { lexer = scan.0; has_read = has_read_more p old given t l new finished stands.has_read profile probes h.free h.leads h.plies tries };
+    stands = record { lexer = scan.0; has_read = has_read_more p old given t l new finished stands.has_read profile probes h.free h.leads h.plies h.tried };
     decided = scan.1;
     ends = subst (EndsAt t.kind t.at) (count ∙ ap (λ n. n + used) stands.lexer.count) ends;
     gains = gains_token p old given t l new finished stands.has_read profile probes a c h.free h.appended;
   },
   same_games p old given t l new finished stands.has_read profile probes h.free h.leads,
 )
-took p old u given piece used t l new finished a c (Ok accepted.Finished) stands scan ends count profile probes h tries =
+took p old u given piece used t l new finished a c (Ok Finished) stands scan ends count profile probes h =
     let one = one_game p old given t l new finished stands.has_read profile probes h.free h.leads in (
       t,
       record {
-        stands = record { lexer = scan.0; has_read = has_read_game p old given t l new finished stands.has_read profile probes h.free h.leads h.plies tries };
+        stands = record { lexer = scan.0; has_read = has_read_game p old given t l new finished stands.has_read profile probes h.free h.leads h.plies h.tried };
         decided = scan.1;
         ends = subst (EndsAt t.kind t.at) (count ∙ ap (λ n. n + used) stands.lexer.count) ends;
         gains = gains_token p old given t l new finished stands.has_read profile probes a c h.free h.appended;
       },
       (one.0, one.1, ap (λ (hand : AtHand). Some hand) one.2),
     )
-took p old u given piece used t l new finished a c (Err (stopped.Refused reason)) stands scan ends count profile probes (some, wrote) tries =
+took p old u given piece used t l new finished a c (Err why) stands scan ends count profile probes (reading.refused reason some wrote tries) =
     record {
       fed = record {
         tokens = given ++ t ∷ [];
@@ -319,7 +316,7 @@ took p old u given piece used t l new finished a c (Err (stopped.Refused reason)
       no_game = none_before_refused p old given t l new finished stands.has_read profile probes [] a c reason some wrote;
       counts = count_at_refused p old given t l new finished stands.has_read profile probes [] a c reason some wrote tries;
     }
-took p old u given piece used t l new finished a c (Err stopped.Unwritten) stands scan ends count profile probes (none, wrote) tries =
+took p old u given piece used t l new finished a c (Err why) stands scan ends count profile probes (reading.unwritten none wrote tries) =
     record {
       fed = record {
         tokens = given ++ t ∷ [];
@@ -333,7 +330,7 @@ took p old u given piece used t l new finished a c (Err stopped.Unwritten) stand
 -- no token in the piece
 pub took_none : (p : Profile) (old : Converter) (u : List ℕ) (given : List Token) (piece : List ℕ) (used : ℕ) (l : Standing) (o : Option (List ℕ)) → 0 < length piece
     → Stands p old u (first piece) given → AfterScan u (first piece) given piece l used more
-    → AfterStep p u given piece (record old { lexer = l }) used NeedMore o o
+    → AfterStep p u given piece (record old { lexer = l }) used (Ok None) o o
 took_none p old u given piece used l o some stands scan =
     let h = stands.has_read in (
       scan.0,
@@ -379,7 +376,7 @@ count_at_lexical p old given f o has_read =
 
 pub took_fault : (p : Profile) (old : Converter) (u : List ℕ) (given : List Token) (piece : List ℕ) (used : ℕ) (f : LexFault) (l : Standing) (new : Converter) (o : Option (List ℕ)) → 0 < length piece
     → Stands p old u (first piece) given → AfterScan u (first piece) given piece l used (fault f)
-    → new.reading ≡ old.reading → AfterStep p u given piece new used (Failed (record { at = f.at; reason = Lexical f.reason })) o o
+    → new.reading ≡ old.reading → AfterStep p u given piece new used (Err (record { at = f.at; reason = Lexical f.reason })) o o
 took_fault p old u given piece used f l new o some stands scan same =
     record {
       fed = record {
@@ -399,9 +396,7 @@ pub is_some_held : (b : Bool) (reading : Reading) → is_some (held_if b reading
 is_some_held true reading = refl
 is_some_held false reading = refl
 
-pub advances_token : (old : Standing) (piece : List ℕ) (new : Standing) (used at : ℕ) (r : Result Accepted Stopped) → waiting new < 2 * used + waiting old
-    → StepAdvances old piece new used (stepped_of at r)
-advances_token old piece new used at (Ok accepted.More) sooner = sooner
-advances_token old piece new used at (Ok accepted.Finished) sooner = sooner
-advances_token old piece new used at (Err (stopped.Refused reason)) sooner = tt
-advances_token old piece new used at (Err stopped.Unwritten) sooner = tt
+pub advances_token : (old : Standing) (piece : List ℕ) (new : Standing) (used at : ℕ) (r : Result Accepted Reason) → waiting new < 2 * used + waiting old
+    → StepAdvances old piece new used (outcome_at at r)
+advances_token old piece new used at (Ok accepted) sooner = sooner
+advances_token old piece new used at (Err reason) sooner = tt

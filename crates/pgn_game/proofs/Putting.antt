@@ -19,7 +19,7 @@ use Rattle.pgn_game.specs.declared.mode.Mode.TheVariants.{Full, Reduced}
 use Rattle.pgn_game.specs.declared.stage.Stage.{Stage}
 use Rattle.pgn_game.specs.declared.stage.Stage.TheVariants.{Between, AfterLeftBracket, AfterName, AfterValue, AfterTags, InMovetext}
 use Rattle.pgn_game.specs.declared.accept.Accepted.TheVariants.{More}
-use Rattle.pgn_game.specs.declared.accept.Stopped.TheVariants.{Unwritten}
+use Rattle.pgn_game.specs.declared.reason.Reason.TheVariants as reasons
 use Rattle.pgn_game.specs.Profile.{Profile, Missing, counts_as, known_result}
 use Rattle.pgn_game.specs.Pairs.{Pair}
 use Rattle.pgn_game.specs.Game.{Item, Part}
@@ -106,8 +106,9 @@ plies_before old at = by_stage old.stage at
 
 -- a put that failed, and one after which the game goes on
 pub unwritten : (old new : Reading) (j : Judged) (d : Device) → Keeps old new → d.failures_after ≡ one_more d.failures
-    → ((part : Part) → Agrees old part → AppendsFront d.before d.after (gain_to old.profile part (after j part))) → Puts old j new (Err Unwritten) d
-unwritten old new j d keeps counted front = record { goes = front; keeps = keeps; stays = tt; going = tt; finished = tt; counted = counted }
+    → ((part : Part) → Agrees old part → AppendsFront d.before d.after (gain_to old.profile part (after j part))) → Puts old j new (Err reasons.WriteFault) d
+unwritten old new j d keeps counted front =
+    record { goes = λ part agrees. (refl, front part agrees); keeps = keeps; stays = tt; going = tt; finished = tt; counted = (refl, counted) }
 
 pub more_comes : (old new : Reading) (j : Judged) (d : Device) → Keeps old new → (new.stage ≡ Between → new ≡ old) → new.layout.has_failed ≡ false
     → d.failures_after ≡ d.failures → ((part : Part) → Agrees old part → Goes old part (after j part) new More d) → Puts old j new (Ok More) d
@@ -222,7 +223,7 @@ puts_item old begun new i a b c n m k at put begins next adds =
 pub fails_item : (old begun new : Reading) (i : CodeItem) (f : WriteFault) (a b c : Option (List ℕ)) (n m k : ℕ) → IsTrue (may_have_movetext old.stage)
     → BeginsText {A = Unit} {E = WriteFault} old begun (Ok tt) (from_to a b n m) → IsAfterItem begun new
     → Adds {A = Unit} begun.profile.mode (item_of i) begun.text begun.layout new.text new.layout (Err f) (from_to b c m k)
-    → Puts old (InText (Put i)) new (Err Unwritten) (from_to a c n k)
+    → Puts old (InText (Put i)) new (Err reasons.WriteFault) (from_to a c n k)
 fails_item old begun new i f a b c n m k at begins next adds =
     unwritten old new (InText (Put i)) (from_to a c n k)
     (record { profile = next.profile ∙ begins.profile; plies = omega (arith, next.earlier, begins.earlier, begins.plies, adds.plies); probes = omega (arith, next.probes, begins.probes) })

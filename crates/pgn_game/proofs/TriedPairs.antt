@@ -12,8 +12,6 @@ use Rattle.pgn_lexer.specs.declared.token.LexReason.{LexReason}
 use Rattle.pgn_lexer.specs.declared.token.TokenKind.{TokenKind}
 use Rattle.pgn_game.specs.declared.accept.Accepted.{Accepted}
 use Rattle.pgn_game.specs.declared.accept.Accepted.TheVariants.{More}
-use Rattle.pgn_game.specs.declared.accept.Stopped.{Stopped}
-use Rattle.pgn_game.specs.declared.accept.Stopped.TheVariants.{Refused, Unwritten}
 use Rattle.pgn_game.specs.declared.judged.Judged.{Judged}
 use Rattle.pgn_game.specs.declared.judged.Judged.TheVariants.{Skipped, PairOpen, Name, Value, PairClose, Entry as InText}
 use Rattle.pgn_game.specs.declared.judged.Entry.TheVariants.{Number, Item as Put, Marker}
@@ -27,7 +25,7 @@ use Rattle.pgn_game.specs.Game.{Item, Part, move, glyph, comment_open, word, com
 use Rattle.pgn_game.specs.Levels.{depth, here, levels_of, start_of}
 use Rattle.pgn_game.specs.FaultTable.{refusal, is_number, is_outside_pairs, is_score, levels_in, position_in, stage_number}
 use Rattle.pgn_game.specs.Progress.{Next, going, whole, next, Progress, no_progress, progress_after, Read, read_from, read}
-use Rattle.pgn_game.specs.MostTried.{CostsIf, CostsToFind, is_written, CostsToWrite, added, CostsToAdd, CostsUnlessRefused, Tries, TriesUnwritten, MostFrom, MostTried, Raises, RaisesMost}
+use Rattle.pgn_game.specs.MostTried.{CostsIf, CostsToFind, is_written, CostsToWrite, added, CostsToAdd, CostsUnlessRefused, Tries, TriesUnwritten, MostFrom, MostTried, Raises}
 use Rattle.pgn_game.specs.MostTried as tried
 use Rattle.pgn_game.specs.Movetext.{HeldLevels, level_held}
 use Rattle.pgn_game.specs.Reading.{Reading, Agrees, has_move}
@@ -35,7 +33,7 @@ use Rattle.pgn_game.specs.Judging.{Counts, Fits, IsOpen, Seeks, after, may_have_
 use Rattle.pgn_game.specs.Putting.{Device, TriesItem, writes}
 use Rattle.pgn_game.specs.Handling.{GoesTo, TriesJudged, UnwrittenPairs, begins, readied}
 use Rattle.pgn_game.specs.Handling as handling
-use Rattle.pgn_game.proofs.Accepting.{Meets, meets_counted, ready_probes, said_ok}
+use Rattle.pgn_game.proofs.Accepting.{Meets, PutRaises, meets_counted, ready_probes, said_ok}
 use Rattle.pgn_game.proofs.Growing.{first_passes, goes_on}
 use Rattle.pgn_game.proofs.Judging.{held_at, open_agrees, text_at}
 
@@ -237,7 +235,7 @@ unwritten_more : (r : Reading) (i : Item) (n k : ℕ) → UnwrittenPairs r i n k
 unwritten_more r i n k (handling.at_item h) = written_more (writes r.profile.mode (length r.text.levels.around) i) r.text.levels.present.present i n k h
 unwritten_more r i n k (handling.in_section at same) = omega (arith, same)
 
-judged_more : (r : Reading) (j : Judged) (result : Result Accepted Stopped) (n k : ℕ) → TriesJudged r j result n k → n ≤ k
+judged_more : (r : Reading) (j : Judged) (result : Result Accepted Reason) (n k : ℕ) → TriesJudged r j result n k → n ≤ k
 judged_more r Skipped result n k h = omega (arith, h)
 judged_more r PairOpen result n k h = omega (arith, h)
 judged_more r (Name name) result n k h = omega (arith, h)
@@ -245,7 +243,7 @@ judged_more r (Value value) result n k h = omega (arith, h)
 judged_more r PairClose result n k h = omega (arith, h)
 judged_more r (InText Number) result n k h = omega (arith, h)
 judged_more r (InText (Put i)) (Ok a) n k h = written_more (writes r.profile.mode (length r.text.levels.around) (item_of i)) r.text.levels.present.present (item_of i) n k h
-judged_more r (InText (Put i)) (Err stopped) n k h = unwritten_more r (item_of i) n k h
+judged_more r (InText (Put i)) (Err reason) n k h = unwritten_more r (item_of i) n k h
 judged_more r (InText (Marker marker)) result n k h = omega (arith, h)
 
 -- What was found and what was put of one token.
@@ -265,21 +263,21 @@ module _ (tags levels : ℕ) (old counted : Reading) (part : Part) (k : Kind) (m
             (subst (λ (l : List Item). AddsTo counted m.to l n new) items there))));
       }
 
-  unwritten_met : (j : Judged) → Fits tags levels counted j → next part k ≡ after j m.to → TriesJudged counted j (Err Unwritten) n new → TriesUnwritten old.profile part k new
-  unwritten_met Skipped fits leads h = tried.at_token (tries_met Skipped More fits leads h)
-  unwritten_met PairOpen fits leads h = tried.at_token (tries_met PairOpen More fits leads h)
-  unwritten_met (Name name) fits leads h = tried.at_token (tries_met (Name name) More fits leads h)
-  unwritten_met (Value value) fits leads h = tried.at_token (tries_met (Value value) More fits leads h)
-  unwritten_met PairClose fits leads h = tried.at_token (tries_met PairClose More fits leads h)
-  unwritten_met (InText Number) fits leads h = tried.at_token (tries_met (InText Number) More fits leads h)
-  unwritten_met (InText (Put i)) fits leads h = by_write h
+  unwritten_met : (reason : Reason) (j : Judged) → Fits tags levels counted j → next part k ≡ after j m.to → TriesJudged counted j (Err reason) n new → TriesUnwritten old.profile part k new
+  unwritten_met reason Skipped fits leads h = tried.at_token (tries_met Skipped More fits leads h)
+  unwritten_met reason PairOpen fits leads h = tried.at_token (tries_met PairOpen More fits leads h)
+  unwritten_met reason (Name name) fits leads h = tried.at_token (tries_met (Name name) More fits leads h)
+  unwritten_met reason (Value value) fits leads h = tried.at_token (tries_met (Value value) More fits leads h)
+  unwritten_met reason PairClose fits leads h = tried.at_token (tries_met PairClose More fits leads h)
+  unwritten_met reason (InText Number) fits leads h = tried.at_token (tries_met (InText Number) More fits leads h)
+  unwritten_met reason (InText (Put i)) fits leads h = by_write h
     where
       by_write : UnwrittenPairs counted (item_of i) n new → TriesUnwritten old.profile part k new
       by_write (handling.at_item x) = tried.at_token (tries_met (InText (Put i)) More fits leads x)
       by_write (handling.in_section at same) =
           tried.in_section (sym m.in_text ∙ ap (λ (x : Stage). stage_number InMovetext == stage_number x) (sym m.agrees.stage ∙ at))
           (subst (CostsToFind part k) (sym same) (finds_met old counted part k n m ready seeks))
-  unwritten_met (InText (Marker marker)) fits leads h = tried.at_token (tries_met (InText (Marker marker)) More fits leads h)
+  unwritten_met reason (InText (Marker marker)) fits leads h = tried.at_token (tries_met (InText (Marker marker)) More fits leads h)
 
 -- What the reader counts for a token that means something, once it is put.
 module _ (tags levels : ℕ) (old ready counted : Reading) (part : Part) (k : TokenKind) (n : ℕ) (agrees : Agrees old part)
@@ -291,11 +289,11 @@ module _ (tags levels : ℕ) (old ready counted : Reading) (part : Part) (k : To
   most_found : counted.most_probes ≡ max old.most_probes n
   most_found = first ∙ ap (λ x. max x n) (ap (λ (r : Reading). r.most_probes) is ∙ ready_probes old (kind_of k))
 
-  pub raises : (new : Reading) (j : Judged) (r : Result Accepted Stopped) (more : ℕ) (d : Device)
+  pub raises : (new : Reading) (j : Judged) (r : Result Accepted Reason) (more : ℕ) (d : Device)
       → ((q : Part) → Agrees counted q → judged counted.profile q (kind_of k) ≡ Ok (after j q))
       → Fits tags levels counted j → ((q : Part) → Agrees counted q → GoesTo counted q (after j q) new r d)
       → TriesJudged counted j r n more → (n ≤ counted.most_probes → new.most_probes ≡ max counted.most_probes more)
-      → RaisesMost old.profile part (kind_of k) r old.most_probes new.most_probes
+      → PutRaises old.profile part (kind_of k) r old.most_probes new.most_probes
   raises new j r more d judges fits goes tries then = by_answer r (goes met.to met.agrees) tries most
     where
       says : (refusal old.profile part (kind_of k) ≡ None) × (next part (kind_of k) ≡ after j met.to)
@@ -308,25 +306,24 @@ module _ (tags levels : ℕ) (old ready counted : Reading) (part : Part) (k : To
           most_through old.most_probes counted.most_probes new.most_probes n more most_found
           (then (omega (arith, most_found, le-max_right old.most_probes n))) (judged_more counted j r n more tries)
 
-      by_answer : (x : Result Accepted Stopped) → GoesTo counted met.to (after j met.to) new x d → TriesJudged counted j x n more
-          → new.most_probes ≡ max old.most_probes more → RaisesMost old.profile part (kind_of k) x old.most_probes new.most_probes
+      by_answer : (x : Result Accepted Reason) → GoesTo counted met.to (after j met.to) new x d → TriesJudged counted j x n more
+          → new.most_probes ≡ max old.most_probes more → PutRaises old.profile part (kind_of k) x old.most_probes new.most_probes
       by_answer (Ok a) on h most =
           record {
             tried = more;
             allowed = tries_met tags levels old counted part (kind_of k) met n more no_game seeks says.0 j a fits says.1 h;
             most = most;
           }
-      by_answer (Err (Refused reason)) on h most = absurd on
-      by_answer (Err Unwritten) on h most =
+      by_answer (Err reason) on h most =
           record {
             tried = more;
-            allowed = unwritten_met tags levels old counted part (kind_of k) met n more no_game seeks says.0 j fits says.1 h;
+            allowed = unwritten_met tags levels old counted part (kind_of k) met n more no_game seeks says.0 reason j fits says.1 h;
             most = most;
           }
 
   -- and for one that is refused
   pub raises_refused : (reason : Reason) → refusal old.profile part (kind_of k) ≡ Some reason
-      → RaisesMost old.profile part (kind_of k) (Err (Refused reason)) old.most_probes counted.most_probes
+      → Raises (Tries old.profile part (kind_of k)) old.most_probes counted.most_probes
   raises_refused reason some =
       record {
         tried = n;

@@ -8,8 +8,8 @@ use Rattle.pgn_game.specs.declared.stage.Stage.{Stage}
 use Rattle.pgn_game.specs.declared.stage.Stage.TheVariants.{Between, AfterTags, InMovetext}
 use Rattle.pgn_game.specs.declared.accept.Accepted.{Accepted}
 use Rattle.pgn_game.specs.declared.accept.Accepted.TheVariants.{More, Finished}
-use Rattle.pgn_game.specs.declared.accept.Stopped.{Stopped}
-use Rattle.pgn_game.specs.declared.accept.Stopped.TheVariants.{Refused, Unwritten}
+use Rattle.pgn_game.specs.declared.reason.Reason.{Reason}
+use Rattle.pgn_game.specs.declared.reason.Reason.TheVariants.{WriteFault}
 use Rattle.pgn_game.specs.declared.judged.Judged.{Judged}
 use Rattle.pgn_game.specs.declared.judged.Judged.TheVariants.{Entry as InText}
 use Rattle.pgn_game.specs.declared.judged.Entry.TheVariants.{Item as Put}
@@ -64,32 +64,31 @@ pub record Goes (old : Reading) (part : Part) (to : Next) (new : Reading) (accep
   pub appended : Appends d.before d.after (gain_to old.profile part to)
 
 -- or a write failed, and a front of it was
-abbrev pub GoesTo : Reading → Part → Next → Reading → Result Accepted Stopped → Device → Type 0
+abbrev pub GoesTo : Reading → Part → Next → Reading → Result Accepted Reason → Device → Type 0
 GoesTo old part to new (Ok accepted) d = Goes old part to new accepted d
-GoesTo old part to new (Err (Refused reason)) d = ⊥
-GoesTo old part to new (Err Unwritten) d =
-    AppendsFront d.before d.after (gain_to old.profile part to)
+GoesTo old part to new (Err reason) d =
+    (reason ≡ WriteFault) × AppendsFront d.before d.after (gain_to old.profile part to)
 
 -- only a marker finishes a game
-abbrev pub FinishesFinal : Judged → Reading → Result Accepted Stopped → Type 0
+abbrev pub FinishesFinal : Judged → Reading → Result Accepted Reason → Type 0
 FinishesFinal j new (Ok More) = Unit {0}
 FinishesFinal j new (Ok Finished) = IsTrue (is_final j) × (new.stage ≡ Between)
-FinishesFinal j new (Err stopped) = Unit {0}
+FinishesFinal j new (Err reason) = Unit {0}
 
 -- How many pairs were tried to write it. Where a write of the tag section failed, none was tried.
 pub data UnwrittenPairs (old : Reading) (i : Item) (before after : ℕ) : Type 0 where
   at_item : TriesItem old.profile.mode old.text i before after → UnwrittenPairs old i before after
   in_section : old.stage ≡ AfterTags → after ≡ before → UnwrittenPairs old i before after
 
-abbrev pub TriesJudged : Reading → Judged → Result Accepted Stopped → ℕ → ℕ → Type 0
+abbrev pub TriesJudged : Reading → Judged → Result Accepted Reason → ℕ → ℕ → Type 0
 TriesJudged old (InText (Put i)) (Ok accepted) before after =
     TriesItem old.profile.mode old.text (item_of i) before after
-TriesJudged old (InText (Put i)) (Err stopped) before after =
+TriesJudged old (InText (Put i)) (Err reason) before after =
     UnwrittenPairs old (item_of i) before after
 TriesJudged old j r before after = after ≡ before
 
 -- What putting comes to, for each part that the reader agrees with.
-pub record Puts (old : Reading) (j : Judged) (new : Reading) (r : Result Accepted Stopped)
+pub record Puts (old : Reading) (j : Judged) (new : Reading) (r : Result Accepted Reason)
     (d : Device) : Type 0 where
   pub goes : (part : Part) → Agrees old part → GoesTo old part (after j part) new r d
   pub keeps : Keeps old new

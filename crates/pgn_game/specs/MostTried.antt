@@ -4,7 +4,7 @@
 -- No order of search is stated. `Costs` says how many pairs find the move of a text, and
 -- `MarkPairs` of `chess_text` how many find the mark of its SAN: both are exact, but where a form
 -- has more moves than one, and where a check is no mate.
-use Rattle.std.specs.Prelude.{◌≡◌, ℕ, ◌+◌, max, Bool, true, false, ◌&&◌, ◌||◌, not, List, [], ◌∷◌, ◌==◌, length, drop, Option, None, Some, Result, Ok, Err}
+use Rattle.std.specs.Prelude.{◌≡◌, ℕ, ◌+◌, max, Bool, true, false, ◌&&◌, ◌||◌, not, List, [], ◌∷◌, ◌==◌, length, drop, Option, None, Some}
 use Rattle.chess_rules.specs.declared.position.Parts.{Parts}
 use Rattle.chess_text.specs.San.{MarkPairs, apart_pairs}
 use Rattle.pgn_lexer.specs.Tokens as tokens
@@ -13,9 +13,6 @@ use Rattle.pgn_game.specs.declared.mode.Mode.{Mode}
 use Rattle.pgn_game.specs.declared.mode.Mode.TheVariants.{Full, Reduced}
 use Rattle.pgn_game.specs.declared.stage.Stage.TheVariants.{InMovetext}
 use Rattle.pgn_game.specs.declared.reason.Reason.{Reason}
-use Rattle.pgn_game.specs.declared.accept.Accepted.{Accepted}
-use Rattle.pgn_game.specs.declared.accept.Stopped.{Stopped}
-use Rattle.pgn_game.specs.declared.accept.Stopped.TheVariants.{Refused, Unwritten}
 use Rattle.pgn_game.specs.Profile.{Profile}
 use Rattle.pgn_game.specs.Chess.{play}
 use Rattle.pgn_game.specs.Game.{Item, move, Part}
@@ -101,9 +98,3 @@ pub record Raises (IsTried : ℕ → Type 0) (old new : ℕ) : Type 0 where
   pub tried : ℕ
   pub allowed : IsTried tried
   pub most : new ≡ max old tried
-
--- the same, by what was answered to the token
-abbrev pub RaisesMost : Profile → Part → Kind → Result Accepted Stopped → ℕ → ℕ → Type 0
-RaisesMost p part k (Ok accepted) old new = Raises (Tries p part k) old new
-RaisesMost p part k (Err (Refused reason)) old new = Raises (Tries p part k) old new
-RaisesMost p part k (Err Unwritten) old new = Raises (TriesUnwritten p part k) old new

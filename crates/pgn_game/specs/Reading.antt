@@ -1,19 +1,18 @@
 -- **Bookkeeping**: what a contract sees of the reader of games, and what it does with one token.
 -- Letters: k is the kind of a token, g a game, r the answer of a call. `before` and `after` are the
 -- bytes that the sink has taken, before the call and after it, if it reports them.
-use Rattle.std.specs.Prelude.{◌≡◌, ℕ, ◌+◌, ◌<◌, ◌≤◌, nat_le, false, IsTrue, IsFalse, is_some, Bool, List, [], length, Option, None, Some, IsSomeAnd, Result, Ok, Err}
+use Rattle.std.specs.Prelude.{◌≡◌, ℕ, ◌+◌, ◌<◌, ◌≤◌, nat_le, false, IsTrue, is_some, Bool, true, List, [], length, Option, None, Some, IsSomeAnd, Result, Ok, Err}
 use Rattle.std.specs.List.{list_any}
 use Rattle.std.specs.Io.KnownBytes.{Appends}
 use Rattle.pgn_layout.specs.Device.{AppendsFront, one_more}
 use Rattle.pgn_layout.specs.Layout.{Layout, holding}
 use Rattle.pgn_lexer.specs.Tokens.{Kind}
 use Rattle.pgn_game.specs.declared.reason.Reason.{Reason}
+use Rattle.pgn_game.specs.declared.reason.Reason.TheVariants.{WriteFault}
 use Rattle.pgn_game.specs.declared.stage.Stage.{Stage}
 use Rattle.pgn_game.specs.declared.stage.Stage.TheVariants.{Between, AfterLeftBracket, AfterName, InMovetext}
 use Rattle.pgn_game.specs.declared.accept.Accepted.{Accepted}
 use Rattle.pgn_game.specs.declared.accept.Accepted.TheVariants.{More, Finished}
-use Rattle.pgn_game.specs.declared.accept.Stopped.{Stopped}
-use Rattle.pgn_game.specs.declared.accept.Stopped.TheVariants.{Refused, Unwritten}
 use Rattle.pgn_game.specs.Profile.{Profile}
 use Rattle.pgn_game.specs.Pairs.{has_pair}
 use Rattle.pgn_game.specs.Holding.{TagPairs}
@@ -25,6 +24,7 @@ use Rattle.pgn_game.specs.Reason.{number_of}
 use Rattle.pgn_game.specs.FaultTable.{refusal, marker_of}
 use Rattle.pgn_game.specs.Progress.{Next, going, whole, next}
 use Rattle.pgn_game.specs.Due.{gain}
+use Rattle.pgn_game.specs.MostTried.{Raises, Tries, TriesUnwritten}
 
 -- What is asked for, how far the game is, its pairs, its movetext, how many moves outside
 -- variations the games before it have, the most pairs tried for a move, and the line of movetext.
@@ -105,39 +105,54 @@ pub record IsAccepted (old : Reading) (part : Part) (k : Kind) (new : Reading) (
   pub leads : Leads (next part k) accepted new
   pub plies : whole_plies new ≡ whole_plies old + plies_next (next part k)
   pub appended : Appends before after (gain old.profile part k)
+  pub tried : Raises (Tries old.profile part k) old.most_probes new.most_probes
 
--- What the reader answers to a token after a part that it agrees with. A token that is not refused
--- leads on, and what it adds is appended, or a front of that where a write failed. A refused one
--- adds nothing.
-abbrev pub Answers : Reading → Part → Kind → Reading → Result Accepted Stopped → Option (List ℕ) → Option (List ℕ) → Type 0
+-- A token is not accepted: a row of the fault table refuses it, and nothing is appended; or a write
+-- failed, and a prefix of what the token adds was appended, and not all.
+pub data IsStopped (old : Reading) (part : Part) (k : Kind) (new : Reading)
+    (before after : Option (List ℕ)) : Reason → Type 0 where
+  refused : (reason : Reason) → refusal old.profile part k ≡ Some reason → Appends before after []
+      → Raises (Tries old.profile part k) old.most_probes new.most_probes
+      → IsStopped old part k new before after reason
+  unwritten : refusal old.profile part k ≡ None
+      → AppendsFront before after (gain old.profile part k)
+      → Raises (TriesUnwritten old.profile part k) old.most_probes new.most_probes
+      → IsStopped old part k new before after WriteFault
+
+-- What the reader answers to a token after a part that it agrees with.
+abbrev pub Answers : Reading → Part → Kind → Reading → Result Accepted Reason → Option (List ℕ)
+    → Option (List ℕ) → Type 0
 Answers old part k new (Ok accepted) before after = IsAccepted old part k new accepted before after
-Answers old part k new (Err (Refused reason)) before after = (refusal old.profile part k ≡ Some reason) × Appends before after []
-Answers old part k new (Err Unwritten) before after = (refusal old.profile part k ≡ None) × AppendsFront before after (gain old.profile part k)
+Answers old part k new (Err reason) before after = IsStopped old part k new before after reason
 
 -- so for every part
-abbrev pub Accepts : Reading → Kind → Reading → Result Accepted Stopped → Option (List ℕ) → Option (List ℕ) → Type 0
+abbrev pub Accepts : Reading → Kind → Reading → Result Accepted Reason → Option (List ℕ)
+    → Option (List ℕ) → Type 0
 Accepts old k new r before after = (part : Part) → Agrees old part → Answers old part k new r before after
 
 -- A token after which no game is begun, and that finished none, changes nothing.
-abbrev pub Stays : Reading → Reading → Result Accepted Stopped → Type 0
+abbrev pub Stays : Reading → Reading → Result Accepted Reason → Type 0
 Stays old new (Ok More) = new.stage ≡ Between → new ≡ old
 Stays old new (Ok Finished) = Unit {0}
-Stays old new (Err stopped) = Unit {0}
+Stays old new (Err reason) = Unit {0}
 
 -- only a marker finishes a game, and no game is begun then
-abbrev pub FinishesAtMarker : Kind → Reading → Result Accepted Stopped → Type 0
+abbrev pub FinishesAtMarker : Kind → Reading → Result Accepted Reason → Type 0
 FinishesAtMarker k new (Ok More) = Unit {0}
 FinishesAtMarker k new (Ok Finished) = IsTrue (is_some (marker_of k)) × (new.stage ≡ Between)
-FinishesAtMarker k new (Err stopped) = Unit {0}
+FinishesAtMarker k new (Err reason) = Unit {0}
 
 -- a reason that no token has: 50 to 53 tell of a device, of the input's length, or of a second
 -- reading
 abbrev pub is_outside_the_table : Reason → Bool
 is_outside_the_table reason = nat_le 50 (number_of reason)
 
--- A write that fails is counted, and nothing else is; and no token is refused for a reason that
--- none has.
-abbrev pub CountsWrites : Result Accepted Stopped → ℕ → ℕ → Type 0
+-- An error counts a failure exactly if it is a write that failed, and no other reason is outside
+-- the table.
+abbrev pub CountsStop : Bool → Reason → ℕ → ℕ → Type 0
+CountsStop false reason old new = new ≡ old
+CountsStop true reason old new = (reason ≡ WriteFault) × (new ≡ one_more old)
+
+abbrev pub CountsWrites : Result Accepted Reason → ℕ → ℕ → Type 0
 CountsWrites (Ok accepted) old new = new ≡ old
-CountsWrites (Err (Refused reason)) old new = (new ≡ old) × IsFalse (is_outside_the_table reason)
-CountsWrites (Err Unwritten) old new = new ≡ one_more old
+CountsWrites (Err reason) old new = CountsStop (is_outside_the_table reason) reason old new

@@ -11,20 +11,16 @@ use Rattle.pgn_lexer.specs.Standing.{Standing, waiting}
 use Rattle.pgn_lexer.specs.Stands.{HasLeft, Follows, IsDecided, first}
 use Rattle.pgn_game.specs.declared.stage.Stage.TheVariants.{Between}
 use Rattle.pgn_game.specs.declared.reason.Fault.{Fault}
-use Rattle.pgn_game.specs.declared.reason.Reason.TheVariants.{WriteFault}
+use Rattle.pgn_game.specs.declared.reason.Reason.{Reason}
 use Rattle.pgn_game.specs.declared.accept.Accepted.{Accepted}
-use Rattle.pgn_game.specs.declared.accept.Accepted.TheVariants as accepted
-use Rattle.pgn_game.specs.declared.accept.Stopped.{Stopped}
-use Rattle.pgn_game.specs.declared.accept.Stopped.TheVariants as stopped
+use Rattle.pgn_game.specs.declared.accept.Accepted.TheVariants.{More, Finished}
 use Rattle.pgn_game.specs.declared.converter.Fed.{Fed}
 use Rattle.pgn_game.specs.declared.converter.Fed.TheVariants.{All, Game as GameEnd}
-use Rattle.pgn_game.specs.declared.converter.Stepped.{Stepped}
-use Rattle.pgn_game.specs.declared.converter.Stepped.TheVariants.{NeedMore, More, Finished, Ended, Failed}
 use Rattle.pgn_game.specs.Profile.{Profile}
 use Rattle.pgn_game.specs.Game.{Game}
 use Rattle.pgn_game.specs.Progress.{read}
 use Rattle.pgn_game.specs.Due.{Gains}
-use Rattle.pgn_game.specs.Feeding.{Converter, held_by, hand_of, IsLast, HasRead, Stands, Stops, games_before, CountsAtStop, FedAll, FedGame, FedToFault, CountsReason}
+use Rattle.pgn_game.specs.Feeding.{Converter, held_by, hand_of, IsLast, HasRead, Stands, Stops, games_before, CountsAtStop, FedAll, FedGame, FedToFault}
 
 -- the games read with one token more: none more, or one
 abbrev pub SameGames : Profile → List Token → List Token → Type 0
@@ -40,16 +36,17 @@ pub record Took (p : Profile) (u : List ℕ) (given : List Token) (piece : List 
   pub ends : EndsAt t.kind t.at (length u + used)
   pub gains : Gains p given (given ++ t ∷ []) before after
 
--- What a step in a piece results in. `⊥` means never: no step in a piece is `Ended`.
-abbrev pub AfterStep : Profile → List ℕ → List Token → List ℕ → Converter → ℕ → Stepped → Option (List ℕ) → Option (List ℕ) → Type 0
-AfterStep p u given piece new used NeedMore before after =
+-- What a step in a piece results in.
+abbrev pub AfterStep : Profile → List ℕ → List Token → List ℕ → Converter → ℕ
+    → Result (Option Accepted) Fault → Option (List ℕ) → Option (List ℕ) → Type 0
+AfterStep p u given piece new used (Ok None) before after =
     (used ≡ length piece) × Stands p new (u ++ piece) None given × (given ≡ decided (u ++ piece)) × Gains p given given before after
-AfterStep p u given piece new used More before after =
+AfterStep p u given piece new used (Ok (Some More)) before after =
     (t : Token) × Took p u given piece used t new before after × SameGames p given (given ++ t ∷ [])
-AfterStep p u given piece new used Finished before after =
+AfterStep p u given piece new used (Ok (Some Finished)) before after =
     (t : Token) × Took p u given piece used t new before after × ((g : Game) × OneGame p given (given ++ t ∷ []) g × (new.at_hand ≡ Some (hand_of g)))
-AfterStep p u given piece new used Ended before after = ⊥
-AfterStep p u given piece new used (Failed f) before after = FedToFault p u None given piece f new.reading.most_probes before after
+AfterStep p u given piece new used (Err f) before after =
+    FedToFault p u None given piece f new.reading.most_probes before after
 
 -- Where no game is begun after a token, nothing has changed with it.
 abbrev pub StaysBetween : Converter → Converter → Type 0
@@ -75,14 +72,17 @@ pub record ClosedToFault (p : Profile) (given tokens : List Token) (f : Fault) (
   pub no_game : games_before stops ≡ (read p given).progress.games
   pub counts : CountsAtStop stops most
 
--- What a step after the last piece results in. `⊥` means never: none is `NeedMore`.
-abbrev pub AfterStepAtEnd : Profile → List ℕ → List Token → Converter → Converter → Stepped → Option (List ℕ) → Option (List ℕ) → Type 0
-AfterStepAtEnd p u given old new NeedMore before after = ⊥
-AfterStepAtEnd p u given old new More before after = (t : Token) × TookLast p u given t new before after × SameGames p given (given ++ t ∷ []) × StaysBetween old new
-AfterStepAtEnd p u given old new Finished before after =
+-- What a step after the last piece results in.
+abbrev pub AfterStepAtEnd : Profile → List ℕ → List Token → Converter → Converter
+    → Result (Option Accepted) Fault → Option (List ℕ) → Option (List ℕ) → Type 0
+AfterStepAtEnd p u given old new (Ok (Some More)) before after =
+    (t : Token) × TookLast p u given t new before after × SameGames p given (given ++ t ∷ []) × StaysBetween old new
+AfterStepAtEnd p u given old new (Ok (Some Finished)) before after =
     (t : Token) × TookLast p u given t new before after × ((g : Game) × OneGame p given (given ++ t ∷ []) g × (held_by new.reading ≡ hand_of g))
-AfterStepAtEnd p u given old new Ended before after = (t : Token) × TookEnd p u given t new before after × StaysBetween old new
-AfterStepAtEnd p u given old new (Failed f) before after = ClosedToFault p given (tokens_of u) f new.reading.most_probes before after
+AfterStepAtEnd p u given old new (Ok None) before after =
+    (t : Token) × TookEnd p u given t new before after × StaysBetween old new
+AfterStepAtEnd p u given old new (Err f) before after =
+    ClosedToFault p given (tokens_of u) f new.reading.most_probes before after
 
 -- What was read behind the last piece so far, and whether a game was finished there. It is still
 -- held while none is begun.
@@ -100,58 +100,49 @@ ClosesSoFar old now finished_game before after =
     (p : Profile) (u : List ℕ) (b : Option ℕ) (given : List Token) → Stands p old u b given → ClosedSoFar p u given now finished_game before after
 
 -- what an answer of the reader, to a token at this place, is for the converter
-abbrev pub stepped_of : ℕ → Result Accepted Stopped → Stepped
-stepped_of at (Ok accepted.More) = More
-stepped_of at (Ok accepted.Finished) = Finished
-stepped_of at (Err (stopped.Refused reason)) = Failed (record { at = at; reason = reason })
-stepped_of at (Err stopped.Unwritten) = Failed (record { at = at; reason = WriteFault })
+abbrev pub outcome_at : ℕ → Result Accepted Reason → Result (Option Accepted) Fault
+outcome_at at (Ok accepted) = Ok (Some accepted)
+outcome_at at (Err reason) = Err (record { at = at; reason = reason })
 
 -- whether a step finished a game
-abbrev pub finished_game : Stepped → Bool
-finished_game Finished = true
+abbrev pub finished_game : Result (Option Accepted) Fault → Bool
+finished_game (Ok (Some Finished)) = true
 finished_game _ = false
 
 -- whether it passed the end
-abbrev pub is_ended : Stepped → Bool
-is_ended Ended = true
+abbrev pub is_ended : Result (Option Accepted) Fault → Bool
+is_ended (Ok None) = true
 is_ended _ = false
 
 -- how many games there are with it
-abbrev pub games_after : Stepped → ℕ → ℕ
-games_after Finished games = games + 1
+abbrev pub games_after : Result (Option Accepted) Fault → ℕ → ℕ
+games_after (Ok (Some Finished)) games = games + 1
 games_after _ games = games
 
 -- the fault that is kept after a step
-abbrev pub fault_of_step : Stepped → Option Fault
-fault_of_step (Failed f) = Some f
-fault_of_step _ = None
+abbrev pub fault_of_step : Result (Option Accepted) Fault → Option Fault
+fault_of_step (Ok accepted) = None
+fault_of_step (Err f) = Some f
 
--- the end of the input told from other tokens
-abbrev pub closed_with : Bool → Stepped → Stepped
-closed_with true More = Ended
-closed_with is_end outcome = outcome
+-- the outcome behind the last piece, where the end is no token more
+abbrev pub closed_with : Bool → Result (Option Accepted) Fault → Result (Option Accepted) Fault
+closed_with is_end (Err f) = Err f
+closed_with true (Ok accepted) = Ok None
+closed_with false (Ok accepted) = Ok accepted
 
 -- A step without a token uses the whole piece; one with a token uses a byte, or the token was
 -- waiting.
-abbrev pub StepAdvances : Standing → List ℕ → Standing → ℕ → Stepped → Type 0
-StepAdvances old piece new used NeedMore = used ≡ length piece
-StepAdvances old piece new used More = waiting new < 2 * used + waiting old
-StepAdvances old piece new used Finished = waiting new < 2 * used + waiting old
-StepAdvances old piece new used Ended = ⊥
-StepAdvances old piece new used (Failed f) = Unit {0}
+abbrev pub StepAdvances : Standing → List ℕ → Standing → ℕ → Result (Option Accepted) Fault
+    → Type 0
+StepAdvances old piece new used (Ok None) = used ≡ length piece
+StepAdvances old piece new used (Ok (Some accepted)) = waiting new < 2 * used + waiting old
+StepAdvances old piece new used (Err f) = Unit {0}
 
 -- behind the last piece a token was waiting
-abbrev pub StepAtEndAdvances : Standing → Standing → Stepped → Type 0
-StepAtEndAdvances old new NeedMore = ⊥
-StepAtEndAdvances old new More = waiting new < waiting old
-StepAtEndAdvances old new Finished = waiting new < waiting old
-StepAtEndAdvances old new Ended = Unit {0}
-StepAtEndAdvances old new (Failed f) = Unit {0}
-
--- a write that failed is counted, nothing else
-abbrev pub CountsStep : Stepped → ℕ → ℕ → Type 0
-CountsStep (Failed f) old new = CountsReason f.reason old new
-CountsStep _ old new = new ≡ old
+abbrev pub StepAtEndAdvances : Standing → Standing → Result (Option Accepted) Fault → Type 0
+StepAtEndAdvances old new (Ok None) = Unit {0}
+StepAtEndAdvances old new (Ok (Some accepted)) = waiting new < waiting old
+StepAtEndAdvances old new (Err f) = Unit {0}
 
 -- the byte known to be next at a place of a piece that b was known to begin with
 abbrev pub next_at : Option ℕ → List ℕ → ℕ → Option ℕ

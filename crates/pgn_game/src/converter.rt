@@ -1,16 +1,22 @@
 //! Converts games in pieces of any length.
-ghost use Rattle.std.specs.Prelude.{◌≡◌, ℕ, List, is_some, is_ok, ◌+◌, ◌-◌, ◌≤◌, ◌<◌, ◌^◌, [], true, false, None, Some, IfOk, OnOk, OnErr, length, take};
+ghost use Rattle.std.specs.Prelude.{◌≡◌, ◌+◌, ◌-◌, ◌≤◌, ◌<◌, ◌^◌, ℕ, List, [], true, false};
+ghost use Rattle.std.specs.Prelude.{None, Some, is_some, Err, is_ok, IfOk, OnOk, OnErr, length, take};
 ghost use Rattle.std.specs.Option.{option_copied};
 ghost use Rattle.pgn_lexer.specs.Tokens.{Token};
 ghost use Rattle.pgn_lexer.specs.Stands.{first, HasLeft};
 ghost use Rattle.pgn_game.specs.declared.reason.Reason.TheVariants.{InputTooLong, Lexical};
-ghost use Rattle.pgn_game.specs.declared.converter.Stepped.TheVariants.{NeedMore, Failed};
 ghost use Rattle.pgn_game.specs.Profile.{Profile};
-ghost use Rattle.pgn_game.specs.Stepping.{FeedsFront, AfterStep, AfterStepAtEnd, StepAdvances, StepAtEndAdvances, CountsStep, stepped_of, games_after, fault_of_step, closed_with, finished_game as step_finished_game, is_ended as is_of_end};
-ghost use Rattle.pgn_game.specs.Feeding.{HasRead, Stands, Feeds, KeepsGames, FeedsAll, Ends, Again, KeepsFault, CountsFault, Advances, profile_of, used_of, value_at_hand, plies_at_hand, position_at_hand};
+ghost use Rattle.pgn_game.specs.Stepping.{FeedsFront, AfterStep, AfterStepAtEnd};
+ghost use Rattle.pgn_game.specs.Stepping.{StepAdvances, StepAtEndAdvances, outcome_at, games_after};
+ghost use Rattle.pgn_game.specs.Stepping.{fault_of_step, closed_with};
+ghost use Rattle.pgn_game.specs.Stepping.{finished_game as step_finished_game};
+ghost use Rattle.pgn_game.specs.Stepping.{is_ended as is_of_end};
+ghost use Rattle.pgn_game.specs.Feeding.{HasRead, Stands, Feeds, KeepsGames, FeedsAll, Ends};
+ghost use Rattle.pgn_game.specs.Feeding.{Again, KeepsFault, CountsFault, Advances, profile_of};
+ghost use Rattle.pgn_game.specs.Feeding.{used_of, value_at_hand, plies_at_hand, position_at_hand};
 ghost use Rattle.pgn_game.specs.Reading.{whole_plies};
 
-use crate::accept::{Accepted, Stopped};
+use crate::accept::Accepted;
 use crate::mode::Mode;
 use crate::reader::Reader;
 use crate::reason::{Fault, Reason};
@@ -32,26 +38,12 @@ pub enum Fed {
     Game(usize),
 }
 
-/// The result of one step.
-#[derive(Clone, Copy)]
-enum Stepped {
-    /// The piece is used up, and gave no token.
-    NeedMore,
-    /// A token was read that finished no game. More tokens may come.
-    More,
-    /// A token was read that finished a game.
-    Finished,
-    /// The end of the input was read.
-    Ended,
-    /// A token was rejected, or a write failed.
-    Failed(Fault),
-}
-
-/// The result of one step, and how many bytes of the piece it used.
+/// One step in a piece: how many of its bytes were used, and what the reader says of the token.
+/// There is none if the rest of the piece ends no token.
 #[derive(Clone, Copy)]
 struct Step {
     used: usize,
-    outcome: Stepped,
+    outcome: Result<Option<Accepted>, Fault>,
 }
 
 /// Converts games from import format to export format (PGN 3), in pieces of any length.
@@ -215,16 +207,14 @@ impl<const T: usize, const L: usize> Converter<T, L> {
         let mut finished_game = false;
         loop {
             match self.step_at_end(out) {
-                // Never: see `AfterStepAtEnd`.
-                Stepped::NeedMore => {}
-                Stepped::More => {}
-                Stepped::Finished => finished_game = true,
-                Stepped::Ended => {
-                    // `Ended` comes only between games.
+                Ok(Some(Accepted::More)) => {}
+                Ok(Some(Accepted::Finished)) => finished_game = true,
+                Ok(None) => {
+                    // The end is accepted only between games.
                     self.has_finished_game = finished_game && self.reader.is_between();
                     return Ok(finished_game);
                 }
-                Stepped::Failed(fault) => return Err(fault),
+                Err(fault) => return Err(fault),
             }
         }
     }
@@ -331,12 +321,10 @@ impl<const T: usize, const L: usize> Converter<T, L> {
             let step = self.step(&piece[at..], out);
             at += step.used;
             match step.outcome {
-                Stepped::NeedMore => return Ok(Fed::All),
-                Stepped::More => {}
-                Stepped::Finished => return Ok(Fed::Game(at)),
-                // Never: see `AfterStep`.
-                Stepped::Ended => return Ok(Fed::All),
-                Stepped::Failed(fault) => return Err(fault),
+                Ok(None) => return Ok(Fed::All),
+                Ok(Some(Accepted::More)) => {}
+                Ok(Some(Accepted::Finished)) => return Ok(Fed::Game(at)),
+                Err(fault) => return Err(fault),
             }
         }
         Ok(Fed::All)
@@ -361,14 +349,14 @@ impl<const T: usize, const L: usize> Converter<T, L> {
         ensures probes { self.old.reading.most_probes ≤ self.new.reading.most_probes }
         ensures hand { is_some self.new.at_hand ≡ step_finished_game result.outcome }
         ensures going { self.new.is_finished ≡ self.old.is_finished }
-        ensures counted { CountsStep result.outcome (W.failures out.old) (W.failures out.new) }
+        ensures counted { CountsFault result.outcome (W.failures out.old) (W.failures out.new) }
     {
         let scan = self.lexer.next(piece);
         let used = scan.used;
         match scan.outcome {
             Outcome::NeedMore => Step {
                 used,
-                outcome: Stepped::NeedMore,
+                outcome: Ok(None),
             },
             Outcome::Token(token) => {
                 let at = token.at;
@@ -384,9 +372,8 @@ impl<const T: usize, const L: usize> Converter<T, L> {
         }
     }
 
-    /// Takes the next of the tokens that are left after the last piece. The end of the input is the
-    /// last one.
-    fn step_at_end<W: Sink>(&mut self, out: &mut W) -> Stepped
+    /// Takes the next of the tokens that are left after the last piece; `None` is the end.
+    fn step_at_end<W: Sink>(&mut self, out: &mut W) -> Result<Option<Accepted>, Fault>
         requires no_fault { self.old.fault ≡ None }
         requires going { self.old.is_finished ≡ false }
         requires hand { self.old.at_hand ≡ None }
@@ -400,10 +387,11 @@ impl<const T: usize, const L: usize> Converter<T, L> {
         ensures probes { self.old.reading.most_probes ≤ self.new.reading.most_probes }
         ensures hand { self.new.at_hand ≡ None }
         ensures finished { self.new.is_finished ≡ is_of_end result }
-        ensures counted { CountsStep result (W.failures out.old) (W.failures out.new) }
+        ensures counted { CountsFault result (W.failures out.old) (W.failures out.new) }
     {
         match self.lexer.finish() {
-            Outcome::NeedMore => Stepped::NeedMore,
+            // Never: `finish` gives a token or a fault.
+            Outcome::NeedMore => Ok(None),
             Outcome::Token(token) => {
                 let at = token.at;
                 let is_end = is_end(token.kind);
@@ -445,37 +433,33 @@ fn too_long(kept: &mut Option<Fault>) -> Fault
 // fault.
 fn settle(
     at: u64,
-    accepted: Result<Accepted, Stopped>,
+    accepted: Result<Accepted, Reason>,
     games: &mut u64,
     fault: &mut Option<Fault>,
-) -> Stepped
+) -> Result<Option<Accepted>, Fault>
     requires few { games.old < 2 ^ 64 - 1 }
     requires going { fault.old ≡ None }
-    ensures outcome { result ≡ stepped_of at accepted }
+    ensures outcome { result ≡ outcome_at at accepted }
     ensures games { games.new ≡ games_after result games.old }
     ensures fault { fault.new ≡ fault_of_step result }
 {
     match accepted {
-        Ok(Accepted::More) => Stepped::More,
+        Ok(Accepted::More) => Ok(Some(Accepted::More)),
         Ok(Accepted::Finished) => {
             *games += 1;
-            Stepped::Finished
+            Ok(Some(Accepted::Finished))
         }
-        Err(Stopped::Refused(reason)) => fail(Fault { at, reason }, fault),
-        Err(Stopped::Unwritten) => {
-            let reason = Reason::WriteFault;
-            fail(Fault { at, reason }, fault)
-        }
+        Err(reason) => fail(Fault { at, reason }, fault),
     }
 }
 
 // Keeps the fault.
-fn fail(fault: Fault, kept: &mut Option<Fault>) -> Stepped
-    ensures outcome { result ≡ Failed fault }
+fn fail(fault: Fault, kept: &mut Option<Fault>) -> Result<Option<Accepted>, Fault>
+    ensures outcome { result ≡ Err fault }
     ensures kept { kept.new ≡ Some fault }
 {
     *kept = Some(fault);
-    Stepped::Failed(fault)
+    Err(fault)
 }
 
 // A fault of the lexer as a fault of the converter.
@@ -489,36 +473,39 @@ fn lexical(fault: LexFault) -> Fault
 }
 
 // Whether the step finished a game.
-fn finished_game(outcome: Stepped) -> bool
+fn finished_game(outcome: Result<Option<Accepted>, Fault>) -> bool
     ensures { result ≡ step_finished_game outcome }
 {
     match outcome {
-        Stepped::Finished => true,
+        Ok(Some(Accepted::Finished)) => true,
         _ => false,
     }
 }
 
 // Whether the step read the end of the input.
-fn is_ended(outcome: Stepped) -> bool
+fn is_ended(outcome: Result<Option<Accepted>, Fault>) -> bool
     ensures { result ≡ is_of_end outcome }
 {
     match outcome {
-        Stepped::Ended => true,
+        Ok(None) => true,
         _ => false,
     }
 }
 
-// The result of a step at the end of the input: `More` with the end itself is `Ended`.
-fn close_with(is_end: bool, outcome: Stepped) -> Stepped
+// The result of a step at the end of the input, where the end itself is no token more.
+fn close_with(
+    is_end: bool,
+    outcome: Result<Option<Accepted>, Fault>,
+) -> Result<Option<Accepted>, Fault>
     ensures { result ≡ closed_with is_end outcome }
 {
     match outcome {
-        Stepped::More => {
+        Ok(_) => {
             if is_end {
-                return Stepped::Ended;
+                return Ok(None);
             }
-            Stepped::More
+            outcome
         }
-        _ => outcome,
+        Err(_) => outcome,
     }
 }

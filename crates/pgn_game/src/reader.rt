@@ -16,18 +16,16 @@ ghost use Rattle.pgn_game.specs.declared.stage.Stage.TheVariants.{InMovetext};
 ghost use Rattle.pgn_game.specs.declared.judged.Judged.TheVariants.{Entry as InText};
 ghost use Rattle.pgn_game.specs.Profile.{counts_as, known_result};
 ghost use Rattle.pgn_game.specs.Movetext.{begins_at};
-ghost use Rattle.pgn_game.specs.Reading.{Accepts, Agrees, Stays, FinishesAtMarker, CountsWrites};
+ghost use Rattle.pgn_game.specs.Reading.{Accepts, Stays, FinishesAtMarker, CountsWrites};
 ghost use Rattle.pgn_game.specs.Judging.{Counts, Finds, Fits, Judges, JudgesEntry, Seeks, may_have_movetext};
 ghost use Rattle.pgn_game.specs.Judging.{fen_position as position_in_fen};
 ghost use Rattle.pgn_game.specs.Putting.{device};
 ghost use Rattle.pgn_game.specs.Handling.{BeginsText, Puts, TriesJudged, begins, readied};
-ghost use Rattle.pgn_game.specs.MostTried.{RaisesMost};
-ghost use Rattle.pgn_game.specs.Game.{Part};
 ghost use Rattle.pgn_game.specs.FaultTable.{is_result as is_any_result, is_score as is_of_score};
 ghost use Rattle.pgn_game.specs.FaultTable.{is_number as is_of_number, is_reduced};
 ghost use Rattle.pgn_game.specs.FaultTable.{lacks_fen as set_up_lacks_fen, marker_of};
 
-use crate::accept::{Accepted, Stopped};
+use crate::accept::Accepted;
 use crate::find::find_move;
 use crate::judged::{Entry, Item, Judged};
 use crate::marker::Marker;
@@ -165,7 +163,7 @@ impl<const T: usize, const L: usize> Reader<T, L> {
     /// Takes one token, and writes what it adds to the text of its game. After an `Err` no call may
     /// follow.
     #[inline(always)]
-    pub fn accept<W: Sink>(&mut self, kind: TokenKind<'_>, out: &mut W) -> Result<Accepted, Stopped>
+    pub fn accept<W: Sink>(&mut self, kind: TokenKind<'_>, out: &mut W) -> Result<Accepted, Reason>
         requires going { self.old.layout.has_failed ≡ false }
         requires few { self.old.earlier_plies + self.old.text.plies < 2 ^ 64 - 1 }
         requires token { HasLength (kind_of kind) }
@@ -179,16 +177,13 @@ impl<const T: usize, const L: usize> Reader<T, L> {
         ensures plies { self.new.earlier_plies + self.new.text.plies
             ≤ self.old.earlier_plies + self.old.text.plies + 1 }
         ensures probes { self.old.most_probes ≤ self.new.most_probes }
-        ensures tried { (part : Part) → Agrees self.old part
-            → RaisesMost self.old.profile part (kind_of kind.entry) result
-            self.old.most_probes self.new.most_probes }
     {
         self.make_ready(kind);
         let mut probes = Probes::new();
         let found = self.find(kind, &mut probes);
         match self.judge(kind, &found) {
             Ok(judged) => self.put(&judged, &mut probes, out),
-            Err(reason) => Err(Stopped::Refused(reason)),
+            Err(reason) => Err(reason),
         }
     }
 
@@ -495,7 +490,7 @@ impl<const T: usize, const L: usize> Reader<T, L> {
         judged: &Judged<'_>,
         probes: &mut Probes,
         out: &mut W,
-    ) -> Result<Accepted, Stopped>
+    ) -> Result<Accepted, Reason>
         requires going { self.old.layout.has_failed ≡ false }
         requires counted { self.old.text.plies < 2 ^ 64 - 1 }
         requires fits { Fits T L self.old judged.now }
@@ -539,7 +534,7 @@ impl<const T: usize, const L: usize> Reader<T, L> {
         entry: &Entry<'_>,
         probes: &mut Probes,
         out: &mut W,
-    ) -> Result<Accepted, Stopped>
+    ) -> Result<Accepted, Reason>
         requires going { self.old.layout.has_failed ≡ false }
         requires counted { self.old.text.plies < 2 ^ 64 - 1 }
         requires fits { Fits T L self.old (InText entry.now) }

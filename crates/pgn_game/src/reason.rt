@@ -4,6 +4,7 @@ ghost use Rattle.pgn_game.specs.Reason.{number_of, words_of, line_of, lexical_nu
 
 use arrayvec::ArrayVec;
 use itoa::Buffer;
+use pgn_layout::WriteFault;
 use pgn_lexer::LexReason;
 
 /// Why an input is rejected.
@@ -66,6 +67,16 @@ pub enum Reason {
     InputTooLong,
     /// 53: the second reading of an input differs from the first; no call reports it today.
     Changed,
+}
+
+impl From<WriteFault> for Reason {
+    ghost use Rattle.pgn_game.specs.declared.reason.Reason.TheVariants as reasons;
+
+    ghost from_gives = { λ _ reason. reason ≡ reasons.WriteFault };
+
+    fn from(_fault: WriteFault) -> Reason {
+        Reason::WriteFault
+    }
 }
 
 impl Reason {

@@ -1,4 +1,6 @@
 use Rattle.std.proofs.Common.{◌≡◌, ℕ, ◌+◌, ◌-◌, length, take, drop, arith, refl, sym, ap, subst, ◌∙◌, length-drop, le_refl}
+use Rattle.std.specs.Prelude.{Ok, None, Some}
+use Rattle.pgn_game.specs.declared.accept.Accepted.TheVariants.{More, Finished}
 use Rattle.std.proofs.Math.Nat.{add_assoc}
 use Rattle.std.proofs.lemmas.List.{take_rest}
 use Rattle.pgn_lexer.specs.Standing.{waiting}
@@ -38,14 +40,16 @@ step-step-requires g c =
       ),
     )
 
-pub returns-in-NeedMore : goal.returns-in-NeedMore
-returns-in-NeedMore g c =
+pub returns-in-Ok-None : goal.returns-in-Ok-None
+returns-in-Ok-None g c =
+    let read : c.step-step.result.outcome ≡ Ok c.in-Ok-None.field-0 = c.in-Ok-None.is in
+    let is : c.step-step.result.outcome ≡ Ok None = read ∙ ap Ok (rw read at c.in-Ok-None.field-0-is) in
     let so = c.loop-at.invariant in
     let step = c.step-step.ensures in
-    let after = rw (c.in-NeedMore.is, take_rest) at step.after in
-    let advances = rw (c.in-NeedMore.is, take_rest) at step.advances in
-    let counted = rw c.in-NeedMore.is at step.counted in
-    let none = none_at_hand _ (rw c.in-NeedMore.is at step.hand) in
+    let after = rw (is, take_rest) at step.after in
+    let advances = rw (is, take_rest) at step.advances in
+    let counted = rw is at step.counted in
+    let none = none_at_hand _ (rw is at step.hand) in
     record {
       used = le_refl _;
       feeds = λ p u b given stands follows.
@@ -55,32 +59,38 @@ returns-in-NeedMore g c =
       count = omega (arith, advances, step.count, so.count, length-drop c.loop-at.at c.args.piece.now, c.loop-at-test.true);
       advances = tt;
       going = step.going ∙ so.going;
-      fault = rw c.in-NeedMore.is at step.fault;
-      games = (rw c.in-NeedMore.is at step.games ∙ so.games, none);
+      fault = rw is at step.fault;
+      games = (rw is at step.games ∙ so.games, none);
       probes = omega (arith, step.probes, so.probes);
       counted = counted ∙ so.counted;
     }
 
 pub loop-at-smaller : goal.loop-at-smaller
 loop-at-smaller g c =
-    let advances = rw c.in-More.is at c.step-step.ensures.advances in
+    let read : c.step-step.result.outcome ≡ Ok c.in-Ok-Some-More.field-0 = c.in-Ok-Some-More.is in
+    let some : c.in-Ok-Some-More.field-0 ≡ Some c.in-Ok-Some-More.field-0-0 = rw read at c.in-Ok-Some-More.field-0-is in
+    let is : c.step-step.result.outcome ≡ Ok (Some More) = read ∙ ap Ok (some ∙ ap Some (rw (read, some) at c.in-Ok-Some-More.field-0-0-is)) in
+    let advances = rw is at c.step-step.ensures.advances in
     let used = rw take_rest at c.step-step.ensures.used in
     omega (arith, advances, used, length-drop c.loop-at.at c.args.piece.now, c.loop-at-test.true)
 
 pub loop-at-preserved : goal.loop-at-preserved
 loop-at-preserved g c =
-    let advances = rw c.in-More.is at c.step-step.ensures.advances in
+    let read : c.step-step.result.outcome ≡ Ok c.in-Ok-Some-More.field-0 = c.in-Ok-Some-More.is in
+    let some : c.in-Ok-Some-More.field-0 ≡ Some c.in-Ok-Some-More.field-0-0 = rw read at c.in-Ok-Some-More.field-0-is in
+    let is : c.step-step.result.outcome ≡ Ok (Some More) = read ∙ ap Ok (some ∙ ap Some (rw (read, some) at c.in-Ok-Some-More.field-0-0-is)) in
+    let advances = rw is at c.step-step.ensures.advances in
     let used = rw take_rest at c.step-step.ensures.used in
-    let counted = rw c.in-More.is at c.step-step.ensures.counted in
-    let fault = rw c.in-More.is at c.step-step.ensures.fault in
-    let after = rw (c.in-More.is, take_rest) at c.step-step.ensures.after in
+    let counted = rw is at c.step-step.ensures.counted in
+    let fault = rw is at c.step-step.ensures.fault in
+    let after = rw (is, take_rest) at c.step-step.ensures.after in
     record {
       within = omega (arith, used, length-drop c.loop-at.at c.args.piece.now, c.loop-at-test.true);
       count = omega (arith, c.step-step.ensures.count, c.loop-at.invariant.count);
       goes = omega (arith, advances, c.loop-at.invariant.goes);
       fault = fault;
-      games = rw c.in-More.is at c.step-step.ensures.games ∙ c.loop-at.invariant.games;
-      hand = none_at_hand _ (rw c.in-More.is at c.step-step.ensures.hand);
+      games = rw is at c.step-step.ensures.games ∙ c.loop-at.invariant.games;
+      hand = none_at_hand _ (rw is at c.step-step.ensures.hand);
       going = c.step-step.ensures.going ∙ c.loop-at.invariant.going;
       probes = omega (arith, c.step-step.ensures.probes, c.loop-at.invariant.probes);
       counted = counted ∙ c.loop-at.invariant.counted;
@@ -90,14 +100,17 @@ loop-at-preserved g c =
           (after p _ _ (stands_here p u b given c.args.piece.now c.loop-at.at _ _ _ so c.loop-at-test.true));
     }
 
-pub returns-in-Finished : goal.returns-in-Finished
-returns-in-Finished g c =
+pub returns-in-Ok-Some-Finished : goal.returns-in-Ok-Some-Finished
+returns-in-Ok-Some-Finished g c =
+    let read : c.step-step.result.outcome ≡ Ok c.in-Ok-Some-Finished.field-0 = c.in-Ok-Some-Finished.is in
+    let some : c.in-Ok-Some-Finished.field-0 ≡ Some c.in-Ok-Some-Finished.field-0-0 = rw read at c.in-Ok-Some-Finished.field-0-is in
+    let is : c.step-step.result.outcome ≡ Ok (Some Finished) = read ∙ ap Ok (some ∙ ap Some (rw (read, some) at c.in-Ok-Some-Finished.field-0-0-is)) in
     let so = c.loop-at.invariant in
     let step = c.step-step.ensures in
-    let after = rw (c.in-Finished.is, take_rest) at step.after in
-    let advances = rw c.in-Finished.is at step.advances in
+    let after = rw (is, take_rest) at step.after in
+    let advances = rw is at step.advances in
     let used = rw take_rest at step.used in
-    let counted = rw c.in-Finished.is at step.counted in
+    let counted = rw is at step.counted in
     record {
       used = omega (arith, used, length-drop c.loop-at.at c.args.piece.now, c.loop-at-test.true);
       feeds = λ p u b given stands follows.
@@ -109,35 +122,32 @@ returns-in-Finished g c =
           ∙ add_assoc c.args.self.now.lexer.count c.loop-at.at c.step-step.result.used;
       advances = omega (arith, advances, so.goes);
       going = step.going ∙ so.going;
-      fault = rw c.in-Finished.is at step.fault;
+      fault = rw is at step.fault;
       games = tt;
       probes = omega (arith, step.probes, so.probes);
       counted = counted ∙ so.counted;
     }
 
-pub returns-in-Ended : goal.returns-in-Ended
-returns-in-Ended g c = absurd (rw c.in-Ended.is at c.step-step.ensures.advances)
-
-pub returns-in-Failed : goal.returns-in-Failed
-returns-in-Failed g c =
+pub returns-in-Err : goal.returns-in-Err
+returns-in-Err g c =
     let so = c.loop-at.invariant in
     let step = c.step-step.ensures in
-    let after = rw (c.in-Failed.is, take_rest) at step.after in
-    let counted = rw c.in-Failed.is at step.counted in
+    let after = rw (c.in-Err.is, take_rest) at step.after in
+    let counted = rw c.in-Err.is at step.counted in
     record {
       used = tt;
       feeds = λ p u b given stands follows.
           let here = so.feeds p u b given stands follows in
           fed_fault p u b given c.args.piece.now c.loop-at.at _ _ _ _ here c.loop-at-test.true
-          c.step-step.new.self c.step-step.result.used c.in-Failed.fault
+          c.step-step.new.self c.step-step.result.used c.in-Err.fault
           (after p _ _ (stands_here p u b given c.args.piece.now c.loop-at.at _ _ _ here c.loop-at-test.true));
       count = tt;
       advances = tt;
       going = step.going ∙ so.going;
-      fault = rw c.in-Failed.is at step.fault;
-      games = (rw c.in-Failed.is at step.games ∙ so.games, none_at_hand _ (rw c.in-Failed.is at step.hand));
+      fault = rw c.in-Err.is at step.fault;
+      games = (rw c.in-Err.is at step.games ∙ so.games, none_at_hand _ (rw c.in-Err.is at step.hand));
       probes = omega (arith, step.probes, so.probes);
-      counted = counts_step c.in-Failed.fault.reason _ _ _ so.counted counted;
+      counted = counts_step c.in-Err.fault.reason _ _ _ so.counted counted;
     }
 
 pub returns : goal.returns

@@ -24,7 +24,7 @@ returns-in-Token-clause-after g c p u given stands =
     rw (c.settle-outcome.ensures.outcome, c.finished_game-self-inside.ensures, c.settle-outcome.ensures.games, c.settle-outcome.ensures.fault, c.settle-outcome.ensures.outcome)
     (took p _ u given c.args.piece.now _ _ c.next-scan.follows.lender-at-none c.accept-accepted.new.self c.self.inside.is_finished _ _ c.accept-accepted.result
     here (carries u _ given here.lexer (follows_own c.args.piece.now)) ends scans.count c.accept-accepted.ensures.profile c.accept-accepted.ensures.probes
-    (c.accept-accepted.ensures.accepts _ here.has_read.agrees) (c.accept-accepted.ensures.tried _ here.has_read.agrees))
+    (c.accept-accepted.ensures.accepts _ here.has_read.agrees))
 
 pub returns-in-Fault-clause-after : goal.returns-in-Fault-clause-after
 returns-in-Fault-clause-after g c p u given stands =

@@ -4,7 +4,7 @@ use Rattle.pgn_lexer.specs.Scanned.{kind_of}
 use Rattle.pgn_lexer.specs.Stands.{HasLeft}
 use Rattle.pgn_game.proofs.AtEnd.{sound_behind_fault, closes_sooner, closes, closes_fault, left_by, not_at_hand, fault_of_closed, games_of_closed, counts_closed, counts_token, nearer_by, sound_behind}
 use Rattle.pgn_game.specs.FaultTable.{is_end}
-use Rattle.pgn_game.specs.Stepping.{games_after, stepped_of, closed_with, StepAtEndAdvances}
+use Rattle.pgn_game.specs.Stepping.{games_after, outcome_at, closed_with, StepAtEndAdvances}
 use Rattle.pgn_game.proofs.Sizes.{fits_reader}
 use Rattle.pgn_game.proofs.converter.Converter.step_at_end.Goals as goal
 
@@ -18,15 +18,16 @@ returns-in-Token-clause-after g c p u given left has_read =
     rw (c.close_with-closed.ensures, c.settle-outcome.ensures.fault, c.settle-outcome.ensures.games, c.settle-outcome.ensures.outcome, c.is_end-is_end.ensures, flag, ← c.self.view_is)
     (closes p _ u given _ c.finish.follows.lender-at-none c.accept-accepted.new.self c.is_ended-self-inside.result _ _ _ c.accept-accepted.result refl
     here (left_by u given _ c.finish.follows.lender-at-none _ (left_behind u given left_here)) c.accept-accepted.ensures.profile c.accept-accepted.ensures.probes
-    (c.accept-accepted.ensures.accepts _ here.agrees) (c.accept-accepted.ensures.tried _ here.agrees) c.accept-accepted.ensures.stays c.accept-accepted.ensures.finished)
+    (c.accept-accepted.ensures.accepts _ here.agrees) c.accept-accepted.ensures.stays c.accept-accepted.ensures.finished)
 
 pub returns-in-Token-clause-fault : goal.returns-in-Token-clause-fault
 returns-in-Token-clause-fault g c = rw c.close_with-closed.ensures (c.settle-outcome.ensures.fault ∙ fault_of_closed c.is_end-is_end.result c.settle-outcome.result)
 
 pub returns-in-Token-clause-games : goal.returns-in-Token-clause-games
 returns-in-Token-clause-games g c =
-    rw c.close_with-closed.ensures (c.settle-outcome.ensures.games ∙ games_of_closed c.is_end-is_end.result c.settle-outcome.result _)
-    ∙ ap (games_after c.close_with-closed.result) (ap (λ (s : Converter). s.games) c.self.view_is)
+    rw (c.close_with-closed.ensures, c.settle-outcome.ensures.games, c.settle-outcome.ensures.outcome, c.is_end-is_end.ensures)
+    (ap (games_after (outcome_at c.in-Token.token.at c.accept-accepted.result)) (ap (λ (s : Converter). s.games) c.self.view_is)
+    ∙ games_of_closed _ c.accept-accepted.new.self c.in-Token.token.at _ c.accept-accepted.result _ refl c.accept-accepted.ensures.finished)
 
 pub returns-in-Token-clause-counted : goal.returns-in-Token-clause-counted
 returns-in-Token-clause-counted g c =
@@ -71,7 +72,7 @@ returns-in-Token-clause-advances g c =
     let gives = rw c.in-Token.is at c.finish.follows.holds-at-none.closes in
     let near = nearer_by _ c.self.inside.lexer c.finish.follows.lender-at-none _ gives in
     rw (c.close_with-closed.ensures, c.settle-outcome.ensures.outcome, c.is_end-is_end.ensures)
-    (subst (λ (s : Converter). StepAtEndAdvances s.lexer c.finish.follows.lender-at-none (closed_with (is_end (kind_of c.in-Token.token.kind)) (stepped_of c.in-Token.token.at c.accept-accepted.result))) c.self.view_is
+    (subst (λ (s : Converter). StepAtEndAdvances s.lexer c.finish.follows.lender-at-none (closed_with (is_end (kind_of c.in-Token.token.kind)) (outcome_at c.in-Token.token.at c.accept-accepted.result))) c.self.view_is
     (closes_sooner c.self.inside.lexer c.finish.follows.lender-at-none c.accept-accepted.new.self c.in-Token.token.at _ _ c.accept-accepted.result refl near c.accept-accepted.ensures.finished))
 
 pub returns-in-Token-clause-finished : goal.returns-in-Token-clause-finished

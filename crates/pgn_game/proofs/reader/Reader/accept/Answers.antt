@@ -1,9 +1,10 @@
-use Rattle.std.proofs.Common.{refl, ap, ◌∙◌, arith}
+use Rattle.std.proofs.Common.{ap, ◌∙◌, arith}
 use Rattle.std.proofs.KnownBytes.{Appends-nil}
 use Rattle.pgn_lexer.specs.Scanned.{kind_of}
+use Rattle.pgn_game.specs.Reading as reading
 use Rattle.pgn_game.specs.Judging.{after}
 use Rattle.pgn_game.proofs.Sizes.{reader_alike}
-use Rattle.pgn_game.proofs.Accepting.{accepted, refused, keeps_found, stays_found, finishes_at_marker}
+use Rattle.pgn_game.proofs.Accepting.{accepted, refused, counts_refused, keeps_found, stays_found, finishes_at_marker}
 use Rattle.pgn_game.proofs.TriedPairs.{raises, raises_refused}
 use Rattle.pgn_game.proofs.reader.Reader.accept.Goals as goal
 
@@ -35,7 +36,10 @@ returns-in-Ok g c =
     record {
       accepts = λ part agrees.
           accepted c.args.self.now c.make_ready.new.self c.find-found.new.self c.put.new.self part c.args.kind (after c.in-Ok.judged) c.put.result _ agrees c.make_ready.ensures
-          c.find-found.ensures.counted c.in-Ok.ensures.judges puts.goes;
+          c.find-found.ensures.counted c.in-Ok.ensures.judges puts.goes
+          (raises g.row.T g.row.L c.args.self.now c.make_ready.new.self c.find-found.new.self part c.args.kind _ agrees c.make_ready.ensures c.find-found.ensures.counted keeps.ready
+          c.find-found.ensures.tried c.find-found.ensures.most c.put.new.self c.in-Ok.judged c.put.result _ _ c.in-Ok.ensures.judges c.in-Ok.ensures.fits puts.goes
+          c.put.ensures.tried c.put.ensures.most);
       profile = puts.keeps.profile ∙ keeps.profile;
       stays = stays_found c.args.self.now c.find-found.new.self c.put.new.self (kind_of c.args.kind) c.put.result keeps puts.stays;
       going = puts.going;
@@ -43,31 +47,23 @@ returns-in-Ok g c =
       counted = puts.counted;
       plies = omega (arith, puts.keeps.plies, keeps.plies);
       probes = omega (arith, puts.keeps.probes, keeps.probes);
-      tried = λ part agrees.
-          raises g.row.T g.row.L c.args.self.now c.make_ready.new.self c.find-found.new.self part c.args.kind _ agrees c.make_ready.ensures c.find-found.ensures.counted keeps.ready
-          c.find-found.ensures.tried c.find-found.ensures.most c.put.new.self c.in-Ok.judged c.put.result _ _ c.in-Ok.ensures.judges c.in-Ok.ensures.fits puts.goes
-          c.put.ensures.tried c.put.ensures.most;
     }
 
 pub returns-in-Err : goal.returns-in-Err
 returns-in-Err g c =
     let keeps = keeps_found c.args.self.now c.make_ready.new.self c.find-found.new.self (kind_of c.args.kind) c.make_ready.ensures c.find-found.ensures.counted in
     record {
-      accepts = λ part agrees. (
-        refused c.args.self.now c.make_ready.new.self c.find-found.new.self part c.args.kind c.in-Err.reason agrees c.make_ready.ensures c.find-found.ensures.counted
-            c.in-Err.ensures.judges,
-        Appends-nil _,
-      );
+      accepts = λ part agrees.
+          let some = refused c.args.self.now c.make_ready.new.self c.find-found.new.self part c.args.kind c.in-Err.reason agrees c.make_ready.ensures c.find-found.ensures.counted
+          c.in-Err.ensures.judges in
+          reading.refused c.in-Err.reason some (Appends-nil _)
+          (raises_refused g.row.T g.row.L c.args.self.now c.make_ready.new.self c.find-found.new.self part c.args.kind _ agrees c.make_ready.ensures c.find-found.ensures.counted keeps.ready
+          c.find-found.ensures.tried c.find-found.ensures.most c.in-Err.reason some);
       profile = keeps.profile;
       stays = tt;
       going = tt;
       finished = tt;
-      counted = (refl, c.in-Err.ensures.fits);
+      counted = counts_refused c.in-Err.reason _ c.in-Err.ensures.fits;
       plies = omega (arith, keeps.plies);
       probes = keeps.probes;
-      tried = λ part agrees.
-          raises_refused g.row.T g.row.L c.args.self.now c.make_ready.new.self c.find-found.new.self part c.args.kind _ agrees c.make_ready.ensures c.find-found.ensures.counted keeps.ready
-          c.find-found.ensures.tried c.find-found.ensures.most c.in-Err.reason
-          (refused c.args.self.now c.make_ready.new.self c.find-found.new.self part c.args.kind c.in-Err.reason agrees c.make_ready.ensures c.find-found.ensures.counted
-          c.in-Err.ensures.judges);
     }
