@@ -1,5 +1,5 @@
 //! Converts games in pieces of any length.
-ghost use Rattle.std.specs.Prelude.{◌≡◌, ◌+◌, ◌-◌, ◌≤◌, ◌<◌, ◌^◌, ℕ, List, [], true, false};
+ghost use Rattle.std.specs.Prelude.{◌≡◌, ◌+◌, ◌-◌, ◌≤◌, ◌<◌, ◌^◌, ℕ, List, [], false};
 ghost use Rattle.std.specs.Prelude.{None, Some, is_some, Err, is_ok, IfOk, OnOk, OnErr, length, take};
 ghost use Rattle.std.specs.Option.{option_copied};
 ghost use Rattle.pgn_lexer.specs.Tokens.{Token};
@@ -266,7 +266,7 @@ impl<const T: usize, const L: usize> Converter<T, L> {
         self.reader.most_probes()
     }
 
-    // How many moves outside variations the finished games have together.
+    // Returns the number of moves outside variations of all finished games.
     pub(crate) fn whole_plies(&self) -> u64
         requires { self.now.fault ≡ None }
         ensures { result ≡ whole_plies self.now.reading }
@@ -406,7 +406,7 @@ impl<const T: usize, const L: usize> Converter<T, L> {
     }
 }
 
-// The bytes of the piece before place 2^62, after so many bytes before the piece.
+// Returns the bytes of the piece that are before place 2^62; `count` bytes came before the piece.
 fn within_limit(count: u64, piece: &[u8]) -> &[u8]
     requires { count ≤ 2 ^ 62 }
     ensures { result.now ≡ take (2 ^ 62 - count) piece.now }
@@ -462,7 +462,7 @@ fn fail(fault: Fault, kept: &mut Option<Fault>) -> Result<Option<Accepted>, Faul
     Err(fault)
 }
 
-// A fault of the lexer as a fault of the converter.
+// Makes a fault of the converter from one of the lexer.
 fn lexical(fault: LexFault) -> Fault
     ensures { result ≡ record { at = fault.at; reason = Lexical fault.reason } }
 {

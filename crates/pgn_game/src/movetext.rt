@@ -1,4 +1,4 @@
-//! The movetext of a game, item by item: it is written as it comes.
+//! The movetext of a game: each item is written when it is read.
 ghost use Rattle.std.specs.Prelude.{◌≡◌, ◌+◌, ◌-◌, ◌^◌, ◌<◌, ◌≤◌, false, true, is_some, length};
 ghost use Rattle.pgn_game.specs.Chess.{first_position};
 ghost use Rattle.pgn_game.specs.Game as games;
@@ -17,7 +17,7 @@ use chess_text::{Played, write_san};
 use pgn_layout::{Layout, Sink, WriteFault};
 use std::marker::Model;
 
-/// The levels, and what is counted of the moves so far.
+/// The levels, the number of moves so far, and whether a move was written last.
 #[derive(Drop)]
 pub struct Movetext<const L: usize> {
     levels: Levels<L>,
@@ -38,7 +38,7 @@ impl<const L: usize> Model for Movetext<L> {
 }
 
 impl<const L: usize> Movetext<L> {
-    /// No item, from the usual first position on.
+    /// Returns movetext without items that begins at the initial position.
     pub fn new() -> Self
         requires { 1 ≤ L }
         ensures { result ≡ begins_at first_position }
@@ -50,7 +50,7 @@ impl<const L: usize> Movetext<L> {
         }
     }
 
-    /// No item, from this position on.
+    /// Begins movetext without items at this position.
     pub fn begin(&mut self, start: Position)
         ensures { self.new ≡ begins_at start }
     {
@@ -59,7 +59,7 @@ impl<const L: usize> Movetext<L> {
         self.is_after_move = false;
     }
 
-    /// No item, from the position of a FEN; without one nothing changes.
+    /// Begins movetext without items at the position of a FEN. Without one nothing changes.
     pub fn begin_at(&mut self, start: Option<Position>)
         ensures { self.new ≡ begun_at start self.old }
     {
@@ -69,14 +69,14 @@ impl<const L: usize> Movetext<L> {
         }
     }
 
-    /// The position here.
+    /// Returns the current position.
     pub fn present(&self) -> &Position
         ensures { result.now ≡ self.now.levels.present.present }
     {
         self.levels.present()
     }
 
-    /// How many variations are open.
+    /// Returns the number of variations that are open.
     pub fn depth(&self) -> usize
         ensures value { result ≡ length self.now.levels.around }
         ensures room { result + 1 ≤ L }
@@ -91,15 +91,15 @@ impl<const L: usize> Movetext<L> {
         self.levels.has_own_move()
     }
 
-    /// How many moves outside variations there are.
+    /// Returns the number of moves outside variations.
     pub fn plies(&self) -> u64
         ensures { result ≡ self.now.plies }
     {
         self.plies
     }
 
-    /// Puts an item: writes it, a move with its number where one is needed, and moves the levels.
-    /// In reduced mode only moves outside variations are written (PGN 3.2.4).
+    /// Writes an item, and moves the levels. A move is written with its number if it needs one. In
+    /// reduced mode only moves outside variations are written (PGN 3.2.4).
     #[inline(always)]
     pub fn put<W: Sink>(
         &mut self,
@@ -149,7 +149,7 @@ impl<const L: usize> Movetext<L> {
         Ok(())
     }
 
-    // Whether an item is written here: in reduced mode only a move outside variations (PGN 3.2.4).
+    // Whether the mode writes an item here: in reduced mode only a move outside variations.
     #[inline(always)]
     fn is_written(&self, mode: Mode, item: &Item<'_>) -> bool
         ensures { result ≡ writes mode (length self.now.levels.around) (item_of item.now) }
@@ -186,7 +186,7 @@ impl<const L: usize> Movetext<L> {
         }
     }
 
-    // Writes a legal move, with its number where one is needed.
+    // Writes a legal move, with its number if it needs one.
     #[inline(always)]
     fn write_move<W: Sink>(
         &self,
@@ -209,7 +209,7 @@ impl<const L: usize> Movetext<L> {
         layout.put(san.as_slice(), out)
     }
 
-    // Writes the number of the next move, where one is needed (PGN 8.2.2.2).
+    // Writes the number of the next move, if it needs one (PGN 8.2.2.2).
     #[inline(always)]
     fn put_number<W: Sink>(&self, layout: &mut Layout, out: &mut W) -> Result<(), WriteFault>
         requires going { layout.old.has_failed ≡ false }

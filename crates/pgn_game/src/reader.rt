@@ -1,9 +1,9 @@
-//! Reads games token by token: judges what a token means, and puts it.
-ghost use Rattle.std.specs.Prelude.{◌≡◌, ◌+◌, ◌-◌, ◌≤◌, ◌<◌, ◌^◌, ◌&&◌, ◌∷◌, [], false, not, None};
-ghost use Rattle.std.specs.Prelude.{Some, IsTrue, ◌↔◌, OnOk, bytes_eq, codes, length, max};
+//! Reads games token by token: judges what a token means, and carries that out.
+ghost use Rattle.std.specs.Prelude.{◌≡◌, ◌+◌, ◌-◌, ◌≤◌, ◌<◌, ◌^◌, ◌&&◌, ◌∷◌, [], false, not};
+ghost use Rattle.std.specs.Prelude.{Some, IsTrue, ◌↔◌, OnOk, bytes_eq, codes, max};
 ghost use Rattle.std.specs.Option.{option_copied};
 ghost use Rattle.pgn_lexer.specs.declared.token.TokenKind.{TokenKind};
-ghost use Rattle.pgn_lexer.specs.Tokens.{HasLength, left_bracket, left_paren, right_paren, symbol};
+ghost use Rattle.pgn_lexer.specs.Tokens.{HasLength, left_paren, right_paren, symbol};
 ghost use Rattle.pgn_lexer.specs.Scanned.{kind_of};
 ghost use Rattle.pgn_layout.specs.Lines.{IsToken};
 ghost use Rattle.pgn_layout.specs.Layout.{holding};
@@ -21,8 +21,7 @@ ghost use Rattle.pgn_game.specs.Judging.{Counts, Finds, Fits, Judges, JudgesEntr
 ghost use Rattle.pgn_game.specs.Judging.{fen_position as position_in_fen};
 ghost use Rattle.pgn_game.specs.Putting.{device};
 ghost use Rattle.pgn_game.specs.Handling.{BeginsText, Puts, TriesJudged, begins, readied};
-ghost use Rattle.pgn_game.specs.FaultTable.{is_result as is_any_result, is_score as is_of_score};
-ghost use Rattle.pgn_game.specs.FaultTable.{is_number as is_of_number, is_reduced};
+ghost use Rattle.pgn_game.specs.FaultTable.{is_result as is_any_result, is_reduced};
 ghost use Rattle.pgn_game.specs.FaultTable.{lacks_fen as set_up_lacks_fen, marker_of};
 
 use crate::accept::Accepted;
@@ -84,7 +83,7 @@ impl<const T: usize, const L: usize> Model for Reader<T, L> {
 }
 
 impl<const T: usize, const L: usize> Reader<T, L> {
-    /// Before the first token.
+    /// Returns a reader that has read no token.
     pub fn new(mode: Mode) -> Self
         requires { 1 ≤ L }
         ensures { result ≡ record {
@@ -114,7 +113,7 @@ impl<const T: usize, const L: usize> Reader<T, L> {
         }
     }
 
-    /// The value of a name in the tag section of the game before, its defaults included.
+    /// Returns the value of a name in the tag section of the game just read, defaults included.
     pub fn value(&self, name: &[u8]) -> Option<&[u8]>
         requires { self.now.stage ≡ Between }
         ensures { option_copied result
@@ -124,28 +123,28 @@ impl<const T: usize, const L: usize> Reader<T, L> {
         exported_value(self.mode, self.missing_result, self.tags.pairs(), name)
     }
 
-    /// How many moves outside variations the game has so far, or had.
+    /// Returns the number of moves outside variations that the game has so far, or had.
     pub fn plies(&self) -> u64
         ensures { result ≡ self.now.text.plies }
     {
         self.text.plies()
     }
 
-    /// How many moves outside variations the games before this one have together.
+    /// Returns the number of moves outside variations of all games before this one.
     pub fn earlier_plies(&self) -> u64
         ensures { result ≡ self.now.earlier_plies }
     {
         self.earlier_plies
     }
 
-    /// The position after the moves so far.
+    /// Returns the position after the moves so far.
     pub fn position(&self) -> &Position
         ensures { result.now ≡ self.now.text.levels.present.present }
     {
         self.text.present()
     }
 
-    /// The most pairs that were tried for one move so far.
+    /// Returns the most pairs that were tried for one move so far.
     pub fn most_probes(&self) -> u32
         ensures value { result ≡ self.now.most_probes }
         ensures bound { result ≤ 1040 }
@@ -160,8 +159,12 @@ impl<const T: usize, const L: usize> Reader<T, L> {
         self.stage == Stage::Between
     }
 
-    /// Takes one token, and writes what it adds to the text of its game. After an `Err` no call may
-    /// follow.
+    /// Takes one token, and writes what it adds to the text of its game.
+    ///
+    /// # Errors
+    ///
+    /// The row of the fault table that rejects the token, or `Reason::WriteFault` if a write
+    /// failed. Do not call this again after an error.
     #[inline(always)]
     pub fn accept<W: Sink>(&mut self, kind: TokenKind<'_>, out: &mut W) -> Result<Accepted, Reason>
         requires going { self.old.layout.has_failed ≡ false }
@@ -182,7 +185,7 @@ impl<const T: usize, const L: usize> Reader<T, L> {
         let mut probes = Probes::new();
         let found = self.find(kind, &mut probes);
         match self.judge(kind, &found) {
-            Ok(judged) => self.put(&judged, &mut probes, out),
+            Ok(judged) => self.carry_out(&judged, &mut probes, out),
             Err(reason) => Err(reason),
         }
     }
@@ -203,8 +206,8 @@ impl<const T: usize, const L: usize> Reader<T, L> {
         self.stage = Stage::AfterTags;
     }
 
-    // The move that a symbol names, or why it names none, where movetext can begin or goes on. A
-    // marker and a number name no move. The pairs that were tried are counted.
+    // Looks for the move of a symbol, if movetext can begin or go on here. Returns the move, or why
+    // there is none. A marker and a number name no move. Counts the pairs that were tried.
     #[inline(always)]
     fn find(&mut self, kind: TokenKind<'_>, probes: &mut Probes) -> Option<Result<Played, Reason>>
         requires none { probes.old ≡ 0 }
@@ -225,7 +228,7 @@ impl<const T: usize, const L: usize> Reader<T, L> {
         Some(found)
     }
 
-    // Whether movetext can begin, or goes on.
+    // Whether movetext can begin or go on.
     #[inline(always)]
     fn may_have_movetext(&self) -> bool
         ensures { result ≡ may_have_movetext self.now.stage }
@@ -237,7 +240,7 @@ impl<const T: usize, const L: usize> Reader<T, L> {
         }
     }
 
-    // Keeps the most probes.
+    // Keeps the highest number of probes.
     #[inline(always)]
     fn count_probes(&mut self, probes: &Probes)
         requires few { probes.now ≤ 1040 }
@@ -248,7 +251,7 @@ impl<const T: usize, const L: usize> Reader<T, L> {
         }
     }
 
-    // Judges a token: what it means, or the row of the fault table that refuses it.
+    // Judges a token: what it means, or the row of the fault table that rejects it.
     #[inline(always)]
     fn judge<'a>(
         &self,
@@ -270,7 +273,7 @@ impl<const T: usize, const L: usize> Reader<T, L> {
         }
     }
 
-    // The name of a pair, or a comment before it.
+    // Judges the name of a pair, or a comment before it.
     fn judge_name<'a>(&self, kind: TokenKind<'a>) -> Result<Judged<'a>, Reason>
         requires stage { self.now.stage ≡ AfterLeftBracket }
         ensures { Judges T L self.now (kind_of kind.entry) result }
@@ -296,7 +299,7 @@ impl<const T: usize, const L: usize> Reader<T, L> {
         Ok(Judged::Name(name))
     }
 
-    // The value of a pair, or a comment before it.
+    // Judges the value of a pair, or a comment before it.
     fn judge_value<'a>(&self, kind: TokenKind<'a>) -> Result<Judged<'a>, Reason>
         requires stage { self.now.stage ≡ AfterName }
         ensures { Judges T L self.now (kind_of kind.entry) result }
@@ -320,7 +323,7 @@ impl<const T: usize, const L: usize> Reader<T, L> {
         Ok(Judged::Value(value))
     }
 
-    // The `]` of a pair, or a comment before it.
+    // Judges the `]` of a pair, or a comment before it.
     fn judge_right_bracket<'a>(&self, kind: TokenKind<'a>) -> Result<Judged<'a>, Reason>
         requires stage { self.now.stage ≡ AfterValue }
         ensures { Judges T L self.now (kind_of kind.entry) result }
@@ -334,7 +337,7 @@ impl<const T: usize, const L: usize> Reader<T, L> {
         }
     }
 
-    // After a whole tag pair, or before a game's first: another one, or movetext.
+    // Judges a token after a whole tag pair, or before the first: another pair, or movetext.
     fn judge_after_tags<'a>(
         &self,
         kind: TokenKind<'a>,
@@ -371,7 +374,7 @@ impl<const T: usize, const L: usize> Reader<T, L> {
             && self.tags.value(b"FEN").is_none()
     }
 
-    // In movetext.
+    // Judges a token in movetext.
     #[inline(always)]
     fn judge_in_movetext<'a>(
         &self,
@@ -390,7 +393,7 @@ impl<const T: usize, const L: usize> Reader<T, L> {
         }
     }
 
-    // A token where movetext can begin or go on: any but `[` and the end, which are judged before.
+    // Judges a token of movetext. The callers have rejected or accepted `[` and the end before.
     #[inline(always)]
     fn judge_entry<'a>(
         &self,
@@ -416,7 +419,7 @@ impl<const T: usize, const L: usize> Reader<T, L> {
         }
     }
 
-    // A symbol in movetext: a marker, a move number (PGN 8.2.2.1), or a move (PGN 8.2.3).
+    // Judges a symbol in movetext: a marker, a move number (PGN 8.2.2.1), or a move (PGN 8.2.3).
     #[inline(always)]
     fn judge_symbol<'a>(
         &self,
@@ -441,7 +444,7 @@ impl<const T: usize, const L: usize> Reader<T, L> {
         }
     }
 
-    // A `(`: a variation begins (PGN 8.2.5).
+    // Judges a `(`, which begins a variation (PGN 8.2.5).
     fn judge_variation_open<'a>(&self) -> Result<Judged<'a>, Reason>
         requires stage { IsTrue (may_have_movetext self.now.stage) }
         ensures { JudgesEntry T L self.now left_paren result }
@@ -455,7 +458,7 @@ impl<const T: usize, const L: usize> Reader<T, L> {
         Ok(Judged::Entry(Entry::Item(Item::Open)))
     }
 
-    // A `)`: the variation ends (PGN 8.2.5).
+    // Judges a `)`, which ends a variation (PGN 8.2.5).
     fn judge_variation_close<'a>(&self) -> Result<Judged<'a>, Reason>
         requires stage { IsTrue (may_have_movetext self.now.stage) }
         ensures { JudgesEntry T L self.now right_paren result }
@@ -466,7 +469,7 @@ impl<const T: usize, const L: usize> Reader<T, L> {
         Ok(Judged::Entry(Entry::Item(Item::Close)))
     }
 
-    // The marker of a game (PGN 8.2.6).
+    // Judges the marker of a game (PGN 8.2.6).
     fn judge_marker<'a>(&self, marker: &'a [u8]) -> Result<Judged<'a>, Reason>
         requires stage { IsTrue (may_have_movetext self.now.stage) }
         requires token { IsToken marker.now }
@@ -483,9 +486,9 @@ impl<const T: usize, const L: usize> Reader<T, L> {
         Ok(Judged::Entry(Entry::Marker(marker)))
     }
 
-    // Puts what a token means: the reader goes on with it, and what it adds is written.
+    // Carries out what a token means: changes the stage, and writes what the token adds.
     #[inline(always)]
-    fn put<W: Sink>(
+    fn carry_out<W: Sink>(
         &mut self,
         judged: &Judged<'_>,
         probes: &mut Probes,
@@ -527,7 +530,7 @@ impl<const T: usize, const L: usize> Reader<T, L> {
         }
     }
 
-    // Puts a token of movetext: its tag section is written first, where movetext begins.
+    // Carries out a token of movetext. If movetext begins with it, writes the tag section first.
     #[inline(always)]
     fn put_entry<W: Sink>(
         &mut self,
@@ -565,7 +568,7 @@ impl<const T: usize, const L: usize> Reader<T, L> {
         }
     }
 
-    // Writes the tag section, where movetext is not begun yet.
+    // Writes the tag section, if movetext has not begun yet.
     #[inline(always)]
     fn begin_movetext<W: Sink>(&mut self, out: &mut W) -> Result<(), WriteFault>
         requires going { self.old.layout.has_failed ≡ false }
@@ -588,7 +591,8 @@ impl<const T: usize, const L: usize> Reader<T, L> {
     }
 }
 
-// Parses the value of a FEN tag, or gives its field at fault; for another tag None (PGN 9.7.2).
+// Parses the value of a FEN tag, or returns the number of its bad field. Returns `None` for
+// another tag (PGN 9.7.2).
 fn fen_position(name: &[u8], value: &[u8]) -> Result<Option<Position>, u8>
     ensures { result ≡ position_in_fen name.now value.now }
 {
@@ -608,7 +612,7 @@ fn is_reduced_fen(mode: Mode, name: &[u8]) -> bool
     mode == Mode::Reduced && name == b"FEN".as_slice()
 }
 
-// Whether the value is none that a pair of this name can have (PGN 8.1.1.7).
+// Whether this is the Result tag with a value that is no marker (PGN 8.1.1.7).
 fn is_bad_result(name: &[u8], value: &[u8]) -> bool
     ensures { result ≡ (bytes_eq name.now (codes "Result") && not (is_any_result value.now)) }
 {

@@ -27,12 +27,13 @@ loop-finished_game-smaller-in-Ok-Some-More g c = rw (c.in-Ok-Some-More.is ∙ ap
 
 pub loop-finished_game-preserved-in-Ok-Some-More : goal.loop-finished_game-preserved-in-Ok-Some-More
 loop-finished_game-preserved-in-Ok-Some-More g c =
-    let after = rw (c.in-Ok-Some-More.is ∙ ap Ok (c.in-Ok-Some-More.field-0-is ∙ ap Some c.in-Ok-Some-More.field-0-0-is)) at c.step_at_end.ensures.after in
-    let counted = rw (c.in-Ok-Some-More.is ∙ ap Ok (c.in-Ok-Some-More.field-0-is ∙ ap Some c.in-Ok-Some-More.field-0-0-is)) at c.step_at_end.ensures.counted in
+    let is = c.in-Ok-Some-More.is ∙ ap Ok (c.in-Ok-Some-More.field-0-is ∙ ap Some c.in-Ok-Some-More.field-0-0-is) in
+    let after = rw is at c.step_at_end.ensures.after in
+    let counted = rw is at c.step_at_end.ensures.counted in
     record {
-      fault = rw (c.in-Ok-Some-More.is ∙ ap Ok (c.in-Ok-Some-More.field-0-is ∙ ap Some c.in-Ok-Some-More.field-0-0-is)) at c.step_at_end.ensures.fault;
+      fault = rw is at c.step_at_end.ensures.fault;
       hand = c.step_at_end.ensures.hand;
-      going = rw (c.in-Ok-Some-More.is ∙ ap Ok (c.in-Ok-Some-More.field-0-is ∙ ap Some c.in-Ok-Some-More.field-0-0-is)) at c.step_at_end.ensures.finished;
+      going = rw is at c.step_at_end.ensures.finished;
       probes = omega (arith, c.step_at_end.ensures.probes, c.loop-finished_game.invariant.probes);
       counted = counted ∙ c.loop-finished_game.invariant.counted;
       closes = λ p u b given stands.
@@ -45,12 +46,13 @@ loop-finished_game-smaller g c = rw (c.in-Ok-Some-Finished.is ∙ ap Ok (c.in-Ok
 
 pub loop-finished_game-preserved : goal.loop-finished_game-preserved
 loop-finished_game-preserved g c =
-    let after = rw (c.in-Ok-Some-Finished.is ∙ ap Ok (c.in-Ok-Some-Finished.field-0-is ∙ ap Some c.in-Ok-Some-Finished.field-0-0-is)) at c.step_at_end.ensures.after in
-    let counted = rw (c.in-Ok-Some-Finished.is ∙ ap Ok (c.in-Ok-Some-Finished.field-0-is ∙ ap Some c.in-Ok-Some-Finished.field-0-0-is)) at c.step_at_end.ensures.counted in
+    let is = c.in-Ok-Some-Finished.is ∙ ap Ok (c.in-Ok-Some-Finished.field-0-is ∙ ap Some c.in-Ok-Some-Finished.field-0-0-is) in
+    let after = rw is at c.step_at_end.ensures.after in
+    let counted = rw is at c.step_at_end.ensures.counted in
     record {
-      fault = rw (c.in-Ok-Some-Finished.is ∙ ap Ok (c.in-Ok-Some-Finished.field-0-is ∙ ap Some c.in-Ok-Some-Finished.field-0-0-is)) at c.step_at_end.ensures.fault;
+      fault = rw is at c.step_at_end.ensures.fault;
       hand = c.step_at_end.ensures.hand;
-      going = rw (c.in-Ok-Some-Finished.is ∙ ap Ok (c.in-Ok-Some-Finished.field-0-is ∙ ap Some c.in-Ok-Some-Finished.field-0-0-is)) at c.step_at_end.ensures.finished;
+      going = rw is at c.step_at_end.ensures.finished;
       probes = omega (arith, c.step_at_end.ensures.probes, c.loop-finished_game.invariant.probes);
       counted = counted ∙ c.loop-finished_game.invariant.counted;
       closes = λ p u b given stands.

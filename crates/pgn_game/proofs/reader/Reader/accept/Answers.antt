@@ -19,8 +19,8 @@ judge-requires g c =
     let keeps = keeps_found c.args.self.now c.make_ready.new.self c.find-found.new.self (kind_of c.args.kind) c.make_ready.ensures c.find-found.ensures.counted in
     (search reader_alike, (c.find-found.ensures.found, (keeps.ready, c.requires.token)))
 
-pub put-requires : goal.put-requires
-put-requires g c =
+pub carry_out-requires : goal.carry_out-requires
+carry_out-requires g c =
     let keeps = keeps_found c.args.self.now c.make_ready.new.self c.find-found.new.self (kind_of c.args.kind) c.make_ready.ensures c.find-found.ensures.counted in (
       search reader_alike,
       (
@@ -32,18 +32,18 @@ put-requires g c =
 pub returns-in-Ok : goal.returns-in-Ok
 returns-in-Ok g c =
     let keeps = keeps_found c.args.self.now c.make_ready.new.self c.find-found.new.self (kind_of c.args.kind) c.make_ready.ensures c.find-found.ensures.counted in
-    let puts = c.put.ensures.puts in
+    let puts = c.carry_out.ensures.puts in
     record {
       accepts = λ part agrees.
-          accepted c.args.self.now c.make_ready.new.self c.find-found.new.self c.put.new.self part c.args.kind (after c.in-Ok.judged) c.put.result _ agrees c.make_ready.ensures
+          accepted c.args.self.now c.make_ready.new.self c.find-found.new.self c.carry_out.new.self part c.args.kind (after c.in-Ok.judged) c.carry_out.result _ agrees c.make_ready.ensures
           c.find-found.ensures.counted c.in-Ok.ensures.judges puts.goes
           (raises g.row.T g.row.L c.args.self.now c.make_ready.new.self c.find-found.new.self part c.args.kind _ agrees c.make_ready.ensures c.find-found.ensures.counted keeps.ready
-          c.find-found.ensures.tried c.find-found.ensures.most c.put.new.self c.in-Ok.judged c.put.result _ _ c.in-Ok.ensures.judges c.in-Ok.ensures.fits puts.goes
-          c.put.ensures.tried c.put.ensures.most);
+          c.find-found.ensures.tried c.find-found.ensures.most c.carry_out.new.self c.in-Ok.judged c.carry_out.result _ _ c.in-Ok.ensures.judges c.in-Ok.ensures.fits puts.goes
+          c.carry_out.ensures.tried c.carry_out.ensures.most);
       profile = puts.keeps.profile ∙ keeps.profile;
-      stays = stays_found c.args.self.now c.find-found.new.self c.put.new.self (kind_of c.args.kind) c.put.result keeps puts.stays;
+      stays = stays_found c.args.self.now c.find-found.new.self c.carry_out.new.self (kind_of c.args.kind) c.carry_out.result keeps puts.stays;
       going = puts.going;
-      finished = finishes_at_marker (kind_of c.args.kind) c.in-Ok.judged c.put.new.self c.put.result c.in-Ok.ensures.marks puts.finished;
+      finished = finishes_at_marker (kind_of c.args.kind) c.in-Ok.judged c.carry_out.new.self c.carry_out.result c.in-Ok.ensures.marks puts.finished;
       counted = puts.counted;
       plies = omega (arith, puts.keeps.plies, keeps.plies);
       probes = omega (arith, puts.keeps.probes, keeps.probes);

@@ -8,7 +8,7 @@ use Rattle.pgn_game.specs.Movetext.{begun_at}
 use Rattle.pgn_game.specs.Reading.{Reading}
 use Rattle.pgn_game.specs.Judging.{Fits}
 use Rattle.pgn_game.proofs.Pairing.{completed, puts_value}
-use Rattle.pgn_game.proofs.reader.Reader.put.Goals as goal
+use Rattle.pgn_game.proofs.reader.Reader.carry_out.Goals as goal
 
 pub returns-in-Value-clause-puts : goal.returns-in-Value-clause-puts
 returns-in-Value-clause-puts g c =
