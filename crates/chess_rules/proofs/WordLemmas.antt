@@ -1,5 +1,5 @@
 -- Words as sets of places, and what the four words of a board say of its cells.
-use Rattle.std.proofs.Common.{◌≡◌, ℕ, zero, suc, ◌-◌, ◌^◌, ◌<◌, ◌≢◌, min, max, Bool, true, false, not, ◌&&◌, ◌||◌, ◌⊎◌, inl, inr, List, get_or, set, length, length-set, refl, sym, ◌∙◌, ap, ap₂, w64, arith}
+use Rattle.std.proofs.Common.{◌≡◌, ℕ, zero, suc, ◌-◌, ◌*◌, ◌%◌, ◌^◌, ◌<◌, ◌≢◌, min, max, Bool, true, false, not, ◌&&◌, ◌||◌, ◌⊎◌, inl, inr, List, get_or, set, length, length-set, refl, sym, ◌∙◌, ap, ap₂, w64, arith}
 use Rattle.std.specs.Prelude.{⊤, Option, None, Some, ◌==◌, is_some, is_none, if◌then◌else◌}
 use Rattle.std.specs.Int.{bit_at, bit_not}
 use Rattle.std.specs.Int.Bits.{bit_and, bit_or}
@@ -112,11 +112,52 @@ clears_place old bit k value small is e =
           ∙ (cleared_bit (has old i) (i == k) ∙ ap (λ v. if i == k then v else has old i) (sym e)));
     }
 
-pub carries : (old cleared new from to : ℕ) (value : Bool) → Sets old cleared from false → Sets cleared new to value → value ≡ has old from → Carries old new from to
-carries old cleared new from to value h g e =
+-- a bit that is moved to a place
+moved_bit : (v k i : ℕ) → v < 2 → 2 ^ k < 2 ^ 64 → has (v * 2 ^ k % 2 ^ 64) i ≡ ((v == 1) && (i == k))
+moved_bit zero k i low fits =
+    let none : 0 * 2 ^ k % 2 ^ 64 ≡ 0 = omega arith in
+    ap (λ n. has n i) none ∙ has_zero i
+moved_bit (suc zero) k i low fits =
+    let same : 1 * 2 ^ k % 2 ^ 64 ≡ 2 ^ k = omega (arith, fits) in
+    ap (λ n. has n i) same ∙ has_single k i
+moved_bit (suc (suc v)) k i low fits = absurd (omega arith)
+
+carried_bit : (x a b v : Bool) → ((x && not (a || b)) || (v && b)) ≡ (if b then v else (if a then false else x))
+carried_bit true true true true = refl
+carried_bit true true true false = refl
+carried_bit true true false true = refl
+carried_bit true true false false = refl
+carried_bit true false true true = refl
+carried_bit true false true false = refl
+carried_bit true false false true = refl
+carried_bit true false false false = refl
+carried_bit false true true true = refl
+carried_bit false true true false = refl
+carried_bit false true false true = refl
+carried_bit false true false false = refl
+carried_bit false false true true = refl
+carried_bit false false true false = refl
+carried_bit false false false true = refl
+carried_bit false false false false = refl
+
+pub carries : (old s t v from to : ℕ) → s < 2 ^ 64 → t < 2 ^ 64 → s ≡ 2 ^ from → t ≡ 2 ^ to → v ≡ bit_at old from
+    → Carries old (bit_or (bit_and old (bit_not w64 (bit_or s t))) (v * 2 ^ to % 2 ^ 64)) from to
+unfolding has
+carries old s t v from to small little is_from is_to e =
+    let both : bit_or s t < 2 ^ 64 = or_lt 64 s t small little in
+    let bit : v < 2 = omega (arith, e, bit_at-lt old from) in
+    let fits : 2 ^ to < 2 ^ 64 = omega (arith, is_to, little) in
     record {
-      fits = g.fits;
-      of = λ i low. g.of i low ∙ ap₂ (λ v x. if i == to then v else x) e (h.of i low);
+      fits = or_lt 64 (bit_and old (bit_not w64 (bit_or s t))) (v * 2 ^ to % 2 ^ 64) (and_fits old (bit_not w64 (bit_or s t)) (omega arith)) (omega arith);
+      of = λ i low.
+          has_or (bit_and old (bit_not w64 (bit_or s t))) (v * 2 ^ to % 2 ^ 64) i
+          ∙ ap₂ (λ x y. x || y)
+          (has_and old (bit_not w64 (bit_or s t)) i
+          ∙ ap (λ x. has old i && x)
+          (has_not (bit_or s t) i both low
+          ∙ ap not (has_or s t i ∙ ap₂ (λ x y. x || y) (ap (λ n. has n i) is_from ∙ has_single from i) (ap (λ n. has n i) is_to ∙ has_single to i))))
+          (moved_bit v to i bit fits ∙ ap (λ n. (n == 1) && (i == to)) e)
+          ∙ carried_bit (has old i) (i == from) (i == to) (has old from);
     }
 
 pub chosen_else : (word : ℕ) (value : Bool) → word < 2 ^ 64 → value ≡ false → Chosen word (bit_not w64 word) value

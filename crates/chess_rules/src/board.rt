@@ -185,6 +185,7 @@ impl Board {
         has(self.pieces(colour, kind), square.index())
     }
 
+    #[inline(always)]
     pub(crate) fn put(&mut self, square: Square, content: Option<Piece>)
         ensures { self.new ≡ spec.put self.old square content }
     {
@@ -199,6 +200,7 @@ impl Board {
     }
 
     // Moves the content of one square to another.
+    #[inline(always)]
     pub(crate) fn carry(&mut self, from: Square, to: Square)
         ensures { self.new ≡ spec.put (spec.put self.old from None) to (spec.at self.old from) }
     {

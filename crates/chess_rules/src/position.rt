@@ -15,7 +15,7 @@ use crate::board::Board;
 use crate::contents::{has_pawn_on_edge, king_square, kings};
 use crate::piece::{Colour, Kind, Piece, Promotion};
 use crate::square::Square;
-use crate::step::{board_after, crossed, is_double_step, is_plain};
+use crate::step::{board_after, board_to_test, crossed, is_double_step, is_plain};
 use crate::word::has;
 use std::marker::Model;
 
@@ -287,7 +287,7 @@ impl Position {
         ensures { result ≡ is_legal self.now mv.now }
     {
         let king = self.king();
-        let board = board_after(self, mv, is_plain(self, mv));
+        let board = board_to_test(self, mv);
         !is_attacked(&board, self.side.other(), king_after(king, mv))
     }
 
@@ -439,12 +439,21 @@ fn keeps(mv: &Move, file: u8, rank: u8) -> bool
 const HOMES: u64 = 0x9100_0000_0000_0091;
 
 // The castling rights after the move. (FIDE Laws 3.8.2.1; PGN 16.1.3.3)
+#[inline(always)]
 fn rights_after(mv: &Move, rights: Rights) -> Rights
     ensures { result ≡ step.rights_after mv.now rights }
 {
     if !has(HOMES, mv.from.index()) && !has(HOMES, mv.to.index()) {
         return rights;
     }
+    rights_left(mv, rights)
+}
+
+// The same, for a move that begins or ends on one of those squares.
+#[inline(never)]
+fn rights_left(mv: &Move, rights: Rights) -> Rights
+    ensures { result ≡ step.rights_after mv.now rights }
+{
     Rights {
         white_short: rights.white_short && keeps(mv, 7, 0),
         white_long: rights.white_long && keeps(mv, 0, 0),

@@ -256,6 +256,7 @@ fn kind_of(promotion: Promotion) -> Kind
 
 // Moves the piece from the origin to the target; a promotion puts another piece there. (FIDE Laws
 // 3.7.3.3)
+#[inline(always)]
 fn carry(position: &Position, mv: &Move, board: &mut Board)
     requires { board.old ≡ position.now.board }
     ensures { board.new ≡ spec.carried position.now mv.now }
@@ -276,6 +277,7 @@ fn carry(position: &Position, mv: &Move, board: &mut Board)
 }
 
 // Takes a pawn in passing.
+#[inline(always)]
 fn take_in_passing(position: &Position, mv: &Move, board: &mut Board)
     requires { board.old ≡ position.now.board }
     ensures { board.new ≡ spec.en_passant_board position.now mv.now }
@@ -285,6 +287,7 @@ fn take_in_passing(position: &Position, mv: &Move, board: &mut Board)
 }
 
 // Castles: the rook goes to the square that the king crossed.
+#[inline(always)]
 fn castle(position: &Position, mv: &Move, rook: u8, crossing: u8, board: &mut Board)
     requires rook { rook < 8 }
     requires crossing { crossing < 8 }
@@ -303,6 +306,7 @@ fn castle(position: &Position, mv: &Move, rook: u8, crossing: u8, board: &mut Bo
 }
 
 // Makes the move on the position's board, if it is a step of the side to move.
+#[inline(always)]
 fn make_step(position: &Position, mv: &Move, board: &mut Board) -> bool
     requires { board.old ≡ position.now.board }
     ensures { spec.board_after position.now mv.now ≡ (if result then Some board.new else None) }
@@ -416,7 +420,10 @@ pub(crate) fn is_plain(position: &Position, mv: &Move) -> bool
 }
 
 // The board after en passant or castling.
-#[inline(never)]
+//
+// All that writes to the board is inlined here. So the compiler sees that a test of legality writes
+// to nothing else, and drops it if nobody asks for the result.
+#[inline(always)]
 fn rare_board(position: &Position, mv: &Move) -> Board
     requires { IsTrue (is_some (spec.board_after position.now mv.now)) }
     ensures { spec.board_after position.now mv.now ≡ Some result }
@@ -426,16 +433,50 @@ fn rare_board(position: &Position, mv: &Move) -> Board
     board
 }
 
+// The same, not inlined: for a caller whose common case it would slow down.
+#[inline(never)]
+fn rare_board_apart(position: &Position, mv: &Move) -> Board
+    requires { IsTrue (is_some (spec.board_after position.now mv.now)) }
+    ensures { spec.board_after position.now mv.now ≡ Some result }
+{
+    rare_board(position, mv)
+}
+
+// The board after a step that moves one piece and does nothing more.
+#[inline(always)]
+fn plain_board(position: &Position, mv: &Move) -> Board
+    requires plain { IsTrue (ways.is_plain position.now mv.now) }
+    requires step { IsTrue (is_some (spec.board_after position.now mv.now)) }
+    ensures { spec.board_after position.now mv.now ≡ Some result }
+{
+    let mut board = *position.board();
+    carry(position, mv, &mut board);
+    board
+}
+
 // The board after a step.
+#[inline(always)]
 pub(crate) fn board_after(position: &Position, mv: &Move, plain: bool) -> Board
     requires plain { plain ≡ ways.is_plain position.now mv.now }
     requires step { IsTrue (is_some (spec.board_after position.now mv.now)) }
     ensures { spec.board_after position.now mv.now ≡ Some result }
 {
-    if !plain {
-        return rare_board(position, mv);
+    if plain {
+        plain_board(position, mv)
+    } else {
+        rare_board_apart(position, mv)
     }
-    let mut board = *position.board();
-    carry(position, mv, &mut board);
-    board
+}
+
+// The same, for a test of the king's safety.
+#[inline(always)]
+pub(crate) fn board_to_test(position: &Position, mv: &Move) -> Board
+    requires { IsTrue (is_some (spec.board_after position.now mv.now)) }
+    ensures { spec.board_after position.now mv.now ≡ Some result }
+{
+    if is_plain(position, mv) {
+        plain_board(position, mv)
+    } else {
+        rare_board(position, mv)
+    }
 }

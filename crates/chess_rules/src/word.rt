@@ -35,8 +35,8 @@ pub(crate) fn carried(word: u64, from: usize, to: usize) -> u64
     requires to { to < 64 }
     ensures { Carries word result from to }
 {
-    let value = has(word, from);
-    with(with(word, from, false), to, value)
+    let value = word >> from & 1;
+    word & !(single(from) | single(to)) | value << to
 }
 
 // The first place of a set that has one.

@@ -1,7 +1,0 @@
-use Rattle.std.proofs.Common.{sym, ◌∙◌, ap}
-use Rattle.std.specs.Prelude.{Some}
-use Rattle.chess_rules.proofs.Plain.{plain_board}
-use Rattle.chess_rules.proofs.step.board_after.Goals as goal
-
-pub returns : goal.returns
-returns c = plain_board c.args.position.now c.args.mv.now (sym c.requires.plain ∙ c.if-not-plain.false) c.requires.step ∙ ap Some (sym c.carry.ensures)
