@@ -259,8 +259,12 @@ fn is_rival(position: &Position, mv: &Move, origin: Square, probes: &mut Probes)
         promotion: mv.promotion,
     };
     let is_own = origin.file() == mv.from.file() && origin.rank() == mv.from.rank();
-    let next = try_pair(position, other, probes);
-    !is_own && next.is_some()
+    if is_own {
+        // The move is legal, and its pair only counts: the compiler drops the rest of the call.
+        let _counted = try_pair(position, *mv, probes);
+        return false;
+    }
+    try_pair(position, other, probes).is_some()
 }
 
 // Adds the least disambiguation of the origin from the rivals. (PGN 8.2.3.4)
