@@ -29,7 +29,7 @@ place_of-le name (q ∷ qs) =
     let more = place_of-le name qs in
     elim (comes_before name q.name) as (λ b. elim b [ true ↦ 0 | false ↦ 1 + place_of name qs ] ≤ length (q ∷ qs)) [ true ↦ omega arith | false ↦ omega arith ]
 
-last_name-snoc : (ps : List Pair) (p : Pair) → last_name (ps ++ p ∷ []) ≡ Some p.name
+pub last_name-snoc : (ps : List Pair) (p : Pair) → last_name (ps ++ p ∷ []) ≡ Some p.name
 last_name-snoc [] p = refl
 last_name-snoc (q ∷ []) p = refl
 last_name-snoc (q ∷ r ∷ ps) p = last_name-snoc (r ∷ ps) p
@@ -61,20 +61,42 @@ whole-held ps false t e none some = ap (λ s. s.held) e
 whole-held [] true t e none some = absurd (omega (arith, some refl))
 whole-held (p ∷ ps) true t e none some = absurd (some_last p ps (ap (λ s. s.pending_name) e ∙ none))
 
--- the last pair is the one that has begun
-pub named-last : (front : List Pair) (p : Pair) (b : Bool) (t : TagPairs) (P : List ℕ → Type 0) → pairs_seen (front ++ p ∷ []) b ≡ t → IsSomeAnd t.pending_name P → P p.name
-named-last front p true t P e h =
-    let Q : TagPairs → Type 0 = λ u. IsSomeAnd u.pending_name P in subst Q (sym (sym (pairs_seen-snoc front p) ∙ e)) h
-named-last front p false t P e h = let Q : TagPairs → Type 0 = λ u. IsSomeAnd u.pending_name P in absurd (subst Q (sym e) h)
+-- the name that has begun is the last pair's
+pub named-last : (ps : List Pair) (b : Bool) (t : TagPairs) (P : List ℕ → Type 0) → pairs_seen ps b ≡ t → IsSomeAnd t.pending_name P → IsSomeAnd (last_name ps) P
+named-last ps true t P e h = let Q : TagPairs → Type 0 = λ u. IsSomeAnd u.pending_name P in subst Q (sym e) h
+named-last ps false t P e h = let Q : TagPairs → Type 0 = λ u. IsSomeAnd u.pending_name P in absurd (subst Q (sym e) h)
+
+-- there is a last pair then
+pub some-last : (ps : List Pair) (P : List ℕ → Type 0) → IsSomeAnd (last_name ps) P → 0 < length ps
+some-last [] P h = absurd h
+some-last (p ∷ ps) P h = omega arith
+
+-- the last pair gets its value and goes to its place
+pub finished-last : (front : List Pair) (p : Pair) (value : List ℕ) (ps more : List Pair) → ps ≡ front ++ p ∷ []
+    → more ≡ insert_pair (record { name = p.name; value = value }) front
+    → IfSome (last_name ps) (λ name. more ≡ insert_pair (record { name = name; value = value }) (but_last ps))
+finished-last front p value ps more e h =
+    let Q : Option (List ℕ) → List Pair → Type 0 = λ o held. IfSome o (λ name. more ≡ insert_pair (record { name = name; value = value }) held) in
+    let named : Q (Some p.name) (but_last (front ++ p ∷ [])) =
+    subst (λ held. Q (Some p.name) held) (sym (but_last-snoc front p)) h in
+    let last : Q (last_name (front ++ p ∷ [])) (but_last (front ++ p ∷ [])) =
+    subst (λ o. Q o (but_last (front ++ p ∷ []))) (sym (last_name-snoc front p)) named in
+    subst (λ qs. Q (last_name qs) (but_last qs)) (sym e) last
+
+if_some-seen : (o : Option (List ℕ)) (more held : List Pair) (value : List ℕ)
+    → IfSome o (λ name. more ≡ insert_pair (record { name = name; value = value }) held)
+    → IfSome o (λ name. seen more None ≡ seen (insert_pair (record { name = name; value = value }) held) None)
+if_some-seen (Some name) more held value h = ap (λ ps. seen ps None) h
+if_some-seen None more held value h = tt
 
 -- its value comes, and it goes to its place
-pub completed : (front : List Pair) (p : Pair) (b : Bool) (t : TagPairs) (value : List ℕ) (more : List Pair) → pairs_seen (front ++ p ∷ []) b ≡ t
-    → more ≡ insert_pair (record { name = p.name; value = value }) front
+pub completed : (ps : List Pair) (b : Bool) (t : TagPairs) (value : List ℕ) (more : List Pair) → pairs_seen ps b ≡ t
+    → IfSome (last_name ps) (λ name. more ≡ insert_pair (record { name = name; value = value }) (but_last ps))
     → IfSome t.pending_name (λ name. seen more None ≡ seen (insert_pair (record { name = name; value = value }) t.held) None)
-completed front p true t value more e h =
+completed ps true t value more e h =
     let Q : TagPairs → Type 0 = λ u. IfSome u.pending_name (λ name. seen more None ≡ seen (insert_pair (record { name = name; value = value }) u.held) None) in
-    subst Q (sym (pairs_seen-snoc front p) ∙ e) (ap (λ ps. seen ps None) h)
-completed front p false t value more e h =
+    subst Q e (if_some-seen (last_name ps) more (but_last ps) value h)
+completed ps false t value more e h =
     let Q : TagPairs → Type 0 = λ u. IfSome u.pending_name (λ name. seen more None ≡ seen (insert_pair (record { name = name; value = value }) u.held) None) in
     subst Q e tt
 

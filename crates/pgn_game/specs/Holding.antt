@@ -1,6 +1,7 @@
 -- **Bookkeeping**: how tag pairs are stored.
 -- Those that are complete come first, in order. The one whose value is still to come is last.
-use Rattle.std.specs.Prelude.{ℕ, ◌+◌, ◌≤◌, ◌<◌, IsTrue, Bool, true, false, List, [], ◌∷◌, length, Option, None, Some}
+use Rattle.std.specs.Prelude.{ℕ, ◌+◌, ◌≤◌, ◌<◌, IsTrue, Bool, true, false, List, [], ◌∷◌, length, drop, Option, None, Some}
+use Rattle.pgn_layout.specs.TagLine.{escaped}
 use Rattle.pgn_game.specs.Pairs.{Pair, comes_before}
 
 -- what a contract sees: the pairs that are whole, and the name whose value is still to come
@@ -34,3 +35,8 @@ place_of name (p ∷ ps) = elim (comes_before name p.name) [ true ↦ 0 | false 
 pub record AreHeld (most : ℕ) (ps : List Pair) (has_pending_name : Bool) : Type 0 where
   pub room : length ps ≤ most
   pub some : IsTrue has_pending_name → 0 < length ps
+
+-- the bytes of one pair, its name first: the name's length, and both fit on their line
+pub record FitsOnLine (name_length : ℕ) (text : List ℕ) : Type 0 where
+  pub named : name_length ≤ length text
+  pub short : name_length + length (escaped (drop name_length text)) ≤ 249

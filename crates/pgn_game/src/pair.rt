@@ -5,72 +5,79 @@ ghost use Rattle.pgn_layout.specs.TagLine.{escaped};
 use arrayvec::ArrayVec;
 use std::marker::Model;
 
-/// The most bytes of a name, and of a value: their line has no room for more (PGN 4.3).
+/// The most bytes of a name and its value: their line has no room for more (PGN 4.3).
 pub const TEXT_LENGTH: usize = 249;
 
-/// A tag pair that fits on its line.
+/// A tag pair that fits on its line: the bytes of its name, then those of its value.
 #[derive(Drop)]
 pub struct TagPair {
-    name: ArrayVec<u8, TEXT_LENGTH>,
-    value: ArrayVec<u8, TEXT_LENGTH>,
+    text: ArrayVec<u8, TEXT_LENGTH>,
+    name_length: usize,
 }
 
 impl Model for TagPair {
-    ghost use Rattle.std.specs.Prelude.{◌+◌, ◌≤◌, length};
+    ghost use Rattle.std.specs.Prelude.{◌+◌, ◌≤◌, length, take, drop};
     ghost use Rattle.pgn_layout.specs.TagLine.{escaped};
     ghost use Rattle.pgn_game.specs.Pairs.{Pair};
+    ghost use Rattle.pgn_game.specs.Holding.{FitsOnLine};
 
     ghost Value = { Pair };
 
-    ghost view = { λ p. record { name = p.name.items; value = p.value.items } };
+    ghost view = { λ p. record {
+      name = take p.name_length p.text.items;
+      value = drop p.name_length p.text.items;
+    } };
 
-    ghost invariant = { λ p. length p.name.items + length (escaped p.value.items) ≤ 249 };
+    ghost invariant = { λ p. FitsOnLine p.name_length p.text.items };
 }
 
 impl TagPair {
-    /// Returns the pair of this name and this value.
-    pub fn new(name: &[u8], value: &[u8]) -> Self
-        requires { length name.now + length (escaped value.now) ≤ 249 }
-        ensures { result ≡ record { name = name.now; value = value.now } }
+    /// Returns a pair of this name, whose value is empty.
+    pub fn new(name: &[u8]) -> Self
+        requires { length name.now ≤ 249 }
+        ensures { result ≡ record { name = name.now; value = [] } }
     {
+        let mut text = ArrayVec::new();
+        let _ = text.try_extend_from_slice(name);
         TagPair {
-            name: bytes(name),
-            value: bytes(value),
+            text,
+            name_length: name.len(),
         }
     }
 
+    /// Puts this value in place of the pair's.
+    pub fn set_value(&mut self, value: &[u8])
+        requires { length self.old.name + length (escaped value.now) ≤ 249 }
+        ensures { self.new ≡ record { name = self.old.name; value = value.now } }
+    {
+        self.text.truncate(self.name_length);
+        let _ = self.text.try_extend_from_slice(value);
+    }
+
     /// Returns the name.
+    #[inline(always)]
     pub fn name(&self) -> &[u8]
         ensures name { result.now ≡ self.now.name }
         ensures fits { length self.now.name + length (escaped self.now.value) ≤ 249 }
     {
-        self.name.as_slice()
+        &self.text.as_slice()[..self.name_length]
     }
 
     /// Returns the value.
+    #[inline(always)]
     pub fn value(&self) -> &[u8]
         ensures value { result.now ≡ self.now.value }
         ensures fits { length self.now.name + length (escaped self.now.value) ≤ 249 }
     {
-        self.value.as_slice()
+        &self.text.as_slice()[self.name_length..]
     }
 }
 
 impl Default for TagPair {
     fn default() -> Self {
         TagPair {
-            name: ArrayVec::new(),
-            value: ArrayVec::new(),
+            text: ArrayVec::new(),
+            name_length: 0,
         }
     }
-}
-
-// The text in a vector.
-fn bytes(text: &[u8]) -> ArrayVec<u8, TEXT_LENGTH>
-    requires { length text.now ≤ 249 }
-    ensures { result.items ≡ text.now }
-{
-    let mut bytes = ArrayVec::new();
-    let _ = bytes.try_extend_from_slice(text);
-    bytes
 }

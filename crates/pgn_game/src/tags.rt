@@ -1,8 +1,8 @@
 //! The tag pairs of one game, in the order of their names.
-ghost use Rattle.std.specs.Prelude.{◌≡◌, ◌+◌, ◌<◌, ◌≤◌, ◌↔◌, ℕ, Bool, [], ◌∷◌, List, IsTrue, IfSome, IsSome, IsSomeAnd, Some, None, length};
+ghost use Rattle.std.specs.Prelude.{◌≡◌, ◌+◌, ◌<◌, ◌≤◌, ◌↔◌, ℕ, Bool, [], ◌∷◌, ◌++◌, List, IsTrue, IfSome, IsSome, IsSomeAnd, Some, None, insert, length};
 ghost use Rattle.pgn_layout.specs.TagLine.{escaped};
-ghost use Rattle.pgn_game.specs.Pairs.{value_of, comes_before, insert_pair};
-ghost use Rattle.pgn_game.specs.Holding.{place_of as place_before};
+ghost use Rattle.pgn_game.specs.Pairs.{Pair, value_of, comes_before, insert_pair};
+ghost use Rattle.pgn_game.specs.Holding.{place_of as place_before, last_name, but_last};
 ghost use Rattle.std.specs.Option.{option_copied};
 
 use crate::pair::TagPair;
@@ -71,7 +71,7 @@ impl<const T: usize> TagPairs<T> {
         requires fits { length name.now ≤ 249 }
         ensures { self.new ≡ record { held = self.old.held; pending_name = Some name.now } }
     {
-        self.pairs.push(TagPair::new(name, b""));
+        self.pairs.push(TagPair::new(name));
         self.has_pending_name = true;
     }
 
@@ -96,12 +96,8 @@ impl<const T: usize> TagPairs<T> {
               pending_name = None;
             }) }
     {
-        if let Some(pending) = self.pairs.pop() {
-            let pair = TagPair::new(pending.name(), value);
-            let place = place_of(self.pairs.as_slice(), pair.name());
-            self.pairs.insert(place, pair);
-            self.has_pending_name = false;
-        }
+        complete_last(self.pairs.as_mut_slice(), value);
+        self.has_pending_name = false;
     }
 
     /// Drops all pairs.
@@ -128,7 +124,8 @@ pub fn value_in<'a>(pairs: &'a [TagPair], name: &[u8]) -> Option<&'a [u8]>
 
 /// Returns how many pairs come before a name in their order.
 pub fn place_of(pairs: &[TagPair], name: &[u8]) -> usize
-    ensures { result ≡ place_before name.now (pairs.now) }
+    ensures place { result ≡ place_before name.now (pairs.now) }
+    ensures within { result ≤ length pairs.now }
 {
     for (i, pair) in pairs.iter().enumerate() {
         if is_before(name, pair.name()) {
@@ -136,6 +133,31 @@ pub fn place_of(pairs: &[TagPair], name: &[u8]) -> usize
         }
     }
     pairs.len()
+}
+
+// Gives the last pair its value, and moves it to its place among the others.
+fn complete_last(pairs: &mut [TagPair], value: &[u8])
+    requires { IsSomeAnd (last_name pairs.old)
+        (λ name. length name + length (escaped value.now) ≤ 249) }
+    ensures len { length pairs.new ≡ length pairs.old }
+    ensures pairs { IfSome (last_name pairs.old) (λ name. pairs.new
+        ≡ insert_pair (record { name = name; value = value.now }) (but_last pairs.old)) }
+{
+    if let Some((last, front)) = pairs.split_last_mut() {
+        last.set_value(value);
+        let place = place_of(front, last.name());
+        move_last(pairs, place);
+    }
+}
+
+// Moves the last pair to this place, and the pairs from there on up.
+fn move_last(pairs: &mut [TagPair], place: usize)
+    requires { place < length pairs.old }
+    ensures len { length pairs.new ≡ length pairs.old }
+    ensures pairs { (front : List Pair) (last : Pair) → pairs.old ≡ front ++ last ∷ []
+        → pairs.new ≡ insert front place last }
+{
+    pairs[place..].rotate_right(1);
 }
 
 // Whether a name comes before another in the order of ASCII.

@@ -9,7 +9,6 @@ use Rattle.pgn_game.specs.Pairs.{Pair, has_pair}
 use Rattle.pgn_game.specs.SectionLines.{text_by, other_line}
 use Rattle.pgn_game.specs.TagSection.{other_pairs, tag_lines, with_set_up}
 use Rattle.pgn_game.proofs.Appending.{front_of_more, front_after, Writes-append}
-use Rattle.pgn_game.proofs.Ordering.{place_of-le}
 use Rattle.pgn_game.proofs.Sections.{others_without_fen, others_with_fen, lines_about}
 use Rattle.pgn_game.proofs.section.write_others.Goals as goal
 
@@ -29,13 +28,13 @@ returns-then-not-has_fen-clause-text g c =
     rw (← others_without_fen held none) c.write_pairs.ensures.text
 
 pub split_at-requires : goal.split_at-requires
-split_at-requires g c = rw c.place_of.ensures (place_of-le (codes "SetUp") c.args.pairs.now)
+split_at-requires g c = c.place_of.ensures.within
 
 pub returns-in_err-write_pairs-clause-text : goal.returns-in_err-write_pairs-clause-text
 returns-in_err-write_pairs-clause-text g c =
     let p = err_from_is_err_and c.from_residual.result c.from_residual.ensures.1 in
     let some : has_pair c.args.pairs.now (codes "FEN") ≡ true = sym c.has_fen.ensures ∙ c.if-not-has_fen.false in
-    rw (p.1, ← both_sides c.args.pairs.now _ _ _ _ refl c.place_of.ensures c.split_at.ensures.front c.split_at.ensures.back some)
+    rw (p.1, ← both_sides c.args.pairs.now _ _ _ _ refl c.place_of.ensures.place c.split_at.ensures.front c.split_at.ensures.back some)
     (front_of_more _ _ _ _ (front_of_more _ _ _ _ c.in_err-write_pairs.ensures.text))
 
 pub returns-in_err-tag-clause-text : goal.returns-in_err-tag-clause-text
@@ -43,12 +42,12 @@ returns-in_err-tag-clause-text g c =
     let p = err_from_is_err_and c.from_residual-in_err-tag.result c.from_residual-in_err-tag.ensures.1 in
     let some : has_pair c.args.pairs.now (codes "FEN") ≡ true = sym c.has_fen.ensures ∙ c.if-not-has_fen.false in
     let going = ap (λ (l : Layout). l.has_failed) c.in_ok-write_pairs.ensures.line ∙ c.requires.going in
-    rw (p.1, ← both_sides c.args.pairs.now _ _ _ _ refl c.place_of.ensures c.split_at.ensures.front c.split_at.ensures.back some)
+    rw (p.1, ← both_sides c.args.pairs.now _ _ _ _ refl c.place_of.ensures.place c.split_at.ensures.front c.split_at.ensures.back some)
     (front_of_more _ _ _ _ (front_after _ _ _ _ _ c.in_ok-write_pairs.ensures.text (c.in_err-tag.ensures.text going)))
 
 pub returns-clause-text : goal.returns-clause-text
 returns-clause-text g c =
     let some : has_pair c.args.pairs.now (codes "FEN") ≡ true = sym c.has_fen.ensures ∙ c.if-not-has_fen.false in
     let going = ap (λ (l : Layout). l.has_failed) c.in_ok-write_pairs.ensures.line ∙ c.requires.going in
-    rw (← both_sides c.args.pairs.now _ _ _ _ refl c.place_of.ensures c.split_at.ensures.front c.split_at.ensures.back some)
+    rw (← both_sides c.args.pairs.now _ _ _ _ refl c.place_of.ensures.place c.split_at.ensures.front c.split_at.ensures.back some)
     (Writes-append _ _ _ _ _ _ (Appends-trans _ _ _ _ _ c.in_ok-write_pairs.ensures.text (c.in_ok-tag.ensures.text going)) c.write_pairs-3.ensures.text)

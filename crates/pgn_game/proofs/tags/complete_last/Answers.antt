@@ -1,0 +1,23 @@
+use Rattle.std.proofs.Common.{◌≡◌, ℕ, ◌+◌, ◌≤◌, List, length, Option, refl, ap, subst, ◌∙◌}
+use Rattle.std.specs.Prelude.{insert, IsSomeAnd}
+use Rattle.pgn_layout.specs.TagLine.{escaped}
+use Rattle.pgn_game.specs.Pairs.{Pair}
+use Rattle.pgn_game.specs.Holding.{place_of, last_name}
+use Rattle.pgn_game.proofs.Ordering.{insert-place, last_name-snoc, finished-last}
+use Rattle.pgn_game.proofs.tags.complete_last.Goals as goal
+
+pub set_value-requires : goal.set_value-requires
+set_value-requires c =
+    let named = subst (λ (ps : List Pair). IsSomeAnd (last_name ps) (λ name. length name + length (escaped c.args.value.now) ≤ 249)) c.in-Some.ensures.cases.0 c.requires in
+    subst (λ (o : Option (List ℕ)). IsSomeAnd o (λ name. length name + length (escaped c.args.value.now) ≤ 249)) (last_name-snoc c.in-Some.front.now c.in-Some.last.now) named
+
+pub returns-in-Some-clause-pairs : goal.returns-in-Some-clause-pairs
+returns-in-Some-clause-pairs c =
+    let front = c.in-Some.front.now in
+    let p = c.in-Some.last.now in
+    let pair : Pair = record { name = p.name; value = c.args.value.now } in
+    let place : c.place_of-place.result ≡ place_of pair.name front =
+    c.place_of-place.ensures.place ∙ ap (λ (n : List ℕ). place_of n front) (c.name.ensures.name ∙ ap (λ (q : Pair). q.name) c.set_value.ensures) in
+    finished-last front p c.args.value.now c.args.pairs.now c.move_last.new.pairs c.in-Some.ensures.cases.0
+    (c.move_last.ensures.pairs front c.set_value.new.self refl ∙ ap (insert front c.place_of-place.result) c.set_value.ensures
+    ∙ ap (λ (n : ℕ). insert front n pair) place ∙ insert-place pair front)
