@@ -1,9 +1,10 @@
 -- What an item adds to the movetext that is held.
 use Rattle.std.proofs.Common.{◌≡◌, ℕ, ◌+◌, ◌<◌, ◌≤◌, Bool, true, false, cond, List, [], ◌∷◌, ◌++◌, map, length, drop, Option, Some, refl, sym, ap, subst, ◌∙◌, append_assoc, append-nil, arith}
-use Rattle.std.specs.Prelude.{All, fold, ◌==◌, ◌&&◌, IsTrue, is_some, IfSome, Result, Ok, Err, IsErr, OnOk, unwrap_or}
+use Rattle.std.specs.Prelude.{All, ◌==◌, ◌&&◌, IsTrue, is_some, IfSome, Result, Ok, Err, IsErr, OnOk, unwrap_or}
 use Rattle.std.specs.Io.KnownBytes.{Appends}
 use Rattle.std.proofs.lemmas.List.Elements.{All-nil, All-cons, All-head, All-tail, All-append}
 use Rattle.std.proofs.lemmas.List.{length-map}
+use Rattle.std.proofs.lemmas.List.Sums.{fold-append}
 use Rattle.std.proofs.Math.Dec.{eqb-suc-zero}
 use Rattle.std.proofs.Math.Seq.{drop-append_seam}
 use Rattle.chess_rules.specs.declared.position.Move.{Move}
@@ -19,12 +20,12 @@ use Rattle.pgn_game.specs.declared.judged.Item.TheVariants as code
 use Rattle.pgn_game.specs.declared.mode.Mode.{Mode}
 use Rattle.pgn_game.specs.declared.mode.Mode.TheVariants.{Full, Reduced}
 use Rattle.pgn_game.specs.Chess.{play, text_of_move}
-use Rattle.pgn_game.specs.Game.{Item, move, glyph, comment_open, word, comment_close, open_variation, close_variation}
+use Rattle.pgn_game.specs.Game.{Item, move, open_variation, close_variation}
 use Rattle.pgn_game.specs.Levels.{Level as ModelLevel, Levels as ModelLevels, levels_after, levels_of, first_level, depth, here, outermost, main_moves}
 use Rattle.pgn_game.specs.Text.{Placed, is_move, tokens_at, tokens_from, tokens_out, full_text}
 use Rattle.pgn_game.specs.Movetext.{HeldLevels, Movetext, level_at, IsBackIn, before_last, level_held, levels_held, ends_in_move, HoldsItems}
 use Rattle.pgn_game.specs.Judging.{ItemFits, item_of}
-use Rattle.pgn_game.specs.Putting.{Device, Puts, GoesOn, LeadsLevels, writes, tokens_if, after_move_if, counted_at, plies_in, item_text, Adds}
+use Rattle.pgn_game.specs.Putting.{Device, Puts, GoesOn, LeadsLevels, writes, tokens_if, after_move_if, plies_in, item_text, Adds}
 use Rattle.pgn_game.proofs.Appending.{front_of_more, Writes-append}
 use Rattle.pgn_game.proofs.Items.{written_from_start, written_behind, written_more, tokens_behind, tokens_more, full_lines_put, last_line_put}
 
@@ -52,12 +53,8 @@ last_line_laid ts (u ∷ us) each more =
     ∙ ap (λ l. (laid_from l (map Put us)).line) (last_line_put ts u each)
 
 -- One item more.
-fold-snoc : {A B : Type 0} (f : B → A → B) (b : B) (xs : List A) (y : A) → fold f b (xs ++ y ∷ []) ≡ f (fold f b xs) y
-fold-snoc f b [] y = refl
-fold-snoc f b (x ∷ xs) y = fold-snoc f (f b x) xs y
-
-pub levels_of-snoc : (items : List Item) (i : Item) → levels_of (items ++ i ∷ []) ≡ levels_after (levels_of items) i
-levels_of-snoc items i = fold-snoc levels_after first_level items i
+levels_of-snoc : (items : List Item) (i : Item) → levels_of (items ++ i ∷ []) ≡ levels_after (levels_of items) i
+levels_of-snoc items i = fold-append levels_after first_level items (i ∷ [])
 
 ends_in_move-append : (b : Bool) (xs ys : List Placed) → ends_in_move b (xs ++ ys) ≡ ends_in_move (ends_in_move b xs) ys
 ends_in_move-append b [] ys = refl
@@ -76,13 +73,9 @@ plies_by (move m) present [] = omega arith
 plies_by (move m) present (l ∷ around) =
     let n = length (main_of (record { present = present; around = l ∷ around })) in
     none_more n ∙ ap (λ b. n + elim b [ true ↦ 1 | false ↦ 0 ]) (sym (eqb-suc-zero (length around)))
-plies_by (glyph n) present around = omega arith
-plies_by comment_open present around = omega arith
-plies_by (word text) present around = omega arith
-plies_by comment_close present around = omega arith
-plies_by open_variation present around = omega arith
 plies_by close_variation present [] = omega arith
 plies_by close_variation present (l ∷ around) = omega arith
+plies_by _ present around = omega arith
 
 plies-snoc : (items : List Item) (i : Item)
     → length (main_moves (items ++ i ∷ [])) ≡ length (main_moves items) + plies_in i (depth (levels_of items))
@@ -149,7 +142,7 @@ closed start present [] new some h = absurd (omega arith)
 closed start present (l ∷ around) new some h = h
 
 -- a legal move leads to the position after it
-pub played_is : (p : Parts) (m : Move) (next : Parts) → legal p m ≡ Some next → next ≡ play p m
+played_is : (p : Parts) (m : Move) (next : Parts) → legal p m ≡ Some next → next ≡ play p m
 unfolding play
 played_is p m next is = sym (ap (λ o. unwrap_or o p) is)
 
@@ -168,10 +161,12 @@ levels_lead most code.Open text new start ls fits leads e =
 levels_lead most code.Close text new start ls fits leads e =
     closed start ls.present ls.around new
     (subst (λ (o : HeldLevels). 0 < length o.around) e fits) (subst (λ (o : HeldLevels). IsBackIn o.around new) e leads)
-levels_lead most (code.Glyph n) text new start ls fits leads e = leads ∙ e
-levels_lead most code.CommentOpen text new start ls fits leads e = leads ∙ e
-levels_lead most (code.Word w) text new start ls fits leads e = leads ∙ e
-levels_lead most code.CommentClose text new start ls fits leads e = leads ∙ e
+levels_lead most _ text new start ls fits leads e = leads ∙ e
+
+one_at_most : (moved main : Bool) → elim moved [ true ↦ elim main [ true ↦ 1 | false ↦ 0 ] | false ↦ 0 ] ≤ 1
+one_at_most true true = omega arith
+one_at_most true false = omega arith
+one_at_most false main = omega arith
 
 -- An item's tokens were put where it is written, and the movetext went on with it.
 module _ (most : ℕ) (mode : Mode) (i : CodeItem) (text : Movetext) (layout new_layout : Layout) (d : Device) where
@@ -228,24 +223,9 @@ module _ (most : ℕ) (mode : Mode) (i : CodeItem) (text : Movetext) (layout new
       subst (Appends d.before d.after) (item_text_is start items holds puts.each) puts.text,
     );
     going = ap (λ (l : Layout). l.has_failed) puts.line;
-    plies = few on.plies (is_move (item_of i)) (length text.levels.around == 0) refl refl;
+    plies = omega (arith, on.plies, one_at_most (is_move (item_of i)) (length text.levels.around == 0));
     counted = puts.counted;
   }
-    where
-      few : new.plies ≡ text.plies + plies_in (item_of i) (length text.levels.around) → (moved main : Bool)
-          → is_move (item_of i) ≡ moved → (length text.levels.around == 0) ≡ main → new.plies ≤ text.plies + 1
-      few counts true true m n = omega (arith, counts, same)
-        where
-          same : plies_in (item_of i) (length text.levels.around) ≡ 1
-          same = ap (λ b. elim b [ true ↦ counted_at (length text.levels.around) | false ↦ 0 ]) m ∙ ap (λ b. elim b [ true ↦ 1 | false ↦ 0 ]) n
-      few counts true false m n = omega (arith, counts, same)
-        where
-          same : plies_in (item_of i) (length text.levels.around) ≡ 0
-          same = ap (λ b. elim b [ true ↦ counted_at (length text.levels.around) | false ↦ 0 ]) m ∙ ap (λ b. elim b [ true ↦ 1 | false ↦ 0 ]) n
-      few counts false main m n = omega (arith, counts, same)
-        where
-          same : plies_in (item_of i) (length text.levels.around) ≡ 0
-          same = ap (λ b. elim b [ true ↦ counted_at (length text.levels.around) | false ↦ 0 ]) m
 
   pub adds_front : {A E : Type 0} (new : Movetext) (e : E) (result : Result Unit WriteFault) → Puts {A = A} us layout new_layout (Err e) d → new ≡ text
       → IsErr result → Adds mode (item_of i) text layout new new_layout result d

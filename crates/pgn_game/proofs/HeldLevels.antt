@@ -13,19 +13,15 @@ abbrev deeper : HeldLevels → CodeLevel → HeldLevels
 deeper ls l = record { present = level_of l; around = ls.present ∷ ls.around }
 
 inside-last : (ls : HeldLevels) (xs : List CodeLevel) (i : ℕ) (d : CodeLevel) → suc i ≡ length xs → (inside ls xs).present ≡ level_of (get_or xs i d)
-inside-last ls [] i d e = absurd (omega (arith, e))
 inside-last ls (x ∷ []) zero d e = refl
-inside-last ls (x ∷ []) (suc i) d e = absurd (omega (arith, e))
-inside-last ls (x ∷ y ∷ xs) zero d e = absurd (omega (arith, e))
 inside-last ls (x ∷ y ∷ xs) (suc i) d e = inside-last (deeper ls x) (y ∷ xs) i d (omega (arith, e))
+inside-last ls _ _ d e = absurd (omega (arith, e))
 
 inside-set : (ls : HeldLevels) (xs : List CodeLevel) (i : ℕ) (l : CodeLevel) → suc i ≡ length xs
     → inside ls (set xs i l) ≡ record { present = level_of l; around = (inside ls xs).around }
-inside-set ls [] i l e = absurd (omega (arith, e))
 inside-set ls (x ∷ []) zero l e = refl
-inside-set ls (x ∷ []) (suc i) l e = absurd (omega (arith, e))
-inside-set ls (x ∷ y ∷ xs) zero l e = absurd (omega (arith, e))
 inside-set ls (x ∷ y ∷ xs) (suc i) l e = inside-set (deeper ls x) (y ∷ xs) i l (omega (arith, e))
+inside-set ls _ _ l e = absurd (omega (arith, e))
 
 inside-snoc : (ls : HeldLevels) (xs : List CodeLevel) (l : CodeLevel) → inside ls (xs ++ l ∷ []) ≡ deeper (inside ls xs) l
 inside-snoc ls [] l = refl
@@ -33,11 +29,9 @@ inside-snoc ls (x ∷ xs) l = inside-snoc (deeper ls x) xs l
 
 inside-front : (ls : HeldLevels) (xs : List CodeLevel) (i : ℕ) → suc i ≡ length xs
     → (inside ls xs).around ≡ (inside ls (take i xs)).present ∷ (inside ls (take i xs)).around
-inside-front ls [] i e = absurd (omega (arith, e))
 inside-front ls (x ∷ []) zero e = refl
-inside-front ls (x ∷ []) (suc i) e = absurd (omega (arith, e))
-inside-front ls (x ∷ y ∷ xs) zero e = absurd (omega (arith, e))
 inside-front ls (x ∷ y ∷ xs) (suc i) e = inside-front (deeper ls x) (y ∷ xs) i (omega (arith, e))
+inside-front ls _ _ e = absurd (omega (arith, e))
 
 inside-depth : (ls : HeldLevels) (xs : List CodeLevel) → length (inside ls xs).around ≡ length ls.around + length xs
 inside-depth ls [] = omega arith

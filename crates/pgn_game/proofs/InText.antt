@@ -1,7 +1,8 @@
 -- What the tokens of movetext are refused for, and where they lead, for a part that is open.
-use Rattle.std.proofs.Common.{◌≡◌, ℕ, suc, Bool, true, false, ◌&&◌, ◌||◌, not, List, [], ◌∷◌, length, map, nat_le, Option, None, Some, Bor, refl, sym, ap, subst, ◌∙◌, arith}
+use Rattle.std.proofs.Common.{◌≡◌, ℕ, Bool, true, false, ◌&&◌, ◌||◌, not, List, [], ◌∷◌, length, nat_le, Option, None, Some, Bor, refl, sym, ap, ◌∙◌, arith}
+use Rattle.std.proofs.lemmas.List.{length-map}
 use Rattle.std.specs.Option.{option_copied}
-use Rattle.std.specs.Prelude.{IsTrue, IsFalse, is_some, ◌==◌, Result, Ok, Err, bytes_eq, codes, unwrap_or}
+use Rattle.std.specs.Prelude.{is_some, ◌==◌, Result, Ok, Err, bytes_eq, codes, unwrap_or}
 use Rattle.chess_rules.specs.declared.position.Parts.{Parts}
 use Rattle.chess_text.specs.declared.resolution.Played.{Played}
 use Rattle.chess_text.specs.declared.resolution.SanFault.{SanFault}
@@ -22,16 +23,12 @@ use Rattle.pgn_game.specs.FaultTable.{marker_of, is_number, is_score, is_no_form
 use Rattle.pgn_game.specs.Finding.{found_in}
 use Rattle.pgn_game.specs.Progress.{Next, going, whole, in_text, item_of, items_of}
 use Rattle.pgn_game.specs.Movetext.{HeldLevels, before_last, level_held}
-use Rattle.pgn_game.specs.Reading.{Reading, is_outside_the_table}
+use Rattle.pgn_game.specs.Reading.{Reading}
 use Rattle.pgn_game.specs.declared.stage.Stage.{Stage}
 use Rattle.pgn_game.specs.Judging.{IsOpen, found_of, may_have_movetext, game_of, or_else, text_refusal, with_items}
 use Rattle.pgn_game.proofs.Refusing.{hit, pass}
 
 -- The levels.
-
-length-held : (start : Parts) (ls : List ModelLevel) → length (map (level_held start) ls) ≡ length ls
-length-held start [] = refl
-length-held start (l ∷ ls) = ap (λ n. suc n) (length-held start ls)
 
 some_before : (start : Parts) (l : ModelLevel) → is_some (before_last start l) ≡ l.has_own_move
 some_before start l =
@@ -42,7 +39,9 @@ holds_is old part is =
     ap (λ (ls : HeldLevels). is_some ls.present.before) is.held.levels ∙ some_before (start_of part.pairs) (levels_in part).present
 
 pub depth_is : (old : Reading) (part : Part) → IsOpen old part → length old.text.levels.around ≡ depth (levels_in part)
-depth_is old part is = ap (λ (ls : HeldLevels). length ls.around) is.held.levels ∙ length-held (start_of part.pairs) (levels_in part).around
+depth_is old part is =
+    ap (λ (ls : HeldLevels). length ls.around) is.held.levels
+    ∙ length-map (levels_in part).around (level_held (start_of part.pairs))
 
 pub position_is : (old : Reading) (part : Part) → IsOpen old part → old.text.levels.present.present ≡ position_in part
 position_is old part is = ap (λ (ls : HeldLevels). ls.present.present) is.held.levels
@@ -79,19 +78,12 @@ symbol_refusal p part s word score w e =
     ap (λ (b : Bool). symbol_rows p part s b (is_score s) (move_of (position_in part) s)) w
     ∙ ap (λ (b : Bool). symbol_rows p part s word b (move_of (position_in part) s)) e
 
-either_left : (a b : Bool) → a ≡ true → (a || b) ≡ true
-either_left a b e = ap (λ (x : Bool). x || b) e
-
 either_right : (a b : Bool) → b ≡ true → (a || b) ≡ true
 either_right true b e = refl
 either_right false b e = e
 
 neither : (a b : Bool) → a ≡ false → b ≡ false → (a || b) ≡ false
 neither a b e f = ap (λ (x : Bool). x || b) e ∙ f
-
--- a number is let pass, and adds nothing
-pub number_free : (p : Profile) (part : Part) (s : List ℕ) → is_number s ≡ true → is_score s ≡ false → text_refusal p part (symbol s) ≡ None
-number_free p part s is other = symbol_refusal p part s true false (either_left (is_number s) (is_score s) is) other
 
 abbrev symbol_next : Part → List ℕ → Bool → Bool → MoveReading → Next
 symbol_next part s number score r =
@@ -102,9 +94,6 @@ symbol_leads : (part : Part) (s : List ℕ) (number score : Bool) → is_number 
 symbol_leads part s number score n e =
     ap (λ (b : Bool). symbol_next part s b (is_score s) (move_of (position_in part) s)) n
     ∙ ap (λ (b : Bool). symbol_next part s number b (move_of (position_in part) s)) e
-
-pub number_leads : (part : Part) (s : List ℕ) → is_number s ≡ true → is_score s ≡ false → in_text part (symbol s) ≡ going (with_items part [])
-number_leads part s is other = symbol_leads part s true false is other
 
 -- a move is refused as it is found
 abbrev refused_as : Parts → MoveReading → Option Reason
@@ -130,9 +119,6 @@ abbrev limited : Bool → Played → Result Played Reason
 limited b one = elim b [ true ↦ Err MoveLimit | false ↦ Ok one ]
 
 found_free : (p : Parts) (r : MoveReading) (played : Played) → found_in p r ≡ Ok played → (refused_as p r ≡ None) × (r ≡ Some (Ok played))
-found_free p None played e = absurd (cc)
-found_free p (Some (Err NoMove)) played e = absurd (cc)
-found_free p (Some (Err Ambiguous)) played e = absurd (cc)
 found_free p (Some (Ok one)) played e = by_limit (is_at_limit p) refl
   where
     by_limit : (b : Bool) → is_at_limit p ≡ b → (refused_as p (one_move one) ≡ None) × (one_move one ≡ one_move played)
@@ -141,34 +127,14 @@ found_free p (Some (Ok one)) played e = by_limit (is_at_limit p) refl
         let h : limited false one ≡ Ok played = sym (ap (λ (b : Bool). limited b one) is) ∙ e in
         let k : one ≡ played = cc in
         (pass (is_at_limit p) MoveLimit None is, ap one_move k)
-
-found_refused : (p : Parts) (r : MoveReading) (reason : Reason) → found_in p r ≡ Err reason → (refused_as p r ≡ Some reason) × IsFalse (is_outside_the_table reason)
-found_refused p None reason e = let h : NotAMove ≡ reason = cc in (ap (λ x. Some x) h, subst (λ (x : Reason). IsFalse (is_outside_the_table x)) h refl)
-found_refused p (Some (Err NoMove)) reason e = let h : IllegalMove ≡ reason = cc in (ap (λ x. Some x) h, subst (λ (x : Reason). IsFalse (is_outside_the_table x)) h refl)
-found_refused p (Some (Err Ambiguous)) reason e = let h : AmbiguousMove ≡ reason = cc in (ap (λ x. Some x) h, subst (λ (x : Reason). IsFalse (is_outside_the_table x)) h refl)
-found_refused p (Some (Ok one)) reason e = by_limit (is_at_limit p) refl
-  where
-    by_limit : (b : Bool) → is_at_limit p ≡ b → (refused_as p (one_move one) ≡ Some reason) × IsFalse (is_outside_the_table reason)
-    by_limit true is =
-        let g : limited true one ≡ Err reason = sym (ap (λ (b : Bool). limited b one) is) ∙ e in
-        let h : MoveLimit ≡ reason = cc in
-        (hit (is_at_limit p) MoveLimit None is ∙ ap (λ x. Some x) h, subst (λ (x : Reason). IsFalse (is_outside_the_table x)) h refl)
-    by_limit false is = let h : limited false one ≡ Err reason = sym (ap (λ (b : Bool). limited b one) is) ∙ e in absurd (cc)
+found_free p None played e = absurd (cc)
+found_free p (Some (Err NoMove)) played e = absurd (cc)
+found_free p (Some (Err Ambiguous)) played e = absurd (cc)
 
 -- what was found at the reader's position was found at the part's
 found_at : (old : Reading) (part : Part) (s : List ℕ) (here : Parts) (r : Result Played Reason) → IsOpen old part → here ≡ old.text.levels.present.present → r ≡ found_in here (move_of here s)
     → found_in (position_in part) (move_of (position_in part) s) ≡ r
 found_at old part s here r is same found = sym (found ∙ ap (λ (p : Parts). found_in p (move_of p s)) (same ∙ position_is old part is))
-
-pub move_refused : (old : Reading) (part : Part) (s : List ℕ) (here : Parts) (reason : Reason) → is_number s ≡ false → is_score s ≡ false → IsOpen old part → here ≡ old.text.levels.present.present
-    → Err reason ≡ found_in here (move_of here s) → text_refusal old.profile part (symbol s) ≡ Some reason
-move_refused old part s here reason number score is same found =
-    move_refusal old.profile part s number score
-    ∙ (found_refused (position_in part) (move_of (position_in part) s) reason (found_at old part s here (Err reason) is same found)).0
-
--- the reason is one of the table, whether or not a part is open
-pub move_reason : (here : Parts) (s : List ℕ) (reason : Reason) → Err reason ≡ found_in here (move_of here s) → IsFalse (is_outside_the_table reason)
-move_reason here s reason found = (found_refused here (move_of here s) reason (sym found)).1
 
 pub move_free : (old : Reading) (part : Part) (s : List ℕ) (here : Parts) (played : Played) → is_number s ≡ false → is_score s ≡ false → IsOpen old part → here ≡ old.text.levels.present.present
     → Ok played ≡ found_in here (move_of here s) → text_refusal old.profile part (symbol s) ≡ None
@@ -201,7 +167,7 @@ symbol_marker p part s marker is =
 asterisk_marker : (p : Profile) (part : Part) (marker : List ℕ) → codes "*" ≡ marker → text_refusal p part (kind_of variants.Asterisk) ≡ marker_rows p part marker
 asterisk_marker p part marker e = ap (λ (m : List ℕ). marker_rows p part m) e
 
-pub marker_refusal : (p : Profile) (part : Part) (k : TokenKind) (marker : List ℕ) → marker_of (kind_of k) ≡ Some marker → text_refusal p part (kind_of k) ≡ marker_rows p part marker
+marker_refusal : (p : Profile) (part : Part) (k : TokenKind) (marker : List ℕ) → marker_of (kind_of k) ≡ Some marker → text_refusal p part (kind_of k) ≡ marker_rows p part marker
 marker_refusal p part variants.Asterisk marker is = let e : codes "*" ≡ marker = cc in asterisk_marker p part marker e
 marker_refusal p part (variants.Symbol t) marker is = symbol_marker p part t.now marker is
 marker_refusal p part _ marker is = absurd (cc)
@@ -260,7 +226,7 @@ pub none_around : {A : Type 0} (ls : List A) → length ls ≡ 0 → ls ≡ []
 none_around [] e = refl
 none_around (l ∷ ls) e = absurd (omega (arith, e))
 
--- A symbol that was sought is neither a marker nor a number; one that was not is one of them.
+-- A symbol that was sought is neither a marker nor a number.
 pub sought : (stage : Stage) (here : Parts) (s : List ℕ) (r : Result Played Reason) → Some r ≡ found_of (may_have_movetext stage && not (is_score s || is_number s)) here s
     → (is_number s ≡ false) × (is_score s ≡ false) × (r ≡ found_in here (move_of here s))
 sought stage here s r e = by_tests (may_have_movetext stage) (is_score s) (is_number s) refl refl e
@@ -271,13 +237,3 @@ sought stage here s r e = by_tests (may_have_movetext stage) (is_score s) (is_nu
     by_tests true false true is number e = absurd (cc)
     by_tests true true number is other e = absurd (cc)
     by_tests false score number is other e = absurd (cc)
-
-pub unsought : (stage : Stage) (here : Parts) (s : List ℕ) → IsTrue (may_have_movetext stage) → is_score s ≡ false
-    → None ≡ found_of (may_have_movetext stage && not (is_score s || is_number s)) here s → is_number s ≡ true
-unsought stage here s at other e = by_tests (may_have_movetext stage) (is_score s) (is_number s) refl at other e
-  where
-    by_tests : (at_text score number : Bool) → is_number s ≡ number → at_text ≡ true → score ≡ false → None ≡ found_of (at_text && not (score || number)) here s → is_number s ≡ true
-    by_tests at_text score true is at other e = is
-    by_tests true false false is at other e = absurd (cc)
-    by_tests true true false is at other e = absurd (cc)
-    by_tests false score false is at other e = absurd (cc)

@@ -15,7 +15,7 @@ use Rattle.pgn_game.specs.declared.mode.Mode.{Mode}
 use Rattle.pgn_game.specs.declared.mode.Mode.TheVariants.{Full, Reduced}
 use Rattle.pgn_game.specs.declared.reason.Reason.{Reason}
 use Rattle.pgn_game.specs.declared.stage.Stage.{Stage}
-use Rattle.pgn_game.specs.declared.stage.Stage.TheVariants.{AfterTags, InMovetext, Between, AfterLeftBracket, AfterName, AfterValue}
+use Rattle.pgn_game.specs.declared.stage.Stage.TheVariants.{AfterTags, InMovetext, Between}
 use Rattle.pgn_game.specs.Pairs.{Pair, value_of, has_pair}
 use Rattle.pgn_game.specs.Holding.{TagPairs}
 use Rattle.pgn_game.specs.Game.{Item, Part}
@@ -23,7 +23,7 @@ use Rattle.pgn_game.specs.Levels.{start_of}
 use Rattle.pgn_game.specs.FaultTable.{refusal, is_at, is_comment, is_left_bracket, is_end, lacks_fen, stage_number}
 use Rattle.pgn_game.specs.Progress.{Next, next, in_text}
 use Rattle.pgn_game.specs.Movetext.{Movetext, HoldsItems, begins_at}
-use Rattle.pgn_game.specs.Reading.{Reading, Agrees, AreSound, HoldsPairs, HoldsText, has_move, is_outside_the_table}
+use Rattle.pgn_game.specs.Reading.{Reading, Agrees, HoldsPairs, HoldsText, has_move, is_outside_the_table}
 use Rattle.pgn_game.specs.Judging.{Fits, Marks, Judges, JudgesEntry, IsOpen, outcome_of, after, may_have_movetext, text_refusal}
 use Rattle.pgn_game.specs.Handling.{begins}
 use Rattle.pgn_game.proofs.Passing.{drops_comments}
@@ -119,11 +119,7 @@ held_none mode start items text layout none begins empty =
     (subst (λ (l : Layout). HoldsItems mode start [] (begins_at start) l) (sym empty) (nothing_held mode start)))
 
 -- Where movetext can begin or goes on, it is open.
-pub open_at : (old : Reading) (part : Part) (stage : Stage) → Agrees old part → old.stage ≡ stage → IsTrue (may_have_movetext stage) → IsOpen old part
-open_at old part Between agrees at is = absurd (cc)
-open_at old part AfterLeftBracket agrees at is = absurd (cc)
-open_at old part AfterName agrees at is = absurd (cc)
-open_at old part AfterValue agrees at is = absurd (cc)
+open_at : (old : Reading) (part : Part) (stage : Stage) → Agrees old part → old.stage ≡ stage → IsTrue (may_have_movetext stage) → IsOpen old part
 open_at old part AfterTags agrees at is =
     let text = text_at old part AfterTags agrees at in
     record {
@@ -142,6 +138,7 @@ open_at old part InMovetext agrees at is =
       held = text.0;
       probed = text.1;
     }
+open_at old part _ agrees at is = absurd (cc)
 
 pub open_agrees : (old : Reading) (part : Part) → Agrees old part → IsTrue (may_have_movetext old.stage) → IsOpen old part
 open_agrees old part agrees is = open_at old part old.stage agrees refl is
@@ -158,15 +155,6 @@ entry_at tags levels old k r at bracket over free h = record {
   fits = h.fits;
   marks = h.marks;
 }
-
--- in movetext and between its pairs no name waits for its value
-pub whole_open : (most : ℕ) (stage : Stage) (tags : TagPairs) → IsTrue (may_have_movetext stage) → AreSound most stage tags → tags.pending_name ≡ None
-whole_open most Between tags is sound = absurd (cc)
-whole_open most AfterLeftBracket tags is sound = absurd (cc)
-whole_open most AfterName tags is sound = absurd (cc)
-whole_open most AfterValue tags is sound = absurd (cc)
-whole_open most AfterTags tags is sound = sound
-whole_open most InMovetext tags is sound = sound
 
 -- the test of SetUp is done where it was done after the pairs, and asks for nothing in movetext
 pub free_after_tags : (part : Part) → lacks_fen part.pairs ≡ false → (is_at AfterTags part && lacks_fen part.pairs) ≡ false

@@ -41,11 +41,7 @@ HoldsNone _ items = items ≡ []
 
 none_held : (stage : Stage) (items : List Item) → items ≡ [] → HoldsNone stage items
 none_held InMovetext items e = tt
-none_held Between items e = e
-none_held AfterLeftBracket items e = e
-none_held AfterName items e = e
-none_held AfterValue items e = e
-none_held AfterTags items e = e
+none_held _ items e = e
 
 nothing_to_play : (pairs : List Pair) (items : List Item) → items ≡ []
     → IsTrue (plays_legally pairs items)
@@ -70,16 +66,16 @@ adds_none Between part tokens.comment_open none = inr none
 adds_none Between part (tokens.word text) none = inr none
 adds_none Between part tokens.comment_close none = inr none
 adds_none Between part tokens.end none = inr none
-adds_none Between part k none = inl refl
-adds_none AfterLeftBracket part (tokens.symbol name) none = inr none
-adds_none AfterLeftBracket part k none = inr none
-adds_none AfterName part (tokens.str value) none = inr none
-adds_none AfterName part k none = inr none
-adds_none AfterValue part tokens.right_bracket none = inr none
-adds_none AfterValue part k none = inr none
+adds_none Between part _ none = inl refl
 adds_none AfterTags part tokens.left_bracket none = inr none
-adds_none AfterTags part k none = inl refl
+adds_none AfterTags part _ none = inl refl
 adds_none InMovetext part k none = inl refl
+adds_none AfterLeftBracket part (tokens.symbol name) none = inr none
+adds_none AfterLeftBracket part _ none = inr none
+adds_none AfterName part (tokens.str value) none = inr none
+adds_none AfterName part _ none = inr none
+adds_none AfterValue part tokens.right_bracket none = inr none
+adds_none AfterValue part _ none = inr none
 
 leads_none : (nx : Next) → AddsNone nx → LeadsLegally nx
 leads_none (going part) none =
@@ -125,13 +121,7 @@ module _ (one_read : ReadsTheOne) where
         | false ↦
             item_legal (start_of part.pairs) (levels_in part) s (move_of (position_in part) s) refl
       ]
-  items_legal part (tokens.glyph n) = refl
-  items_legal part tokens.comment_open = refl
-  items_legal part (tokens.word text) = refl
-  items_legal part tokens.comment_close = refl
-  items_legal part tokens.left_paren = refl
-  items_legal part tokens.right_paren = refl
-  items_legal part k = refl
+  items_legal part _ = refl
 
   text_legal : (part : Part) (k : Kind) → IsTrue (plays_legally part.pairs part.items)
       → LeadsLegally (in_text part k)

@@ -51,11 +51,6 @@ some_last p [] e = cc
 some_last p (q ∷ ps) e = some_last q ps e
 
 -- with no pair begun, all are whole
-pub whole-flag : (ps : List Pair) (b : Bool) (t : TagPairs) → pairs_seen ps b ≡ t → t.pending_name ≡ None → (IsTrue b → 0 < length ps) → b ≡ false
-whole-flag ps false t e none some = refl
-whole-flag [] true t e none some = absurd (omega (arith, some refl))
-whole-flag (p ∷ ps) true t e none some = absurd (some_last p ps (ap (λ s. s.pending_name) e ∙ none))
-
 pub whole-held : (ps : List Pair) (b : Bool) (t : TagPairs) → pairs_seen ps b ≡ t → t.pending_name ≡ None → (IsTrue b → 0 < length ps) → ps ≡ t.held
 whole-held ps false t e none some = ap (λ s. s.held) e
 whole-held [] true t e none some = absurd (omega (arith, some refl))
@@ -101,11 +96,9 @@ completed ps false t value more e h =
     subst Q e tt
 
 last_name-at : (ps : List Pair) (n : ℕ) (p : Pair) → suc n ≡ length ps → slice_get ps n ≡ Some p → last_name ps ≡ Some p.name
-last_name-at [] n p most e = absurd (omega (arith, most))
 last_name-at (q ∷ []) zero p most e = ap (λ (o : Option Pair). elim o [ Some r ↦ Some r.name | None ↦ None ]) e
-last_name-at (q ∷ []) (suc n) p most e = absurd (omega (arith, most))
-last_name-at (q ∷ r ∷ ps) zero p most e = absurd (omega (arith, most))
 last_name-at (q ∷ r ∷ ps) (suc n) p most e = last_name-at (r ∷ ps) n p (omega (arith, most)) e
+last_name-at _ _ p most e = absurd (omega (arith, most))
 
 -- the name that has begun is the last pair's
 pub begun-last : (ps : List Pair) (b : Bool) (t : TagPairs) (p : Pair) → pairs_seen ps b ≡ t → (IsTrue b → 0 < length ps)

@@ -145,14 +145,11 @@ text_in_movetext p part _ bracket over = refl
 text_refusal_at : (p : Profile) (part : Part) (stage : Stage) (k : TokenKind) → IsTrue (may_have_movetext stage) → is_left_bracket (kind_of k) ≡ false
     → is_end (kind_of k) ≡ false → (is_at AfterTags (at_stage stage part) && lacks_fen part.pairs) ≡ false
     → refusal p (at_stage stage part) (kind_of k) ≡ text_refusal p part (kind_of k)
-text_refusal_at p part Between k at bracket over free = absurd (cc)
-text_refusal_at p part AfterLeftBracket k at bracket over free = absurd (cc)
-text_refusal_at p part AfterName k at bracket over free = absurd (cc)
-text_refusal_at p part AfterValue k at bracket over free = absurd (cc)
 text_refusal_at p part AfterTags k at bracket over free =
     after_tags p part.pairs part.name part.items (kind_of k) (textual k bracket over) ∙ pass (lacks_fen part.pairs) SetUpWithoutFen _ free
     ∙ text_in_movetext p part k bracket over
 text_refusal_at p part InMovetext k at bracket over free = text_in_movetext p part k bracket over
+text_refusal_at p part _ k at bracket over free = absurd (cc)
 
 -- a token of movetext, from a part at its stage
 pub record IsMovetext (part : Part) (k : TokenKind) : Type 0 where
@@ -163,12 +160,9 @@ pub record IsMovetext (part : Part) (k : TokenKind) : Type 0 where
 
 text_next_at : (part : Part) (stage : Stage) (k : TokenKind) → IsTrue (may_have_movetext stage) → is_left_bracket (kind_of k) ≡ false
     → is_end (kind_of k) ≡ false → next (at_stage stage part) (kind_of k) ≡ in_text part (kind_of k)
-text_next_at part Between k at bracket over = absurd (cc)
-text_next_at part AfterLeftBracket k at bracket over = absurd (cc)
-text_next_at part AfterName k at bracket over = absurd (cc)
-text_next_at part AfterValue k at bracket over = absurd (cc)
 text_next_at part AfterTags k at bracket over = leads_after_tags part.pairs part.name part.items (kind_of k) (textual k bracket over)
 text_next_at part InMovetext k at bracket over = refl
+text_next_at part _ k at bracket over = absurd (cc)
 
 -- the table of movetext is the one for it
 pub judged_in_text : (p : Profile) (part : Part) (k : TokenKind) → IsMovetext part k
@@ -184,37 +178,21 @@ unfolding refusal
 passes_between p part k at is = at_the_stage (λ q. judged p q (kind_of k) ≡ Ok (going q)) part Between at (by_kind k is)
   where
     by_kind : (k : TokenKind) → begins Between (kind_of k) ≡ false → judged p (at_stage Between part) (kind_of k) ≡ Ok (going (at_stage Between part))
-    by_kind variants.LeftBracket is = absurd (cc)
-    by_kind variants.RightBracket is = absurd (cc)
-    by_kind variants.LeftParen is = absurd (cc)
-    by_kind variants.RightParen is = absurd (cc)
-    by_kind variants.Period is = absurd (cc)
-    by_kind variants.Asterisk is = absurd (cc)
-    by_kind (variants.Symbol t) is = absurd (cc)
-    by_kind (variants.Str t) is = absurd (cc)
-    by_kind (variants.Glyph n) is = absurd (cc)
     by_kind variants.CommentOpen is = refl
     by_kind (variants.Word t) is = refl
     by_kind variants.CommentClose is = refl
     by_kind variants.End is = refl
+    by_kind _ is = absurd (cc)
 
 -- A token that begins a game means what it means after pairs, of which there is none.
 pub begins_alike : (p : Profile) (k : TokenKind) → IsTrue (begins Between (kind_of k))
     → judged p no_part (kind_of k) ≡ judged p (at_stage AfterTags no_part) (kind_of k)
 unfolding refusal
-begins_alike p variants.LeftBracket is = refl
-begins_alike p variants.RightBracket is = refl
-begins_alike p variants.LeftParen is = refl
-begins_alike p variants.RightParen is = refl
-begins_alike p variants.Period is = refl
-begins_alike p variants.Asterisk is = refl
-begins_alike p (variants.Symbol t) is = refl
-begins_alike p (variants.Str t) is = refl
-begins_alike p (variants.Glyph n) is = refl
 begins_alike p variants.CommentOpen is = absurd (cc)
 begins_alike p (variants.Word t) is = absurd (cc)
 begins_alike p variants.CommentClose is = absurd (cc)
 begins_alike p variants.End is = absurd (cc)
+begins_alike p _ is = refl
 
 -- the end after the pairs of a game
 pub end_after_tags : (p : Profile) (part : Part) → part.stage ≡ AfterTags → refusal p part tokens.end ≡ Some UnexpectedEnd

@@ -130,28 +130,25 @@ read_one p b c t ts gs all free leads same h =
 
 to_read : (p : Profile) (part : Part) (ks : List Kind) (gs : List Game) → Runs p part ks gs → (ts : List Token) (before : List Game) → kinds ts ≡ ks
     → Read_well p (behind before part) ts gs
-to_read p _ _ _ (ends part free) [] before e = absurd (cc)
-to_read p _ _ _ (ends part free) (t ∷ u ∷ us) before e = absurd (cc)
 to_read p _ _ _ (ends part free) (t ∷ []) before e =
     let kind : t.kind ≡ tokens.end = cc in
     let leads = end_leads part.stage part.pairs part.name part.items in
     read_one p (behind before part) (behind before leads.0) t [] [] [] (ap (refusal p part) kind ∙ free)
     (ap (λ (k : Kind). progress_with before (next part k)) kind ∙ ap (progress_with before) leads.1) refl
     (record { fault = refl; games = sym (append-nil before) })
-to_read p _ _ _ (goes part to k ks gs free end leads runs) [] before e = absurd (cc)
 to_read p _ _ _ (goes part to k ks gs free end leads runs) (t ∷ ts) before e =
     let kind : t.kind ≡ k = cc in
     let rest : kinds ts ≡ ks = cc in
     read_one p (behind before part) (behind before to) t ts gs gs (ap (refusal p part) kind ∙ free)
     (ap (λ (j : Kind). progress_with before (next part j)) kind ∙ ap (progress_with before) leads) refl
     (to_read p to ks gs runs ts before rest)
-to_read p _ _ _ (finishes part k g ks gs free end leads runs) [] before e = absurd (cc)
 to_read p _ _ _ (finishes part k g ks gs free end leads runs) (t ∷ ts) before e =
     let kind : t.kind ≡ k = cc in
     let rest : kinds ts ≡ ks = cc in
     read_one p (behind before part) (behind (before ++ g ∷ []) no_part) t ts gs (g ∷ gs) (ap (refusal p part) kind ∙ free)
     (ap (λ (j : Kind). progress_with before (next part j)) kind ∙ ap (progress_with before) leads) (append_assoc before (g ∷ []) gs)
     (to_read p no_part ks gs runs ts (before ++ g ∷ []) rest)
+to_read p _ _ _ _ _ before e = absurd (cc)
 
 -- A list of tokens that ends with the one end, or with a refusal, is read to its end exactly if it
 -- runs.

@@ -3,6 +3,7 @@ use Rattle.std.proofs.Common.{◌≡◌, ℕ, ◌+◌, ◌<◌, Bool, true, fals
 use Rattle.std.specs.Prelude.{◌==◌, codes, bytes_eq, is_some, unwrap_or, IsTrue, IsFalse, Result, Ok}
 use Rattle.std.specs.List.{list_all}
 use Rattle.std.proofs.lemmas.Slice.Eq.{bytes_eq-Decides}
+use Rattle.std.proofs.lemmas.Bool.{and_parts}
 use Rattle.std.proofs.lemmas.Bool.Decides.{nat_tests}
 use Rattle.chess_text.specs.declared.resolution.Played.{Played}
 use Rattle.chess_text.specs.declared.resolution.SanFault.{SanFault}
@@ -18,7 +19,7 @@ use Rattle.pgn_game.specs.Profile.{Profile}
 use Rattle.pgn_game.specs.Pairs.{Pair, value_of, has_pair, insert_pair}
 use Rattle.pgn_game.specs.Chess.{move_of}
 use Rattle.pgn_game.specs.Game as games
-use Rattle.pgn_game.specs.Game.{Item, Game, no_part}
+use Rattle.pgn_game.specs.Game.{Item, Game, Part, no_part}
 use Rattle.pgn_game.specs.Levels.{Level, Levels, levels_of, levels_after, depth, here, replayed, without_last, start_of}
 use Rattle.pgn_game.specs.FaultTable.{refusal, is_comment, in_name, is_result, is_score, is_number, is_end, is_at_limit, is_reduced, fen_field, fen_field_of, field_of, marker_of, lacks_fen, has_other_result}
 use Rattle.pgn_game.specs.Progress.{next, going, whole}
@@ -28,23 +29,16 @@ use Rattle.pgn_game.proofs.Passing.{pass, drops_comments, comment_free, comment_
 use Rattle.pgn_game.proofs.Collecting.{with_pairs, Takes, takes}
 use Rattle.pgn_game.proofs.Texting.{levels_more, result_meets, other_score, no_other, symbol_next, symbol_leads, stands_free, stands_leads, stands_levels, stands_goes}
 
-and_left : (a b : Bool) → (a && b) ≡ true → a ≡ true
-and_left true b e = refl
-and_left false b e = absurd (cc)
-
-and_right : (a b : Bool) → (a && b) ≡ true → b ≡ true
-and_right true b e = e
-and_right false b e = absurd (cc)
-
 -- Comments that are dropped.
 dropped_run : (p : Profile) (stage : Stage) (ps : List Pair) (name : List ℕ) (items : List Item) → IsTrue (drops_comments stage)
     → (ks rest : List Kind) (gs : List Game) → AreDropped ks → Runs p (at stage ps name items) rest gs → Runs p (at stage ps name items) (ks ++ rest) gs
 dropped_run p stage ps name items drops [] rest gs are runs = runs
 dropped_run p stage ps name items drops (k ∷ ks) rest gs are runs =
-    let is : is_comment k ≡ true = and_left (is_comment k) (list_all is_comment ks) are in
-    goes (at stage ps name items) (at stage ps name items) k (ks ++ rest) gs (comment_free p stage ps name items k drops is) (comment_goes k is)
-    (comment_stays stage ps name items k drops is)
-    (dropped_run p stage ps name items drops ks rest gs (and_right (is_comment k) (list_all is_comment ks) are) runs)
+    let both = and_parts (is_comment k) (list_all is_comment ks) are in
+    goes (at stage ps name items) (at stage ps name items) k (ks ++ rest) gs
+    (comment_free p stage ps name items k drops both.0) (comment_goes k both.0)
+    (comment_stays stage ps name items k drops both.0)
+    (dropped_run p stage ps name items drops ks rest gs both.1 runs)
 
 -- Pairs.
 name_fits : (mode : Mode) (q : Pair) → IsPair mode q → (is_reduced mode && bytes_eq q.name (codes "FEN")) ≡ false
@@ -261,41 +255,43 @@ marker_finishes p ps name items (tokens.symbol s) marker is outside result = by_
 marker_finishes p ps name items _ marker is outside result = absurd (cc)
 
 -- Games.
--- what goes on within movetext is a token of it
-textual : (p : Profile) (ps : List Pair) (name : List ℕ) (items : List Item) (k : Kind) → refusal p (at InMovetext ps name items) k ≡ None → is_end k ≡ false → IsTrue (is_textual k)
-unfolding refusal
-textual p ps name items tokens.left_bracket free end = absurd (cc)
-textual p ps name items tokens.end free end = absurd (cc)
-textual p ps name items (tokens.refused r) free end = absurd (cc)
-textual p ps name items _ free end = refl
+-- tokens run from another part too where the first is let pass and leads as it does from this one
+runs_alike : (p : Profile) (part other : Part) (ks : List Kind) (gs : List Game)
+    → ((k : Kind) (js : List Kind) → ks ≡ k ∷ js → refusal p part k ≡ None
+    → (refusal p other k ≡ None) × (next other k ≡ next part k))
+    → Runs p part ks gs → Runs p other ks gs
+runs_alike p _ other _ _ alike (ends part free) = ends other (alike tokens.end [] refl free).0
+runs_alike p _ other _ _ alike (goes part to k ks gs free end leads runs) =
+    let a = alike k ks refl free in goes other to k ks gs a.0 end (a.1 ∙ leads) runs
+runs_alike p _ other _ _ alike (finishes part k g ks gs free end leads runs) =
+    let a = alike k ks refl free in finishes other k g ks gs a.0 end (a.1 ∙ leads) runs
 
-ends_nowhere : (p : Profile) (ps : List Pair) (name : List ℕ) (items : List Item) → refusal p (at InMovetext ps name items) tokens.end ≡ None → ⊥
+-- what is let pass within movetext is a token of it
+textual : (p : Profile) (ps : List Pair) (name : List ℕ) (items : List Item) (k : Kind) → refusal p (at InMovetext ps name items) k ≡ None → IsTrue (is_textual k)
 unfolding refusal
-ends_nowhere p ps name items free = absurd (cc)
+textual p ps name items tokens.left_bracket free = absurd (cc)
+textual p ps name items tokens.end free = absurd (cc)
+textual p ps name items (tokens.refused r) free = absurd (cc)
+textual p ps name items _ free = refl
 
 -- movetext begins behind the pairs
 begins_after_tags : (p : Profile) (ps : List Pair) (name : List ℕ) (items : List Item) (ks : List Kind) (gs : List Game) → lacks_fen ps ≡ false
     → Runs p (at InMovetext ps name items) ks gs → Runs p (at AfterTags ps name items) ks gs
-begins_after_tags p ps name items _ _ has (ends _ free) = absurd (ends_nowhere p ps name items free)
-begins_after_tags p ps name items _ _ has (goes _ to k ks gs free end leads runs) =
-    let is = textual p ps name items k free end in
-    goes (at AfterTags ps name items) to k ks gs (after_tags p ps name items k is ∙ pass (lacks_fen ps) SetUpWithoutFen _ has free) end
-    (leads_after_tags ps name items k is ∙ leads) runs
-begins_after_tags p ps name items _ _ has (finishes _ k g ks gs free end leads runs) =
-    let is = textual p ps name items k free end in
-    finishes (at AfterTags ps name items) k g ks gs (after_tags p ps name items k is ∙ pass (lacks_fen ps) SetUpWithoutFen _ has free) end
-    (leads_after_tags ps name items k is ∙ leads) runs
+begins_after_tags p ps name items ks gs has =
+    runs_alike p (at InMovetext ps name items) (at AfterTags ps name items) ks gs (λ k js e free.
+    let is = textual p ps name items k free in (
+      after_tags p ps name items k is ∙ pass (lacks_fen ps) SetUpWithoutFen _ has free,
+      leads_after_tags ps name items k is,
+    ))
 
 -- and without pairs
 begins_between : (p : Profile) (ps : List Pair) (name : List ℕ) (items : List Item) (ks : List Kind) (gs : List Game) → BeginsBare ks
     → Runs p (at InMovetext ps name items) ks gs → Runs p (at Between ps name items) ks gs
-begins_between p ps name items _ _ bare (ends _ free) = absurd (ends_nowhere p ps name items free)
-begins_between p ps name items _ _ bare (goes _ to k ks gs free end leads runs) =
-    let is = textual p ps name items k free end in
-    goes (at Between ps name items) to k ks gs (between p ps name items k is bare ∙ free) end (leads_between ps name items k is bare ∙ leads) runs
-begins_between p ps name items _ _ bare (finishes _ k g ks gs free end leads runs) =
-    let is = textual p ps name items k free end in
-    finishes (at Between ps name items) k g ks gs (between p ps name items k is bare ∙ free) end (leads_between ps name items k is bare ∙ leads) runs
+begins_between p ps name items ks gs bare =
+    runs_alike p (at InMovetext ps name items) (at Between ps name items) ks gs (λ k js e free.
+    let is = textual p ps name items k free in
+    let plain = subst BeginsBare e bare in
+    (between p ps name items k is plain ∙ free, leads_between ps name items k is plain))
 
 -- the movetext of a game, its marker, and the games behind it
 whole_text_run : (p : Profile) (ps : List Pair) (name : List ℕ) (text rest : List Kind) (items : List Item) (last : Kind) (marker : List ℕ) (gs : List Game)

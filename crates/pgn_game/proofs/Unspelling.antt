@@ -293,6 +293,15 @@ symbol_step : (p : Profile) (ps : List Pair) (name : List ℕ) (items : List Ite
     → symbol_fault is_digits score o (is_at_limit (here (start_of ps) (levels_of items))) (depth (levels_of items))
     (has_other_result p.missing_result (at InMovetext ps name items) (tokens.symbol s)) ≡ None
     → After p (symbol_next ps name items s is_digits score o) ks gs → Text_left p ps items (tokens.symbol s ∷ ks) gs
+symbol_step p ps name items s ks gs true false o digits is_marker one free after =
+    text_more p ps items [] (tokens.symbol s) ks gs (adds_nothing p ps items (tokens.symbol s) (number s digits)) (after tt)
+symbol_step p ps name items s ks gs false false (Some (Ok played)) digits is_marker one free after =
+    text_more p ps items (games.move played.mv ∷ []) (tokens.symbol s) ks gs
+    (adds_move p ps items s played
+    (record { no_number = digits; no_marker = is_marker; one = one; within = test_failed (is_at_limit (here (start_of ps) (levels_of items))) MoveLimit _ free })) (after tt)
+symbol_step p ps name items s ks gs false false None digits is_marker one free after = absurd (cc)
+symbol_step p ps name items s ks gs false false (Some (Err NoMove)) digits is_marker one free after = absurd (cc)
+symbol_step p ps name items s ks gs false false (Some (Err Ambiguous)) digits is_marker one free after = absurd (cc)
 symbol_step p ps name items s ks gs true true o digits is_marker one free after =
     marker_step p ps items (tokens.symbol s) s ks gs (ap (λ (b : Bool). marked b s) is_marker)
     (test_failed (nat_le 1 (depth (levels_of items))) MarkerInVariation _ free)
@@ -303,24 +312,10 @@ symbol_step p ps name items s ks gs false true o digits is_marker one free after
     (test_failed (nat_le 1 (depth (levels_of items))) MarkerInVariation _ free)
     (ap (λ (b : Bool). b && (depth (levels_of items) == 0)) (sym (other_score p.missing_result ps name items s is_marker))
     ∙ test_failed _ ResultDiffers None (rest_passed (nat_le 1 (depth (levels_of items))) MarkerInVariation _ free)) after
-symbol_step p ps name items s ks gs true false o digits is_marker one free after =
-    text_more p ps items [] (tokens.symbol s) ks gs (adds_nothing p ps items (tokens.symbol s) (number s digits)) (after tt)
-symbol_step p ps name items s ks gs false false None digits is_marker one free after = absurd (cc)
-symbol_step p ps name items s ks gs false false (Some (Err NoMove)) digits is_marker one free after = absurd (cc)
-symbol_step p ps name items s ks gs false false (Some (Err Ambiguous)) digits is_marker one free after = absurd (cc)
-symbol_step p ps name items s ks gs false false (Some (Ok played)) digits is_marker one free after =
-    text_more p ps items (games.move played.mv ∷ []) (tokens.symbol s) ks gs
-    (adds_move p ps items s played
-    (record { no_number = digits; no_marker = is_marker; one = one; within = test_failed (is_at_limit (here (start_of ps) (levels_of items))) MoveLimit _ free })) (after tt)
 
 text_step : (p : Profile) (ps : List Pair) (name : List ℕ) (items : List Item) (k : Kind) (ks : List Kind) (gs : List Game) → refusal p (at InMovetext ps name items) k ≡ None
     → is_end k ≡ false → After p (next (at InMovetext ps name items) k) ks gs → Text_left p ps items (k ∷ ks) gs
 unfolding refusal
-text_step p ps name items tokens.left_bracket ks gs free end after = absurd (cc)
-text_step p ps name items tokens.right_bracket ks gs free end after = absurd (cc)
-text_step p ps name items (tokens.str s) ks gs free end after = absurd (cc)
-text_step p ps name items tokens.end ks gs free end after = absurd (cc)
-text_step p ps name items (tokens.refused r) ks gs free end after = absurd (cc)
 text_step p ps name items tokens.left_paren ks gs free end after = open_step p ps name items ks gs free (after tt)
 text_step p ps name items tokens.right_paren ks gs free end after = close_step p ps name items ks gs free (after tt)
 text_step p ps name items tokens.period ks gs free end after = text_more p ps items [] tokens.period ks gs (adds_nothing p ps items tokens.period period) (after tt)
@@ -339,6 +334,7 @@ text_step p ps name items tokens.asterisk ks gs free end after =
 text_step p ps name items (tokens.symbol s) ks gs free end after =
     let place = here (start_of ps) (levels_of items) in
     symbol_step p ps name items s ks gs (is_number s) (is_score s) (move_of place s) refl refl refl (sym (symbolic p ps name items s) ∙ free) after
+text_step p ps name items _ ks gs free end after = absurd (cc)
 
 -- Pairs, token by token.
 dropped_more : (k : Kind) (ks : List Kind) → IsTrue (is_comment k) → AreDropped ks → AreDropped (k ∷ ks)
@@ -623,11 +619,7 @@ at_end : (p : Profile) (stage : Stage) (ps : List Pair) (name : List ℕ) (items
     → Left p stage ps name items (tokens.end ∷ []) []
 unfolding refusal
 at_end p Between ps name items free = no_game [] refl
-at_end p AfterLeftBracket ps name items free = absurd (cc)
-at_end p AfterName ps name items free = absurd (cc)
-at_end p AfterValue ps name items free = absurd (cc)
-at_end p AfterTags ps name items free = absurd (cc)
-at_end p InMovetext ps name items free = absurd (cc)
+at_end p _ ps name items free = absurd (cc)
 
 left : (p : Profile) (part : Part) (ks : List Kind) (gs : List Game) → Runs p part ks gs → Fits part.stage part.pairs part.items
     → Left p part.stage part.pairs part.name part.items ks gs

@@ -2,7 +2,7 @@
 use Rattle.std.proofs.Common.{◌≡◌, ℕ, ◌<◌, ◌≤◌, ◌^◌, Bool, true, false, List, [], ◌∷◌, ◌++◌, length, refl, sym, ap, subst, arith, Option, None, Some}
 use Rattle.std.specs.Prelude.{◌&&◌, ◌||◌, not, ◌==◌, nat_le, codes, decimal, bytes_eq, is_none, unwrap_or, IsTrue, IsFalse, Ok, if◌then◌else◌}
 use Rattle.std.specs.List.{AllByRecursion, list_all}
-use Rattle.std.proofs.lemmas.Bool.{false≢true, and_parts, and_from, leb-true}
+use Rattle.std.proofs.lemmas.Bool.{false≢true, or_parts, and_parts, and_from, leb-true}
 use Rattle.chess_rules.specs.declared.piece.Colour.TheVariants.{White, Black}
 use Rattle.chess_rules.specs.declared.position.Move.{Move}
 use Rattle.chess_rules.specs.declared.position.Parts.{Parts}
@@ -33,14 +33,11 @@ use Rattle.pgn_game.proofs.Pieces.{IsWritable, AllShown, next_shown, white, blac
 last_test : (a b c d e : Bool)
     → is_none (if a then Some Kings else if b then Some PawnOnEdge else if c then Some KingCapturable else if d then Some TargetRank else if not e then Some NumberRange else None) ≡ true
     → e ≡ true
-last_test true b c d e h = absurd (false≢true h)
-last_test false true c d e h = absurd (false≢true h)
-last_test false false true d e h = absurd (false≢true h)
-last_test false false false true e h = absurd (false≢true h)
+last_test a b c d true h = refl
 last_test false false false false false h = absurd (false≢true h)
-last_test false false false false true h = refl
+last_test _ _ _ _ false h = absurd (false≢true h)
 
-pub full_fits : (q : Parts) → IsTrue (is_position q) → q.full ≤ 99999
+full_fits : (q : Parts) → IsTrue (is_position q) → q.full ≤ 99999
 full_fits q e =
     let none = (and_parts (length q.board == 64) (is_none (position_fault q)) e).1 in
     let numbers =
@@ -86,15 +83,11 @@ begins : (s : List ℕ) → IsTrue (begins_with_letter s) → IsTrue (begins_wit
 begins [] e = absurd (false≢true e)
 begins (c ∷ s) e = ap (λ (b : Bool). b || is_digit c) e
 
-first_of_or : (a b : Bool) → (a || b) ≡ false → a ≡ false
-first_of_or true b e = absurd (false≢true (sym e))
-first_of_or false b e = refl
-
 as_symbol : (s : List ℕ) → IsMoveSymbol s → IsSymbol s
 as_symbol s h = let fits = h.fits in record { begins = begins s h.begins; bytes = each_of is_move_byte continues_symbol s move_byte h.bytes; fits = omega arith }
 
 no_score : (s : List ℕ) → IsMoveSymbol s → IsFalse (is_score s)
-no_score s h = first_of_or (is_score s) (bytes_eq s (codes "*")) h.no_marker
+no_score s h = (or_parts (is_score s) (bytes_eq s (codes "*")) h.no_marker).0
 
 module _ (one_read : ReadsTheOne) (leaves : LeavesPosition) (is_symbol : WrittenMoveIsSymbol) (is_read : WrittenMoveIsRead) (numbers : NumbersAreSymbols) where
   -- a move that is named leaves a position
