@@ -29,7 +29,7 @@ use Rattle.pgn_game.proofs.EachOf.{all_front, all_behind}
 use Rattle.pgn_game.proofs.ExportedGames.{ExportedPairs, exported_of, exported_result, given_result, some_exported, start_is_position}
 use Rattle.pgn_game.proofs.ExportedPairs.{exported_again, start_again, is_set_up_again, result_again, by_name_order}
 use Rattle.pgn_game.proofs.MainText.{kept, KeptText, kept_text}
-use Rattle.pgn_game.proofs.Pieces.{IsWritable, AllShown, none_shown, next_shown, single, shown-append, PiecesOf, no_pieces, both_pieces, line_feed, line_pieces, tag_kinds, tag_pieces, tags_spell, tags_close}
+use Rattle.pgn_game.proofs.Pieces.{IsWritable, AllShown, none_shown, next_shown, single, shown-append, PiecesOf, no_pieces, both_pieces, at_text, line_feed, line_pieces, tag_kinds, tag_pieces, tags_spell, tags_close}
 use Rattle.pgn_game.proofs.Runs.{kinds}
 use Rattle.pgn_game.proofs.SpelledGames.{SoundGame, sound_game, marker_opens, marker_closed, marker_written, marker_writable}
 
@@ -54,21 +54,13 @@ marker_shown k marker is = subst (λ t. AllShown (k ∷ []) (t ∷ [])) (marker_
 with_kinds : (ks ls : List Kind) (s : List ℕ) → ks ≡ ls → PiecesOf ks s → PiecesOf ls s
 with_kinds ks ls s e a = record { pieces = a.pieces; text = a.text; kinds = a.kinds ∙ e; sound = a.sound; ended = a.ended }
 
-with_text : (ks : List Kind) (s t : List ℕ) → s ≡ t → PiecesOf ks s → PiecesOf ks t
-with_text ks s t e a = record { pieces = a.pieces; text = a.text ∙ e; kinds = a.kinds; sound = a.sound; ended = a.ended }
-
-whole_kinds : (tags text : List Kind) → ((tags ++ []) ++ text) ++ [] ≡ tags ++ text
-whole_kinds tags text = append-nil ((tags ++ []) ++ text) ∙ ap (λ ks. ks ++ text) (append-nil tags)
+with_feed : (ks : List Kind) (s : List ℕ) → PiecesOf ks s → PiecesOf ks (s ++ 10 ∷ [])
+with_feed ks s a = with_kinds (ks ++ []) ks (s ++ 10 ∷ []) (append-nil ks) (both_pieces ks [] s (10 ∷ []) a line_feed)
 
 -- the pieces of a tag section, of lines and of the empty line
 section_pieces : (tags text : List Kind) (a b : List ℕ) → PiecesOf tags a → PiecesOf text b → PiecesOf (tags ++ text) ((a ++ 10 ∷ []) ++ b ++ 10 ∷ [])
 section_pieces tags text a b h k =
-    with_kinds (((tags ++ []) ++ text) ++ []) (tags ++ text) ((a ++ 10 ∷ []) ++ b ++ 10 ∷ []) (whole_kinds tags text)
-    (both_pieces ((tags ++ []) ++ text) [] ((a ++ 10 ∷ []) ++ b) (10 ∷ [])
-    (both_pieces (tags ++ []) text (a ++ 10 ∷ []) b (both_pieces tags [] a (10 ∷ []) h line_feed) k) line_feed)
-
-game_closes : (tags : List Kind) (text : List Kind) (k : Kind) (more : List Kind) → (tags ++ (text ++ k ∷ [])) ++ more ≡ tags ++ (text ++ k ∷ more)
-game_closes tags text k more = simp append_assoc
+    with_feed (tags ++ text) ((a ++ 10 ∷ []) ++ b) (both_pieces tags text (a ++ 10 ∷ []) b (with_feed tags a h) k)
 
 module _ (one_read : ReadsTheOne) (leaves : LeavesPosition) (is_symbol : WrittenMoveIsSymbol) (is_read : WrittenMoveIsRead) (numbers : NumbersAreSymbols) (reads_fen : ReadsFen) (lines_keep : LinesOfKeepTokens) where
   text_kept : (p : Profile) (g : Game) (h : SoundGame p g) → ExportedPairs p g → KeptText p.mode p (start_of g.pairs) h.text g.items
@@ -80,7 +72,8 @@ module _ (one_read : ReadsTheOne) (leaves : LeavesPosition) (is_symbol : Written
   game_pieces p g h e k =
       let lines = text_of_lines (lines_of (game_tokens p g)) in
       let text = k.kinds ++ h.last ∷ [] in
-      with_text (tag_kinds (exported_pairs p.mode g) ++ text) ((game_pairs p g ++ 10 ∷ []) ++ lines ++ 10 ∷ []) (game_text p g)
+      at_text (tag_kinds (exported_pairs p.mode g) ++ text) ((game_pairs p g ++ 10 ∷ []) ++ lines ++ 10 ∷ [])
+      (game_text p g)
       (ap (λ ps. (tag_lines ps ++ 10 ∷ []) ++ lines ++ 10 ∷ []) (sym (exported_result p.mode p.missing_result g.marker g.pairs h.result)))
       (section_pieces (tag_kinds (exported_pairs p.mode g)) text (game_pairs p g) lines (tag_pieces (exported_pairs p.mode g) e.sound)
       (line_pieces text (game_tokens p g) lines
@@ -121,7 +114,7 @@ module _ (one_read : ReadsTheOne) (leaves : LeavesPosition) (is_symbol : Written
   game_closed : (p : Profile) (g : Game) (h : SoundGame p g) (k : KeptText p.mode p (start_of g.pairs) h.text g.items) (more : List Kind) → CommentsClose false more
       → CommentsClose false ((tag_kinds (exported_pairs p.mode g) ++ (k.kinds ++ h.last ∷ [])) ++ more)
   game_closed p g h k more closes =
-      subst (CommentsClose false) (sym (game_closes (tag_kinds (exported_pairs p.mode g)) k.kinds h.last more))
+      simp append_assoc
       (tags_close (exported_pairs p.mode g) (k.kinds ++ h.last ∷ more)
       (k.closes (h.last ∷ h.later) (h.last ∷ more) (λ d c. marker_opens h.last g.marker d h.later more h.marker c closes)
       (marker_closed h.last g.marker more h.marker closes) h.closes))

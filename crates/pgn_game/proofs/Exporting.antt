@@ -47,34 +47,23 @@ reduced_value : (m : List ℕ) (ps : List Pair) (n : List ℕ) (o : Option (List
     → value_of (roster_pairs m ps) n ≡ defaulted (value_of ps n) o
 reduced_value m ps n o e = value_of-defaults ps (roster m) n ∙ ap (defaulted (value_of ps n)) e
 
--- whether a name is in a list of pairs
-abbrev any_named : List ℕ → List Pair → Bool
-any_named name [] = false
-any_named name (p ∷ ps) = bytes_eq name p.name || any_named name ps
+-- whether a name is in a list of pairs, one after another
+abbrev any_named : List ℕ → Bool → List Pair → Bool
+any_named name b [] = b
+any_named name b (p ∷ ps) = any_named name (b || bytes_eq name p.name) ps
 
-any_named-value : (name : List ℕ) (ps : List Pair) → any_named name ps ≡ has_pair ps name
-any_named-value name [] = refl
-any_named-value name (p ∷ ps) =
-    ap (λ b. bytes_eq name p.name || b) (any_named-value name ps)
-    ∙ ap (λ b. b || has_pair ps name) (bytes_eq-sym name p.name) ∙ sym (has-cons p ps name)
-
-or_seven : (a b c d e f g : Bool) → (a || b || c || d || e || f || g) ≡ (a || (b || (c || (d || (e || (f || (g || false)))))))
-or_seven true b c d e f g = refl
-or_seven false true c d e f g = refl
-or_seven false false true d e f g = refl
-or_seven false false false true e f g = refl
-or_seven false false false false true f g = refl
-or_seven false false false false false true g = refl
-or_seven false false false false false false true = refl
-or_seven false false false false false false false = refl
+any_named-value : (name : List ℕ) (b : Bool) (ps : List Pair) → any_named name b ps ≡ (b || has_pair ps name)
+any_named-value name true [] = refl
+any_named-value name false [] = refl
+any_named-value name true (p ∷ ps) = any_named-value name true ps
+any_named-value name false (p ∷ ps) =
+    any_named-value name (bytes_eq name p.name) ps ∙ ap (λ b. b || has_pair ps name) (bytes_eq-sym name p.name)
+    ∙ sym (has-cons p ps name)
 
 -- The roster, with a Result of m.
 in_roster-value : (m name : List ℕ) → in_roster name ≡ has_pair (roster m) name
 unfolding roster
-in_roster-value m name =
-    or_seven (bytes_eq name (codes "Event")) (bytes_eq name (codes "Site")) (bytes_eq name (codes "Date")) (bytes_eq name (codes "Round"))
-    (bytes_eq name (codes "White")) (bytes_eq name (codes "Black")) (bytes_eq name (codes "Result"))
-    ∙ any_named-value name (roster m)
+in_roster-value m name = any_named-value name false (roster m)
 
 not_of_roster : (m name : List ℕ) → in_roster name ≡ false → value_of (roster m) name ≡ None
 not_of_roster m name e = no_value (value_of (roster m) name) (sym (in_roster-value m name) ∙ e)

@@ -1,6 +1,7 @@
 -- What the tokens of movetext are refused for, and where they lead, for a part that is open.
 use Rattle.std.proofs.Common.{◌≡◌, ℕ, Bool, true, false, ◌&&◌, ◌||◌, not, List, [], ◌∷◌, length, nat_le, Option, None, Some, Bor, refl, sym, ap, ◌∙◌, arith}
 use Rattle.std.proofs.lemmas.List.{length-map}
+use Rattle.std.proofs.lemmas.Bool.{or_right, or_from}
 use Rattle.std.specs.Option.{option_copied}
 use Rattle.std.specs.Prelude.{is_some, ◌==◌, Result, Ok, Err, bytes_eq, codes, unwrap_or}
 use Rattle.chess_rules.specs.declared.position.Parts.{Parts}
@@ -78,13 +79,6 @@ symbol_refusal p part s word score w e =
     ap (λ (b : Bool). symbol_rows p part s b (is_score s) (move_of (position_in part) s)) w
     ∙ ap (λ (b : Bool). symbol_rows p part s word b (move_of (position_in part) s)) e
 
-either_right : (a b : Bool) → b ≡ true → (a || b) ≡ true
-either_right true b e = refl
-either_right false b e = e
-
-neither : (a b : Bool) → a ≡ false → b ≡ false → (a || b) ≡ false
-neither a b e f = ap (λ (x : Bool). x || b) e ∙ f
-
 abbrev symbol_next : Part → List ℕ → Bool → Bool → MoveReading → Next
 symbol_next part s number score r =
     elim (marker_if score s) [ Some marker ↦ whole (game_of part marker) | None ↦ going (with_items part (elim number [ true ↦ [] | false ↦ item_of r ])) ]
@@ -110,7 +104,7 @@ move_rows p part s (Some (Ok played)) = refl
 
 move_refusal : (p : Profile) (part : Part) (s : List ℕ) → is_number s ≡ false → is_score s ≡ false → text_refusal p part (symbol s) ≡ refused_as (position_in part) (move_of (position_in part) s)
 move_refusal p part s number score =
-    symbol_refusal p part s false false (neither (is_number s) (is_score s) number score) score ∙ move_rows p part s (move_of (position_in part) s)
+    symbol_refusal p part s false false (or_from (is_number s) (is_score s) number score) score ∙ move_rows p part s (move_of (position_in part) s)
 
 abbrev one_move : Played → MoveReading
 one_move played = Some (Ok played)
@@ -162,7 +156,7 @@ score_of s marker false e h = absurd (cc)
 symbol_marker : (p : Profile) (part : Part) (s marker : List ℕ) → marker_of (symbol s) ≡ Some marker → text_refusal p part (symbol s) ≡ marker_rows p part marker
 symbol_marker p part s marker is =
     let h = score_of s marker (is_score s) refl is in
-    symbol_refusal p part s true true (either_right (is_number s) (is_score s) h.0) h.0 ∙ ap (λ (m : List ℕ). marker_rows p part m) h.1
+    symbol_refusal p part s true true (or_right (is_number s) (is_score s) h.0) h.0 ∙ ap (λ (m : List ℕ). marker_rows p part m) h.1
 
 asterisk_marker : (p : Profile) (part : Part) (marker : List ℕ) → codes "*" ≡ marker → text_refusal p part (kind_of variants.Asterisk) ≡ marker_rows p part marker
 asterisk_marker p part marker e = ap (λ (m : List ℕ). marker_rows p part m) e

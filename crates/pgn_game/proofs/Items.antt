@@ -15,25 +15,21 @@ use Rattle.pgn_game.specs.Movetext.{ends_in_move}
 use Rattle.pgn_game.specs.Laws.{IsPrefix}
 
 -- Lines.
-full_lines-cons : (l t : List ℕ) (ts : List (List ℕ)) → full_lines (l ∷ lines_from t ts) ≡ l ∷ full_lines (lines_from t ts)
-full_lines-cons l t [] = refl
-full_lines-cons l t (u ∷ us) =
-    elim (has_room t u)
-    as (λ v. full_lines (l ∷ elim v [ true ↦ lines_from (t ++ 32 ∷ u) us | false ↦ t ∷ lines_from u us ])
-    ≡ l ∷ full_lines (elim v [ true ↦ lines_from (t ++ 32 ∷ u) us | false ↦ t ∷ lines_from u us ])) [
-      | true ↦ full_lines-cons l (t ++ 32 ∷ u) us
-      | false ↦ refl
+-- what holds of a line and more lines holds of the lines of tokens that go on from a line
+by_lines : (P : List (List ℕ) → Type 0) → ((l : List ℕ) (ls : List (List ℕ)) → P (l ∷ ls))
+    → (t : List ℕ) (ts : List (List ℕ)) → P (lines_from t ts)
+by_lines P h t [] = h t []
+by_lines P h t (u ∷ us) =
+    elim (has_room t u) as (λ v. P (elim v [ true ↦ lines_from (t ++ 32 ∷ u) us | false ↦ t ∷ lines_from u us ])) [
+      | true ↦ by_lines P h (t ++ 32 ∷ u) us
+      | false ↦ h t (lines_from u us)
     ]
 
+full_lines-cons : (l t : List ℕ) (ts : List (List ℕ)) → full_lines (l ∷ lines_from t ts) ≡ l ∷ full_lines (lines_from t ts)
+full_lines-cons l = by_lines (λ ls. full_lines (l ∷ ls) ≡ l ∷ full_lines ls) (λ x xs. refl)
+
 last_line-cons : (l t : List ℕ) (ts : List (List ℕ)) → last_line (l ∷ lines_from t ts) ≡ last_line (lines_from t ts)
-last_line-cons l t [] = refl
-last_line-cons l t (u ∷ us) =
-    elim (has_room t u)
-    as (λ v. last_line (l ∷ elim v [ true ↦ lines_from (t ++ 32 ∷ u) us | false ↦ t ∷ lines_from u us ])
-    ≡ last_line (elim v [ true ↦ lines_from (t ++ 32 ∷ u) us | false ↦ t ∷ lines_from u us ])) [
-      | true ↦ last_line-cons l (t ++ 32 ∷ u) us
-      | false ↦ refl
-    ]
+last_line-cons l = by_lines (λ ls. last_line (l ∷ ls) ≡ last_line ls) (λ x xs. refl)
 
 full_lines-append : (xs : List (List ℕ)) (t : List ℕ) (ts : List (List ℕ)) → full_lines (xs ++ lines_from t ts) ≡ xs ++ full_lines (lines_from t ts)
 full_lines-append [] t ts = refl

@@ -2,6 +2,7 @@
 use Rattle.std.proofs.Common.{◌≡◌, ℕ, ◌&&◌, List, [], Bool, true, false, Option, None, Some, Bor, refl, sym, ap, subst, ◌∙◌}
 use Rattle.std.specs.Prelude.{Ok, Err, IsFalse, IsTrue, Result, ◌==◌}
 use Rattle.std.specs.Option.{option_copied, is_some}
+use Rattle.std.proofs.lemmas.Bool.{and_right}
 use Rattle.std.proofs.lemmas.List.Elements.{All-nil}
 use Rattle.chess_rules.specs.declared.position.Parts.{Parts}
 use Rattle.pgn_layout.specs.Lines.{IsToken}
@@ -158,11 +159,7 @@ entry_at tags levels old k r at bracket over free h = record {
 
 -- the test of SetUp is done where it was done after the pairs, and asks for nothing in movetext
 pub free_after_tags : (part : Part) → lacks_fen part.pairs ≡ false → (is_at AfterTags part && lacks_fen part.pairs) ≡ false
-free_after_tags part lacks = by_left (is_at AfterTags part) (lacks_fen part.pairs) lacks
-  where
-    by_left : (a b : Bool) → b ≡ false → (a && b) ≡ false
-    by_left true b e = e
-    by_left false b e = refl
+free_after_tags part lacks = and_right (is_at AfterTags part) (lacks_fen part.pairs) lacks
 
 pub free_in_movetext : (old : Reading) → old.stage ≡ InMovetext → (part : Part) → Agrees old part → (is_at AfterTags part && lacks_fen part.pairs) ≡ false
 free_in_movetext old at part agrees =

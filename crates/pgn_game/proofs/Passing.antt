@@ -2,6 +2,7 @@
 use Rattle.std.proofs.Common.{◌≡◌, ℕ, ◌+◌, Bool, true, false, ◌&&◌, ◌||◌, not, List, length, nat_lt, nat_le, Option, None, Some, refl, ap, ◌∙◌}
 use Rattle.std.specs.Prelude.{◌==◌, codes, bytes_eq, is_some, IsTrue, IsFalse, Result}
 use Rattle.std.specs.List.{list_all}
+use Rattle.std.proofs.lemmas.Bool.{and_right}
 use Rattle.chess_text.specs.declared.resolution.Played.{Played}
 use Rattle.chess_text.specs.declared.resolution.SanFault.{SanFault}
 use Rattle.pgn_layout.specs.TagLine.{escaped}
@@ -15,7 +16,7 @@ use Rattle.pgn_game.specs.Profile.{Profile}
 use Rattle.pgn_game.specs.Pairs.{Pair, has_pair}
 use Rattle.pgn_game.specs.Chess.{move_of}
 use Rattle.pgn_game.specs.Game.{Item}
-use Rattle.pgn_game.specs.Levels.{Levels, levels_of, depth, here, start_of}
+use Rattle.pgn_game.specs.Levels.{levels_of, depth, here, start_of}
 use Rattle.pgn_game.specs.FaultTable.{refusal, is_comment, is_end, in_name, is_result, is_score, is_number, is_no_form, is_no_move, is_many_moves, is_one_move, is_at_limit, fen_field, fen_field_of, lacks_fen, is_reduced, has_other_result}
 use Rattle.pgn_game.specs.Progress.{next, going}
 use Rattle.pgn_game.specs.Judging.{or_else}
@@ -32,10 +33,6 @@ pub rest_passed : (test : Bool) (reason : Reason) (rest : Option Reason) → or_
 rest_passed true reason rest e = absurd (cc)
 rest_passed false reason rest e = e
 
-and_false : (b : Bool) → (b && false) ≡ false
-and_false true = refl
-and_false false = refl
-
 -- Comments in a pair and before a game.
 abbrev pub drops_comments : Stage → Bool
 drops_comments AfterTags = false
@@ -45,11 +42,11 @@ drops_comments _ = true
 no_value_rows : (p : Profile) (name : List ℕ)
     → or_else (bytes_eq name (codes "Result") && false) BadResult (or_else (bytes_eq name (codes "FEN") && false) (BadFen 0) None) ≡ None
 no_value_rows p name =
-    pass (bytes_eq name (codes "Result") && false) BadResult _ (and_false (bytes_eq name (codes "Result")))
-    (pass (bytes_eq name (codes "FEN") && false) (BadFen 0) None (and_false (bytes_eq name (codes "FEN"))) refl)
+    pass (bytes_eq name (codes "Result") && false) BadResult _ (and_right (bytes_eq name (codes "Result")) false refl)
+    (pass (bytes_eq name (codes "FEN") && false) (BadFen 0) None (and_right (bytes_eq name (codes "FEN")) false refl) refl)
 
 reduced_row : (p : Profile) → or_else (is_reduced p.mode && false) ReducedFen None ≡ None
-reduced_row p = pass (is_reduced p.mode && false) ReducedFen None (and_false (is_reduced p.mode)) refl
+reduced_row p = pass (is_reduced p.mode && false) ReducedFen None (and_right (is_reduced p.mode) false refl) refl
 
 pub comment_free : (p : Profile) (stage : Stage) (ps : List Pair) (name : List ℕ) (items : List Item) (k : Kind) → IsTrue (drops_comments stage) → IsTrue (is_comment k)
     → refusal p (at stage ps name items) k ≡ None
@@ -91,20 +88,26 @@ pub opening_between : (p : Profile) (ps : List Pair) (name : List ℕ) (items : 
 unfolding refusal
 opening_between p ps name items = refl
 
-pub naming : (p : Profile) (ps : List Pair) (name : List ℕ) (items : List Item) (s : List ℕ)
-    → refusal p (at AfterLeftBracket ps name items) (tokens.symbol s)
-    ≡ or_else (not (list_all in_name s)) BadTagName
-    (or_else (has_pair ps s) DuplicateTag
-    (or_else (nat_lt 249 (length s)) TagLineTooLong
+-- what a name and a value are refused for, each test before the next
+abbrev pub name_rows : Profile → List Pair → List ℕ → Option Reason
+name_rows p ps s =
+    or_else (not (list_all in_name s)) BadTagName
+    (or_else (has_pair ps s) DuplicateTag (or_else (nat_lt 249 (length s)) TagLineTooLong
     (or_else (is_reduced p.mode && bytes_eq s (codes "FEN")) ReducedFen None)))
+
+pub naming : (p : Profile) (ps : List Pair) (name : List ℕ) (items : List Item) (s : List ℕ)
+    → refusal p (at AfterLeftBracket ps name items) (tokens.symbol s) ≡ name_rows p ps s
 unfolding refusal
 naming p ps name items s = refl
 
-pub valuing : (p : Profile) (ps : List Pair) (name : List ℕ) (items : List Item) (s : List ℕ)
-    → refusal p (at AfterName ps name items) (tokens.str s)
-    ≡ or_else (bytes_eq name (codes "Result") && not (is_result s)) BadResult
+abbrev pub value_rows : List ℕ → List ℕ → Option Reason
+value_rows name s =
+    or_else (bytes_eq name (codes "Result") && not (is_result s)) BadResult
     (or_else (bytes_eq name (codes "FEN") && is_some (fen_field s)) (BadFen (fen_field_of (tokens.str s)))
     (or_else (nat_lt 249 (length name + length (escaped s))) TagLineTooLong None))
+
+pub valuing : (p : Profile) (ps : List Pair) (name : List ℕ) (items : List Item) (s : List ℕ)
+    → refusal p (at AfterName ps name items) (tokens.str s) ≡ value_rows name s
 unfolding refusal
 valuing p ps name items s = refl
 
@@ -113,9 +116,6 @@ unfolding refusal
 closing p ps name items = refl
 
 -- Movetext.
-abbrev pub levels_at : List Item → Levels
-levels_at items = levels_of items
-
 -- what may be a token of movetext
 abbrev pub is_textual : Kind → Bool
 is_textual tokens.left_bracket = false
@@ -183,19 +183,19 @@ starring p ps name items = refl
 
 -- What a symbol is refused for, by what it is: a number, a score, what it comes to as a move,
 -- whether the numbers are at their limit, the depth, and whether it differs from the Result.
-abbrev pub symbol_fault : Bool → Bool → Option (Result Played SanFault) → Bool → ℕ → Bool → Option Reason
-symbol_fault number score o limit deep other =
+abbrev symbol_rows : Bool → Bool → Option (Result Played SanFault) → Bool → ℕ → Bool → Bool → Option Reason
+symbol_rows number score o limit deep other marker =
     or_else (elim (number || score) [ true ↦ false | false ↦ is_no_form o ]) NotAMove
     (or_else (elim (number || score) [ true ↦ false | false ↦ is_no_move o ]) IllegalMove
     (or_else (elim (number || score) [ true ↦ false | false ↦ is_many_moves o ]) AmbiguousMove
     (or_else (elim (number || score) [ true ↦ false | false ↦ is_one_move o ] && limit) MoveLimit
-    (or_else (score && nat_le 1 deep) MarkerInVariation
+    (or_else (marker && nat_le 1 deep) MarkerInVariation
     (or_else (other && (deep == 0)) ResultDiffers None)))))
 
-abbrev marked : Bool → List ℕ → Option (List ℕ)
-marked score s = elim score [ true ↦ Some s | false ↦ None ]
+abbrev pub symbol_fault : Bool → Bool → Option (Result Played SanFault) → Bool → ℕ → Bool → Option Reason
+symbol_fault number score o limit deep other = symbol_rows number score o limit deep other score
 
-is_marker_symbol : (score : Bool) (s : List ℕ) → is_some (marked score s) ≡ score
+is_marker_symbol : (score : Bool) (s : List ℕ) → is_some (elim score [ true ↦ Some s | false ↦ None ]) ≡ score
 is_marker_symbol true s = refl
 is_marker_symbol false s = refl
 
@@ -205,12 +205,6 @@ pub symbolic : (p : Profile) (ps : List Pair) (name : List ℕ) (items : List It
     (depth (levels_of items)) (has_other_result p.missing_result (at InMovetext ps name items) (tokens.symbol s))
 unfolding refusal
 symbolic p ps name items s =
-    ap
-    (λ (b : Bool).
-    or_else (elim (is_number s || is_score s) [ true ↦ false | false ↦ is_no_form (move_of (here (start_of ps) (levels_of items)) s) ]) NotAMove
-    (or_else (elim (is_number s || is_score s) [ true ↦ false | false ↦ is_no_move (move_of (here (start_of ps) (levels_of items)) s) ]) IllegalMove
-    (or_else (elim (is_number s || is_score s) [ true ↦ false | false ↦ is_many_moves (move_of (here (start_of ps) (levels_of items)) s) ]) AmbiguousMove
-    (or_else (elim (is_number s || is_score s) [ true ↦ false | false ↦ is_one_move (move_of (here (start_of ps) (levels_of items)) s) ] && is_at_limit (here (start_of ps) (levels_of items))) MoveLimit
-    (or_else (b && nat_le 1 (depth (levels_of items))) MarkerInVariation
-    (or_else (has_other_result p.missing_result (at InMovetext ps name items) (tokens.symbol s) && (depth (levels_of items) == 0)) ResultDiffers None))))))
-    (is_marker_symbol (is_score s) s)
+    let place = here (start_of ps) (levels_of items) in
+    ap (symbol_rows (is_number s) (is_score s) (move_of place s) (is_at_limit place) (depth (levels_of items))
+    (has_other_result p.missing_result (at InMovetext ps name items) (tokens.symbol s))) (is_marker_symbol (is_score s) s)

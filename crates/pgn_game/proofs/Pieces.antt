@@ -114,7 +114,7 @@ shown_pieces _ _ b (black n) h gap = record {
   ended = λ more rest. (refl, (tt, (tt, (tt, rest))));
 }
 
-at_text : (ks : List Kind) (s t : List ℕ) → s ≡ t → PiecesOf ks s → PiecesOf ks t
+pub at_text : (ks : List Kind) (s t : List ℕ) → s ≡ t → PiecesOf ks s → PiecesOf ks t
 at_text ks s t e a = record { pieces = a.pieces; text = a.text ∙ e; kinds = a.kinds; sound = a.sound; ended = a.ended }
 
 pub line_pieces : (ks : List Kind) (ts : List (List ℕ)) (s : List ℕ) → AllShown ks ts → AllByRecursion IsWritable ks → IsTextOf ts s → PiecesOf ks s

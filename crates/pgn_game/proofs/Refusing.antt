@@ -1,25 +1,23 @@
 -- Which tokens are refused at a stage, and where the others lead.
-use Rattle.std.proofs.Common.{◌≡◌, ℕ, ◌+◌, Bool, true, false, ◌&&◌, not, List, [], length, nat_lt, nat_le, Option, None, Some, refl, sym, ap, subst, ◌∙◌, Bor}
-use Rattle.std.specs.Prelude.{codes, bytes_eq, is_some, IsTrue, unwrap_or, Ok}
-use Rattle.std.specs.List.{list_all}
-use Rattle.pgn_layout.specs.TagLine.{escaped}
+use Rattle.std.proofs.Common.{◌≡◌, ℕ, ◌+◌, Bool, true, false, ◌&&◌, List, [], length, nat_le, Option, None, Some, refl, sym, ap, subst, ◌∙◌, Bor}
+use Rattle.std.specs.Prelude.{IsTrue, Ok}
 use Rattle.pgn_lexer.specs.Tokens as tokens
 use Rattle.pgn_lexer.specs.Tokens.{left_bracket, right_bracket, symbol, str}
 use Rattle.pgn_lexer.specs.Scanned.{kind_of}
 use Rattle.pgn_lexer.specs.declared.token.TokenKind.{TokenKind}
 use Rattle.pgn_lexer.specs.declared.token.TokenKind.TheVariants as variants
 use Rattle.pgn_game.specs.declared.reason.Reason.{Reason}
-use Rattle.pgn_game.specs.declared.reason.Reason.TheVariants.{ExpectedName, BadTagName, DuplicateTag, TooManyTags, ExpectedValue, BadResult, BadFen, TagLineTooLong, ExpectedBracket, SetUpWithoutFen, ReducedFen, TagInMovetext, UnexpectedEnd}
+use Rattle.pgn_game.specs.declared.reason.Reason.TheVariants.{ExpectedName, TooManyTags, ExpectedValue, ExpectedBracket, SetUpWithoutFen, TagInMovetext, UnexpectedEnd}
 use Rattle.pgn_game.specs.declared.stage.Stage.{Stage}
 use Rattle.pgn_game.specs.declared.stage.Stage.TheVariants.{Between, AfterLeftBracket, AfterName, AfterValue, AfterTags, InMovetext}
 use Rattle.pgn_game.specs.Profile.{Profile}
-use Rattle.pgn_game.specs.Pairs.{has_pair, insert_pair}
+use Rattle.pgn_game.specs.Pairs.{insert_pair}
 use Rattle.pgn_game.specs.Game.{Part, no_part}
-use Rattle.pgn_game.specs.FaultTable.{refusal, is_at, is_comment, is_left_bracket, is_end, in_name, is_result, is_reduced, lacks_fen, fen_field}
+use Rattle.pgn_game.specs.FaultTable.{refusal, is_at, is_comment, is_left_bracket, is_end, lacks_fen}
 use Rattle.pgn_game.specs.Progress.{going, next, at_stage, in_text}
 use Rattle.pgn_game.specs.Judging.{may_have_movetext, judged, outcome_of, or_else, text_refusal}
 use Rattle.pgn_game.specs.Handling.{begins}
-use Rattle.pgn_game.proofs.Passing.{after_tags, comment_free, comment_stays, drops_comments, is_textual, leads_after_tags}
+use Rattle.pgn_game.proofs.Passing.{naming, name_rows, valuing, value_rows, after_tags, comment_free, comment_stays, drops_comments, is_textual, leads_after_tags}
 
 -- what holds of a part at a stage holds of each that is there
 at_the_stage : (P : Part → Type 0) (part : Part) (stage : Stage) → part.stage ≡ stage → P (at_stage stage part) → P part
@@ -79,34 +77,20 @@ pub expected_bracket : (p : Profile) (part : Part) (k : TokenKind) → part.stag
     → refusal p part (kind_of k) ≡ Some ExpectedBracket
 expected_bracket p part k at is other = at_the_stage (λ q. refusal p q (kind_of k) ≡ Some ExpectedBracket) part AfterValue at (expected_bracket_at p part k is other)
 
--- what a name is refused for, each test before the next
+-- what a name is refused for
 pub name_refusal : (p : Profile) (part : Part) (name : List ℕ) → part.stage ≡ AfterLeftBracket
-    → refusal p part (symbol name)
-    ≡ or_else (not (list_all in_name name)) BadTagName
-    (or_else (has_pair part.pairs name) DuplicateTag (or_else (nat_lt 249 (length name)) TagLineTooLong
-    (or_else (is_reduced p.mode && bytes_eq name (codes "FEN")) ReducedFen None)))
-unfolding refusal
+    → refusal p part (symbol name) ≡ name_rows p part.pairs name
 name_refusal p part name at =
-    at_the_stage (λ q. refusal p q (symbol name)
-    ≡ or_else (not (list_all in_name name)) BadTagName
-    (or_else (has_pair q.pairs name) DuplicateTag (or_else (nat_lt 249 (length name)) TagLineTooLong
-    (or_else (is_reduced p.mode && bytes_eq name (codes "FEN")) ReducedFen None)))) part AfterLeftBracket at refl
+    ap (λ (s : Stage). refusal p (at_stage s part) (symbol name)) at ∙ naming p part.pairs part.name part.items name
 
 pub name_next : (part : Part) (name : List ℕ) → part.stage ≡ AfterLeftBracket → next part (symbol name) ≡ going (record { stage = AfterName; pairs = part.pairs; name = name; items = part.items })
 name_next part name at = at_the_stage (λ q. next q (symbol name) ≡ going (record { stage = AfterName; pairs = q.pairs; name = name; items = q.items })) part AfterLeftBracket at refl
 
 -- what a value is refused for
 pub value_refusal : (p : Profile) (part : Part) (value : List ℕ) → part.stage ≡ AfterName
-    → refusal p part (str value)
-    ≡ or_else (bytes_eq part.name (codes "Result") && not (is_result value)) BadResult
-    (or_else (bytes_eq part.name (codes "FEN") && is_some (fen_field value)) (BadFen (unwrap_or (fen_field value) 0))
-    (or_else (nat_lt 249 (length part.name + length (escaped value))) TagLineTooLong None))
-unfolding refusal
+    → refusal p part (str value) ≡ value_rows part.name value
 value_refusal p part value at =
-    at_the_stage (λ q. refusal p q (str value)
-    ≡ or_else (bytes_eq q.name (codes "Result") && not (is_result value)) BadResult
-    (or_else (bytes_eq q.name (codes "FEN") && is_some (fen_field value)) (BadFen (unwrap_or (fen_field value) 0))
-    (or_else (nat_lt 249 (length q.name + length (escaped value))) TagLineTooLong None))) part AfterName at refl
+    ap (λ (s : Stage). refusal p (at_stage s part) (str value)) at ∙ valuing p part.pairs part.name part.items value
 
 pub value_next : (part : Part) (value : List ℕ) → part.stage ≡ AfterName
     → next part (str value) ≡ going (record { stage = AfterValue; pairs = insert_pair (record { name = part.name; value = value }) part.pairs; name = []; items = part.items })

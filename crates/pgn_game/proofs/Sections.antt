@@ -1,7 +1,7 @@
 -- A tag section is its lines one by one.
 use Rattle.std.proofs.Common.{◌≡◌, ℕ, suc, ◌+◌, Bool, true, false, cond, List, [], ◌∷◌, ◌++◌, take, drop, refl, ap, sym, subst, ◌∙◌, append_assoc, arith}
 use Rattle.std.specs.Prelude.{map, not, ◌||◌, unwrap_or, bytes_eq, codes}
-use Rattle.std.proofs.lemmas.Bool.{false≢true}
+use Rattle.std.proofs.lemmas.Bool.{false≢true, or_right}
 use Rattle.pgn_layout.specs.TagLine.{tag_line}
 use Rattle.pgn_game.specs.declared.mode.Mode.{Mode}
 use Rattle.pgn_game.specs.declared.mode.Mode.TheVariants.{Full, Reduced}
@@ -19,10 +19,6 @@ tag_lines-append (p ∷ ps) qs = ap (λ l. tag_line p.name p.value ++ l) (tag_li
 roster_lines : (ps ds : List Pair) → text_by (roster_line ps) ds ≡ tag_lines (map (λ d. record { name = d.name; value = unwrap_or (value_of ps d.name) d.value }) ds)
 roster_lines ps [] = refl
 roster_lines ps (d ∷ ds) = ap (λ l. roster_line ps d ++ l) (roster_lines ps ds)
-
-or_true : (b : Bool) → (b || true) ≡ true
-or_true true = refl
-or_true false = refl
 
 or_false : (b : Bool) → (b || false) ≡ b
 or_false true = refl
@@ -48,7 +44,7 @@ abbrev is_set_up : Pair → Bool
 is_set_up p = bytes_eq p.name (codes "SetUp")
 
 beside_line : (p : Pair) (ps : List Pair) (b : Bool) → line_unless (in_roster p.name || b) p ++ tag_lines (other_pairs ps) ≡ tag_lines (other_pairs (cond (not b) (p ∷ ps) ps))
-beside_line p ps true = ap (λ b. line_unless b p ++ tag_lines (other_pairs ps)) (or_true (in_roster p.name))
+beside_line p ps true = ap (λ b. line_unless b p ++ tag_lines (other_pairs ps)) (or_right (in_roster p.name) true refl)
 beside_line p ps false = ap (λ b. line_unless b p ++ tag_lines (other_pairs ps)) (or_false (in_roster p.name)) ∙ kept_line p (other_pairs ps) (in_roster p.name)
 
 -- the lines of the pairs beside the SetUp of a FEN

@@ -25,25 +25,6 @@ game ps items = record { pairs = ps; items = items; marker = codes "*" }
 no_input : Spells plain (tokens_of []) []
 no_input = no_game [] refl
 
-pub marker_alone : Spells plain (tokens_of (codes "*")) (game [] [] ∷ [])
-marker_alone = next_game (tokens.asterisk ∷ []) (tokens.end ∷ []) (game [] []) [] (record {
-  before = [];
-  tags = [];
-  text = [];
-  last = tokens.asterisk;
-  given = [];
-  tokens = refl;
-  dropped = refl;
-  pairs = no_pair;
-  keeps = record { count = omega arith; each = tt; distinct = tt };
-  sorted = refl;
-  set_up = λ e. absurd (cc);
-  bare = λ e. tt;
-  items = no_more 0 (nothing_played []);
-  marker = refl;
-  result = refl;
-}) (no_game [] refl)
-
 abbrev one_pair : Pair
 one_pair = record { name = codes "A"; value = codes "1" }
 

@@ -182,16 +182,13 @@ pub record SoundGame (p : Profile) (g : Game) : Type 0 where
   pub closes : CommentsClose false (text ++ last ∷ later)
   pub result : IsResult p.missing_result (value_of g.pairs (codes "Result")) g.marker
 
-game_kinds : (before tags text : List Kind) (k : Kind) (ls : List Kind) → (before ++ (tags ++ (text ++ k ∷ []))) ++ ls ≡ before ++ (tags ++ (text ++ k ∷ ls))
-game_kinds before tags text k ls = simp append_assoc
-
 pub sound_game : (p : Profile) (ks ls : List Kind) (g : Game) → SpellsGame p ks g → AllByRecursion IsSoundKind ks → CommentsClose false (ks ++ ls)
     → SoundGame p g × CommentsClose false ls
 sound_game p ks ls g h sound closes =
     let sound_behind = all_behind IsSoundKind h.before (h.tags ++ (h.text ++ h.last ∷ [])) (subst (AllByRecursion IsSoundKind) h.tokens sound) in
     let sound_rest = all_behind IsSoundKind h.tags (h.text ++ h.last ∷ []) sound_behind in
-    let all = subst (CommentsClose false) (ap (λ xs. xs ++ ls) h.tokens ∙ game_kinds h.before h.tags h.text h.last ls) closes in
-    let some = behind h.before false (h.tags ++ (h.text ++ h.last ∷ ls)) (dropped_go_on h.before h.dropped) all in
+    let all = subst (CommentsClose false) (ap (λ xs. xs ++ ls) h.tokens) closes in
+    let some = behind h.before false (h.tags ++ (h.text ++ h.last ∷ ls)) (dropped_go_on h.before h.dropped) (simp append_assoc at all) in
     let on = text_goes_on p (start_of g.pairs) 0 (nothing_played []) h.text g.items h.items in
     let text = before_text h.tags h.text h.given some.0 h.last g.marker ls h.pairs h.bare on h.marker some.1 in
     let end = behind h.text false (h.last ∷ ls) on text in (

@@ -3,6 +3,7 @@ use Rattle.std.proofs.Common.{◌≡◌, ℕ, ◌+◌, ◌<◌, ◌≤◌, Bool,
 use Rattle.std.specs.Prelude.{◌==◌, codes, bytes_eq, is_some, unwrap_or, IsTrue, IsFalse, Result, Ok, Err}
 use Rattle.std.specs.List.{list_all}
 use Rattle.std.proofs.lemmas.Slice.Eq.{bytes_eq-Decides}
+use Rattle.std.proofs.lemmas.Bool.{not-false, leb-false, ltb-false}
 use Rattle.std.proofs.lemmas.Bool.Decides.{nat_tests}
 use Rattle.chess_rules.specs.declared.position.Parts.{Parts}
 use Rattle.chess_text.specs.declared.fen.FenFault.{FenFault}
@@ -231,17 +232,7 @@ adds_close p ps items some text more c =
     close_at p (start_of ps) (levels_of items).present (levels_of items).around text more some
     (subst (λ (ls : Levels). Closes p (start_of ps) ls.present ls.around text more) (levels_more items games.close_variation) c)
 
-was_false : (b : Bool) → not b ≡ false → b ≡ true
-was_false true e = refl
-was_false false e = absurd (cc)
-
 -- what a test of two numbers says that failed
-below : (a b : ℕ) → nat_le a b ≡ false → b < a
-below a b e = grind (arith, nat_tests)
-
-within : (a b : ℕ) → nat_lt a b ≡ false → b ≤ a
-within a b e = grind (arith, nat_tests)
-
 no_one : (n : ℕ) → nat_le 1 n ≡ false → n ≡ 0
 no_one n e = grind (arith, nat_tests)
 
@@ -249,10 +240,11 @@ open_step : (p : Profile) (ps : List Pair) (name : List ℕ) (items : List Item)
     → Text_left p ps (items ++ games.open_variation ∷ []) ks gs → Text_left p ps items (tokens.left_paren ∷ ks) gs
 open_step p ps name items ks gs free h =
     let e : or_else (not (levels_of items).present.has_own_move) NoMoveBefore (or_else (nat_le p.depth (depth (levels_of items))) TooDeep None) ≡ None = sym (varying p ps name items) ∙ free in
-    let holds = was_false (levels_of items).present.has_own_move (test_failed (not (levels_of items).present.has_own_move) NoMoveBefore _ e) in
+    let holds = not-false (levels_of items).present.has_own_move (test_failed (not (levels_of items).present.has_own_move) NoMoveBefore _ e) in
     let room : nat_le p.depth (depth (levels_of items)) ≡ false =
     test_failed (nat_le p.depth (depth (levels_of items))) TooDeep None (rest_passed (not (levels_of items).present.has_own_move) NoMoveBefore _ e) in
-    text_more p ps items (games.open_variation ∷ []) tokens.left_paren ks gs (adds_open p ps items holds (below p.depth (depth (levels_of items)) room)) h
+    text_more p ps items (games.open_variation ∷ []) tokens.left_paren ks gs
+    (adds_open p ps items holds (leb-false p.depth (depth (levels_of items)) room)) h
 
 close_step : (p : Profile) (ps : List Pair) (name : List ℕ) (items : List Item) (ks : List Kind) (gs : List Game) → refusal p (at InMovetext ps name items) tokens.right_paren ≡ None
     → Text_left p ps (items ++ games.close_variation ∷ []) ks gs → Text_left p ps items (tokens.right_paren ∷ ks) gs
@@ -396,8 +388,9 @@ value_given p ps name items s ks gs free h =
       behind = ks;
       kinds = refl;
       dropped = refl;
-      room = within 249 (length name + length (escaped s)) short;
-      result = λ is. was_false (is_result s) (forced (bytes_eq name (codes "Result")) (not (is_result s)) is_marker ((bytes_eq-Decides name (codes "Result")).1 is));
+      room = ltb-false 249 (length name + length (escaped s)) short;
+      result = λ is. not-false (is_result s)
+          (forced (bytes_eq name (codes "Result")) (not (is_result s)) is_marker ((bytes_eq-Decides name (codes "Result")).1 is));
       fen = λ is. position_is (position_of s) (forced (bytes_eq name (codes "FEN")) (is_some (fen_field s)) is_position ((bytes_eq-Decides name (codes "FEN")).1 is));
       bracket = h;
     }
@@ -437,7 +430,7 @@ name_given p ps name items s ks gs free h =
       kinds = refl;
       dropped = refl;
       fresh = test_failed (has_pair ps s) DuplicateTag _ f;
-      is_name = was_false (list_all in_name s) (test_failed (not (list_all in_name s)) BadTagName _ e);
+      is_name = not-false (list_all in_name s) (test_failed (not (list_all in_name s)) BadTagName _ e);
       full = λ is.
           is_full p.mode (bytes_eq s (codes "FEN")) (test_failed (is_reduced p.mode && bytes_eq s (codes "FEN")) ReducedFen None g)
           ((bytes_eq-Decides s (codes "FEN")).1 is);
@@ -477,7 +470,7 @@ pair_step p ps ks gs free n =
             ∙ pair_kinds n.xs v.ys b.zs n.name v.value t.tags t.behind;
         pairs = next_pair _ t.tags q t.given (pair n.xs v.ys b.zs n.name v.value n.dropped v.dropped b.dropped) t.pairs;
         takes = (
-          below p.tags (length ps) free,
+          leb-false p.tags (length ps) free,
           n.fresh,
           record { name = n.is_name; room = v.room; result = v.result; fen = λ is. let h = v.fen is in (n.full is, h.0, h.1) },
           t.takes,
@@ -502,7 +495,8 @@ no_pair_step p ps items ks gs none set_up h = record {
 }
 
 is_set_up : (o : Option (List ℕ)) (fen : Bool) → (bytes_eq (unwrap_or o []) (codes "1") && not fen) ≡ false → o ≡ Some (codes "1") → fen ≡ true
-is_set_up o fen h e = was_false fen (ap (λ (x : Option (List ℕ)). bytes_eq (unwrap_or x []) (codes "1") && not fen) (sym e) ∙ h)
+is_set_up o fen h e =
+    not-false fen (ap (λ (x : Option (List ℕ)). bytes_eq (unwrap_or x []) (codes "1") && not fen) (sym e) ∙ h)
 
 tags_text : (p : Profile) (ps : List Pair) (name : List ℕ) (items : List Item) (k : Kind) (ks : List Kind) (gs : List Game) → items ≡ [] → IsTrue (is_textual k)
     → refusal p (at AfterTags ps name items) k ≡ None → is_end k ≡ false → After p (next (at AfterTags ps name items) k) ks gs → Tags_left p ps (k ∷ ks) gs
