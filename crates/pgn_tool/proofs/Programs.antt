@@ -15,41 +15,41 @@ use Rattle.pgn_tool.specs.Running.{Device, IsUntouched}
 abbrev pub left_at : Option (List ℕ) → ℕ → Reading → Device
 left_at left failures r = record { before = left; after = r.standard.after; failures = failures; failures_after = r.standard.failures_after }
 
-held_is : (h : Holding) (left : Option (List ℕ)) (failures : ℕ) (r : Reading) → IsOpened h left failures
+-- the device until then
+abbrev pub opening : Option (List ℕ) → ℕ → Reading → Device
+opening left failures r = record { before = r.standard.before; after = left; failures = r.standard.failures; failures_after = failures }
+
+held_is : (h : Holding) (left : Option (List ℕ)) (failures : ℕ) (r : Reading) → IsOpened h (opening left failures r)
     → file_held h r ≡ Some (left_at left failures r)
 held_is missing left failures r is = absurd is
 held_is (holds text) left failures r (same, none) =
     ap (λ t. Some (left_at t 0 r)) (sym same) ∙ ap (λ n. Some (left_at left n r)) (sym none)
 
 -- the source is what was opened
-pub opened_is : (file : Option (List ℕ)) (left : Option (List ℕ)) (failures : ℕ) (refusal : Option SystemFault) (r : Reading) (answer : Result Unit SystemFault)
+pub opened_is : (file : Option (List ℕ)) (left : Option (List ℕ)) (failures : ℕ) (r : Reading) (answer : Result Unit SystemFault)
     → answer ≡ Ok tt
-    → StartsFrom file r.holding r.standard.before r.standard.failures left failures refusal answer
+    → StartsFrom file r.holding r.refuses (opening left failures r) answer
     → source_of file r ≡ Some (left_at left failures r)
-opened_is (Some name) left failures refusal r (Ok done) is starts = held_is (r.holding name) left failures r starts
-opened_is None left failures refusal r (Ok done) is (same, none) =
+opened_is (Some name) left failures r (Ok done) is starts = held_is (r.holding name) left failures r starts
+opened_is None left failures r (Ok done) is (same, none) =
     ap (λ t. Some (left_at t r.standard.failures r)) (sym same) ∙ ap (λ n. Some (left_at left n r)) (sym none)
-opened_is file left failures refusal r (Err fault) is starts = cc
+opened_is file left failures r (Err fault) is starts = cc
 
-unopened_named : (file : Option (List ℕ)) (task : Task) (m : Machine) (status : ℕ) (fault : SystemFault) (left : Option (List ℕ)) (failures : ℕ)
-    (refusal : Option SystemFault)
-    → file_of (request_of task) ≡ file
-    → StartsFrom file m.input.holding m.input.standard.before m.input.standard.failures left failures refusal (Err fault)
-    → m.input.refusal ≡ refusal → IsUntouched m.out → m.files_after ≡ m.files → EndsUnopened fault m.err status → Carries task m status
-unopened_named None task m status fault left failures refusal same starts last out files ends = absurd starts
-unopened_named (Some name) task m status fault left failures refusal same starts last out files ends =
-    unopened name fault same (last ∙ starts) out files ends
+unopened_named : (file : Option (List ℕ)) (task : Task) (m : Machine) (status : ℕ) (fault : SystemFault)
+    → file_of (request_of task) ≡ file → StartsFrom file m.input.holding m.input.refuses m.input.standard (Err fault)
+    → m.files_after ≡ m.files → IsUntouched m.out → EndsUnopened fault m.err status → Carries task m status
+unopened_named None task m status fault same starts files out ends = absurd starts
+unopened_named (Some name) task m status fault same (refuses, stays) files out ends =
+    unopened name fault same refuses (stays, files) out ends
 
 -- the file was not opened
-pub unopened_is : (task : Task) (m : Machine) (status : ℕ) (fault : SystemFault) (left : Option (List ℕ)) (failures : ℕ)
-    (refusal : Option SystemFault) (answer : Result Unit SystemFault)
+pub unopened_is : (task : Task) (m : Machine) (status : ℕ) (fault : SystemFault) (answer : Result Unit SystemFault)
     → answer ≡ Err fault
-    → StartsFrom (file_of (request_of task)) m.input.holding m.input.standard.before m.input.standard.failures left failures refusal answer
-    → m.input.refusal ≡ refusal → IsUntouched m.out → m.files_after ≡ m.files → EndsUnopened fault m.err status → Carries task m status
-unopened_is task m status fault left failures refusal answer is starts last out files ends =
-    unopened_named (file_of (request_of task)) task m status fault left failures refusal refl
-    (subst (λ (r : Result Unit SystemFault). StartsFrom (file_of (request_of task)) m.input.holding m.input.standard.before m.input.standard.failures left failures refusal r) is starts)
-    last out files ends
+    → StartsFrom (file_of (request_of task)) m.input.holding m.input.refuses m.input.standard answer
+    → m.files_after ≡ m.files → IsUntouched m.out → EndsUnopened fault m.err status → Carries task m status
+unopened_is task m status fault answer is starts =
+    unopened_named (file_of (request_of task)) task m status fault refl
+    (subst (λ (r : Result Unit SystemFault). StartsFrom (file_of (request_of task)) m.input.holding m.input.refuses m.input.standard r) is starts)
 
 -- the words of the call, as they were handed to `parse`
 abbrev pub Words : Type 0
@@ -82,6 +82,6 @@ none_is_some x same = cc
 -- a file that is not there is reported, and nothing is written
 pub missing_told : (task : Task) (m : Machine) (status : ℕ) (name : List ℕ) → file_of (request_of task) ≡ Some name
     → m.input.holding name ≡ missing → Carries task m status → IsMissing m.out m.err status
-missing_told task m status name named gone (unopened other fault same refusal out files ends) = (fault, ends, out)
+missing_told task m status name named gone (unopened other fault same refuses idle out ends) = (fault, ends, out)
 missing_told task m status name named gone (opened source is runs) =
     absurd (none_is_some source (sym (ap (λ h. file_held h m.input) gone) ∙ sym (ap (λ f. source_of f m.input) named) ∙ is))

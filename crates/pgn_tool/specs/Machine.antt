@@ -1,10 +1,10 @@
 -- **Definition**: what a machine gives to a run: files to read, and devices.
 -- The real machine reports nothing here. What is said of machines that report holds for the program
 -- all the same: it is generic, so it does the same on each.
-use Rattle.std.specs.Prelude.{◌≡◌, ℕ, Bool, List, Option, Some, Result, Ok, Err}
+use Rattle.std.specs.Prelude.{◌≡◌, ℕ, Bool, true, List, Option, Result, Ok, Err}
 use Rattle.pgn_tool.specs.declared.machine.SystemFault.{SystemFault}
 use Rattle.pgn_tool.specs.Files.{Event}
-use Rattle.pgn_tool.specs.Running.{Device, device}
+use Rattle.pgn_tool.specs.Running.{Device, IsUntouched, device}
 
 -- ---- files to read
 
@@ -15,31 +15,31 @@ pub data Holding : Type 0 where
   holds : Option (List ℕ) → Holding
 
 -- the file is opened: all its bytes are left, and no read has failed
-abbrev pub IsOpened : Holding → Option (List ℕ) → ℕ → Type 0
-IsOpened missing left failures = ⊥
-IsOpened (holds text) left failures = (left ≡ text) × (failures ≡ 0)
+abbrev pub IsOpened : Holding → Device → Type 0
+IsOpened missing input = ⊥
+IsOpened (holds text) input = (input.after ≡ text) × (input.failures_after ≡ 0)
 
--- An opened file is one that is there. One that is there may also be refused, or find no memory.
-abbrev pub Opens : Holding → Option (List ℕ) → ℕ → Option SystemFault → Result Unit SystemFault
-    → Type 0
-Opens holding left failures refusal (Ok done) = IsOpened holding left failures
-Opens holding left failures refusal (Err fault) = refusal ≡ Some fault
+-- A file that is opened is there. One that is there may also be refused, for the reasons for which
+-- the machine refuses it; what was read until then stays as it is.
+abbrev pub Opens : Holding → (SystemFault → Bool) → Device → Result Unit SystemFault → Type 0
+Opens holding refuses input (Ok done) = IsOpened holding input
+Opens holding refuses input (Err fault) = (refuses fault ≡ true) × IsUntouched input
 
 -- ---- the devices of a run
 
 -- Standard input at the beginning, and what is read at the end: the bytes that are left and the
--- count of failures; what there is under each name; why the last file was not opened.
+-- count of failures; what there is under each name; for which reasons its file may be refused.
 pub record Reading : Type 0 where
   pub standard : Device
   pub holding : List ℕ → Holding
-  pub refusal : Option SystemFault
+  pub refuses : List ℕ → SystemFault → Bool
 
 abbrev pub reading : {S : Type 0} → (S → Option (List ℕ)) → (S → ℕ) → (S → List ℕ → Holding)
-    → (S → Option SystemFault) → S → S → Reading
-reading left failures holding refusal old new = record {
+    → (S → List ℕ → SystemFault → Bool) → S → S → Reading
+reading left failures holding refuses old new = record {
   standard = device left failures old new;
   holding = holding old;
-  refusal = refusal new;
+  refuses = refuses old;
 }
 
 -- The devices at the beginning and the end of a run. There was no memory for the buffer of standard

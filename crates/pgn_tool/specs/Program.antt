@@ -18,15 +18,12 @@ use Rattle.pgn_tool.specs.Splitting.{RunsSplit}
 -- ---- what is read
 
 -- what opening the file of a task results in: where it names none, standard input stays as it is
-abbrev pub StartsFrom : Option (List ℕ) → (List ℕ → Holding)
-    → (left : Option (List ℕ)) (failures : ℕ)
-    (left_after : Option (List ℕ)) (failures_after : ℕ) → Option SystemFault
-    → Result Unit SystemFault → Type 0
-StartsFrom (Some name) holding left failures left_after failures_after refusal answer =
-    Opens (holding name) left_after failures_after refusal answer
-StartsFrom None holding left failures left_after failures_after refusal (Ok done) =
-    (left_after ≡ left) × (failures_after ≡ failures)
-StartsFrom None holding left failures left_after failures_after refusal (Err fault) = ⊥
+abbrev pub StartsFrom : Option (List ℕ) → (List ℕ → Holding) → (List ℕ → SystemFault → Bool)
+    → Device → Result Unit SystemFault → Type 0
+StartsFrom (Some name) holding refuses input answer =
+    Opens (holding name) (refuses name) input answer
+StartsFrom None holding refuses input (Ok done) = IsUntouched input
+StartsFrom None holding refuses input (Err fault) = ⊥
 
 -- the file that is read from its first byte on, if it is there
 abbrev pub file_held : Holding → Reading → Option Device
@@ -61,11 +58,12 @@ EndsUnopened NoMemory err status = Reports (codes "out of memory") 3 err status
 abbrev pub IsMissing : (out err : Device) (status : ℕ) → Type 0
 IsMissing out err status = (fault : SystemFault) × EndsUnopened fault err status × IsUntouched out
 
--- A task that writes to standard output: there is no memory for a buffer; or it runs, and where no
--- device fails it does what is said of the text that is read.
+-- A task that writes to standard output: there is no memory for a buffer, and nothing is read or
+-- written; or it runs, and where no device fails it does what is said of the text that is read.
 pub data RunsStream (job : Job) (source out : Device) (is_short : Bool) (err : Device)
     (status : ℕ) : Type 0 where
-  unbuffered : is_short ≡ true → IsUntouched out → Reports (codes "out of memory") 3 err status
+  unbuffered : is_short ≡ true → IsUntouched source → IsUntouched out
+      → Reports (codes "out of memory") 3 err status
       → RunsStream job source out is_short err status
   streams : status ≤ 1 → Runs job source out err status → ((s : List ℕ) → IsSmooth s source out
       → Answers job s out err status)
@@ -80,22 +78,22 @@ RunsOpened (Split dir file) source out is_short files files_after err status =
 RunsOpened task source out is_short files files_after err status =
     RunsStream (job_of task) source out is_short err status × (files_after ≡ files)
 
--- How a task is carried out: its file is not opened, and nothing is written to standard output or
--- to files; or it runs on what is read.
+-- nothing was read, and no file was made
+abbrev pub IsIdle : Machine → Type 0
+IsIdle m = IsUntouched m.input.standard × (m.files_after ≡ m.files)
+
+-- How a task is carried out: its file is refused, for a reason for which the machine refuses the
+-- file of this name, and nothing is read or written; or it runs on what is read.
 pub data Carries (task : Task) (m : Machine) (status : ℕ) : Type 0 where
   unopened : (name : List ℕ) (fault : SystemFault) → file_of (request_of task) ≡ Some name
-      → m.input.refusal ≡ Some fault
-      → IsUntouched m.out → m.files_after ≡ m.files → EndsUnopened fault m.err status
+      → m.input.refuses name fault ≡ true
+      → IsIdle m → IsUntouched m.out → EndsUnopened fault m.err status
       → Carries task m status
   opened : (source : Device) → source_of (file_of (request_of task)) m.input ≡ Some source
       → RunsOpened task source m.out m.is_short m.files m.files_after m.err status
       → Carries task m status
 
 -- ---- by the words
-
--- nothing was read, and no file was made
-abbrev pub IsIdle : Machine → Type 0
-IsIdle m = IsUntouched m.input.standard × (m.files_after ≡ m.files)
 
 -- the words are a task; or they are not, or there was no memory to parse them
 pub data RunsWords (words : List (List ℕ)) (m : Machine) (status : ℕ) : Type 0 where

@@ -105,7 +105,7 @@ HasFailed d = one_more d.failures ≤ d.failures_after
 abbrev pub IsCalm : Device → Type 0
 IsCalm d = IsStill d × (d.failures < 2 ^ 64 - 1)
 
--- nothing was done to the sink
+-- nothing was done to the device
 abbrev pub IsUntouched : Device → Type 0
 IsUntouched d = (d.after ≡ d.before) × (d.failures_after ≡ d.failures)
 

@@ -36,20 +36,25 @@ impl From<AllocError> for SystemFault {
 
 /// Standard input, or a file in its place.
 pub trait Input: Source {
-    ghost use Rattle.std.specs.Prelude.{ℕ, List, Option};
+    ghost use Rattle.std.specs.Prelude.{ℕ, Bool, List};
     ghost use Rattle.pgn_tool.specs.declared.machine.SystemFault.{SystemFault};
     ghost use Rattle.pgn_tool.specs.Machine.{Holding, Opens};
+    ghost use Rattle.pgn_tool.specs.Running.{device};
 
     // What there is under each name.
     ghost holding: { Self → List ℕ → Holding };
 
-    // Why the last file was not opened, if it was not.
-    ghost refusal: { Self → Option SystemFault };
+    // For which reasons the file of each name may be refused.
+    ghost refuses: { Self → List ℕ → SystemFault → Bool };
 
     /// Opens the file with this name. From then on it is read, from its first byte.
+    ///
+    /// # Errors
+    ///
+    /// The reason why it is not opened. The input stays as it is.
     fn open(&mut self, name: &str) -> Result<(), SystemFault>
-        ensures { Opens (holding self.old name.now) (Self.left self.new) (Self.failures self.new)
-            (refusal self.new) result };
+        ensures { Opens (holding self.old name.now) (refuses self.old name.now)
+            (device Self.left Self.failures self.old self.new) result };
 }
 
 /// Standard output.

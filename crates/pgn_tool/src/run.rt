@@ -41,7 +41,7 @@ pub fn run<I: Input, O: Output, F: GameFolder, E: Sink>(
 ) -> u8
     ensures status { result ≤ 3 }
     ensures ran { Ran words (machine
-        (reading I.left I.failures I.holding I.refusal input.old input.new)
+        (reading I.left I.failures I.holding I.refuses input.old input.new)
         (device O.taken O.failures out.old out.new) (O.is_short out.new)
         (F.log files.old) (F.log files.new)
         (device E.taken E.failures err.old err.new)) result }
@@ -66,7 +66,7 @@ fn run_task<I: Input, O: Output, F: GameFolder, E: Sink>(
 ) -> u8
     ensures status { result ≤ 3 }
     ensures carries { Carries task (machine
-        (reading I.left I.failures I.holding I.refusal input.old input.new)
+        (reading I.left I.failures I.holding I.refuses input.old input.new)
         (device O.taken O.failures out.old out.new) (O.is_short out.new)
         (F.log files.old) (F.log files.new)
         (device E.taken E.failures err.old err.new)) result }
@@ -95,8 +95,7 @@ fn refuse_file<E: Sink>(fault: SystemFault, err: &mut E) -> u8
 // Opens the file of the task. Where it names none, standard input is read.
 fn open_file<I: Input>(task: &Task, input: &mut I) -> Result<(), SystemFault>
     ensures { StartsFrom (file_of (request_of task.now)) (I.holding input.old)
-        (I.left input.old) (I.failures input.old) (I.left input.new) (I.failures input.new)
-        (I.refusal input.new) result }
+        (I.refuses input.old) (device I.left I.failures input.old input.new) result }
 {
     match task.file() {
         Some(name) => input.open(name),

@@ -23,18 +23,9 @@ const SHORT: &[u8] = b"out of memory\n";
 #[derive(Drop)]
 struct Desk {
     inlet: Inlet<Reader>,
-    refusal: Option<SystemFault>,
 }
 
 impl Desk {
-    fn refuse(&mut self, fault: SystemFault) -> Result<(), SystemFault>
-        ensures refused { result ≡ Err fault }
-        ensures kept { self.new.refusal ≡ Some fault }
-    {
-        self.refusal = Some(fault);
-        Err(fault)
-    }
-
     fn give(&mut self, text: &'static [u8]) -> Result<(), SystemFault>
         ensures given { result ≡ Ok tt }
         ensures fresh { self.new.inlet.failures ≡ 0 }
@@ -57,19 +48,19 @@ impl Source for Desk {
 }
 
 impl Input for Desk {
-    ghost use Rattle.std.specs.Prelude.{None};
+    ghost use Rattle.std.specs.Prelude.{None, true};
     ghost use Rattle.pgn_tool.specs.Machine.{holds};
 
     ghost holding = { λ _ _. holds None };
 
-    ghost refusal = { λ s. s.refusal };
+    ghost refuses = { λ _ _ _. true };
 
     fn open(&mut self, name: &str) -> Result<(), SystemFault> {
         match name {
             "two.pgn" => self.give(b"* *"),
             "bad.pgn" => self.give(b"* 1. e4 e5 2. Ke3 *"),
-            "short" => self.refuse(SystemFault::NoMemory),
-            _ => self.refuse(SystemFault::Refused),
+            "short" => Err(SystemFault::NoMemory),
+            _ => Err(SystemFault::Refused),
         }
     }
 }
@@ -112,7 +103,7 @@ impl Output for Screen {
     }
 }
 
-/// Folders, of which `games` is the one that is there.
+/// Folders, of which `games` is the one that is there. There is no memory to open files in `short`.
 #[derive(Drop)]
 struct Drawers {
     alloc: Global,
@@ -128,11 +119,14 @@ impl GameFiles for Drawers {
     ghost log = { λ _. None };
 
     fn create(&mut self, _number: u64) -> Result<Outlet<Page>, CreateFault> {
-        if self.path.as_str() != "games" {
-            return Err(CreateFault::Refused);
+        match self.path.as_str() {
+            "games" => {
+                self.files = self.files.saturating_add(1);
+                Ok(Outlet::new(memory(self.alloc)))
+            }
+            "short" => Err(CreateFault::NoMemory),
+            _ => Err(CreateFault::Refused),
         }
-        self.files = self.files.saturating_add(1);
-        Ok(Outlet::new(memory(self.alloc)))
     }
 
     fn close(&mut self, _out: Outlet<Page>) {}
@@ -166,7 +160,6 @@ impl Ran {
 fn run_words(alloc: Global, words: Result<Vec<String>, SystemFault>, has_memory: bool) -> Ran {
     let mut input = Desk {
         inlet: Inlet::new(whole(b"*")),
-        refusal: None,
     };
     let mut out = Screen {
         outlet: Outlet::new(memory(alloc)),
@@ -221,6 +214,7 @@ const ROWS: &[Row] = &[
     (&["p", "split", "games", "none.pgn"], 1, b"", 0, UNREAD),
     (&["p", "split", "games", "short"], 3, b"", 0, SHORT),
     (&["p", "split", "other"], 1, b"", 0, UNWRITTEN),
+    (&["p", "split", "short"], 3, b"", 0, SHORT),
     (&["p", "--version"], 0, b"pgn_tool 0.1.0\n", 0, b""),
 ];
 

@@ -32,7 +32,6 @@ impl Read for Reader {
 pub struct StandardInput {
     rt: HostRuntime,
     inlet: Inlet<Reader>,
-    refusal: Option<SystemFault>,
 }
 
 impl StandardInput {
@@ -41,12 +40,7 @@ impl StandardInput {
         StandardInput {
             rt,
             inlet: Inlet::new(Reader::Standard(rt.stdin())),
-            refusal: None,
         }
-    }
-
-    fn open_file(&self, name: &str) -> Result<File, SystemFault> {
-        Ok(File::open(&self.rt, name)?)
     }
 }
 
@@ -63,24 +57,17 @@ impl Source for StandardInput {
 }
 
 impl Input for StandardInput {
-    ghost use Rattle.std.specs.Prelude.{None};
+    ghost use Rattle.std.specs.Prelude.{None, true};
     ghost use Rattle.pgn_tool.specs.Machine.{holds};
 
     ghost holding = { λ _ _. holds None };
 
-    ghost refusal = { λ s. s.refusal };
+    ghost refuses = { λ _ _ _. true };
 
     fn open(&mut self, name: &str) -> Result<(), SystemFault> {
-        match self.open_file(name) {
-            Ok(file) => {
-                self.inlet = Inlet::new(Reader::Opened(file));
-                Ok(())
-            }
-            Err(fault) => {
-                self.refusal = Some(fault);
-                Err(fault)
-            }
-        }
+        let file = File::open(&self.rt, name)?;
+        self.inlet = Inlet::new(Reader::Opened(file));
+        Ok(())
     }
 }
 
