@@ -27,7 +27,7 @@ abbrev pub GoesOn : Kind → Type 0
 GoesOn (tokens.refused r) = ⊥
 GoesOn _ = Unit {0}
 
--- what is open behind a token; no comment is, before a token that is none of a comment and behind it
+-- What is open behind a token. If the token is none of a comment, no comment is open around it.
 around_token : (k : Kind) (c : Bool) (ks : List Kind) → GoesOn k → CommentsClose c (k ∷ ks)
     → (d : Bool) × CommentsClose d ks × (is_comment k ≡ false → (c ≡ false) × (d ≡ false))
 around_token (tokens.refused r) c ks on h = absurd on
