@@ -1,7 +1,7 @@
 //! Which squares are attacked, seen from them outward.
 
 ghost use Rattle.std.specs.Prelude.{◌≡◌, ◌<◌, IsTrue, is_some, false};
-ghost use Rattle.std.specs.List.{list_any, range_with_len};
+ghost use Rattle.std.specs.List.{list_any};
 ghost use Rattle.chess_rules.specs.Square as square;
 ghost use Rattle.chess_rules.specs.Square.{squares};
 ghost use Rattle.chess_rules.specs.Board.{at};

@@ -1,10 +1,10 @@
 //! The board: the piece on each of the 64 squares, in four words.
 
-ghost use Rattle.std.specs.Prelude.{◌≡◌, ◌<◌, ◌&&◌, is_some, length};
+ghost use Rattle.std.specs.Prelude.{◌≡◌, is_some, length};
 ghost use Rattle.chess_rules.specs.Board as spec;
 ghost use Rattle.chess_rules.specs.Position.{initial_board};
 ghost use Rattle.chess_rules.specs.Words as words;
-ghost use Rattle.chess_rules.specs.Words.{Marks, has as has_place};
+ghost use Rattle.chess_rules.specs.Words.{Marks};
 
 use crate::piece::{Colour, Kind, Piece};
 use crate::square::Square;

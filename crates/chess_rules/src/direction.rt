@@ -1,6 +1,6 @@
 //! Ways over the board, outward from a square.
 
-ghost use Rattle.std.specs.Prelude.{◌≡◌, ◌<◌, ◌≤◌};
+ghost use Rattle.std.specs.Prelude.{◌≡◌, ◌<◌};
 ghost use Rattle.chess_rules.specs.Walk as walk;
 ghost use Rattle.chess_rules.specs.Words.{Places};
 

@@ -1,6 +1,6 @@
 //! The text of a move by itself: standard algebraic notation before a position gives it a meaning.
 
-ghost use Rattle.std.specs.Prelude.{◌≡◌, ◌≤◌, length};
+ghost use Rattle.std.specs.Prelude.{◌≡◌};
 ghost use Rattle.chess_text.specs.Form as spec;
 
 use chess_rules::{Kind, Promotion, Square};

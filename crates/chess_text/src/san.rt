@@ -1,6 +1,6 @@
 //! Moves as they are written: standard algebraic notation. (PGN 8.2.3)
 
-ghost use Rattle.std.specs.Prelude.{◌≡◌, ◌+◌, ◌<◌, ◌≤◌, ◌^◌, ◌++◌, ◌∷◌, [], ◌&&◌, ◌||◌, ◌==◌, not, true, length, Some, IsTrue};
+ghost use Rattle.std.specs.Prelude.{◌≡◌, ◌+◌, ◌<◌, ◌≤◌, ◌^◌, ◌++◌, ◌&&◌, ◌||◌, ◌==◌, not, true, length, Some, IsTrue};
 ghost use Rattle.std.specs.List.{list_any};
 ghost use Rattle.chess_rules.specs.declared.piece.Kind.TheVariants.{King, Pawn};
 ghost use Rattle.chess_rules.specs.Candidate.{candidates};

@@ -1,5 +1,5 @@
 //! The levels of movetext: the game's own, and those of the variations that are open.
-ghost use Rattle.std.specs.Prelude.{◌≡◌, ◌+◌, ◌<◌, ◌≤◌, ◌↔◌, [], ◌∷◌, None, Some, IsTrue, IsSome, IfSome, is_some, length};
+ghost use Rattle.std.specs.Prelude.{◌≡◌, ◌+◌, ◌<◌, ◌≤◌, ◌∷◌, None, Some, IsSome, IfSome, is_some, length};
 ghost use Rattle.pgn_game.specs.Chess.{first_position};
 ghost use Rattle.pgn_game.specs.Movetext.{level_at, only_level, IsBackIn};
 

@@ -1,9 +1,7 @@
 //! Tests of a token.
-ghost use Rattle.std.specs.Prelude.{◌≡◌, ◌≤◌, ◌<◌, length, IfSome};
-ghost use Rattle.std.specs.Option.{option_copied};
+ghost use Rattle.std.specs.Prelude.{◌≡◌};
 ghost use Rattle.std.specs.List.{list_all};
 ghost use Rattle.pgn_lexer.specs.Scanned.{kind_of};
-ghost use Rattle.pgn_layout.specs.Lines.{IsToken};
 ghost use Rattle.pgn_game.specs.FaultTable.{is_comment as is_of_comment, is_end as is_the_end, in_name, is_result as is_any_result, is_score as is_any_score, is_number as is_any_number};
 
 use pgn_lexer::TokenKind;

@@ -3,7 +3,7 @@ ghost use Rattle.std.specs.Prelude.{◌≡◌, ◌+◌, ◌≤◌, [], ◌∷◌
 ghost use Rattle.pgn_layout.specs.Device.{Writes};
 ghost use Rattle.pgn_layout.specs.TagLine.{escaped};
 ghost use Rattle.pgn_layout.specs.Lines.{IsToken};
-ghost use Rattle.pgn_layout.specs.Layout.{holding, Fails, Tag, EndTags, Put, EndGame, DropLine, text_at, line_at, ended};
+ghost use Rattle.pgn_layout.specs.Layout.{holding, Fails, Tag, EndTags, Put, EndGame, DropLine, text_at, line_at};
 
 use crate::tag_line::tag_line;
 use crate::{Sink, WriteFault, write_all};

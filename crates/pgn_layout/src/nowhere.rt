@@ -1,7 +1,5 @@
 //! The sink that keeps nothing.
-ghost use Rattle.std.specs.Prelude.{◌≡◌, ℕ, ◌<◌, ◌≤◌, None, length, IfOk};
-ghost use Rattle.std.specs.Io.KnownBytes.{Keeps, WriteAppends};
-ghost use Rattle.pgn_layout.specs.Device.{Counts};
+ghost use Rattle.std.specs.Prelude.{◌≡◌, None, length};
 
 use crate::{Sink, WriteFault};
 
