@@ -12,7 +12,7 @@ pub enum CreateFault {
 
 /// Makes the files that games are written to, one for each game.
 pub trait GameFiles {
-    ghost use Rattle.std.specs.Prelude.{◌≡◌, ℕ, List, [], ◌∷◌, Option, IfOk};
+    ghost use Rattle.std.specs.Prelude.{◌≡◌, List, [], ◌∷◌, Option, IfOk};
     ghost use Rattle.pgn_tool.specs.Files.{Event, IsNew, added, closed, event_of};
 
     /// A file that is being written. Dropping it closes it.

@@ -1,7 +1,5 @@
 //! The sink over the files of games, for one call of the converter.
-ghost use Rattle.std.specs.Prelude.{◌≡◌, ℕ, ◌<◌, ◌≤◌, true, false, List, [], ◌∷◌, Option, None, length, IfOk, IfSome, is_some};
-ghost use Rattle.std.specs.Io.KnownBytes.{Keeps, WriteAppends};
-ghost use Rattle.pgn_layout.specs.Device.{Counts, one_more};
+ghost use Rattle.std.specs.Prelude.{◌≡◌, ℕ, ◌<◌, true, false, List, [], ◌∷◌, Option, None, IfOk, is_some};
 ghost use Rattle.pgn_tool.specs.Files.{IsNew, added, event_of, failures_in, has_text, steps, told};
 
 use crate::files::{CreateFault, GameFiles};

@@ -1,5 +1,5 @@
 //! Writes a line for each game.
-ghost use Rattle.std.specs.Prelude.{◌≡◌, ℕ, ◌+◌, ◌^◌, ◌≤◌, List, [], length, false, None, OnOk, unwrap_or};
+ghost use Rattle.std.specs.Prelude.{◌≡◌, ◌+◌, ◌^◌, ◌≤◌, [], length, false, None, OnOk, unwrap_or};
 ghost use Rattle.pgn_layout.specs.Device.{Counts, Writes};
 ghost use Rattle.pgn_tool.specs.Listing.{CountsList, CountsSink, Lists, ListsLast, ListsPiece, field, line_at_hand, six_fields};
 ghost use Rattle.pgn_game.specs.Feeding.{value_at_hand};
