@@ -1,9 +1,10 @@
 -- An export text is read as its games with their defaults filled in, so it is written again as it
 -- is.
-use Rattle.std.proofs.Common.{◌≡◌, ℕ, ◌+◌, ◌≤◌, ◌^◌, inl, inr, Bool, true, false, cond, List, [], ◌∷◌, ◌++◌, length, map, refl, sym, ap, subst, ◌∙◌, arith, length-append, append-nil, Option, None, Some}
+use Rattle.std.proofs.Common.{◌≡◌, ℕ, ◌+◌, ◌≤◌, ◌^◌, inl, inr, Bool, true, false, List, [], ◌∷◌, ◌++◌, length, map, refl, sym, ap, subst, ◌∙◌, arith, length-append, append-nil, Option, None, Some}
 use Rattle.std.specs.Prelude.{sum, IfSome, Ok, Err, filter, not, bytes_eq, codes}
 use Rattle.std.specs.Io.KnownBytes.{Appends, Consumes}
 use Rattle.std.proofs.lemmas.List.{length-map}
+use Rattle.std.proofs.lemmas.List.Sums.{length-filter, count_by-le-length}
 use Rattle.pgn_lexer.specs.Laws.{IsLast, RisesTo, TokensRise}
 use Rattle.pgn_lexer.specs.Tokens as tokens
 use Rattle.pgn_lexer.specs.Tokens.{Kind, Token}
@@ -175,10 +176,7 @@ module _ (unique : UniqueReading) (rise : TokensRise) where
 
 -- Room for tag lines.
 filter_shortens : (f : Pair → Bool) (ps : List Pair) → length (filter f ps) ≤ length ps
-filter_shortens f [] = omega arith
-filter_shortens f (p ∷ ps) =
-    let more = filter_shortens f ps in
-    elim (f p) as (λ b. length (cond b (p ∷ filter f ps) (filter f ps)) ≤ length (p ∷ ps)) [ true ↦ omega arith | false ↦ omega arith ]
+filter_shortens f ps = omega (arith, length-filter f ps, count_by-le-length f ps)
 
 one_set_up : (ps : List Pair) → length (with_set_up ps) ≤ length ps + 1
 one_set_up ps =

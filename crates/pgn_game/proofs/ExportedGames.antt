@@ -1,7 +1,7 @@
 -- The text of a game that sound tokens spelled: it spells the game with its defaults filled in, and
 -- that game has the same text.
-use Rattle.std.proofs.Common.{◌≡◌, ℕ, ◌≤◌, true, List, [], ◌∷◌, ◌++◌, length, refl, sym, ap, subst, Option, None, Some}
-use Rattle.std.specs.Prelude.{codes, unwrap_or, IsTrue, Ok, Result}
+use Rattle.std.proofs.Common.{◌≡◌, ℕ, ◌≤◌, true, List, [], ◌∷◌, ◌++◌, length, refl, sym, ap, subst, arith, Option, None, Some}
+use Rattle.std.specs.Prelude.{codes, not, unwrap_or, IsTrue, Ok, Result}
 use Rattle.std.specs.List.{AllByRecursion, list_all}
 use Rattle.chess_rules.specs.declared.position.Parts.{Parts}
 use Rattle.chess_rules.specs.Position.{is_position}
@@ -24,15 +24,12 @@ use Rattle.pgn_game.specs.Profile.{Profile, Missing, counts_as, takes_the_marker
 use Rattle.pgn_game.specs.Spells.{KeepsTags, IsPair, by_name, IsResult}
 use Rattle.pgn_game.specs.TagSection.{roster, roster_pairs, with_set_up, other_pairs, exported}
 use Rattle.pgn_game.proofs.Collecting.{all-all}
-use Rattle.pgn_game.proofs.Exporting.{with_default, set_up, on_roster, all-exported}
+use Rattle.pgn_game.proofs.Exporting.{set_up, on_roster, all-exported}
 use Rattle.pgn_game.proofs.ExportedPairs.{by_marker, keeps_exported, by_name_values, by_name_order}
 use Rattle.pgn_game.proofs.PairOrder.{InOrder}
 use Rattle.pgn_game.proofs.PairValues.{found}
 use Rattle.pgn_game.proofs.Pieces.{IsSoundPair}
 use Rattle.pgn_game.proofs.SpelledGames.{SoundGame, marker_is_result}
-use Rattle.pgn_game.specs.TagSection.{in_roster}
-use Rattle.std.specs.Prelude.{not, bytes_eq}
-use Rattle.std.proofs.Common.{arith}
 
 -- The Result that is exported where it is missing.
 same_result : (missing : Missing) (o : Option (List ℕ)) (m : List ℕ) → IsResult missing o m → unwrap_or o (result_for missing m) ≡ unwrap_or o m
@@ -42,12 +39,7 @@ same_result (counts_as text) None m is = sym is
 
 roster_result : (r m : List ℕ) (ps : List Pair) → unwrap_or (value_of ps (codes "Result")) r ≡ unwrap_or (value_of ps (codes "Result")) m → roster_pairs r ps ≡ roster_pairs m ps
 unfolding roster
-roster_result r m ps e =
-    ap (λ v.
-    with_default ps (record { name = codes "Event"; value = codes "?" }) ∷ with_default ps (record { name = codes "Site"; value = codes "?" })
-    ∷ with_default ps (record { name = codes "Date"; value = codes "????.??.??" }) ∷ with_default ps (record { name = codes "Round"; value = codes "?" })
-    ∷ with_default ps (record { name = codes "White"; value = codes "?" }) ∷ with_default ps (record { name = codes "Black"; value = codes "?" })
-    ∷ record { name = codes "Result"; value = v } ∷ []) e
+roster_result r m ps e = cc
 
 pub exported_result : (mode : Mode) (missing : Missing) (m : List ℕ) (ps : List Pair) → IsResult missing (value_of ps (codes "Result")) m
     → exported mode (result_for missing m) ps ≡ exported mode m ps

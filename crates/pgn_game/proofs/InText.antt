@@ -149,7 +149,7 @@ marker_rows p part marker =
     or_else (nat_le 1 (depth (levels_in part))) MarkerInVariation
     (or_else (other_if p.missing_result part.pairs (Some marker) && (depth (levels_in part) == 0)) ResultDiffers None)
 
-score_of : (s marker : List ℕ) (b : Bool) → is_score s ≡ b → marker_if b s ≡ Some marker → (b ≡ true) × (s ≡ marker)
+pub score_of : (s marker : List ℕ) (b : Bool) → is_score s ≡ b → marker_if b s ≡ Some marker → (b ≡ true) × (s ≡ marker)
 score_of s marker true e h = (refl, cc)
 score_of s marker false e h = absurd (cc)
 

@@ -1,5 +1,5 @@
 -- What is known of a game that a text spells: its tokens are sound, and its comments close.
-use Rattle.std.proofs.Common.{◌≡◌, ℕ, ◌+◌, Bool, true, false, List, [], ◌∷◌, ◌++◌, refl, sym, ap, subst, ◌∙◌, append_assoc, None, Some}
+use Rattle.std.proofs.Common.{◌≡◌, ℕ, ◌+◌, Bool, true, false, List, [], ◌∷◌, ◌++◌, refl, sym, ap, subst, ◌∙◌, append_assoc, Some}
 use Rattle.std.specs.Prelude.{◌||◌, codes, bytes_eq}
 use Rattle.std.specs.List.{AllByRecursion, list_all}
 use Rattle.std.proofs.ByRecursion.{All-append}
@@ -16,6 +16,7 @@ use Rattle.pgn_game.specs.Pairs.{Pair, value_of}
 use Rattle.pgn_game.specs.Profile.{Profile}
 use Rattle.pgn_game.specs.Spells.{AreDropped, SpellsPair, pair, SpellsPairs, no_pair, next_pair, KeepsTags, by_name, IsSetUp, SpellsText, no_more, token, move, variation, StandsFor, number, period, glyph, comment_open, word, comment_close, nothing_played, BeginsBare, IsResult, SpellsGame}
 use Rattle.pgn_game.proofs.EachOf.{all_front, all_behind}
+use Rattle.pgn_game.proofs.InText.{score_of}
 use Rattle.pgn_game.proofs.Pieces.{IsSoundPair, IsWritable}
 
 -- Comments. They close behind these kinds if they close behind more before them.
@@ -144,20 +145,16 @@ sound_pairs _ _ (next_pair ks js q qs one rest) sound =
     (sound_pair ks q one (all_front IsSoundKind ks js sound), sound_pairs js qs rest (all_behind IsSoundKind ks js sound))
 
 -- Markers.
-when_score : (s marker : List ℕ) (b : Bool) → is_score s ≡ b → elim b [ true ↦ Some s | false ↦ None ] ≡ Some marker → (is_score s ≡ true) × (s ≡ marker)
-when_score s marker true is e = let same : s ≡ marker = cc in (is, same)
-when_score s marker false is e = absurd (cc)
-
 pub marker_is_result : (k : Kind) (marker : List ℕ) → marker_of k ≡ Some marker → is_result marker ≡ true
 marker_is_result tokens.asterisk marker is = let same : codes "*" ≡ marker = cc in ap is_result (sym same)
 marker_is_result (tokens.symbol s) marker is =
-    let score = when_score s marker (is_score s) refl is in
+    let score = score_of s marker (is_score s) refl is in
     ap is_result (sym score.1) ∙ ap (λ (b : Bool). b || bytes_eq s (codes "*")) score.0
 marker_is_result _ marker is = absurd (cc)
 
 pub marker_written : (k : Kind) (marker : List ℕ) → marker_of k ≡ Some marker → written k ≡ marker
 marker_written tokens.asterisk marker is = let same : codes "*" ≡ marker = cc in same
-marker_written (tokens.symbol s) marker is = (when_score s marker (is_score s) refl is).1
+marker_written (tokens.symbol s) marker is = (score_of s marker (is_score s) refl is).1
 marker_written _ marker is = absurd (cc)
 
 pub marker_writable : (k : Kind) (marker : List ℕ) → marker_of k ≡ Some marker → IsSoundKind k → IsWritable k

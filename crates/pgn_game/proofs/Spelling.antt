@@ -27,6 +27,7 @@ use Rattle.pgn_game.specs.Spells.{AreDropped, SpellsPair, pair, SpellsPairs, no_
 use Rattle.pgn_game.proofs.Runs.{at, Runs, ends, goes, finishes}
 use Rattle.pgn_game.proofs.Passing.{pass, drops_comments, comment_free, comment_stays, comment_goes, opening, opening_between, naming, valuing, closing, is_textual, after_tags, leads_after_tags, between, leads_between, varying, unvarying, starring, symbol_fault, symbolic}
 use Rattle.pgn_game.proofs.Collecting.{with_pairs, Takes, takes}
+use Rattle.pgn_game.proofs.InText.{score_of}
 use Rattle.pgn_game.proofs.Texting.{levels_more, result_meets, other_score, no_other, symbol_next, symbol_leads, stands_free, stands_leads, stands_levels, stands_goes}
 
 -- Comments that are dropped.
@@ -79,18 +80,13 @@ value_passes p ps items q h =
     (pass (nat_lt 249 (length q.name + length (escaped q.value))) TagLineTooLong None short refl))
 
 -- the tokens of a pair, and those behind it
-pair_kinds : (xs ys zs : List Kind) (name value : List ℕ) (rest : List Kind)
-    → (tokens.left_bracket ∷ (xs ++ tokens.symbol name ∷ (ys ++ tokens.str value ∷ (zs ++ tokens.right_bracket ∷ [])))) ++ rest
-    ≡ tokens.left_bracket ∷ (xs ++ tokens.symbol name ∷ (ys ++ tokens.str value ∷ (zs ++ tokens.right_bracket ∷ rest)))
-pair_kinds xs ys zs name value rest = simp append_assoc
-
 pair_run : (p : Profile) (ps : List Pair) (name : List ℕ) (ks rest : List Kind) (q : Pair) (gs : List Game) → SpellsPair ks q
     → length ps < p.tags → IsFalse (has_pair ps q.name) → IsPair p.mode q
     → Runs p (at AfterTags (insert_pair q ps) [] []) rest gs → Runs p (at AfterTags ps name []) (ks ++ rest) gs
 pair_run p ps name _ rest _ gs (pair xs ys zs n v before_name before_value before_bracket) room new is runs =
     let q : Pair = record { name = n; value = v } in
     let free : nat_le p.tags (length ps) ≡ false = grind (arith, nat_tests) in
-    subst (λ ks. Runs p (at AfterTags ps name []) ks gs) (sym (pair_kinds xs ys zs n v rest))
+    simp append_assoc
     (goes (at AfterTags ps name []) (at AfterLeftBracket ps name []) tokens.left_bracket _ gs (opening p ps name [] ∙ pass (nat_le p.tags (length ps)) TooManyTags None free refl) refl refl
     (dropped_run p AfterLeftBracket ps name [] refl xs _ gs before_name
     (goes (at AfterLeftBracket ps name []) (at AfterName ps n []) (tokens.symbol n) _ gs (name_passes p ps name [] q new is) refl refl
@@ -244,14 +240,10 @@ marker_finishes : (p : Profile) (ps : List Pair) (name : List ℕ) (items : List
 marker_finishes p ps name items tokens.asterisk marker is outside result =
     let e : codes "*" ≡ marker = cc in
     subst (Finishes p ps name items tokens.asterisk) e (star_finishes p ps name items outside (subst (IsResult p.missing_result (value_of ps (codes "Result"))) (sym e) result))
-marker_finishes p ps name items (tokens.symbol s) marker is outside result = by_test (is_score s) refl is
-  where
-    by_test : (b : Bool) → is_score s ≡ b → elim b [ true ↦ Some s | false ↦ None ] ≡ Some marker → Finishes p ps name items (tokens.symbol s) marker
-    by_test true score e =
-        let same : s ≡ marker = cc in
-        subst (Finishes p ps name items (tokens.symbol s)) same
-        (score_finishes p ps name items s score outside (subst (IsResult p.missing_result (value_of ps (codes "Result"))) (sym same) result))
-    by_test false score e = absurd (cc)
+marker_finishes p ps name items (tokens.symbol s) marker is outside result =
+    let score = score_of s marker (is_score s) refl is in
+    subst (Finishes p ps name items (tokens.symbol s)) score.1
+    (score_finishes p ps name items s score.0 outside (subst (IsResult p.missing_result (value_of ps (codes "Result"))) (sym score.1) result))
 marker_finishes p ps name items _ marker is outside result = absurd (cc)
 
 -- Games.

@@ -23,7 +23,7 @@ use Rattle.pgn_game.specs.Pairs.{Pair, value_of, has_pair, insert_pair}
 use Rattle.pgn_game.specs.Chess.{position_of, move_of}
 use Rattle.pgn_game.specs.Game as games
 use Rattle.pgn_game.specs.Game.{Item, Game, Part, no_part}
-use Rattle.pgn_game.specs.Levels.{Level, Levels, levels_of, levels_after, depth, here, replayed, without_last, start_of}
+use Rattle.pgn_game.specs.Levels.{Level, Levels, levels_of, levels_after, depth, here, without_last, start_of}
 use Rattle.pgn_game.specs.FaultTable.{refusal, is_comment, in_name, is_result, is_score, is_number, is_end, is_at_limit, is_reduced, fen_field, fen_field_of, field_of, marker_of, lacks_fen, has_other_result}
 use Rattle.pgn_game.specs.Progress.{Next, next, going, whole}
 use Rattle.pgn_game.specs.Spells.{AreDropped, pair, SpellsPairs, no_pair, next_pair, by_name, IsSetUp, StandsFor, number, period, glyph, comment_open, word, comment_close, Names, nothing_played, has_played, SpellsText, no_more, token, move, variation, BeginsBare, IsResult, SpellsGame, SpellsGames, no_game, next_game}
@@ -31,7 +31,7 @@ use Rattle.pgn_game.proofs.Runs.{at, Runs, ends, goes, finishes}
 use Rattle.pgn_game.specs.Judging.{or_else}
 use Rattle.pgn_game.proofs.Passing.{test_failed, rest_passed, opening, opening_between, naming, valuing, is_textual, after_tags, leads_after_tags, between, leads_between, varying, unvarying, starring, symbol_fault, symbolic}
 use Rattle.pgn_game.proofs.Collecting.{with_pairs, Takes, taken}
-use Rattle.pgn_game.proofs.Texting.{levels_more, differs, result_is, marked, other_score, symbol_next}
+use Rattle.pgn_game.proofs.Texting.{levels_more, stands_levels, differs, result_is, marked, other_score, symbol_next}
 
 -- Movetext that is left, at a level and at those around it.
 abbrev deep : List Level → ℕ
@@ -48,21 +48,16 @@ data Closes (p : Profile) (first : Parts) : Level → List Level → List Kind �
   inside : (l m : Level) (around : List Level) (ks ls : List Kind) (items more : List Item) → SpellsText p first (deep around + 1) l ks items
       → Closes p first m around ls more → Closes p first l (m ∷ around) (ks ++ tokens.right_paren ∷ ls) (items ++ games.close_variation ∷ more)
 
-add_token : (p : Profile) (first : Parts) (l : Level) (around : List Level) (k : Kind) (ks : List Kind) (item items : List Item) → StandsFor k item
-    → Closes p first l around ks items → Closes p first l around (k ∷ ks) (item ++ items)
-add_token p first _ _ k _ item _ stands (outermost l ks items text) = outermost l (k ∷ ks) (item ++ items) (token 0 l k ks item items stands text)
-add_token p first _ _ k _ item _ stands (inside l m around ks ls items more text rest) =
+-- one token more at this level, from where it leads
+add_front : (p : Profile) (first : Parts) (l n : Level) (around : List Level) (k : Kind) (ks : List Kind)
+(item items : List Item)
+    → ((d : ℕ) (js : List Kind) (is : List Item) → SpellsText p first d n js is → SpellsText p first d l (k ∷ js) (item ++ is))
+    → Closes p first n around ks items → Closes p first l around (k ∷ ks) (item ++ items)
+add_front p first l _ _ k _ item _ front (outermost n ks items text) =
+    outermost l (k ∷ ks) (item ++ items) (front 0 ks items text)
+add_front p first l _ _ k _ item _ front (inside n m around ks ls items more text rest) =
     subst (Closes p first l (m ∷ around) (k ∷ (ks ++ tokens.right_paren ∷ ls))) (append_assoc item items (games.close_variation ∷ more))
-    (inside l m around (k ∷ ks) ls (item ++ items) more (token (deep around + 1) l k ks item items stands text) rest)
-
-add_move : (p : Profile) (first : Parts) (l n : Level) (around : List Level) (s : List ℕ) (played : Played) (ks : List Kind) (items : List Item)
-    → Names (replayed first l.trail) s played → n ≡ has_played played.mv l.trail → Closes p first n around ks items
-    → Closes p first l around (tokens.symbol s ∷ ks) (games.move played.mv ∷ items)
-add_move p first l _ _ s played _ _ names e (outermost n ks items text) =
-    outermost l (tokens.symbol s ∷ ks) (games.move played.mv ∷ items) (move 0 l s played ks items names (subst (λ x. SpellsText p first 0 x ks items) e text))
-add_move p first l _ _ s played _ _ names e (inside n m around ks ls items more text rest) =
-    inside l m around (tokens.symbol s ∷ ks) ls (games.move played.mv ∷ items) more
-    (move (deep around + 1) l s played ks items names (subst (λ x. SpellsText p first (deep around + 1) x ks items) e text)) rest
+    (inside l m around (k ∷ ks) ls (item ++ items) more (front (deep around + 1) ks items text) rest)
 
 -- a variation, with what comes behind it
 add_variation : (p : Profile) (first : Parts) (l : Level) (around : List Level) (ks ls : List Kind) (items more : List Item) → IsTrue l.has_own_move → deep around < p.depth
@@ -144,37 +139,48 @@ record Tags_left (p : Profile) (ps : List Pair) (ks : List Kind) (gs : List Game
   set_up : IsSetUp (with_pairs ps given)
   text : Text_left p (with_pairs ps given) [] behind gs
 
+-- comments that are dropped, and what is left behind them
+record Dropping (P : List Kind → Type 0) (ks : List Kind) : Type 0 where
+  front : List Kind
+  rest : List Kind
+  kinds : ks ≡ front ++ rest
+  dropped : AreDropped front
+  left : P rest
+
 -- the end of a pair
-record Bracket_left (p : Profile) (ps : List Pair) (ks : List Kind) (gs : List Game) : Type 0 where
-  zs : List Kind
+record Bracket (p : Profile) (ps : List Pair) (gs : List Game) (ks : List Kind) : Type 0 where
   behind : List Kind
-  kinds : ks ≡ zs ++ tokens.right_bracket ∷ behind
-  dropped : AreDropped zs
+  kinds : ks ≡ tokens.right_bracket ∷ behind
   tags : Tags_left p ps behind gs
 
+abbrev Bracket_left : Profile → List Pair → List Kind → List Game → Type 0
+Bracket_left p ps ks gs = Dropping (Bracket p ps gs) ks
+
 -- a value, and that
-record Value_left (p : Profile) (ps : List Pair) (name : List ℕ) (ks : List Kind) (gs : List Game) : Type 0 where
-  ys : List Kind
+record Value (p : Profile) (ps : List Pair) (name : List ℕ) (gs : List Game) (ks : List Kind) : Type 0 where
   value : List ℕ
   behind : List Kind
-  kinds : ks ≡ ys ++ tokens.str value ∷ behind
-  dropped : AreDropped ys
+  kinds : ks ≡ tokens.str value ∷ behind
   room : length name + length (escaped value) ≤ 249
   result : name ≡ codes "Result" → IsTrue (is_result value)
   fen : name ≡ codes "FEN" → (start : Parts) × (position_of value ≡ Ok start)
   bracket : Bracket_left p (insert_pair (record { name = name; value = value }) ps) behind gs
 
+abbrev Value_left : Profile → List Pair → List ℕ → List Kind → List Game → Type 0
+Value_left p ps name ks gs = Dropping (Value p ps name gs) ks
+
 -- a name, and that
-record Name_left (p : Profile) (ps : List Pair) (ks : List Kind) (gs : List Game) : Type 0 where
-  xs : List Kind
+record Name (p : Profile) (ps : List Pair) (gs : List Game) (ks : List Kind) : Type 0 where
   name : List ℕ
   behind : List Kind
-  kinds : ks ≡ xs ++ tokens.symbol name ∷ behind
-  dropped : AreDropped xs
+  kinds : ks ≡ tokens.symbol name ∷ behind
   fresh : IsFalse (has_pair ps name)
   is_name : IsTrue (list_all in_name name)
   full : name ≡ codes "FEN" → p.mode ≡ Full
   value : Value_left p ps name behind gs
+
+abbrev Name_left : Profile → List Pair → List Kind → List Game → Type 0
+Name_left p ps ks gs = Dropping (Name p ps gs) ks
 
 abbrev Left : Profile → Stage → List Pair → List ℕ → List Item → List Kind → List Game → Type 0
 Left p Between ps name items ks gs = SpellsGames p ks gs
@@ -196,21 +202,23 @@ After p (going part) ks gs = Fits part.stage part.pairs part.items → Left p pa
 After p (whole g) ks gs = (later : List Game) × (gs ≡ g ∷ later) × SpellsGames p ks later
 
 -- Movetext, token by token.
-adds_token : (p : Profile) (ps : List Pair) (items : List Item) (x : Item) (k : Kind) → StandsFor k (x ∷ []) → levels_after (levels_of items) x ≡ levels_of items
-    → Adds p ps items k (x ∷ [])
-adds_token p ps items x k stands same text more c =
-    add_token p (start_of ps) (levels_of items).present (levels_of items).around k text (x ∷ []) more stands
-    (subst (λ (ls : Levels). Closes p (start_of ps) ls.present ls.around text more) (levels_more items x ∙ same) c)
-
-adds_nothing : (p : Profile) (ps : List Pair) (items : List Item) (k : Kind) → StandsFor k [] → Adds p ps items k []
-adds_nothing p ps items k stands text more c =
-    add_token p (start_of ps) (levels_of items).present (levels_of items).around k text [] more stands
-    (subst (λ (xs : List Item). Closes p (start_of ps) (levels_of xs).present (levels_of xs).around text more) (append-nil items) c)
+token_step : (p : Profile) (ps : List Pair) (items item : List Item) (k : Kind) (ks : List Kind) (gs : List Game)
+    → StandsFor k item
+    → Text_left p ps (items ++ item) ks gs → Text_left p ps items (k ∷ ks) gs
+token_step p ps items item k ks gs stands h =
+    text_more p ps items item k ks gs (λ text more c.
+    let l = (levels_of items).present in
+    add_front p (start_of ps) l l (levels_of items).around k text item more
+    (λ d js is rest. token d l k js item is stands rest)
+    (subst (λ (ls : Levels). Closes p (start_of ps) ls.present ls.around text more) (stands_levels items k item stands) c)) h
 
 adds_move : (p : Profile) (ps : List Pair) (items : List Item) (s : List ℕ) (played : Played) → Names (here (start_of ps) (levels_of items)) s played
     → Adds p ps items (tokens.symbol s) (games.move played.mv ∷ [])
 adds_move p ps items s played names text more c =
-    add_move p (start_of ps) (levels_of items).present _ (levels_of items).around s played text more names refl
+    let l = (levels_of items).present in
+    add_front p (start_of ps) l (has_played played.mv l.trail) (levels_of items).around (tokens.symbol s) text
+    (games.move played.mv ∷ []) more
+    (λ d js is rest. move d l s played js is names rest)
     (subst (λ (ls : Levels). Closes p (start_of ps) ls.present ls.around text more) (levels_more items (games.move played.mv)) c)
 
 adds_open : (p : Profile) (ps : List Pair) (items : List Item) → IsTrue (levels_of items).present.has_own_move → depth (levels_of items) < p.depth
@@ -286,7 +294,7 @@ symbol_step : (p : Profile) (ps : List Pair) (name : List ℕ) (items : List Ite
     (has_other_result p.missing_result (at InMovetext ps name items) (tokens.symbol s)) ≡ None
     → After p (symbol_next ps name items s is_digits score o) ks gs → Text_left p ps items (tokens.symbol s ∷ ks) gs
 symbol_step p ps name items s ks gs true false o digits is_marker one free after =
-    text_more p ps items [] (tokens.symbol s) ks gs (adds_nothing p ps items (tokens.symbol s) (number s digits)) (after tt)
+    token_step p ps items [] (tokens.symbol s) ks gs (number s digits) (after tt)
 symbol_step p ps name items s ks gs false false (Some (Ok played)) digits is_marker one free after =
     text_more p ps items (games.move played.mv ∷ []) (tokens.symbol s) ks gs
     (adds_move p ps items s played
@@ -310,15 +318,15 @@ text_step : (p : Profile) (ps : List Pair) (name : List ℕ) (items : List Item)
 unfolding refusal
 text_step p ps name items tokens.left_paren ks gs free end after = open_step p ps name items ks gs free (after tt)
 text_step p ps name items tokens.right_paren ks gs free end after = close_step p ps name items ks gs free (after tt)
-text_step p ps name items tokens.period ks gs free end after = text_more p ps items [] tokens.period ks gs (adds_nothing p ps items tokens.period period) (after tt)
+text_step p ps name items tokens.period ks gs free end after = token_step p ps items [] tokens.period ks gs period (after tt)
 text_step p ps name items (tokens.glyph n) ks gs free end after =
-    text_more p ps items (games.glyph n ∷ []) (tokens.glyph n) ks gs (adds_token p ps items (games.glyph n) (tokens.glyph n) (glyph n) refl) (after tt)
+    token_step p ps items _ (tokens.glyph n) ks gs (glyph n) (after tt)
 text_step p ps name items tokens.comment_open ks gs free end after =
-    text_more p ps items (games.comment_open ∷ []) tokens.comment_open ks gs (adds_token p ps items games.comment_open tokens.comment_open comment_open refl) (after tt)
+    token_step p ps items _ tokens.comment_open ks gs comment_open (after tt)
 text_step p ps name items (tokens.word s) ks gs free end after =
-    text_more p ps items (games.word s ∷ []) (tokens.word s) ks gs (adds_token p ps items (games.word s) (tokens.word s) (word s) refl) (after tt)
+    token_step p ps items _ (tokens.word s) ks gs (word s) (after tt)
 text_step p ps name items tokens.comment_close ks gs free end after =
-    text_more p ps items (games.comment_close ∷ []) tokens.comment_close ks gs (adds_token p ps items games.comment_close tokens.comment_close comment_close refl) (after tt)
+    token_step p ps items _ tokens.comment_close ks gs comment_close (after tt)
 text_step p ps name items tokens.asterisk ks gs free end after =
     let e = sym (starring p ps name items) ∙ free in
     marker_step p ps items tokens.asterisk (codes "*") ks gs refl (test_failed (nat_le 1 (depth (levels_of items))) MarkerInVariation _ e)
@@ -344,32 +352,25 @@ is_full : (mode : Mode) (b : Bool) → (is_reduced mode && b) ≡ false → b �
 is_full Full b h e = refl
 is_full Reduced b h e = absurd (cc)
 
-bracket_dropped : (p : Profile) (ps : List Pair) (k : Kind) (ks : List Kind) (gs : List Game) → IsTrue (is_comment k) → Bracket_left p ps ks gs → Bracket_left p ps (k ∷ ks) gs
-bracket_dropped p ps k ks gs is h =
-    record { zs = k ∷ h.zs; behind = h.behind; kinds = ap (λ xs. k ∷ xs) h.kinds; dropped = dropped_more k h.zs is h.dropped; tags = h.tags }
+one_dropped : (P : List Kind → Type 0) (k : Kind) (ks : List Kind) → IsTrue (is_comment k) → Dropping P ks
+    → Dropping P (k ∷ ks)
+one_dropped P k ks is h =
+    record { front = k ∷ h.front; rest = h.rest; kinds = ap (λ xs. k ∷ xs) h.kinds; dropped = dropped_more k h.front is h.dropped; left = h.left }
+
+none_dropped : (P : List Kind → Type 0) (ks : List Kind) → P ks → Dropping P ks
+none_dropped P ks h = record { front = []; rest = ks; kinds = refl; dropped = refl; left = h }
 
 bracket_step : (p : Profile) (ps : List Pair) (name : List ℕ) (items : List Item) (k : Kind) (ks : List Kind) (gs : List Game) → items ≡ []
     → refusal p (at AfterValue ps name items) k ≡ None → After p (next (at AfterValue ps name items) k) ks gs → Bracket_left p ps (k ∷ ks) gs
 unfolding refusal
-bracket_step p ps name items tokens.comment_open ks gs none free after = bracket_dropped p ps tokens.comment_open ks gs refl (after none)
-bracket_step p ps name items (tokens.word s) ks gs none free after = bracket_dropped p ps (tokens.word s) ks gs refl (after none)
-bracket_step p ps name items tokens.comment_close ks gs none free after = bracket_dropped p ps tokens.comment_close ks gs refl (after none)
-bracket_step p ps name items tokens.right_bracket ks gs none free after = record { zs = []; behind = ks; kinds = refl; dropped = refl; tags = after none }
+bracket_step p ps name items tokens.comment_open ks gs none free after =
+    one_dropped (Bracket p ps gs) tokens.comment_open ks refl (after none)
+bracket_step p ps name items (tokens.word s) ks gs none free after = one_dropped (Bracket p ps gs) (tokens.word s) ks refl (after none)
+bracket_step p ps name items tokens.comment_close ks gs none free after =
+    one_dropped (Bracket p ps gs) tokens.comment_close ks refl (after none)
+bracket_step p ps name items tokens.right_bracket ks gs none free after =
+    none_dropped (Bracket p ps gs) (tokens.right_bracket ∷ ks) (record { behind = ks; kinds = refl; tags = after none })
 bracket_step p ps name items _ ks gs none free after = absurd (cc)
-
-value_dropped : (p : Profile) (ps : List Pair) (name : List ℕ) (k : Kind) (ks : List Kind) (gs : List Game) → IsTrue (is_comment k) → Value_left p ps name ks gs
-    → Value_left p ps name (k ∷ ks) gs
-value_dropped p ps name k ks gs is h = record {
-  ys = k ∷ h.ys;
-  value = h.value;
-  behind = h.behind;
-  kinds = ap (λ xs. k ∷ xs) h.kinds;
-  dropped = dropped_more k h.ys is h.dropped;
-  room = h.room;
-  result = h.result;
-  fen = h.fen;
-  bracket = h.bracket;
-}
 
 value_given : (p : Profile) (ps : List Pair) (name : List ℕ) (items : List Item) (s : List ℕ) (ks : List Kind) (gs : List Game)
     → refusal p (at AfterName ps name items) (tokens.str s) ≡ None → Bracket_left p (insert_pair (record { name = name; value = s }) ps) ks gs
@@ -382,40 +383,27 @@ value_given p ps name items s ks gs free h =
     let short : nat_lt 249 (length name + length (escaped s)) ≡ false =
     test_failed (nat_lt 249 (length name + length (escaped s))) TagLineTooLong None
     (rest_passed (bytes_eq name (codes "FEN") && is_some (fen_field s)) (BadFen (fen_field_of (tokens.str s))) _ f) in
-    record {
-      ys = [];
+    none_dropped (Value p ps name gs) (tokens.str s ∷ ks) (record {
       value = s;
       behind = ks;
       kinds = refl;
-      dropped = refl;
       room = ltb-false 249 (length name + length (escaped s)) short;
       result = λ is. not-false (is_result s)
           (forced (bytes_eq name (codes "Result")) (not (is_result s)) is_marker ((bytes_eq-Decides name (codes "Result")).1 is));
       fen = λ is. position_is (position_of s) (forced (bytes_eq name (codes "FEN")) (is_some (fen_field s)) is_position ((bytes_eq-Decides name (codes "FEN")).1 is));
       bracket = h;
-    }
+    })
 
 value_step : (p : Profile) (ps : List Pair) (name : List ℕ) (items : List Item) (k : Kind) (ks : List Kind) (gs : List Game) → items ≡ []
     → refusal p (at AfterName ps name items) k ≡ None → After p (next (at AfterName ps name items) k) ks gs → Value_left p ps name (k ∷ ks) gs
 unfolding refusal
-value_step p ps name items tokens.comment_open ks gs none free after = value_dropped p ps name tokens.comment_open ks gs refl (after none)
-value_step p ps name items (tokens.word s) ks gs none free after = value_dropped p ps name (tokens.word s) ks gs refl (after none)
-value_step p ps name items tokens.comment_close ks gs none free after = value_dropped p ps name tokens.comment_close ks gs refl (after none)
+value_step p ps name items tokens.comment_open ks gs none free after =
+    one_dropped (Value p ps name gs) tokens.comment_open ks refl (after none)
+value_step p ps name items (tokens.word s) ks gs none free after = one_dropped (Value p ps name gs) (tokens.word s) ks refl (after none)
+value_step p ps name items tokens.comment_close ks gs none free after =
+    one_dropped (Value p ps name gs) tokens.comment_close ks refl (after none)
 value_step p ps name items (tokens.str s) ks gs none free after = value_given p ps name items s ks gs free (after none)
 value_step p ps name items _ ks gs none free after = absurd (cc)
-
-name_dropped : (p : Profile) (ps : List Pair) (k : Kind) (ks : List Kind) (gs : List Game) → IsTrue (is_comment k) → Name_left p ps ks gs → Name_left p ps (k ∷ ks) gs
-name_dropped p ps k ks gs is h = record {
-  xs = k ∷ h.xs;
-  name = h.name;
-  behind = h.behind;
-  kinds = ap (λ xs. k ∷ xs) h.kinds;
-  dropped = dropped_more k h.xs is h.dropped;
-  fresh = h.fresh;
-  is_name = h.is_name;
-  full = h.full;
-  value = h.value;
-}
 
 name_given : (p : Profile) (ps : List Pair) (name : List ℕ) (items : List Item) (s : List ℕ) (ks : List Kind) (gs : List Game)
     → refusal p (at AfterLeftBracket ps name items) (tokens.symbol s) ≡ None → Value_left p ps s ks gs → Name_left p ps (tokens.symbol s ∷ ks) gs
@@ -423,52 +411,51 @@ name_given p ps name items s ks gs free h =
     let e = sym (naming p ps name items s) ∙ free in
     let f = rest_passed (not (list_all in_name s)) BadTagName _ e in
     let g = rest_passed (nat_lt 249 (length s)) TagLineTooLong _ (rest_passed (has_pair ps s) DuplicateTag _ f) in
-    record {
-      xs = [];
+    none_dropped (Name p ps gs) (tokens.symbol s ∷ ks) (record {
       name = s;
       behind = ks;
       kinds = refl;
-      dropped = refl;
       fresh = test_failed (has_pair ps s) DuplicateTag _ f;
       is_name = not-false (list_all in_name s) (test_failed (not (list_all in_name s)) BadTagName _ e);
       full = λ is.
           is_full p.mode (bytes_eq s (codes "FEN")) (test_failed (is_reduced p.mode && bytes_eq s (codes "FEN")) ReducedFen None g)
           ((bytes_eq-Decides s (codes "FEN")).1 is);
       value = h;
-    }
+    })
 
 name_step : (p : Profile) (ps : List Pair) (name : List ℕ) (items : List Item) (k : Kind) (ks : List Kind) (gs : List Game) → items ≡ []
     → refusal p (at AfterLeftBracket ps name items) k ≡ None → After p (next (at AfterLeftBracket ps name items) k) ks gs → Name_left p ps (k ∷ ks) gs
 unfolding refusal
-name_step p ps name items tokens.comment_open ks gs none free after = name_dropped p ps tokens.comment_open ks gs refl (after none)
-name_step p ps name items (tokens.word s) ks gs none free after = name_dropped p ps (tokens.word s) ks gs refl (after none)
-name_step p ps name items tokens.comment_close ks gs none free after = name_dropped p ps tokens.comment_close ks gs refl (after none)
+name_step p ps name items tokens.comment_open ks gs none free after =
+    one_dropped (Name p ps gs) tokens.comment_open ks refl (after none)
+name_step p ps name items (tokens.word s) ks gs none free after = one_dropped (Name p ps gs) (tokens.word s) ks refl (after none)
+name_step p ps name items tokens.comment_close ks gs none free after =
+    one_dropped (Name p ps gs) tokens.comment_close ks refl (after none)
 name_step p ps name items (tokens.symbol s) ks gs none free after = name_given p ps name items s ks gs free (after none)
 name_step p ps name items _ ks gs none free after = absurd (cc)
-
-pair_kinds : (xs ys zs : List Kind) (name value : List ℕ) (tags behind : List Kind)
-    → tokens.left_bracket ∷ (xs ++ tokens.symbol name ∷ (ys ++ tokens.str value ∷ (zs ++ tokens.right_bracket ∷ (tags ++ behind))))
-    ≡ ((tokens.left_bracket ∷ (xs ++ tokens.symbol name ∷ (ys ++ tokens.str value ∷ (zs ++ tokens.right_bracket ∷ [])))) ++ tags) ++ behind
-pair_kinds xs ys zs name value tags behind = simp append_assoc
 
 -- a `[`, and a pair
 pair_step : (p : Profile) (ps : List Pair) (ks : List Kind) (gs : List Game) → nat_le p.tags (length ps) ≡ false → Name_left p ps ks gs
     → (t : Tags_left p ps (tokens.left_bracket ∷ ks) gs) × (t.given ≡ [] → ⊥)
-pair_step p ps ks gs free n =
-    let v = n.value in
-    let b = v.bracket in
+pair_step p ps ks gs free dn =
+    let n = dn.left in
+    let dv = n.value in
+    let v = dv.left in
+    let db = v.bracket in
+    let b = db.left in
     let t = b.tags in
-    let q : Pair = record { name = n.name; value = v.value } in (
+    let xs = dn.front in
+    let ys = dv.front in
+    let zs = db.front in
+    let q : Pair = record { name = n.name; value = v.value } in
+    let whole : ks ≡ xs ++ tokens.symbol n.name ∷ (ys ++ tokens.str v.value ∷ (zs ++ tokens.right_bracket ∷ (t.tags ++ t.behind))) =
+    cc (dn.kinds, n.kinds, dv.kinds, v.kinds, db.kinds, b.kinds, t.kinds) in (
       record {
-        tags = (tokens.left_bracket ∷ (n.xs ++ tokens.symbol n.name ∷ (v.ys ++ tokens.str v.value ∷ (b.zs ++ tokens.right_bracket ∷ [])))) ++ t.tags;
+        tags = (tokens.left_bracket ∷ (xs ++ tokens.symbol n.name ∷ (ys ++ tokens.str v.value ∷ (zs ++ tokens.right_bracket ∷ [])))) ++ t.tags;
         given = q ∷ t.given;
         behind = t.behind;
-        kinds =
-            ap (λ js. tokens.left_bracket ∷ js)
-            (n.kinds ∙ ap (λ js. n.xs ++ tokens.symbol n.name ∷ js)
-            (v.kinds ∙ ap (λ js. v.ys ++ tokens.str v.value ∷ js) (b.kinds ∙ ap (λ js. b.zs ++ tokens.right_bracket ∷ js) t.kinds)))
-            ∙ pair_kinds n.xs v.ys b.zs n.name v.value t.tags t.behind;
-        pairs = next_pair _ t.tags q t.given (pair n.xs v.ys b.zs n.name v.value n.dropped v.dropped b.dropped) t.pairs;
+        kinds = ap (λ js. tokens.left_bracket ∷ js) whole ∙ simp append_assoc;
+        pairs = next_pair _ t.tags q t.given (pair xs ys zs n.name v.value dn.dropped dv.dropped db.dropped) t.pairs;
         takes = (
           leb-false p.tags (length ps) free,
           n.fresh,
