@@ -1,0 +1,361 @@
+//! What one byte does to the current token, mode by mode.
+
+ghost use Rattle.std.specs.Prelude.{◌≡◌, ◌+◌, [], ◌∷◌};
+ghost use Rattle.pgn_lexer.specs.Taking as taking;
+
+use crate::class::{
+    Class, CommentClass, Single, StringClass, class_of, comment_class_of, continues_symbol,
+    is_digit, is_line_end, is_suffix, string_class_of,
+};
+use crate::partial_token::{Mode, PartialToken, Step, SuffixRun, TokenForm, glyph_of};
+use crate::token::{LexFault, LexReason};
+
+impl PartialToken {
+    ghost use Rattle.pgn_lexer.specs.Spelling as spelling;
+    ghost use Rattle.pgn_lexer.specs.Taking.{Takes};
+    ghost use Rattle.pgn_lexer.specs.Held.{HasMore};
+
+    /// Takes the byte at the place: gives it to the handler of the mode.
+    #[tactic(auto, unfolding(crate::specs::Taking::taken))]
+    pub(crate) fn take(&mut self, byte: u8, place: u64) -> Step
+        ensures { Takes (taking.taken place self.old byte) self.new result }
+    {
+        match self.mode {
+            Mode::Start => self.start(byte, place),
+            Mode::AfterEf => self.after_ef(byte),
+            Mode::AfterEfBb => self.after_ef_bb(byte),
+            Mode::LineStart => self.begin_line(byte, place),
+            Mode::Outside => self.begin(class_of(byte), byte, place),
+            Mode::Escape => self.escape(byte),
+            Mode::Symbol => self.symbol(byte),
+            Mode::Str => self.string(byte, place),
+            Mode::AfterBackslash => self.after_backslash(byte, place),
+            Mode::Dollar => self.dollar(byte),
+            Mode::Glyph(number) => self.glyph(number, byte),
+            Mode::Suffix(run) => self.suffix(run, byte),
+            Mode::Brace => self.brace(byte, place),
+            Mode::BraceWord => self.brace_word(byte),
+            Mode::Line => self.line(byte, place),
+            Mode::LineWord => self.line_word(byte),
+            Mode::Failed(fault) => Step::Fault(fault),
+        }
+    }
+
+    fn fail(&mut self, at: u64, reason: LexReason) -> Step
+        ensures { Takes (taking.fails self.old at reason) self.new result }
+    {
+        let fault = LexFault { at, reason };
+        self.at = at;
+        self.mode = Mode::Failed(fault);
+        Step::Fault(fault)
+    }
+
+    fn start(&mut self, byte: u8, place: u64) -> Step
+        ensures { Takes (taking.start place self.old byte) self.new result }
+    {
+        if byte == 0xEF {
+            self.mode = Mode::AfterEf;
+            return Step::Used;
+        }
+        self.begin_line(byte, place)
+    }
+
+    fn after_ef(&mut self, byte: u8) -> Step
+        ensures { Takes (taking.after_ef self.old byte) self.new result }
+    {
+        if byte == 0xBB {
+            self.mode = Mode::AfterEfBb;
+            return Step::Used;
+        }
+        self.fail(0, LexReason::StrayByte)
+    }
+
+    fn after_ef_bb(&mut self, byte: u8) -> Step
+        ensures { Takes (taking.after_ef_bb self.old byte) self.new result }
+    {
+        if byte == 0xBF {
+            self.mode = Mode::LineStart;
+            return Step::Used;
+        }
+        self.fail(0, LexReason::StrayByte)
+    }
+
+    fn begin_line(&mut self, byte: u8, place: u64) -> Step
+        ensures { Takes (taking.begin_line place self.old byte (spelling.class byte)) self.new
+            result }
+    {
+        match class_of(byte) {
+            Class::Percent => {
+                self.mode = Mode::Escape;
+                Step::Used
+            }
+            class => self.begin(class, byte, place),
+        }
+    }
+
+    fn begin(&mut self, class: Class, byte: u8, place: u64) -> Step
+        ensures { Takes (taking.begin place self.old byte class) self.new result }
+    {
+        self.at = place;
+        match class {
+            Class::LineEnd => self.go(Mode::LineStart),
+            Class::Space => self.go(Mode::Outside),
+            Class::Percent => self.fail(place, LexReason::StrayByte),
+            Class::SymbolStart => self.begin_text(Mode::Symbol, byte),
+            Class::Quote => self.begin_string(),
+            Class::Dollar => self.go(Mode::Dollar),
+            Class::Suffix => {
+                let run = if byte == b'!' {
+                    SuffixRun::Good
+                } else {
+                    SuffixRun::Poor
+                };
+                self.go(Mode::Suffix(run))
+            }
+            Class::OpenBrace => self.end(Mode::Brace, TokenForm::CommentOpen),
+            Class::Semicolon => self.end(Mode::Line, TokenForm::CommentOpen),
+            Class::Alone(single) => self.end(Mode::Outside, TokenForm::Single(single)),
+            Class::Refused(reason) => self.fail(place, reason),
+        }
+    }
+
+    fn escape(&mut self, byte: u8) -> Step
+        requires { self.old.mode ≡ Mode.Escape }
+        ensures { Takes (taking.escape self.old byte) self.new result }
+    {
+        if is_line_end(byte) {
+            self.mode = Mode::LineStart;
+        }
+        Step::Used
+    }
+
+    pub(crate) fn symbol(&mut self, byte: u8) -> Step
+        requires { self.old.mode ≡ Mode.Symbol }
+        ensures { Takes (taking.symbol self.old byte) self.new result }
+    {
+        if !continues_symbol(byte) {
+            self.mode = Mode::Outside;
+            return Step::EndsBefore(TokenForm::Symbol);
+        }
+        if self.buffer.len() == 255 {
+            return self.fail(self.at, LexReason::SymbolTooLong);
+        }
+        self.buffer.push(byte);
+        Step::Used
+    }
+
+    fn dollar(&mut self, byte: u8) -> Step
+        ensures { Takes (taking.dollar self.old byte) self.new result }
+    {
+        if !is_digit(byte) {
+            return self.fail(self.at, LexReason::LoneDollar);
+        }
+        self.mode = Mode::Glyph(byte - b'0');
+        Step::Used
+    }
+
+    fn glyph(&mut self, number: u8, byte: u8) -> Step
+        ensures { Takes (taking.glyph self.old number byte) self.new result }
+    {
+        if !is_digit(byte) {
+            self.mode = Mode::Outside;
+            return Step::EndsBefore(TokenForm::Glyph(number));
+        }
+        let longer = 10 * u16::from(number) + u16::from(byte - b'0');
+        if longer > 255 {
+            return self.fail(self.at, LexReason::GlyphRange);
+        }
+        self.mode = Mode::Glyph(longer as u8);
+        Step::Used
+    }
+
+    fn suffix(&mut self, run: SuffixRun, byte: u8) -> Step
+        ensures { Takes (taking.suffix self.old run byte) self.new result }
+    {
+        if !is_suffix(byte) {
+            self.mode = Mode::Outside;
+            return Step::EndsBefore(TokenForm::Glyph(glyph_of(run)));
+        }
+        match run {
+            SuffixRun::Good => {
+                self.mode = Mode::Suffix(if byte == b'!' {
+                    SuffixRun::VeryGood
+                } else {
+                    SuffixRun::Speculative
+                });
+                Step::Used
+            }
+            SuffixRun::Poor => {
+                self.mode = Mode::Suffix(if byte == b'!' {
+                    SuffixRun::Questionable
+                } else {
+                    SuffixRun::VeryPoor
+                });
+                Step::Used
+            }
+            _ => self.fail(self.at, LexReason::BadSuffix),
+        }
+    }
+
+    fn string(&mut self, byte: u8, place: u64) -> Step
+        requires { self.old.mode ≡ Mode.Str }
+        ensures { Takes (taking.string place self.old byte (spelling.string_class byte)) self.new
+            result }
+    {
+        match string_class_of(byte) {
+            StringClass::Quote => {
+                self.mode = Mode::Outside;
+                Step::Ends(TokenForm::Str)
+            }
+            StringClass::LineEnd => self.fail(self.at, LexReason::UnclosedString),
+            StringClass::Control => self.fail(place, LexReason::ControlByte),
+            StringClass::Backslash => {
+                if self.buffer.len() == 255 {
+                    return self.fail(self.at, LexReason::StringTooLong);
+                }
+                self.mode = Mode::AfterBackslash;
+                Step::Used
+            }
+            StringClass::Plain => {
+                if self.buffer.len() == 255 {
+                    return self.fail(self.at, LexReason::StringTooLong);
+                }
+                self.buffer.push(byte);
+                Step::Used
+            }
+        }
+    }
+
+    fn after_backslash(&mut self, byte: u8, place: u64) -> Step
+        requires { self.old.mode ≡ Mode.AfterBackslash }
+        ensures { Takes (taking.after_backslash place self.old byte (spelling.string_class byte))
+            self.new result }
+    {
+        match string_class_of(byte) {
+            StringClass::Quote | StringClass::Backslash => {
+                self.buffer.push(byte);
+                self.mode = Mode::Str;
+                Step::Used
+            }
+            StringClass::LineEnd => self.fail(self.at, LexReason::UnclosedString),
+            StringClass::Control => self.fail(place, LexReason::ControlByte),
+            StringClass::Plain => {
+                if self.buffer.len() == 254 {
+                    return self.fail(self.at, LexReason::StringTooLong);
+                }
+                self.buffer.push(b'\\');
+                self.buffer.push(byte);
+                self.mode = Mode::Str;
+                Step::Used
+            }
+        }
+    }
+
+    fn brace(&mut self, byte: u8, place: u64) -> Step
+        ensures { Takes (taking.brace place self.old byte (spelling.comment_class byte)) self.new
+            result }
+    {
+        self.at = place;
+        match comment_class_of(byte) {
+            CommentClass::LineEnd | CommentClass::Space => self.go(Mode::Brace),
+            CommentClass::CloseBrace => self.end(Mode::Outside, TokenForm::CommentClose),
+            CommentClass::WordByte => self.begin_text(Mode::BraceWord, byte),
+            CommentClass::Control => self.fail(place, LexReason::ControlByte),
+        }
+    }
+
+    pub(crate) fn brace_word(&mut self, byte: u8) -> Step
+        requires { self.old.mode ≡ Mode.BraceWord }
+        ensures { Takes (taking.brace_word self.old byte (spelling.comment_class byte)) self.new
+            result }
+    {
+        match comment_class_of(byte) {
+            CommentClass::WordByte => self.word(byte),
+            _ => {
+                self.mode = Mode::Brace;
+                Step::EndsBefore(TokenForm::Word)
+            }
+        }
+    }
+
+    fn line(&mut self, byte: u8, place: u64) -> Step
+        ensures { Takes (taking.line place self.old byte (spelling.comment_class byte)) self.new
+            result }
+    {
+        self.at = place;
+        match comment_class_of(byte) {
+            CommentClass::LineEnd => self.end(Mode::LineStart, TokenForm::CommentClose),
+            CommentClass::Space => self.go(Mode::Line),
+            CommentClass::CloseBrace => self.fail(place, LexReason::BraceInLineComment),
+            CommentClass::WordByte => self.begin_text(Mode::LineWord, byte),
+            CommentClass::Control => self.fail(place, LexReason::ControlByte),
+        }
+    }
+
+    fn line_word(&mut self, byte: u8) -> Step
+        requires { self.old.mode ≡ Mode.LineWord }
+        ensures { Takes (taking.line_word self.old byte (spelling.comment_class byte)) self.new
+            result }
+    {
+        match comment_class_of(byte) {
+            CommentClass::WordByte => self.word(byte),
+            _ => {
+                self.mode = Mode::Line;
+                Step::EndsBefore(TokenForm::Word)
+            }
+        }
+    }
+
+    /// One byte more of a word.
+    fn word(&mut self, byte: u8) -> Step
+        ensures { Takes (taking.word self.old self.old.mode byte) self.new result }
+    {
+        if self.buffer.len() >= 79 {
+            return self.fail(self.at, LexReason::WordTooLong);
+        }
+        self.buffer.push(byte);
+        Step::Used
+    }
+
+    pub(crate) fn pass(&mut self, mode: Mode, place: u64)
+        requires { HasMore mode self.old.text }
+        ensures { self.new ≡ record { mode = mode; at = place; text = self.old.text } }
+    {
+        self.mode = mode;
+        self.at = place;
+    }
+
+    fn go(&mut self, mode: Mode) -> Step
+        requires { HasMore mode self.old.text }
+        ensures { Takes (taking.into self.old mode Step.Used) self.new result }
+    {
+        self.mode = mode;
+        Step::Used
+    }
+
+    fn end(&mut self, mode: Mode, form: TokenForm) -> Step
+        requires { HasMore mode self.old.text }
+        ensures { Takes (taking.into self.old mode (Step.Ends form)) self.new result }
+    {
+        self.mode = mode;
+        Step::Ends(form)
+    }
+
+    pub(crate) fn begin_text(&mut self, mode: Mode, byte: u8) -> Step
+        requires { HasMore mode (byte ∷ []) }
+        ensures { Takes (taking.set_at mode self.old.at (byte ∷ []) Step.Used) self.new result }
+    {
+        self.buffer.clear();
+        self.buffer.push(byte);
+        self.mode = mode;
+        Step::Used
+    }
+
+    pub(crate) fn begin_string(&mut self) -> Step
+        ensures { Takes (taking.set_at Mode.Str self.old.at [] Step.Used) self.new result }
+    {
+        self.buffer.clear();
+        self.mode = Mode::Str;
+        Step::Used
+    }
+}

@@ -1,0 +1,56 @@
+//! What the end of the text does to the current token.
+
+ghost use Rattle.pgn_lexer.specs.Taking as taking;
+
+use crate::partial_token::{AtEnd, Mode, PartialToken, TokenForm, glyph_of};
+use crate::token::{LexFault, LexReason, Token};
+
+impl PartialToken {
+    ghost use Rattle.pgn_lexer.specs.Taking.{Closes};
+    ghost use Rattle.pgn_lexer.specs.Held.{HasMore};
+
+    /// Ends the text at the place: gives a token that is left, after which there may be more, or
+    /// the end.
+    #[tactic(auto, unfolding(crate::specs::Taking::closed))]
+    pub(crate) fn close(&mut self, place: u64) -> AtEnd
+        ensures { Closes (taking.closed place self.old) self.new result }
+    {
+        match self.mode {
+            Mode::Start | Mode::LineStart | Mode::Outside | Mode::Escape => AtEnd::End,
+            Mode::AfterEf | Mode::AfterEfBb => self.fail_at_end(0, LexReason::StrayByte),
+            Mode::Symbol => self.give(Mode::Outside, TokenForm::Symbol),
+            Mode::Str | Mode::AfterBackslash => self.fail_at_end(
+                self.at,
+                LexReason::UnclosedString,
+            ),
+            Mode::Dollar => self.fail_at_end(self.at, LexReason::LoneDollar),
+            Mode::Glyph(number) => self.give(Mode::Outside, TokenForm::Glyph(number)),
+            Mode::Suffix(run) => self.give(Mode::Outside, TokenForm::Glyph(glyph_of(run))),
+            Mode::Brace => self.fail_at_end(place, LexReason::UnclosedComment),
+            Mode::BraceWord => self.give(Mode::Brace, TokenForm::Word),
+            Mode::Line => {
+                self.at = place;
+                self.give(Mode::Outside, TokenForm::CommentClose)
+            }
+            Mode::LineWord => self.give(Mode::Line, TokenForm::Word),
+            Mode::Failed(fault) => AtEnd::Fault(fault),
+        }
+    }
+
+    fn fail_at_end(&mut self, at: u64, reason: LexReason) -> AtEnd
+        ensures { Closes (taking.stops self.old at reason) self.new result }
+    {
+        let fault = LexFault { at, reason };
+        self.at = at;
+        self.mode = Mode::Failed(fault);
+        AtEnd::Fault(fault)
+    }
+
+    fn give(&mut self, mode: Mode, form: TokenForm) -> AtEnd
+        requires { HasMore mode self.old.text }
+        ensures { Closes (taking.gives self.old mode self.old.at form) self.new result }
+    {
+        self.mode = mode;
+        AtEnd::Token(form)
+    }
+}

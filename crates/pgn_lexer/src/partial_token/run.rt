@@ -1,0 +1,194 @@
+//! Reads a piece up to the end of a token, with loops for the long runs.
+
+ghost use Rattle.std.specs.Prelude.{◌≡◌, ℕ, ◌+◌, ◌<◌, ◌≤◌, ◌^◌, length};
+ghost use Rattle.pgn_lexer.specs.Running.{used_after, found_after};
+
+use crate::class::{
+    Class, CommentClass, Single, StringClass, class_of, comment_class_of, string_class_of,
+};
+use crate::partial_token::{Found, Mode, PartialToken, Step, TokenForm};
+use crate::token::Token;
+
+impl PartialToken {
+    ghost use Rattle.pgn_lexer.specs.Held.{IsSound};
+    ghost use Rattle.pgn_lexer.specs.Running.{IsOutside, RunGives, RunsOn};
+
+    /// Uses the piece, which begins at the place, up to the end of the first token. A rejected byte
+    /// is used too.
+    #[inline(always)]
+    pub(crate) fn run(&mut self, piece: &[u8], place: u64) -> (usize, Found)
+        requires room { place + length piece.now ≤ 2 ^ 62 }
+        requires sound { IsSound place self.old }
+        ensures { RunGives place self.old piece.now self.new result.0 result.1 }
+    {
+        match self.mode {
+            Mode::Failed(_) => (0, Found::Fault),
+            Mode::LineStart | Mode::Outside => self.run_outside(piece, place),
+            Mode::Brace => self.run_brace(piece, place),
+            _ => self.run_on(piece, 0, place),
+        }
+    }
+
+    /// Reads white space between tokens, and the token after it.
+    #[inline(always)]
+    fn run_outside(&mut self, piece: &[u8], place: u64) -> (usize, Found)
+        requires room { place + length piece.now ≤ 2 ^ 62 }
+        requires outside { IsOutside self.old.mode }
+        ensures { RunsOn place piece.now 0 self.old self.new result.0 result.1 }
+    {
+        let mut used = 0;
+        while used < piece.len() {
+            let byte = piece[used];
+            let at = place + used as u64;
+            match class_of(byte) {
+                Class::LineEnd => self.pass(Mode::LineStart, at),
+                Class::Space => self.pass(Mode::Outside, at),
+                Class::SymbolStart => {
+                    self.at = at;
+                    self.begin_text(Mode::Symbol, byte);
+                    return self.run_symbol(piece, used + 1);
+                }
+                Class::Quote => {
+                    self.at = at;
+                    self.begin_string();
+                    return self.run_string(piece, used + 1, place);
+                }
+                Class::Alone(single) => {
+                    self.pass(Mode::Outside, at);
+                    return (used + 1, Found::Token(TokenForm::Single(single)));
+                }
+                Class::OpenBrace => {
+                    self.pass(Mode::Brace, at);
+                    return (used + 1, Found::Token(TokenForm::CommentOpen));
+                }
+                _ => return self.run_on(piece, used, place),
+            }
+            used += 1;
+        }
+        (used, Found::Nothing)
+    }
+
+    /// Reads on in a symbol.
+    #[inline(always)]
+    fn run_symbol(&mut self, piece: &[u8], from: usize) -> (usize, Found)
+        requires within { from ≤ length piece.now }
+        requires symbol { self.old.mode ≡ Mode.Symbol }
+        ensures { (place : ℕ) → RunsOn place piece.now from self.old self.new result.0 result.1 }
+    {
+        let mut used = from;
+        while used < piece.len() {
+            match self.symbol(piece[used]) {
+                Step::Used => used += 1,
+                step => return ended(step, used),
+            }
+        }
+        (used, Found::Nothing)
+    }
+
+    /// Reads on in a string.
+    #[inline(always)]
+    fn run_string(&mut self, piece: &[u8], from: usize, place: u64) -> (usize, Found)
+        requires room { place + length piece.now ≤ 2 ^ 62 }
+        requires within { from ≤ length piece.now }
+        requires string { self.old.mode ≡ Mode.Str }
+        ensures { RunsOn place piece.now from self.old self.new result.0 result.1 }
+    {
+        let mut used = from;
+        while used < piece.len() {
+            let byte = piece[used];
+            match string_class_of(byte) {
+                StringClass::Plain => {
+                    if self.buffer.len() == 255 {
+                        return self.run_on(piece, used, place);
+                    }
+                    self.buffer.push(byte);
+                }
+                StringClass::Quote => {
+                    self.mode = Mode::Outside;
+                    return (used + 1, Found::Token(TokenForm::Str));
+                }
+                _ => return self.run_on(piece, used, place),
+            }
+            used += 1;
+        }
+        (used, Found::Nothing)
+    }
+
+    /// Reads white space in a comment in braces, and the word after it.
+    #[inline(always)]
+    fn run_brace(&mut self, piece: &[u8], place: u64) -> (usize, Found)
+        requires room { place + length piece.now ≤ 2 ^ 62 }
+        requires brace { self.old.mode ≡ Mode.Brace }
+        ensures { RunsOn place piece.now 0 self.old self.new result.0 result.1 }
+    {
+        let mut used = 0;
+        while used < piece.len() {
+            let byte = piece[used];
+            let at = place + used as u64;
+            match comment_class_of(byte) {
+                CommentClass::LineEnd | CommentClass::Space => self.pass(Mode::Brace, at),
+                CommentClass::WordByte => {
+                    self.at = at;
+                    self.begin_text(Mode::BraceWord, byte);
+                    return self.run_brace_word(piece, used + 1);
+                }
+                CommentClass::CloseBrace => {
+                    self.pass(Mode::Outside, at);
+                    return (used + 1, Found::Token(TokenForm::CommentClose));
+                }
+                _ => return self.run_on(piece, used, place),
+            }
+            used += 1;
+        }
+        (used, Found::Nothing)
+    }
+
+    /// Reads on in a word of a comment in braces.
+    #[inline(always)]
+    fn run_brace_word(&mut self, piece: &[u8], from: usize) -> (usize, Found)
+        requires within { from ≤ length piece.now }
+        requires word { self.old.mode ≡ Mode.BraceWord }
+        ensures { (place : ℕ) → RunsOn place piece.now from self.old self.new result.0 result.1 }
+    {
+        let mut used = from;
+        while used < piece.len() {
+            match self.brace_word(piece[used]) {
+                Step::Used => used += 1,
+                step => return ended(step, used),
+            }
+        }
+        (used, Found::Nothing)
+    }
+
+    /// Reads on after so many bytes of the piece, in any mode. Few tokens need it, so it is not
+    /// inlined.
+    #[inline(never)]
+    fn run_on(&mut self, piece: &[u8], from: usize, place: u64) -> (usize, Found)
+        requires room { place + length piece.now ≤ 2 ^ 62 }
+        requires within { from ≤ length piece.now }
+        ensures { RunsOn place piece.now from self.old self.new result.0 result.1 }
+    {
+        let mut used = from;
+        while used < piece.len() {
+            match self.take(piece[used], place + used as u64) {
+                Step::Used => used += 1,
+                step => return ended(step, used),
+            }
+        }
+        (used, Found::Nothing)
+    }
+}
+
+/// The result of reading a piece, after so many bytes and the step that ended it.
+fn ended(step: Step, used: usize) -> (usize, Found)
+    requires { used < 2 ^ 63 }
+    ensures used { result.0 ≡ used_after step used }
+    ensures found { result.1 ≡ found_after step }
+{
+    match step {
+        Step::Used => (used + 1, Found::Nothing),
+        Step::Ends(form) => (used + 1, Found::Token(form)),
+        Step::EndsBefore(form) => (used, Found::Token(form)),
+        Step::Fault(_) => (used + 1, Found::Fault),
+    }
+}
