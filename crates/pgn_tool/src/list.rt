@@ -4,7 +4,7 @@ ghost use Rattle.pgn_layout.specs.Device.{Counts, Writes};
 ghost use Rattle.pgn_tool.specs.Listing.{CountsList, CountsSink, Lists, ListsLast, ListsPiece, field, line_at_hand, six_fields};
 ghost use Rattle.pgn_game.specs.Feeding.{value_at_hand};
 
-use crate::stream::{LEVELS, TAGS};
+use crate::stream::{LEVELS, READ_LENGTH, TAGS};
 use chess_text::write_fen;
 use itoa::Buffer;
 use pgn_game::{Converter, Fault, Fed, Mode, Nowhere, Reason, Sink, Source, WriteFault};
@@ -47,7 +47,7 @@ pub fn list_games<R: Source, O: Sink>(reader: &mut R, out: &mut O) -> Result<(),
     ensures counted { CountsList result (R.failures reader.old) (R.failures reader.new)
         (O.failures out.old) (O.failures out.new) }
 {
-    let mut buffer = [0; 4096];
+    let mut buffer = [0; READ_LENGTH];
     let mut converter = Lister::new(Mode::Full);
     loop {
         match reader.read_some(&mut buffer) {

@@ -10,7 +10,7 @@ ghost use Rattle.pgn_tool.specs.Splitting.{CountsSplit, FeedResult, FilesAfter, 
 use crate::files::{CreateFault, GameFiles};
 use crate::game_sink::{Before, GameSink, Turn};
 use crate::replies::out_of_memory;
-use crate::stream::{LEVELS, TAGS, refuse};
+use crate::stream::{LEVELS, READ_LENGTH, TAGS, refuse};
 use pgn_game::laws::due_grows;
 use pgn_game::{Converter, Fault, Fed, Mode, Reason, Sink, Source};
 use pgn_lexer::laws::tokens_rise;
@@ -73,7 +73,7 @@ fn split_source<R: Source, F: GameFiles>(
     ensures splits { OnceClosed F.Out.taken F.Out.failures (F.log files.new) file.new
         (λ after. Splits (R.left reader.old) (R.left reader.new) result (F.log files.old) after) }
 {
-    let mut buffer = [0; 4096];
+    let mut buffer = [0; READ_LENGTH];
     let mut converter = Splitter::new(Mode::Full);
     loop {
         match reader.read_some(&mut buffer) {
