@@ -32,7 +32,7 @@ use Rattle.pgn_game.specs.Text.{text_of}
 use Rattle.pgn_game.specs.UniqueReading.{UniqueReading}
 use Rattle.pgn_game.proofs.AtEnd.{end_passes}
 use Rattle.pgn_game.proofs.Pairing.{no_torn}
-use Rattle.pgn_game.proofs.Runs.{first_passes, goes_on}
+use Rattle.pgn_game.proofs.Growing.{first_passes, goes_on}
 use Rattle.pgn_game.proofs.WholeInput.{verdict_passes}
 
 -- Where all is read without a fault, reading ends between games.

@@ -11,6 +11,7 @@ use Rattle.pgn_game.specs.Profile.{Profile}
 use Rattle.pgn_game.specs.Pairs.{Pair}
 use Rattle.pgn_game.specs.Game.{Item, Game, Part, no_part}
 use Rattle.pgn_game.specs.FaultTable.{refusal, is_end}
+use Rattle.pgn_game.proofs.Growing.{first_passes, goes_on}
 use Rattle.pgn_game.specs.Progress.{Next, going, whole, next, Progress, no_progress, progress_with, progress_after, Read, read_from, read}
 
 abbrev pub at : Stage → List Pair → List ℕ → List Item → Part
@@ -26,29 +27,6 @@ pub data Runs (p : Profile) : Part → List Kind → List Game → Type 0 where
 
 abbrev pub kinds : List Token → List Kind
 kinds ts = map (λ t. t.kind) ts
-
--- reading goes on where a token is not refused
-abbrev after_test : Profile → Progress → Token → List Token → Option Reason → Read
-after_test p b t ts (Some reason) = record { progress = b; fault = Some (record { at = t.at; reason = reason }) }
-after_test p b t ts None = read_from p (progress_after b t) ts
-
-read_from-test : (p : Profile) (b : Progress) (t : Token) (ts : List Token) → read_from p b (t ∷ ts) ≡ after_test p b t ts (refusal p b.part t.kind)
-read_from-test p b t ts =
-    elim (refusal p b.part t.kind)
-    as (λ o. elim o [ Some reason ↦ after_test p b t ts (Some reason) | None ↦ read_from p (progress_after b t) ts ] ≡ after_test p b t ts o) [
-      | Some reason ↦ refl
-      | None ↦ refl
-    ]
-
-passed : (p : Profile) (b : Progress) (t : Token) (ts : List Token) (o : Option Reason) → (after_test p b t ts o).fault ≡ None → o ≡ None
-passed p b t ts (Some reason) e = absurd (cc)
-passed p b t ts None e = refl
-
-pub first_passes : (p : Profile) (b : Progress) (t : Token) (ts : List Token) → (read_from p b (t ∷ ts)).fault ≡ None → refusal p b.part t.kind ≡ None
-first_passes p b t ts e = passed p b t ts (refusal p b.part t.kind) (ap (λ (r : Read). r.fault) (sym (read_from-test p b t ts)) ∙ e)
-
-pub goes_on : (p : Profile) (b : Progress) (t : Token) (ts : List Token) → refusal p b.part t.kind ≡ None → read_from p b (t ∷ ts) ≡ read_from p (progress_after b t) ts
-goes_on p b t ts none = read_from-test p b t ts ∙ ap (after_test p b t ts) none
 
 -- From reading to the relation.
 

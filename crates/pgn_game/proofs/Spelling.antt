@@ -323,16 +323,13 @@ tags_run p _ _ rest gs (next_pair _ ls q qs (pair xs ys zs n v before_name befor
     (pairs_run p [] [] _ rest (q ∷ qs) gs (next_pair _ ls q qs (pair xs ys zs n v before_name before_value before_bracket) others) takes
     (λ name. begins_after_tags p ps name [] rest gs (has_fen (value_of ps (codes "SetUp")) (has_pair ps (codes "FEN")) set_up) (runs name)))
 
-game_kinds : (before tags text : List Kind) (last : Kind) (rest : List Kind) → (before ++ (tags ++ (text ++ last ∷ []))) ++ rest ≡ before ++ (tags ++ (text ++ last ∷ rest))
-game_kinds before tags text last rest = simp append_assoc
-
 game_run : (p : Profile) (ks rest : List Kind) (g : Game) (gs : List Game) → SpellsGame p ks g → Runs p no_part rest gs → Runs p no_part (ks ++ rest) (g ∷ gs)
 game_run p ks rest g gs h runs =
     let behind : List Kind = h.text ++ h.last ∷ rest in
     let whole_text : (n : List ℕ) → Runs p (at InMovetext (by_name h.given) n []) behind (g ∷ gs) = λ n.
     subst (λ ps. Runs p (at InMovetext ps n []) behind (g ∷ gs)) h.sorted (whole_text_run p g.pairs n h.text rest g.items h.last g.marker gs h.items h.marker h.result runs) in
     let set_up : IsSetUp (by_name h.given) = subst IsSetUp h.sorted h.set_up in
-    let e : ks ++ rest ≡ h.before ++ (h.tags ++ behind) = ap (λ js. js ++ rest) h.tokens ∙ game_kinds h.before h.tags h.text h.last rest in
+    let e : ks ++ rest ≡ h.before ++ (h.tags ++ behind) = ap (λ js. js ++ rest) h.tokens ∙ simp append_assoc in
     subst (λ js. Runs p no_part js (g ∷ gs)) (sym e)
     (dropped_run p Between [] [] [] refl h.before (h.tags ++ behind) (g ∷ gs) h.dropped
     (tags_run p h.tags h.given behind (g ∷ gs) h.pairs (takes p h.given h.keeps) set_up (λ none. bare_with h.text h.last rest g.marker h.marker (h.bare none)) whole_text))

@@ -31,8 +31,6 @@ with_pair name value ps = insert_pair (record { name = name; value = value }) ps
 
 found_by : (is : Bool) (read : Result Parts FenFault) (name value : List ℕ) (ps : List Pair) (start : Parts) → bytes_eq name (codes "FEN") ≡ is → position_of value ≡ read
     → has_pair ps name ≡ false → told_by is read ≡ Ok (Some start) → start_of (with_pair name value ps) ≡ start
-found_by false read name value ps start named reads none told = absurd (cc)
-found_by true (Err fault) name value ps start named reads none told = absurd (cc)
 found_by true (Ok first) name value ps start named reads none told =
     let same : first ≡ start = cc in
     let found_there =
@@ -40,6 +38,7 @@ found_by true (Ok first) name value ps start named reads none told =
     ∙ ap (λ b. pick b value (value_of ps name)) (bytes_eq-refl name name refl) in
     ap start_by (ap (value_of (with_pair name value ps)) (sym (bytes_eq-true name (codes "FEN") named)) ∙ found_there)
     ∙ ap position_or_first reads ∙ same
+found_by _ _ name value ps start named reads none told = absurd (cc)
 
 -- a FEN is where its game begins
 pub start_found : (name value : List ℕ) (ps : List Pair) (start : Parts) → has_pair ps name ≡ false → fen_position name value ≡ Ok (Some start)
@@ -66,9 +65,8 @@ pub start_passes : (name value : List ℕ) (start : Option Parts) → fen_positi
 start_passes name value start told = passes_by (bytes_eq name (codes "FEN")) (position_of value) start told
 
 faults_by : (is : Bool) (read : Result Parts FenFault) (field : ℕ) → told_by is read ≡ Err field → ((is && is_some (field_of read)) ≡ true) × (unwrap_or (field_of read) 0 ≡ field)
-faults_by false read field told = absurd (cc)
-faults_by true (Ok first) field told = absurd (cc)
 faults_by true (Err fault) field told = (refl, cc)
+faults_by _ _ field told = absurd (cc)
 
 -- a FEN at fault is refused for the field
 pub start_faults : (name value : List ℕ) (field : ℕ) → fen_position name value ≡ Err field

@@ -50,7 +50,7 @@ data Closes (p : Profile) (first : Parts) : Level → List Level → List Kind �
 
 -- one token more at this level, from where it leads
 add_front : (p : Profile) (first : Parts) (l n : Level) (around : List Level) (k : Kind) (ks : List Kind)
-(item items : List Item)
+    (item items : List Item)
     → ((d : ℕ) (js : List Kind) (is : List Item) → SpellsText p first d n js is → SpellsText p first d l (k ∷ js) (item ++ is))
     → Closes p first n around ks items → Closes p first l around (k ∷ ks) (item ++ items)
 add_front p first l _ _ k _ item _ front (outermost n ks items text) =
@@ -529,9 +529,6 @@ games_drop p k _ _ is (next_game ks ls g gs first others) = next_game (k ∷ ks)
 outer_text : (p : Profile) (first : Parts) (l : Level) (ks : List Kind) (items : List Item) → Closes p first l [] ks items → SpellsText p first 0 l ks items
 outer_text p first l _ _ (outermost _ ks items text) = text
 
-game_kinds : (tags text : List Kind) (last : Kind) (behind : List Kind) → tags ++ (text ++ last ∷ behind) ≡ (tags ++ (text ++ last ∷ [])) ++ behind
-game_kinds tags text last behind = simp append_assoc
-
 -- pairs and movetext that begin between games
 game_begins : (p : Profile) (ps : List Pair) (ks : List Kind) (gs : List Game) → ps ≡ [] → (t : Tags_left p ps ks gs) → (t.given ≡ [] → BeginsBare t.text.text) → SpellsGames p ks gs
 game_begins p ps ks gs none t bare =
@@ -539,7 +536,7 @@ game_begins p ps ks gs none t bare =
     let sorted : with_pairs ps t.given ≡ by_name t.given = ap (λ qs. with_pairs qs t.given) none in
     let g : Game = record { pairs = with_pairs ps t.given; items = x.more; marker = x.marker } in
     let front : List Kind = t.tags ++ (x.text ++ x.last ∷ []) in
-    let e : ks ≡ front ++ x.behind = t.kinds ∙ ap (λ js. t.tags ++ js) x.kinds ∙ game_kinds t.tags x.text x.last x.behind in
+    let e : ks ≡ front ++ x.behind = t.kinds ∙ ap (λ js. t.tags ++ js) x.kinds ∙ simp append_assoc in
     let game : SpellsGame p front g =
     record {
       before = [];
