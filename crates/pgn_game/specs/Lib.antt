@@ -26,6 +26,7 @@ pub mod Feeding
 pub mod Stepping
 pub mod Size
 pub mod Converting
+pub mod Checked
 pub mod Laws
 pub mod MovesAreLegal
 pub mod Spells

@@ -1,3 +1,4 @@
+mod CheckedRows
 mod Drawn
 mod FilledRows
 mod LegalRows

@@ -1,0 +1,115 @@
+-- **Definition**: what `convert_checked` answers and writes.
+-- It reads an input twice, from `first` and from `second`. The games of `second` are written, each
+-- once `first` has read it to its marker. A missing Result takes the marker.
+-- Letters: p is the profile, b the progress, t a token, ts are tokens, s is a text, m a mark and ms
+-- are marks, f is a fault, u are bytes.
+use Rattle.std.specs.Prelude.{◌≡◌, ℕ, ◌^◌, ◌<◌, ◌≤◌, ◌==◌, Bool, true, false, ◌||◌, ◌&&◌, not, bytes_eq, is_some, List, [], ◌∷◌, ◌++◌, length, take, Option, None, Some, Result, Ok, Err, IfSome}
+use Rattle.std.specs.Io.KnownBytes.{Appends, Consumes}
+use Rattle.pgn_layout.specs.Device.{one_more}
+use Rattle.pgn_lexer.specs.Tokens.{Token}
+use Rattle.pgn_lexer.specs.TokensOf.{tokens_of}
+use Rattle.pgn_lexer.specs.Decided.{decided}
+use Rattle.pgn_game.specs.declared.mode.Mode.{Mode}
+use Rattle.pgn_game.specs.declared.reason.Reason.{Reason}
+use Rattle.pgn_game.specs.declared.reason.Reason.TheVariants.{ReadFault, WriteFault, InputTooLong, Changed}
+use Rattle.pgn_game.specs.declared.reason.Fault.{Fault}
+use Rattle.pgn_game.specs.declared.conversion.Totals.{Totals}
+use Rattle.pgn_game.specs.Profile.{Profile, counts_as, takes_the_marker}
+use Rattle.pgn_game.specs.Game.{Part}
+use Rattle.pgn_game.specs.FaultTable.{refusal, marker_of, is_marker, is_end}
+use Rattle.pgn_game.specs.Text.{text_of, torn}
+use Rattle.pgn_game.specs.Progress.{Next, going, whole, next, Progress, no_progress, progress_after, read, Verdict, verdict_of}
+use Rattle.pgn_game.specs.Converting.{verdict_in}
+
+-- the profile of both readings, for at most so many pairs and levels
+abbrev pub checked_profile : ℕ → ℕ → Mode → Profile
+checked_profile most depth mode = record { tags = most; depth = depth; mode = mode; missing_result = takes_the_marker }
+
+-- the marker that finishes a game, and its place
+pub record Mark : Type 0 where
+  pub text : List ℕ
+  pub at : ℕ
+
+-- where a token leads: a whole game ends with a mark
+abbrev pub mark_at : ℕ → Next → List Mark
+mark_at at (going part) = []
+mark_at at (whole g) = record { text = g.marker; at = at } ∷ []
+
+-- the marks of the games that tokens are read into, up to the first token that is rejected
+abbrev pub marks_from : Profile → Progress → List Token → List Mark
+marks_from p b [] = []
+marks_from p b (t ∷ ts) =
+    elim (refusal p b.part t.kind) [
+      | Some reason ↦ []
+      | None ↦ mark_at t.at (next b.part t.kind) ++ marks_from p (progress_after b t) ts
+    ]
+
+abbrev pub marks : Profile → List Token → List Mark
+marks p ts = marks_from p no_progress ts
+
+-- a token that cannot stand where `first` has gone on to the mark m: the end, or another marker, or
+-- the same one at another place
+abbrev pub is_other : Mark → Token → Bool
+is_other m t =
+    elim (marker_of t.kind) [
+      | None ↦ is_end t.kind
+      | Some text ↦ not (bytes_eq text m.text && (t.at == m.at))
+    ]
+
+-- a token of `second` at which the inputs are seen to differ: such a one, or one that is rejected
+abbrev pub is_changed : Profile → Mark → Part → Token → Bool
+is_changed p m part t = is_some (refusal p part t.kind) || is_other m t
+
+-- How far `second` is read: its progress, the marks of `first` that it has not read yet, and the
+-- fault of a token at which the inputs differ.
+pub record Followed : Type 0 where
+  pub progress : Progress
+  pub ahead : List Mark
+  pub fault : Option Fault
+
+-- The tokens of `second` are read up to the last mark, or up to the first token at which the inputs
+-- differ.
+abbrev pub follow : Profile → List Mark → Progress → List Token → Followed
+follow p ms b [] = record { progress = b; ahead = ms; fault = None }
+follow p [] b (t ∷ ts) = record { progress = b; ahead = []; fault = None }
+follow p (m ∷ ms) b (t ∷ ts) =
+    elim (is_changed p m b.part t) [
+      | true ↦ record { progress = b; ahead = m ∷ ms; fault = Some (record { at = t.at; reason = Changed }) }
+      | false ↦ elim (is_marker t.kind) [
+        | true ↦ follow p ms (progress_after b t) ts
+        | false ↦ follow p (m ∷ ms) (progress_after b t) ts
+      ]
+    ]
+
+-- the tokens of `second`, after these of `first`
+abbrev pub followed : Profile → List Token → List Token → Followed
+followed p ts us = follow p (marks p ts) no_progress us
+
+-- the same profile, where a missing Result counts as this mark
+abbrev pub with_mark : Profile → Mark → Profile
+with_mark p m = record { tags = p.tags; depth = p.depth; mode = p.mode; missing_result = counts_as m.text }
+
+-- What is written of the current game of `second`: its tag section and all lines but the last. A
+-- missing Result counts as the marker that `first` has for this game.
+abbrev pub torn_before : Profile → List Mark → Part → List ℕ
+torn_before p [] part = []
+torn_before p (m ∷ ms) part = torn (with_mark p m) part
+
+-- what is written by then
+abbrev pub written_by : Profile → Followed → List ℕ
+written_by p f = text_of p f.progress.games ++ torn_before p f.ahead f.progress.part
+
+-- the fault of `second` comes before that of `first`, which is read no further then
+abbrev pub earlier_fault : Option Fault → Option Fault → Option Fault
+earlier_fault (Some changed) other = Some changed
+earlier_fault None other = other
+
+-- the verdict on two texts: a fault, or the numbers of the games that are written
+abbrev pub checked_verdict : Profile → List ℕ → List ℕ → Verdict
+checked_verdict p s r =
+    let f = followed p (tokens_of s) (tokens_of r) in
+    verdict_of (record { progress = f.progress; fault = earlier_fault f.fault (read p (tokens_of s)).fault })
+
+-- and their output
+abbrev pub checked_output : Profile → List ℕ → List ℕ → List ℕ
+checked_output p s r = written_by p (followed p (tokens_of s) (tokens_of r))
