@@ -1,6 +1,6 @@
--- **Definition**: what `convert_checked` answers and writes.
--- It reads an input twice, from `first` and from `second`. The games of `second` are written, each
--- once `first` has read it to its marker. A missing Result takes the marker.
+-- **Definition**: what an input gives that is read twice. No call does this yet.
+-- It is read from `first` and from `second`. The games of `second` are written, each once `first`
+-- has read it to its marker. A missing Result takes the marker.
 -- Letters: p is the profile, b the progress, t a token, ts are tokens, s is a text, m a mark and ms
 -- are marks, f is a fault, u are bytes.
 use Rattle.std.specs.Prelude.{◌≡◌, ℕ, ◌^◌, ◌<◌, ◌≤◌, ◌==◌, Bool, true, false, ◌||◌, ◌&&◌, not, bytes_eq, is_some, List, [], ◌∷◌, ◌++◌, length, take, Option, None, Some, Result, Ok, Err, IfSome}
