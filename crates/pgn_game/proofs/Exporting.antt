@@ -103,10 +103,7 @@ set_up_values ps n =
 set_up_picked : (b c : Bool) (ps : List Pair) (name : List ℕ) → has_pair ps (codes "FEN") ≡ b
     → bytes_eq name (codes "SetUp") ≡ c
     → value_of (with_set_up ps) name ≡ pick (b && c) (codes "1") (value_of ps name)
-set_up_picked b c ps name some is =
-    set_up_values ps name
-    ∙ ap (λ (x : Bool). pick (x && bytes_eq (codes "SetUp") name) (codes "1") (value_of ps name)) some
-    ∙ ap (λ (x : Bool). pick (b && x) (codes "1") (value_of ps name)) (bytes_eq-sym (codes "SetUp") name ∙ is)
+set_up_picked b c ps name some is = cc (set_up_values ps name, some, is, bytes_eq-sym (codes "SetUp") name)
 
 pub set_up_one : (ps : List Pair) (name : List ℕ) → bytes_eq name (codes "SetUp") ≡ true → has_pair ps (codes "FEN") ≡ true → value_of (with_set_up ps) name ≡ Some (codes "1")
 set_up_one ps name is some = set_up_picked true true ps name some is

@@ -20,13 +20,14 @@ use Rattle.pgn_game.specs.Pairs.{Pair, value_of}
 use Rattle.pgn_game.specs.Game as games
 use Rattle.pgn_game.specs.Game.{Part}
 use Rattle.pgn_game.specs.Levels.{Level as ModelLevel, depth, start_of, replayed, without_last}
-use Rattle.pgn_game.specs.FaultTable.{marker_of, is_number, is_score, is_no_form, is_no_move, is_many_moves, is_one_move, is_at_limit, levels_in, position_in, result_for}
+use Rattle.pgn_game.specs.FaultTable.{marker_of, is_number, is_score, is_at_limit, levels_in, position_in, result_for}
 use Rattle.pgn_game.specs.Finding.{found_in}
 use Rattle.pgn_game.specs.Progress.{Next, going, whole, in_text, item_of, items_of}
 use Rattle.pgn_game.specs.Movetext.{HeldLevels, before_last, level_held}
 use Rattle.pgn_game.specs.Reading.{Reading}
 use Rattle.pgn_game.specs.declared.stage.Stage.{Stage}
 use Rattle.pgn_game.specs.Judging.{IsOpen, found_of, may_have_movetext, game_of, or_else, text_refusal, with_items}
+use Rattle.pgn_game.proofs.Passing.{symbol_rows}
 use Rattle.pgn_game.proofs.Refusing.{hit, pass}
 
 -- The levels.
@@ -52,9 +53,6 @@ position_is old part is = ap (λ (ls : HeldLevels). ls.present.present) is.held.
 abbrev MoveReading : Type 0
 MoveReading = Option (Result Played SanFault)
 
-abbrev or_false : Bool → Bool → Bool
-or_false word b = elim word [ true ↦ false | false ↦ b ]
-
 abbrev marker_if : Bool → List ℕ → Option (List ℕ)
 marker_if score s = elim score [ true ↦ Some s | false ↦ None ]
 
@@ -64,20 +62,16 @@ other_if missing ps o =
 
 -- the rows for a symbol, of whether it is a number or a marker, whether it is a marker, and what it
 -- comes to as a move
-abbrev symbol_rows : Profile → Part → List ℕ → Bool → Bool → MoveReading → Option Reason
-symbol_rows p part s word score r =
-    or_else (or_false word (is_no_form r)) NotAMove
-    (or_else (or_false word (is_no_move r)) IllegalMove
-    (or_else (or_false word (is_many_moves r)) AmbiguousMove
-    (or_else (or_false word (is_one_move r) && is_at_limit (position_in part)) MoveLimit
-    (or_else (is_some (marker_if score s) && nat_le 1 (depth (levels_in part))) MarkerInVariation
-    (or_else (other_if p.missing_result part.pairs (marker_if score s) && (depth (levels_in part) == 0)) ResultDiffers None)))))
+abbrev rows_for : Profile → Part → List ℕ → Bool → Bool → MoveReading → Option Reason
+rows_for p part s word score r =
+    symbol_rows word r (is_at_limit (position_in part)) (depth (levels_in part))
+    (other_if p.missing_result part.pairs (marker_if score s)) (is_some (marker_if score s))
 
 symbol_refusal : (p : Profile) (part : Part) (s : List ℕ) (word score : Bool) → (is_number s || is_score s) ≡ word → is_score s ≡ score
-    → text_refusal p part (symbol s) ≡ symbol_rows p part s word score (move_of (position_in part) s)
+    → text_refusal p part (symbol s) ≡ rows_for p part s word score (move_of (position_in part) s)
 symbol_refusal p part s word score w e =
-    ap (λ (b : Bool). symbol_rows p part s b (is_score s) (move_of (position_in part) s)) w
-    ∙ ap (λ (b : Bool). symbol_rows p part s word b (move_of (position_in part) s)) e
+    ap (λ (b : Bool). rows_for p part s b (is_score s) (move_of (position_in part) s)) w
+    ∙ ap (λ (b : Bool). rows_for p part s word b (move_of (position_in part) s)) e
 
 abbrev symbol_next : Part → List ℕ → Bool → Bool → MoveReading → Next
 symbol_next part s number score r =
@@ -96,7 +90,7 @@ refused_as p (Some (Err NoMove)) = Some IllegalMove
 refused_as p (Some (Err Ambiguous)) = Some AmbiguousMove
 refused_as p (Some (Ok played)) = or_else (is_at_limit p) MoveLimit None
 
-move_rows : (p : Profile) (part : Part) (s : List ℕ) (r : MoveReading) → symbol_rows p part s false false r ≡ refused_as (position_in part) r
+move_rows : (p : Profile) (part : Part) (s : List ℕ) (r : MoveReading) → rows_for p part s false false r ≡ refused_as (position_in part) r
 move_rows p part s None = refl
 move_rows p part s (Some (Err NoMove)) = refl
 move_rows p part s (Some (Err Ambiguous)) = refl

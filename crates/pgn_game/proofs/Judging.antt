@@ -114,10 +114,7 @@ nothing_held Reduced start = record { levels = refl; plies = refl; is_after_move
 
 held_none : (mode : Mode) (start : Parts) (items : List Item) (text : Movetext) (layout : Layout) → items ≡ [] → text ≡ begins_at start → layout ≡ holding []
     → HoldsItems mode start items text layout
-held_none mode start items text layout none begins empty =
-    subst (λ (is : List Item). HoldsItems mode start is text layout) (sym none)
-    (subst (λ (t : Movetext). HoldsItems mode start [] t layout) (sym begins)
-    (subst (λ (l : Layout). HoldsItems mode start [] (begins_at start) l) (sym empty) (nothing_held mode start)))
+held_none mode start items text layout none begins empty = rw (none, begins, empty) (nothing_held mode start)
 
 -- Where movetext can begin or goes on, it is open.
 open_at : (old : Reading) (part : Part) (stage : Stage) → Agrees old part → old.stage ≡ stage → IsTrue (may_have_movetext stage) → IsOpen old part

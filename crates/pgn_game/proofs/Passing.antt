@@ -183,17 +183,17 @@ starring p ps name items = refl
 
 -- What a symbol is refused for, by what it is: a number, a score, what it comes to as a move,
 -- whether the numbers are at their limit, the depth, and whether it differs from the Result.
-abbrev symbol_rows : Bool → Bool → Option (Result Played SanFault) → Bool → ℕ → Bool → Bool → Option Reason
-symbol_rows number score o limit deep other marker =
-    or_else (elim (number || score) [ true ↦ false | false ↦ is_no_form o ]) NotAMove
-    (or_else (elim (number || score) [ true ↦ false | false ↦ is_no_move o ]) IllegalMove
-    (or_else (elim (number || score) [ true ↦ false | false ↦ is_many_moves o ]) AmbiguousMove
-    (or_else (elim (number || score) [ true ↦ false | false ↦ is_one_move o ] && limit) MoveLimit
+abbrev pub symbol_rows : Bool → Option (Result Played SanFault) → Bool → ℕ → Bool → Bool → Option Reason
+symbol_rows word o limit deep other marker =
+    or_else (elim word [ true ↦ false | false ↦ is_no_form o ]) NotAMove
+    (or_else (elim word [ true ↦ false | false ↦ is_no_move o ]) IllegalMove
+    (or_else (elim word [ true ↦ false | false ↦ is_many_moves o ]) AmbiguousMove
+    (or_else (elim word [ true ↦ false | false ↦ is_one_move o ] && limit) MoveLimit
     (or_else (marker && nat_le 1 deep) MarkerInVariation
     (or_else (other && (deep == 0)) ResultDiffers None)))))
 
 abbrev pub symbol_fault : Bool → Bool → Option (Result Played SanFault) → Bool → ℕ → Bool → Option Reason
-symbol_fault number score o limit deep other = symbol_rows number score o limit deep other score
+symbol_fault number score o limit deep other = symbol_rows (number || score) o limit deep other score
 
 is_marker_symbol : (score : Bool) (s : List ℕ) → is_some (elim score [ true ↦ Some s | false ↦ None ]) ≡ score
 is_marker_symbol true s = refl
@@ -206,5 +206,5 @@ pub symbolic : (p : Profile) (ps : List Pair) (name : List ℕ) (items : List It
 unfolding refusal
 symbolic p ps name items s =
     let place = here (start_of ps) (levels_of items) in
-    ap (symbol_rows (is_number s) (is_score s) (move_of place s) (is_at_limit place) (depth (levels_of items))
+    ap (symbol_rows (is_number s || is_score s) (move_of place s) (is_at_limit place) (depth (levels_of items))
     (has_other_result p.missing_result (at InMovetext ps name items) (tokens.symbol s))) (is_marker_symbol (is_score s) s)

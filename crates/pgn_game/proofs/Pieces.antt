@@ -70,24 +70,20 @@ both_pieces ks ls s t a b = record {
 }
 
 -- Movetext on lines.
-gap_is_space : (b : ℕ) → is_gap b ≡ true → IsTrue (is_space b)
-gap_is_space b e =
-    elim (or_cases (b == 32) (b == 10) e) [
-      | inl f ↦ ap is_space (eqb-true b 32 f)
-      | inr f ↦ ap is_space (eqb-true b 10 f)
-    ]
-
-stops_at : (f : ℕ → Bool) (b : ℕ) → f 32 ≡ false → f 10 ≡ false → is_gap b ≡ true → f b ≡ false
-stops_at f b space line e =
+at_gap : (f : ℕ → Bool) (b : ℕ) (v : Bool) → f 32 ≡ v → f 10 ≡ v → is_gap b ≡ true → f b ≡ v
+at_gap f b v space line e =
     elim (or_cases (b == 32) (b == 10) e) [
       | inl g ↦ ap f (eqb-true b 32 g) ∙ space
       | inr g ↦ ap f (eqb-true b 10 g) ∙ line
     ]
 
+gap_is_space : (b : ℕ) → is_gap b ≡ true → IsTrue (is_space b)
+gap_is_space b e = at_gap is_space b true refl refl e
+
 gap_ends : (b : ℕ) (s : List ℕ) (k : Kind) → is_gap b ≡ true → IsEndedBy (b ∷ s) k
-gap_ends b s (tokens.symbol text) e = stops_at continues_symbol b refl refl e
-gap_ends b s (tokens.glyph n) e = stops_at is_digit b refl refl e
-gap_ends b s (tokens.word text) e = stops_at continues_word b refl refl e
+gap_ends b s (tokens.symbol text) e = at_gap continues_symbol b false refl refl e
+gap_ends b s (tokens.glyph n) e = at_gap is_digit b false refl refl e
+gap_ends b s (tokens.word text) e = at_gap continues_word b false refl refl e
 gap_ends b s _ e = tt
 
 shown_pieces : (ks : List Kind) (t : List ℕ) (b : ℕ) → Shown ks t → AllByRecursion IsWritable ks → is_gap b ≡ true → PiecesOf ks (t ++ b ∷ [])

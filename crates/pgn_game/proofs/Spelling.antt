@@ -105,10 +105,7 @@ pairs_run p ps name _ rest _ gs (next_pair ks ls q qs first others) takes runs =
 -- Movetext.
 move_passes : (o : Option (Result Played SanFault)) (played : Played) (is_digits score limit : Bool) (deep : ℕ) (other : Bool)
     → o ≡ Some (Ok played) → is_digits ≡ false → score ≡ false → limit ≡ false → other ≡ false → symbol_fault is_digits score o limit deep other ≡ None
-move_passes o played is_digits score limit deep other one no_digits no_score within same =
-    ap (λ (b : Bool). symbol_fault b score o limit deep other) no_digits ∙ ap (λ (b : Bool). symbol_fault false b o limit deep other) no_score
-    ∙ ap (λ x. symbol_fault false false x limit deep other) one ∙ ap (λ (b : Bool). symbol_fault false false (Some (Ok played)) b deep other) within
-    ∙ ap (λ (b : Bool). symbol_fault false false (Some (Ok played)) false deep b) same
+move_passes o played is_digits score limit deep other one no_digits no_score within same = cc
 
 move_free : (p : Profile) (ps : List Pair) (name : List ℕ) (items : List Item) (s : List ℕ) (played : Played) → Names (here (start_of ps) (levels_of items)) s played
     → refusal p (at InMovetext ps name items) (tokens.symbol s) ≡ None
@@ -121,10 +118,7 @@ move_free p ps name items s played h =
 
 move_leads : (ps : List Pair) (name : List ℕ) (items : List Item) (s : List ℕ) (played : Played) → Names (here (start_of ps) (levels_of items)) s played
     → next (at InMovetext ps name items) (tokens.symbol s) ≡ going (at InMovetext ps name (items ++ games.move played.mv ∷ []))
-move_leads ps name items s played h =
-    let place = here (start_of ps) (levels_of items) in
-    symbol_leads ps name items s ∙ ap (λ (b : Bool). symbol_next ps name items s (is_number s) b (move_of place s)) h.no_marker
-    ∙ ap (λ (b : Bool). symbol_next ps name items s b false (move_of place s)) h.no_number ∙ ap (symbol_next ps name items s false false) h.one
+move_leads ps name items s played h = cc (symbol_leads ps name items s, h.no_marker, h.no_number, h.one)
 
 opens_free : (p : Profile) (ps : List Pair) (name : List ℕ) (items : List Item) → (levels_of items).present.has_own_move ≡ true → depth (levels_of items) < p.depth
     → refusal p (at InMovetext ps name items) tokens.left_paren ≡ None
@@ -192,10 +186,8 @@ text_run p ps name deep l _ _ (variation _ _ ks ls items more holds room inner t
 -- Markers.
 score_passes : (number score : Bool) (o : Option (Result Played SanFault)) (limit : Bool) (deep : ℕ) (other : Bool) → score ≡ true → deep ≡ 0 → other ≡ false
     → symbol_fault number score o limit deep other ≡ None
-score_passes true score o limit deep other e d f =
-    ap (λ (b : Bool). symbol_fault true b o limit deep other) e ∙ ap (λ n. symbol_fault true true o limit n other) d ∙ ap (symbol_fault true true o limit 0) f
-score_passes false score o limit deep other e d f =
-    ap (λ (b : Bool). symbol_fault false b o limit deep other) e ∙ ap (λ n. symbol_fault false true o limit n other) d ∙ ap (symbol_fault false true o limit 0) f
+score_passes true score o limit deep other e d f = cc
+score_passes false score o limit deep other e d f = cc
 
 abbrev finished : List Pair → List Item → List ℕ → Game
 finished ps items marker = record { pairs = ps; items = items; marker = marker }
