@@ -61,13 +61,9 @@ fen_again m ps fs same = same (codes "FEN") ∙ exported_other m ps (codes "FEN"
 set_up_again : (m : List ℕ) (ps fs : List Pair) (n : List ℕ) → Same_values Full m ps fs → in_roster n ≡ false
     → value_of (with_set_up fs) n ≡ value_of (with_set_up ps) n
 set_up_again m ps fs n same other =
-    let c = bytes_eq (codes "SetUp") n in
-    let b = has_pair ps (codes "FEN") && c in
-    set_up_values fs n
-    ∙ ap (λ o. pick (is_some o && c) (codes "1") (value_of fs n)) (fen_again m ps fs same)
-    ∙ ap (pick b (codes "1")) (same n ∙ exported_other m ps n other ∙ set_up_values ps n)
-    ∙ pick_again b (codes "1") (value_of ps n)
-    ∙ sym (set_up_values ps n)
+    let given = same n ∙ exported_other m ps n other ∙ set_up_values ps n in
+    let twice = pick_again (has_pair ps (codes "FEN") && bytes_eq (codes "SetUp") n) (codes "1") (value_of ps n) in
+    cc (set_up_values fs n, set_up_values ps n, fen_again m ps fs same, given, twice)
 
 others_again : (m : List ℕ) (ps fs : List Pair) → InOrder ps → InOrder fs → Same_values Full m ps fs
     → other_pairs (with_set_up fs) ≡ other_pairs (with_set_up ps)

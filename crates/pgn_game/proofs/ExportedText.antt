@@ -128,9 +128,7 @@ module _ (one_read : ReadsTheOne) (leaves : LeavesPosition) (is_symbol : Written
       ∙ exported_again p.mode g.marker g.pairs fs e.order (by_name_order p (exported_pairs p.mode g) e.keeps) e.same
       ∙ sym (exported_result p.mode p.missing_result g.marker g.pairs h.result) in
       let items = ap (λ first. tokens_out p.mode first (kept p.mode (start_of g.pairs) g.items)) (same_start p g e) ∙ k.again in
-      ap (λ ps. (tag_lines ps ++ 10 ∷ []) ++ text_of_lines (lines_of (tokens_out p.mode (start_of fs) (kept p.mode (start_of g.pairs) g.items) ++ g.marker ∷ [])) ++ 10 ∷ [])
-      tags
-      ∙ ap (λ ts. tag_section p.mode (result_for p.missing_result g.marker) g.pairs ++ text_of_lines (lines_of (ts ++ g.marker ∷ [])) ++ 10 ∷ []) items
+      cc (tags, items)
 
   written_game : (p : Profile) (g : Game) → SoundGame p g → HasRoom p g → WrittenGame p g
   written_game p g h room =

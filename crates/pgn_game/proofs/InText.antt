@@ -69,9 +69,7 @@ rows_for p part s word score r =
 
 symbol_refusal : (p : Profile) (part : Part) (s : List ℕ) (word score : Bool) → (is_number s || is_score s) ≡ word → is_score s ≡ score
     → text_refusal p part (symbol s) ≡ rows_for p part s word score (move_of (position_in part) s)
-symbol_refusal p part s word score w e =
-    ap (λ (b : Bool). rows_for p part s b (is_score s) (move_of (position_in part) s)) w
-    ∙ ap (λ (b : Bool). rows_for p part s word b (move_of (position_in part) s)) e
+symbol_refusal p part s word score w e = cc
 
 abbrev symbol_next : Part → List ℕ → Bool → Bool → MoveReading → Next
 symbol_next part s number score r =
@@ -79,9 +77,7 @@ symbol_next part s number score r =
 
 symbol_leads : (part : Part) (s : List ℕ) (number score : Bool) → is_number s ≡ number → is_score s ≡ score
     → in_text part (symbol s) ≡ symbol_next part s number score (move_of (position_in part) s)
-symbol_leads part s number score n e =
-    ap (λ (b : Bool). symbol_next part s b (is_score s) (move_of (position_in part) s)) n
-    ∙ ap (λ (b : Bool). symbol_next part s number b (move_of (position_in part) s)) e
+symbol_leads part s number score n e = cc
 
 -- a move is refused as it is found
 abbrev refused_as : Parts → MoveReading → Option Reason

@@ -136,13 +136,8 @@ same_behind : (p q : Pair) (ps qs : List Pair) (n : List ℕ) → AllAfter p.nam
 same_behind p q ps qs n h k same e = by_test (bytes_eq p.name n) refl
   where
     by_test : (b : Bool) → bytes_eq p.name n ≡ b → value_of ps n ≡ value_of qs n
-    by_test true is =
-        let here = bytes_eq-true p.name n is in
-        ap (value_of ps) (sym here) ∙ absent p.name ps h ∙ sym (absent q.name qs k) ∙ ap (value_of qs) (sym same ∙ here)
-    by_test false is =
-        let there : bytes_eq q.name n ≡ false = ap (λ m. bytes_eq m n) (sym same) ∙ is in
-        sym (ap (λ b. pick b p.value (value_of ps n)) is) ∙ sym (value_of-cons p ps n) ∙ e ∙ value_of-cons q qs n
-        ∙ ap (λ b. pick b q.value (value_of qs n)) there
+    by_test true is = let here = bytes_eq-true p.name n is in cc (here, same, absent p.name ps h, absent q.name qs k)
+    by_test false is = cc (is, same, value_of-cons p ps n, value_of-cons q qs n, e)
 
 some_value : (v w : List ℕ) → Some v ≡ Some w → v ≡ w
 some_value v w e = cc

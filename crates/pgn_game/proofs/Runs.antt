@@ -72,9 +72,7 @@ one_more p b t ts free end (going to) leads gs rest = (
 one_more p b t ts free end (whole g) leads gs rest = (
   g ∷ gs,
   record {
-    same =
-        ap (λ (r : Read). r.progress.games) (goes_on p b t ts free) ∙ ap (λ (n : Next). (read_from p (progress_with b.games n) ts).progress.games) leads ∙ rest.same
-        ∙ append_assoc b.games (g ∷ []) gs;
+    same = cc (goes_on p b t ts free, leads, rest.same, append_assoc b.games (g ∷ []) gs);
     runs = finishes b.part t.kind g (kinds ts) gs free end leads rest.runs;
   },
 )
