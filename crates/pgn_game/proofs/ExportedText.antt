@@ -15,7 +15,7 @@ use Rattle.pgn_lexer.specs.Tokens as tokens
 use Rattle.pgn_lexer.specs.Tokens.{Kind}
 use Rattle.pgn_lexer.specs.TokensOf.{tokens_of}
 use Rattle.pgn_lexer.specs.Written.{written, AreEnded, IsReadable}
-use Rattle.pgn_game.specs.FaultTable.{marker_of, result_for}
+use Rattle.pgn_game.specs.FaultTable.{marker_of}
 use Rattle.pgn_game.specs.Filled.{exported_pairs, filled}
 use Rattle.pgn_game.specs.FixedPoint.{HasRoom, AreExportable, TextSpells}
 use Rattle.pgn_game.specs.Game.{Game}
@@ -23,7 +23,7 @@ use Rattle.pgn_game.specs.Levels.{start_of, plies_of}
 use Rattle.pgn_game.specs.Pairs.{value_of}
 use Rattle.pgn_game.specs.Profile.{Profile}
 use Rattle.pgn_game.specs.Spells.{by_name, SpellsText, nothing_played, IsResult, SpellsGame, SpellsGames, no_game, next_game}
-use Rattle.pgn_game.specs.TagSection.{tag_section, tag_lines}
+use Rattle.pgn_game.specs.TagSection.{tag_lines}
 use Rattle.pgn_game.specs.Text.{tokens_out, game_text, text_of}
 use Rattle.pgn_game.proofs.EachOf.{all_front, all_behind}
 use Rattle.pgn_game.proofs.ExportedGames.{ExportedPairs, exported_of, exported_result, given_result, some_exported, start_is_position}

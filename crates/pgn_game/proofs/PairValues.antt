@@ -82,8 +82,8 @@ pick_either false v o p = refl
 pub value_of-append : (ps qs : List Pair) (name : List ℕ) → value_of (ps ++ qs) name ≡ either_of (value_of ps name) (value_of qs name)
 value_of-append [] qs name = refl
 value_of-append (p ∷ ps) qs name =
-    value_of-cons p (ps ++ qs) name ∙ ap (pick (bytes_eq p.name name) p.value) (value_of-append ps qs name)
-    ∙ pick_either (bytes_eq p.name name) p.value (value_of ps name) (value_of qs name) ∙ ap (λ o. either_of o (value_of qs name)) (sym (value_of-cons p ps name))
+    let either = pick_either (bytes_eq p.name name) p.value (value_of ps name) (value_of qs name) in
+    cc (value_of-cons p (ps ++ qs) name, value_of-append ps qs name, either, value_of-cons p ps name)
 
 -- Pairs whose names pass a test.
 kept_or_not : (f : List ℕ → Bool) (p : Pair) (n : List ℕ) (k b : Bool) (F : List Pair) (o : Option (List ℕ)) → f p.name ≡ k → bytes_eq p.name n ≡ b

@@ -43,7 +43,8 @@ no_value_rows : (p : Profile) (name : List ℕ)
     → or_else (bytes_eq name (codes "Result") && false) BadResult (or_else (bytes_eq name (codes "FEN") && false) (BadFen 0) None) ≡ None
 no_value_rows p name =
     pass (bytes_eq name (codes "Result") && false) BadResult _ (and_right (bytes_eq name (codes "Result")) false refl)
-    (pass (bytes_eq name (codes "FEN") && false) (BadFen 0) None (and_right (bytes_eq name (codes "FEN")) false refl) refl)
+    (pass (bytes_eq name (codes "FEN") && false) (BadFen 0) None
+    (and_right (bytes_eq name (codes "FEN")) false refl) refl)
 
 reduced_row : (p : Profile) → or_else (is_reduced p.mode && false) ReducedFen None ≡ None
 reduced_row p = pass (is_reduced p.mode && false) ReducedFen None (and_right (is_reduced p.mode) false refl) refl

@@ -185,7 +185,8 @@ sound_game p ks ls g h sound closes =
     let sound_behind = all_behind IsSoundKind h.before (h.tags ++ (h.text ++ h.last ∷ [])) (subst (AllByRecursion IsSoundKind) h.tokens sound) in
     let sound_rest = all_behind IsSoundKind h.tags (h.text ++ h.last ∷ []) sound_behind in
     let all = subst (CommentsClose false) (ap (λ xs. xs ++ ls) h.tokens) closes in
-    let some = behind h.before false (h.tags ++ (h.text ++ h.last ∷ ls)) (dropped_go_on h.before h.dropped) (simp append_assoc at all) in
+    let some = behind h.before false (h.tags ++ (h.text ++ h.last ∷ ls)) (dropped_go_on h.before h.dropped)
+    (simp append_assoc at all) in
     let on = text_goes_on p (start_of g.pairs) 0 (nothing_played []) h.text g.items h.items in
     let text = before_text h.tags h.text h.given some.0 h.last g.marker ls h.pairs h.bare on h.marker some.1 in
     let end = behind h.text false (h.last ∷ ls) on text in (

@@ -235,7 +235,8 @@ marker_finishes p ps name items tokens.asterisk marker is outside result =
 marker_finishes p ps name items (tokens.symbol s) marker is outside result =
     let score = score_of s marker (is_score s) refl is in
     subst (Finishes p ps name items (tokens.symbol s)) score.1
-    (score_finishes p ps name items s score.0 outside (subst (IsResult p.missing_result (value_of ps (codes "Result"))) (sym score.1) result))
+    (score_finishes p ps name items s score.0 outside
+    (subst (IsResult p.missing_result (value_of ps (codes "Result"))) (sym score.1) result))
 marker_finishes p ps name items _ marker is outside result = absurd (cc)
 
 -- Games.

@@ -51,7 +51,8 @@ data Closes (p : Profile) (first : Parts) : Level → List Level → List Kind �
 -- one token more at this level, from where it leads
 add_front : (p : Profile) (first : Parts) (l n : Level) (around : List Level) (k : Kind) (ks : List Kind)
     (item items : List Item)
-    → ((d : ℕ) (js : List Kind) (is : List Item) → SpellsText p first d n js is → SpellsText p first d l (k ∷ js) (item ++ is))
+    → ((d : ℕ) (js : List Kind) (is : List Item) → SpellsText p first d n js is
+    → SpellsText p first d l (k ∷ js) (item ++ is))
     → Closes p first n around ks items → Closes p first l around (k ∷ ks) (item ++ items)
 add_front p first l _ _ k _ item _ front (outermost n ks items text) =
     outermost l (k ∷ ks) (item ++ items) (front 0 ks items text)
@@ -355,7 +356,8 @@ is_full Reduced b h e = absurd (cc)
 one_dropped : (P : List Kind → Type 0) (k : Kind) (ks : List Kind) → IsTrue (is_comment k) → Dropping P ks
     → Dropping P (k ∷ ks)
 one_dropped P k ks is h =
-    record { front = k ∷ h.front; rest = h.rest; kinds = ap (λ xs. k ∷ xs) h.kinds; dropped = dropped_more k h.front is h.dropped; left = h.left }
+    let kinds = ap (λ xs. k ∷ xs) h.kinds in
+    record { front = k ∷ h.front; rest = h.rest; kinds = kinds; dropped = dropped_more k h.front is h.dropped; left = h.left }
 
 none_dropped : (P : List Kind → Type 0) (ks : List Kind) → P ks → Dropping P ks
 none_dropped P ks h = record { front = []; rest = ks; kinds = refl; dropped = refl; left = h }
