@@ -92,13 +92,15 @@ fn empty_shelf(alloc: Global) -> Shelf {
 }
 
 impl Shelf {
-    /// Whether just these files were made, in order from number 1, and each was closed.
+    /// Whether just these files were made, in order from number 1, and each was closed. None was
+    /// flushed.
     fn has(&self, texts: &[&[u8]]) -> bool {
         let mut number = 0u64;
         for page in &self.pages {
             let index = number as usize;
             number = number.saturating_add(1);
-            if page.number != number || texts.get(index) != Some(&page.taken.as_slice()) {
+            let is_next = page.number == number && page.flushes == 0;
+            if !is_next || texts.get(index) != Some(&page.taken.as_slice()) {
                 return false;
             }
         }
@@ -226,24 +228,38 @@ fn stopped_at(ran: &Ran, made: &mut Shelf, fails_at: usize) -> bool {
         && last.calls == fails_at.saturating_add(1)
 }
 
+// How many writes, of so many bytes at most, were met with a failure that was reported; none where
+// one was not.
+fn reported_writes(alloc: Global, trouble: Trouble, most: usize) -> Option<usize> {
+    for fails_at in 0..1000usize {
+        let mut made = empty_shelf(alloc);
+        made.fails_at = fails_at;
+        made.trouble = trouble;
+        made.most = most;
+        let ran = run(whole(THREE), &mut made);
+        if made.writes <= fails_at {
+            let is_whole = ran.is(0, b"") && made.has(FULL);
+            return if is_whole { Some(fails_at) } else { None };
+        }
+        if !stopped_at(&ran, &mut made, fails_at) {
+            return None;
+        }
+    }
+    None
+}
+
 #[test]
 fn reports_each_write_that_fails(rt: HostRuntime) {
+    let bytes = MOVES.len().saturating_mul(2).saturating_add(UNKNOWN.len());
     for trouble in [Trouble::Broken, Trouble::Interrupted, Trouble::TakesNone] {
-        let mut failed = 0usize;
-        for fails_at in 0..1000usize {
-            let mut made = empty_shelf(rt.alloc());
-            made.fails_at = fails_at;
-            made.trouble = trouble;
-            let ran = run(whole(THREE), &mut made);
-            if made.writes <= fails_at {
-                assert!(rt; ran.is(0, b"") && made.has(FULL));
-                break;
-            }
-            failed = failed.saturating_add(1);
-            let is_right = stopped_at(&ran, &mut made, fails_at);
-            assert!(rt; is_right, "{trouble:?} at write {fails_at}");
-        }
-        assert!(rt; failed > 20);
+        assert_eq!(rt;
+            reported_writes(rt.alloc(), trouble, 1),
+            Some(bytes),
+            "{trouble:?}"
+        );
+        // A write for each line, and the empty lines
+        let lines = reported_writes(rt.alloc(), trouble, usize::MAX);
+        assert_eq!(rt; lines, Some(30), "{trouble:?}");
     }
 }
 
