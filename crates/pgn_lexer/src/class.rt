@@ -55,7 +55,7 @@ pub(crate) enum StringClass {
 }
 
 // The tables below have names of three letters. Outside strings and comments: END is the end of a
-// line, GAP is white space, SYM begins a symbol, SUF is `!` or `?`, PER is `%`, QUO is `"`, DOL is
+// line, GAP is white space, SYM begins a symbol, SUF is `!` or `?`, PCT is `%`, QUO is `"`, DOL is
 // `$`, BRA is `{`, SEM is `;`. LBR and RBR are brackets, LPA and RPA parentheses, DOT is the
 // period, AST is `*`. Rejected are RES, a reserved character; CTL, a control byte; BAD, any other
 // byte.
@@ -120,7 +120,7 @@ pub(crate) fn class_of(byte: u8) -> Class
     CLASSES[byte as usize]
 }
 
-// In a comment: CEN is the end of a line, CGA is white space, CLO is `}`, LET is any byte of a
+// In a comment: CEN is the end of a line, CGA is white space, CLO is `}`, CWB is any byte of a
 // word, CCT is a control byte.
 const CEN: CommentClass = CommentClass::LineEnd;
 
