@@ -217,7 +217,7 @@ fn is_unattacked(position: &Position, file: u8) -> bool
     )
 }
 
-// Whether the side to move castles with its h rook. (FIDE Laws 3.8.2)
+// Whether the move is castling with the rook of the h file. (FIDE Laws 3.8.2)
 fn castles_short(position: &Position, mv: &Move) -> bool
     ensures { result ≡ spec.castles_short position.now mv.now }
 {
@@ -230,7 +230,7 @@ fn castles_short(position: &Position, mv: &Move) -> bool
         && is_unattacked(position, 6)
 }
 
-// Whether the side to move castles with its a rook. (FIDE Laws 3.8.2)
+// Whether the move is castling with the rook of the a file. (FIDE Laws 3.8.2)
 fn castles_long(position: &Position, mv: &Move) -> bool
     ensures { result ≡ spec.castles_long position.now mv.now }
 {
@@ -276,7 +276,7 @@ fn carry(position: &Position, mv: &Move, board: &mut Board)
     }
 }
 
-// Takes a pawn in passing.
+// Captures en passant: the pawn that is captured is not on the target.
 #[inline(always)]
 fn take_in_passing(position: &Position, mv: &Move, board: &mut Board)
     requires { board.old ≡ position.now.board }
@@ -286,7 +286,8 @@ fn take_in_passing(position: &Position, mv: &Move, board: &mut Board)
     board.put(captured_pawn(mv), None);
 }
 
-// Castles: the rook goes to the square that the king crossed.
+// Castles: the rook goes to the square that the king crossed. `rook` is the file of the rook, and
+// `crossing` that of the crossed square.
 #[inline(always)]
 fn castle(position: &Position, mv: &Move, rook: u8, crossing: u8, board: &mut Board)
     requires rook { rook < 8 }
@@ -330,7 +331,7 @@ fn make_step(position: &Position, mv: &Move, board: &mut Board) -> bool
     false
 }
 
-// Whether a pawn may go ahead so. (FIDE Laws 3.7.1, 3.7.2)
+// Whether the move is a pawn's advance by one or two squares. (FIDE Laws 3.7.1, 3.7.2)
 fn pawn_advances(position: &Position, mv: &Move) -> bool
     ensures { result ≡ ways.pawn_advances position.now mv.now }
 {

@@ -20,7 +20,7 @@ pub(crate) fn single(place: usize) -> u64
     1 << place
 }
 
-// The set with the place or without it.
+// The set with the place if `value` is true, and else without it.
 pub(crate) fn with(word: u64, place: usize, value: bool) -> u64
     requires { place < 64 }
     ensures { Sets word result place value }
@@ -29,7 +29,7 @@ pub(crate) fn with(word: u64, place: usize, value: bool) -> u64
     if value { word | bit } else { word & !bit }
 }
 
-// The set after the content of one place has moved to another.
+// The set with the bit of one place moved to another place.
 pub(crate) fn carried(word: u64, from: usize, to: usize) -> u64
     requires from { from < 64 }
     requires to { to < 64 }

@@ -23,6 +23,7 @@ abbrev pub or_dash : List ℕ → List ℕ
 or_dash [] = codes "-"
 or_dash (c ∷ s) = c ∷ s
 
+-- The letter of one right, if the side has it: K is 75, Q is 81, k is 107, q is 113.
 abbrev pub held : Bool → ℕ → List ℕ
 held b c = if b then c ∷ [] else []
 
@@ -32,7 +33,7 @@ rights_text r = or_dash (held r.white_short 75 ++ held r.white_long 81 ++ held r
 abbrev pub has_letter : ℕ → List ℕ → Bool
 has_letter c s = list_any (λ d. d == c) s
 
--- the rights with their letters in the text
+-- the rights whose letters are in the text, in any order
 abbrev pub rights_named : List ℕ → Rights
 rights_named s =
     record {
@@ -42,7 +43,7 @@ rights_named s =
       black_long = has_letter 113 s;
     }
 
--- the rights that the text names, if it is their text
+-- These rights, if the text is the one that is written for them. So no other order is read.
 abbrev pub rights_of : List ℕ → Option Rights
 rights_of s = if bytes_eq s (rights_text (rights_named s)) then Some (rights_named s) else None
 
@@ -52,6 +53,7 @@ abbrev pub target_text : Option Square → List ℕ
 target_text None = codes "-"
 target_text (Some t) = square_text t
 
+-- The files a to h are 97 to 104, the ranks 3 and 6 are 51 and 54, and the dash below is 45.
 abbrev pub is_target : ℕ → ℕ → Bool
 is_target file rank = (nat_le 97 file && nat_le file 104) && ((rank == 51) || (rank == 54))
 

@@ -50,7 +50,7 @@ abbrev pub FixedPoint : Type 0
 FixedPoint = (p : Profile) (gs : List Game) → AreExportable p gs
     → (output p (text_of p gs) ≡ text_of p gs) × (verdict p (text_of p gs) ≡ totals (counted gs))
 
--- These totals are those of the games, and their export text was written.
+-- The totals are the counts of these games, and their export text was written.
 abbrev pub IsWrittenAgain : Profile → List Game → Totals → Option (List ℕ) → Option (List ℕ)
     → Type 0
 IsWrittenAgain p gs t before after =
@@ -69,13 +69,13 @@ abbrev pub SourceIsKept : Profile → List Game → Result Totals Fault → Opti
 SourceIsKept p gs (Ok t) before after = IsWrittenAgain p gs t before after
 SourceIsKept p gs (Err f) before after = (f.reason ≡ ReadFault) ⊎ (f.reason ≡ WriteFault)
 
--- So the contract of `convert_slice` says of an export text of at most 2^62 bytes.
+-- What follows from the contract of `convert_slice` for an export text of at most 2^62 bytes.
 abbrev pub ExportIsKept : Type 0
 ExportIsKept = (p : Profile) (gs : List Game) (r : Result Totals Fault)
     (before after : Option (List ℕ)) → AreExportable p gs → length (text_of p gs) ≤ 2 ^ 62
     → ConvertsSlice p (text_of p gs) r before after → SliceIsKept p gs r before after
 
--- And so the contract of `convert` says, where the source has such a text left.
+-- What follows from the contract of `convert` if the source still has such a text to give.
 abbrev pub ExportIsKeptOfSource : Type 0
 ExportIsKeptOfSource = (p : Profile) (gs : List Game) (r : Result Totals Fault)
     (left_old left_new before after : Option (List ℕ))

@@ -17,9 +17,11 @@ is_space b = is_line_end b || is_blank b
 abbrev pub is_control : ℕ → Bool
 is_control b = nat_le b 8 || (nat_le 14 b && nat_le b 31) || (b == 127)
 
+-- 0 (48) to 9 (57)
 abbrev pub is_digit : ℕ → Bool
 is_digit b = nat_le 48 b && nat_le b 57
 
+-- A (65) to Z (90), and a (97) to z (122)
 abbrev pub is_letter : ℕ → Bool
 is_letter b = (nat_le 65 b && nat_le b 90) || (nat_le 97 b && nat_le b 122)
 
@@ -27,7 +29,8 @@ is_letter b = (nat_le 65 b && nat_le b 90) || (nat_le 97 b && nat_le b 122)
 abbrev pub starts_symbol : ℕ → Bool
 starts_symbol b = is_letter b || is_digit b
 
--- A symbol continues with these and _ + # = : - (PGN 7), and, by our choice, with / for 1/2-1/2.
+-- A symbol continues with letters, digits, _ (95), + (43), # (35), = (61), : (58) and - (45) (PGN
+-- 7), and, by our choice, with / (47) for 1/2-1/2.
 abbrev pub continues_symbol : ℕ → Bool
 continues_symbol b = starts_symbol b || (b == 95) || (b == 43) || (b == 35) || (b == 61) || (b == 58) || (b == 45) || (b == 47)
 

@@ -71,7 +71,8 @@ Reads old piece new used more = (used ≡ length piece) × ((s : List ℕ) → c
 Reads old piece new used (token t) = (s : List ℕ) → coming old (piece ++ s) ≡ t ∷ coming new (drop used piece ++ s)
 Reads old piece new used (fault f) = (s : List ℕ) → coming old (piece ++ s) ≡ refusal f ∷ []
 
--- a token took a byte, or was waiting
+-- A call that gives a token uses a byte, or one token less is waiting after it. So only so many
+-- calls give a token: each lowers twice the bytes that are left plus the tokens that are waiting.
 abbrev pub Advances : Standing → Standing → ℕ → Scanned → Type 0
 Advances old new used more = Unit {0}
 Advances old new used (token t) = waiting new < 2 * used + waiting old

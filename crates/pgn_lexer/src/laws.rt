@@ -30,11 +30,12 @@ pub fn tokens_are_sound()
     ensures { laws.TokensAreSound }
 {}
 
-/// Written tokens lex back to themselves, each at its place.
+/// Written tokens are read back as themselves, each at its place.
 ///
-/// White space follows each token, or a byte that ends it. The tokens are a symbol, a NAG as `$`
-/// and a number, a string with escapes, a comment in braces, and `[ ] ( ) . *`. A `%` begins no
-/// escape there, not even in the first column (PGN 6): no token outside a comment begins with it.
+/// The premise: each token is followed by white space, or by a byte that ends it. The tokens are a
+/// symbol, a NAG as `$` and a number, a string with escapes, a comment in braces, and
+/// `[ ] ( ) . *`. A `%` in the first column begins no escape there (PGN 6), since only the words of
+/// a comment can begin with it.
 pub fn written_tokens_are_read_back()
     ensures places { laws.PiecesAreReadBack }
     ensures kinds { laws.KindsAreReadBack }
