@@ -1,5 +1,5 @@
 //! One tag pair.
-ghost use Rattle.std.specs.Prelude.{◌≡◌, ◌+◌, ◌≤◌, length};
+ghost use Rattle.std.specs.Prelude.{◌≡◌, ◌+◌, ◌≤◌, [], length};
 ghost use Rattle.pgn_layout.specs.TagLine.{escaped};
 
 use arrayvec::ArrayVec;
