@@ -7,6 +7,7 @@ mod Collecting
 mod Devices
 mod EachOf
 mod Escapes
+mod EqualReadings
 mod ExportAgain
 mod ExportedGames
 mod ExportedPairs

@@ -3,23 +3,17 @@
 -- has read it to its marker. A missing Result takes the marker.
 -- Letters: p is the profile, b the progress, t a token, ts are tokens, s is a text, m a mark and ms
 -- are marks, f is a fault, u are bytes.
-use Rattle.std.specs.Prelude.{◌≡◌, ℕ, ◌^◌, ◌<◌, ◌≤◌, ◌==◌, Bool, true, false, ◌||◌, ◌&&◌, not, bytes_eq, is_some, List, [], ◌∷◌, ◌++◌, length, take, Option, None, Some, Result, Ok, Err, IfSome}
-use Rattle.std.specs.Io.KnownBytes.{Appends, Consumes}
-use Rattle.pgn_layout.specs.Device.{one_more}
+use Rattle.std.specs.Prelude.{ℕ, ◌==◌, Bool, true, false, ◌||◌, ◌&&◌, not, bytes_eq, is_some, List, [], ◌∷◌, ◌++◌, Option, None, Some}
 use Rattle.pgn_lexer.specs.Tokens.{Token}
 use Rattle.pgn_lexer.specs.TokensOf.{tokens_of}
-use Rattle.pgn_lexer.specs.Decided.{decided}
 use Rattle.pgn_game.specs.declared.mode.Mode.{Mode}
-use Rattle.pgn_game.specs.declared.reason.Reason.{Reason}
-use Rattle.pgn_game.specs.declared.reason.Reason.TheVariants.{ReadFault, WriteFault, InputTooLong, Changed}
+use Rattle.pgn_game.specs.declared.reason.Reason.TheVariants.{Changed}
 use Rattle.pgn_game.specs.declared.reason.Fault.{Fault}
-use Rattle.pgn_game.specs.declared.conversion.Totals.{Totals}
 use Rattle.pgn_game.specs.Profile.{Profile, counts_as, takes_the_marker}
 use Rattle.pgn_game.specs.Game.{Part}
-use Rattle.pgn_game.specs.FaultTable.{refusal, marker_of, is_marker, is_end}
+use Rattle.pgn_game.specs.FaultTable.{refusal, is_end}
 use Rattle.pgn_game.specs.Text.{text_of, torn}
 use Rattle.pgn_game.specs.Progress.{Next, going, whole, next, Progress, no_progress, progress_after, read, Verdict, verdict_of}
-use Rattle.pgn_game.specs.Converting.{verdict_in}
 
 -- the profile of both readings, for at most so many pairs and levels
 abbrev pub checked_profile : ℕ → ℕ → Mode → Profile
@@ -47,18 +41,15 @@ marks_from p b (t ∷ ts) =
 abbrev pub marks : Profile → List Token → List Mark
 marks p ts = marks_from p no_progress ts
 
--- a token that cannot stand where `first` has gone on to the mark m: the end, or another marker, or
--- the same one at another place
-abbrev pub is_other : Mark → Token → Bool
-is_other m t =
-    elim (marker_of t.kind) [
-      | None ↦ is_end t.kind
-      | Some text ↦ not (bytes_eq text m.text && (t.at == m.at))
-    ]
+-- a token that leads where `first` has not gone on to the mark m: it is the end, or it finishes a
+-- game by another marker, or by the same one at another place
+abbrev pub is_other : Mark → Next → Token → Bool
+is_other m (going part) t = is_end t.kind
+is_other m (whole g) t = not (bytes_eq g.marker m.text && (t.at == m.at))
 
 -- a token of `second` at which the inputs are seen to differ: such a one, or one that is rejected
 abbrev pub is_changed : Profile → Mark → Part → Token → Bool
-is_changed p m part t = is_some (refusal p part t.kind) || is_other m t
+is_changed p m part t = is_some (refusal p part t.kind) || is_other m (next part t.kind) t
 
 -- How far `second` is read: its progress, the marks of `first` that it has not read yet, and the
 -- fault of a token at which the inputs differ.
@@ -66,6 +57,11 @@ pub record Followed : Type 0 where
   pub progress : Progress
   pub ahead : List Mark
   pub fault : Option Fault
+
+-- the marks that are left after a token
+abbrev pub marks_after : Next → Mark → List Mark → List Mark
+marks_after (going part) m ms = m ∷ ms
+marks_after (whole g) m ms = ms
 
 -- The tokens of `second` are read up to the last mark, or up to the first token at which the inputs
 -- differ.
@@ -75,10 +71,7 @@ follow p [] b (t ∷ ts) = record { progress = b; ahead = []; fault = None }
 follow p (m ∷ ms) b (t ∷ ts) =
     elim (is_changed p m b.part t) [
       | true ↦ record { progress = b; ahead = m ∷ ms; fault = Some (record { at = t.at; reason = Changed }) }
-      | false ↦ elim (is_marker t.kind) [
-        | true ↦ follow p ms (progress_after b t) ts
-        | false ↦ follow p (m ∷ ms) (progress_after b t) ts
-      ]
+      | false ↦ follow p (marks_after (next b.part t.kind) m ms) (progress_after b t) ts
     ]
 
 -- the tokens of `second`, after these of `first`

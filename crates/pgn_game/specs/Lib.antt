@@ -27,6 +27,7 @@ pub mod Stepping
 pub mod Size
 pub mod Converting
 pub mod Checked
+pub mod EqualReadings
 pub mod Laws
 pub mod MovesAreLegal
 pub mod Spells

@@ -3,6 +3,7 @@ ghost use Rattle.pgn_game.specs.Laws as laws;
 ghost use Rattle.pgn_game.specs.MovesAreLegal as legality;
 ghost use Rattle.pgn_game.specs.FixedPoint as fixed;
 ghost use Rattle.pgn_game.specs.UniqueReading as unique;
+ghost use Rattle.pgn_game.specs.EqualReadings as equal;
 
 use chess_rules::laws::a_legal_move_leaves_a_position;
 use chess_text::laws::{
@@ -24,6 +25,15 @@ pub fn due_grows()
 /// If a token is rejected, the text spells no games.
 pub fn unique_reading()
     ensures { unique.UniqueReading }
+{
+    tokens_rise();
+}
+
+/// If an input is the same at both readings, reading it twice gives what reading it once gives.
+///
+/// A missing Result takes the marker in both.
+pub fn equal_readings()
+    ensures { equal.EqualReadings }
 {
     tokens_rise();
 }
