@@ -1,30 +1,5 @@
-pub mod Squares
-pub mod WordLemmas
-pub mod Between
-pub mod Rays
-pub mod Sight
-pub mod Reach
-pub mod Kings
-pub mod Edges
-pub mod Puts
-pub mod Sound
-pub mod Stays
-pub mod Steps
-pub mod Leaves
-pub mod Apart
-pub mod Complete
-pub mod Lists
-pub mod Found
-pub mod Counting
-pub mod Promotions
-pub mod Totals
-pub mod Trying
-pub mod Places
-pub mod Extremes
-pub mod FirstOn
-pub mod Sets
-pub mod Attackers
-pub mod CandidateSets
-pub mod Homes
-pub mod Plain
-pub mod Steppers
+mod moves
+mod positions
+mod rays
+mod squares
+mod trying

@@ -23,8 +23,8 @@ abbrev pub put : Board → Square → Option Piece → Board
 put b s cell = slice_set b (cell_of s) cell
 
 -- a piece, as the content of a square
-abbrev pub man : Colour → Kind → Option Piece
-man c k = Some (record { colour = c; kind = k })
+abbrev pub some_piece : Colour → Kind → Option Piece
+some_piece c k = Some (record { colour = c; kind = k })
 
 abbrev pub is_empty : Board → Square → Bool
 is_empty b s = is_none (at b s)

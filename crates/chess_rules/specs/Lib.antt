@@ -4,7 +4,7 @@ pub mod Words
 pub mod Masks
 pub mod Board
 pub mod Index
-pub mod Again
+pub mod WordsAndCells
 pub mod Attacks
 pub mod Position
 pub mod Step
@@ -13,5 +13,5 @@ pub mod Candidate
 pub mod Laws
 pub mod Walk
 pub mod Plain
-pub mod Kept
+pub mod StoredPosition
 pub mod Pairs

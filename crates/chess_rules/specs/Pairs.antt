@@ -7,7 +7,7 @@ use Rattle.chess_rules.specs.declared.direction.TheConstants.{DIRECTIONS, JUMPS}
 use Rattle.chess_rules.specs.declared.direction.Direction.{Direction}
 use Rattle.chess_rules.specs.declared.direction.Jump.{Jump}
 use Rattle.chess_rules.specs.declared.piece.Kind.{Kind}
-use Rattle.chess_rules.specs.declared.piece.Kind.TheVariants.{King, Queen, Rook, Bishop, Knight, Pawn}
+use Rattle.chess_rules.specs.declared.piece.Kind.TheVariants.{King, Queen, Knight, Pawn}
 use Rattle.chess_rules.specs.declared.piece.Promotion.{Promotion}
 use Rattle.chess_rules.specs.declared.piece.Promotion.TheVariants as promotions
 use Rattle.chess_rules.specs.declared.position.Move.{Move}
@@ -38,15 +38,6 @@ on_ways p k t = filter_map (origin_on p k t) DIRECTIONS
 
 unfoldable pub by_jumps : Parts → Square → List Square
 by_jumps p t = filter_map (origin_by p t) JUMPS
-
--- direction by direction, or jump by jump
-abbrev pub origins_in_order : Parts → Kind → Square → List Square
-origins_in_order p King t = on_ways p King t
-origins_in_order p Queen t = on_ways p Queen t
-origins_in_order p Rook t = on_ways p Rook t
-origins_in_order p Bishop t = on_ways p Bishop t
-origins_in_order p Knight t = by_jumps p t
-origins_in_order p Pawn t = on_ways p Pawn t
 
 -- One pair.
 

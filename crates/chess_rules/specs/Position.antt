@@ -11,7 +11,7 @@ use Rattle.chess_rules.specs.declared.position.Rights.{Rights}
 use Rattle.chess_rules.specs.declared.position.PositionFault.{PositionFault}
 use Rattle.chess_rules.specs.declared.position.PositionFault.TheVariants.{Kings, PawnOnEdge, KingCapturable, TargetRank, NumberRange}
 use Rattle.chess_rules.specs.Square.{Square, squares, on_board}
-use Rattle.chess_rules.specs.Board.{Board, at, other, kings, man, is_pawn}
+use Rattle.chess_rules.specs.Board.{Board, at, other, kings, some_piece, is_pawn}
 use Rattle.chess_rules.specs.Attacks.{king_attacked}
 
 -- the colour has exactly one king (FIDE 2.2)
@@ -65,9 +65,9 @@ back_rank = Rook ∷ Knight ∷ Bishop ∷ Queen ∷ King ∷ Bishop ∷ Knight 
 
 abbrev pub initial_board : Board
 initial_board =
-    map (man White) back_rank ++ replicate 8 (man White Pawn)
+    map (some_piece White) back_rank ++ replicate 8 (some_piece White Pawn)
     ++ replicate 32 None
-    ++ replicate 8 (man Black Pawn) ++ map (man Black) back_rank
+    ++ replicate 8 (some_piece Black Pawn) ++ map (some_piece Black) back_rank
 
 abbrev pub every_right : Rights
 every_right = record { white_short = true; white_long = true; black_short = true; black_long = true }

@@ -12,7 +12,7 @@ use Rattle.chess_rules.specs.declared.position.Move.{Move}
 use Rattle.chess_rules.specs.declared.position.Rights.{Rights}
 use Rattle.chess_rules.specs.declared.position.Parts.{Parts}
 use Rattle.chess_rules.specs.Square.{Square, square, on_board, same_square}
-use Rattle.chess_rules.specs.Board.{Board, man, at, put, is_empty, other, has_colour, has_piece}
+use Rattle.chess_rules.specs.Board.{Board, some_piece, at, put, is_empty, other, has_colour, has_piece}
 use Rattle.chess_rules.specs.Attacks.{attacks, is_attacked, is_ahead, is_clear}
 
 -- the rank on which the colour's king and rooks begin, the rank of its pawns, the rank after their
@@ -165,7 +165,7 @@ en_passant_board p m = put (carried p m) (captured_pawn m) None
 
 -- the board after castling: also the rook goes from its file to the square that the king crossed
 abbrev pub castled : Parts → Move → ℕ → ℕ → Board
-castled p m rook crossing = put (put (carried p m) (home p rook) None) (home p crossing) (man p.side Rook)
+castled p m rook crossing = put (put (carried p m) (home p rook) None) (home p crossing) (some_piece p.side Rook)
 
 -- the move begins or ends on the square
 abbrev pub touches : Move → ℕ → ℕ → Bool

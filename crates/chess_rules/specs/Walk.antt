@@ -48,10 +48,10 @@ is_aligned_or_same s t = (s.rank == t.rank) || ((s.file == t.file) || (gap s.fil
 -- Outward from a square.
 
 -- the file or rank that lies k further, whether or not the board has it
-abbrev pub gone : Shift → ℕ → ℕ → ℕ
-gone Down a k = a - k
-gone Stay a k = a
-gone Up a k = a + k
+abbrev pub coordinate_after : Shift → ℕ → ℕ → ℕ
+coordinate_after Down a k = a - k
+coordinate_after Stay a k = a
+coordinate_after Up a k = a + k
 
 -- the board has that file or rank
 abbrev pub has_room : Shift → ℕ → ℕ → Bool
@@ -61,7 +61,7 @@ has_room Up a k = nat_lt (a + k) 8
 
 -- the file or rank that lies k further, if the board has it
 abbrev pub shifted : Shift → ℕ → ℕ → Option ℕ
-shifted w a k = if has_room w a k then Some (gone w a k) else None
+shifted w a k = if has_room w a k then Some (coordinate_after w a k) else None
 
 -- the shift that leads from file or rank a to b
 abbrev pub shift_between : ℕ → ℕ → Shift
@@ -73,7 +73,7 @@ direction_between s t = record { files = shift_between s.file t.file; ranks = sh
 
 -- the square that lies i files and j ranks further, whether or not the board has it
 abbrev pub further : Direction → Square → ℕ → ℕ → Square
-further d s i j = square (gone d.files s.file i) (gone d.ranks s.rank j)
+further d s i j = square (coordinate_after d.files s.file i) (coordinate_after d.ranks s.rank j)
 
 -- the board has that square
 abbrev pub fits : Direction → Square → ℕ → ℕ → Bool

@@ -10,7 +10,7 @@ use Rattle.chess_rules.specs.declared.piece.Kind.TheVariants.{King, Queen, Rook,
 use Rattle.chess_rules.specs.declared.piece.Piece.{Piece}
 use Rattle.chess_rules.specs.declared.board.Board.TheInside.{Inside}
 use Rattle.chess_rules.specs.Square.{Square, squares}
-use Rattle.chess_rules.specs.Board.{cell_of, man, same_kind}
+use Rattle.chess_rules.specs.Board.{cell_of, some_piece, same_kind}
 use Rattle.chess_rules.specs.Walk.{square_at}
 
 -- a word as a set of places: whether it has place i
@@ -26,13 +26,13 @@ colour_of false = White
 -- what a square holds, by the three bits of the code and by whether it is black
 abbrev pub coded : Bool → Bool → Bool → Bool → Option Piece
 coded false false false black = None
-coded true false false black = man (colour_of black) Pawn
-coded false true false black = man (colour_of black) Knight
-coded true true false black = man (colour_of black) Bishop
-coded false false true black = man (colour_of black) Rook
-coded true false true black = man (colour_of black) Queen
-coded false true true black = man (colour_of black) King
-coded true true true black = man (colour_of black) King
+coded true false false black = some_piece (colour_of black) Pawn
+coded false true false black = some_piece (colour_of black) Knight
+coded true true false black = some_piece (colour_of black) Bishop
+coded false false true black = some_piece (colour_of black) Rook
+coded true false true black = some_piece (colour_of black) Queen
+coded false true true black = some_piece (colour_of black) King
+coded true true true black = some_piece (colour_of black) King
 
 -- seven is no code, and no piece is not black
 abbrev pub is_code : Bool → Bool → Bool → Bool → Bool

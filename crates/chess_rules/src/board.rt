@@ -26,7 +26,7 @@ impl Model for Board {
     ghost use Rattle.std.specs.Prelude.{List, Option};
     ghost use Rattle.chess_rules.specs.declared.piece.Piece.{Piece};
     ghost use Rattle.chess_rules.specs.Words.{AreWords, cells, words};
-    ghost use Rattle.chess_rules.specs.Again.{words_again};
+    ghost use Rattle.chess_rules.specs.WordsAndCells.{words_again};
 
     ghost Value = { List (Option Piece) };
 

@@ -94,17 +94,17 @@ impl Model for Position {
 
     ghost Value = { Parts };
 
-    ghost use Rattle.chess_rules.specs.Kept.{IsKept, parts_of, kept};
+    ghost use Rattle.chess_rules.specs.StoredPosition.{FitsPosition, parts_of, store_of};
 
     ghost view = { parts_of };
 
-    ghost invariant = { IsKept };
+    ghost invariant = { FitsPosition };
 
-    ghost inverse = { kept };
+    ghost inverse = { store_of };
 
-    ghost use Rattle.chess_rules.specs.Kept.{kept_again};
+    ghost use Rattle.chess_rules.specs.StoredPosition.{store_of_parts};
 
-    ghost inverse_ok = { kept_again };
+    ghost inverse_ok = { store_of_parts };
 }
 
 impl Position {

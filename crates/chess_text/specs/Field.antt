@@ -24,11 +24,11 @@ or_dash [] = codes "-"
 or_dash (c ∷ s) = c ∷ s
 
 -- The letter of one right, if the side has it: K is 75, Q is 81, k is 107, q is 113.
-abbrev pub held : Bool → ℕ → List ℕ
-held b c = if b then c ∷ [] else []
+abbrev pub right_letter : Bool → ℕ → List ℕ
+right_letter b c = if b then c ∷ [] else []
 
 abbrev pub rights_text : Rights → List ℕ
-rights_text r = or_dash (held r.white_short 75 ++ held r.white_long 81 ++ held r.black_short 107 ++ held r.black_long 113)
+rights_text r = or_dash (right_letter r.white_short 75 ++ right_letter r.white_long 81 ++ right_letter r.black_short 107 ++ right_letter r.black_long 113)
 
 abbrev pub has_letter : ℕ → List ℕ → Bool
 has_letter c s = list_any (λ d. d == c) s

@@ -21,7 +21,7 @@ use Rattle.chess_text.specs.Fen.{SpellsBoard, SpellsNumber, Fen, field, read, fe
 use Rattle.chess_text.specs.Form.{Spells, is_form, form_of}
 use Rattle.chess_text.specs.Letter.{letter, file_letter, rank_digit, square_text}
 use Rattle.chess_text.specs.Reads.{agrees, reads}
-use Rattle.chess_text.specs.San.{rivals, told_apart, has_rivals, capture_text, mark, san}
+use Rattle.chess_text.specs.San.{rivals, disambiguation, has_rivals, capture_text, mark, san}
 
 -- a text is read as the position that it spells
 abbrev pub ReadsFen : Type 0
@@ -101,8 +101,8 @@ SingleReading =
     (p : Parts) (m : Move) → IsTrue (is_position p) → IsTrue (is_legal p m) → Names p (san p m) m × ((n : Move) → Names p (san p m) n → n ≡ m)
 
 -- the disambiguations of an origin, in their order (PGN 8.2.3.4)
-abbrev pub steps_apart : Square → List (List ℕ)
-steps_apart s = [] ∷ (file_letter s.file ∷ []) ∷ (rank_digit s.rank ∷ []) ∷ square_text s ∷ []
+abbrev pub disambiguations : Square → List (List ℕ)
+disambiguations s = [] ∷ (file_letter s.file ∷ []) ∷ (rank_digit s.rank ∷ []) ∷ square_text s ∷ []
 
 -- the text of the move of a queen, rook, bishop or knight with this disambiguation
 abbrev pub text_with : Parts → Kind → Move → List ℕ → List ℕ
@@ -114,6 +114,6 @@ abbrev pub ShorterIsAmbiguous : Type 0
 ShorterIsAmbiguous =
     (p : Parts) (k : Kind) (m : Move) (i j : ℕ)
     → IsTrue (is_legal p m) → IsTrue (own p k m.from) → IsTrue (has_rivals k)
-    → i < j → j < 4 → told_apart m.from (rivals p k m) ≡ slice_index_or (steps_apart m.from) j []
-    → Names p (text_with p k m (slice_index_or (steps_apart m.from) i [])) m
-    × ((n : Move) × (n ≢ m) × Names p (text_with p k m (slice_index_or (steps_apart m.from) i [])) n)
+    → i < j → j < 4 → disambiguation m.from (rivals p k m) ≡ slice_index_or (disambiguations m.from) j []
+    → Names p (text_with p k m (slice_index_or (disambiguations m.from) i [])) m
+    × ((n : Move) × (n ≢ m) × Names p (text_with p k m (slice_index_or (disambiguations m.from) i [])) n)

@@ -35,12 +35,12 @@ on_rank s others = list_any (λ r. r.rank == s.rank) others
 
 -- Nothing, if there is no rival; else the file, if no rival is on it; else the rank, if no rival is
 -- on it; else both. (8.2.3.4)
-abbrev pub apart_by : Square → Bool → Bool → Bool → List ℕ
-apart_by s any file rank =
+abbrev pub disambiguation_by : Square → Bool → Bool → Bool → List ℕ
+disambiguation_by s any file rank =
     if not any then [] else if not file then file_letter s.file ∷ [] else if not rank then rank_digit s.rank ∷ [] else square_text s
 
-abbrev pub told_apart : Square → List Square → List ℕ
-told_apart s others = apart_by s (list_any (λ r. true) others) (on_file s others) (on_rank s others)
+abbrev pub disambiguation : Square → List Square → List ℕ
+disambiguation s others = disambiguation_by s (list_any (λ r. true) others) (on_file s others) (on_rank s others)
 
 -- a piece is taken (FIDE 3.1.1, 3.7.3)
 abbrev pub is_capture : Parts → Move → Bool
@@ -77,7 +77,7 @@ pawn_text p m = pawn_capture (is_capture p m) m ++ square_text m.to ++ promotion
 
 -- of a queen, a rook, a bishop or a knight
 abbrev pub officer_text : Kind → Parts → Move → List ℕ
-officer_text k p m = (letter k ∷ []) ++ told_apart m.from (rivals p k m) ++ capture_text p m ++ square_text m.to
+officer_text k p m = (letter k ∷ []) ++ disambiguation m.from (rivals p k m) ++ capture_text p m ++ square_text m.to
 
 abbrev pub kind_text : Kind → Parts → Move → List ℕ
 kind_text King p m = king_text p m
@@ -118,8 +118,8 @@ abbrev pub piece_pairs : Option Piece → Parts → Move → ℕ
 piece_pairs None p m = 0
 piece_pairs (Some x) p m = kind_pairs x.kind p m
 
-abbrev pub apart_pairs : Parts → Move → ℕ
-apart_pairs p m = piece_pairs (at p.board m.from) p m
+abbrev pub disambiguation_pairs : Parts → Move → ℕ
+disambiguation_pairs p m = piece_pairs (at p.board m.from) p m
 
 -- How many pairs are tried for the mark: their count is n before and m after it, and q is the
 -- position after the move. If the move does not give check, no pair is tried. If it does, as many

@@ -53,7 +53,7 @@ pub fn write_san(position: &Position, played: &Played, probes: &mut Probes) -> A
     ensures some { 0 < length result.items }
     ensures short { length result.items ≤ 7 }
     ensures pairs { MarkPairs played.now.next
-        (probes.old + spec.apart_pairs position.now played.now.mv) probes.new }
+        (probes.old + spec.disambiguation_pairs position.now played.now.mv) probes.new }
     ensures bound { probes.new ≤ probes.old + 1032 }
 {
     let mut text = unmarked(position, &played.mv, probes);
@@ -85,7 +85,7 @@ fn unmarked(position: &Position, mv: &Move, probes: &mut Probes) -> ArrayVec<u8,
     ensures text { result.items ≡ spec.unmarked position.now mv.now }
     ensures some { 0 < length result.items }
     ensures short { length result.items ≤ 6 }
-    ensures pairs { probes.new ≡ probes.old + spec.apart_pairs position.now mv.now }
+    ensures pairs { probes.new ≡ probes.old + spec.disambiguation_pairs position.now mv.now }
     ensures few { probes.new ≤ probes.old + 8 }
 {
     let Some(piece) = position.at(mv.from) else {
@@ -271,7 +271,7 @@ fn is_rival(position: &Position, mv: &Move, origin: Square, probes: &mut Probes)
 fn push_disambiguation(text: &mut ArrayVec<u8, 7>, from: Square, rivals: Rivals)
     requires { length text.old.items ≤ 5 }
     ensures text { text.new.items ≡ text.old.items
-        ++ spec.apart_by from rivals.any rivals.on_file rivals.on_rank }
+        ++ spec.disambiguation_by from rivals.any rivals.on_file rivals.on_rank }
     ensures short { length text.new.items ≤ length text.old.items + 2 }
 {
     if rivals.any && (!rivals.on_file || rivals.on_rank) {

@@ -1,4 +1,4 @@
 -- Lemmas on the memory that a caller is given.
-pub mod Padding
-pub mod Filling
-pub mod Converting
+pub mod ConversionToBuffer
+pub mod MoreBytesBehind
+pub mod ZerosBehind

@@ -40,7 +40,7 @@ ends [] rises = tt
 ends (t ∷ []) rises = tt
 ends (t ∷ u ∷ ts) rises = (not_end t.kind rises.0, ends (u ∷ ts) rises.2)
 
--- One token, by what it is refused for, and by whether it shows a difference.
+-- One token, by what it is rejected for, and by whether it shows a difference.
 abbrev after_marks : Profile → Progress → Token → List Token → Option Reason → List Mark
 after_marks p b t ts (Some reason) = []
 after_marks p b t ts None = mark_at t.at (next b.part t.kind) ++ marks_from p (progress_after b t) ts
@@ -92,7 +92,7 @@ no_mark : (p : Profile) (b : Progress) (ts : List Token) → follow p [] b ts �
 no_mark p b [] = refl
 no_mark p b (t ∷ ts) = refl
 
--- a token that neither is refused nor shows a difference
+-- a token that neither is rejected nor shows a difference
 unchanged : (p : Profile) (m : Mark) (b : Progress) (t : Token) (n : Next) → refusal p b.part t.kind ≡ None → next b.part t.kind ≡ n → is_other m n t ≡ false
     → is_changed p m b.part t ≡ false
 unchanged p m b t n free leads same = ap (λ (o : Option Reason). is_some o || is_other m (next b.part t.kind) t) free ∙ ap (λ (x : Next). is_other m x t) leads ∙ same

@@ -39,7 +39,7 @@ pub record IsTotalled (p : Profile) (s : List ℕ) (t : Totals) (before after : 
   pub converted : IsConverted p s (verdict_in t) before after
   pub probes : CountsProbes p s t.most_probes
 
--- After the bytes u, of which nothing is refused, no more are read: what they decide is written.
+-- After the bytes u, of which nothing is rejected, no more are read: what they decide is written.
 pub record ReadsNoMore (p : Profile) (u : List ℕ) (before after : Option (List ℕ)) : Type 0 where
   pub passes : (read p (decided u)).fault ≡ None
   pub appended : Appends before after (due p (decided u))

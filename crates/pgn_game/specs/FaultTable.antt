@@ -83,8 +83,8 @@ abbrev pub is_before_movetext : Part → Bool
 is_before_movetext part = is_at Between part || is_at AfterTags part
 
 -- the stages at which movetext can begin or go on
-abbrev pub is_outside_pairs : Part → Bool
-is_outside_pairs part = is_before_movetext part || is_at InMovetext part
+abbrev pub is_outside_tag_pairs : Part → Bool
+is_outside_tag_pairs part = is_before_movetext part || is_at InMovetext part
 
 -- letters, digits and _ (PGN 8.1)
 abbrev pub in_name : ℕ → Bool
@@ -112,11 +112,11 @@ abbrev pub is_number : List ℕ → Bool
 is_number s = list_all is_digit s
 
 -- the levels that the items so far leave, and the position there
-abbrev pub levels_in : Part → Levels
-levels_in part = levels_of part.items
+abbrev pub levels_of_part : Part → Levels
+levels_of_part part = levels_of part.items
 
 abbrev pub position_in : Part → Parts
-position_in part = here (start_of part.pairs) (levels_in part)
+position_in part = here (start_of part.pairs) (levels_of_part part)
 
 -- it is none of the texts of a move; no legal move agrees; more than one does; one does
 abbrev pub is_no_form : Option (Result Played SanFault) → Bool
@@ -147,12 +147,12 @@ is_at_limit p = is_black_to_move p && (p.full == 99999)
 -- FEN and SetUp (PGN 9.7).
 
 -- the field because of which a value is no FEN
-abbrev pub field_of : Result Parts FenFault → Option ℕ
-field_of (Ok p) = None
-field_of (Err fault) = Some fault.field
+abbrev pub fen_fault_field : Result Parts FenFault → Option ℕ
+fen_fault_field (Ok p) = None
+fen_fault_field (Err fault) = Some fault.field
 
 abbrev pub fen_field : List ℕ → Option ℕ
-fen_field value = field_of (position_of value)
+fen_field value = fen_fault_field (position_of value)
 
 abbrev pub fen_field_of : Kind → ℕ
 fen_field_of (tokens.str value) = unwrap_or (fen_field value) 0
@@ -207,15 +207,15 @@ rows p part k =
     ∷ row SetUpWithoutFen (is_at AfterTags part && not (is_left_bracket k || is_end k) && lacks_fen part.pairs)
     ∷ row ReducedFen (is_at AfterLeftBracket part && is_reduced p.mode && is_symbol_with (λ name. bytes_eq name (codes "FEN")) k)
     ∷ row TagInMovetext (is_at InMovetext part && is_left_bracket k)
-    ∷ row NotAMove (is_outside_pairs part && (is_right_bracket k || is_string k || is_move_with is_no_form part k))
-    ∷ row IllegalMove (is_outside_pairs part && is_move_with is_no_move part k)
-    ∷ row AmbiguousMove (is_outside_pairs part && is_move_with is_many_moves part k)
-    ∷ row MoveLimit (is_outside_pairs part && is_move_with is_one_move part k && is_at_limit (position_in part))
-    ∷ row NoMoveBefore (is_outside_pairs part && is_left_paren k && not (levels_in part).present.has_own_move)
-    ∷ row TooDeep (is_outside_pairs part && is_left_paren k && nat_le p.depth (depth (levels_in part)))
-    ∷ row UnmatchedClose (is_outside_pairs part && is_right_paren k && (depth (levels_in part) == 0))
-    ∷ row MarkerInVariation (is_outside_pairs part && is_marker k && nat_le 1 (depth (levels_in part)))
-    ∷ row ResultDiffers (is_outside_pairs part && has_other_result p.missing_result part k && (depth (levels_in part) == 0))
+    ∷ row NotAMove (is_outside_tag_pairs part && (is_right_bracket k || is_string k || is_move_with is_no_form part k))
+    ∷ row IllegalMove (is_outside_tag_pairs part && is_move_with is_no_move part k)
+    ∷ row AmbiguousMove (is_outside_tag_pairs part && is_move_with is_many_moves part k)
+    ∷ row MoveLimit (is_outside_tag_pairs part && is_move_with is_one_move part k && is_at_limit (position_in part))
+    ∷ row NoMoveBefore (is_outside_tag_pairs part && is_left_paren k && not (levels_of_part part).present.has_own_move)
+    ∷ row TooDeep (is_outside_tag_pairs part && is_left_paren k && nat_le p.depth (depth (levels_of_part part)))
+    ∷ row UnmatchedClose (is_outside_tag_pairs part && is_right_paren k && (depth (levels_of_part part) == 0))
+    ∷ row MarkerInVariation (is_outside_tag_pairs part && is_marker k && nat_le 1 (depth (levels_of_part part)))
+    ∷ row ResultDiffers (is_outside_tag_pairs part && has_other_result p.missing_result part k && (depth (levels_of_part part) == 0))
     ∷ row UnexpectedEnd ((is_at AfterTags part || is_at InMovetext part) && is_end k)
     ∷ []
 

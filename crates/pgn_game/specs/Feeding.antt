@@ -55,13 +55,13 @@ abbrev pub profile_of : ℕ → ℕ → Mode → Profile
 profile_of most depth mode = record { tags = most; depth = depth; mode = mode; missing_result = counts_as (codes "*") }
 
 -- what the reader still holds of a game
-abbrev pub held_by : Reading → AtHand
-held_by reading = record { pairs = reading.tags.held; plies = reading.text.plies; position = reading.text.levels.present.present }
+abbrev pub game_in_reader : Reading → AtHand
+game_in_reader reading = record { pairs = reading.tags.held; plies = reading.text.plies; position = reading.text.levels.present.present }
 
 -- the same, while a game is at hand
-abbrev pub held_if : Bool → Reading → Option AtHand
-held_if true reading = Some (held_by reading)
-held_if false reading = None
+abbrev pub game_in_reader_if : Bool → Reading → Option AtHand
+game_in_reader_if true reading = Some (game_in_reader reading)
+game_in_reader_if false reading = None
 
 -- What a converter keeps to. Before a fault its reader has not failed, and its counts stay small: a
 -- byte ends at most two tokens, so the games fit, and the moves; the end is one token more. A game
@@ -96,10 +96,10 @@ abbrev pub play_moves : List Game → Bool
 play_moves games = list_any (λ g. has_move g.items) games
 
 -- a move is in one of the games, or in the part
-abbrev pub has_played : Progress → Bool
-has_played b = play_moves b.games || has_move b.part.items
+abbrev pub has_played_move : Progress → Bool
+has_played_move b = play_moves b.games || has_move b.part.items
 
--- The converter has read these tokens: none is refused, its reader agrees with the part that they
+-- The converter has read these tokens: none is rejected, its reader agrees with the part that they
 -- leave, and its counts and the game at hand are theirs. It has tried at least one pair for a move
 -- once a move was played.
 pub record HasRead (p : Profile) (c : Converter) (given : List Token) : Type 0 where
@@ -109,7 +109,7 @@ pub record HasRead (p : Profile) (c : Converter) (given : List Token) : Type 0 w
   pub agrees : Agrees c.reading (read p given).progress.part
   pub games : c.games ≡ length (read p given).progress.games
   pub plies : whole_plies c.reading ≡ sum (map plies_of (read p given).progress.games)
-  pub probed : IsTrue (has_played (read p given).progress) → 0 < c.reading.most_probes
+  pub probed : IsTrue (has_played_move (read p given).progress) → 0 < c.reading.most_probes
   pub tried : MostTried p given c.reading.most_probes
   pub at_hand : IsLast c.at_hand (read p given).progress.games
 
@@ -119,7 +119,7 @@ pub record Stands (p : Profile) (c : Converter) (u : List ℕ) (b : Option ℕ) 
   pub lexer : StandsAfter c.lexer u b given
   pub has_read : HasRead p c given
 
--- Where a write failed: of what is due for the tokens up to `token`, of which none is refused, a
+-- Where a write failed: of what is due for the tokens up to `token`, of which none is rejected, a
 -- front was written, not all, and at least what is due for those before it. So it is the first
 -- token up to which more is due than was written.
 pub record StopsWriting (p : Profile) (given tokens : List Token) (at : ℕ) (before after : Option (List ℕ)) : Type 0 where
@@ -137,7 +137,7 @@ pub record StopsWriting (p : Profile) (given tokens : List Token) (at : ℕ) (be
   pub appended : Appends before after (take count text)
 
 -- How reading stops among these tokens, of which the first were read before: at the one that is
--- refused first, with all written that is due for those before it; or where a write failed.
+-- rejected first, with all written that is due for those before it; or where a write failed.
 pub data Stops (p : Profile) (given tokens : List Token) (before after : Option (List ℕ)) : Fault → Type 0 where
   refused : (f : Fault) → (read p tokens).fault ≡ Some f → Gains p given tokens before after → Stops p given tokens before after f
   unwritten : (at : ℕ) → StopsWriting p given tokens at before after → Stops p given tokens before after (record { at = at; reason = WriteFault })
@@ -173,7 +173,7 @@ pub record FedGame (p : Profile) (u : List ℕ) (given : List Token) (piece : Li
   pub at_hand : new.at_hand ≡ Some (hand_of game)
   pub gains : Gains p given (tokens ++ marker ∷ []) before after
 
--- a token that is known by now is refused, or a write failed
+-- a token that is known by now is rejected, or a write failed
 pub record FedFault (p : Profile) (u : List ℕ) (b : Option ℕ) (given : List Token) (piece : List ℕ) (f : Fault) (before after : Option (List ℕ)) : Type 0 where
   pub tokens : List Token
   pub next : AreNext (u ++ piece) (still b piece) tokens
@@ -185,9 +185,9 @@ games_before {p} {given} {tokens} (refused f fault gains) = (read p tokens).prog
 games_before {p} (unwritten at writing) = (read p writing.front).progress.games
 
 -- what was read before that
-abbrev pub begun_before : {p : Profile} {given tokens : List Token} {before after : Option (List ℕ)} {f : Fault} → Stops p given tokens before after f → Progress
-begun_before {p} {given} {tokens} (refused f fault gains) = (read p tokens).progress
-begun_before {p} (unwritten at writing) = (read p writing.front).progress
+abbrev pub progress_before : {p : Profile} {given tokens : List Token} {before after : Option (List ℕ)} {f : Fault} → Stops p given tokens before after f → Progress
+progress_before {p} {given} {tokens} (refused f fault gains) = (read p tokens).progress
+progress_before {p} (unwritten at writing) = (read p writing.front).progress
 
 -- the most pairs that were tried for one token, up to the one at fault and with it
 abbrev pub MostAtStop : {p : Profile} {given tokens : List Token} {before after : Option (List ℕ)} {f : Fault} → Stops p given tokens before after f → ℕ → Type 0
@@ -200,7 +200,7 @@ MostAtStop {p} (unwritten at writing) most =
 pub record CountsAtStop {p : Profile} {given tokens : List Token} {before after : Option (List ℕ)} {f : Fault}
     (stops : Stops p given tokens before after f) (most : ℕ) : Type 0 where
   pub tried : MostAtStop stops most
-  pub probed : IsTrue (has_played (begun_before stops)) → 0 < most
+  pub probed : IsTrue (has_played_move (progress_before stops)) → 0 < most
 
 -- and before it no game was finished
 pub record FedToFault (p : Profile) (u : List ℕ) (b : Option ℕ) (given : List Token) (piece : List ℕ) (f : Fault) (most : ℕ) (before after : Option (List ℕ)) : Type 0 where
@@ -249,7 +249,7 @@ pub record FedWhole (p : Profile) (u : List ℕ) (given : List Token) (piece : L
   pub decided : tokens ≡ decided (u ++ piece)
   pub gains : Gains p given tokens before after
 
--- all tokens that the bytes u decide were read, none is refused, and what they gain was written
+-- all tokens that the bytes u decide were read, none is rejected, and what they gain was written
 pub record ReadsUpTo (p : Profile) (given : List Token) (u : List ℕ)
     (before after : Option (List ℕ)) : Type 0 where
   pub tokens : List Token
@@ -292,7 +292,7 @@ pub record Finishes (p : Profile) (u : List ℕ) (given : List Token) (new : Con
   pub none_at_hand : finished_game ≡ false → new.at_hand ≡ None
   pub gains : Gains p given (tokens_of u) before after
 
--- The text u has ended, but one of its tokens is refused, or a write failed; the games before that
+-- The text u has ended, but one of its tokens is rejected, or a write failed; the games before that
 -- are counted.
 pub record FinishesToFault (p : Profile) (u : List ℕ) (given : List Token) (new : Converter) (f : Fault) (before after : Option (List ℕ)) : Type 0 where
   pub stops : Stops p given (tokens_of u) before after f

@@ -22,29 +22,29 @@ use Rattle.pgn_game.specs.Text.{torn}
 use Rattle.pgn_game.specs.FaultTable.{is_comment, is_end}
 use Rattle.pgn_game.specs.Progress.{Next}
 use Rattle.pgn_game.specs.Due.{text_next}
-use Rattle.pgn_game.specs.Movetext.{begins_at}
+use Rattle.pgn_game.specs.Movetext.{movetext_from}
 use Rattle.pgn_game.specs.Putting.{Device, TriesItem}
 use Rattle.pgn_game.specs.Reading.{Reading, Agrees, Leads, Stays, CountsWrites, plies_next, whole_plies}
-use Rattle.pgn_game.specs.Judging.{after, is_final, item_of}
+use Rattle.pgn_game.specs.Judging.{after, is_final, model_item}
 
 -- A game begins.
 
 -- nothing is left of the game before, and movetext may come as it does after pairs
-abbrev pub begun : Reading → Reading
-begun old = record old {
+abbrev pub at_game_start : Reading → Reading
+at_game_start old = record old {
   stage = AfterTags;
   tags = record { held = []; pending_name = None };
-  text = begins_at first_position;
+  text = movetext_from first_position;
   earlier_plies = old.earlier_plies + old.text.plies;
 }
 
 -- a token between games that begins one: neither a comment nor the end
-abbrev pub begins : Stage → Kind → Bool
-begins Between k = not (is_comment k || is_end k)
-begins _ k = false
+abbrev pub begins_game : Stage → Kind → Bool
+begins_game Between k = not (is_comment k || is_end k)
+begins_game _ k = false
 
-abbrev pub readied : Reading → Kind → Reading
-readied old k = elim (begins old.stage k) [ true ↦ begun old | false ↦ old ]
+abbrev pub ready_for_token : Reading → Kind → Reading
+ready_for_token old k = elim (begins_game old.stage k) [ true ↦ at_game_start old | false ↦ old ]
 
 -- What a call leaves as it was, or nearly.
 pub record Keeps (old new : Reading) : Type 0 where
@@ -82,13 +82,13 @@ pub data UnwrittenPairs (old : Reading) (i : Item) (before after : ℕ) : Type 0
 
 abbrev pub TriesJudged : Reading → Judged → Result Accepted Reason → ℕ → ℕ → Type 0
 TriesJudged old (InText (Put i)) (Ok accepted) before after =
-    TriesItem old.profile.mode old.text (item_of i) before after
+    TriesItem old.profile.mode old.text (model_item i) before after
 TriesJudged old (InText (Put i)) (Err reason) before after =
-    UnwrittenPairs old (item_of i) before after
+    UnwrittenPairs old (model_item i) before after
 TriesJudged old j r before after = after ≡ before
 
 -- What putting comes to, for each part that the reader agrees with.
-pub record Puts (old : Reading) (j : Judged) (new : Reading) (r : Result Accepted Reason)
+pub record PutResult (old : Reading) (j : Judged) (new : Reading) (r : Result Accepted Reason)
     (d : Device) : Type 0 where
   pub goes : (part : Part) → Agrees old part → GoesTo old part (after j part) new r d
   pub keeps : Keeps old new

@@ -32,7 +32,7 @@ place_of name [] = 0
 place_of name (p ∷ ps) = elim (comes_before name p.name) [ true ↦ 0 | false ↦ 1 + place_of name ps ]
 
 -- how the pairs are held: at most so many, and one if a name has begun
-pub record AreHeld (most : ℕ) (ps : List Pair) (has_pending_name : Bool) : Type 0 where
+pub record FitsPairStore (most : ℕ) (ps : List Pair) (has_pending_name : Bool) : Type 0 where
   pub room : length ps ≤ most
   pub some : IsTrue has_pending_name → 0 < length ps
 

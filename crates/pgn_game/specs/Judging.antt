@@ -25,7 +25,7 @@ use Rattle.pgn_game.specs.MostTried.{CostsIf}
 use Rattle.pgn_game.specs.Game as games
 use Rattle.pgn_game.specs.Game.{Item, Game, Part}
 use Rattle.pgn_game.specs.Levels.{depth, start_of}
-use Rattle.pgn_game.specs.FaultTable.{refusal, marker_of, is_marker, is_number, is_score, has_other_result, is_move_with, is_no_form, is_no_move, is_many_moves, is_one_move, is_at_limit, levels_in, position_in}
+use Rattle.pgn_game.specs.FaultTable.{refusal, marker_of, is_marker, is_number, is_score, has_other_result, is_move_with, is_no_form, is_no_move, is_many_moves, is_one_move, is_at_limit, levels_of_part, position_in}
 use Rattle.pgn_game.specs.Progress.{Next, going, whole, at_stage, next, in_text}
 use Rattle.pgn_game.specs.Movetext.{Movetext, HoldsItems}
 use Rattle.pgn_game.specs.Reading.{Reading, Agrees, has_move, is_outside_the_table}
@@ -39,19 +39,19 @@ abbrev pub game_of : Part → List ℕ → Game
 game_of part marker = record { pairs = part.pairs; items = part.items; marker = marker }
 
 -- an item of the code is one of the model
-abbrev pub item_of : CodeItem → Item
-item_of (Move played) = games.move played.now.mv
-item_of (Glyph n) = games.glyph n
-item_of CommentOpen = games.comment_open
-item_of (Word text) = games.word text.now
-item_of CommentClose = games.comment_close
-item_of Open = games.open_variation
-item_of Close = games.close_variation
+abbrev pub model_item : CodeItem → Item
+model_item (Move played) = games.move played.now.mv
+model_item (Glyph n) = games.glyph n
+model_item CommentOpen = games.comment_open
+model_item (Word text) = games.word text.now
+model_item CommentClose = games.comment_close
+model_item Open = games.open_variation
+model_item Close = games.close_variation
 
 -- where a token leads that means this
 abbrev pub after_entry : Entry → Part → Next
 after_entry Number part = going (with_items part [])
-after_entry (Put i) part = going (with_items part (item_of i ∷ []))
+after_entry (Put i) part = going (with_items part (model_item i ∷ []))
 after_entry (Marker marker) part = whole (game_of part marker.now)
 
 abbrev pub after : Judged → Part → Next
@@ -202,9 +202,9 @@ or_else test reason rest = elim test [ true ↦ Some reason | false ↦ rest ]
 -- a marker outside variations that is not the Result
 abbrev pub is_other_result : Profile → Part → Kind → Bool
 is_other_result p part k =
-    has_other_result p.missing_result part k && (depth (levels_in part) == 0)
+    has_other_result p.missing_result part k && (depth (levels_of_part part) == 0)
 
--- What a token of movetext is refused for, by its kind, each test before the next. A `[` and the
+-- What a token of movetext is rejected for, by its kind, each test before the next. A `[` and the
 -- end are not for movetext.
 abbrev pub text_refusal : Profile → Part → Kind → Option Reason
 text_refusal p part tokens.left_bracket = Some NotAMove
@@ -212,11 +212,11 @@ text_refusal p part tokens.end = Some NotAMove
 text_refusal p part tokens.right_bracket = Some NotAMove
 text_refusal p part (tokens.str text) = Some NotAMove
 text_refusal p part tokens.left_paren =
-    or_else (not (levels_in part).present.has_own_move) NoMoveBefore
-    (or_else (nat_le p.depth (depth (levels_in part))) TooDeep None)
-text_refusal p part tokens.right_paren = or_else (depth (levels_in part) == 0) UnmatchedClose None
+    or_else (not (levels_of_part part).present.has_own_move) NoMoveBefore
+    (or_else (nat_le p.depth (depth (levels_of_part part))) TooDeep None)
+text_refusal p part tokens.right_paren = or_else (depth (levels_of_part part) == 0) UnmatchedClose None
 text_refusal p part tokens.asterisk =
-    or_else (nat_le 1 (depth (levels_in part))) MarkerInVariation
+    or_else (nat_le 1 (depth (levels_of_part part))) MarkerInVariation
     (or_else (is_other_result p part tokens.asterisk) ResultDiffers None)
 text_refusal p part (tokens.symbol s) =
     or_else (is_move_with is_no_form part (tokens.symbol s)) NotAMove
@@ -224,7 +224,7 @@ text_refusal p part (tokens.symbol s) =
     (or_else (is_move_with is_many_moves part (tokens.symbol s)) AmbiguousMove
     (or_else (is_move_with is_one_move part (tokens.symbol s) && is_at_limit (position_in part))
     MoveLimit
-    (or_else (is_marker (tokens.symbol s) && nat_le 1 (depth (levels_in part))) MarkerInVariation
+    (or_else (is_marker (tokens.symbol s) && nat_le 1 (depth (levels_of_part part))) MarkerInVariation
     (or_else (is_other_result p part (tokens.symbol s)) ResultDiffers None)))))
 text_refusal p part k = None
 

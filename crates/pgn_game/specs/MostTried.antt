@@ -6,7 +6,7 @@
 -- has more moves than one, and where a check is no mate.
 use Rattle.std.specs.Prelude.{◌≡◌, ℕ, ◌+◌, max, Bool, true, false, ◌&&◌, ◌||◌, not, List, [], ◌∷◌, ◌==◌, length, drop, Option, None, Some}
 use Rattle.chess_rules.specs.declared.position.Parts.{Parts}
-use Rattle.chess_text.specs.San.{MarkPairs, apart_pairs}
+use Rattle.chess_text.specs.San.{MarkPairs, disambiguation_pairs}
 use Rattle.pgn_lexer.specs.Tokens as tokens
 use Rattle.pgn_lexer.specs.Tokens.{Kind, Token}
 use Rattle.pgn_game.specs.declared.mode.Mode.{Mode}
@@ -18,21 +18,21 @@ use Rattle.pgn_game.specs.Chess.{play}
 use Rattle.pgn_game.specs.Game.{Item, move, Part}
 use Rattle.pgn_game.specs.Levels.{depth}
 use Rattle.pgn_game.specs.Text.{is_move}
-use Rattle.pgn_game.specs.FaultTable.{refusal, is_at, is_number, is_outside_pairs, is_score, levels_in, position_in}
+use Rattle.pgn_game.specs.FaultTable.{refusal, is_at, is_number, is_outside_tag_pairs, is_score, levels_of_part, position_in}
 use Rattle.pgn_game.specs.Progress.{Next, going, whole, next, Progress, no_progress, progress_after}
 use Rattle.pgn_game.specs.Tried.{Costs}
 
 -- The move of a symbol is sought where movetext can begin or goes on, unless the symbol is a marker
 -- or a number; also if another row of the table rejects the symbol.
 abbrev pub is_sought : Part → List ℕ → Bool
-is_sought part s = is_outside_pairs part && not (is_score s || is_number s)
+is_sought part s = is_outside_tag_pairs part && not (is_score s || is_number s)
 
 -- n pairs are tried for the move of a text, if it is sought
 abbrev pub CostsIf : Bool → Parts → List ℕ → ℕ → Type 0
 CostsIf true here s n = Costs here s n
 CostsIf false here s n = n ≡ 0
 
--- n pairs are tried for the move of a token, also where it is refused then
+-- n pairs are tried for the move of a token, also where it is rejected then
 abbrev pub CostsToFind : Part → Kind → ℕ → Type 0
 CostsToFind part (tokens.symbol s) n = CostsIf (is_sought part s) (position_in part) s n
 CostsToFind part k n = n ≡ 0
@@ -46,7 +46,7 @@ is_written Reduced deep i = is_move i && (deep == 0)
 -- With n pairs tried before an item is written, there are m after it. A move that is written takes
 -- one for each candidate of its piece, unless this is a king or a pawn, and those of its mark.
 abbrev pub CostsToWrite : Bool → Parts → Item → ℕ → ℕ → Type 0
-CostsToWrite true here (move mv) n m = MarkPairs (play here mv) (n + apart_pairs here mv) m
+CostsToWrite true here (move mv) n m = MarkPairs (play here mv) (n + disambiguation_pairs here mv) m
 CostsToWrite _ here i n m = m ≡ n
 
 -- the items that a token adds to its part: one, or none
@@ -59,17 +59,17 @@ abbrev pub CostsToAdd : Mode → ℕ → Parts → List Item → ℕ → ℕ →
 CostsToAdd mode deep here [] n m = m ≡ n
 CostsToAdd mode deep here (i ∷ more) n m = CostsToWrite (is_written mode deep i) here i n m
 
--- of a token that is refused nothing is written
+-- of a token that is rejected nothing is written
 abbrev pub CostsUnlessRefused : Option Reason → Mode → ℕ → Parts → List Item → ℕ → ℕ → Type 0
 CostsUnlessRefused None mode deep here items n m = CostsToAdd mode deep here items n m
 CostsUnlessRefused (Some reason) mode deep here items n m = m ≡ n
 
 -- For a token after a part n pairs are tried: first to find its move, then, unless the token is
--- refused, to write it.
+-- rejected, to write it.
 pub record Tries (p : Profile) (part : Part) (k : Kind) (n : ℕ) : Type 0 where
   pub found : ℕ
   pub finds : CostsToFind part k found
-  pub writes : CostsUnlessRefused (refusal p part k) p.mode (depth (levels_in part))
+  pub writes : CostsUnlessRefused (refusal p part k) p.mode (depth (levels_of_part part))
       (position_in part) (added part (next part k)) found n
 
 -- The same for a token whose text could not be written: its pairs were tried before. But where
@@ -80,7 +80,7 @@ pub data TriesUnwritten (p : Profile) (part : Part) (k : Kind) (n : ℕ) : Type 
   in_section : is_at InMovetext part ≡ false → CostsToFind part k n → TriesUnwritten p part k n
 
 -- The most pairs that are tried for one of these tokens, which are read from here on. No token is
--- read behind the first that is refused.
+-- read behind the first that is rejected.
 pub data MostFrom (p : Profile) : Progress → List Token → ℕ → Type 0 where
   none : (b : Progress) → MostFrom p b [] 0
   refused : (b : Progress) (t : Token) (ts : List Token) (n : ℕ) (reason : Reason)

@@ -12,66 +12,66 @@ use Rattle.pgn_game.specs.Levels.{Level as ModelLevel, Levels as ModelLevels, le
 use Rattle.pgn_game.specs.Text.{Placed, placed_from, is_move, written_items, tokens_out}
 
 -- a level: the present position, and the one before its last move, if it has one
-pub record HeldLevel : Type 0 where
+pub record StoredLevel : Type 0 where
   pub present : Parts
   pub before : Option Parts
 
 -- the level at hand, and those around it, the nearest first
-pub record HeldLevels : Type 0 where
-  pub present : HeldLevel
-  pub around : List HeldLevel
+pub record StoredLevels : Type 0 where
+  pub present : StoredLevel
+  pub around : List StoredLevel
 
-abbrev pub level_at : Parts → HeldLevel
+abbrev pub level_at : Parts → StoredLevel
 level_at start = record { present = start; before = None }
 
-abbrev pub only_level : Parts → HeldLevels
+abbrev pub only_level : Parts → StoredLevels
 only_level start = record { present = level_at start; around = [] }
 
 -- The levels as they are kept: the game's own first, at least one, and at most so many.
-abbrev pub level_of : CodeLevel → HeldLevel
+abbrev pub level_of : CodeLevel → StoredLevel
 level_of l = record { present = l.present; before = l.before }
 
-abbrev pub inside : HeldLevels → List CodeLevel → HeldLevels
+abbrev pub inside : StoredLevels → List CodeLevel → StoredLevels
 inside ls [] = ls
 inside ls (l ∷ more) = inside (record { present = level_of l; around = ls.present ∷ ls.around }) more
 
-abbrev pub levels_in : List CodeLevel → HeldLevels
-levels_in [] = only_level first_position
-levels_in (l ∷ more) = inside (record { present = level_of l; around = [] }) more
+abbrev pub code_levels : List CodeLevel → StoredLevels
+code_levels [] = only_level first_position
+code_levels (l ∷ more) = inside (record { present = level_of l; around = [] }) more
 
-pub record AreHeld (most : ℕ) (levels : List CodeLevel) : Type 0 where
+pub record FitsLevelStore (most : ℕ) (levels : List CodeLevel) : Type 0 where
   pub some : 0 < length levels
   pub room : length levels ≤ most
 
 -- the nearest of the levels around has become the one at hand
-abbrev pub IsBackIn : List HeldLevel → HeldLevels → Type 0
+abbrev pub IsBackIn : List StoredLevel → StoredLevels → Type 0
 IsBackIn [] new = Unit {0}
 IsBackIn (l ∷ around) new = new ≡ record { present = l; around = around }
 
 -- What a contract sees of the movetext at hand.
 pub record Movetext : Type 0 where
-  pub levels : HeldLevels
+  pub levels : StoredLevels
   pub plies : ℕ
   pub is_after_move : Bool
 
 -- no item yet, from this position on
-abbrev pub begins_at : Parts → Movetext
-begins_at start = record { levels = only_level start; plies = 0; is_after_move = false }
+abbrev pub movetext_from : Parts → Movetext
+movetext_from start = record { levels = only_level start; plies = 0; is_after_move = false }
 
 -- so where a FEN told that position, and else as before
-abbrev pub begun_at : Option Parts → Movetext → Movetext
-begun_at None text = text
-begun_at (Some start) text = begins_at start
+abbrev pub movetext_after_fen : Option Parts → Movetext → Movetext
+movetext_after_fen None text = text
+movetext_after_fen (Some start) text = movetext_from start
 
 -- The levels of the definitions, as they are held: positions for moves.
 abbrev pub before_last : Parts → ModelLevel → Option Parts
 before_last start l = elim l.has_own_move [ true ↦ Some (replayed start (without_last l.trail)) | false ↦ None ]
 
-abbrev pub level_held : Parts → ModelLevel → HeldLevel
-level_held start l = record { present = replayed start l.trail; before = before_last start l }
+abbrev pub stored_level : Parts → ModelLevel → StoredLevel
+stored_level start l = record { present = replayed start l.trail; before = before_last start l }
 
-abbrev pub levels_held : Parts → ModelLevels → HeldLevels
-levels_held start ls = record { present = level_held start ls.present; around = map (level_held start) ls.around }
+abbrev pub stored_levels : Parts → ModelLevels → StoredLevels
+stored_levels start ls = record { present = stored_level start ls.present; around = map (stored_level start) ls.around }
 
 -- whether the last item that is written is a move
 abbrev pub ends_in_move : Bool → List Placed → Bool
@@ -81,7 +81,7 @@ ends_in_move is_after_move (i ∷ is) = ends_in_move (is_move i.item) is
 -- The movetext at hand is that of these items, of a game that begins there; and the layout holds
 -- their last line.
 pub record HoldsItems (mode : Mode) (start : Parts) (items : List Item) (text : Movetext) (layout : Layout) : Type 0 where
-  pub levels : text.levels ≡ levels_held start (levels_of items)
+  pub levels : text.levels ≡ stored_levels start (levels_of items)
   pub plies : text.plies ≡ length (main_moves items)
   pub is_after_move : text.is_after_move ≡ ends_in_move false (written_items mode (placed_from start first_level items))
   pub tokens : All IsToken (tokens_out mode start items)

@@ -30,14 +30,14 @@ abbrev pub at_stage : Stage → Part → Part
 at_stage stage part = record { stage = stage; pairs = part.pairs; name = part.name; items = part.items }
 
 -- the one move that a symbol names; a symbol that names none is rejected
-abbrev pub item_of : Option (Result Played SanFault) → List Item
-item_of None = []
-item_of (Some (Err fault)) = []
-item_of (Some (Ok played)) = games.move played.mv ∷ []
+abbrev pub move_item : Option (Result Played SanFault) → List Item
+move_item None = []
+move_item (Some (Err fault)) = []
+move_item (Some (Ok played)) = games.move played.mv ∷ []
 
 -- what a token of movetext adds: numbers and periods nothing (PGN 8.2.2.1)
 abbrev pub items_of : Part → Kind → List Item
-items_of part (tokens.symbol s) = elim (is_number s) [ true ↦ [] | false ↦ item_of (move_of (position_in part) s) ]
+items_of part (tokens.symbol s) = elim (is_number s) [ true ↦ [] | false ↦ move_item (move_of (position_in part) s) ]
 items_of part (tokens.glyph n) = games.glyph n ∷ []
 items_of part tokens.comment_open = games.comment_open ∷ []
 items_of part (tokens.word text) = games.word text ∷ []

@@ -12,9 +12,9 @@ use Rattle.pgn_game.specs.declared.mode.Mode.TheVariants.{Full, Reduced}
 use Rattle.pgn_game.specs.Chess.{is_black_to_move}
 use Rattle.pgn_game.specs.Game.{Item}
 use Rattle.pgn_game.specs.Text.{is_move, number_before, tokens_at, full_text}
-use Rattle.pgn_game.specs.Movetext.{Movetext, HeldLevels, HoldsItems, IsBackIn, level_at}
+use Rattle.pgn_game.specs.Movetext.{Movetext, StoredLevels, HoldsItems, IsBackIn, level_at}
 use Rattle.pgn_game.specs.MostTried.{CostsToWrite}
-use Rattle.pgn_game.specs.Judging.{item_of}
+use Rattle.pgn_game.specs.Judging.{model_item}
 
 -- A sink before and after a call: the bytes that it has taken, if it says so, and its count of
 -- failures.
@@ -35,7 +35,7 @@ device taken failures old new =
     }
 
 -- tokens are put in turn: what goes out, and the line that is held then
-pub record Puts {A E : Type 0} (tokens : List (List ℕ)) (layout new_layout : Layout)
+pub record PutsTokens {A E : Type 0} (tokens : List (List ℕ)) (layout new_layout : Layout)
     (result : Result A E) (d : Device) : Type 0 where
   pub text : Writes d.before d.after result (laid_from layout.line (map Put tokens)).written
   pub line : OnOk result (new_layout ≡ holding (laid_from layout.line (map Put tokens)).line)
@@ -77,7 +77,7 @@ abbrev pub plies_in : Item → ℕ → ℕ
 plies_in i depth = elim (is_move i) [ true ↦ counted_at depth | false ↦ 0 ]
 
 -- the levels that it leads to
-abbrev pub LeadsLevels : CodeItem → HeldLevels → HeldLevels → Type 0
+abbrev pub LeadsLevels : CodeItem → StoredLevels → StoredLevels → Type 0
 LeadsLevels (Move played) old new =
     new ≡ record {
       present = record { present = played.now.next; before = Some old.present.present };
@@ -92,7 +92,7 @@ LeadsLevels _ old new = new ≡ old
 -- An item is written, or left out. Where a write failed, nothing changes.
 pub record WritesItem {A E : Type 0} (mode : Mode) (i : Item) (text : Movetext) (layout : Layout)
     (new_text : Movetext) (new_layout : Layout) (result : Result A E) (d : Device) : Type 0 where
-  pub puts : Puts (tokens_if (writes mode (length text.levels.around) i) text i)
+  pub puts : PutsTokens (tokens_if (writes mode (length text.levels.around) i) text i)
       layout new_layout result d
   pub ends : MatchResult result (λ _. new_text ≡ written_text mode text i) (λ _. new_text ≡ text)
 
@@ -108,7 +108,7 @@ Rises old new = (old ≤ new) × (new ≤ old + 1032)
 -- Movetext goes on with an item, which may be written before.
 pub record GoesOn (i : CodeItem) (old new : Movetext) : Type 0 where
   pub levels : LeadsLevels i old.levels new.levels
-  pub plies : new.plies ≡ old.plies + plies_in (item_of i) (length old.levels.around)
+  pub plies : new.plies ≡ old.plies + plies_in (model_item i) (length old.levels.around)
   pub is_after_move : new.is_after_move ≡ old.is_after_move
 
 -- what an item adds to the lines that are full

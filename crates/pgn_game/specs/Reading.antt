@@ -19,7 +19,7 @@ use Rattle.pgn_game.specs.Holding.{TagPairs}
 use Rattle.pgn_game.specs.Game.{Item, Game, Part, no_part}
 use Rattle.pgn_game.specs.Levels.{start_of, plies_of, last_position}
 use Rattle.pgn_game.specs.Text.{is_move}
-use Rattle.pgn_game.specs.Movetext.{Movetext, HoldsItems, begins_at}
+use Rattle.pgn_game.specs.Movetext.{Movetext, HoldsItems, movetext_from}
 use Rattle.pgn_game.specs.Reason.{number_of}
 use Rattle.pgn_game.specs.FaultTable.{refusal, marker_of}
 use Rattle.pgn_game.specs.Progress.{Next, going, whole, next}
@@ -61,7 +61,7 @@ abbrev pub HoldsText : Stage → Reading → Part → Type 0
 HoldsText Between reading part = reading.layout ≡ holding []
 HoldsText InMovetext reading part =
     HoldsItems reading.profile.mode (start_of part.pairs) part.items reading.text reading.layout × (IsTrue (has_move part.items) → 0 < reading.most_probes)
-HoldsText _ reading part = (part.items ≡ []) × (reading.text ≡ begins_at (start_of part.pairs)) × (reading.layout ≡ holding [])
+HoldsText _ reading part = (part.items ≡ []) × (reading.text ≡ movetext_from (start_of part.pairs)) × (reading.layout ≡ holding [])
 
 -- The reader agrees with a part: its fields follow from it, but for what was left from the game
 -- before.
@@ -92,7 +92,7 @@ abbrev pub plies_next : Next → ℕ
 plies_next (going part) = 0
 plies_next (whole g) = plies_of g
 
--- where a token that is not refused leads
+-- where a token that is not rejected leads
 abbrev pub Leads : Next → Accepted → Reading → Type 0
 Leads (going part) More new = Agrees new part
 Leads (going part) Finished new = ⊥
@@ -107,7 +107,7 @@ pub record IsAccepted (old : Reading) (part : Part) (k : Kind) (new : Reading) (
   pub appended : Appends before after (gain old.profile part k)
   pub tried : Raises (Tries old.profile part k) old.most_probes new.most_probes
 
--- A token is not accepted: a row of the fault table refuses it, and nothing is appended; or a write
+-- A token is not accepted: a row of the fault table rejects it, and nothing is appended; or a write
 -- failed, and a prefix of what the token adds was appended, and not all.
 pub data IsStopped (old : Reading) (part : Part) (k : Kind) (new : Reading)
     (before after : Option (List ℕ)) : Reason → Type 0 where

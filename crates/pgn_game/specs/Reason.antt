@@ -95,10 +95,10 @@ words_of InputTooLong = codes "input is too long"
 words_of Changed = codes "second reading differs"
 
 -- the field of a FEN value that is none
-abbrev pub field_of : Reason → List ℕ
-field_of (BadFen field) = decimal field
-field_of _ = []
+abbrev pub words_of_field : Reason → List ℕ
+words_of_field (BadFen field) = decimal field
+words_of_field _ = []
 
 -- `byte N: ` and the words
 abbrev pub line_of : Fault → List ℕ
-line_of f = codes "byte " ++ decimal f.at ++ codes ": " ++ words_of f.reason ++ field_of f.reason
+line_of f = codes "byte " ++ decimal f.at ++ codes ": " ++ words_of f.reason ++ words_of_field f.reason

@@ -86,11 +86,11 @@ pub record Names (at : Parts) (s : List ℕ) (played : Played) : Type 0 where
 
 -- nothing is played yet: at the beginning of a game, and of a variation, which replaces the last
 -- move before it
-abbrev pub nothing_played : List Move → Level
-nothing_played trail = record { trail = trail; has_own_move = false }
+abbrev pub new_level : List Move → Level
+new_level trail = record { trail = trail; has_own_move = false }
 
-abbrev pub has_played : Move → List Move → Level
-has_played m trail = record { trail = m ∷ trail; has_own_move = true }
+abbrev pub level_after_move : Move → List Move → Level
+level_after_move m trail = record { trail = m ∷ trail; has_own_move = true }
 
 -- The tokens of a game, or of one variation, from one place in it to its end: so many variations
 -- are open there, and these moves lead there from the first position. A variation comes after a
@@ -100,9 +100,9 @@ pub data SpellsText (p : Profile) (first : Parts) : ℕ → Level → List Kind 
   token : (deep : ℕ) (l : Level) (k : Kind) (ks : List Kind) (item items : List Item) → StandsFor k item → SpellsText p first deep l ks items
       → SpellsText p first deep l (k ∷ ks) (item ++ items)
   move : (deep : ℕ) (l : Level) (s : List ℕ) (played : Played) (ks : List Kind) (items : List Item) → Names (replayed first l.trail) s played
-      → SpellsText p first deep (has_played played.mv l.trail) ks items → SpellsText p first deep l (tokens.symbol s ∷ ks) (games.move played.mv ∷ items)
+      → SpellsText p first deep (level_after_move played.mv l.trail) ks items → SpellsText p first deep l (tokens.symbol s ∷ ks) (games.move played.mv ∷ items)
   variation : (deep : ℕ) (l : Level) (ks ls : List Kind) (items more : List Item) → IsTrue l.has_own_move → deep < p.depth
-      → SpellsText p first (deep + 1) (nothing_played (without_last l.trail)) ks items → SpellsText p first deep l ls more
+      → SpellsText p first (deep + 1) (new_level (without_last l.trail)) ks items → SpellsText p first deep l ls more
       → SpellsText p first deep l (tokens.left_paren ∷ (ks ++ tokens.right_paren ∷ ls)) (games.open_variation ∷ (items ++ games.close_variation ∷ more))
 
 -- Games.
@@ -133,7 +133,7 @@ pub record SpellsGame (p : Profile) (ks : List Kind) (g : Game) : Type 0 where
   pub sorted : g.pairs ≡ by_name given
   pub set_up : IsSetUp g.pairs
   pub bare : given ≡ [] → BeginsBare text
-  pub items : SpellsText p (start_of g.pairs) 0 (nothing_played []) text g.items
+  pub items : SpellsText p (start_of g.pairs) 0 (new_level []) text g.items
   pub marker : marker_of last ≡ Some g.marker
   pub result : IsResult p.missing_result (value_of g.pairs (codes "Result")) g.marker
 

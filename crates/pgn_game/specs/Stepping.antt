@@ -20,7 +20,7 @@ use Rattle.pgn_game.specs.Profile.{Profile}
 use Rattle.pgn_game.specs.Game.{Game}
 use Rattle.pgn_game.specs.Progress.{read}
 use Rattle.pgn_game.specs.Due.{Gains}
-use Rattle.pgn_game.specs.Feeding.{Converter, held_by, hand_of, IsLast, HasRead, Stands, Stops, games_before, CountsAtStop, FedAll, FedGame, FedToFault}
+use Rattle.pgn_game.specs.Feeding.{Converter, game_in_reader, hand_of, IsLast, HasRead, Stands, Stops, games_before, CountsAtStop, FedAll, FedGame, FedToFault}
 
 -- the games read with one token more: none more, or one
 abbrev pub SameGames : Profile → List Token → List Token → Type 0
@@ -30,7 +30,7 @@ abbrev pub OneGame : Profile → List Token → List Token → Game → Type 0
 OneGame p given tokens g = (read p tokens).progress.games ≡ (read p given).progress.games ++ g ∷ []
 
 -- a token was read
-pub record Took (p : Profile) (u : List ℕ) (given : List Token) (piece : List ℕ) (used : ℕ) (t : Token) (new : Converter) (before after : Option (List ℕ)) : Type 0 where
+pub record ReadsToken (p : Profile) (u : List ℕ) (given : List Token) (piece : List ℕ) (used : ℕ) (t : Token) (new : Converter) (before after : Option (List ℕ)) : Type 0 where
   pub stands : Stands p new (u ++ take used piece) (first (drop used piece)) (given ++ t ∷ [])
   pub decided : IsDecided (u ++ take used piece) (drop used piece) (given ++ t ∷ [])
   pub ends : EndsAt t.kind t.at (length u + used)
@@ -42,9 +42,9 @@ abbrev pub AfterStep : Profile → List ℕ → List Token → List ℕ → Conv
 AfterStep p u given piece new used (Ok None) before after =
     (used ≡ length piece) × Stands p new (u ++ piece) None given × (given ≡ decided (u ++ piece)) × Gains p given given before after
 AfterStep p u given piece new used (Ok (Some More)) before after =
-    (t : Token) × Took p u given piece used t new before after × SameGames p given (given ++ t ∷ [])
+    (t : Token) × ReadsToken p u given piece used t new before after × SameGames p given (given ++ t ∷ [])
 AfterStep p u given piece new used (Ok (Some Finished)) before after =
-    (t : Token) × Took p u given piece used t new before after × ((g : Game) × OneGame p given (given ++ t ∷ []) g × (new.at_hand ≡ Some (hand_of g)))
+    (t : Token) × ReadsToken p u given piece used t new before after × ((g : Game) × OneGame p given (given ++ t ∷ []) g × (new.at_hand ≡ Some (hand_of g)))
 AfterStep p u given piece new used (Err f) before after =
     FedToFault p u None given piece f new.reading.most_probes before after
 
@@ -53,21 +53,21 @@ abbrev pub StaysBetween : Converter → Converter → Type 0
 StaysBetween old new = new.reading.stage ≡ Between → new.reading ≡ old.reading
 
 -- What a step after the last piece reads, if it is not the end; u is the whole text.
-pub record TookLast (p : Profile) (u : List ℕ) (given : List Token) (t : Token) (new : Converter) (before after : Option (List ℕ)) : Type 0 where
+pub record ReadsTokenAtEnd (p : Profile) (u : List ℕ) (given : List Token) (t : Token) (new : Converter) (before after : Option (List ℕ)) : Type 0 where
   pub left : HasLeft new.lexer u (given ++ t ∷ [])
   pub has_read : HasRead p new (given ++ t ∷ [])
   pub gains : Gains p given (given ++ t ∷ []) before after
 
 -- the end was reached: no game is begun
-pub record TookEnd (p : Profile) (u : List ℕ) (given : List Token) (t : Token) (new : Converter) (before after : Option (List ℕ)) : Type 0 where
+pub record ReadsEnd (p : Profile) (u : List ℕ) (given : List Token) (t : Token) (new : Converter) (before after : Option (List ℕ)) : Type 0 where
   pub whole : tokens_of u ≡ given ++ t ∷ []
   pub has_read : HasRead p new (given ++ t ∷ [])
   pub between : new.reading.stage ≡ Between
   pub same : SameGames p given (given ++ t ∷ [])
   pub gains : Gains p given (given ++ t ∷ []) before after
 
--- a token of these is refused, or a write failed, and before it no game was finished
-pub record ClosedToFault (p : Profile) (given tokens : List Token) (f : Fault) (most : ℕ) (before after : Option (List ℕ)) : Type 0 where
+-- a token of these is rejected, or a write failed, and before it no game was finished
+pub record FaultAtEnd (p : Profile) (given tokens : List Token) (f : Fault) (most : ℕ) (before after : Option (List ℕ)) : Type 0 where
   pub stops : Stops p given tokens before after f
   pub no_game : games_before stops ≡ (read p given).progress.games
   pub counts : CountsAtStop stops most
@@ -76,28 +76,28 @@ pub record ClosedToFault (p : Profile) (given tokens : List Token) (f : Fault) (
 abbrev pub AfterStepAtEnd : Profile → List ℕ → List Token → Converter → Converter
     → Result (Option Accepted) Fault → Option (List ℕ) → Option (List ℕ) → Type 0
 AfterStepAtEnd p u given old new (Ok (Some More)) before after =
-    (t : Token) × TookLast p u given t new before after × SameGames p given (given ++ t ∷ []) × StaysBetween old new
+    (t : Token) × ReadsTokenAtEnd p u given t new before after × SameGames p given (given ++ t ∷ []) × StaysBetween old new
 AfterStepAtEnd p u given old new (Ok (Some Finished)) before after =
-    (t : Token) × TookLast p u given t new before after × ((g : Game) × OneGame p given (given ++ t ∷ []) g × (held_by new.reading ≡ hand_of g))
+    (t : Token) × ReadsTokenAtEnd p u given t new before after × ((g : Game) × OneGame p given (given ++ t ∷ []) g × (game_in_reader new.reading ≡ hand_of g))
 AfterStepAtEnd p u given old new (Ok None) before after =
-    (t : Token) × TookEnd p u given t new before after × StaysBetween old new
+    (t : Token) × ReadsEnd p u given t new before after × StaysBetween old new
 AfterStepAtEnd p u given old new (Err f) before after =
-    ClosedToFault p given (tokens_of u) f new.reading.most_probes before after
+    FaultAtEnd p given (tokens_of u) f new.reading.most_probes before after
 
 -- What was read behind the last piece so far, and whether a game was finished there. It is still
 -- held while none is begun.
-pub record ClosedSoFar (p : Profile) (u : List ℕ) (given : List Token) (now : Converter) (finished_game : Bool) (before after : Option (List ℕ)) : Type 0 where
+pub record AtEndSoFar (p : Profile) (u : List ℕ) (given : List Token) (now : Converter) (finished_game : Bool) (before after : Option (List ℕ)) : Type 0 where
   pub tokens : List Token
   pub left : HasLeft now.lexer u tokens
   pub has_read : HasRead p now tokens
   pub no_fewer : length (read p given).progress.games ≤ length (read p tokens).progress.games
   pub game : IsTrue finished_game ↔ (length (read p given).progress.games < length (read p tokens).progress.games)
-  pub last : IsTrue finished_game → now.reading.stage ≡ Between → IsLast (Some (held_by now.reading)) (read p tokens).progress.games
+  pub last : IsTrue finished_game → now.reading.stage ≡ Between → IsLast (Some (game_in_reader now.reading)) (read p tokens).progress.games
   pub gains : Gains p given tokens before after
 
-abbrev pub ClosesSoFar : Converter → Converter → Bool → Option (List ℕ) → Option (List ℕ) → Type 0
-ClosesSoFar old now finished_game before after =
-    (p : Profile) (u : List ℕ) (b : Option ℕ) (given : List Token) → Stands p old u b given → ClosedSoFar p u given now finished_game before after
+abbrev pub FinishesSoFar : Converter → Converter → Bool → Option (List ℕ) → Option (List ℕ) → Type 0
+FinishesSoFar old now finished_game before after =
+    (p : Profile) (u : List ℕ) (b : Option ℕ) (given : List Token) → Stands p old u b given → AtEndSoFar p u given now finished_game before after
 
 -- what an answer of the reader, to a token at this place, is for the converter
 abbrev pub outcome_at : ℕ → Result Accepted Reason → Result (Option Accepted) Fault
@@ -125,10 +125,10 @@ fault_of_step (Ok accepted) = None
 fault_of_step (Err f) = Some f
 
 -- the outcome behind the last piece, where the end is no token more
-abbrev pub closed_with : Bool → Result (Option Accepted) Fault → Result (Option Accepted) Fault
-closed_with is_end (Err f) = Err f
-closed_with true (Ok accepted) = Ok None
-closed_with false (Ok accepted) = Ok accepted
+abbrev pub ended_if : Bool → Result (Option Accepted) Fault → Result (Option Accepted) Fault
+ended_if is_end (Err f) = Err f
+ended_if true (Ok accepted) = Ok None
+ended_if false (Ok accepted) = Ok accepted
 
 -- A step without a token uses the whole piece; one with a token uses a byte, or the token was
 -- waiting.

@@ -8,7 +8,7 @@ ghost use Rattle.pgn_game.specs.declared.reason.Reason.TheVariants.{InputTooLong
 ghost use Rattle.pgn_game.specs.Profile.{Profile};
 ghost use Rattle.pgn_game.specs.Stepping.{FeedsFront, AfterStep, AfterStepAtEnd};
 ghost use Rattle.pgn_game.specs.Stepping.{StepAdvances, StepAtEndAdvances, outcome_at, games_after};
-ghost use Rattle.pgn_game.specs.Stepping.{fault_of_step, closed_with};
+ghost use Rattle.pgn_game.specs.Stepping.{fault_of_step, ended_if};
 ghost use Rattle.pgn_game.specs.Stepping.{finished_game as step_finished_game};
 ghost use Rattle.pgn_game.specs.Stepping.{is_ended as is_of_end};
 ghost use Rattle.pgn_game.specs.Feeding.{HasRead, Stands, Feeds, KeepsGames, FeedsAll, Ends};
@@ -78,7 +78,7 @@ pub struct Converter<const T: usize, const L: usize> {
 
 impl<const T: usize, const L: usize> Model for Converter<T, L> {
     ghost use Rattle.pgn_game.specs.Feeding.{Converter as Seen};
-    ghost use Rattle.pgn_game.specs.Feeding.{held_if, IsSound};
+    ghost use Rattle.pgn_game.specs.Feeding.{game_in_reader_if, IsSound};
 
     ghost Value = { Seen };
 
@@ -86,7 +86,7 @@ impl<const T: usize, const L: usize> Model for Converter<T, L> {
       lexer = c.lexer;
       reading = c.reader;
       games = c.games;
-      at_hand = held_if c.has_finished_game c.reader;
+      at_hand = game_in_reader_if c.has_finished_game c.reader;
       is_finished = c.is_finished;
       fault = c.fault;
     } };
@@ -257,7 +257,7 @@ impl<const T: usize, const L: usize> Converter<T, L> {
     /// Returns the most pairs of an origin and a target that were tried for one move so far: at
     /// most 1,040, and at least 1 once a move was played.
     ///
-    /// Pairs are tried to find a move, also one that is refused, and to write the SAN of an
+    /// Pairs are tried to find a move, also one that is rejected, and to write the SAN of an
     /// accepted one with its mark. In reduced mode the moves of variations are not written.
     pub fn most_probes(&self) -> u32
         ensures value { result ≡ self.now.reading.most_probes }
@@ -497,7 +497,7 @@ fn close_with(
     is_end: bool,
     outcome: Result<Option<Accepted>, Fault>,
 ) -> Result<Option<Accepted>, Fault>
-    ensures { result ≡ closed_with is_end outcome }
+    ensures { result ≡ ended_if is_end outcome }
 {
     match outcome {
         Ok(_) => {

@@ -1,7 +1,7 @@
 //! What an accepted token means.
 ghost use Rattle.std.specs.Prelude.{◌≡◌};
 ghost use Rattle.pgn_game.specs.Text.{is_move as is_of_move};
-ghost use Rattle.pgn_game.specs.Judging.{item_of};
+ghost use Rattle.pgn_game.specs.Judging.{model_item};
 
 use chess_text::Played;
 
@@ -54,7 +54,7 @@ pub enum Item<'a> {
 impl Item<'_> {
     /// Whether this is a move.
     pub fn is_move(&self) -> bool
-        ensures { result ≡ is_of_move (item_of self.now) }
+        ensures { result ≡ is_of_move (model_item self.now) }
     {
         match self {
             Item::Move(_) => true,

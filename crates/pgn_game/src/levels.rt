@@ -39,13 +39,13 @@ pub struct Levels<const L: usize> {
 }
 
 impl<const L: usize> Model for Levels<L> {
-    ghost use Rattle.pgn_game.specs.Movetext.{HeldLevels as Seen, AreHeld, levels_in};
+    ghost use Rattle.pgn_game.specs.Movetext.{StoredLevels as Seen, FitsLevelStore, code_levels};
 
     ghost Value = { Seen };
 
-    ghost view = { λ l. levels_in l.levels.items };
+    ghost view = { λ l. code_levels l.levels.items };
 
-    ghost invariant = { λ l. AreHeld L l.levels.items };
+    ghost invariant = { λ l. FitsLevelStore L l.levels.items };
 }
 
 impl<const L: usize> Levels<L> {

@@ -2,10 +2,10 @@
 ghost use Rattle.std.specs.Prelude.{◌≡◌, ◌+◌, ◌-◌, ◌^◌, ◌<◌, ◌≤◌, false, true, is_some, length};
 ghost use Rattle.pgn_game.specs.Chess.{first_position};
 ghost use Rattle.pgn_game.specs.Game as games;
-ghost use Rattle.pgn_game.specs.Movetext.{begins_at, begun_at};
-ghost use Rattle.pgn_game.specs.Judging.{IsLegal, ItemFits, item_of};
+ghost use Rattle.pgn_game.specs.Movetext.{movetext_from, movetext_after_fen};
+ghost use Rattle.pgn_game.specs.Judging.{IsLegal, ItemFits, model_item};
 ghost use Rattle.pgn_game.specs.MostTried.{CostsToWrite};
-ghost use Rattle.pgn_game.specs.Putting.{Adds, GoesOn, Puts, Rises, TriesItem, WritesItem};
+ghost use Rattle.pgn_game.specs.Putting.{Adds, GoesOn, PutsTokens, Rises, TriesItem, WritesItem};
 ghost use Rattle.pgn_game.specs.Putting.{device, number_due, tokens_due, writes};
 
 use crate::judged::Item;
@@ -41,7 +41,7 @@ impl<const L: usize> Movetext<L> {
     /// Returns movetext without items that begins at the initial position.
     pub fn new() -> Self
         requires { 1 ≤ L }
-        ensures { result ≡ begins_at first_position }
+        ensures { result ≡ movetext_from first_position }
     {
         Movetext {
             levels: Levels::new(),
@@ -52,7 +52,7 @@ impl<const L: usize> Movetext<L> {
 
     /// Begins movetext without items at this position.
     pub fn begin(&mut self, start: Position)
-        ensures { self.new ≡ begins_at start }
+        ensures { self.new ≡ movetext_from start }
     {
         self.levels.begin(start);
         self.plies = 0;
@@ -61,7 +61,7 @@ impl<const L: usize> Movetext<L> {
 
     /// Begins movetext without items at the position of a FEN. Without one nothing changes.
     pub fn begin_at(&mut self, start: Option<Position>)
-        ensures { self.new ≡ begun_at start self.old }
+        ensures { self.new ≡ movetext_after_fen start self.old }
     {
         match start {
             Some(start) => self.begin(start),
@@ -113,10 +113,10 @@ impl<const L: usize> Movetext<L> {
         requires few { self.old.plies < 2 ^ 64 - 1 }
         requires room { probes.old + 1032 < 2 ^ 32 }
         requires going { layout.old.has_failed ≡ false }
-        ensures adds { Adds mode (item_of item.now) self.old layout.old self.new layout.new result
-            (device W.taken W.failures out.old out.new) }
+        ensures adds { Adds mode (model_item item.now) self.old layout.old self.new layout.new
+            result (device W.taken W.failures out.old out.new) }
         ensures probes { Rises probes.old probes.new }
-        ensures tried { TriesItem mode self.old (item_of item.now) probes.old probes.new }
+        ensures tried { TriesItem mode self.old (model_item item.now) probes.old probes.new }
     {
         self.write(mode, item, probes, layout, out)?;
         self.go_on(item);
@@ -136,10 +136,10 @@ impl<const L: usize> Movetext<L> {
         requires fits { ItemFits L self.old item.now }
         requires room { probes.old + 1032 < 2 ^ 32 }
         requires going { layout.old.has_failed ≡ false }
-        ensures writes { WritesItem mode (item_of item.now) self.old layout.old self.new layout.new
-            result (device W.taken W.failures out.old out.new) }
+        ensures writes { WritesItem mode (model_item item.now) self.old layout.old self.new
+            layout.new result (device W.taken W.failures out.old out.new) }
         ensures probes { Rises probes.old probes.new }
-        ensures tried { TriesItem mode self.old (item_of item.now) probes.old probes.new }
+        ensures tried { TriesItem mode self.old (model_item item.now) probes.old probes.new }
     {
         if !self.is_written(mode, item) {
             return Ok(());
@@ -152,7 +152,7 @@ impl<const L: usize> Movetext<L> {
     // Whether the mode writes an item here: in reduced mode only a move outside variations.
     #[inline(always)]
     fn is_written(&self, mode: Mode, item: &Item<'_>) -> bool
-        ensures { result ≡ writes mode (length self.now.levels.around) (item_of item.now) }
+        ensures { result ≡ writes mode (length self.now.levels.around) (model_item item.now) }
     {
         mode == Mode::Full || (item.is_move() && self.levels.depth() == 0)
     }
@@ -169,10 +169,10 @@ impl<const L: usize> Movetext<L> {
         requires fits { ItemFits L self.now item.now }
         requires room { probes.old + 1032 < 2 ^ 32 }
         requires going { layout.old.has_failed ≡ false }
-        ensures puts { Puts (tokens_due self.now (item_of item.now)) layout.old layout.new result
-            (device W.taken W.failures out.old out.new) }
+        ensures puts { PutsTokens (tokens_due self.now (model_item item.now)) layout.old layout.new
+            result (device W.taken W.failures out.old out.new) }
         ensures probes { Rises probes.old probes.new }
-        ensures tried { CostsToWrite true self.now.levels.present.present (item_of item.now)
+        ensures tried { CostsToWrite true self.now.levels.present.present (model_item item.now)
             probes.old probes.new }
     {
         match item {
@@ -198,8 +198,8 @@ impl<const L: usize> Movetext<L> {
         requires legal { IsLegal self.now.levels.present.present played.now }
         requires room { probes.old + 1032 < 2 ^ 32 }
         requires going { layout.old.has_failed ≡ false }
-        ensures puts { Puts (tokens_due self.now (games.move played.now.mv)) layout.old layout.new
-            result (device W.taken W.failures out.old out.new) }
+        ensures puts { PutsTokens (tokens_due self.now (games.move played.now.mv)) layout.old
+            layout.new result (device W.taken W.failures out.old out.new) }
         ensures probes { Rises probes.old probes.new }
         ensures tried { CostsToWrite true self.now.levels.present.present (games.move played.now.mv)
             probes.old probes.new }
@@ -213,7 +213,7 @@ impl<const L: usize> Movetext<L> {
     #[inline(always)]
     fn put_number<W: Sink>(&self, layout: &mut Layout, out: &mut W) -> Result<(), WriteFault>
         requires going { layout.old.has_failed ≡ false }
-        ensures puts { Puts (number_due self.now) layout.old layout.new result
+        ensures puts { PutsTokens (number_due self.now) layout.old layout.new result
             (device W.taken W.failures out.old out.new) }
     {
         let position = self.levels.present();

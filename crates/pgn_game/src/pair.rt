@@ -6,12 +6,12 @@ use arrayvec::ArrayVec;
 use std::marker::Model;
 
 /// The most bytes of a name and its value: their line has no room for more (PGN 4.3).
-pub const TEXT_LENGTH: usize = 249;
+pub const NAME_OR_VALUE_LENGTH: usize = 249;
 
 /// A tag pair that fits on its line: the bytes of its name, then those of its value.
 #[derive(Drop)]
 pub struct TagPair {
-    text: ArrayVec<u8, TEXT_LENGTH>,
+    text: ArrayVec<u8, NAME_OR_VALUE_LENGTH>,
     name_length: usize,
 }
 

@@ -1,5 +1,5 @@
 //! Reads games token by token: judges what a token means, and carries that out.
-ghost use Rattle.std.specs.Prelude.{◌≡◌, ◌+◌, ◌-◌, ◌≤◌, ◌<◌, ◌^◌, ◌&&◌, ◌∷◌, [], false, not};
+ghost use Rattle.std.specs.Prelude.{◌≡◌, ◌+◌, ◌-◌, ◌≤◌, ◌<◌, ◌^◌, ◌&&◌, [], false, not};
 ghost use Rattle.std.specs.Prelude.{Some, IsTrue, ◌↔◌, OnOk, bytes_eq, codes, max};
 ghost use Rattle.std.specs.Option.{option_copied};
 ghost use Rattle.pgn_lexer.specs.declared.token.TokenKind.{TokenKind};
@@ -15,12 +15,12 @@ ghost use Rattle.pgn_game.specs.declared.stage.Stage.TheVariants.{AfterValue, Af
 ghost use Rattle.pgn_game.specs.declared.stage.Stage.TheVariants.{InMovetext};
 ghost use Rattle.pgn_game.specs.declared.judged.Judged.TheVariants.{Entry as InText};
 ghost use Rattle.pgn_game.specs.Profile.{counts_as, known_result};
-ghost use Rattle.pgn_game.specs.Movetext.{begins_at};
+ghost use Rattle.pgn_game.specs.Movetext.{movetext_from};
 ghost use Rattle.pgn_game.specs.Reading.{Accepts, Stays, FinishesAtMarker, CountsWrites};
 ghost use Rattle.pgn_game.specs.Judging.{Counts, Finds, Fits, Judges, JudgesEntry, Seeks, may_have_movetext};
 ghost use Rattle.pgn_game.specs.Judging.{fen_position as position_in_fen};
 ghost use Rattle.pgn_game.specs.Putting.{device};
-ghost use Rattle.pgn_game.specs.Handling.{BeginsText, Puts, TriesJudged, begins, readied};
+ghost use Rattle.pgn_game.specs.Handling.{BeginsText, PutResult, TriesJudged, begins_game, ready_for_token};
 ghost use Rattle.pgn_game.specs.FaultTable.{is_result as is_any_result, is_reduced};
 ghost use Rattle.pgn_game.specs.FaultTable.{lacks_fen as set_up_lacks_fen, marker_of};
 
@@ -30,7 +30,7 @@ use crate::judged::{Entry, Item, Judged};
 use crate::marker::Marker;
 use crate::mode::Mode;
 use crate::movetext::Movetext;
-use crate::pair::TEXT_LENGTH;
+use crate::pair::NAME_OR_VALUE_LENGTH;
 use crate::reason::Reason;
 use crate::section::{exported_value, write_section};
 use crate::stage::Stage;
@@ -95,7 +95,7 @@ impl<const T: usize, const L: usize> Reader<T, L> {
           };
           stage = Between;
           tags = record { held = []; pending_name = None };
-          text = begins_at first_position;
+          text = movetext_from first_position;
           earlier_plies = 0;
           most_probes = 0;
           layout = holding [];
@@ -195,7 +195,7 @@ impl<const T: usize, const L: usize> Reader<T, L> {
     #[inline(always)]
     fn make_ready(&mut self, kind: TokenKind<'_>)
         requires { self.old.earlier_plies + self.old.text.plies < 2 ^ 64 }
-        ensures { self.new ≡ readied self.old (kind_of kind.entry) }
+        ensures { self.new ≡ ready_for_token self.old (kind_of kind.entry) }
     {
         if !self.is_between() || is_comment(kind) || is_end(kind) {
             return;
@@ -259,7 +259,7 @@ impl<const T: usize, const L: usize> Reader<T, L> {
         found: &'a Option<Result<Played, Reason>>,
     ) -> Result<Judged<'a>, Reason>
         requires found { Finds self.now (kind_of kind) found.now }
-        requires ready { begins self.now.stage (kind_of kind) ≡ false }
+        requires ready { begins_game self.now.stage (kind_of kind) ≡ false }
         requires token { HasLength (kind_of kind) }
         ensures { Judges T L self.now (kind_of kind.entry) result }
     {
@@ -290,7 +290,7 @@ impl<const T: usize, const L: usize> Reader<T, L> {
         if self.tags.value(name).is_some() {
             return Err(Reason::DuplicateTag);
         }
-        if name.len() > TEXT_LENGTH {
+        if name.len() > NAME_OR_VALUE_LENGTH {
             return Err(Reason::TagLineTooLong);
         }
         if is_reduced_fen(self.mode, name) {
@@ -498,7 +498,7 @@ impl<const T: usize, const L: usize> Reader<T, L> {
         requires counted { self.old.text.plies < 2 ^ 64 - 1 }
         requires fits { Fits T L self.old judged.now }
         requires few { probes.old ≤ 8 }
-        ensures puts { Puts self.old judged.now self.new result
+        ensures puts { PutResult self.old judged.now self.new result
             (device W.taken W.failures out.old out.new) }
         ensures tried { TriesJudged self.old judged.now result probes.old probes.new }
         ensures most { probes.old ≤ self.old.most_probes
@@ -542,7 +542,7 @@ impl<const T: usize, const L: usize> Reader<T, L> {
         requires counted { self.old.text.plies < 2 ^ 64 - 1 }
         requires fits { Fits T L self.old (InText entry.now) }
         requires few { probes.old ≤ 8 }
-        ensures puts { Puts self.old (InText entry.now) self.new result
+        ensures puts { PutResult self.old (InText entry.now) self.new result
             (device W.taken W.failures out.old out.new) }
         ensures tried { TriesJudged self.old (InText entry.now) result probes.old probes.new }
         ensures most { probes.old ≤ self.old.most_probes

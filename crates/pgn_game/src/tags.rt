@@ -1,5 +1,5 @@
 //! The tag pairs of one game, in the order of their names.
-ghost use Rattle.std.specs.Prelude.{◌≡◌, ◌+◌, ◌<◌, ◌≤◌, ◌↔◌, ℕ, Bool, [], ◌∷◌, ◌++◌, List, IsTrue, IfSome, IsSome, IsSomeAnd, Some, None, insert, length};
+ghost use Rattle.std.specs.Prelude.{◌≡◌, ◌+◌, ◌<◌, ◌≤◌, ◌↔◌, [], ◌∷◌, ◌++◌, List, IsTrue, IfSome, IsSome, IsSomeAnd, Some, None, insert, length};
 ghost use Rattle.pgn_layout.specs.TagLine.{escaped};
 ghost use Rattle.pgn_game.specs.Pairs.{Pair, value_of, comes_before, insert_pair};
 ghost use Rattle.pgn_game.specs.Holding.{place_of as place_before, last_name, but_last};
@@ -18,13 +18,13 @@ pub struct TagPairs<const T: usize> {
 
 impl<const T: usize> Model for TagPairs<T> {
     ghost use Rattle.pgn_game.specs.Holding.{TagPairs as Seen};
-    ghost use Rattle.pgn_game.specs.Holding.{pairs_seen, AreHeld};
+    ghost use Rattle.pgn_game.specs.Holding.{pairs_seen, FitsPairStore};
 
     ghost Value = { Seen };
 
     ghost view = { λ t. pairs_seen (t.pairs.items) t.has_pending_name };
 
-    ghost invariant = { λ t. AreHeld T t.pairs.items t.has_pending_name };
+    ghost invariant = { λ t. FitsPairStore T t.pairs.items t.has_pending_name };
 }
 
 impl<const T: usize> TagPairs<T> {

@@ -1,7 +1,7 @@
-mod Escaping
-mod LawRows
+mod EscapedBytes
+mod LineRows
 mod LineTextRows
-mod LinesHold
-mod Putting
+mod LinesOfTokens
+mod OneWriteMore
+mod PutsInTurn
 mod TokensInText
-mod Writing

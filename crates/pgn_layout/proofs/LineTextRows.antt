@@ -6,7 +6,7 @@ use Rattle.std.proofs.lemmas.Bool.{false≢true}
 use Rattle.pgn_layout.specs.Laws.{LinesKeepTokens, LinesOfKeepTokens}
 use Rattle.pgn_layout.specs.LineText.{is_gap, IsTextOf, no_token, next_token}
 use Rattle.pgn_layout.specs.Lines.{text_of}
-use Rattle.pgn_layout.proofs.LawRows.{letters, full_line, two_lines, no_line}
+use Rattle.pgn_layout.proofs.LineRows.{letters, full_line, two_lines, no_line}
 
 abbrev few : List (List ℕ)
 few = codes "e4" ∷ codes "e5" ∷ []

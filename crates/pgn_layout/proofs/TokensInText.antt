@@ -3,7 +3,7 @@ use Rattle.std.proofs.Common.{◌≡◌, ℕ, true, false, List, [], ◌∷◌, 
 use Rattle.pgn_layout.specs.Lines.{Line, spaced, text_on, tokens_over, has_room, lines_from, text_of}
 use Rattle.pgn_layout.specs.LineText.{IsTextOf, no_token, next_token}
 use Rattle.pgn_layout.specs.Laws.{LinesKeepTokens, LinesOfKeepTokens}
-use Rattle.pgn_layout.proofs.LinesHold.{alone, grown, parts_from, text_on-grown, in_order}
+use Rattle.pgn_layout.proofs.LinesOfTokens.{alone, grown, parts_from, text_on-grown, in_order}
 
 -- a line with its LF, before the text of the lines after it
 line_text : (t : List ℕ) (ts more : List (List ℕ)) (s : List ℕ) → IsTextOf more s

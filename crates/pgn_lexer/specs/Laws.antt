@@ -5,7 +5,7 @@ use Rattle.pgn_lexer.specs.Tokens.{Kind, Token, end, refused}
 use Rattle.pgn_lexer.specs.TokensOf.{tokens_of}
 use Rattle.pgn_lexer.specs.Lexes.{Lexes}
 use Rattle.pgn_lexer.specs.Decided.{decided, known}
-use Rattle.pgn_lexer.specs.Sound.{IsSymbol, IsSound}
+use Rattle.pgn_lexer.specs.Sound.{IsSymbol, AreSoundTokens}
 use Rattle.pgn_lexer.specs.Written.{Piece, text_of_pieces, kinds_in, tokens_at, IsReadable}
 use Rattle.pgn_lexer.specs.Bytes.{is_digit}
 use Rattle.std.specs.List.{list_all}
@@ -43,7 +43,7 @@ KnownIsPrefix = (u s : List ℕ) (b : ℕ) → IsPrefix (known u b) (tokens_of (
 -- The tokens of each text are sound: each has the bytes of its kind, and a comment that opens
 -- closes, unless the text is rejected.
 abbrev pub TokensAreSound : Type 0
-TokensAreSound = (s : List ℕ) → IsSound (tokens_of s)
+TokensAreSound = (s : List ℕ) → AreSoundTokens (tokens_of s)
 
 -- If the text of pieces is readable, it is read back: its tokens are those of the pieces, each at
 -- its place, and the end.

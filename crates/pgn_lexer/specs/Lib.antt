@@ -1,7 +1,7 @@
 -- **Bookkeeping**: the list of this crate's files of definitions.
 pub mod Bytes
 pub mod Decided
-pub mod Held
+pub mod PartialToken
 pub mod Laws
 pub mod Lexes
 pub mod Running

@@ -11,46 +11,46 @@ use Rattle.pgn_lexer.specs.declared.partial_token.Found.{Found}
 use Rattle.pgn_lexer.specs.declared.partial_token.Found.TheVariants as found
 use Rattle.pgn_lexer.specs.Tokens.{Token, HasLength, EndsAt, is_run}
 use Rattle.pgn_lexer.specs.TokensOf.{Within, tokens_from}
-use Rattle.pgn_lexer.specs.Held.{Held, to_come, token_of, refusal, IsSound, IsGoing, pending, fault_met}
+use Rattle.pgn_lexer.specs.PartialToken.{PartialToken, tokens_to_come, token_of, refusal, IsSound, IsGoing, pending, fault_met}
 
 -- the whole piece was used, and no token ends in it
-pub record RunsOut (place : ℕ) (old : Held) (piece : List ℕ) (new : Held) (used : ℕ) : Type 0 where
+pub record RunsOut (place : ℕ) (old : PartialToken) (piece : List ℕ) (new : PartialToken) (used : ℕ) : Type 0 where
   pub all : used ≡ length piece
   pub fresh : IsGoing old.mode
   pub empty : length piece ≡ 0 → new ≡ old
   pub sound : IsSound (place + used) new
   pub going : IsGoing new.mode
-  pub comes : (s : List ℕ) → to_come place old (piece ++ s) ≡ to_come (place + used) new s
+  pub comes : (s : List ℕ) → tokens_to_come place old (piece ++ s) ≡ tokens_to_come (place + used) new s
 
 -- so many bytes of the piece were used, and no token ended in them
-pub record StoodAt (place : ℕ) (old : Held) (piece : List ℕ) (used : ℕ) : Type 0 where
-  pub held : Held
+pub record StoodAt (place : ℕ) (old : PartialToken) (piece : List ℕ) (used : ℕ) : Type 0 where
+  pub held : PartialToken
   pub sound : IsSound (place + used) held
   pub going : IsGoing held.mode
-  pub comes : (s : List ℕ) → to_come place old (take used piece ++ s) ≡ to_come (place + used) held s
+  pub comes : (s : List ℕ) → tokens_to_come place old (take used piece ++ s) ≡ tokens_to_come (place + used) held s
 
 -- a token that is no run ends with the last byte used
-pub record EndsWithByte (place : ℕ) (old : Held) (piece bytes : List ℕ) (t : Token) (new : Held) (used : ℕ) : Type 0 where
+pub record EndsWithByte (place : ℕ) (old : PartialToken) (piece bytes : List ℕ) (t : Token) (new : PartialToken) (used : ℕ) : Type 0 where
   pub some : 0 < used
   pub closed : is_run t.kind ≡ false
   pub last : ℕ
   pub is_last : used ≡ last + 1
   pub stood : StoodAt place old piece last
-  pub comes : (s : List ℕ) → to_come place old (bytes ++ s) ≡ t ∷ to_come (place + used) new s
+  pub comes : (s : List ℕ) → tokens_to_come place old (bytes ++ s) ≡ t ∷ tokens_to_come (place + used) new s
 
 -- a run ends before a byte that was not used, and the lexer then stands between tokens
-pub record EndsBeforeByte (place : ℕ) (old : Held) (piece bytes rest : List ℕ) (t : Token) (new : Held) (used : ℕ) : Type 0 where
+pub record EndsBeforeByte (place : ℕ) (old : PartialToken) (piece bytes rest : List ℕ) (t : Token) (new : PartialToken) (used : ℕ) : Type 0 where
   pub runs : is_run t.kind ≡ true
   pub stood : StoodAt place old piece used
   pub byte : ℕ
   pub more : List ℕ
   pub next : rest ≡ byte ∷ more
   pub within : Within
-  pub settled : (s : List ℕ) → to_come (place + used) new s ≡ tokens_from (place + used) within s
-  pub comes : (s : List ℕ) → to_come place old (bytes ++ byte ∷ s) ≡ t ∷ to_come (place + used) new (byte ∷ s)
-  pub at_end : to_come place old (bytes ++ []) ≡ t ∷ to_come (place + used) new []
+  pub settled : (s : List ℕ) → tokens_to_come (place + used) new s ≡ tokens_from (place + used) within s
+  pub comes : (s : List ℕ) → tokens_to_come place old (bytes ++ byte ∷ s) ≡ t ∷ tokens_to_come (place + used) new (byte ∷ s)
+  pub at_end : tokens_to_come place old (bytes ++ []) ≡ t ∷ tokens_to_come (place + used) new []
 
-pub record RunsToToken (place : ℕ) (old : Held) (piece : List ℕ) (t : Token) (new : Held) (used : ℕ) : Type 0 where
+pub record RunsToToken (place : ℕ) (old : PartialToken) (piece : List ℕ) (t : Token) (new : PartialToken) (used : ℕ) : Type 0 where
   pub within : used ≤ length piece
   pub some : 0 < length piece
   pub fresh : IsGoing old.mode
@@ -62,30 +62,30 @@ pub record RunsToToken (place : ℕ) (old : Held) (piece : List ℕ) (t : Token)
   pub advances : pending new < 2 * used + pending old
   pub ends : EndsWithByte place old piece (take used piece) t new used ⊎ EndsBeforeByte place old piece (take used piece) (drop used piece) t new used
 
-pub record RunsToFault (place : ℕ) (old : Held) (piece : List ℕ) (f : LexFault) (new : Held) (used : ℕ) : Type 0 where
+pub record RunsToFault (place : ℕ) (old : PartialToken) (piece : List ℕ) (f : LexFault) (new : PartialToken) (used : ℕ) : Type 0 where
   pub within : used ≤ length piece
   pub sound : IsSound (place + used) new
   pub fails : new.mode ≡ Failed f
   pub stays : (g : LexFault) → old.mode ≡ Failed g → (used ≡ 0) × (f ≡ g) × (new ≡ old)
   pub some : IsGoing old.mode → 0 < length piece
-  pub comes : (s : List ℕ) → to_come place old (take used piece ++ s) ≡ refusal f ∷ []
+  pub comes : (s : List ℕ) → tokens_to_come place old (take used piece ++ s) ≡ refusal f ∷ []
 
-abbrev pub RunGives : ℕ → Held → List ℕ → Held → ℕ → Found → Type 0
+abbrev pub RunGives : ℕ → PartialToken → List ℕ → PartialToken → ℕ → Found → Type 0
 RunGives place old piece new used found.Nothing = RunsOut place old piece new used
 RunGives place old piece new used (found.Token form) = RunsToToken place old piece (token_of form new) new used
 RunGives place old piece new used found.Fault = RunsToFault place old piece (fault_met new) new used
 
 -- no token ended in the first i bytes of the piece, and h is held after them
-pub record Ran (place : ℕ) (old : Held) (piece : List ℕ) (h : Held) (i : ℕ) : Type 0 where
+pub record Ran (place : ℕ) (old : PartialToken) (piece : List ℕ) (h : PartialToken) (i : ℕ) : Type 0 where
   pub start : i ≡ 0 → h ≡ old
   pub sound : IsSound (place + i) h
   pub going : IsGoing h.mode
   pub fresh : IsGoing old.mode
-  pub comes : (s : List ℕ) → to_come place old (take i piece ++ s) ≡ to_come (place + i) h s
+  pub comes : (s : List ℕ) → tokens_to_come place old (take i piece ++ s) ≡ tokens_to_come (place + i) h s
 
 -- wherever a run came to hold h after i bytes of the piece, so it ends
-abbrev pub RunsOn : ℕ → List ℕ → ℕ → Held → Held → ℕ → Found → Type 0
-RunsOn place piece i h new used found = (old : Held) → Ran place old piece h i → RunGives place old piece new used found
+abbrev pub RunsOn : ℕ → List ℕ → ℕ → PartialToken → PartialToken → ℕ → Found → Type 0
+RunsOn place piece i h new used found = (old : PartialToken) → Ran place old piece h i → RunGives place old piece new used found
 
 -- between tokens, and in no comment
 abbrev pub IsOutside : Mode → Type 0

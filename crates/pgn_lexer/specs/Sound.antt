@@ -55,6 +55,6 @@ CommentsClose true (tokens.refused r ∷ ks) = Unit {0}
 CommentsClose true (k ∷ ks) = ⊥
 
 -- the text of each token is sound, and comments open and close in order
-pub record IsSound (ts : List Token) : Type 0 where
+pub record AreSoundTokens (ts : List Token) : Type 0 where
   pub texts : AllByRecursion (λ t. IsSoundKind t.kind) ts
   pub comments : CommentsClose false (map (λ t. t.kind) ts)

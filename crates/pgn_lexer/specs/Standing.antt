@@ -4,16 +4,16 @@ use Rattle.pgn_lexer.specs.declared.token.LexFault.{LexFault}
 use Rattle.pgn_lexer.specs.declared.partial_token.Mode.{Mode}
 use Rattle.pgn_lexer.specs.declared.partial_token.Mode.TheVariants.{Failed}
 use Rattle.pgn_lexer.specs.Tokens.{Token}
-use Rattle.pgn_lexer.specs.Held.{Held, to_come, pending}
+use Rattle.pgn_lexer.specs.PartialToken.{PartialToken, tokens_to_come, pending}
 
 -- how many bytes were used, and what is stored of the current token
 pub record Standing : Type 0 where
   pub count : ℕ
-  pub held : Held
+  pub held : PartialToken
 
 -- the tokens that it still gives, if the bytes not used yet are s
 abbrev pub coming : Standing → List ℕ → List Token
-coming l s = to_come l.count l.held s
+coming l s = tokens_to_come l.count l.held s
 
 -- how many tokens at most it gives before it uses another byte
 abbrev pub waiting : Standing → ℕ

@@ -10,7 +10,7 @@ use Rattle.pgn_lexer.specs.declared.token.LexFault.{LexFault}
 use Rattle.pgn_lexer.specs.Tokens.{Kind, Token, end, is_run}
 use Rattle.pgn_lexer.specs.TokensOf.{tokens_of}
 use Rattle.pgn_lexer.specs.Decided.{decided, known}
-use Rattle.pgn_lexer.specs.Held.{refusal}
+use Rattle.pgn_lexer.specs.PartialToken.{refusal}
 use Rattle.pgn_lexer.specs.Scanned.{Scanned, more, token, fault, fault_in, HasLengthIn, EndsIn}
 use Rattle.pgn_lexer.specs.Standing.{Standing, coming, waiting, fault_of}
 
@@ -93,14 +93,14 @@ pub record Scans (old : Standing) (piece : List ℕ) (new : Standing) (used : �
 
 -- What a call of `finish` gives: the next of the tokens that are left, the end again and again, or
 -- the error.
-abbrev pub Gives : Kind → Standing → Standing → Token → Type 0
-Gives end old new t = (coming old [] ≡ t ∷ []) × (new ≡ old)
-Gives _ old new t = (coming old [] ≡ t ∷ coming new []) × (waiting new < waiting old) × (new.count ≡ old.count)
+abbrev pub FinishGivesToken : Kind → Standing → Standing → Token → Type 0
+FinishGivesToken end old new t = (coming old [] ≡ t ∷ []) × (new ≡ old)
+FinishGivesToken _ old new t = (coming old [] ≡ t ∷ coming new []) × (waiting new < waiting old) × (new.count ≡ old.count)
 
-abbrev pub Closes : Standing → Standing → Scanned → Type 0
-Closes old new more = ⊥
-Closes old new (token t) = Gives t.kind old new t
-Closes old new (fault f) = coming old [] ≡ refusal f ∷ []
+abbrev pub FinishGives : Standing → Standing → Scanned → Type 0
+FinishGives old new more = ⊥
+FinishGives old new (token t) = FinishGivesToken t.kind old new t
+FinishGives old new (fault f) = coming old [] ≡ refusal f ∷ []
 
 -- of the tokens of the whole text u, these were given, and the lexer still gives the rest
 abbrev pub HasLeft : Standing → List ℕ → List Token → Type 0
@@ -117,7 +117,7 @@ AfterClose u given new (token t) = IsNext u given t.kind new t
 AfterClose u given new (fault f) = tokens_of u ≡ given ++ refusal f ∷ []
 
 pub record Finishes (old new : Standing) (seen : Scanned) : Type 0 where
-  pub closes : Closes old new seen
+  pub closes : FinishGives old new seen
   pub lengths : HasLengthIn seen
   pub left : (u : List ℕ) (given : List Token) → HasLeft old u given → AfterClose u given new seen
   pub refused : fault_of new ≡ fault_in seen

@@ -36,7 +36,7 @@ pub struct Lexer {
 
 impl Model for Lexer {
     ghost use Rattle.pgn_lexer.specs.Standing.{Standing};
-    ghost use Rattle.pgn_lexer.specs.Held.{IsSound};
+    ghost use Rattle.pgn_lexer.specs.PartialToken.{IsSound};
 
     ghost Value = { Standing };
 

@@ -1,6 +1,6 @@
 //! The current token: its place, its mode, and what was read of it.
 
-ghost use Rattle.std.specs.Prelude.{◌≡◌, ◌<◌, []};
+ghost use Rattle.std.specs.Prelude.{◌≡◌, []};
 ghost use Rattle.pgn_lexer.specs.Taking as taking;
 
 mod byte;
@@ -106,9 +106,9 @@ pub(crate) struct PartialToken {
 }
 
 impl Model for PartialToken {
-    ghost use Rattle.pgn_lexer.specs.Held.{Held, HasRoom};
+    ghost use Rattle.pgn_lexer.specs.PartialToken.{PartialToken, HasRoom};
 
-    ghost Value = { Held };
+    ghost Value = { PartialToken };
 
     ghost view = { λ h. record { mode = h.mode; at = h.at; text = h.buffer } };
 
@@ -116,7 +116,7 @@ impl Model for PartialToken {
 }
 
 impl PartialToken {
-    ghost use Rattle.pgn_lexer.specs.Held.{fault_met, kind_in};
+    ghost use Rattle.pgn_lexer.specs.PartialToken.{fault_met, kind_in};
     ghost use Rattle.pgn_lexer.specs.Scanned.{kind_of};
 
     pub(crate) fn new() -> PartialToken

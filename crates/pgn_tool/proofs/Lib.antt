@@ -1,20 +1,5 @@
 -- Lemmas on the program's command line.
-mod Builders
-mod Games
-mod Leftover
-mod Lines
-mod OwnFaults
-mod Listed
-mod Programs
-mod Reading
-mod Refusals
-mod Rows
-mod RunRows
-mod Runs
-mod SplitRows
-mod SplitFiles
-mod SplitSource
-mod SplitCalls
-mod SplitEnd
-mod Splits
-mod Subcommands
+mod commands
+mod rows
+mod runs
+mod splitting

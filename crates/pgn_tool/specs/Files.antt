@@ -7,37 +7,37 @@ use Rattle.pgn_tool.specs.declared.files.CreateFault.TheVariants.{Refused, NoMem
 -- Files are made in the folder with this path from now on. File n was made, or was refused, or
 -- there was no memory for it. A file was closed: the bytes that it had taken, where it tells them,
 -- and how many of its calls had failed.
-pub data Event : Type 0 where
-  entered : List ℕ → Event
-  made : ℕ → Event
-  refused : ℕ → Event
-  without_memory : ℕ → Event
-  closed : Option (List ℕ) → ℕ → Event
+pub data FileStep : Type 0 where
+  entered : List ℕ → FileStep
+  made : ℕ → FileStep
+  refused : ℕ → FileStep
+  without_memory : ℕ → FileStep
+  closed : Option (List ℕ) → ℕ → FileStep
 
 -- a file that was not made
-abbrev pub event_of_fault : ℕ → CreateFault → Event
-event_of_fault n Refused = refused n
-event_of_fault n NoMemory = without_memory n
+abbrev pub refusal_step : ℕ → CreateFault → FileStep
+refusal_step n Refused = refused n
+refusal_step n NoMemory = without_memory n
 
 -- what making file n resulted in
-abbrev pub event_of : {A : Type 0} → ℕ → Result A CreateFault → Event
-event_of n (Ok out) = made n
-event_of n (Err fault) = event_of_fault n fault
+abbrev pub creation_step : {A : Type 0} → ℕ → Result A CreateFault → FileStep
+creation_step n (Ok out) = made n
+creation_step n (Err fault) = refusal_step n fault
 
 -- a log with more steps at its end, where it is told
-abbrev pub added : Option (List Event) → List Event → Option (List Event)
+abbrev pub added : Option (List FileStep) → List FileStep → Option (List FileStep)
 added None steps = None
 added (Some log) steps = Some (log ++ steps)
 
 -- The bytes of the open file: none before it is made, and then those that it has taken. They are
 -- told where the log is.
-abbrev pub told : {A : Type 0} → (A → Option (List ℕ)) → Option (List Event) → Option A → Option (List ℕ)
-told taken None file = None
-told taken (Some log) None = Some []
-told taken (Some log) (Some out) = taken out
+abbrev pub open_text : {A : Type 0} → (A → Option (List ℕ)) → Option (List FileStep) → Option A → Option (List ℕ)
+open_text taken None file = None
+open_text taken (Some log) None = Some []
+open_text taken (Some log) (Some out) = taken out
 
 -- a new file has no bytes
-abbrev pub IsNew : Option (List Event) → Option (List ℕ) → Type 0
+abbrev pub IsNew : Option (List FileStep) → Option (List ℕ) → Type 0
 IsNew None bytes = Unit {0}
 IsNew (Some log) bytes = bytes ≡ Some []
 
@@ -53,27 +53,27 @@ is_text (Some []) = false
 is_text (Some (byte ∷ bytes)) = true
 
 -- the open file has bytes, where the log is told
-abbrev pub has_text : {A : Type 0} → (A → Option (List ℕ)) → Option (List Event) → Option A → Bool
+abbrev pub has_text : {A : Type 0} → (A → Option (List ℕ)) → Option (List FileStep) → Option A → Bool
 has_text taken None file = true
 has_text taken (Some log) None = false
 has_text taken (Some log) (Some out) = is_text (taken out)
 
 -- What a call that writes game n does with files: nothing where its file was open before; else it
 -- may make the file, or be refused.
-abbrev pub steps : (was_open is_open : Bool) → Option CreateFault → ℕ → List Event
-steps was_open is_open (Some fault) n = event_of_fault n fault ∷ []
+abbrev pub steps : (was_open is_open : Bool) → Option CreateFault → ℕ → List FileStep
+steps was_open is_open (Some fault) n = refusal_step n fault ∷ []
 steps false true None n = made n ∷ []
 steps _ _ None n = []
 
 -- the open file is closed
-abbrev pub closing : {A : Type 0} → (A → Option (List ℕ)) → (A → ℕ) → Option A → List Event
-closing taken failures None = []
-closing taken failures (Some out) = closed (taken out) (failures out) ∷ []
+abbrev pub closing_steps : {A : Type 0} → (A → Option (List ℕ)) → (A → ℕ) → Option A → List FileStep
+closing_steps taken failures None = []
+closing_steps taken failures (Some out) = closed (taken out) (failures out) ∷ []
 
 -- ---- the files of a run
 
 -- files that were made, written and closed in turn, with these texts; n were made before them
-abbrev pub whole_files : ℕ → List (List ℕ) → List Event
+abbrev pub whole_files : ℕ → List (List ℕ) → List FileStep
 whole_files n [] = []
 whole_files n (text ∷ texts) = made (one_more n) ∷ closed (Some text) 0 ∷ whole_files (one_more n) texts
 
@@ -83,6 +83,6 @@ number_after n [] = n
 number_after n (text ∷ texts) = number_after (one_more n) texts
 
 -- the file that is open
-abbrev pub opened : Bool → ℕ → List Event
-opened false n = []
-opened true n = made (one_more n) ∷ []
+abbrev pub opening_steps : Bool → ℕ → List FileStep
+opening_steps false n = []
+opening_steps true n = made (one_more n) ∷ []

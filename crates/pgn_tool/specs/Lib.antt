@@ -2,6 +2,7 @@
 pub mod CommandLine
 pub mod Requests
 pub mod Listing
+pub mod ListState
 pub mod Running
 pub mod Refusing
 pub mod FileName
@@ -10,3 +11,4 @@ pub mod Splitting
 pub mod Machine
 pub mod Program
 pub mod SplitGames
+pub mod SplitState

@@ -2,14 +2,13 @@
 -- Letters: u are the bytes read so far, s is a text, c a converter, f a fault. `before` and `after`
 -- (or `now`) are the bytes that the sink has taken, before a call and after it; `left_old` and
 -- `left_new` are those that the source has left.
-use Rattle.std.specs.Prelude.{◌≡◌, ℕ, ◌+◌, ◌^◌, ◌<◌, List, [], ◌∷◌, ◌++◌, length, take, drop, codes, decimal, unwrap_or, Option, None, Some, Result, Ok, Err, IfSome}
+use Rattle.std.specs.Prelude.{◌≡◌, ℕ, ◌+◌, ◌^◌, ◌<◌, List, [], ◌∷◌, ◌++◌, length, take, codes, decimal, unwrap_or, Option, None, Some, Result, Ok, Err, IfSome}
 use Rattle.std.specs.Io.KnownBytes.{Appends, Consumes}
 use Rattle.chess_text.specs.Fen.{fen_text}
 use Rattle.pgn_layout.specs.Device.{one_more}
 use Rattle.pgn_lexer.specs.Tokens.{Token}
 use Rattle.pgn_lexer.specs.TokensOf.{tokens_of}
 use Rattle.pgn_lexer.specs.Decided.{decided}
-use Rattle.pgn_lexer.specs.Stands.{IsDecided, first}
 use Rattle.pgn_game.specs.declared.mode.Mode.TheVariants.{Full}
 use Rattle.pgn_game.specs.declared.reason.Reason.{Reason}
 use Rattle.pgn_game.specs.declared.reason.Reason.TheVariants.{ReadFault, WriteFault, InputTooLong}
@@ -19,7 +18,7 @@ use Rattle.pgn_game.specs.Pairs.{Pair, value_of}
 use Rattle.pgn_game.specs.TagSection.{exported}
 use Rattle.pgn_game.specs.Game.{Game}
 use Rattle.pgn_game.specs.Progress.{read}
-use Rattle.pgn_game.specs.Feeding.{AtHand, Converter, Stands, StopsIn, hand_of, profile_of}
+use Rattle.pgn_game.specs.Feeding.{AtHand, Converter, hand_of, profile_of}
 use Rattle.pgn_tool.specs.declared.list.Stopped.{Stopped}
 use Rattle.pgn_tool.specs.declared.list.Stopped.TheVariants.{Refused, Unwritten}
 
@@ -30,8 +29,8 @@ abbrev pub list_profile : Profile
 list_profile = profile_of 64 32 Full
 
 -- the value of a name in the tag section of a game with these pairs, its defaults included
-abbrev pub value_told : Profile → List Pair → List ℕ → List ℕ
-value_told p pairs name = unwrap_or (value_of (exported p.mode (known_result p.missing_result) pairs) name) []
+abbrev pub listed_value : Profile → List Pair → List ℕ → List ℕ
+listed_value p pairs name = unwrap_or (value_of (exported p.mode (known_result p.missing_result) pairs) name) []
 
 -- a field, and the byte that ends it
 abbrev pub field : List ℕ → ℕ → List ℕ
@@ -43,15 +42,15 @@ six_fields number white black result plies position =
     field number 9 ++ field white 9 ++ field black 9 ++ field result 9 ++ field plies 9 ++ field position 10
 
 -- the line of a game just finished; the name is `unfoldable`, so that goals show it as it is
-unfoldable pub hand_line : ℕ → Profile → AtHand → List ℕ
-hand_line number p hand =
-    six_fields (decimal number) (value_told p hand.pairs (codes "White")) (value_told p hand.pairs (codes "Black"))
-    (value_told p hand.pairs (codes "Result")) (decimal hand.plies) (fen_text hand.position)
+unfoldable pub finished_game_line : ℕ → Profile → AtHand → List ℕ
+finished_game_line number p hand =
+    six_fields (decimal number) (listed_value p hand.pairs (codes "White")) (listed_value p hand.pairs (codes "Black"))
+    (listed_value p hand.pairs (codes "Result")) (decimal hand.plies) (fen_text hand.position)
 
 -- the line of a game: its number, White, Black, Result, how many moves it has outside variations,
 -- and the position after these
 abbrev pub game_line : ℕ → Game → List ℕ
-game_line number g = hand_line number list_profile (hand_of g)
+game_line number g = finished_game_line number list_profile (hand_of g)
 
 -- the lines of games, one after another, numbered from there
 abbrev pub lines_from : ℕ → List Game → List ℕ
@@ -68,7 +67,7 @@ list_text s = lines_of (tokens_of s)
 
 -- the line of the game just finished, or nothing if there is none
 abbrev pub line_at_hand : Converter → List ℕ
-line_at_hand c = elim c.at_hand [ None ↦ [] | Some hand ↦ hand_line c.games c.reading.profile hand ]
+line_at_hand c = elim c.at_hand [ None ↦ [] | Some hand ↦ finished_game_line c.games c.reading.profile hand ]
 
 -- ---- how a list ends
 
@@ -92,18 +91,18 @@ pub record CutsLine (u : List ℕ) (before after : Option (List ℕ)) : Type 0 w
 -- How a list stops: at the input's own fault; because a read failed after the bytes u; because the
 -- input has a byte at place 2^62; or because a line could not be written when the bytes u were
 -- read.
-pub data Stops (left_old left_new : Option (List ℕ)) (before after : Option (List ℕ)) : Stopped → Type 0 where
-  refused : (f : Fault) → IfSome left_old (λ s. IsListed s (Some f) before after) → Stops left_old left_new before after (Refused f)
+pub data ListStops (left_old left_new : Option (List ℕ)) (before after : Option (List ℕ)) : Stopped → Type 0 where
+  refused : (f : Fault) → IfSome left_old (λ s. IsListed s (Some f) before after) → ListStops left_old left_new before after (Refused f)
   unread : (u : List ℕ) → Consumes left_old left_new u → ListsNoMore u before after
-      → Stops left_old left_new before after (Refused (record { at = length u; reason = ReadFault }))
+      → ListStops left_old left_new before after (Refused (record { at = length u; reason = ReadFault }))
   too_long : (u rest : List ℕ) → Consumes left_old left_new (u ++ rest) → length u ≡ 2 ^ 62 → 0 < length rest → ListsNoMore u before after
-      → Stops left_old left_new before after (Refused (record { at = length u; reason = InputTooLong }))
-  unwritten : (u rest : List ℕ) → Consumes left_old left_new (u ++ rest) → CutsLine u before after → Stops left_old left_new before after Unwritten
+      → ListStops left_old left_new before after (Refused (record { at = length u; reason = InputTooLong }))
+  unwritten : (u rest : List ℕ) → Consumes left_old left_new (u ++ rest) → CutsLine u before after → ListStops left_old left_new before after Unwritten
 
 -- What the source has left is listed, up to its end.
-abbrev pub Lists : Option (List ℕ) → Option (List ℕ) → Result Unit Stopped → Option (List ℕ) → Option (List ℕ) → Type 0
-Lists left_old left_new (Ok done) before after = IfSome left_old (λ s. IsListed s None before after)
-Lists left_old left_new (Err stopped) before after = Stops left_old left_new before after stopped
+abbrev pub ListResult : Option (List ℕ) → Option (List ℕ) → Result Unit Stopped → Option (List ℕ) → Option (List ℕ) → Type 0
+ListResult left_old left_new (Ok done) before after = IfSome left_old (λ s. IsListed s None before after)
+ListResult left_old left_new (Err stopped) before after = ListStops left_old left_new before after stopped
 
 -- ReadFault is reported if the source counts one failure more, and WriteFault never
 abbrev pub CountsReason : Reason → ℕ → ℕ → Type 0
@@ -120,56 +119,3 @@ CountsStopped Unwritten source_old source_new sink_old sink_new = (source_new �
 abbrev pub CountsList : Result Unit Stopped → ℕ → ℕ → ℕ → ℕ → Type 0
 CountsList (Ok done) source_old source_new sink_old sink_new = (source_new ≡ source_old) × (sink_new ≡ sink_old)
 CountsList (Err stopped) source_old source_new sink_old sink_new = CountsStopped stopped source_old source_new sink_old sink_new
-
--- ---- on the way
-
--- The converter stands after the bytes u, before the bytes of `rest`, and from `before` on the
--- lines of the games so far were written.
-pub record Listed (u rest : List ℕ) (c : Converter) (before now : Option (List ℕ)) : Type 0 where
-  pub tokens : List Token
-  pub stands : Stands list_profile c u (first rest) tokens
-  pub at_limit : length u ≡ 2 ^ 62 → tokens ≡ decided u
-  pub decided : IsDecided u rest tokens
-  pub written : Appends before now (lines_of tokens)
-
--- a token that the bytes u decide is rejected, and the lines of the games before it are written
-pub record ListsToFault (u : List ℕ) (f : Fault) (before after : Option (List ℕ)) : Type 0 where
-  pub tokens : List Token
-  pub next : (s : List ℕ) → (rest : List Token) × (tokens_of (u ++ s) ≡ tokens ++ rest)
-  pub fault : (read list_profile tokens).fault ≡ Some f
-  pub written : Appends before after (lines_of tokens)
-
--- the result of a piece that was fed after the bytes u
-abbrev pub AfterPiece : List ℕ → List ℕ → Converter → Result Unit Stopped → Option (List ℕ) → Option (List ℕ) → Type 0
-AfterPiece u piece new (Ok done) before after = Listed (u ++ piece) [] new before after
-AfterPiece u piece new (Err (Refused f)) before after =
-    StopsIn u piece (λ fault. ListsToFault (u ++ piece) fault before after)
-    (λ front. ListsNoMore (u ++ front) before after) f
-AfterPiece u piece new (Err Unwritten) before after = CutsLine (u ++ piece) before after
-
--- the same wherever the lines before the piece began
-abbrev pub ListsPiece : Converter → List ℕ → Converter → Result Unit Stopped → Option (List ℕ) → Option (List ℕ) → Type 0
-ListsPiece old piece new result now after = (u : List ℕ) (before : Option (List ℕ)) → Listed u [] old before now → AfterPiece u piece new result before after
-
-abbrev pub ListsOn : Converter → List ℕ → ℕ → Converter → Option (List ℕ) → Option (List ℕ) → Type 0
-ListsOn old piece at new now after =
-    (u : List ℕ) (before : Option (List ℕ)) → Listed u [] old before now → Listed (u ++ take at piece) (drop at piece) new before after
-
--- the result of the end after the bytes u, which are then the whole text
-abbrev pub AfterLast : List ℕ → Result Unit Stopped → Option (List ℕ) → Option (List ℕ) → Type 0
-AfterLast u (Ok done) before after = IsListed u None before after
-AfterLast u (Err (Refused f)) before after = IsListed u (Some f) before after
-AfterLast u (Err Unwritten) before after = CutsLine u before after
-
-abbrev pub ListsLast : Converter → Result Unit Stopped → Option (List ℕ) → Option (List ℕ) → Type 0
-ListsLast old result now after = (u : List ℕ) (before : Option (List ℕ)) → Listed u [] old before now → AfterLast u result before after
-
--- what is counted of a piece and of the end, which read nothing more
-abbrev pub CountsSink : Result Unit Stopped → ℕ → ℕ → Type 0
-CountsSink result old new = CountsList result 0 0 old new
-
--- what was read of a source so far, and listed
-pub record ReadSoFar (left_old left_now : Option (List ℕ)) (c : Converter) (before now : Option (List ℕ)) : Type 0 where
-  pub bytes : List ℕ
-  pub consumed : Consumes left_old left_now bytes
-  pub listed : Listed bytes [] c before now

@@ -3,7 +3,7 @@
 -- all the same: it is generic, so it does the same on each.
 use Rattle.std.specs.Prelude.{◌≡◌, ℕ, Bool, true, List, Option, Result, Ok, Err}
 use Rattle.pgn_tool.specs.declared.machine.SystemFault.{SystemFault}
-use Rattle.pgn_tool.specs.Files.{Event}
+use Rattle.pgn_tool.specs.Files.{FileStep}
 use Rattle.pgn_tool.specs.Running.{Device, IsUntouched, device}
 
 -- ---- files to read
@@ -48,11 +48,11 @@ pub record Machine : Type 0 where
   pub input : Reading
   pub out : Device
   pub is_short : Bool
-  pub files : Option (List Event)
-  pub files_after : Option (List Event)
+  pub files : Option (List FileStep)
+  pub files_after : Option (List FileStep)
   pub err : Device
 
-abbrev pub machine : Reading → Device → Bool → Option (List Event) → Option (List Event) → Device
+abbrev pub machine : Reading → Device → Bool → Option (List FileStep) → Option (List FileStep) → Device
     → Machine
 machine input out is_short files files_after err = record {
   input = input;

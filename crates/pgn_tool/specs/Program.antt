@@ -8,7 +8,7 @@ use Rattle.pgn_tool.specs.declared.arguments.Task.TheVariants.{Split}
 use Rattle.pgn_tool.specs.declared.arguments.ParseFault.{ParseFault}
 use Rattle.pgn_tool.specs.declared.machine.SystemFault.{SystemFault}
 use Rattle.pgn_tool.specs.declared.machine.SystemFault.TheVariants.{Refused, NoMemory}
-use Rattle.pgn_tool.specs.Files.{Event, added, entered}
+use Rattle.pgn_tool.specs.Files.{FileStep, added, entered}
 use Rattle.pgn_tool.specs.Machine.{Holding, Machine, Opens, Reading, holds, missing}
 use Rattle.pgn_tool.specs.Refusing.{AnswersFault}
 use Rattle.pgn_tool.specs.Requests.{AnswersBy, file_of, refusals, request_in, request_of}
@@ -26,9 +26,9 @@ StartsFrom None holding refuses input (Ok done) = IsUntouched input
 StartsFrom None holding refuses input (Err fault) = ⊥
 
 -- the file that is read from its first byte on, if it is there
-abbrev pub file_held : Holding → Reading → Option Device
-file_held missing r = None
-file_held (holds text) r =
+abbrev pub file_source : Holding → Reading → Option Device
+file_source missing r = None
+file_source (holds text) r =
     Some (record {
       before = text;
       after = r.standard.after;
@@ -40,7 +40,7 @@ file_held (holds text) r =
 -- standard input.
 abbrev pub source_of : Option (List ℕ) → Reading → Option Device
 source_of None r = Some r.standard
-source_of (Some name) r = file_held (r.holding name) r
+source_of (Some name) r = file_source (r.holding name) r
 
 -- ---- how a task ends
 
@@ -70,7 +70,7 @@ pub data RunsStream (job : Job) (source out : Device) (is_short : Bool) (err : D
       → RunsStream job source out is_short err status
 
 -- the task, on what is read: only `split` makes files, in its folder, and it writes nothing else
-abbrev pub RunsOpened : Task → Device → Device → Bool → Option (List Event) → Option (List Event)
+abbrev pub RunsOpened : Task → Device → Device → Bool → Option (List FileStep) → Option (List FileStep)
     → Device → ℕ → Type 0
 RunsOpened (Split dir file) source out is_short files files_after err status =
     RunsSplit (added files (entered (string_bytes dir) ∷ [])) files_after source err status

@@ -12,12 +12,12 @@ pub record Shows (text : List ℕ) (out err : Device) (status : ℕ) : Type 0 wh
   pub ill : status ≡ 1 → HasFailed out × Tells err (line (codes "output cannot be written"))
 
 -- a text is reported, and nothing is written to standard output
-pub record Stops (text : List ℕ) (out err : Device) (status code : ℕ) : Type 0 where
+pub record OnlyReports (text : List ℕ) (out err : Device) (status code : ℕ) : Type 0 where
   pub ends : status ≡ code
   pub told : Tells err text
   pub silent : IsUntouched out
 
 abbrev pub AnswersFault : ParseFault → Device → Device → ℕ → Type 0
 AnswersFault (Help text) out err status = Shows (string_bytes text) out err status
-AnswersFault (Bad text) out err status = Stops (string_bytes text) out err status 2
-AnswersFault NoMemory out err status = Stops (line (codes "out of memory")) out err status 3
+AnswersFault (Bad text) out err status = OnlyReports (string_bytes text) out err status 2
+AnswersFault NoMemory out err status = OnlyReports (line (codes "out of memory")) out err status 3

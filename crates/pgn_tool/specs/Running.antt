@@ -17,7 +17,7 @@ use Rattle.pgn_tool.specs.declared.arguments.Task.{Task}
 use Rattle.pgn_tool.specs.declared.arguments.Task.TheVariants.{Export, Check, List as ListGames, Split}
 use Rattle.pgn_tool.specs.declared.list.Stopped.{Stopped}
 use Rattle.pgn_tool.specs.declared.list.Stopped.TheVariants as stopped
-use Rattle.pgn_tool.specs.Listing.{Lists, list_text}
+use Rattle.pgn_tool.specs.Listing.{ListResult, list_text}
 
 -- ---- what is asked for
 
@@ -195,7 +195,7 @@ EndsList (Err stopped.Unwritten) source out err status = Breaks out err status
 -- A run that lists: how the list ended, and how the run ends.
 pub record RunsList (source out err : Device) (status : ℕ) : Type 0 where
   pub answer : Result Unit Stopped
-  pub lists : Lists source.before source.after answer out.before out.after
+  pub lists : ListResult source.before source.after answer out.before out.after
   pub ends : EndsList answer source out err status
 
 -- what a run of a job is

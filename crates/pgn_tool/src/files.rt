@@ -13,13 +13,13 @@ pub enum CreateFault {
 /// Makes the files that games are written to, one for each game.
 pub trait GameFiles {
     ghost use Rattle.std.specs.Prelude.{◌≡◌, List, [], ◌∷◌, Option, IfOk};
-    ghost use Rattle.pgn_tool.specs.Files.{Event, IsNew, added, closed, event_of};
+    ghost use Rattle.pgn_tool.specs.Files.{FileStep, IsNew, added, closed, creation_step};
 
     /// A file that is being written. Dropping it closes it.
     type Out: Sink + Drop;
 
     // What was done with files so far, in order, if that is reported.
-    ghost log: { Self → Option (List Event) };
+    ghost log: { Self → Option (List FileStep) };
 
     /// Makes the file of the game with this number, from 1.
     ///
@@ -29,7 +29,7 @@ pub trait GameFiles {
     ///
     /// The reason why the file is not made.
     fn create(&mut self, number: u64) -> Result<Self::Out, CreateFault>
-        ensures log { log self.new ≡ added (log self.old) (event_of number result ∷ []) }
+        ensures log { log self.new ≡ added (log self.old) (creation_step number result ∷ []) }
         ensures empty { IfOk result (λ out. IsNew (log self.old) (Self.Out.taken out)) }
         ensures fresh { IfOk result (λ out. Self.Out.failures out ≡ 0) };
 

@@ -1,6 +1,6 @@
 //! The sink over the files of games, for one call of the converter.
 ghost use Rattle.std.specs.Prelude.{◌≡◌, ℕ, ◌<◌, true, false, List, [], ◌∷◌, Option, None, IfOk, is_some};
-ghost use Rattle.pgn_tool.specs.Files.{IsNew, added, event_of, failures_in, has_text, steps, told};
+ghost use Rattle.pgn_tool.specs.Files.{IsNew, added, creation_step, failures_in, has_text, steps, open_text};
 
 use crate::files::{CreateFault, GameFiles};
 use pgn_game::{Sink, WriteFault};
@@ -39,7 +39,7 @@ impl<'a, F: GameFiles> Turn<'a, F> {
         ensures refusal { self.new.refusal ≡ self.old.refusal }
         ensures failures { self.new.failures ≡ self.old.failures }
         ensures log { F.log self.new.files.now
-            ≡ added (F.log self.old.files.now) (event_of self.old.number result ∷ []) }
+            ≡ added (F.log self.old.files.now) (creation_step self.old.number result ∷ []) }
         ensures empty { IfOk result (λ out. IsNew (F.log self.old.files.now) (F.Out.taken out)) }
         ensures fresh { IfOk result (λ out. F.Out.failures out ≡ 0) }
     {
@@ -51,7 +51,7 @@ impl<'a, F: GameFiles> Turn<'a, F> {
 /// what was done with files.
 pub trait Before {
     ghost use Rattle.std.specs.Prelude.{ℕ, Bool, List, Option};
-    ghost use Rattle.pgn_tool.specs.Files.{Event};
+    ghost use Rattle.pgn_tool.specs.Files.{FileStep};
 
     ghost name: { ℕ };
 
@@ -59,7 +59,7 @@ pub trait Before {
 
     ghost is_open: { Bool };
 
-    ghost log: { Option (List Event) };
+    ghost log: { Option (List FileStep) };
 }
 
 impl Before for Brand {
@@ -93,7 +93,7 @@ pub struct GameSink<'a, K: Before, F: GameFiles> {
 }
 
 impl<'a, K: Before, F: GameFiles> Sink for GameSink<'a, K, F> {
-    ghost taken = { λ s. told F.Out.taken (F.log s.turn.files.now) s.file };
+    ghost taken = { λ s. open_text F.Out.taken (F.log s.turn.files.now) s.file };
 
     ghost failures = { λ s. s.turn.failures };
 

@@ -1,7 +1,8 @@
 //! Writes a line for each game.
 ghost use Rattle.std.specs.Prelude.{◌≡◌, ◌+◌, ◌^◌, ◌≤◌, [], length, false, None, OnOk, unwrap_or};
 ghost use Rattle.pgn_layout.specs.Device.{Counts, Writes};
-ghost use Rattle.pgn_tool.specs.Listing.{CountsList, CountsSink, Lists, ListsLast, ListsPiece, field, line_at_hand, six_fields};
+ghost use Rattle.pgn_tool.specs.Listing.{CountsList, ListResult, field, line_at_hand, six_fields};
+ghost use Rattle.pgn_tool.specs.ListState.{CountsSink, ListEndResult, ListPieceResult};
 ghost use Rattle.pgn_game.specs.Feeding.{value_at_hand};
 
 use crate::stream::{LEVELS, READ_LENGTH, TAGS};
@@ -42,7 +43,7 @@ type Lister = Converter<TAGS, LEVELS>;
 /// - `Stopped::Refused` at the first fault. The lines of the games finished before it were written.
 /// - `Stopped::Unwritten` if a line could not be written. A prefix of the lines was written.
 pub fn list_games<R: Source, O: Sink>(reader: &mut R, out: &mut O) -> Result<(), Stopped>
-    ensures lists { Lists (R.left reader.old) (R.left reader.new) result (O.taken out.old)
+    ensures lists { ListResult (R.left reader.old) (R.left reader.new) result (O.taken out.old)
         (O.taken out.new) }
     ensures counted { CountsList result (R.failures reader.old) (R.failures reader.new)
         (O.failures out.old) (O.failures out.new) }
@@ -67,7 +68,7 @@ pub fn list_games<R: Source, O: Sink>(reader: &mut R, out: &mut O) -> Result<(),
 fn list_piece<O: Sink>(converter: &mut Lister, piece: &[u8], out: &mut O) -> Result<(), Stopped>
     requires going { converter.old.is_finished ≡ false }
     requires no_fault { converter.old.fault ≡ None }
-    ensures lists { ListsPiece converter.old piece.now converter.new result (O.taken out.old)
+    ensures lists { ListPieceResult converter.old piece.now converter.new result (O.taken out.old)
         (O.taken out.new) }
     ensures count { OnOk result
         (converter.new.lexer.count ≡ converter.old.lexer.count + length piece.now) }
@@ -93,7 +94,7 @@ fn list_piece<O: Sink>(converter: &mut Lister, piece: &[u8], out: &mut O) -> Res
 fn list_last<O: Sink>(converter: &mut Lister, out: &mut O) -> Result<(), Stopped>
     requires going { converter.old.is_finished ≡ false }
     requires no_fault { converter.old.fault ≡ None }
-    ensures lists { ListsLast converter.old result (O.taken out.old) (O.taken out.new) }
+    ensures lists { ListEndResult converter.old result (O.taken out.old) (O.taken out.new) }
     ensures counted { CountsSink result (O.failures out.old) (O.failures out.new) }
 {
     if let Err(fault) = converter.finish(&mut Nowhere) {

@@ -2,10 +2,11 @@
 ghost use Rattle.std.specs.Prelude.{◌≡◌, ◌+◌, ◌^◌, ◌≤◌, false, None, List, Option, OnOk, is_some, length, if◌then◌else◌};
 ghost use Rattle.pgn_layout.specs.Device.{one_more};
 ghost use Rattle.pgn_game.specs.Feeding.{CountsFault, Ends, Feeds};
-ghost use Rattle.pgn_tool.specs.Files.{Event, added, closing, told};
+ghost use Rattle.pgn_tool.specs.Files.{FileStep, added, closing_steps, open_text};
 ghost use Rattle.pgn_tool.specs.Running.{device};
-ghost use Rattle.pgn_tool.specs.SplitGames.{OnceClosed, Splits, SplitsLast, SplitsPiece};
-ghost use Rattle.pgn_tool.specs.Splitting.{CountsSplit, FeedResult, FilesAfter, FilesSoFar, GameEnded, GameFed, IsWell, RunsSplit, Turned, settled};
+ghost use Rattle.pgn_tool.specs.SplitGames.{SplitResult};
+ghost use Rattle.pgn_tool.specs.SplitState.{AfterClosingFile, SplitEndResult, SplitPieceResult};
+ghost use Rattle.pgn_tool.specs.Splitting.{CountsSplit, FeedResult, FilesAfter, FilesSoFar, GameEnded, GameFed, IsWell, RunsSplit, TurnResult, settled};
 
 use crate::files::{CreateFault, GameFiles};
 use crate::game_sink::{Before, GameSink, Turn};
@@ -70,8 +71,9 @@ fn split_source<R: Source, F: GameFiles>(
     ensures files { FilesAfter F.Out.taken F.Out.failures (F.log files.old) result
         (F.log files.new) file.new count.new }
     ensures counted { CountsSplit result (R.failures reader.old) (R.failures reader.new) }
-    ensures splits { OnceClosed F.Out.taken F.Out.failures (F.log files.new) file.new
-        (λ after. Splits (R.left reader.old) (R.left reader.new) result (F.log files.old) after) }
+    ensures splits { AfterClosingFile F.Out.taken F.Out.failures (F.log files.new) file.new
+        (λ after. SplitResult (R.left reader.old) (R.left reader.new) result (F.log files.old)
+        after) }
 {
     let mut buffer = [0; READ_LENGTH];
     let mut converter = Splitter::new(Mode::Full);
@@ -107,10 +109,11 @@ fn split_piece<F: GameFiles>(
     ensures no_fault { OnOk result (converter.new.fault ≡ None) }
     ensures well { OnOk result (IsWell F.Out.taken F.Out.failures (F.log files.new) file.new) }
     ensures counted { CountsSplit result 0 0 }
-    ensures files { (before : Option (List Event))
+    ensures files { (before : Option (List FileStep))
         → FilesSoFar before (F.log files.old) file.old count.old
         → FilesAfter F.Out.taken F.Out.failures before result (F.log files.new) file.new count.new }
-    ensures splits { SplitsPiece F.Out.taken F.Out.failures converter.old piece.now converter.new
+    ensures splits { SplitPieceResult F.Out.taken F.Out.failures converter.old piece.now
+        converter.new
         result (F.log files.old) file.old count.old (F.log files.new) file.new count.new }
 {
     let mut at = 0;
@@ -134,10 +137,10 @@ fn split_last<F: GameFiles>(
     requires no_fault { converter.old.fault ≡ None }
     requires well { IsWell F.Out.taken F.Out.failures (F.log files.old) file.old }
     ensures counted { CountsSplit result 0 0 }
-    ensures files { (before : Option (List Event))
+    ensures files { (before : Option (List FileStep))
         → FilesSoFar before (F.log files.old) file.old count
         → FilesAfter F.Out.taken F.Out.failures before result (F.log files.new) file.new count }
-    ensures splits { SplitsLast F.Out.taken F.Out.failures converter.old result
+    ensures splits { SplitEndResult F.Out.taken F.Out.failures converter.old result
         (F.log files.old) file.old count (F.log files.new) file.new }
 {
     due_grows();
@@ -150,7 +153,7 @@ fn split_last<F: GameFiles>(
 fn close<F: GameFiles>(files: &mut F, file: &mut Option<F::Out>, count: &mut u64)
     ensures shut { file.new ≡ None }
     ensures log { F.log files.new
-        ≡ added (F.log files.old) (closing F.Out.taken F.Out.failures file.old) }
+        ≡ added (F.log files.old) (closing_steps F.Out.taken F.Out.failures file.old) }
     ensures count { count.new ≡ (if is_some file.old then one_more count.old else count.old) }
 {
     if let Some(out) = file.take() {
@@ -230,12 +233,13 @@ fn feed_sink<'a, K: Before, F: GameFiles>(
     requires open { is_some file.old ≡ K.is_open }
     requires well { IsWell F.Out.taken F.Out.failures K.log file.old }
     ensures same { result.files.ghost_name ≡ turn.entry.files.ghost_name }
-    ensures turned { Turned F.Out.taken F.Out.failures K.number K.log file.old
+    ensures turned { TurnResult F.Out.taken F.Out.failures K.number K.log file.old
         (F.log result.files.now) file.new result.refusal result.failures }
     ensures counted { CountsFault answer.new 0 result.failures }
     ensures fed { FeedResult converter.old piece.now converter.new answer.new }
     ensures feeds { Feeds converter.old piece.now converter.new answer.new
-        (told F.Out.taken K.log file.old) (told F.Out.taken (F.log result.files.now) file.new) }
+        (open_text F.Out.taken K.log file.old)
+        (open_text F.Out.taken (F.log result.files.now) file.new) }
 {
     let mut sink = GameSink::<'a, K, F> {
         turn,
@@ -268,11 +272,12 @@ fn finish_sink<'a, K: Before, F: GameFiles>(
     requires open { is_some file.old ≡ K.is_open }
     requires well { IsWell F.Out.taken F.Out.failures K.log file.old }
     ensures same { result.files.ghost_name ≡ turn.entry.files.ghost_name }
-    ensures turned { Turned F.Out.taken F.Out.failures K.number K.log file.old
+    ensures turned { TurnResult F.Out.taken F.Out.failures K.number K.log file.old
         (F.log result.files.now) file.new result.refusal result.failures }
     ensures counted { CountsFault answer.new 0 result.failures }
     ensures ends { Ends converter.old converter.new answer.new
-        (told F.Out.taken K.log file.old) (told F.Out.taken (F.log result.files.now) file.new) }
+        (open_text F.Out.taken K.log file.old)
+        (open_text F.Out.taken (F.log result.files.now) file.new) }
 {
     let mut sink = GameSink::<'a, K, F> {
         turn,

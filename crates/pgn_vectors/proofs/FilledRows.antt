@@ -20,7 +20,7 @@ use Rattle.pgn_game.specs.FixedPoint.{HasRoom, AreExportable, TextSpells, FixedP
 use Rattle.pgn_game.specs.Game as games
 use Rattle.pgn_game.specs.Game.{Item, Game}
 use Rattle.pgn_game.specs.Pairs.{Pair}
-use Rattle.pgn_game.specs.Spells.{Spells, no_pair, no_game, next_game, no_more, nothing_played}
+use Rattle.pgn_game.specs.Spells.{Spells, no_pair, no_game, next_game, no_more, new_level}
 use Rattle.pgn_game.specs.TagSection.{roster}
 use Rattle.pgn_game.specs.Text.{text_of}
 use Rattle.pgn_vectors.proofs.MoveRows.{played}
@@ -143,7 +143,7 @@ kept_result : IsKept checked (counted 1) (unknown ++ codes "[Result \"1-0\"]\n\n
 unfolding refusal roster
 kept_result = (refl, refl)
 
--- Where a game may have fewer pairs than its tag section has lines, its text is refused.
+-- Where a game may have fewer pairs than its tag section has lines, its text is rejected.
 abbrev seven_pairs : Profile
 seven_pairs = record { tags = 7; depth = 0; mode = Full; missing_result = counts_as (codes "*") }
 
@@ -251,7 +251,7 @@ marker_alone =
       sorted = refl;
       set_up = λ e. absurd (cc);
       bare = λ e. tt;
-      items = no_more 0 (nothing_played []);
+      items = no_more 0 (new_level []);
       marker = refl;
       result = refl;
     })

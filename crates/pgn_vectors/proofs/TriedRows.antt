@@ -47,7 +47,7 @@ no_form =
     (passes _ _ _ 3 0 refl (record { found = 3; finds = refl; writes = quiet _ 3 refl })
     (refused _ _ _ 0 NotAMove refl (record { found = 0; finds = refl; writes = refl }))))
 
--- the one pair of castling counts, though it is refused
+-- the one pair of castling counts, though it is rejected
 refused_castling : MostTried plain (tokens_of (codes "O-O ")) 1
 unfolding refusal Costs move_of play position_of first_position squares agreeing
 refused_castling = refused _ _ _ 1 IllegalMove refl (record { found = 1; finds = refl; writes = refl })

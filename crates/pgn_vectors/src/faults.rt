@@ -1,9 +1,9 @@
-//! Inputs that are refused.
+//! Inputs that are rejected.
 use crate::rows::{refused, torn, unknown};
 use crate::{Vector, Verdict};
 use pgn_game::{Fault, LexReason, Mode, Reason};
 
-/// Inputs that are refused; a name begins with the number of the reason.
+/// Inputs that are rejected; a name begins with the number of the reason.
 pub const FAULTS: &[Vector] = &[
     refused!("1", " % *", 1, Reason::Lexical(LexReason::StrayByte)),
     refused!(

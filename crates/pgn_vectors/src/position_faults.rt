@@ -1,9 +1,9 @@
-//! Inputs with a FEN pair that are refused.
+//! Inputs with a FEN pair that are rejected.
 use crate::rows::{refused, refused_from_position};
 use crate::{Vector, Verdict};
 use pgn_game::{Fault, Mode, Reason};
 
-/// Inputs that are refused at the first move from the position of a FEN pair, or at the pair; a
+/// Inputs that are rejected at the first move from the position of a FEN pair, or at the pair; a
 /// name begins with the number of the reason.
 pub const POSITION_FAULTS: &[Vector] = &[
     refused_from_position!(

@@ -103,7 +103,7 @@ macro_rules! from_position {
     };
 }
 
-/// An input that is refused with nothing written: the place and the reason.
+/// An input that is rejected with nothing written: the place and the reason.
 macro_rules! refused {
     ($name:literal, $input:expr, $at:literal, $reason:expr) => {
         Vector {
@@ -116,14 +116,14 @@ macro_rules! refused {
     };
 }
 
-/// An input that is refused behind a FEN pair, with nothing written: the place and the reason.
+/// An input that is rejected behind a FEN pair, with nothing written: the place and the reason.
 macro_rules! refused_from_position {
     ($name:literal, $fen:literal, $behind:literal, $at:literal, $reason:expr) => {
         refused!($name, concat!("[FEN \"", $fen, "\"]\n", $behind), $at, $reason)
     };
 }
 
-/// An input without pairs that is refused in movetext: the place, the reason, and the lines of
+/// An input without pairs that is rejected in movetext: the place, the reason, and the lines of
 /// movetext that are written.
 macro_rules! torn {
     ($name:literal, $input:expr, $at:literal, $reason:expr $(, $line:literal)*) => {

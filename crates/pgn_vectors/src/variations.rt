@@ -3,7 +3,7 @@ use crate::rows::{converted, game, pairs, reduced, torn, torn_reduced, two_games
 use crate::{Vector, Verdict};
 use pgn_game::{Fault, Mode, Reason};
 
-/// Games with variations, in full and reduced, and those that are refused in them.
+/// Games with variations, in full and reduced, and those that are rejected in them.
 pub const VARIATIONS: &[Vector] = &[
     game!(
         "sibling-variations",

@@ -1,5 +1,5 @@
 use Rattle.std.proofs.Common.{ap, sym, ◌∙◌, arith}
-use Rattle.pgn_c.proofs.Converting.{is_full, when_ok}
+use Rattle.pgn_c.proofs.ConversionToBuffer.{is_full, when_ok}
 use Rattle.pgn_c.proofs.pgn_check.Goals as goal
 
 pub returns : goal.returns

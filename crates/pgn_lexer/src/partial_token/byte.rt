@@ -12,13 +12,13 @@ use crate::token::{LexFault, LexReason};
 
 impl PartialToken {
     ghost use Rattle.pgn_lexer.specs.Spelling as spelling;
-    ghost use Rattle.pgn_lexer.specs.Taking.{Takes};
-    ghost use Rattle.pgn_lexer.specs.Held.{HasMore};
+    ghost use Rattle.pgn_lexer.specs.Taking.{IsAfterByte};
+    ghost use Rattle.pgn_lexer.specs.PartialToken.{HasMore};
 
     /// Takes the byte at the place: gives it to the handler of the mode.
-    #[tactic(auto, unfolding(crate::specs::Taking::taken))]
+    #[tactic(auto, unfolding(crate::specs::Taking::after_byte))]
     pub(crate) fn take(&mut self, byte: u8, place: u64) -> Step
-        ensures { Takes (taking.taken place self.old byte) self.new result }
+        ensures { IsAfterByte (taking.after_byte place self.old byte) self.new result }
     {
         match self.mode {
             Mode::Start => self.start(byte, place),
@@ -42,7 +42,7 @@ impl PartialToken {
     }
 
     fn fail(&mut self, at: u64, reason: LexReason) -> Step
-        ensures { Takes (taking.fails self.old at reason) self.new result }
+        ensures { IsAfterByte (taking.fails self.old at reason) self.new result }
     {
         let fault = LexFault { at, reason };
         self.at = at;
@@ -51,7 +51,7 @@ impl PartialToken {
     }
 
     fn start(&mut self, byte: u8, place: u64) -> Step
-        ensures { Takes (taking.start place self.old byte) self.new result }
+        ensures { IsAfterByte (taking.start place self.old byte) self.new result }
     {
         if byte == 0xEF {
             self.mode = Mode::AfterEf;
@@ -61,7 +61,7 @@ impl PartialToken {
     }
 
     fn after_ef(&mut self, byte: u8) -> Step
-        ensures { Takes (taking.after_ef self.old byte) self.new result }
+        ensures { IsAfterByte (taking.after_ef self.old byte) self.new result }
     {
         if byte == 0xBB {
             self.mode = Mode::AfterEfBb;
@@ -71,7 +71,7 @@ impl PartialToken {
     }
 
     fn after_ef_bb(&mut self, byte: u8) -> Step
-        ensures { Takes (taking.after_ef_bb self.old byte) self.new result }
+        ensures { IsAfterByte (taking.after_ef_bb self.old byte) self.new result }
     {
         if byte == 0xBF {
             self.mode = Mode::LineStart;
@@ -81,7 +81,7 @@ impl PartialToken {
     }
 
     fn begin_line(&mut self, byte: u8, place: u64) -> Step
-        ensures { Takes (taking.begin_line place self.old byte (spelling.class byte)) self.new
+        ensures { IsAfterByte (taking.begin_line place self.old byte (spelling.class byte)) self.new
             result }
     {
         match class_of(byte) {
@@ -94,7 +94,7 @@ impl PartialToken {
     }
 
     fn begin(&mut self, class: Class, byte: u8, place: u64) -> Step
-        ensures { Takes (taking.begin place self.old byte class) self.new result }
+        ensures { IsAfterByte (taking.begin place self.old byte class) self.new result }
     {
         self.at = place;
         match class {
@@ -121,7 +121,7 @@ impl PartialToken {
 
     fn escape(&mut self, byte: u8) -> Step
         requires { self.old.mode ≡ Mode.Escape }
-        ensures { Takes (taking.escape self.old byte) self.new result }
+        ensures { IsAfterByte (taking.escape self.old byte) self.new result }
     {
         if is_line_end(byte) {
             self.mode = Mode::LineStart;
@@ -131,7 +131,7 @@ impl PartialToken {
 
     pub(crate) fn symbol(&mut self, byte: u8) -> Step
         requires { self.old.mode ≡ Mode.Symbol }
-        ensures { Takes (taking.symbol self.old byte) self.new result }
+        ensures { IsAfterByte (taking.symbol self.old byte) self.new result }
     {
         if !continues_symbol(byte) {
             self.mode = Mode::Outside;
@@ -145,7 +145,7 @@ impl PartialToken {
     }
 
     fn dollar(&mut self, byte: u8) -> Step
-        ensures { Takes (taking.dollar self.old byte) self.new result }
+        ensures { IsAfterByte (taking.dollar self.old byte) self.new result }
     {
         if !is_digit(byte) {
             return self.fail(self.at, LexReason::LoneDollar);
@@ -155,7 +155,7 @@ impl PartialToken {
     }
 
     fn glyph(&mut self, number: u8, byte: u8) -> Step
-        ensures { Takes (taking.glyph self.old number byte) self.new result }
+        ensures { IsAfterByte (taking.glyph self.old number byte) self.new result }
     {
         if !is_digit(byte) {
             self.mode = Mode::Outside;
@@ -170,7 +170,7 @@ impl PartialToken {
     }
 
     fn suffix(&mut self, run: SuffixRun, byte: u8) -> Step
-        ensures { Takes (taking.suffix self.old run byte) self.new result }
+        ensures { IsAfterByte (taking.suffix self.old run byte) self.new result }
     {
         if !is_suffix(byte) {
             self.mode = Mode::Outside;
@@ -199,8 +199,8 @@ impl PartialToken {
 
     fn string(&mut self, byte: u8, place: u64) -> Step
         requires { self.old.mode ≡ Mode.Str }
-        ensures { Takes (taking.string place self.old byte (spelling.string_class byte)) self.new
-            result }
+        ensures { IsAfterByte (taking.string place self.old byte (spelling.string_class byte))
+            self.new result }
     {
         match string_class_of(byte) {
             StringClass::Quote => {
@@ -228,8 +228,8 @@ impl PartialToken {
 
     fn after_backslash(&mut self, byte: u8, place: u64) -> Step
         requires { self.old.mode ≡ Mode.AfterBackslash }
-        ensures { Takes (taking.after_backslash place self.old byte (spelling.string_class byte))
-            self.new result }
+        ensures { IsAfterByte (taking.after_backslash place self.old byte
+            (spelling.string_class byte)) self.new result }
     {
         match string_class_of(byte) {
             StringClass::Quote | StringClass::Backslash => {
@@ -252,8 +252,8 @@ impl PartialToken {
     }
 
     fn brace(&mut self, byte: u8, place: u64) -> Step
-        ensures { Takes (taking.brace place self.old byte (spelling.comment_class byte)) self.new
-            result }
+        ensures { IsAfterByte (taking.brace place self.old byte (spelling.comment_class byte))
+            self.new result }
     {
         self.at = place;
         match comment_class_of(byte) {
@@ -266,8 +266,8 @@ impl PartialToken {
 
     pub(crate) fn brace_word(&mut self, byte: u8) -> Step
         requires { self.old.mode ≡ Mode.BraceWord }
-        ensures { Takes (taking.brace_word self.old byte (spelling.comment_class byte)) self.new
-            result }
+        ensures { IsAfterByte (taking.brace_word self.old byte (spelling.comment_class byte))
+            self.new result }
     {
         match comment_class_of(byte) {
             CommentClass::WordByte => self.word(byte),
@@ -279,8 +279,8 @@ impl PartialToken {
     }
 
     fn line(&mut self, byte: u8, place: u64) -> Step
-        ensures { Takes (taking.line place self.old byte (spelling.comment_class byte)) self.new
-            result }
+        ensures { IsAfterByte (taking.line place self.old byte (spelling.comment_class byte))
+            self.new result }
     {
         self.at = place;
         match comment_class_of(byte) {
@@ -294,8 +294,8 @@ impl PartialToken {
 
     fn line_word(&mut self, byte: u8) -> Step
         requires { self.old.mode ≡ Mode.LineWord }
-        ensures { Takes (taking.line_word self.old byte (spelling.comment_class byte)) self.new
-            result }
+        ensures { IsAfterByte (taking.line_word self.old byte (spelling.comment_class byte))
+            self.new result }
     {
         match comment_class_of(byte) {
             CommentClass::WordByte => self.word(byte),
@@ -308,7 +308,7 @@ impl PartialToken {
 
     /// One byte more of a word.
     fn word(&mut self, byte: u8) -> Step
-        ensures { Takes (taking.word self.old self.old.mode byte) self.new result }
+        ensures { IsAfterByte (taking.word self.old self.old.mode byte) self.new result }
     {
         if self.buffer.len() >= 79 {
             return self.fail(self.at, LexReason::WordTooLong);
@@ -327,7 +327,7 @@ impl PartialToken {
 
     fn go(&mut self, mode: Mode) -> Step
         requires { HasMore mode self.old.text }
-        ensures { Takes (taking.into self.old mode Step.Used) self.new result }
+        ensures { IsAfterByte (taking.into self.old mode Step.Used) self.new result }
     {
         self.mode = mode;
         Step::Used
@@ -335,7 +335,7 @@ impl PartialToken {
 
     fn end(&mut self, mode: Mode, form: TokenForm) -> Step
         requires { HasMore mode self.old.text }
-        ensures { Takes (taking.into self.old mode (Step.Ends form)) self.new result }
+        ensures { IsAfterByte (taking.into self.old mode (Step.Ends form)) self.new result }
     {
         self.mode = mode;
         Step::Ends(form)
@@ -343,7 +343,8 @@ impl PartialToken {
 
     pub(crate) fn begin_text(&mut self, mode: Mode, byte: u8) -> Step
         requires { HasMore mode (byte ∷ []) }
-        ensures { Takes (taking.set_at mode self.old.at (byte ∷ []) Step.Used) self.new result }
+        ensures { IsAfterByte (taking.set_at mode self.old.at (byte ∷ []) Step.Used) self.new
+            result }
     {
         self.buffer.clear();
         self.buffer.push(byte);
@@ -352,7 +353,7 @@ impl PartialToken {
     }
 
     pub(crate) fn begin_string(&mut self) -> Step
-        ensures { Takes (taking.set_at Mode.Str self.old.at [] Step.Used) self.new result }
+        ensures { IsAfterByte (taking.set_at Mode.Str self.old.at [] Step.Used) self.new result }
     {
         self.buffer.clear();
         self.mode = Mode::Str;

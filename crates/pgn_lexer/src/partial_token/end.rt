@@ -6,14 +6,14 @@ use crate::partial_token::{AtEnd, Mode, PartialToken, TokenForm, glyph_of};
 use crate::token::{LexFault, LexReason, Token};
 
 impl PartialToken {
-    ghost use Rattle.pgn_lexer.specs.Taking.{Closes};
-    ghost use Rattle.pgn_lexer.specs.Held.{HasMore};
+    ghost use Rattle.pgn_lexer.specs.Taking.{IsAfterEnd};
+    ghost use Rattle.pgn_lexer.specs.PartialToken.{HasMore};
 
     /// Ends the text at the place: gives a token that is left, after which there may be more, or
     /// the end.
-    #[tactic(auto, unfolding(crate::specs::Taking::closed))]
+    #[tactic(auto, unfolding(crate::specs::Taking::after_end))]
     pub(crate) fn close(&mut self, place: u64) -> AtEnd
-        ensures { Closes (taking.closed place self.old) self.new result }
+        ensures { IsAfterEnd (taking.after_end place self.old) self.new result }
     {
         match self.mode {
             Mode::Start | Mode::LineStart | Mode::Outside | Mode::Escape => AtEnd::End,
@@ -38,7 +38,7 @@ impl PartialToken {
     }
 
     fn fail_at_end(&mut self, at: u64, reason: LexReason) -> AtEnd
-        ensures { Closes (taking.stops self.old at reason) self.new result }
+        ensures { IsAfterEnd (taking.stops self.old at reason) self.new result }
     {
         let fault = LexFault { at, reason };
         self.at = at;
@@ -48,7 +48,7 @@ impl PartialToken {
 
     fn give(&mut self, mode: Mode, form: TokenForm) -> AtEnd
         requires { HasMore mode self.old.text }
-        ensures { Closes (taking.gives self.old mode self.old.at form) self.new result }
+        ensures { IsAfterEnd (taking.gives self.old mode self.old.at form) self.new result }
     {
         self.mode = mode;
         AtEnd::Token(form)

@@ -10,7 +10,7 @@ use crate::partial_token::{Found, Mode, PartialToken, Step, TokenForm};
 use crate::token::Token;
 
 impl PartialToken {
-    ghost use Rattle.pgn_lexer.specs.Held.{IsSound};
+    ghost use Rattle.pgn_lexer.specs.PartialToken.{IsSound};
     ghost use Rattle.pgn_lexer.specs.Running.{IsOutside, RunGives, RunsOn};
 
     /// Uses the piece, which begins at the place, up to the end of the first token. A rejected byte

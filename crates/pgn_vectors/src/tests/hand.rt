@@ -169,7 +169,7 @@ fn counts_at_fault(rt: &impl Abort, input: &[u8], pairs: u32) {
     assert_eq!(rt; converter.most_probes(), pairs);
 }
 
-// Three pawns see e4. Castling is one pair, also where it is refused. A knight's move is one pair
+// Three pawns see e4. Castling is one pair, also where it is rejected. A knight's move is one pair
 // to find it, and one for its SAN.
 #[test]
 fn counts_pairs_up_to_a_fault(rt: HostRuntime) {

@@ -3,8 +3,8 @@ use Rattle.chess_rules.specs.Masks.{adjacent_mask}
 use Rattle.chess_rules.specs.Square.{is_adjacent}
 use Rattle.chess_rules.specs.Walk.{square_at}
 use Rattle.chess_rules.specs.Words.{mask, word}
-use Rattle.chess_rules.proofs.Kings.{square_at-cell_of}
-use Rattle.chess_rules.proofs.Places.{places, table_at}
+use Rattle.chess_rules.proofs.positions.OneKing.{square_at-cell_of}
+use Rattle.chess_rules.proofs.squares.TablesOfSquares.{places, table_at}
 use Rattle.chess_rules.proofs.attack.adjacent.Goals as goal
 
 pub returns : goal.returns

@@ -1,5 +1,5 @@
 use Rattle.std.proofs.Common.{sym, ◌∙◌}
-use Rattle.chess_rules.proofs.Attackers.{no_place, one_place}
+use Rattle.chess_rules.proofs.rays.AttackersNearAndFar.{no_place, one_place}
 use Rattle.chess_rules.proofs.attack.first_hit.Goals as goal
 
 pub returns-in-None : goal.returns-in-None

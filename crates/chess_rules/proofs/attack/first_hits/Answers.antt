@@ -1,4 +1,4 @@
-use Rattle.chess_rules.proofs.Attackers.{first_places}
+use Rattle.chess_rules.proofs.rays.AttackersNearAndFar.{first_places}
 use Rattle.chess_rules.proofs.attack.first_hits.Goals as goal
 
 pub returns : goal.returns

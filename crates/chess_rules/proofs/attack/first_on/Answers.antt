@@ -1,7 +1,7 @@
 use Rattle.std.proofs.Common.{◌∙◌, ap, sym}
 use Rattle.std.specs.Prelude.{Some}
 use Rattle.std.specs.Int.Bits.{bit_and}
-use Rattle.chess_rules.proofs.FirstOn.{hits, first_of_none, first_of_up, first_of_down}
+use Rattle.chess_rules.proofs.rays.FirstToPlace.{hits, first_of_none, first_of_up, first_of_down}
 use Rattle.chess_rules.proofs.attack.first_on.Goals as goal
 
 pub returns-then-hits-eq0 : goal.returns-then-hits-eq0

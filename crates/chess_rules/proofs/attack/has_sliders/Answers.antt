@@ -1,4 +1,4 @@
-use Rattle.chess_rules.proofs.Attackers.{slider_test}
+use Rattle.chess_rules.proofs.rays.AttackersNearAndFar.{slider_test}
 use Rattle.chess_rules.proofs.attack.has_sliders.Goals as goal
 
 pub returns : goal.returns

@@ -1,7 +1,7 @@
 use Rattle.std.proofs.Common.{◌∙◌, ap}
 use Rattle.chess_rules.specs.Square.{is_adjacent}
 use Rattle.chess_rules.specs.Words.{has}
-use Rattle.chess_rules.proofs.Sets.{at_square}
+use Rattle.chess_rules.proofs.squares.SetsToSquares.{at_square}
 use Rattle.chess_rules.proofs.attack.is_adjacent.Goals as goal
 
 pub returns : goal.returns

@@ -4,8 +4,8 @@ use Rattle.std.specs.Int.Bits.{bit_and}
 use Rattle.std.proofs.lemmas.Nat.{and_le_l}
 use Rattle.chess_rules.specs.Masks.{attacks_near, slides}
 use Rattle.chess_rules.specs.Walk.{is_first}
-use Rattle.chess_rules.proofs.Attackers.{attacked_near, far_test, none_slides, not_attacked}
-use Rattle.chess_rules.proofs.Sets.{none_passes, one_passes, places_and}
+use Rattle.chess_rules.proofs.rays.AttackersNearAndFar.{attacked_near, far_test, none_slides, not_attacked}
+use Rattle.chess_rules.proofs.squares.SetsToSquares.{none_passes, one_passes, places_and}
 use Rattle.chess_rules.proofs.attack.is_attacked.Goals as goal
 
 pub returns-then-near_attackers-ne0 : goal.returns-then-near_attackers-ne0

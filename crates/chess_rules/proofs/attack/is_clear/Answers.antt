@@ -1,5 +1,5 @@
 use Rattle.std.proofs.Common.{sym, ◌∙◌, ap}
-use Rattle.chess_rules.proofs.Reach.{clear_test, not_empty}
+use Rattle.chess_rules.proofs.rays.AttacksByRay.{clear_test, not_empty}
 use Rattle.chess_rules.specs.Walk.{first_on, is_there}
 use Rattle.chess_rules.proofs.attack.is_clear.Goals as goal
 

@@ -4,8 +4,8 @@ use Rattle.chess_rules.specs.declared.piece.Kind.TheVariants.{Pawn}
 use Rattle.chess_rules.specs.Masks.{white_pawn_mask, black_pawn_mask}
 use Rattle.chess_rules.specs.Walk.{square_at, reaches}
 use Rattle.chess_rules.specs.Words.{mask, word}
-use Rattle.chess_rules.proofs.Kings.{square_at-cell_of}
-use Rattle.chess_rules.proofs.Places.{places, table_at}
+use Rattle.chess_rules.proofs.positions.OneKing.{square_at-cell_of}
+use Rattle.chess_rules.proofs.squares.TablesOfSquares.{places, table_at}
 use Rattle.chess_rules.proofs.attack.pawns_to.Goals as goal
 
 pub returns-in-White : goal.returns-in-White

@@ -4,7 +4,7 @@ use Rattle.chess_rules.specs.declared.piece.Kind.{Kind}
 use Rattle.chess_rules.specs.Square.{in_line, on_diagonal}
 use Rattle.chess_rules.specs.Walk.{reaches}
 use Rattle.chess_rules.specs.Words.{Places}
-use Rattle.chess_rules.proofs.Sets.{places_or}
+use Rattle.chess_rules.proofs.squares.SetsToSquares.{places_or}
 use Rattle.chess_rules.proofs.attack.reaching.Goals as goal
 
 pub returns-in-Queen : goal.returns-in-Queen

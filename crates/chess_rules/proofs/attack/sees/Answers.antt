@@ -2,7 +2,7 @@ use Rattle.std.proofs.Common.{◌||◌, ◌∙◌, ap}
 use Rattle.std.specs.Int.Bits.{bit_or}
 use Rattle.chess_rules.specs.Square.{in_line, on_diagonal}
 use Rattle.chess_rules.specs.Words.{has}
-use Rattle.chess_rules.proofs.Sets.{at_square, places_or}
+use Rattle.chess_rules.proofs.squares.SetsToSquares.{at_square, places_or}
 use Rattle.chess_rules.proofs.attack.sees.Goals as goal
 
 pub returns : goal.returns

@@ -1,4 +1,4 @@
-use Rattle.chess_rules.proofs.WordLemmas.{chosen_else}
+use Rattle.chess_rules.proofs.squares.WordsToCells.{chosen_else}
 use Rattle.chess_rules.proofs.board.chosen.Goals as goal
 
 pub returns-else-value : goal.returns-else-value

@@ -7,8 +7,8 @@ use Rattle.chess_rules.specs.Square.{Square}
 use Rattle.chess_rules.specs.Candidate.{candidates}
 use Rattle.chess_rules.specs.Step.{own}
 use Rattle.chess_rules.specs.Words.{members, Places}
-use Rattle.chess_rules.proofs.Found.{apart_there, candidates_apart, rides_unless}
-use Rattle.chess_rules.proofs.CandidateSets.{few_there, knights_are, own_places, riders_are}
+use Rattle.chess_rules.proofs.trying.CandidatesFoundOnce.{apart_there, candidates_apart, rides_unless}
+use Rattle.chess_rules.proofs.trying.SetsToCandidates.{few_there, knights_are, own_places, riders_are}
 use Rattle.chess_rules.proofs.candidates.origins.Goals as goal
 use Rattle.chess_rules.proofs.candidates.origins.Goals.{After-knights_to, After-first_hits}
 

@@ -1,6 +1,6 @@
 use Rattle.std.proofs.Common.{◌≡◌, ◌++◌, ◌∷◌, [], length, append_assoc, append-nil, length-append, sym, ◌∙◌, ap, arith}
 use Rattle.chess_rules.specs.Words.{members}
-use Rattle.chess_rules.proofs.Sets.{next_member, no_member, some_member}
+use Rattle.chess_rules.proofs.squares.SetsToSquares.{next_member, no_member, some_member}
 use Rattle.chess_rules.proofs.candidates.squares_of.Goals as goal
 use Rattle.chess_rules.proofs.candidates.squares_of.Goals.{After-with-left}
 

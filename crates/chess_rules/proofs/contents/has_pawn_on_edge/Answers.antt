@@ -1,6 +1,6 @@
 use Rattle.std.proofs.Common.{sym, ◌∙◌}
-use Rattle.chess_rules.proofs.Squares.{true_or, false_or}
-use Rattle.chess_rules.proofs.Edges.{pawn_on_edge_ranks}
+use Rattle.chess_rules.proofs.squares.AllSquares.{true_or, false_or}
+use Rattle.chess_rules.proofs.positions.PawnsOnEdge.{pawn_on_edge_ranks}
 use Rattle.chess_rules.proofs.contents.has_pawn_on_edge.Goals as goal
 
 pub returns-then-has_pawn_on : goal.returns-then-has_pawn_on

@@ -1,7 +1,7 @@
 use Rattle.std.proofs.Common.{◌≡◌, ◌+◌, ◌*◌, refl, ◌∙◌, ap, arith}
 use Rattle.chess_rules.specs.Board.{cell_of}
 use Rattle.chess_rules.specs.Walk.{square_there, jump_numbered, landing_place}
-use Rattle.chess_rules.proofs.Places.{table_at, landing_place_is, step_again}
+use Rattle.chess_rules.proofs.squares.TablesOfSquares.{table_at, landing_place_is, step_again}
 use Rattle.chess_rules.proofs.direction.landing.Goals as goal
 
 pub returns : goal.returns

@@ -5,9 +5,9 @@ use Rattle.chess_rules.specs.declared.piece.Colour.{Colour}
 use Rattle.chess_rules.specs.declared.piece.Kind.TheVariants.{King}
 use Rattle.chess_rules.specs.Square.{Square, on_board}
 use Rattle.chess_rules.specs.Board.{Board, at, has_piece}
-use Rattle.chess_rules.proofs.Squares.{first_true, second_true}
-use Rattle.chess_rules.proofs.Kings.{StandsAt, king_only_there}
-use Rattle.chess_rules.proofs.Sound.{Sound, sound_from_position}
+use Rattle.chess_rules.proofs.squares.AllSquares.{first_true, second_true}
+use Rattle.chess_rules.proofs.positions.OneKing.{StandsAt, king_only_there}
+use Rattle.chess_rules.proofs.positions.RulesOfPosition.{Sound, sound_from_position}
 use Rattle.chess_rules.proofs.laws.one_king_a_side.Goals as goal
 
 stands : (b : Board) (c : Colour) (s : Square) → on_board s ≡ true → has_piece c King (at b s) ≡ true → StandsAt c b s

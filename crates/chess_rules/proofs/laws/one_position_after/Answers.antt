@@ -1,4 +1,4 @@
-use Rattle.chess_rules.proofs.Leaves.{one_after}
+use Rattle.chess_rules.proofs.moves.LegalToPosition.{one_after}
 use Rattle.chess_rules.proofs.laws.one_position_after.Goals as goal
 
 pub returns : goal.returns

@@ -1,4 +1,4 @@
-use Rattle.chess_rules.proofs.Promotions.{promotions_alike}
+use Rattle.chess_rules.proofs.trying.PromotionsAlike.{promotions_alike}
 use Rattle.chess_rules.proofs.laws.promotions_are_alike.Goals as goal
 
 pub returns : goal.returns

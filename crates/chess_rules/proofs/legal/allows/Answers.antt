@@ -1,5 +1,5 @@
 use Rattle.std.proofs.Common.{sym, ◌∙◌}
-use Rattle.chess_rules.proofs.Plain.{none_unless_step}
+use Rattle.chess_rules.proofs.moves.PlainStepAttacks.{none_unless_step}
 use Rattle.chess_rules.proofs.legal.allows.Goals as goal
 
 pub returns-else-is_step : goal.returns-else-is_step

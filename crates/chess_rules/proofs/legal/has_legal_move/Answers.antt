@@ -1,10 +1,10 @@
 use Rattle.std.proofs.Common.{◌≡◌, ◌+◌, ◌≤◌, sym, ◌∙◌, arith}
 use Rattle.chess_rules.specs.Candidate.{pair_count}
 use Rattle.chess_rules.specs.Pairs.{count_king_steps, count_others}
-use Rattle.chess_rules.proofs.Squares.{true_or, false_or}
-use Rattle.chess_rules.proofs.Sound.{sound_from_position}
-use Rattle.chess_rules.proofs.Totals.{pair_count_parts, pair_count_most}
-use Rattle.chess_rules.proofs.Trying.{legal_move_found}
+use Rattle.chess_rules.proofs.squares.AllSquares.{true_or, false_or}
+use Rattle.chess_rules.proofs.positions.RulesOfPosition.{sound_from_position}
+use Rattle.chess_rules.proofs.trying.PairCounts.{pair_count_parts, pair_count_most}
+use Rattle.chess_rules.proofs.trying.LegalIsTried.{legal_move_found}
 use Rattle.chess_rules.proofs.legal.has_legal_move.Goals as goal
 
 pub any_king_step-requires : goal.any_king_step-requires

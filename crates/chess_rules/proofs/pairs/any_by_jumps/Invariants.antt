@@ -1,6 +1,6 @@
 use Rattle.chess_rules.specs.declared.direction.TheConstants.{JUMPS}
 use Rattle.chess_rules.specs.Pairs as spec
-use Rattle.chess_rules.proofs.Counting.{Stands}
+use Rattle.chess_rules.proofs.trying.SearchThatCounts.{Stands}
 use Rattle.chess_rules.proofs.pairs.any_by_jumps.Given as goal
 
 abbrev pub invariant-loop-jump : goal.invariant-loop-jump

@@ -1,7 +1,7 @@
 use Rattle.std.proofs.Common.{◌+◌, ◌<◌, ◌^◌, sym, ◌∙◌, ap, subst, arith}
 use Rattle.chess_rules.specs.Pairs as spec
 use Rattle.chess_rules.specs.Pairs.{any_king_step, count_king_steps}
-use Rattle.chess_rules.proofs.Counting.{counts_try, stands_fits, stands_more, stands_hit, stands_end, below_indexes, past_indexes, get_or_indexes}
+use Rattle.chess_rules.proofs.trying.SearchThatCounts.{counts_try, stands_fits, stands_more, stands_hit, stands_end, below_indexes, past_indexes, get_or_indexes}
 use Rattle.chess_rules.proofs.pairs.any_king_step.Goals as goal
 
 pub hits-requires : goal.hits-requires

@@ -2,7 +2,7 @@ use Rattle.std.proofs.Common.{◌+◌, ◌<◌, ◌^◌, refl, sym, ◌∙◌, a
 use Rattle.chess_rules.specs.declared.direction.TheConstants.{DIRECTIONS}
 use Rattle.chess_rules.specs.Pairs as spec
 use Rattle.chess_rules.specs.Pairs.{any_on_ways, count_on_ways}
-use Rattle.chess_rules.proofs.Counting.{counts_try, stands_fits, stands_more, stands_hit, stands_end}
+use Rattle.chess_rules.proofs.trying.SearchThatCounts.{counts_try, stands_fits, stands_more, stands_hit, stands_end}
 use Rattle.chess_rules.proofs.pairs.any_on_ways.Goals as goal
 
 pub hits-requires : goal.hits-requires

@@ -1,6 +1,6 @@
 use Rattle.chess_rules.specs.declared.direction.TheConstants.{DIRECTIONS}
 use Rattle.chess_rules.specs.Pairs as spec
-use Rattle.chess_rules.proofs.Counting.{Stands}
+use Rattle.chess_rules.proofs.trying.SearchThatCounts.{Stands}
 use Rattle.chess_rules.proofs.pairs.any_on_ways.Given as goal
 
 abbrev pub invariant-loop-way : goal.invariant-loop-way

@@ -1,7 +1,7 @@
 use Rattle.std.proofs.Common.{◌+◌, ◌<◌, ◌^◌, sym, ◌∙◌, ap, subst, arith}
 use Rattle.chess_rules.specs.Pairs as spec
 use Rattle.chess_rules.specs.Pairs.{any_other, count_others}
-use Rattle.chess_rules.proofs.Counting.{stands_fits, stands_more, stands_hit, stands_end, below_indexes, past_indexes, get_or_indexes}
+use Rattle.chess_rules.proofs.trying.SearchThatCounts.{stands_fits, stands_more, stands_hit, stands_end, below_indexes, past_indexes, get_or_indexes}
 use Rattle.chess_rules.proofs.pairs.any_other.Goals as goal
 
 pub any_left-requires : goal.any_left-requires

@@ -1,5 +1,5 @@
 use Rattle.chess_rules.specs.Pairs as spec
-use Rattle.chess_rules.proofs.Counting.{Stands}
+use Rattle.chess_rules.proofs.trying.SearchThatCounts.{Stands}
 use Rattle.chess_rules.proofs.pairs.any_other.Given as goal
 
 abbrev pub invariant-loop-index : goal.invariant-loop-index

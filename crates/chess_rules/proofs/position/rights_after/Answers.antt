@@ -1,6 +1,6 @@
 use Rattle.std.proofs.Common.{sym, ◌∙◌, ap}
 use Rattle.chess_rules.specs.Words.{has}
-use Rattle.chess_rules.proofs.Homes.{homes, rights_stay}
+use Rattle.chess_rules.proofs.moves.RightsStay.{homes, rights_stay}
 use Rattle.chess_rules.proofs.position.rights_after.Goals as goal
 
 pub returns-then-not-has-2 : goal.returns-then-not-has-2

@@ -1,7 +1,7 @@
 use Rattle.std.proofs.Common.{◌≡◌, true, ◌∙◌, subst}
 use Rattle.chess_rules.specs.declared.piece.Kind.{Kind}
 use Rattle.chess_rules.specs.Step.{own}
-use Rattle.chess_rules.proofs.Steppers.{king_steps, none_steps, other_found, own_found, pawn_steps, piece_steps}
+use Rattle.chess_rules.proofs.moves.StepsOfKind.{king_steps, none_steps, other_found, own_found, pawn_steps, piece_steps}
 use Rattle.chess_rules.proofs.step.is_step.Goals as goal
 
 pub returns-then-not-is : goal.returns-then-not-is

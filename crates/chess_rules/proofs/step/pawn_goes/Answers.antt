@@ -1,5 +1,5 @@
 use Rattle.std.proofs.Common.{sym, ◌∙◌}
-use Rattle.chess_rules.proofs.Steppers.{pawn_ahead, pawn_aside, pawn_promotes_wrongly}
+use Rattle.chess_rules.proofs.moves.StepsOfKind.{pawn_ahead, pawn_aside, pawn_promotes_wrongly}
 use Rattle.chess_rules.proofs.step.pawn_goes.Goals as goal
 
 pub returns-then-not-promotion_fits : goal.returns-then-not-promotion_fits

@@ -1,7 +1,7 @@
 use Rattle.std.proofs.Common.{not, sym, ◌∙◌, ap, ap₂}
 use Rattle.chess_rules.specs.Attacks.{kind_attacks}
 use Rattle.chess_rules.specs.Board.{at, has_colour}
-use Rattle.chess_rules.proofs.Steppers.{attack_is_step}
+use Rattle.chess_rules.proofs.moves.StepsOfKind.{attack_is_step}
 use Rattle.chess_rules.proofs.step.piece_goes.Goals as goal
 
 pub returns : goal.returns

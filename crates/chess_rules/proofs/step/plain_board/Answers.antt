@@ -1,6 +1,6 @@
 use Rattle.std.proofs.Common.{sym, ◌∙◌, ap}
 use Rattle.std.specs.Prelude.{Some}
-use Rattle.chess_rules.proofs.Plain.{plain_board}
+use Rattle.chess_rules.proofs.moves.PlainStepAttacks.{plain_board}
 use Rattle.chess_rules.proofs.step.plain_board.Goals as goal
 
 pub returns : goal.returns

@@ -1,6 +1,6 @@
 use Rattle.std.proofs.Common.{bit_and, ◌/◌, ◌^◌}
 use Rattle.std.proofs.lemmas.Nat.Bits.{shr_and_one}
-use Rattle.chess_rules.proofs.WordLemmas.{carries}
+use Rattle.chess_rules.proofs.squares.WordsToCells.{carries}
 use Rattle.chess_rules.proofs.word.carried.Goals as goal
 
 pub returns : goal.returns

@@ -1,4 +1,4 @@
-use Rattle.chess_rules.proofs.Extremes.{highest_place}
+use Rattle.chess_rules.proofs.squares.LowestAndHighest.{highest_place}
 use Rattle.chess_rules.proofs.word.highest.Goals as goal
 
 pub returns : goal.returns

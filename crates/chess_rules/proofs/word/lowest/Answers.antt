@@ -1,4 +1,4 @@
-use Rattle.chess_rules.proofs.Extremes.{lowest_place}
+use Rattle.chess_rules.proofs.squares.LowestAndHighest.{lowest_place}
 use Rattle.chess_rules.proofs.word.lowest.Goals as goal
 
 pub returns : goal.returns

@@ -1,4 +1,4 @@
-use Rattle.chess_rules.proofs.WordLemmas.{sets_place, clears_place}
+use Rattle.chess_rules.proofs.squares.WordsToCells.{sets_place, clears_place}
 use Rattle.chess_rules.proofs.word.with.Goals as goal
 
 pub returns-then-value : goal.returns-then-value

@@ -2,9 +2,9 @@ use Rattle.std.proofs.Common.{◌≡◌, ◌≤◌, ◌+◌, List, ℕ, [], ◌�
 use Rattle.std.specs.Prelude.{decimal}
 use Rattle.chess_text.specs.Placement.{placement_text}
 use Rattle.chess_text.specs.Field.{side_text, rights_text, target_text}
-use Rattle.chess_text.proofs.Items.{when_ok}
-use Rattle.chess_text.proofs.Boarded.{length-placement_text}
-use Rattle.chess_text.proofs.Joined.{FiveWritten, five_written, six_written, length-five}
+use Rattle.chess_text.proofs.positions.BytesOfRank.{when_ok}
+use Rattle.chess_text.proofs.positions.BoardToText.{length-placement_text}
+use Rattle.chess_text.proofs.positions.SixFieldsJoined.{FiveWritten, five_written, six_written, length-five}
 use Rattle.chess_text.proofs.fen.text_without_full.Goals as goal
 
 -- the numbers of the position

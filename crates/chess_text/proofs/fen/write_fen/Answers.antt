@@ -1,6 +1,6 @@
 use Rattle.std.proofs.Common.{◌≡◌, ◌≤◌, List, ℕ, ◌∷◌, length, ◌∙◌, ap, arith, length-append}
 use Rattle.std.specs.Prelude.{decimal}
-use Rattle.chess_text.proofs.Joined.{length-number}
+use Rattle.chess_text.proofs.positions.SixFieldsJoined.{length-number}
 use Rattle.chess_text.proofs.fen.write_fen.Goals as goal
 
 -- the last field has five bytes at most

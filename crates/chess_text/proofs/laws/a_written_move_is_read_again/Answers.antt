@@ -1,4 +1,4 @@
-use Rattle.chess_text.proofs.Names.{single}
+use Rattle.chess_text.proofs.names.TextsToMoves.{single}
 use Rattle.chess_text.proofs.laws.a_written_move_is_read_again.Goals as goal
 
 pub returns : goal.returns

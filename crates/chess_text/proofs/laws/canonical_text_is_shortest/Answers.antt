@@ -1,4 +1,4 @@
-use Rattle.chess_text.proofs.Lawful.{is_shortest}
+use Rattle.chess_text.proofs.positions.FenLaws.{is_shortest}
 use Rattle.chess_text.proofs.laws.canonical_text_is_shortest.Goals as goal
 
 pub returns : goal.returns

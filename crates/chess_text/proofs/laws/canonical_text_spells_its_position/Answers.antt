@@ -1,4 +1,4 @@
-use Rattle.chess_text.proofs.Lawful.{canonical}
+use Rattle.chess_text.proofs.positions.FenLaws.{canonical}
 use Rattle.chess_text.proofs.laws.canonical_text_spells_its_position.Goals as goal
 
 pub returns : goal.returns

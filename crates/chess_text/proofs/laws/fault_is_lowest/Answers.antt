@@ -1,4 +1,4 @@
-use Rattle.chess_text.proofs.Lawful.{lowest}
+use Rattle.chess_text.proofs.positions.FenLaws.{lowest}
 use Rattle.chess_text.proofs.laws.fault_is_lowest.Goals as goal
 
 pub returns : goal.returns

@@ -1,4 +1,4 @@
-use Rattle.chess_text.proofs.Names.{less}
+use Rattle.chess_text.proofs.names.TextsToMoves.{less}
 use Rattle.chess_text.proofs.laws.less_is_ambiguous.Goals as goal
 
 pub returns : goal.returns

@@ -1,6 +1,6 @@
 use Rattle.std.proofs.Common.{◌≡◌, sym, ◌∙◌}
 use Rattle.std.specs.Prelude.{Some}
-use Rattle.chess_text.proofs.FormReading.{form_read}
+use Rattle.chess_text.proofs.forms.SpellingToForm.{form_read}
 use Rattle.chess_text.proofs.laws.one_form_a_text.Goals as goal
 
 same_some : {A : Type 0} (x y : A) → Some x ≡ Some y → x ≡ y

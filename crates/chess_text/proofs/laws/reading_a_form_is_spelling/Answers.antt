@@ -1,5 +1,5 @@
-use Rattle.chess_text.proofs.FormReading.{form_read}
-use Rattle.chess_text.proofs.FormSpelled.{form_spelled}
+use Rattle.chess_text.proofs.forms.SpellingToForm.{form_read}
+use Rattle.chess_text.proofs.forms.FormToSpelling.{form_spelled}
 use Rattle.chess_text.proofs.laws.reading_a_form_is_spelling.Goals as goal
 
 pub returns : goal.returns

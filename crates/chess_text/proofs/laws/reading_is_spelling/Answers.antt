@@ -1,4 +1,4 @@
-use Rattle.chess_text.proofs.Lawful.{reads}
+use Rattle.chess_text.proofs.positions.FenLaws.{reads}
 use Rattle.chess_text.proofs.laws.reading_is_spelling.Goals as goal
 
 pub returns : goal.returns

@@ -1,4 +1,4 @@
-use Rattle.chess_text.proofs.Boarded.{WrittenTo}
+use Rattle.chess_text.proofs.positions.BoardToText.{WrittenTo}
 use Rattle.chess_text.proofs.placement.board_text.Given as goal
 
 abbrev pub invariant-loop-below : goal.invariant-loop-below

@@ -1,5 +1,5 @@
 use Rattle.chess_text.specs.Placement.{row}
-use Rattle.chess_text.proofs.Runs.{WrittenSoFar}
+use Rattle.chess_text.proofs.positions.RankToText.{WrittenSoFar}
 use Rattle.chess_text.proofs.placement.rank_text.Given as goal
 
 abbrev pub invariant-loop-cell : goal.invariant-loop-cell

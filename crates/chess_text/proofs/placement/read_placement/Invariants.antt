@@ -1,4 +1,4 @@
-use Rattle.chess_text.proofs.Boards.{ReadSoFar}
+use Rattle.chess_text.proofs.positions.TextToBoard.{ReadSoFar}
 use Rattle.chess_text.proofs.placement.read_placement.Given as goal
 
 abbrev pub invariant-loop-left : goal.invariant-loop-left

@@ -1,7 +1,7 @@
 use Rattle.std.proofs.Common.{◌+◌, ◌&&◌, length, get_or, nat_le, sym, ◌∙◌, ap}
 use Rattle.chess_rules.specs.Board.{Board}
 use Rattle.chess_text.specs.Placement.{is_item, cells_at}
-use Rattle.chess_text.proofs.Items.{no_rank, no_cells}
+use Rattle.chess_text.proofs.positions.BytesOfRank.{no_rank, no_cells}
 use Rattle.chess_text.proofs.placement.read_rank.Goals as goal
 
 pub returns-then-not-push_item : goal.returns-then-not-push_item

@@ -1,6 +1,6 @@
 use Rattle.std.proofs.Common.{◌∙◌, ap₂}
 use Rattle.std.specs.Int.{abs_diff}
-use Rattle.chess_text.proofs.Castling.{castling_by_files}
+use Rattle.chess_text.proofs.forms.CastlingMoves.{castling_by_files}
 use Rattle.chess_text.proofs.resolution.is_castling.Goals as goal
 
 pub returns-then-has_king : goal.returns-then-has_king

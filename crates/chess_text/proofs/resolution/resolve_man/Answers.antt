@@ -6,8 +6,8 @@ use Rattle.chess_rules.specs.Square.{Square}
 use Rattle.chess_rules.specs.Candidate.{candidates}
 use Rattle.chess_text.specs.declared.form.Form.TheVariants.{Man}
 use Rattle.chess_text.specs.declared.resolution.Played.{Played}
-use Rattle.chess_text.proofs.Finding.{still_none, first_one, second_one, not_at_once, at_the_end}
-use Rattle.chess_text.proofs.ManForms.{from_square, reads_candidates, tried_at}
+use Rattle.chess_text.proofs.forms.OnlyElement.{still_none, first_one, second_one, not_at_once, at_the_end}
+use Rattle.chess_text.proofs.forms.PieceForms.{from_square, reads_candidates, tried_at}
 use Rattle.chess_text.proofs.resolution.resolve_man.Goals as goal
 use Rattle.chess_text.proofs.resolution.resolve_man.Goals.{in-Some+else-is_some, in_default}
 

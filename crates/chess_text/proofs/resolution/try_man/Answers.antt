@@ -1,6 +1,6 @@
 use Rattle.std.proofs.Common.{sym, ◌∙◌}
 use Rattle.chess_text.specs.Reads.{man_fits}
-use Rattle.chess_text.proofs.CastleForms.{played_none}
+use Rattle.chess_text.proofs.forms.CastlingForms.{played_none}
 use Rattle.chess_text.proofs.resolution.try_man.Goals as goal
 
 pub returns-in_default-clause-played : goal.returns-in_default-clause-played

@@ -2,7 +2,7 @@ use Rattle.std.proofs.Common.{ℕ, List, [], ◌∷◌, ◌++◌, refl, sym, ◌
 use Rattle.std.specs.Prelude.{◌==◌}
 use Rattle.chess_rules.specs.declared.piece.Kind.TheVariants.{King}
 use Rattle.chess_text.specs.San.{capture_if, castling_text}
-use Rattle.chess_text.proofs.Movers.{castling_written, step_written, piece_takes, something}
+use Rattle.chess_text.proofs.forms.MoverOfMove.{castling_written, step_written, piece_takes, something}
 use Rattle.chess_text.proofs.san.king_text.Goals as goal
 
 pub returns-then-is_castling-clause-text : goal.returns-then-is_castling-clause-text

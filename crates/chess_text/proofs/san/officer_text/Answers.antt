@@ -1,7 +1,7 @@
 use Rattle.std.proofs.Common.{ℕ, List, [], ◌∷◌, ◌++◌, refl, sym, ◌∙◌, ap, ap₂}
 use Rattle.chess_text.specs.San.{capture_if, rivals}
-use Rattle.chess_text.proofs.Movers.{piece_takes, officer_no_pawn, something}
-use Rattle.chess_text.proofs.Rivals.{apart_same}
+use Rattle.chess_text.proofs.forms.MoverOfMove.{piece_takes, officer_no_pawn, something}
+use Rattle.chess_text.proofs.names.RivalsAreCandidates.{apart_same}
 use Rattle.chess_text.proofs.san.officer_text.Goals as goal
 
 pub returns-clause-text : goal.returns-clause-text

@@ -1,6 +1,6 @@
 use Rattle.std.proofs.Common.{ℕ, List, ◌++◌, refl, sym, ◌∙◌, ap, ap₂}
 use Rattle.chess_text.specs.San.{pawn_capture}
-use Rattle.chess_text.proofs.PawnWays.{pawn_takes}
+use Rattle.chess_text.proofs.forms.PawnWays.{pawn_takes}
 use Rattle.chess_text.proofs.san.pawn_text.Goals as goal
 
 pub returns-clause-text : goal.returns-clause-text

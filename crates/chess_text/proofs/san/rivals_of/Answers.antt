@@ -6,7 +6,7 @@ use Rattle.std.proofs.lemmas.List.Sorted.{length_permutation}
 use Rattle.chess_rules.specs.Square.{Square}
 use Rattle.chess_rules.specs.Candidate.{candidates}
 use Rattle.chess_text.specs.San.{rivals}
-use Rattle.chess_text.proofs.Rivals.{seen, found_more, all_found, rivals_seen}
+use Rattle.chess_text.proofs.names.RivalsAreCandidates.{seen, found_more, all_found, rivals_seen}
 use Rattle.chess_text.proofs.san.rivals_of.Goals as goal
 
 pub loop-origin-preserved : goal.loop-origin-preserved

@@ -1,6 +1,6 @@
 use Rattle.std.proofs.Common.{◌≡◌, true, sym, ◌∙◌, subst}
 use Rattle.chess_rules.specs.Step.{own}
-use Rattle.chess_text.proofs.Movers.{mover, mover_stands, officer}
+use Rattle.chess_text.proofs.forms.MoverOfMove.{mover, mover_stands, officer}
 use Rattle.chess_text.proofs.san.unmarked.Goals as goal
 
 pub king_text-requires-clause-king : goal.king_text-requires-clause-king

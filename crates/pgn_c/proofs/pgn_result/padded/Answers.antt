@@ -1,4 +1,4 @@
-use Rattle.pgn_c.proofs.Padding.{over_zeros}
+use Rattle.pgn_c.proofs.ZerosBehind.{over_zeros}
 use Rattle.pgn_c.proofs.pgn_result.padded.Goals as goal
 
 pub returns : goal.returns

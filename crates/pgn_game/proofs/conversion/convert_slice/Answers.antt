@@ -1,6 +1,6 @@
 use Rattle.std.proofs.Common.{refl}
 use Rattle.std.proofs.lemmas.Result.{err_from_is_err_and}
-use Rattle.pgn_game.proofs.WholeInput.{slice_stops, slice_ends}
+use Rattle.pgn_game.proofs.tokens.WholeInput.{slice_stops, slice_ends}
 use Rattle.pgn_game.proofs.conversion.convert_slice.Goals as goal
 
 pub returns-in_err-feed_all-clause-converts : goal.returns-in_err-feed_all-clause-converts

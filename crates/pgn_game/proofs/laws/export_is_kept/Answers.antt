@@ -1,4 +1,4 @@
-use Rattle.pgn_game.proofs.ExportAgain as again
+use Rattle.pgn_game.proofs.exporting.ExportAgain as again
 use Rattle.pgn_game.proofs.laws.export_is_kept.Goals as goal
 
 pub returns-clause-slice : goal.returns-clause-slice

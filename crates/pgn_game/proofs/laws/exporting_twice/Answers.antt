@@ -1,4 +1,4 @@
-use Rattle.pgn_game.proofs.ExportAgain as again
+use Rattle.pgn_game.proofs.exporting.ExportAgain as again
 use Rattle.pgn_game.proofs.laws.exporting_twice.Goals as goal
 
 pub returns-clause-twice : goal.returns-clause-twice

@@ -1,4 +1,4 @@
-use Rattle.pgn_game.proofs.ExportAgain as again
+use Rattle.pgn_game.proofs.exporting.ExportAgain as again
 use Rattle.pgn_game.proofs.laws.few_pairs_have_room.Goals as goal
 
 pub returns : goal.returns

@@ -1,5 +1,5 @@
-use Rattle.pgn_game.proofs.ExportAgain as again
-use Rattle.pgn_game.proofs.ExportedText.{exported_games, text_spells}
+use Rattle.pgn_game.proofs.exporting.ExportAgain as again
+use Rattle.pgn_game.proofs.exporting.ExportToGames.{exported_games, text_spells}
 use Rattle.pgn_game.proofs.laws.fixed_point.Goals as goal
 
 pub returns : goal.returns

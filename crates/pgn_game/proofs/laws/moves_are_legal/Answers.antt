@@ -1,4 +1,4 @@
-use Rattle.pgn_game.proofs.LegalMoves.{moves_legal}
+use Rattle.pgn_game.proofs.putting.PlayedMovesAreLegal.{moves_legal}
 use Rattle.pgn_game.proofs.laws.moves_are_legal.Goals as goal
 
 pub returns : goal.returns

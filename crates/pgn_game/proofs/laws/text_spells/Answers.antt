@@ -1,4 +1,4 @@
-use Rattle.pgn_game.proofs.ExportedText.{text_spells}
+use Rattle.pgn_game.proofs.exporting.ExportToGames.{text_spells}
 use Rattle.pgn_game.proofs.laws.text_spells.Goals as goal
 
 pub returns : goal.returns

@@ -1,7 +1,7 @@
 use Rattle.pgn_lexer.specs.TokensOf.{tokens_of}
-use Rattle.pgn_game.proofs.Runs.{kinds, runs_as_read}
-use Rattle.pgn_game.proofs.Spelling.{games_run}
-use Rattle.pgn_game.proofs.Unspelling.{games_spelled}
+use Rattle.pgn_game.proofs.reading.RunsToEnd.{kinds, runs_as_read}
+use Rattle.pgn_game.proofs.reading.GrammarToReading.{games_run}
+use Rattle.pgn_game.proofs.reading.ReadingToGrammar.{games_spelled}
 use Rattle.pgn_game.proofs.laws.unique_reading.Goals as goal
 
 pub returns : goal.returns

@@ -1,6 +1,6 @@
 use Rattle.std.proofs.Common.{◌≡◌, false, not, codes, bytes_eq, sym, ap, ◌∙◌}
 use Rattle.std.specs.Prelude.{Ok, Err}
-use Rattle.pgn_game.proofs.Starting.{told_read}
+use Rattle.pgn_game.proofs.pairs.PairsToFirstPosition.{told_read}
 use Rattle.pgn_game.proofs.reader.fen_position.Goals as goal
 
 pub returns-in-Ok : goal.returns-in-Ok

@@ -8,8 +8,8 @@ use denote.Enum.Bare.{sameb, same_true}
 use Rattle.pgn_game.specs.Markers.{marker_text}
 use Rattle.pgn_game.specs.Pairs.{value_of}
 use Rattle.pgn_game.specs.TagSection.{roster, exported}
-use Rattle.pgn_game.proofs.Exporting.{exported_either, exported_none}
-use Rattle.pgn_game.proofs.PairValues.{either_of}
+use Rattle.pgn_game.proofs.pairs.ExportedValues.{exported_either, exported_none}
+use Rattle.pgn_game.proofs.pairs.ValuesByName.{either_of}
 use Rattle.pgn_game.proofs.section.exported_value.Goals as goal
 use Rattle.pgn_game.proofs.section.exported_value.Goals.{else-is_none-via-then-is_none+else-eq, else-is_none-via-else-is_none}
 

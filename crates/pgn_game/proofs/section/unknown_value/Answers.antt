@@ -3,7 +3,7 @@ use Rattle.pgn_game.specs.Markers.{marker_text}
 use Rattle.pgn_game.specs.Pairs.{Pair, value_of}
 use Rattle.pgn_game.specs.TagSection.{roster}
 use Rattle.std.proofs.lemmas.List.{drop_all}
-use Rattle.pgn_game.proofs.Exporting.{value_of-at}
+use Rattle.pgn_game.proofs.pairs.ExportedValues.{value_of-at}
 use Rattle.pgn_game.proofs.section.unknown_value.Goals as goal
 
 seven : (result : List ℕ) → length (roster result) ≡ 7

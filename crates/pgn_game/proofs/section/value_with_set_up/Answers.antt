@@ -1,5 +1,5 @@
 use Rattle.std.proofs.Common.{sym, ◌∙◌}
-use Rattle.pgn_game.proofs.Exporting.{set_up_one, no_fen, no_set_up}
+use Rattle.pgn_game.proofs.pairs.ExportedValues.{set_up_one, no_fen, no_set_up}
 use Rattle.pgn_game.proofs.section.value_with_set_up.Goals as goal
 use Rattle.pgn_game.proofs.section.value_with_set_up.Goals.{else-eq-via-then-eq+else-has_fen, else-eq-via-else-eq}
 

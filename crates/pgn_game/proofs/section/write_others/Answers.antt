@@ -8,8 +8,8 @@ use Rattle.pgn_game.specs.Holding.{place_of}
 use Rattle.pgn_game.specs.Pairs.{Pair, has_pair}
 use Rattle.pgn_game.specs.SectionLines.{text_by, other_line}
 use Rattle.pgn_game.specs.TagSection.{other_pairs, tag_lines, with_set_up}
-use Rattle.pgn_game.proofs.Appending.{front_of_more, front_after, Writes-append}
-use Rattle.pgn_game.proofs.Sections.{others_without_fen, others_with_fen, lines_about}
+use Rattle.pgn_game.proofs.putting.WritesInTurn.{front_of_more, front_after, Writes-append}
+use Rattle.pgn_game.proofs.pairs.SectionByLines.{others_without_fen, others_with_fen, lines_about}
 use Rattle.pgn_game.proofs.section.write_others.Goals as goal
 
 -- the pairs on both sides of SetUp's place

@@ -1,7 +1,7 @@
 use Rattle.std.proofs.Common.{sym, ◌∙◌}
 use Rattle.std.proofs.lemmas.Result.{err_from_is_err_and}
 use Rattle.pgn_game.specs.SectionLines.{other_line}
-use Rattle.pgn_game.proofs.Appending.{next_text, next_front}
+use Rattle.pgn_game.proofs.putting.WritesInTurn.{next_text, next_front}
 use Rattle.pgn_game.proofs.section.write_pairs.Goals as goal
 
 pub returns-in_err-write_other-clause-text : goal.returns-in_err-write_other-clause-text

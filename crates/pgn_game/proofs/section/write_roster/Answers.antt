@@ -10,7 +10,7 @@ use Rattle.pgn_game.specs.Markers.{marker_text}
 use Rattle.pgn_game.specs.Pairs.{Pair, value_of}
 use Rattle.pgn_game.specs.SectionLines.{roster_line, text_by}
 use Rattle.pgn_game.specs.TagSection.{roster}
-use Rattle.pgn_game.proofs.Appending.{next_text, next_front, within_at}
+use Rattle.pgn_game.proofs.putting.WritesInTurn.{next_text, next_front, within_at}
 use Rattle.pgn_game.proofs.section.write_roster.Goals as goal
 
 -- the line of the pair at a place of the roster

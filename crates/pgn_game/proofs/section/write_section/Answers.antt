@@ -3,8 +3,8 @@ use Rattle.pgn_layout.specs.Layout.{Layout}
 use Rattle.std.proofs.lemmas.Result.{err_from_is_err_and}
 use Rattle.std.proofs.KnownBytes.{Appends-trans}
 use Rattle.pgn_game.specs.Markers.{marker_text}
-use Rattle.pgn_game.proofs.Appending.{front_of_more, front_after, Writes-append}
-use Rattle.pgn_game.proofs.Sections.{reduced_section, full_section, roster_first}
+use Rattle.pgn_game.proofs.putting.WritesInTurn.{front_of_more, front_after, Writes-append}
+use Rattle.pgn_game.proofs.pairs.SectionByLines.{reduced_section, full_section, roster_first}
 use Rattle.pgn_game.proofs.section.write_section.Goals as goal
 
 pub returns-in-Reduced-clause-text : goal.returns-in-Reduced-clause-text

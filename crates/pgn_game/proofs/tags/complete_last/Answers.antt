@@ -3,7 +3,7 @@ use Rattle.std.specs.Prelude.{insert, IsSomeAnd}
 use Rattle.pgn_layout.specs.TagLine.{escaped}
 use Rattle.pgn_game.specs.Pairs.{Pair}
 use Rattle.pgn_game.specs.Holding.{place_of, last_name}
-use Rattle.pgn_game.proofs.Ordering.{insert-place, last_name-snoc, finished-last}
+use Rattle.pgn_game.proofs.pairs.SortedPairs.{insert-place, last_name-snoc, finished-last}
 use Rattle.pgn_game.proofs.tags.complete_last.Goals as goal
 
 pub set_value-requires : goal.set_value-requires

@@ -1,4 +1,4 @@
-use Rattle.pgn_game.proofs.Ordering.{is_comes_before}
+use Rattle.pgn_game.proofs.pairs.SortedPairs.{is_comes_before}
 use Rattle.pgn_game.proofs.tags.is_before.Goals as goal
 
 pub returns : goal.returns

@@ -1,4 +1,4 @@
-use Rattle.pgn_layout.proofs.LinesHold.{tokens_determine_lines}
+use Rattle.pgn_layout.proofs.LinesOfTokens.{tokens_determine_lines}
 use Rattle.pgn_layout.proofs.laws.tokens_determine_lines.Goals as goal
 
 pub returns : goal.returns

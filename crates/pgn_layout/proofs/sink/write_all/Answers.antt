@@ -1,5 +1,5 @@
 use Rattle.std.proofs.Common.{◌∙◌, arith}
-use Rattle.pgn_layout.proofs.Writing.{appends_more}
+use Rattle.pgn_layout.proofs.OneWriteMore.{appends_more}
 use Rattle.pgn_layout.proofs.sink.write_all.Goals as goal
 
 pub loop-written-preserved : goal.loop-written-preserved

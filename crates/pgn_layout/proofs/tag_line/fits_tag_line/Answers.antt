@@ -1,5 +1,5 @@
 use Rattle.std.proofs.Common.{◌+◌, arith}
-use Rattle.pgn_layout.proofs.Escaping.{length_escaped-take, length_escaped-front}
+use Rattle.pgn_layout.proofs.EscapedBytes.{length_escaped-take, length_escaped-front}
 use Rattle.pgn_layout.proofs.tag_line.fits_tag_line.Goals as goal
 
 pub returns-then-room-length : goal.returns-then-room-length

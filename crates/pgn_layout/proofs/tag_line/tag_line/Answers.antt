@@ -1,5 +1,5 @@
 use Rattle.std.proofs.Common.{ℕ, List, [], ◌∷◌, ◌++◌, ◌∙◌, arith, length-append}
-use Rattle.pgn_layout.proofs.Escaping.{line_grows, line_fits}
+use Rattle.pgn_layout.proofs.EscapedBytes.{line_grows, line_fits}
 use Rattle.pgn_layout.proofs.tag_line.tag_line.Goals as goal
 
 -- the line up to the value

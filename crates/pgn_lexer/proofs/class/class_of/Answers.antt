@@ -1,5 +1,5 @@
 use Rattle.std.proofs.Common.{refl}
-use Rattle.pgn_lexer.proofs.Tables.{class_at}
+use Rattle.pgn_lexer.proofs.bytes.TablesOfBytes.{class_at}
 use Rattle.pgn_lexer.proofs.class.class_of.Goals as goal
 
 pub returns : goal.returns

@@ -1,5 +1,5 @@
 use Rattle.std.proofs.Common.{refl}
-use Rattle.pgn_lexer.proofs.Tables.{comment_class_at}
+use Rattle.pgn_lexer.proofs.bytes.TablesOfBytes.{comment_class_at}
 use Rattle.pgn_lexer.proofs.class.comment_class_of.Goals as goal
 
 pub returns : goal.returns

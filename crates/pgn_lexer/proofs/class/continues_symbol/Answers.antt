@@ -1,5 +1,5 @@
 use Rattle.std.proofs.Common.{refl}
-use Rattle.pgn_lexer.proofs.Tables.{continues_at}
+use Rattle.pgn_lexer.proofs.bytes.TablesOfBytes.{continues_at}
 use Rattle.pgn_lexer.proofs.class.continues_symbol.Goals as goal
 
 pub returns : goal.returns

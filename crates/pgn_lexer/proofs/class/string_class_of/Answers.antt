@@ -1,5 +1,5 @@
 use Rattle.std.proofs.Common.{refl}
-use Rattle.pgn_lexer.proofs.Tables.{string_class_at}
+use Rattle.pgn_lexer.proofs.bytes.TablesOfBytes.{string_class_at}
 use Rattle.pgn_lexer.proofs.class.string_class_of.Goals as goal
 
 pub returns : goal.returns

@@ -1,4 +1,4 @@
-use Rattle.pgn_lexer.proofs.Reaching as reaching
+use Rattle.pgn_lexer.proofs.deciding.TextSettles as reaching
 use Rattle.pgn_lexer.proofs.laws.known_is_prefix.Goals as goal
 
 pub returns : goal.returns

@@ -1,4 +1,4 @@
-use Rattle.pgn_lexer.proofs.Existing as existing
+use Rattle.pgn_lexer.proofs.cutting.EachTextIsCut as existing
 use Rattle.pgn_lexer.proofs.laws.lexes_once.Goals as goal
 
 pub returns : goal.returns

@@ -1,4 +1,4 @@
-use Rattle.pgn_lexer.proofs.WrittenRead as read
+use Rattle.pgn_lexer.proofs.cutting.WrittenToTokens as read
 use Rattle.pgn_lexer.proofs.laws.written_tokens_are_read_back.Goals as goal
 
 pub returns-clause-places : goal.returns-clause-places

@@ -3,7 +3,7 @@ use Rattle.std.proofs.lemmas.Result.{IfOk-weaker}
 use Rattle.clap.specs.Words.{App, app_of, with_subcommand}
 use Rattle.clap.specs.Simple.{Shape, on_top}
 use Rattle.pgn_tool.specs.CommandLine.{bare_program, check_command, command_line, export_command, list_command, split_command}
-use Rattle.pgn_tool.proofs.Builders.{app_about, app_after_help, app_help_subcommand, app_required, app_version, is_local}
+use Rattle.pgn_tool.proofs.commands.BuilderSteps.{app_about, app_after_help, app_help_subcommand, app_required, app_version, is_local}
 use Rattle.pgn_tool.proofs.arguments.command_line.Goals as goal
 
 export_is_plain : export_command.top.is_plain ≡ true

@@ -4,7 +4,7 @@ use Rattle.std.specs.Borrow.{Bor}
 use Rattle.std.specs.Prelude.{ℕ, List}
 use Rattle.clap.specs.Words.{found_of}
 use Rattle.clap.proofs.WalkLemmas.{first_value-rows}
-use Rattle.pgn_tool.proofs.Subcommands.{text_read}
+use Rattle.pgn_tool.proofs.commands.SubcommandToRequest.{text_read}
 use Rattle.pgn_tool.proofs.arguments.dir_of.Goals as goal
 
 pub returns : goal.returns

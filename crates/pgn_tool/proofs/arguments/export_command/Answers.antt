@@ -3,7 +3,7 @@ use Rattle.std.proofs.lemmas.Result.{IfOk-weaker}
 use Rattle.clap.specs.Words.{Rule, rule_of, with_rule}
 use Rattle.clap.specs.declared.builder.action.ArgAction.TheVariants.{SetTrue}
 use Rattle.pgn_tool.specs.CommandLine.{export_command, reduced_rule}
-use Rattle.pgn_tool.proofs.Builders.{app_about, rule_action, rule_help, rule_long}
+use Rattle.pgn_tool.proofs.commands.BuilderSteps.{app_about, rule_action, rule_help, rule_long}
 use Rattle.pgn_tool.proofs.arguments.export_command.Goals as goal
 
 pub returns : goal.returns

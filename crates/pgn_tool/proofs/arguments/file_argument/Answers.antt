@@ -1,7 +1,7 @@
 use Rattle.std.proofs.Common.{◌∙◌, ap}
 use Rattle.clap.specs.Words.{Rule}
 use Rattle.pgn_tool.specs.CommandLine.{file_rule}
-use Rattle.pgn_tool.proofs.Builders.{rule_help, rule_value_name}
+use Rattle.pgn_tool.proofs.commands.BuilderSteps.{rule_help, rule_value_name}
 use Rattle.pgn_tool.proofs.arguments.file_argument.Goals as goal
 
 pub returns-clause-rule : goal.returns-clause-rule

@@ -2,7 +2,7 @@ use Rattle.std.proofs.Common.{◌∙◌, ap, codes, false, bytes_eq}
 use Rattle.std.specs.Option.{option_map_or}
 use Rattle.clap.specs.Words.{found_of}
 use Rattle.clap.proofs.WalkLemmas.{one_text-rows}
-use Rattle.pgn_tool.proofs.Subcommands.{flag_read}
+use Rattle.pgn_tool.proofs.commands.SubcommandToRequest.{flag_read}
 use Rattle.pgn_tool.proofs.arguments.is_given.Goals as goal
 
 pub returns : goal.returns

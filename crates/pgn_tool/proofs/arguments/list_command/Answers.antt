@@ -2,7 +2,7 @@ use Rattle.std.proofs.Common.{◌∙◌, ap₂}
 use Rattle.std.proofs.lemmas.Result.{IfOk-weaker}
 use Rattle.clap.specs.Words.{with_rule}
 use Rattle.pgn_tool.specs.CommandLine.{list_command}
-use Rattle.pgn_tool.proofs.Builders.{app_about}
+use Rattle.pgn_tool.proofs.commands.BuilderSteps.{app_about}
 use Rattle.pgn_tool.proofs.arguments.list_command.Goals as goal
 
 pub returns : goal.returns

@@ -3,8 +3,8 @@ use Rattle.clap.specs.Words.{App, fault_of}
 use Rattle.clap.specs.Kinds.{HasKind}
 use Rattle.clap.specs.Faults.{is_simple_and_free}
 use Rattle.pgn_tool.specs.Requests.{refusals, request_from, request_in}
-use Rattle.pgn_tool.proofs.Refusals.{answers_by}
-use Rattle.pgn_tool.proofs.Subcommands.{line_is_free, meets_known, rows_met}
+use Rattle.pgn_tool.proofs.commands.KindsToAnswer.{answers_by}
+use Rattle.pgn_tool.proofs.commands.SubcommandToRequest.{line_is_free, meets_known, rows_met}
 use Rattle.pgn_tool.proofs.arguments.parse.Goals as goal
 
 pub task_of-requires : goal.task_of-requires

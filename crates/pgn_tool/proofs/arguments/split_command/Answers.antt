@@ -2,7 +2,7 @@ use Rattle.std.proofs.Common.{rules, ◌≡◌, ◌∙◌, ap, ap₂, false, tru
 use Rattle.std.proofs.lemmas.Result.{IfOk-weaker}
 use Rattle.clap.specs.Words.{Rule, rule_of, with_rule}
 use Rattle.pgn_tool.specs.CommandLine.{dir_rule, split_command}
-use Rattle.pgn_tool.proofs.Builders.{app_about, rule_help, rule_required, rule_value_name}
+use Rattle.pgn_tool.proofs.commands.BuilderSteps.{app_about, rule_help, rule_required, rule_value_name}
 use Rattle.pgn_tool.proofs.arguments.split_command.Goals as goal
 
 pub returns : goal.returns

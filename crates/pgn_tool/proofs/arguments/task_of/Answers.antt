@@ -1,7 +1,7 @@
 use Rattle.std.proofs.Common.{◌∙◌, ap, ap₂, sym, subst, Some, IsSome}
 use Rattle.clap.specs.Words.{found_of, rows_of}
 use Rattle.pgn_tool.specs.Requests.{check, export, listing, request_named, splitting}
-use Rattle.pgn_tool.proofs.Subcommands.{no_other, none_met, request_met}
+use Rattle.pgn_tool.proofs.commands.SubcommandToRequest.{no_other, none_met, request_met}
 use Rattle.pgn_tool.proofs.arguments.task_of.Goals as goal
 
 pub unreachable-requires : goal.unreachable-requires

@@ -1,6 +1,6 @@
 use Rattle.std.proofs.Common.{◌∙◌, ◌<◌, arith, refl, length}
 use Rattle.std.proofs.lemmas.Result.{err_from_is_err_and}
-use Rattle.pgn_tool.proofs.Listed.{read_ends, read_fails, read_on, read_stops_at}
+use Rattle.pgn_tool.proofs.runs.CallToLines.{read_ends, read_fails, read_on, read_stops_at}
 use Rattle.pgn_tool.proofs.list.list_games.Goals as goal
 
 pub returns-in-Err-clause-lists : goal.returns-in-Err-clause-lists

@@ -1,5 +1,5 @@
 use Rattle.std.proofs.Common.{◌≡◌, ◌≤◌, ◌-◌, ◌^◌, None, false, length}
-use Rattle.pgn_tool.specs.Listing.{ReadSoFar}
+use Rattle.pgn_tool.specs.ListState.{SourceListedSoFar}
 use Rattle.pgn_tool.proofs.list.list_games.Given as goal
 
 abbrev pub invariant-loop-converter : goal.invariant-loop-converter
@@ -11,7 +11,7 @@ invariant-loop-converter g l =
       fault : l.converter.fault ≡ None;
       source : g.R.Source.failures l.reader ≡ g.R.Source.failures l.fn.reader;
       sink : g.O.Sink.failures l.out ≡ g.O.Sink.failures l.fn.out;
-      read : ReadSoFar (g.R.Source.left l.fn.reader) (g.R.Source.left l.reader) l.converter (g.O.Sink.taken l.fn.out) (g.O.Sink.taken l.out);
+      read : SourceListedSoFar (g.R.Source.left l.fn.reader) (g.R.Source.left l.reader) l.converter (g.O.Sink.taken l.fn.out) (g.O.Sink.taken l.out);
     }
 
 abbrev pub decreases-loop-converter : goal.decreases-loop-converter

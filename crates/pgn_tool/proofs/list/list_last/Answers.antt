@@ -1,4 +1,4 @@
-use Rattle.pgn_tool.proofs.Listed.{last_cut, last_listed, last_refused}
+use Rattle.pgn_tool.proofs.runs.CallToLines.{last_cut, last_listed, last_refused}
 use Rattle.pgn_tool.proofs.list.list_last.Goals as goal
 
 pub returns-in-Err-clause-lists : goal.returns-in-Err-clause-lists

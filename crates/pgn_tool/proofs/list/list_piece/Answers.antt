@@ -1,7 +1,8 @@
 use Rattle.std.proofs.Common.{◌∙◌, ◌++◌, [], arith, refl, subst, take, drop, length-drop}
 use Rattle.std.proofs.lemmas.List.{take_rest}
-use Rattle.pgn_tool.specs.Listing.{CutsLine, Listed}
-use Rattle.pgn_tool.proofs.Listed.{game_cut, game_on, own_follows, piece_begins, rest_listed, rest_stops, stops_further, whole}
+use Rattle.pgn_tool.specs.Listing.{CutsLine}
+use Rattle.pgn_tool.specs.ListState.{ListedSoFar}
+use Rattle.pgn_tool.proofs.runs.CallToLines.{game_cut, game_on, own_follows, piece_begins, rest_listed, rest_stops, stops_further, whole}
 use Rattle.pgn_tool.proofs.list.list_piece.Goals as goal
 
 pub loop-used-init : goal.loop-used-init
@@ -20,7 +21,7 @@ returns-in-Ok-All-clause-lists g c = λ u before so.
     let now = c.loop-used.invariant.lists u before so in
     let feeds = rw (c.in-Ok-All.field-0-is, take_rest) at c.in-Ok-All.ensures.feeds in
     let rest = drop c.loop-used.at c.args.piece.now in
-    subst (λ xs. Listed xs [] c.feed.new.self before (g.O.Sink.taken c.loop-used.out)) (whole u c.args.piece.now c.loop-used.at)
+    subst (λ xs. ListedSoFar xs [] c.feed.new.self before (g.O.Sink.taken c.loop-used.out)) (whole u c.args.piece.now c.loop-used.at)
     (rest_listed (u ++ take c.loop-used.at c.args.piece.now) rest c.loop-used.converter c.feed.new.self before _ now (feeds _ _ _ _ now.stands (own_follows rest)))
 
 pub returns-in-Err-clause-lists : goal.returns-in-Err-clause-lists

@@ -1,6 +1,6 @@
 use Rattle.std.proofs.Common.{◌≡◌, ◌≤◌, ◌+◌, ◌-◌, ◌*◌, None, false, length}
 use Rattle.pgn_lexer.specs.Standing.{waiting}
-use Rattle.pgn_tool.specs.Listing.{ListsOn}
+use Rattle.pgn_tool.specs.ListState.{ListFrontResult}
 use Rattle.pgn_tool.proofs.list.list_piece.Given as goal
 
 abbrev pub invariant-loop-used : goal.invariant-loop-used
@@ -11,7 +11,7 @@ invariant-loop-used g l =
       fault : l.converter.fault ≡ None;
       going : l.converter.is_finished ≡ false;
       counted : g.O.Sink.failures l.out ≡ g.O.Sink.failures l.fn.out;
-      lists : ListsOn l.fn.converter l.piece l.at l.converter (g.O.Sink.taken l.fn.out) (g.O.Sink.taken l.out);
+      lists : ListFrontResult l.fn.converter l.piece l.at l.converter (g.O.Sink.taken l.fn.out) (g.O.Sink.taken l.out);
     }
 
 abbrev pub decreases-loop-used : goal.decreases-loop-used

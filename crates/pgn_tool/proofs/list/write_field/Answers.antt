@@ -1,4 +1,4 @@
-use Rattle.pgn_tool.proofs.Lines.{writes_after}
+use Rattle.pgn_tool.proofs.runs.PartsOfText.{writes_after}
 use Rattle.pgn_tool.proofs.list.write_field.Goals as goal
 
 pub returns-clause-written : goal.returns-clause-written

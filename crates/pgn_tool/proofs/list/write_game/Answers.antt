@@ -1,6 +1,6 @@
 use Rattle.std.proofs.Common.{◌∙◌, ap, sym, subst, decimal}
 use Rattle.pgn_layout.specs.Device.{Writes}
-use Rattle.pgn_tool.proofs.Lines.{line_at_hand-told, six_as}
+use Rattle.pgn_tool.proofs.runs.PartsOfText.{line_at_hand-told, six_as}
 use Rattle.pgn_tool.proofs.list.write_game.Goals as goal
 
 pub returns-clause-written : goal.returns-clause-written

@@ -1,6 +1,6 @@
 use Rattle.std.proofs.KnownBytes.{Appends-trans}
 use Rattle.std.proofs.lemmas.Result.{err_from_is_err_and}
-use Rattle.pgn_tool.proofs.Lines.{front_after, front_within, writes_after}
+use Rattle.pgn_tool.proofs.runs.PartsOfText.{front_after, front_within, writes_after}
 use Rattle.pgn_tool.proofs.list.write_line.Goals as goal
 
 pub returns-in_err-write_field-clause-written : goal.returns-in_err-write_field-clause-written

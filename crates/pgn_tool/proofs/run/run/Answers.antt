@@ -1,5 +1,5 @@
 use Rattle.std.proofs.Common.{refl}
-use Rattle.pgn_tool.proofs.Programs.{ran_fault, ran_task}
+use Rattle.pgn_tool.proofs.runs.FileToRun.{ran_fault, ran_task}
 use Rattle.pgn_tool.proofs.run.run.Goals as goal
 
 pub returns-in-Ok-parse-clause-ran : goal.returns-in-Ok-parse-clause-ran

@@ -1,6 +1,6 @@
 use Rattle.std.proofs.Common.{refl}
 use Rattle.pgn_tool.specs.Program.{opened}
-use Rattle.pgn_tool.proofs.Programs.{missing_told, opened_is, unopened_is}
+use Rattle.pgn_tool.proofs.runs.FileToRun.{missing_told, opened_is, unopened_is}
 use Rattle.pgn_tool.proofs.run.run_task.Goals as goal
 
 pub returns-in-Ok-clause-carries : goal.returns-in-Ok-clause-carries

@@ -1,6 +1,6 @@
 use Rattle.std.proofs.Common.{rules, subst}
 use Rattle.pgn_game.specs.Feeding.{Ends}
-use Rattle.pgn_tool.specs.Files.{told}
+use Rattle.pgn_tool.specs.Files.{open_text}
 use Rattle.pgn_tool.proofs.split.finish_game.Goals as goal
 
 pub returns : goal.returns
@@ -17,6 +17,6 @@ returns g c =
       counted = call.ensures.counted;
       ends =
           subst (λ files. Ends c.args.converter.now call.new.converter call.new.answer
-          (told taken (log c.args.files.now) c.args.file.now) (told taken (log files) call.new.file))
+          (open_text taken (log c.args.files.now) c.args.file.now) (open_text taken (log files) call.new.file))
           (search rules) (rw c.new-lent.ensures.now at call.ensures.ends);
     }

@@ -1,7 +1,7 @@
 use Rattle.std.proofs.lemmas.Result.{err_from_is_err_and}
-use Rattle.pgn_tool.proofs.Splits.{answered, fed_stops}
-use Rattle.pgn_tool.proofs.SplitCalls.{calm}
-use Rattle.pgn_tool.proofs.SplitEnd.{end_split, end_stops}
+use Rattle.pgn_tool.proofs.splitting.FilesAfterCall.{answered, fed_stops}
+use Rattle.pgn_tool.proofs.splitting.CallToFiles.{calm}
+use Rattle.pgn_tool.proofs.splitting.EndToFiles.{end_split, end_stops}
 use Rattle.pgn_tool.proofs.split.split_last.Goals as goal
 
 pub returns-in_err-finish_game-clause-files : goal.returns-in_err-finish_game-clause-files

@@ -2,10 +2,10 @@ use Rattle.std.proofs.Common.{◌∙◌, ◌++◌, [], ap, arith, refl, subst, t
 use Rattle.std.specs.Prelude.{Ok}
 use Rattle.std.proofs.lemmas.List.{take_rest}
 use Rattle.std.proofs.lemmas.Result.{err_from_is_err_and}
-use Rattle.pgn_tool.proofs.Splits.{answered, closed_on, closed_well, fed_stops, fed_well}
-use Rattle.pgn_tool.proofs.Listed.{own_follows, whole}
-use Rattle.pgn_tool.proofs.SplitCalls.{call_stops, calm, game_on_at, piece_begins, rest_on, stops_on_further}
-use Rattle.pgn_tool.specs.SplitGames.{SplitSoFar}
+use Rattle.pgn_tool.proofs.splitting.FilesAfterCall.{answered, closed_on, closed_well, fed_stops, fed_well}
+use Rattle.pgn_tool.proofs.runs.CallToLines.{own_follows, whole}
+use Rattle.pgn_tool.proofs.splitting.CallToFiles.{call_stops, calm, game_on_at, piece_begins, rest_on, stops_on_further}
+use Rattle.pgn_tool.specs.SplitState.{SplitSoFar}
 use Rattle.pgn_tool.proofs.split.split_piece.Goals as goal
 
 pub loop-used-init : goal.loop-used-init

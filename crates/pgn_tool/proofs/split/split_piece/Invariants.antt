@@ -1,8 +1,8 @@
 use Rattle.std.specs.Prelude.{Option, List}
 use Rattle.std.proofs.Common.{◌≡◌, ◌≤◌, ◌+◌, ◌-◌, ◌*◌, None, false, length}
 use Rattle.pgn_lexer.specs.Standing.{waiting}
-use Rattle.pgn_tool.specs.Files.{Event}
-use Rattle.pgn_tool.specs.SplitGames.{SplitsOn}
+use Rattle.pgn_tool.specs.Files.{FileStep}
+use Rattle.pgn_tool.specs.SplitState.{SplitFrontResult}
 use Rattle.pgn_tool.specs.Splitting.{FilesSoFar, IsWell}
 use Rattle.pgn_tool.proofs.split.split_piece.Given as goal
 
@@ -13,9 +13,9 @@ invariant-loop-used g l =
       count : l.converter.lexer.count ≡ l.fn.converter.lexer.count + l.at;
       fault : l.converter.fault ≡ None;
       going : l.converter.is_finished ≡ false;
-      so : (before : Option (List Event)) → FilesSoFar before (g.F.GameFiles.log l.fn.files) l.fn.file l.fn.count
+      so : (before : Option (List FileStep)) → FilesSoFar before (g.F.GameFiles.log l.fn.files) l.fn.file l.fn.count
           → FilesSoFar before (g.F.GameFiles.log l.files) l.file l.count;
-      splits : SplitsOn g.F.Out.Sink.taken l.fn.converter l.piece l.at l.converter
+      splits : SplitFrontResult g.F.Out.Sink.taken l.fn.converter l.piece l.at l.converter
           (g.F.GameFiles.log l.fn.files) l.fn.file l.fn.count (g.F.GameFiles.log l.files) l.file l.count;
       well : IsWell g.F.Out.Sink.taken g.F.Out.Sink.failures (g.F.GameFiles.log l.files) l.file;
     }

@@ -1,7 +1,7 @@
 use Rattle.std.proofs.Common.{◌∙◌, ◌<◌, arith, refl, length}
 use Rattle.std.proofs.lemmas.Result.{err_from_is_err_and}
-use Rattle.pgn_tool.proofs.SplitSource.{read_ends, read_fails, read_on, read_stops_at}
-use Rattle.pgn_tool.proofs.Splits.{read_stops}
+use Rattle.pgn_tool.proofs.splitting.SourceToFiles.{read_ends, read_fails, read_on, read_stops_at}
+use Rattle.pgn_tool.proofs.splitting.FilesAfterCall.{read_stops}
 use Rattle.pgn_tool.proofs.split.split_source.Goals as goal
 
 pub returns-in-Err-clause-files : goal.returns-in-Err-clause-files

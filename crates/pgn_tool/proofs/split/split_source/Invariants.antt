@@ -1,5 +1,5 @@
 use Rattle.std.proofs.Common.{◌≡◌, ◌≤◌, ◌-◌, ◌^◌, None, false, length}
-use Rattle.pgn_tool.specs.SplitGames.{ReadSoFar}
+use Rattle.pgn_tool.specs.SplitState.{SourceSplitSoFar}
 use Rattle.pgn_tool.specs.Splitting.{FilesSoFar, IsWell}
 use Rattle.pgn_tool.proofs.split.split_source.Given as goal
 
@@ -12,7 +12,7 @@ invariant-loop-converter g l =
       fault : l.converter.fault ≡ None;
       source : g.R.Source.failures l.reader ≡ g.R.Source.failures l.fn.reader;
       so : FilesSoFar (g.F.GameFiles.log l.fn.files) (g.F.GameFiles.log l.files) l.file l.count;
-      read : ReadSoFar g.F.Out.Sink.taken (g.R.Source.left l.fn.reader) (g.R.Source.left l.reader) l.converter
+      read : SourceSplitSoFar g.F.Out.Sink.taken (g.R.Source.left l.fn.reader) (g.R.Source.left l.reader) l.converter
           (g.F.GameFiles.log l.fn.files) (g.F.GameFiles.log l.files) l.file l.count;
       well : IsWell g.F.Out.Sink.taken g.F.Out.Sink.failures (g.F.GameFiles.log l.files) l.file;
     }

@@ -4,7 +4,7 @@ use Rattle.pgn_tool.specs.declared.split.Unsplit.{Unsplit}
 use Rattle.pgn_tool.specs.declared.split.Unsplit.TheVariants.{NoMemory, Refused}
 use Rattle.pgn_tool.specs.Running.{device}
 use Rattle.pgn_tool.specs.Splitting.{EndsSplit}
-use Rattle.pgn_tool.proofs.Splits.{split_ends}
+use Rattle.pgn_tool.proofs.splitting.FilesAfterCall.{split_ends}
 use Rattle.pgn_tool.proofs.split.split_to.Goals as goal
 
 pub returns-in-Ok-clause-runs : goal.returns-in-Ok-clause-runs

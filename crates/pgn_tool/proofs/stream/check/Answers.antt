@@ -1,6 +1,6 @@
 use Rattle.std.proofs.Common.{ap}
 use Rattle.std.specs.Prelude.{Err, Ok}
-use Rattle.pgn_tool.proofs.Runs.{concludes_as, silent_blames, tells_as}
+use Rattle.pgn_tool.proofs.runs.ConversionToRun.{concludes_as, silent_blames, tells_as}
 use Rattle.pgn_tool.proofs.stream.check.Goals as goal
 
 pub returns-in-Ok : goal.returns-in-Ok

@@ -1,6 +1,6 @@
 use Rattle.std.proofs.Common.{◌∙◌, ap, sym}
 use Rattle.std.specs.Prelude.{Err, Ok}
-use Rattle.pgn_tool.proofs.Runs.{blames_of, concludes_as, converts_on, flush_failed, flush_still}
+use Rattle.pgn_tool.proofs.runs.ConversionToRun.{blames_of, concludes_as, converts_on, flush_failed, flush_still}
 use Rattle.pgn_tool.proofs.stream.export.Goals as goal
 
 pub returns-in-Ok : goal.returns-in-Ok

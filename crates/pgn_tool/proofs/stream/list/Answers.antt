@@ -2,8 +2,8 @@ use Rattle.std.proofs.Common.{◌≡◌, ◌∙◌, ap, refl, subst, sym}
 use Rattle.std.specs.Prelude.{Err, Ok, Result}
 use Rattle.pgn_tool.specs.declared.list.Stopped.{Stopped}
 use Rattle.pgn_tool.specs.declared.list.Stopped.TheVariants.{Refused, Unwritten}
-use Rattle.pgn_tool.specs.Listing.{CountsList, Lists}
-use Rattle.pgn_tool.proofs.Runs.{concludes_as, flush_failed, flush_still, list_blames, lists_on, risen}
+use Rattle.pgn_tool.specs.Listing.{CountsList, ListResult}
+use Rattle.pgn_tool.proofs.runs.ConversionToRun.{concludes_as, flush_failed, flush_still, list_blames, lists_on, risen}
 use Rattle.pgn_tool.proofs.stream.list.Goals as goal
 
 pub returns-in-Ok : goal.returns-in-Ok
@@ -24,7 +24,7 @@ returns-in-Ok g c =
 pub returns-in-Err-Refused : goal.returns-in-Err-Refused
 returns-in-Err-Refused g c =
     let is : c.list_games-answer.result ≡ Err (Refused c.in-Err-Refused.fault) = c.in-Err-Refused.is ∙ ap (λ s. Err s) (rw c.in-Err-Refused.is at c.in-Err-Refused.field-0-is) in
-    let listed = subst (λ (r : Result Unit Stopped). Lists (g.R.Source.left c.args.reader.now) (g.R.Source.left c.list_games-answer.new.reader) r
+    let listed = subst (λ (r : Result Unit Stopped). ListResult (g.R.Source.left c.args.reader.now) (g.R.Source.left c.list_games-answer.new.reader) r
     (g.O.Sink.taken c.args.out.now) (g.O.Sink.taken c.list_games-answer.new.out)) is c.list_games-answer.ensures.lists in
     let counted = subst (λ (r : Result Unit Stopped). CountsList r (g.R.Source.failures c.args.reader.now) (g.R.Source.failures c.list_games-answer.new.reader)
     (g.O.Sink.failures c.args.out.now) (g.O.Sink.failures c.list_games-answer.new.out)) is c.list_games-answer.ensures.counted in
@@ -41,7 +41,7 @@ returns-in-Err-Refused g c =
 pub returns-in-Err-Unwritten : goal.returns-in-Err-Unwritten
 returns-in-Err-Unwritten g c =
     let is : c.list_games-answer.result ≡ Err Unwritten = c.in-Err-Unwritten.is ∙ ap (λ s. Err s) (rw c.in-Err-Unwritten.is at c.in-Err-Unwritten.field-0-is) in
-    let listed = subst (λ (r : Result Unit Stopped). Lists (g.R.Source.left c.args.reader.now) (g.R.Source.left c.list_games-answer.new.reader) r
+    let listed = subst (λ (r : Result Unit Stopped). ListResult (g.R.Source.left c.args.reader.now) (g.R.Source.left c.list_games-answer.new.reader) r
     (g.O.Sink.taken c.args.out.now) (g.O.Sink.taken c.list_games-answer.new.out)) is c.list_games-answer.ensures.lists in
     let counted = subst (λ (r : Result Unit Stopped). CountsList r (g.R.Source.failures c.args.reader.now) (g.R.Source.failures c.list_games-answer.new.reader)
     (g.O.Sink.failures c.args.out.now) (g.O.Sink.failures c.list_games-answer.new.out)) is c.list_games-answer.ensures.counted in

@@ -1,5 +1,5 @@
 use Rattle.std.proofs.Common.{◌∙◌}
-use Rattle.pgn_tool.proofs.Runs.{front_as}
+use Rattle.pgn_tool.proofs.runs.ConversionToRun.{front_as}
 use Rattle.pgn_tool.proofs.stream.write_totals.Goals as goal
 
 pub returns-then-is_ok-clause-front : goal.returns-then-is_ok-clause-front

@@ -1,7 +1,7 @@
 use Rattle.std.proofs.Common.{get_or, ◌∙◌, ap, ap₂}
 use Rattle.std.specs.Prelude.{None}
 use Rattle.chess_rules.specs.Words.{coded, has}
-use Rattle.chess_rules.proofs.WordLemmas.{cell_there}
+use Rattle.chess_rules.proofs.squares.WordsToCells.{cell_there}
 use Rattle.chess_rules.proofs.board.Board.at.Goals as goal
 
 pub returns : goal.returns

@@ -1,7 +1,7 @@
 use Rattle.std.proofs.Common.{get_or, set, ◌∙◌, ap₂}
 use Rattle.std.specs.Prelude.{None}
 use Rattle.chess_rules.specs.declared.board.Board.TheInside.{Inside}
-use Rattle.chess_rules.proofs.WordLemmas.{cells_carried, words_carried}
+use Rattle.chess_rules.proofs.squares.WordsToCells.{cells_carried, words_carried}
 use Rattle.chess_rules.proofs.board.Board.carry.Goals as goal
 use Rattle.chess_rules.proofs.board.Board.carry.Goals.{After-carried-4}
 

@@ -1,7 +1,7 @@
 use Rattle.std.proofs.Common.{ap₂, arith}
-use Rattle.chess_rules.specs.Again.{cells_long}
+use Rattle.chess_rules.specs.WordsAndCells.{cells_long}
 use Rattle.chess_rules.specs.Words.{is_code}
-use Rattle.chess_rules.proofs.WordLemmas.{has_zero}
+use Rattle.chess_rules.proofs.squares.WordsToCells.{has_zero}
 use Rattle.chess_rules.proofs.board.Board.empty.Goals as goal
 
 pub invariant_of-result : goal.invariant_of-result

@@ -1,4 +1,4 @@
-use Rattle.chess_rules.proofs.WordLemmas.{long_there}
+use Rattle.chess_rules.proofs.squares.WordsToCells.{long_there}
 use Rattle.chess_rules.proofs.board.Board.has_all_cells.Goals as goal
 
 pub returns : goal.returns

@@ -2,7 +2,7 @@ use Rattle.std.proofs.Common.{refl, arith, ◌≡◌, true}
 use Rattle.std.specs.List.{list_all, range_with_len}
 use Rattle.chess_rules.specs.declared.board.Board.TheInside.{Inside}
 use Rattle.chess_rules.specs.Words.{has, cells, is_code}
-use Rattle.chess_rules.proofs.Squares.{each_of_range}
+use Rattle.chess_rules.proofs.squares.AllSquares.{each_of_range}
 use Rattle.chess_rules.proofs.board.Board.initial.Goals as goal
 
 abbrev first : Inside

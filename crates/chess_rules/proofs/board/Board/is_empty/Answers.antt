@@ -1,6 +1,6 @@
 use Rattle.std.proofs.Common.{◌∙◌, ap, get_or, not}
 use Rattle.std.specs.Prelude.{None, is_some}
-use Rattle.chess_rules.proofs.WordLemmas.{not_some}
+use Rattle.chess_rules.proofs.squares.WordsToCells.{not_some}
 use Rattle.chess_rules.proofs.board.Board.is_empty.Goals as goal
 
 pub returns : goal.returns

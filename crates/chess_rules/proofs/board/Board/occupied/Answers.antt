@@ -2,7 +2,7 @@ use Rattle.std.proofs.Common.{◌||◌, ◌∙◌, ap}
 use Rattle.std.specs.Prelude.{is_some}
 use Rattle.std.specs.Int.Bits.{bit_or}
 use Rattle.chess_rules.specs.Words.{has}
-use Rattle.chess_rules.proofs.WordLemmas.{has_or, is_occupied, marks}
+use Rattle.chess_rules.proofs.squares.WordsToCells.{has_or, is_occupied, marks}
 use Rattle.chess_rules.proofs.board.Board.occupied.Goals as goal
 
 pub returns : goal.returns

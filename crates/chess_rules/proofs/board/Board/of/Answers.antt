@@ -2,7 +2,7 @@ use Rattle.std.proofs.Common.{◌≡◌, ◌+◌, ◌++◌, ◌∷◌, [], lengt
 use Rattle.std.specs.Prelude.{None}
 use Rattle.std.proofs.lemmas.List.{take_all, take_more, take_more_set}
 use Rattle.chess_rules.specs.Board.{cell_of}
-use Rattle.chess_rules.proofs.Kings.{cell_of-square_at}
+use Rattle.chess_rules.proofs.positions.OneKing.{cell_of-square_at}
 use Rattle.chess_rules.proofs.board.Board.of.Goals as goal
 use Rattle.chess_rules.proofs.board.Board.of.Goals.{After-put}
 

@@ -2,7 +2,7 @@ use Rattle.std.proofs.Common.{◌&&◌, ◌∙◌, ap₂, sym, ap}
 use Rattle.std.specs.Prelude.{is_some}
 use Rattle.chess_rules.specs.Board.{has_colour}
 use Rattle.chess_rules.specs.Words.{has, is_it}
-use Rattle.chess_rules.proofs.WordLemmas.{cell_there, has_and, is_occupied, colour_there, marks}
+use Rattle.chess_rules.proofs.squares.WordsToCells.{cell_there, has_and, is_occupied, colour_there, marks}
 use Rattle.chess_rules.proofs.board.Board.of_colour.Goals as goal
 
 pub returns : goal.returns

@@ -1,7 +1,7 @@
 use Rattle.std.proofs.Common.{◌&&◌, ◌∙◌, ap₂, ap}
 use Rattle.std.specs.Int.Bits.{bit_and}
 use Rattle.chess_rules.specs.Words.{has, has_kind, is_it}
-use Rattle.chess_rules.proofs.WordLemmas.{has_and, kind_there, marks}
+use Rattle.chess_rules.proofs.squares.WordsToCells.{has_and, kind_there, marks}
 use Rattle.chess_rules.proofs.board.Board.of_kind.Goals as goal
 
 pub returns : goal.returns

@@ -1,7 +1,7 @@
 use Rattle.std.proofs.Common.{◌&&◌, ◌∙◌, ap₂, sym, ap}
 use Rattle.chess_rules.specs.Board.{has_piece}
 use Rattle.chess_rules.specs.Words.{has, has_kind, is_it}
-use Rattle.chess_rules.proofs.WordLemmas.{cell_there, has_and, piece_there, marks}
+use Rattle.chess_rules.proofs.squares.WordsToCells.{cell_there, has_and, piece_there, marks}
 use Rattle.chess_rules.proofs.board.Board.pieces.Goals as goal
 
 pub returns : goal.returns

@@ -1,6 +1,6 @@
 use Rattle.std.proofs.Common.{set, ◌∙◌, ap}
 use Rattle.chess_rules.specs.declared.board.Board.TheInside.{Inside}
-use Rattle.chess_rules.proofs.WordLemmas.{cells_put, words_put}
+use Rattle.chess_rules.proofs.squares.WordsToCells.{cells_put, words_put}
 use Rattle.chess_rules.proofs.board.Board.put.Goals as goal
 use Rattle.chess_rules.proofs.board.Board.put.Goals.{After-with-4}
 

@@ -3,7 +3,7 @@ use Rattle.chess_rules.specs.Board.{cell_of}
 use Rattle.chess_rules.specs.Masks.{ray_mask}
 use Rattle.chess_rules.specs.Walk.{direction_number, lies_on}
 use Rattle.chess_rules.specs.Words.{mask, word}
-use Rattle.chess_rules.proofs.Places.{places, ray_mask_is, table_at}
+use Rattle.chess_rules.proofs.squares.TablesOfSquares.{places, ray_mask_is, table_at}
 use Rattle.chess_rules.proofs.direction.Direction.ray.Goals as goal
 
 pub returns : goal.returns

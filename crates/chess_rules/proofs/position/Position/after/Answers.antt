@@ -8,14 +8,14 @@ use Rattle.chess_rules.specs.Position.{is_position}
 use Rattle.chess_rules.specs.Legal.{is_check}
 use Rattle.chess_rules.specs.Step.{after, rights_after, full_after}
 use Rattle.chess_rules.specs.Walk.{king_square}
-use Rattle.chess_rules.specs.Kept.{parts_of, IsKept}
+use Rattle.chess_rules.specs.StoredPosition.{parts_of, FitsPosition}
 use Rattle.chess_rules.specs.declared.position.Position.TheInside.{Inside}
-use Rattle.chess_rules.proofs.Leaves.{after_fields, position_after, king_kept, legal_when, safe_from_legal}
-use Rattle.chess_rules.proofs.Plain.{step_when_legal}
+use Rattle.chess_rules.proofs.moves.LegalToPosition.{after_fields, position_after, king_kept, legal_when, safe_from_legal}
+use Rattle.chess_rules.proofs.moves.PlainStepAttacks.{step_when_legal}
 use Rattle.chess_rules.proofs.position.Position.after.Goals as goal
 
 -- the position before the move is one
-before : (a : Inside) (p : Parts) → IsKept a → parts_of a ≡ p → is_position p ≡ true
+before : (a : Inside) (p : Parts) → FitsPosition a → parts_of a ≡ p → is_position p ≡ true
 before a p kept view = subst (λ (q : Parts). is_position q ≡ true) view kept.position
 
 safe : (c : goal.After-king_after-2) → king_attacked c.board_after-board.result (other (other c.args.self.now.side)) ≡ false

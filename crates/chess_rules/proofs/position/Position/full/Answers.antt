@@ -1,5 +1,5 @@
-use Rattle.chess_rules.proofs.Sound.{sound_from_position}
-use Rattle.chess_rules.specs.Kept.{parts_of}
+use Rattle.chess_rules.proofs.positions.RulesOfPosition.{sound_from_position}
+use Rattle.chess_rules.specs.StoredPosition.{parts_of}
 use Rattle.chess_rules.proofs.position.Position.full.Goals as goal
 
 pub returns-clause-limit : goal.returns-clause-limit

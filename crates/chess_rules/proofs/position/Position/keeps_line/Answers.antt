@@ -6,8 +6,8 @@ use Rattle.chess_rules.specs.Legal.{is_check}
 use Rattle.chess_rules.specs.Masks.{slides}
 use Rattle.chess_rules.specs.Position.{is_position}
 use Rattle.chess_rules.specs.Square.{squares}
-use Rattle.chess_rules.proofs.Found.{not_means}
-use Rattle.chess_rules.proofs.Plain.{safe_when_plain, stepped_board}
+use Rattle.chess_rules.proofs.trying.CandidatesFoundOnce.{not_means}
+use Rattle.chess_rules.proofs.moves.PlainStepAttacks.{safe_when_plain, stepped_board}
 use Rattle.chess_rules.proofs.position.Position.keeps_line.Goals as goal
 
 pub returns-then-not-sees : goal.returns-then-not-sees

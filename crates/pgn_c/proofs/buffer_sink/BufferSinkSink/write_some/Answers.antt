@@ -1,5 +1,5 @@
 use Rattle.std.proofs.Common.{◌<◌, length, drop, sym, ◌∙◌, ap, subst, arith}
-use Rattle.pgn_c.proofs.Filling.{length_with, drop_with}
+use Rattle.pgn_c.proofs.MoreBytesBehind.{length_with, drop_with}
 use Rattle.pgn_c.proofs.buffer_sink.BufferSinkSink.write_some.Goals as goal
 
 pub invariant_of-self-else-count-eq0 : goal.invariant_of-self-else-count-eq0

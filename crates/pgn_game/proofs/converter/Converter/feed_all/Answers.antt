@@ -1,9 +1,9 @@
 use Rattle.std.proofs.Common.{arith, refl, drop, ◌∙◌, length-drop}
 use Rattle.std.proofs.lemmas.List.{take_rest}
 use Rattle.std.proofs.lemmas.Result.{err_from_is_err_and}
-use Rattle.pgn_game.proofs.Sizes.{fits_alike}
-use Rattle.pgn_game.proofs.OneToken.{follows_own}
-use Rattle.pgn_game.proofs.WholePiece.{all_none, all_more, all_fed, all_stops}
+use Rattle.pgn_game.proofs.ReaderFitsInMemory.{fits_alike}
+use Rattle.pgn_game.proofs.tokens.AcceptedToConverter.{follows_own}
+use Rattle.pgn_game.proofs.tokens.GamesInPiece.{all_none, all_more, all_fed, all_stops}
 use Rattle.pgn_game.proofs.converter.Converter.feed_all.Goals as goal
 
 pub loop-used-init : goal.loop-used-init

@@ -5,9 +5,9 @@ use Rattle.std.proofs.Math.Nat.{add_assoc}
 use Rattle.std.proofs.lemmas.List.{take_rest}
 use Rattle.pgn_lexer.specs.Standing.{waiting}
 use Rattle.pgn_game.specs.Feeding.{Converter, Stands}
-use Rattle.pgn_game.proofs.Sizes.{fits_alike}
-use Rattle.pgn_game.proofs.AtEnd.{sound_at_none}
-use Rattle.pgn_game.proofs.InPiece.{lets_go, so_far_none, fed_behind, stands_here, so_far_more, fed_all, fed_game, fed_fault, counts_step, none_at_hand}
+use Rattle.pgn_game.proofs.ReaderFitsInMemory.{fits_alike}
+use Rattle.pgn_game.proofs.tokens.StepsAtEnd.{sound_at_none}
+use Rattle.pgn_game.proofs.tokens.StepsInPiece.{lets_go, so_far_none, fed_behind, stands_here, so_far_more, fed_all, fed_game, fed_fault, counts_step, none_at_hand}
 use Rattle.pgn_game.proofs.converter.Converter.feed_front.Goals as goal
 
 pub loop-at-init : goal.loop-at-init

@@ -1,6 +1,6 @@
 use Rattle.std.proofs.Common.{◌≡◌, ◌≤◌, None, false}
 use Rattle.pgn_lexer.specs.Standing.{waiting}
-use Rattle.pgn_game.specs.Stepping.{ClosesSoFar}
+use Rattle.pgn_game.specs.Stepping.{FinishesSoFar}
 use Rattle.pgn_game.proofs.converter.Converter.finish.Given as goal
 
 abbrev pub invariant-loop-finished_game : goal.invariant-loop-finished_game
@@ -11,7 +11,7 @@ invariant-loop-finished_game g l =
       going : l.self.is_finished ≡ false;
       probes : l.fn.self.reading.most_probes ≤ l.self.reading.most_probes;
       counted : g.W.Sink.failures l.out ≡ g.W.Sink.failures l.fn.out;
-      closes : ClosesSoFar l.fn.self l.self l.finished_game (g.W.Sink.taken l.fn.out) (g.W.Sink.taken l.out);
+      closes : FinishesSoFar l.fn.self l.self l.finished_game (g.W.Sink.taken l.fn.out) (g.W.Sink.taken l.out);
     }
 
 abbrev pub decreases-loop-finished_game : goal.decreases-loop-finished_game

@@ -1,6 +1,6 @@
 use Rattle.std.proofs.Common.{ap, ◌∙◌}
 use Rattle.pgn_game.specs.Feeding.{Converter}
-use Rattle.pgn_game.proofs.Sizes.{fits_reader}
+use Rattle.pgn_game.proofs.ReaderFitsInMemory.{fits_reader}
 use Rattle.pgn_game.proofs.converter.Converter.most_probes.Goals as goal
 
 pub most_probes-requires : goal.most_probes-requires

@@ -1,4 +1,4 @@
-use Rattle.pgn_game.proofs.Sizes.{fits_reader}
+use Rattle.pgn_game.proofs.ReaderFitsInMemory.{fits_reader}
 use Rattle.pgn_game.proofs.converter.Converter.position.Goals as goal
 
 pub position-requires : goal.position-requires

@@ -1,11 +1,11 @@
 use Rattle.std.proofs.Common.{arith, sym, ap, subst, refl, ◌∙◌}
-use Rattle.pgn_game.specs.Feeding.{Converter, HasRead, held_if}
+use Rattle.pgn_game.specs.Feeding.{Converter, HasRead, game_in_reader_if}
 use Rattle.pgn_lexer.specs.Scanned.{kind_of}
 use Rattle.pgn_lexer.specs.Stands.{HasLeft}
-use Rattle.pgn_game.proofs.AtEnd.{sound_behind_fault, closes_sooner, closes, closes_fault, left_by, not_at_hand, fault_of_closed, games_of_closed, counts_closed, counts_token, nearer_by, sound_behind}
+use Rattle.pgn_game.proofs.tokens.StepsAtEnd.{sound_behind_fault, closes_sooner, closes, closes_fault, left_by, not_at_hand, fault_of_closed, games_of_closed, counts_closed, counts_token, nearer_by, sound_behind}
 use Rattle.pgn_game.specs.FaultTable.{is_end}
-use Rattle.pgn_game.specs.Stepping.{games_after, outcome_at, closed_with, StepAtEndAdvances}
-use Rattle.pgn_game.proofs.Sizes.{fits_reader}
+use Rattle.pgn_game.specs.Stepping.{games_after, outcome_at, ended_if, StepAtEndAdvances}
+use Rattle.pgn_game.proofs.ReaderFitsInMemory.{fits_reader}
 use Rattle.pgn_game.proofs.converter.Converter.step_at_end.Goals as goal
 
 pub returns-in-Token-clause-after : goal.returns-in-Token-clause-after
@@ -72,7 +72,7 @@ returns-in-Token-clause-advances g c =
     let gives = rw c.in-Token.is at c.finish.follows.holds-at-none.closes in
     let near = nearer_by _ c.self.inside.lexer c.finish.follows.lender-at-none _ gives in
     rw (c.close_with-closed.ensures, c.settle-outcome.ensures.outcome, c.is_end-is_end.ensures)
-    (subst (λ (s : Converter). StepAtEndAdvances s.lexer c.finish.follows.lender-at-none (closed_with (is_end (kind_of c.in-Token.token.kind)) (outcome_at c.in-Token.token.at c.accept-accepted.result))) c.self.view_is
+    (subst (λ (s : Converter). StepAtEndAdvances s.lexer c.finish.follows.lender-at-none (ended_if (is_end (kind_of c.in-Token.token.kind)) (outcome_at c.in-Token.token.at c.accept-accepted.result))) c.self.view_is
     (closes_sooner c.self.inside.lexer c.finish.follows.lender-at-none c.accept-accepted.new.self c.in-Token.token.at _ _ c.accept-accepted.result refl near c.accept-accepted.ensures.finished))
 
 pub returns-in-Token-clause-finished : goal.returns-in-Token-clause-finished
@@ -80,7 +80,7 @@ returns-in-Token-clause-finished g c = c.is_ended-self-inside.ensures
 
 pub returns-in-Token-clause-hand : goal.returns-in-Token-clause-hand
 returns-in-Token-clause-hand g c =
-    ap (λ b. held_if b c.accept-accepted.new.self) (not_at_hand _ _ (ap (λ (s : Converter). s.at_hand) c.self.view_is ∙ c.requires.hand))
+    ap (λ b. game_in_reader_if b c.accept-accepted.new.self) (not_at_hand _ _ (ap (λ (s : Converter). s.at_hand) c.self.view_is ∙ c.requires.hand))
 
 pub returns-in-Token-clause-probes : goal.returns-in-Token-clause-probes
 returns-in-Token-clause-probes g c = omega (arith, ap (λ (s : Converter). s.reading.most_probes) c.self.view_is, c.accept-accepted.ensures.probes)

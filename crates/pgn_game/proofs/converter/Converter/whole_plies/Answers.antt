@@ -3,7 +3,7 @@ use Rattle.pgn_game.specs.Reading.{whole_plies, plies_behind}
 use Rattle.pgn_game.specs.declared.stage.Stage.{Stage}
 use Rattle.pgn_game.specs.declared.stage.Stage.TheVariants.{Between, AfterLeftBracket, AfterName, AfterValue, AfterTags, InMovetext}
 use Rattle.pgn_game.specs.Feeding.{Converter}
-use Rattle.pgn_game.proofs.Sizes.{fits_reader}
+use Rattle.pgn_game.proofs.ReaderFitsInMemory.{fits_reader}
 use Rattle.pgn_game.proofs.converter.Converter.whole_plies.Goals as goal
 
 -- in a game its own moves are not counted yet

@@ -1,4 +1,4 @@
-use Rattle.pgn_game.proofs.HeldLevels.{front-held}
+use Rattle.pgn_game.proofs.putting.CodeLevelsToStored.{front-held}
 use Rattle.pgn_game.proofs.levels.Levels.close.Goals as goal
 
 pub returns : goal.returns

@@ -1,5 +1,5 @@
 use Rattle.std.proofs.Common.{arith}
-use Rattle.pgn_game.proofs.HeldLevels.{depth-held}
+use Rattle.pgn_game.proofs.putting.CodeLevelsToStored.{depth-held}
 use Rattle.pgn_game.proofs.levels.Levels.depth.Goals as goal
 
 pub returns-clause-value : goal.returns-clause-value

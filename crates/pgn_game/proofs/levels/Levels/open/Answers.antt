@@ -1,7 +1,7 @@
 use Rattle.std.proofs.Common.{◌≡◌, ◌-◌, List, get_or, Some, None, ap, sym, ◌∙◌, arith, rules}
 use Rattle.pgn_game.specs.declared.levels.Level.{Level as CodeLevel}
-use Rattle.pgn_game.specs.Movetext.{HeldLevel}
-use Rattle.pgn_game.proofs.HeldLevels.{depth-held, last-held, snoc-held, opens, opens-nothing}
+use Rattle.pgn_game.specs.Movetext.{StoredLevel}
+use Rattle.pgn_game.proofs.putting.CodeLevelsToStored.{depth-held, last-held, snoc-held, opens, opens-nothing}
 use Rattle.pgn_game.proofs.levels.Levels.open.Goals as goal
 
 pub push-requires : goal.push-requires
@@ -24,7 +24,7 @@ returns-in-Some g c =
     let read : get_or items (c.len.result - 1) level ≡ level =
     ap (λ (xs : List CodeLevel). get_or xs (c.len.result - 1) level) (sym c.deref.ensures.0) ∙ sym c.index-deref-len.is in
     let before : now.present.before ≡ Some c.in-Some.present =
-    sym (ap (λ (l : HeldLevel). l.before) (last-held items now c.len.result level c.self.view_is c.self.invariant.some c.len.ensures.value))
+    sym (ap (λ (l : StoredLevel). l.before) (last-held items now c.len.result level c.self.view_is c.self.invariant.some c.len.ensures.value))
     ∙ ap (λ (l : CodeLevel). l.before) read ∙ c.in-Some.is in
     opens now.present.before c.in-Some.present now _ before (rw (c.push.ensures.items, c.at.ensures) (snoc-held items now _ c.self.view_is c.self.invariant.some))
 
@@ -36,6 +36,6 @@ returns-in_default g c =
     let read : get_or items (c.len.result - 1) level ≡ level =
     ap (λ (xs : List CodeLevel). get_or xs (c.len.result - 1) level) (sym c.deref.ensures.0) ∙ sym c.index-deref-len.is in
     let before : now.present.before ≡ None =
-    sym (ap (λ (l : HeldLevel). l.before) (last-held items now c.len.result level c.self.view_is c.self.invariant.some c.len.ensures.value))
+    sym (ap (λ (l : StoredLevel). l.before) (last-held items now c.len.result level c.self.view_is c.self.invariant.some c.len.ensures.value))
     ∙ ap (λ (l : CodeLevel). l.before) read ∙ c.in_default.is in
     opens-nothing now.present.before _ c.requires.before before

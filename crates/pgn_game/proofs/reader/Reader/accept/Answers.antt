@@ -3,9 +3,9 @@ use Rattle.std.proofs.KnownBytes.{Appends-nil}
 use Rattle.pgn_lexer.specs.Scanned.{kind_of}
 use Rattle.pgn_game.specs.Reading as reading
 use Rattle.pgn_game.specs.Judging.{after}
-use Rattle.pgn_game.proofs.Sizes.{reader_alike}
-use Rattle.pgn_game.proofs.Accepting.{accepted, refused, counts_refused, keeps_found, stays_found, finishes_at_marker}
-use Rattle.pgn_game.proofs.TriedPairs.{raises, raises_refused}
+use Rattle.pgn_game.proofs.ReaderFitsInMemory.{reader_alike}
+use Rattle.pgn_game.proofs.tokens.JudgedToAccepted.{accepted, refused, counts_refused, keeps_found, stays_found, finishes_at_marker}
+use Rattle.pgn_game.proofs.tokens.PairsTriedForToken.{raises, raises_refused}
 use Rattle.pgn_game.proofs.reader.Reader.accept.Goals as goal
 
 pub make_ready-requires : goal.make_ready-requires

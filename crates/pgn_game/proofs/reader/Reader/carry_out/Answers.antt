@@ -4,10 +4,10 @@ use Rattle.std.specs.Result.{result_unwrap_or}
 use Rattle.chess_rules.specs.declared.position.Parts.{Parts}
 use Rattle.pgn_game.specs.declared.judged.Judged.{Judged}
 use Rattle.pgn_game.specs.declared.stage.Stage.TheVariants.{AfterValue}
-use Rattle.pgn_game.specs.Movetext.{begun_at}
+use Rattle.pgn_game.specs.Movetext.{movetext_after_fen}
 use Rattle.pgn_game.specs.Reading.{Reading}
 use Rattle.pgn_game.specs.Judging.{Fits}
-use Rattle.pgn_game.proofs.Pairing.{completed, puts_value}
+use Rattle.pgn_game.proofs.putting.PairStepToReader.{completed, puts_value}
 use Rattle.pgn_game.proofs.reader.Reader.carry_out.Goals as goal
 
 pub returns-in-Value-clause-puts : goal.returns-in-Value-clause-puts
@@ -20,4 +20,4 @@ returns-in-Value-clause-puts g c =
     (subst (λ (r : Reading). IfSome r.tags.pending_name (λ name. c.complete.new.self ≡ completed name c.in-Value.value.now r.tags.held)) v c.complete.ensures)
     (sym (ap (λ (r : Reading). r.tags.pending_name) v) ∙ c.pending_name.ensures)
     (c.unwrap_or-start.ensures ∙ ap (λ (r : Result (Option Parts) ℕ). result_unwrap_or r None) c.fen_position.ensures)
-    (rw c.begin_at.ensures (ap (λ (r : Reading). record r { stage = AfterValue; tags = c.complete.new.self; text = begun_at c.unwrap_or-start.result r.text }) v)))
+    (rw c.begin_at.ensures (ap (λ (r : Reading). record r { stage = AfterValue; tags = c.complete.new.self; text = movetext_after_fen c.unwrap_or-start.result r.text }) v)))

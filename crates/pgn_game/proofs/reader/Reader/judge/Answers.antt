@@ -1,6 +1,6 @@
 use Rattle.std.proofs.Common.{sym, ap, ◌∙◌}
 use Rattle.pgn_game.specs.Reading.{Reading}
-use Rattle.pgn_game.proofs.Judging.{passed}
+use Rattle.pgn_game.proofs.judging.PartsToJudgement.{passed}
 use Rattle.pgn_game.proofs.reader.Reader.judge.Goals as goal
 
 pub returns-in-Between : goal.returns-in-Between

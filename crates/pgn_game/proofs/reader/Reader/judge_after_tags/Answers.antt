@@ -11,9 +11,9 @@ use Rattle.pgn_game.specs.FaultTable.{refusal}
 use Rattle.pgn_game.specs.Progress.{next}
 use Rattle.pgn_game.specs.Reading.{Reading, Agrees}
 use Rattle.pgn_game.specs.Judging.{may_have_movetext}
-use Rattle.pgn_game.proofs.Refusing.{hit, pass, end_after_tags, open_refusal, open_next, refuses_set_up}
-use Rattle.pgn_game.proofs.Stages.{no_bracket, no_end, lacks_of}
-use Rattle.pgn_game.proofs.Judging.{refused, goes, entry_at, free_after_tags, part_stage, held_at}
+use Rattle.pgn_game.proofs.judging.RefusalsByStage.{hit, pass, end_after_tags, open_refusal, open_next, refuses_set_up}
+use Rattle.pgn_game.proofs.judging.HandlersToRows.{no_bracket, no_end, lacks_of}
+use Rattle.pgn_game.proofs.judging.PartsToJudgement.{refused, goes, entry_at, free_after_tags, part_stage, held_at}
 use Rattle.pgn_game.proofs.reader.Reader.judge_after_tags.Goals as goal
 
 -- how many pairs the part has

@@ -5,9 +5,9 @@ use Rattle.pgn_game.specs.declared.reason.Reason.TheVariants.{TagInMovetext, Une
 use Rattle.pgn_game.specs.declared.stage.Stage.TheVariants.{InMovetext}
 use Rattle.pgn_game.specs.FaultTable.{refusal}
 use Rattle.pgn_game.specs.Judging.{may_have_movetext}
-use Rattle.pgn_game.proofs.Refusing.{end_in_movetext, bracket_in_movetext}
-use Rattle.pgn_game.proofs.Stages.{no_bracket, no_end}
-use Rattle.pgn_game.proofs.Judging.{refused, entry_at, free_in_movetext, part_stage}
+use Rattle.pgn_game.proofs.judging.RefusalsByStage.{end_in_movetext, bracket_in_movetext}
+use Rattle.pgn_game.proofs.judging.HandlersToRows.{no_bracket, no_end}
+use Rattle.pgn_game.proofs.judging.PartsToJudgement.{refused, entry_at, free_in_movetext, part_stage}
 use Rattle.pgn_game.proofs.reader.Reader.judge_in_movetext.Goals as goal
 
 pub returns-in-End : goal.returns-in-End

@@ -9,17 +9,17 @@ use Rattle.pgn_game.specs.Markers.{marker_text}
 use Rattle.pgn_game.specs.Pairs.{Pair, value_of}
 use Rattle.pgn_game.specs.Levels.{depth}
 use Rattle.pgn_game.specs.Holding.{TagPairs}
-use Rattle.pgn_game.specs.FaultTable.{levels_in}
+use Rattle.pgn_game.specs.FaultTable.{levels_of_part}
 use Rattle.pgn_game.specs.Reading.{Reading}
-use Rattle.pgn_game.proofs.Judging.{entry_refused, entry_goes}
-use Rattle.pgn_game.proofs.InText.{depth_is, marker_inside, marker_differs, marker_free, marker_whole, none_around, test_of, differs}
+use Rattle.pgn_game.proofs.judging.PartsToJudgement.{entry_refused, entry_goes}
+use Rattle.pgn_game.proofs.judging.RefusalsInMovetext.{depth_is, marker_inside, marker_differs, marker_free, marker_whole, none_around, test_of, differs}
 use Rattle.pgn_game.proofs.reader.Reader.judge_marker.Goals as goal
 
 pub returns-then-depth-gt0 : goal.returns-then-depth-gt0
 returns-then-depth-gt0 g c = λ k is.
     let old = c.args.self.now in
     entry_refused g.row.T g.row.L old (kind_of k) MarkerInVariation refl (λ part op.
-    marker_inside old k c.args.marker.now part is (le-leb 1 (depth (levels_in part))
+    marker_inside old k c.args.marker.now part is (le-leb 1 (depth (levels_of_part part))
     (omega (arith, c.if-depth-gt0.true, c.depth.ensures.value, depth_is old part op, ap (λ (r : Reading). length r.text.levels.around) c.self.view_is))))
 
 pub returns-then-ne : goal.returns-then-ne

@@ -10,8 +10,8 @@ use Rattle.pgn_game.specs.Holding.{TagPairs}
 use Rattle.pgn_game.specs.Progress.{next}
 use Rattle.pgn_game.specs.FaultTable.{refusal, is_reduced}
 use Rattle.pgn_game.specs.Reading.{Reading}
-use Rattle.pgn_game.proofs.Refusing.{hit, pass, expected_name, name_refusal, name_next}
-use Rattle.pgn_game.proofs.Judging.{comment, refused, goes, part_stage, held_at, has_pair_found}
+use Rattle.pgn_game.proofs.judging.RefusalsByStage.{hit, pass, expected_name, name_refusal, name_next}
+use Rattle.pgn_game.proofs.judging.PartsToJudgement.{comment, refused, goes, part_stage, held_at, has_pair_found}
 use Rattle.pgn_game.proofs.reader.Reader.judge_name.Goals as goal
 
 pub returns-then-is_comment : goal.returns-then-is_comment
@@ -41,8 +41,8 @@ returns-then-is_some g c =
     ∙ pass _ _ _ (ap not (sym c.is_tag_name.ensures ∙ c.if-not-is_tag_name.false))
     ∙ hit _ _ _ (has_pair_found c.self.inside.tags.held part.pairs c.in-Symbol.name.now c.value.result true same c.value.ensures.value (sym c.if-is_some.true ∙ c.is_some.ensures)))
 
-pub returns-then-name-gt-TEXT_LENGTH : goal.returns-then-name-gt-TEXT_LENGTH
-returns-then-name-gt-TEXT_LENGTH g c =
+pub returns-then-name-gt-NAME_OR_VALUE_LENGTH : goal.returns-then-name-gt-NAME_OR_VALUE_LENGTH
+returns-then-name-gt-NAME_OR_VALUE_LENGTH g c =
     let old = c.args.self.now in
     let v = c.self.view_is in
     refused g.row.T g.row.L old (kind_of c.args.kind) TagLineTooLong refl (λ part agrees.
@@ -50,7 +50,7 @@ returns-then-name-gt-TEXT_LENGTH g c =
     ap (λ (k : TokenKind). refusal old.profile part (kind_of k)) c.in-Symbol.is ∙ name_refusal old.profile part c.in-Symbol.name.now (part_stage old part AfterLeftBracket agrees c.requires.stage)
     ∙ pass _ _ _ (ap not (sym c.is_tag_name.ensures ∙ c.if-not-is_tag_name.false))
     ∙ pass _ _ _ (has_pair_found c.self.inside.tags.held part.pairs c.in-Symbol.name.now c.value.result false same c.value.ensures.value (sym c.if-is_some.false ∙ c.is_some.ensures))
-    ∙ hit _ _ _ (lt-ltb 249 (length c.in-Symbol.name.now) c.if-name-gt-TEXT_LENGTH.true))
+    ∙ hit _ _ _ (lt-ltb 249 (length c.in-Symbol.name.now) c.if-name-gt-NAME_OR_VALUE_LENGTH.true))
 
 pub returns-then-is_reduced_fen : goal.returns-then-is_reduced_fen
 returns-then-is_reduced_fen g c =
@@ -61,7 +61,7 @@ returns-then-is_reduced_fen g c =
     ap (λ (k : TokenKind). refusal old.profile part (kind_of k)) c.in-Symbol.is ∙ name_refusal old.profile part c.in-Symbol.name.now (part_stage old part AfterLeftBracket agrees c.requires.stage)
     ∙ pass _ _ _ (ap not (sym c.is_tag_name.ensures ∙ c.if-not-is_tag_name.false))
     ∙ pass _ _ _ (has_pair_found c.self.inside.tags.held part.pairs c.in-Symbol.name.now c.value.result false same c.value.ensures.value (sym c.if-is_some.false ∙ c.is_some.ensures))
-    ∙ pass _ _ _ (le-ltb 249 (length c.in-Symbol.name.now) c.if-name-gt-TEXT_LENGTH.false)
+    ∙ pass _ _ _ (le-ltb 249 (length c.in-Symbol.name.now) c.if-name-gt-NAME_OR_VALUE_LENGTH.false)
     ∙ hit _ _ _ (ap (λ (m : Mode). is_reduced m && bytes_eq c.in-Symbol.name.now (codes "FEN")) (sym (ap (λ (r : Reading). r.profile.mode) v)) ∙ sym c.is_reduced_fen.ensures ∙ c.if-is_reduced_fen.true))
 
 pub returns : goal.returns
@@ -71,7 +71,7 @@ returns g c =
     let name = c.in-Symbol.name.now in
     goes g.row.T g.row.L old (kind_of c.args.kind) (Name c.in-Symbol.name) (
       c.requires.stage,
-      c.if-name-gt-TEXT_LENGTH.false,
+      c.if-name-gt-NAME_OR_VALUE_LENGTH.false,
       has_pair_found c.self.inside.tags.held old.tags.held name c.value.result false (ap (λ (r : Reading). r.tags.held) v) c.value.ensures.value (sym c.if-is_some.false ∙ c.is_some.ensures),
     )
     (λ e. absurd (cc)) (λ part agrees.
@@ -79,7 +79,7 @@ returns g c =
       ap (λ (k : TokenKind). refusal old.profile part (kind_of k)) c.in-Symbol.is ∙ name_refusal old.profile part c.in-Symbol.name.now (part_stage old part AfterLeftBracket agrees c.requires.stage)
           ∙ pass _ _ _ (ap not (sym c.is_tag_name.ensures ∙ c.if-not-is_tag_name.false))
           ∙ pass _ _ _ (has_pair_found c.self.inside.tags.held part.pairs c.in-Symbol.name.now c.value.result false same c.value.ensures.value (sym c.if-is_some.false ∙ c.is_some.ensures))
-          ∙ pass _ _ _ (le-ltb 249 (length c.in-Symbol.name.now) c.if-name-gt-TEXT_LENGTH.false)
+          ∙ pass _ _ _ (le-ltb 249 (length c.in-Symbol.name.now) c.if-name-gt-NAME_OR_VALUE_LENGTH.false)
           ∙ pass _ _ _ (ap (λ (m : Mode). is_reduced m && bytes_eq c.in-Symbol.name.now (codes "FEN")) (sym (ap (λ (r : Reading). r.profile.mode) v)) ∙ sym c.is_reduced_fen.ensures ∙ c.if-is_reduced_fen.false),
       ap (λ (k : TokenKind). next part (kind_of k)) c.in-Symbol.is ∙ name_next part name (part_stage old part AfterLeftBracket agrees c.requires.stage),
     ))

@@ -6,8 +6,8 @@ use Rattle.pgn_game.specs.declared.reason.Reason.TheVariants.{ExpectedBracket}
 use Rattle.pgn_game.specs.declared.stage.Stage.TheVariants.{AfterValue}
 use Rattle.pgn_game.specs.Progress.{next}
 use Rattle.pgn_game.specs.FaultTable.{refusal}
-use Rattle.pgn_game.proofs.Refusing.{expected_bracket, close_refusal, close_next}
-use Rattle.pgn_game.proofs.Judging.{comment, refused, goes, part_stage}
+use Rattle.pgn_game.proofs.judging.RefusalsByStage.{expected_bracket, close_refusal, close_next}
+use Rattle.pgn_game.proofs.judging.PartsToJudgement.{comment, refused, goes, part_stage}
 use Rattle.pgn_game.proofs.reader.Reader.judge_right_bracket.Goals as goal
 
 pub returns-then-is_comment : goal.returns-then-is_comment

@@ -13,9 +13,9 @@ use Rattle.pgn_game.specs.FaultTable.{refusal, is_result as is_any_result}
 use Rattle.pgn_game.specs.Progress.{next}
 use Rattle.pgn_game.specs.Reading.{Reading, Agrees}
 use Rattle.pgn_game.specs.Judging.{ValueFits, fen_position as told}
-use Rattle.pgn_game.proofs.Refusing.{hit, pass, expected_value, value_refusal, value_next}
-use Rattle.pgn_game.proofs.Starting.{start_fine, start_faults}
-use Rattle.pgn_game.proofs.Judging.{comment, refused, goes, part_stage, held_at, begun_name}
+use Rattle.pgn_game.proofs.judging.RefusalsByStage.{hit, pass, expected_value, value_refusal, value_next}
+use Rattle.pgn_game.proofs.pairs.PairsToFirstPosition.{start_fine, start_faults}
+use Rattle.pgn_game.proofs.judging.PartsToJudgement.{comment, refused, goes, part_stage, held_at, begun_name}
 use Rattle.pgn_game.proofs.reader.Reader.judge_value.Goals as goal
 
 -- the name that the reader was given is the part's

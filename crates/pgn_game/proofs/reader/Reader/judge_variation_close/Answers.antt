@@ -6,11 +6,11 @@ use Rattle.pgn_game.specs.declared.judged.Entry.TheVariants.{Item as Put}
 use Rattle.pgn_game.specs.declared.judged.Item.TheVariants.{Close}
 use Rattle.pgn_game.specs.declared.reason.Reason.TheVariants.{UnmatchedClose}
 use Rattle.pgn_game.specs.Levels.{depth}
-use Rattle.pgn_game.specs.FaultTable.{levels_in}
+use Rattle.pgn_game.specs.FaultTable.{levels_of_part}
 use Rattle.pgn_game.specs.Reading.{Reading}
-use Rattle.pgn_game.proofs.Refusing.{hit, pass}
-use Rattle.pgn_game.proofs.Judging.{entry_refused, entry_goes}
-use Rattle.pgn_game.proofs.InText.{depth_is}
+use Rattle.pgn_game.proofs.judging.RefusalsByStage.{hit, pass}
+use Rattle.pgn_game.proofs.judging.PartsToJudgement.{entry_refused, entry_goes}
+use Rattle.pgn_game.proofs.judging.RefusalsInMovetext.{depth_is}
 use Rattle.pgn_game.proofs.reader.Reader.judge_variation_close.Goals as goal
 
 pub returns-then-depth-eq0 : goal.returns-then-depth-eq0
@@ -25,4 +25,4 @@ returns g c =
     let old = c.args.self.now in
     let deep : c.depth.result ≡ length old.text.levels.around = c.depth.ensures.value ∙ ap (λ (r : Reading). length r.text.levels.around) c.self.view_is in
     entry_goes g.row.T g.row.L old right_paren (InText (Put Close)) (c.requires.stage, omega (arith, deep, c.if-depth-eq0.false), tt) (λ e. absurd (cc))
-    (λ part is. (pass _ _ _ (ne_eqb (depth (levels_in part)) 0 (λ e. c.if-depth-eq0.false (deep ∙ depth_is old part is ∙ e))), refl))
+    (λ part is. (pass _ _ _ (ne_eqb (depth (levels_of_part part)) 0 (λ e. c.if-depth-eq0.false (deep ∙ depth_is old part is ∙ e))), refl))

@@ -7,11 +7,11 @@ use Rattle.pgn_game.specs.declared.judged.Entry.TheVariants.{Item as Put}
 use Rattle.pgn_game.specs.declared.judged.Item.TheVariants.{Open}
 use Rattle.pgn_game.specs.declared.reason.Reason.TheVariants.{NoMoveBefore, TooDeep}
 use Rattle.pgn_game.specs.Levels.{depth}
-use Rattle.pgn_game.specs.FaultTable.{levels_in}
+use Rattle.pgn_game.specs.FaultTable.{levels_of_part}
 use Rattle.pgn_game.specs.Reading.{Reading}
-use Rattle.pgn_game.proofs.Refusing.{hit, pass}
-use Rattle.pgn_game.proofs.Judging.{entry_refused, entry_goes}
-use Rattle.pgn_game.proofs.InText.{holds_is, depth_is}
+use Rattle.pgn_game.proofs.judging.RefusalsByStage.{hit, pass}
+use Rattle.pgn_game.proofs.judging.PartsToJudgement.{entry_refused, entry_goes}
+use Rattle.pgn_game.proofs.judging.RefusalsInMovetext.{holds_is, depth_is}
 use Rattle.pgn_game.proofs.reader.Reader.judge_variation_open.Goals as goal
 
 pub returns-then-not-has_own_move : goal.returns-then-not-has_own_move
@@ -27,7 +27,7 @@ returns-then-depth g c =
     let most : g.row.L - 1 ≡ old.profile.depth = ap (λ (r : Reading). r.profile.depth) v in
     entry_refused g.row.T g.row.L old left_paren TooDeep refl (λ part is.
     pass _ _ _ (ap not (sym (holds_is old part is) ∙ sym (ap (λ (r : Reading). is_some r.text.levels.present.before) v) ∙ sym c.has_own_move.ensures) ∙ ap not c.if-not-has_own_move.false)
-    ∙ hit _ _ _ (le-leb old.profile.depth (depth (levels_in part))
+    ∙ hit _ _ _ (le-leb old.profile.depth (depth (levels_of_part part))
     (omega (arith, most, c.if-depth.true, c.depth.ensures.value, depth_is old part is, ap (λ (r : Reading). length r.text.levels.around) v))))
 
 pub returns : goal.returns
@@ -39,7 +39,7 @@ returns g c =
     entry_goes g.row.T g.row.L old left_paren (InText (Put Open))
     (c.requires.stage, (some, omega (arith, c.if-depth.false, c.depth.ensures.value, ap (λ (r : Reading). length r.text.levels.around) v)), tt) (λ e. absurd (cc)) (λ part is. (
       pass _ _ _ (ap not (sym (holds_is old part is) ∙ some))
-          ∙ pass _ _ _ (lt-leb old.profile.depth (depth (levels_in part))
+          ∙ pass _ _ _ (lt-leb old.profile.depth (depth (levels_of_part part))
           (omega (arith, most, c.if-depth.false, c.depth.ensures.value, depth_is old part is, ap (λ (r : Reading). length r.text.levels.around) v))),
       refl,
     ))

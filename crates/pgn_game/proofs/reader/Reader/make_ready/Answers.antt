@@ -1,26 +1,26 @@
-use Rattle.pgn_game.proofs.Sizes.{reader_alike}
+use Rattle.pgn_game.proofs.ReaderFitsInMemory.{reader_alike}
 use Rattle.std.proofs.Common.{◌≡◌, ◌+◌, ℕ, [], None, sym, ap, ◌∙◌, refl}
 use Rattle.chess_rules.specs.Position.{initial}
 use Rattle.pgn_lexer.specs.Scanned.{kind_of}
 use Rattle.pgn_game.specs.declared.stage.Stage.TheVariants.{AfterTags}
 use Rattle.pgn_game.specs.Chess.{first_position}
 use Rattle.pgn_game.specs.Holding.{TagPairs}
-use Rattle.pgn_game.specs.Movetext.{Movetext, begins_at}
+use Rattle.pgn_game.specs.Movetext.{Movetext, movetext_from}
 use Rattle.pgn_game.specs.Reading.{Reading}
-use Rattle.pgn_game.specs.Handling.{begun}
-use Rattle.pgn_game.proofs.Accepting.{begins_is}
+use Rattle.pgn_game.specs.Handling.{at_game_start}
+use Rattle.pgn_game.proofs.tokens.JudgedToAccepted.{begins_is}
 use Rattle.pgn_game.proofs.reader.Reader.make_ready.Goals as goal
 
 is_first : initial ≡ first_position
 unfolding first_position
 is_first = refl
 
-begun_by : (old : Reading) (tags : TagPairs) (text : Movetext) (plies : ℕ) → tags ≡ record { held = []; pending_name = None } → text ≡ begins_at first_position → plies ≡ old.text.plies
-    → record old { stage = AfterTags; tags = tags; text = text; earlier_plies = old.earlier_plies + plies } ≡ begun old
+begun_by : (old : Reading) (tags : TagPairs) (text : Movetext) (plies : ℕ) → tags ≡ record { held = []; pending_name = None } → text ≡ movetext_from first_position → plies ≡ old.text.plies
+    → record old { stage = AfterTags; tags = tags; text = text; earlier_plies = old.earlier_plies + plies } ≡ at_game_start old
 begun_by old tags text plies clear begins count =
     ap (λ (t : TagPairs). record old { stage = AfterTags; tags = t; text = text; earlier_plies = old.earlier_plies + plies }) clear
     ∙ ap (λ (t : Movetext). record old { stage = AfterTags; tags = record { held = []; pending_name = None }; text = t; earlier_plies = old.earlier_plies + plies }) begins
-    ∙ ap (λ n. record old { stage = AfterTags; tags = record { held = []; pending_name = None }; text = begins_at first_position; earlier_plies = old.earlier_plies + n }) count
+    ∙ ap (λ n. record old { stage = AfterTags; tags = record { held = []; pending_name = None }; text = movetext_from first_position; earlier_plies = old.earlier_plies + n }) count
 
 pub returns : goal.returns
 returns g c =
@@ -29,7 +29,7 @@ returns g c =
     rw is
     (ap (λ (r : Reading). record r { stage = AfterTags; tags = c.clear.new.self; text = c.begin.new.self; earlier_plies = r.earlier_plies + c.plies.result }) v
     ∙ begun_by c.args.self.now c.clear.new.self c.begin.new.self c.plies.result c.clear.ensures
-    (c.begin.ensures ∙ ap begins_at (c.initial.ensures ∙ is_first)) (c.plies.ensures ∙ ap (λ (r : Reading). r.text.plies) v))
+    (c.begin.ensures ∙ ap movetext_from (c.initial.ensures ∙ is_first)) (c.plies.ensures ∙ ap (λ (r : Reading). r.text.plies) v))
 
 pub is_between-requires : goal.is_between-requires
 is_between-requires g c = search reader_alike

@@ -8,9 +8,9 @@ use Rattle.pgn_layout.specs.Layout.{Layout, Put, EndGame, text_at, line_at}
 use Rattle.pgn_game.specs.declared.judged.Entry.{Entry}
 use Rattle.pgn_game.specs.Reading.{Reading}
 use Rattle.pgn_game.specs.Judging.{EntryFits, IsProbed}
-use Rattle.pgn_game.proofs.Appending.{front_of_more, front_after}
-use Rattle.pgn_game.proofs.Closing.{puts_unbegun, ends_well, ends_ill}
-use Rattle.pgn_game.proofs.Putting.{IsAfterItem, begins_as, puts_number, puts_item, fails_item}
+use Rattle.pgn_game.proofs.putting.WritesInTurn.{front_of_more, front_after}
+use Rattle.pgn_game.proofs.putting.MarkerToReader.{puts_unbegun, ends_well, ends_ill}
+use Rattle.pgn_game.proofs.putting.ItemToReader.{IsAfterItem, begins_as, puts_number, puts_item, fails_item}
 use Rattle.pgn_game.proofs.reader.Reader.put_entry.Goals as goal
 
 -- the reader after an item, once its probes are counted

@@ -1,6 +1,6 @@
 use Rattle.std.proofs.Common.{[], length, arith, rules, ap}
 use Rattle.pgn_game.specs.Pairs.{Pair}
-use Rattle.pgn_game.proofs.Ordering.{whole-held, pairs_seen-snoc}
+use Rattle.pgn_game.proofs.pairs.SortedPairs.{whole-held, pairs_seen-snoc}
 use Rattle.pgn_game.proofs.tags.TagPairs.begin.Goals as goal
 
 pub push-requires : goal.push-requires

@@ -1,6 +1,6 @@
 use Rattle.std.proofs.Common.{◌≡◌, ℕ, ◌+◌, ◌≤◌, List, length, ap, sym, ◌∙◌}
 use Rattle.pgn_layout.specs.TagLine.{escaped}
-use Rattle.pgn_game.proofs.Ordering.{named-last, completed}
+use Rattle.pgn_game.proofs.pairs.SortedPairs.{named-last, completed}
 use Rattle.std.specs.List.{refill}
 use Rattle.std.proofs.Common.{take, drop, ◌++◌}
 use Rattle.std.proofs.Math.Seq.{take-append_seam}

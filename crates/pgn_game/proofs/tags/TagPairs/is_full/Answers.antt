@@ -1,6 +1,6 @@
 use Rattle.std.proofs.Common.{arith}
 use Rattle.std.proofs.lemmas.Bool.Decides.{nat_tests}
-use Rattle.pgn_game.proofs.Ordering.{whole-held}
+use Rattle.pgn_game.proofs.pairs.SortedPairs.{whole-held}
 use Rattle.pgn_game.proofs.tags.TagPairs.is_full.Goals as goal
 
 pub returns-clause-full : goal.returns-clause-full

@@ -1,5 +1,5 @@
 use Rattle.std.proofs.Common.{◌∙◌}
-use Rattle.pgn_game.proofs.Ordering.{whole-held}
+use Rattle.pgn_game.proofs.pairs.SortedPairs.{whole-held}
 use Rattle.pgn_game.proofs.tags.TagPairs.pairs.Goals as goal
 
 pub returns : goal.returns

@@ -1,6 +1,6 @@
 use Rattle.std.proofs.Common.{List, ap, ◌∙◌}
 use Rattle.pgn_game.specs.Pairs.{Pair, value_of}
-use Rattle.pgn_game.proofs.Ordering.{whole-held}
+use Rattle.pgn_game.proofs.pairs.SortedPairs.{whole-held}
 use Rattle.pgn_game.proofs.tags.TagPairs.value.Goals as goal
 
 pub returns-clause-value : goal.returns-clause-value

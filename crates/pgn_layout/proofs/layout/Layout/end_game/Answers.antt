@@ -1,7 +1,7 @@
 use Rattle.std.proofs.Common.{◌≡◌, ◌<◌, ◌∙◌, length, false, ap, arith}
 use Rattle.std.proofs.lemmas.Bool.Decides.{nat_tests}
 use Rattle.pgn_layout.specs.Layout.{Layout}
-use Rattle.pgn_layout.proofs.Writing.{Writes-append, ended_line}
+use Rattle.pgn_layout.proofs.OneWriteMore.{Writes-append, ended_line}
 use Rattle.pgn_layout.proofs.layout.Layout.end_game.Goals as goal
 
 pub returns-clause-text : goal.returns-clause-text

@@ -1,13 +1,13 @@
 use Rattle.std.proofs.Common.{refl, sym, subst}
-use Rattle.pgn_lexer.specs.Held.{Held, IsSound}
-use Rattle.pgn_lexer.proofs.Stepping.{closes_gives, ClosesEnd, ClosesToken, ClosesFault}
-use Rattle.pgn_lexer.proofs.Closing.{finishes_end, finishes_token, finishes_fault, finishes_of}
+use Rattle.pgn_lexer.specs.PartialToken.{PartialToken, IsSound}
+use Rattle.pgn_lexer.proofs.stepping.ByteGives.{closes_gives, ClosesEnd, ClosesToken, ClosesFault}
+use Rattle.pgn_lexer.proofs.stepping.EndGives.{finishes_end, finishes_token, finishes_fault, finishes_of}
 use Rattle.pgn_lexer.proofs.lexer.Lexer.finish.Goals as goal
 
 pub invariant_of-self : goal.invariant_of-self
 invariant_of-self c =
     let h : ClosesEnd _ _ _ = closes_gives _ _ _ _ c.self.invariant c.in-End.ensures in
-    subst (λ (held : Held). IsSound c.self.inside.count held) (sym h.same) c.self.invariant
+    subst (λ (held : PartialToken). IsSound c.self.inside.count held) (sym h.same) c.self.invariant
 
 pub invariant_of-self-in-Token : goal.invariant_of-self-in-Token
 invariant_of-self-in-Token c =

@@ -1,5 +1,5 @@
 use Rattle.std.proofs.Common.{refl, arith}
-use Rattle.pgn_lexer.proofs.Carrying.{scans_nothing, scans_form, scans_told, scans_of}
+use Rattle.pgn_lexer.proofs.stepping.StandsAfterCalls.{scans_nothing, scans_form, scans_told, scans_of}
 use Rattle.pgn_lexer.proofs.lexer.Lexer.next.Goals as goal
 
 pub returns-in-Nothing : goal.returns-in-Nothing

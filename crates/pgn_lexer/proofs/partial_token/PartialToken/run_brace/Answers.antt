@@ -1,7 +1,7 @@
 use Rattle.std.proofs.Common.{refl, sym, ap, ◌∙◌, arith}
 use Rattle.pgn_lexer.specs.declared.class.CommentClass.TheVariants.{CloseBrace, WordByte}
-use Rattle.pgn_lexer.specs.Held.{Held}
-use Rattle.pgn_lexer.proofs.Running.{ran_all, ran_uses, ran_ends, takes_brace, takes_gap}
+use Rattle.pgn_lexer.specs.PartialToken.{PartialToken}
+use Rattle.pgn_lexer.proofs.stepping.PieceByByte.{ran_all, ran_uses, ran_ends, takes_brace, takes_gap}
 use Rattle.pgn_lexer.proofs.partial_token.PartialToken.run_brace.Goals as goal
 
 pub returns-in-WordByte : goal.returns-in-WordByte
@@ -27,7 +27,7 @@ loop-used-preserved c =
     let here = c.loop-used.invariant in
     record {
       within = omega arith;
-      brace = ap (λ (h : Held). h.mode) c.pass.ensures;
+      brace = ap (λ (h : PartialToken). h.mode) c.pass.ensures;
       ran = λ old ran. ran_uses _ old c.args.piece.now _ c.loop-used.used _ (omega arith) refl (here.ran old ran) _
           (takes_gap _ _ _ _ _ here.brace (sym c.comment_class_of.ensures) c.in-LineEnd.is c.pass.ensures);
     }

@@ -1,5 +1,5 @@
 use Rattle.std.proofs.Common.{get_or, refl, arith}
-use Rattle.pgn_lexer.proofs.Running.{ran_all, ran_uses, ran_stops, takes_word, still_word}
+use Rattle.pgn_lexer.proofs.stepping.PieceByByte.{ran_all, ran_uses, ran_stops, takes_word, still_word}
 use Rattle.pgn_lexer.proofs.partial_token.PartialToken.run_brace_word.Goals as goal
 
 pub returns-in_default : goal.returns-in_default

@@ -1,8 +1,8 @@
 use Rattle.std.proofs.Common.{refl, sym, subst, ◌∙◌, arith}
 use Rattle.pgn_lexer.specs.declared.class.Class.TheVariants.{LineEnd, Space, SymbolStart, Quote, Alone, OpenBrace}
-use Rattle.pgn_lexer.specs.Held.{Held}
+use Rattle.pgn_lexer.specs.PartialToken.{PartialToken}
 use Rattle.pgn_lexer.specs.Running.{IsOutside}
-use Rattle.pgn_lexer.proofs.Running.{ran_all, ran_uses, ran_ends, takes_outside}
+use Rattle.pgn_lexer.proofs.stepping.PieceByByte.{ran_all, ran_uses, ran_ends, takes_outside}
 use Rattle.pgn_lexer.proofs.partial_token.PartialToken.run_outside.Goals.{in-LineEnd, in-Space}
 use Rattle.pgn_lexer.proofs.partial_token.PartialToken.run_outside.Goals as goal
 
@@ -42,13 +42,13 @@ loop-used-preserved c =
     elim c.match-class_of.branch [
       | in-LineEnd w ↦ record {
         within = omega arith;
-        outside = subst (λ (h : Held). IsOutside h.mode) (sym (w.self-is ∙ w.pass.ensures)) tt;
+        outside = subst (λ (h : PartialToken). IsOutside h.mode) (sym (w.self-is ∙ w.pass.ensures)) tt;
         ran = λ old ran. ran_uses _ old c.args.piece.now _ c.loop-used.used _ (omega arith) refl (here.ran old ran) _
             (takes_outside _ _ _ _ _ LineEnd here.outside (sym c.class_of.ensures ∙ w.in-LineEnd.is) refl (record { held = w.self-is ∙ w.pass.ensures; step = refl }));
       }
       | in-Space w ↦ record {
         within = omega arith;
-        outside = subst (λ (h : Held). IsOutside h.mode) (sym (w.self-is ∙ w.pass-in-Space.ensures)) tt;
+        outside = subst (λ (h : PartialToken). IsOutside h.mode) (sym (w.self-is ∙ w.pass-in-Space.ensures)) tt;
         ran = λ old ran. ran_uses _ old c.args.piece.now _ c.loop-used.used _ (omega arith) refl (here.ran old ran) _
             (takes_outside _ _ _ _ _ Space here.outside (sym c.class_of.ensures ∙ w.in-Space.is) refl (record { held = w.self-is ∙ w.pass-in-Space.ensures; step = refl }));
       }

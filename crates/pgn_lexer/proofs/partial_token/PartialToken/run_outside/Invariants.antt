@@ -1,5 +1,5 @@
 use Rattle.std.proofs.Common.{◌≤◌, ◌-◌, length}
-use Rattle.pgn_lexer.specs.Held.{Held}
+use Rattle.pgn_lexer.specs.PartialToken.{PartialToken}
 use Rattle.pgn_lexer.specs.Running.{IsOutside, Ran}
 use Rattle.pgn_lexer.proofs.partial_token.PartialToken.run_outside.Given as goal
 
@@ -7,7 +7,7 @@ abbrev pub invariant-loop-used : goal.invariant-loop-used
 invariant-loop-used l = record {
   within : l.used ≤ length l.piece;
   outside : IsOutside l.self.mode;
-  ran : (old : Held) → Ran l.place old l.piece l.fn.self 0 → Ran l.place old l.piece l.self l.used;
+  ran : (old : PartialToken) → Ran l.place old l.piece l.fn.self 0 → Ran l.place old l.piece l.self l.used;
 }
 
 abbrev pub decreases-loop-used : goal.decreases-loop-used

@@ -1,7 +1,7 @@
 use Rattle.std.proofs.Common.{◌≡◌, ◌<◌, [], ◌∷◌, ◌++◌, length, get_or, refl, sym, ap, ◌∙◌, arith}
 use Rattle.pgn_lexer.specs.declared.partial_token.Mode.TheVariants.{Outside}
-use Rattle.pgn_lexer.specs.Held.{Held}
-use Rattle.pgn_lexer.proofs.Running.{ran_all, ran_uses, ran_ends, takes_plain, takes_quote}
+use Rattle.pgn_lexer.specs.PartialToken.{PartialToken}
+use Rattle.pgn_lexer.proofs.stepping.PieceByByte.{ran_all, ran_uses, ran_ends, takes_plain, takes_quote}
 use Rattle.pgn_lexer.proofs.partial_token.PartialToken.run_string.Goals as goal
 
 pub returns-then-len-eq255 : goal.returns-then-len-eq255
@@ -11,7 +11,7 @@ pub returns-in-Quote : goal.returns-in-Quote
 returns-in-Quote c = λ old ran.
     let here = c.loop-used.invariant in
     ran_ends _ old c.args.piece.now _ c.loop-used.used _ (omega arith) refl (here.ran old ran) _ _
-    (takes_quote _ _ _ _ here.string (sym c.string_class_of.ensures ∙ c.in-Quote.is) (ap (λ (h : Held). record { mode = Outside; at = h.at; text = h.text }) c.self-in-Quote.view_is))
+    (takes_quote _ _ _ _ here.string (sym c.string_class_of.ensures ∙ c.in-Quote.is) (ap (λ (h : PartialToken). record { mode = Outside; at = h.at; text = h.text }) c.self-in-Quote.view_is))
 
 pub returns-in_default : goal.returns-in_default
 returns-in_default c = λ old ran. c.run_on-in_default.ensures old (c.loop-used.invariant.ran old ran)
@@ -22,13 +22,13 @@ returns c = ran_all _ c.args.piece.now _ _ _ _ (omega arith) c.loop-used.invaria
 pub loop-used-preserved : goal.loop-used-preserved
 loop-used-preserved c =
     let here = c.loop-used.invariant in
-    let same : length c.self.inside.buffer ≡ length c.loop-used.self.text = ap (λ (h : Held). length h.text) c.self.view_is in
+    let same : length c.self.inside.buffer ≡ length c.loop-used.self.text = ap (λ (h : PartialToken). length h.text) c.self.view_is in
     let room : length c.loop-used.self.text < 255 = omega (arith, same, c.len.ensures.length, c.len.ensures.room, c.if-len-eq255.false) in
     record {
       within = omega arith;
-      string = ap (λ (h : Held). h.mode) c.self.view_is ∙ here.string;
+      string = ap (λ (h : PartialToken). h.mode) c.self.view_is ∙ here.string;
       ran = λ old ran. ran_uses _ old c.args.piece.now _ c.loop-used.used _ (omega arith) refl (here.ran old ran) _
           (takes_plain _ _ _ _ here.string (sym c.string_class_of.ensures ∙ c.in-Plain.is) room
           (ap (λ text. record { mode = c.self.inside.mode; at = c.self.inside.at; text = text }) c.push.ensures
-          ∙ ap (λ (h : Held). record { mode = h.mode; at = h.at; text = h.text ++ get_or c.args.piece.now c.loop-used.used 0 ∷ [] }) c.self.view_is));
+          ∙ ap (λ (h : PartialToken). record { mode = h.mode; at = h.at; text = h.text ++ get_or c.args.piece.now c.loop-used.used 0 ∷ [] }) c.self.view_is));
     }

@@ -1,6 +1,6 @@
 use Rattle.std.proofs.Common.{◌≡◌, ◌≤◌, ◌-◌, length}
 use Rattle.pgn_lexer.specs.declared.partial_token.Mode.TheVariants.{Str}
-use Rattle.pgn_lexer.specs.Held.{Held}
+use Rattle.pgn_lexer.specs.PartialToken.{PartialToken}
 use Rattle.pgn_lexer.specs.Running.{Ran}
 use Rattle.pgn_lexer.proofs.partial_token.PartialToken.run_string.Given as goal
 
@@ -8,7 +8,7 @@ abbrev pub invariant-loop-used : goal.invariant-loop-used
 invariant-loop-used l = record {
   within : l.used ≤ length l.piece;
   string : l.self.mode ≡ Str;
-  ran : (old : Held) → Ran l.place old l.piece l.fn.self l.from → Ran l.place old l.piece l.self l.used;
+  ran : (old : PartialToken) → Ran l.place old l.piece l.fn.self l.from → Ran l.place old l.piece l.self l.used;
 }
 
 abbrev pub decreases-loop-used : goal.decreases-loop-used

@@ -1,5 +1,5 @@
 use Rattle.std.proofs.Common.{refl, sym, ◌∙◌}
-use Rattle.pgn_tool.proofs.Games.{file_keeps_text}
+use Rattle.pgn_tool.proofs.splitting.FileKeepsText.{file_keeps_text}
 use Rattle.pgn_tool.proofs.game_sink.GameSinkSink.write_some.Goals as goal
 
 pub invariant_of-self : goal.invariant_of-self

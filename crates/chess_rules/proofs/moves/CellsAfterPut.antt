@@ -1,0 +1,63 @@
+-- What stands where after a piece is put on a square, and how many kings there are then.
+use Rattle.std.proofs.Common.{◌≡◌, ◌≢◌, ℕ, ◌+◌, ◌<◌, Bool, true, false, ◌⊎◌, inl, inr, refl, sym, ◌∙◌, ap, subst, arith, length, length-set, set, get_or, cond}
+use Rattle.std.specs.Prelude.{◌==◌, Option, None}
+use Rattle.std.proofs.lemmas.Bool.Decides.{nat_tests}
+use Rattle.std.proofs.lemmas.List.{get_or-set_same, get_or-set_other}
+use Rattle.std.proofs.lemmas.List.Sums.{sum_by-set}
+use Rattle.chess_rules.specs.declared.piece.Colour.{Colour}
+use Rattle.chess_rules.specs.declared.piece.Kind.TheVariants.{King}
+use Rattle.chess_rules.specs.declared.piece.Piece.{Piece}
+use Rattle.chess_rules.specs.Square.{Square}
+use Rattle.chess_rules.specs.Board.{Board, at, put, cell_of, kings, has_piece}
+use Rattle.chess_rules.specs.Walk.{square_at}
+use Rattle.chess_rules.proofs.positions.OneKing.{square_at-cell_of}
+
+pub record OnBoard (s : Square) : Type 0 where
+  pub file : s.file < 8
+  pub rank : s.rank < 8
+
+pub same_or_not : (m n : ℕ) → (m ≡ n) ⊎ (m ≢ n)
+same_or_not m n = by_test (m == n) refl
+  where
+    by_test : (x : Bool) → (m == n) ≡ x → (m ≡ n) ⊎ (m ≢ n)
+    by_test true e = inl (grind (arith, nat_tests))
+    by_test false e = inr (λ same. grind (arith, nat_tests))
+
+-- a put is seen on its square alone
+pub at_put : (b : Board) (s u : Square) (x : Option Piece) → length b ≡ 64 → OnBoard s → OnBoard u → ((u ≡ s) × (at (put b s x) u ≡ x)) ⊎ ((u ≢ s) × (at (put b s x) u ≡ at b u))
+at_put b s u x long on_s on_u =
+    elim (same_or_not (cell_of u) (cell_of s)) [
+      | inl same ↦ inl (square_same same, subst (λ (i : ℕ). get_or (set b (cell_of s) x) i None ≡ x) (sym same) (get_or-set_same b (cell_of s) x None low))
+      | inr differ ↦ inr ((λ e. differ (ap cell_of e)), get_or-set_other b (cell_of s) (cell_of u) x None differ)
+    ]
+  where
+    low : cell_of s < length b
+    low = (let f : s.file < 8 = on_s.file in let r : s.rank < 8 = on_s.rank in omega arith)
+
+    square_same : cell_of u ≡ cell_of s → u ≡ s
+    square_same same = sym (square_at-cell_of u on_u.file) ∙ (ap square_at same ∙ square_at-cell_of s on_s.file)
+
+pub at_put_here : (b : Board) (s : Square) (x : Option Piece) → length b ≡ 64 → OnBoard s → at (put b s x) s ≡ x
+at_put_here b s x long on_s =
+    let f : s.file < 8 = on_s.file in let r : s.rank < 8 = on_s.rank in
+    get_or-set_same b (cell_of s) x None (omega arith)
+
+pub length-put : (b : Board) (s : Square) (x : Option Piece) → length (put b s x) ≡ length b
+length-put b s x = length-set b (cell_of s) x
+
+-- 1 for the colour's king, else 0
+abbrev pub king_count : Colour → Option Piece → ℕ
+king_count c cell = cond (has_piece c King cell) 1 0
+
+pub kings-put : (c : Colour) (b : Board) (s : Square) (x : Option Piece) → length b ≡ 64 → OnBoard s → kings c (put b s x) + king_count c (at b s) ≡ kings c b + king_count c x
+kings-put c b s x long on_s =
+    let f : s.file < 8 = on_s.file in let r : s.rank < 8 = on_s.rank in
+    sum_by-set (king_count c) b (cell_of s) x None (omega arith)
+
+-- kings stay as many where as many are put as were there
+pub kings-put_alike : (c : Colour) (b : Board) (s : Square) (x : Option Piece) → length b ≡ 64 → OnBoard s → king_count c (at b s) ≡ king_count c x → kings c (put b s x) ≡ kings c b
+kings-put_alike c b s x long on_s alike =
+    same_sum (kings c (put b s x)) (kings c b) (king_count c (at b s)) (king_count c x) (kings-put c b s x long on_s) alike
+  where
+    same_sum : (m n i j : ℕ) → m + i ≡ n + j → i ≡ j → m ≡ n
+    same_sum m n i j h g = omega arith

@@ -1,0 +1,254 @@
+-- A legal move leaves a position, and the kings where they are said to be.
+use Rattle.std.proofs.Common.{◌≡◌, ℕ, ◌+◌, ◌/◌, ◌<◌, ◌≤◌, Bool, true, false, not, ◌&&◌, ◌||◌, ◌⊎◌, inl, inr, refl, sym, ◌∙◌, ap, ap₂, subst, arith}
+use Rattle.std.specs.Prelude.{nat_lt, Option, None, Some, is_some, option_map, if◌then◌else◌}
+use Rattle.std.proofs.lemmas.Bool.Decides.{nat_tests}
+use Rattle.chess_rules.specs.declared.piece.Colour.{Colour}
+use Rattle.chess_rules.specs.declared.piece.Colour.TheVariants.{White, Black}
+use Rattle.chess_rules.specs.declared.piece.Kind.TheVariants.{Pawn}
+use Rattle.chess_rules.specs.declared.position.Move.{Move}
+use Rattle.chess_rules.specs.declared.position.Parts.{Parts}
+use Rattle.chess_rules.specs.declared.position.Rights.{Rights}
+use Rattle.chess_rules.specs.Square.{Square, square, on_board}
+use Rattle.chess_rules.specs.Board.{Board, is_empty, other}
+use Rattle.chess_rules.specs.Attacks.{is_attacked, king_attacked}
+use Rattle.chess_rules.specs.Position.{is_position, target_fits}
+use Rattle.chess_rules.specs.Step.{own, pawn_rank, double_rank, is_on_board, is_double_step, is_piece_step, is_pawn_step, is_en_passant, crossed, castles_short, castles_long, short_right, long_right, short_wing, long_wing, carried, en_passant_board, castled, board_after, after, step, rights_after, target_after, half_after, full_after, counted}
+use Rattle.chess_rules.specs.Legal.{legal, if_safe, is_legal}
+use Rattle.chess_rules.specs.Walk.{king_square, king_after}
+use Rattle.chess_rules.specs.Laws.{LeavesPosition, OneAfter}
+use Rattle.chess_rules.proofs.squares.AllSquares.{first_true, second_true, both_true}
+use Rattle.chess_rules.proofs.positions.OneKing.{king_stands, king_only_there, king_attacked_there}
+use Rattle.chess_rules.proofs.moves.CellsAfterPut.{OnBoard}
+use Rattle.chess_rules.proofs.positions.RulesOfPosition.{Sound, sound_from_position, position_from_sound, no_pawn_on_edge}
+use Rattle.chess_rules.proofs.moves.BoardAfterMove.{Stays, carried_stays}
+use Rattle.chess_rules.proofs.moves.StepsKeepBoard.{other-other, piece_lands, pawn_lands, passing_stays, castling_stays, castles_means, short_is_wing, long_is_wing, double_ranks}
+
+at_most : (m n : ℕ) → nat_lt m n ≡ true → m < n
+at_most m n h = grind (arith, nat_tests)
+
+pub on_board_means : (s : Square) → on_board s ≡ true → OnBoard s
+on_board_means s h = record { file = at_most s.file 8 (first_true (nat_lt s.file 8) _ h); rank = at_most s.rank 8 (second_true (nat_lt s.file 8) _ h) }
+
+-- Which way it was.
+
+abbrev pub Ways : Parts → Move → Board → Type 0
+Ways p m b =
+    ((is_piece_step p m ≡ true) × (carried p m ≡ b))
+    ⊎ (((is_pawn_step p m ≡ true) × (carried p m ≡ b))
+    ⊎ (((is_en_passant p m ≡ true) × (en_passant_board p m ≡ b))
+    ⊎ (((castles_short p m ≡ true) × (castled p m 7 5 ≡ b))
+    ⊎ ((castles_long p m ≡ true) × (castled p m 0 3 ≡ b)))))
+
+five : (v w x y z : Bool) (i j k l b : Board)
+    → (if v || w then Some i else if x then Some j else if y then Some k else if z then Some l else None) ≡ Some b
+    → ((v ≡ true) × (i ≡ b)) ⊎ (((w ≡ true) × (i ≡ b)) ⊎ (((x ≡ true) × (j ≡ b)) ⊎ (((y ≡ true) × (k ≡ b)) ⊎ ((z ≡ true) × (l ≡ b)))))
+five true w x y z i j k l b h = inl (refl, cc)
+five false true x y z i j k l b h = inr (inl (refl, cc))
+five false false true y z i j k l b h = inr (inr (inl (refl, cc)))
+five false false false true z i j k l b h = inr (inr (inr (inl (refl, cc))))
+five false false false false true i j k l b h = inr (inr (inr (inr (refl, cc))))
+five false false false false false i j k l b h = cc
+
+pub way_of : (p : Parts) (m : Move) (b : Board) → board_after p m ≡ Some b → Ways p m b
+way_of p m b h =
+    five (is_piece_step p m) (is_pawn_step p m) (is_en_passant p m) (castles_short p m) (castles_long p m)
+    (carried p m) (en_passant_board p m) (castled p m 7 5) (castled p m 0 3) b h
+
+pub board_stays : (p : Parts) (m : Move) (b : Board) → Sound p → is_on_board m ≡ true → board_after p m ≡ Some b → Stays p m b
+board_stays p m b sound on h =
+    elim (way_of p m b h) [
+      | inl piece ↦ subst (λ (c : Board). Stays p m c) piece.1 (carried_stays p m sound (piece_lands p m sound from to piece.0))
+      | inr more ↦ elim more [
+        | inl pawn ↦ subst (λ (c : Board). Stays p m c) pawn.1 (carried_stays p m sound (pawn_lands p m sound from to pawn.0))
+        | inr more ↦ elim more [
+          | inl passing ↦ subst (λ (c : Board). Stays p m c) passing.1 (passing_stays p m sound from to passing.0)
+          | inr more ↦ elim more [
+            | inl short ↦ subst (λ (c : Board). Stays p m c) short.1 (castling_stays p m short_wing sound short_is_wing from to (castles_means p m (short_right p.side p.rights) short_wing short.0))
+            | inr long ↦ subst (λ (c : Board). Stays p m c) long.1 (castling_stays p m long_wing sound long_is_wing from to (castles_means p m (long_right p.side p.rights) long_wing long.0))
+          ]
+        ]
+      ]
+    ]
+  where
+    from : OnBoard m.from
+    from = on_board_means m.from (first_true (on_board m.from) _ on)
+
+    to : OnBoard m.to
+    to = on_board_means m.to (second_true (on_board m.from) _ on)
+
+-- The target.
+
+below : (m n : ℕ) → m < n → nat_lt m n ≡ true
+below m n h = grind (arith, nat_tests)
+
+crossed_fits : (c : Colour) (file a b : ℕ) → file < 8 → a ≡ pawn_rank c → b ≡ double_rank c → target_fits (other c) (Some (square file ((a + b) / 2))) ≡ true
+crossed_fits White file a b low from to = rw (from, to) (both_true _ _ (both_true _ _ (below file 8 low) refl) refl)
+crossed_fits Black file a b low from to = rw (from, to) (both_true _ _ (both_true _ _ (below file 8 low) refl) refl)
+
+pub target_kept : (p : Parts) (m : Move) → is_on_board m ≡ true → target_fits (other p.side) (target_after p m) ≡ true
+target_kept p m on = by_test (own p Pawn m.from && is_double_step p m) refl
+  where
+    from : OnBoard m.from
+    from = on_board_means m.from (first_true (on_board m.from) _ on)
+
+    by_test : (x : Bool) → (own p Pawn m.from && is_double_step p m) ≡ x → target_fits (other p.side) (if x then Some (crossed m) else None) ≡ true
+    by_test false e = refl
+    by_test true e =
+        let ranks : (m.from.rank ≡ pawn_rank p.side) × (m.to.rank ≡ double_rank p.side) = double_ranks p m (second_true (own p Pawn m.from) _ e) in
+        crossed_fits p.side m.from.file m.from.rank m.to.rank from.file ranks.0 ranks.1
+
+-- The numbers.
+
+counted_low : (n : ℕ) → counted n ≤ 99999
+counted_low n = omega arith
+
+half_low : (p : Parts) (m : Move) → half_after p m ≤ 99999
+half_low p m = by_test (own p Pawn m.from || not (is_empty p.board m.to))
+  where
+    by_test : (x : Bool) → (if x then 0 else counted p.half) ≤ 99999
+    by_test true = omega arith
+    by_test false = counted_low p.half
+
+full_low : (c : Colour) (n : ℕ) → n ≤ 99999 → full_after c n ≤ 99999
+full_low White n h = h
+full_low Black n h = counted_low n
+
+-- Together.
+
+pub after_sound : (p : Parts) (m : Move) (b : Board) → Sound p → is_on_board m ≡ true → board_after p m ≡ Some b → king_attacked b (other (other p.side)) ≡ false → Sound (after p m b)
+after_sound p m b sound on h safe =
+    let stays : Stays p m b = board_stays p m b sound on h in
+    record {
+      long = stays.long;
+      kings_of = stays.kings_of;
+      edge = no_pawn_on_edge b stays.pawns;
+      safe = safe;
+      target = target_kept p m on;
+      half = half_low p m;
+      full = full_low p.side p.full sound.full;
+    }
+
+-- each king stands where the move leaves it
+pub king_moves : (p : Parts) (m : Move) (b : Board) (c : Colour) → Sound p → is_on_board m ≡ true → board_after p m ≡ Some b → king_after (king_square c p.board) m ≡ king_square c b
+king_moves p m b c sound on h =
+    let stays : Stays p m b = board_stays p m b sound on h in
+    king_only_there c b (king_after (king_square c p.board) m) (king_square c b) stays.long (stays.kings_of c)
+    (stays.placed c (king_square c p.board) (king_stands c p.board sound.long (sound.kings_of c)))
+    (king_stands c b stays.long (stays.kings_of c))
+
+-- whether the mover's king is attacked is seen from where the move leaves it
+pub king_seen : (p : Parts) (m : Move) (b : Board) → Sound p → is_on_board m ≡ true → board_after p m ≡ Some b → king_attacked b (other (other p.side)) ≡ is_attacked b (other p.side) (king_after (king_square p.side p.board) m)
+king_seen p m b sound on h =
+    let stays : Stays p m b = board_stays p m b sound on h in
+    ap (king_attacked b) (other-other p.side)
+    ∙ (king_attacked_there p.side b stays.long (stays.kings_of p.side)
+    ∙ ap (is_attacked b (other p.side)) (sym (king_moves p m b p.side sound on h)))
+
+-- Legality of a step.
+
+pub legal_when : (p : Parts) (m : Move) (b : Board) → is_on_board m ≡ true → board_after p m ≡ Some b → king_attacked b (other (other p.side)) ≡ false → legal p m ≡ Some (after p m b)
+legal_when p m b on h safe =
+    ap if_safe (stepped ∙ ap (option_map (after p m)) h) ∙ by_safety (king_attacked b (other (other p.side))) safe
+  where
+    stepped : step p m ≡ option_map (after p m) (board_after p m)
+    stepped = rw on refl
+
+    by_safety : (x : Bool) → x ≡ false → (if not x then Some (after p m b) else None) ≡ Some (after p m b)
+    by_safety true e = cc
+    by_safety false e = refl
+
+pub not_legal_when : (p : Parts) (m : Move) (b : Board) → is_on_board m ≡ true → board_after p m ≡ Some b → king_attacked b (other (other p.side)) ≡ true → legal p m ≡ None
+not_legal_when p m b on h attacked =
+    ap if_safe (stepped ∙ ap (option_map (after p m)) h) ∙ by_safety (king_attacked b (other (other p.side))) attacked
+  where
+    stepped : step p m ≡ option_map (after p m) (board_after p m)
+    stepped = rw on refl
+
+    by_safety : (x : Bool) → x ≡ true → (if not x then Some (after p m b) else None) ≡ None
+    by_safety true e = refl
+    by_safety false e = cc
+
+pub not_legal_unless : (p : Parts) (m : Move) → is_on_board m ≡ true → board_after p m ≡ None → legal p m ≡ None
+not_legal_unless p m on h = ap if_safe (stepped ∙ ap (option_map (after p m)) h)
+  where
+    stepped : step p m ≡ option_map (after p m) (board_after p m)
+    stepped = rw on refl
+
+-- a legal move was a step to some board, and left the king safe
+pub record Legal (p : Parts) (m : Move) (q : Parts) : Type 0 where
+  pub on : is_on_board m ≡ true
+  pub board : Board
+  pub stepped : board_after p m ≡ Some board
+  pub safe : king_attacked board (other (other p.side)) ≡ false
+  pub next : after p m board ≡ q
+
+pub legal_means : (p : Parts) (m : Move) (q : Parts) → legal p m ≡ Some q → Legal p m q
+legal_means p m q h = by_on (is_on_board m) refl h
+  where
+    by_safe : (b : Board) → is_on_board m ≡ true → board_after p m ≡ Some b → (x : Bool) → king_attacked b (other (other p.side)) ≡ x → (if not x then Some (after p m b) else None) ≡ Some q → Legal p m q
+    by_safe b on stepped true e g = cc
+    by_safe b on stepped false e g = record { on = on; board = b; stepped = stepped; safe = e; next = cc }
+
+    by_board : is_on_board m ≡ true → (o : Option Board) → board_after p m ≡ o → if_safe (option_map (after p m) o) ≡ Some q → Legal p m q
+    by_board on None e g = cc
+    by_board on (Some b) e g = by_safe b on e (king_attacked b (other (other p.side))) refl g
+
+    by_on : (x : Bool) → is_on_board m ≡ x → if_safe (if x then option_map (after p m) (board_after p m) else None) ≡ Some q → Legal p m q
+    by_on true e g = by_board e (board_after p m) refl g
+    by_on false e g = cc
+
+pub leaves_position : LeavesPosition
+leaves_position p q m position h =
+    let l : Legal p m q = legal_means p m q h in
+    subst (λ (r : Parts). is_position r ≡ true) l.next
+    (position_from_sound (after p m l.board) (after_sound p m l.board (sound_from_position p position) l.on l.stepped l.safe))
+
+pub one_after : OneAfter
+one_after p q r m h g = cc
+
+-- the parts after a move, field by field
+pub after_fields : (p : Parts) (m : Move) (b : Board) (side : Colour) (rights : Rights) (target : Option Square) (half full : ℕ)
+    → side ≡ other p.side → rights ≡ rights_after m p.rights → target ≡ target_after p m → half ≡ half_after p m → full ≡ full_after p.side p.full
+    → record { board = b; side = side; rights = rights; target = target; half = half; full = full } ≡ after p m b
+after_fields p m b side rights target half full e f g h i = rw (e, f, g, h, i) refl
+
+-- what the code looks at, in the words of the rules
+pub attacked_is : (p : Parts) (m : Move) (b : Board) (by : Colour) (king : Square) (attacked : Bool) → is_position p ≡ true → is_on_board m ≡ true → board_after p m ≡ Some b
+    → by ≡ other p.side → king ≡ king_after (king_square p.side p.board) m → attacked ≡ is_attacked b by king → king_attacked b (other (other p.side)) ≡ attacked
+attacked_is p m b by king attacked position on h e f g =
+    king_seen p m b (sound_from_position p position) on h ∙ sym (g ∙ ap₂ (λ d k. is_attacked b d k) e f)
+
+pub position_after : (p : Parts) (m : Move) (b : Board) → is_position p ≡ true → is_on_board m ≡ true → board_after p m ≡ Some b → king_attacked b (other (other p.side)) ≡ false → is_position (after p m b) ≡ true
+position_after p m b position on h safe =
+    position_from_sound (after p m b) (after_sound p m b (sound_from_position p position) on h safe)
+
+-- a king's square that was kept, after the move
+pub king_kept : (p : Parts) (m : Move) (b : Board) (c : Colour) (old new : Square) → is_position p ≡ true → is_on_board m ≡ true → board_after p m ≡ Some b → old ≡ king_square c p.board → new ≡ king_after old m → new ≡ king_square c b
+king_kept p m b c old new position on h e f =
+    f ∙ (ap (λ k. king_after k m) e ∙ king_moves p m b c (sound_from_position p position) on h)
+
+-- a step is legal exactly if the king is not attacked then
+pub legal_unless_attacked : (p : Parts) (m : Move) (b : Board) (by : Colour) (king : Square) (attacked : Bool) → is_position p ≡ true → is_on_board m ≡ true → board_after p m ≡ Some b
+    → by ≡ other p.side → king ≡ king_after (king_square p.side p.board) m → attacked ≡ is_attacked b by king → not attacked ≡ is_legal p m
+legal_unless_attacked p m b by king attacked position on h e f g = by_test attacked (attacked_is p m b by king attacked position on h e f g)
+  where
+    by_test : (x : Bool) → king_attacked b (other (other p.side)) ≡ x → not x ≡ is_legal p m
+    by_test true is = sym (ap is_some (not_legal_when p m b on h is))
+    by_test false is = sym (ap is_some (legal_when p m b on h is))
+
+pub safe_from_legal : (p : Parts) (m : Move) (b : Board) → is_on_board m ≡ true → board_after p m ≡ Some b → is_legal p m ≡ true → king_attacked b (other (other p.side)) ≡ false
+safe_from_legal p m b on h legal = by_test (king_attacked b (other (other p.side))) refl
+  where
+    by_test : (x : Bool) → king_attacked b (other (other p.side)) ≡ x → x ≡ false
+    by_test false is = refl
+    by_test true is = cc (sym legal ∙ ap is_some (not_legal_when p m b on h is))
+
+-- whether the step gives check, seen from where the other king stands then
+pub check_is_seen : (p : Parts) (m : Move) (b : Board) (k : Square) → is_position p ≡ true → is_on_board m ≡ true → board_after p m ≡ Some b
+    → k ≡ king_after (king_square (other p.side) p.board) m → king_attacked b (other p.side) ≡ is_attacked b p.side k
+check_is_seen p m b k position on h is =
+    let sound : Sound p = sound_from_position p position in
+    let stays : Stays p m b = board_stays p m b sound on h in
+    king_attacked_there (other p.side) b stays.long (stays.kings_of (other p.side))
+    ∙ (ap (λ c. is_attacked b c (king_square (other p.side) b)) (other-other p.side)
+    ∙ ap (is_attacked b p.side) (sym (is ∙ king_moves p m b (other p.side) sound on h)))

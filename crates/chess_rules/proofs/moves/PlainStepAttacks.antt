@@ -1,0 +1,305 @@
+-- A plain step gives an attack only by the piece that moves, or along the line that it leaves.
+use Rattle.std.proofs.Common.{◌≡◌, ◌≢◌, ℕ, ◌≤◌, Bool, true, false, not, ◌&&◌, ◌||◌, ◌⊎◌, inl, inr, refl, sym, ◌∙◌, ap, ap₂, subst, arith, length}
+use Rattle.std.specs.Prelude.{nat_lt, Option, None, Some, is_none, is_some, option_map, if◌then◌else◌}
+use Rattle.std.specs.List.{list_any}
+use Rattle.std.proofs.lemmas.Bool.{false≢true}
+use Rattle.std.proofs.lemmas.Bool.Decides.{nat_tests}
+use Rattle.chess_rules.specs.declared.piece.Colour.{Colour}
+use Rattle.chess_rules.specs.declared.piece.Colour.TheVariants.{White, Black}
+use Rattle.chess_rules.specs.declared.piece.Kind.{Kind}
+use Rattle.chess_rules.specs.declared.piece.Kind.TheVariants.{King, Queen, Rook, Bishop, Knight, Pawn}
+use Rattle.chess_rules.specs.declared.piece.Piece.{Piece}
+use Rattle.chess_rules.specs.declared.piece.Promotion.{Promotion}
+use Rattle.chess_rules.specs.declared.position.Move.{Move}
+use Rattle.chess_rules.specs.declared.position.Parts.{Parts}
+use Rattle.chess_rules.specs.Square.{Square, on_board, gap, same_square, in_line, on_diagonal, between_on_rank, between_on_file, between_on_diagonal, strictly_between, squares}
+use Rattle.chess_rules.specs.Board.{Board, at, put, is_empty, other, same_colour, has_colour}
+use Rattle.chess_rules.specs.Attacks.{attacks, cell_attacks, is_attacked, is_clear, kind_attacks, king_attacked}
+use Rattle.chess_rules.specs.Position.{is_position}
+use Rattle.chess_rules.specs.Step.{is_target, is_on_board, short_right, long_right, short_wing, long_wing, Wing, promoted, carried, board_after, after}
+use Rattle.chess_rules.specs.Legal.{legal, if_safe, is_legal, is_check}
+use Rattle.chess_rules.specs.Walk.{is_aligned, king_square, king_after}
+use Rattle.chess_rules.specs.Masks.{near_with, slides, slides_with}
+use Rattle.chess_rules.specs.Plain.{is_plain, king_goes_far}
+use Rattle.chess_rules.proofs.squares.AllSquares.{split_or, first_true, second_true, both_true, each_square, all_squares, Passes, some_square, any_square}
+use Rattle.chess_rules.proofs.rays.WalkToBetween.{not_true, implied}
+use Rattle.chess_rules.proofs.rays.AttacksByRay.{squares_same, none_or_all}
+use Rattle.chess_rules.proofs.rays.AttackersNearAndFar.{by_cell}
+use Rattle.chess_rules.proofs.trying.CandidatesFoundOnce.{not_means}
+use Rattle.chess_rules.proofs.positions.OneKing.{StandsAt, king_stands, king_attacked_there}
+use Rattle.chess_rules.proofs.moves.CellsAfterPut.{OnBoard, at_put, at_put_here, length-put}
+use Rattle.chess_rules.proofs.positions.RulesOfPosition.{Sound, sound_from_position, to_false}
+use Rattle.chess_rules.proofs.moves.BoardAfterMove.{arriving}
+use Rattle.chess_rules.proofs.moves.StepsKeepBoard.{other-other, colour_of_piece, not_both, Castles, castles_means}
+use Rattle.chess_rules.proofs.moves.LegalToPosition.{on_board_means, way_of, legal_unless_attacked, check_is_seen}
+
+-- A square between two lies on a line with the second.
+
+between_on_rank_aligned : (s u t : Square) → between_on_rank s u t ≡ true → is_aligned u t ≡ true
+between_on_rank_aligned s u t h = grind (arith, nat_tests)
+
+between_on_file_aligned : (s u t : Square) → between_on_file s u t ≡ true → is_aligned u t ≡ true
+between_on_file_aligned s u t h = grind (arith, nat_tests)
+
+between_on_diagonal_aligned : (s u t : Square) → between_on_diagonal s u t ≡ true → is_aligned u t ≡ true
+between_on_diagonal_aligned s u t h = grind (arith, nat_tests)
+
+between_aligned : (s u t : Square) → strictly_between s u t ≡ true → is_aligned u t ≡ true
+between_aligned s u t h =
+    elim (split_or (between_on_rank s u t) (between_on_file s u t || between_on_diagonal s u t) h) [
+      | inl rank ↦ between_on_rank_aligned s u t rank
+      | inr more ↦ elim (split_or (between_on_file s u t) (between_on_diagonal s u t) more) [
+        | inl file ↦ between_on_file_aligned s u t file
+        | inr diagonal ↦ between_on_diagonal_aligned s u t diagonal
+      ]
+    ]
+
+-- A piece that attacks on one board attacks on another where the way is clear too.
+
+still_attacks : (k : Kind) (c : Colour) (a b : Board) (s t : Square) → (is_clear a s t ≡ true → is_clear b s t ≡ true) → kind_attacks k c a s t ≡ true → kind_attacks k c b s t ≡ true
+still_attacks King c a b s t clear h = h
+still_attacks Queen c a b s t clear h = both_true _ _ (first_true (is_aligned s t) _ h) (clear (second_true (is_aligned s t) _ h))
+still_attacks Rook c a b s t clear h = both_true _ _ (first_true (in_line s t) _ h) (clear (second_true (in_line s t) _ h))
+still_attacks Bishop c a b s t clear h = both_true _ _ (first_true (on_diagonal s t) _ h) (clear (second_true (on_diagonal s t) _ h))
+still_attacks Knight c a b s t clear h = h
+still_attacks Pawn c a b s t clear h = h
+
+cell_still : (cell : Option Piece) (a b : Board) (s t : Square) → (is_clear a s t ≡ true → is_clear b s t ≡ true) → cell_attacks cell a s t ≡ true → cell_attacks cell b s t ≡ true
+cell_still None a b s t clear h = h
+cell_still (Some x) a b s t clear h = still_attacks x.kind x.colour a b s t clear h
+
+-- what does not slide attacks on each board alike
+no_slide : (c : Colour) (cell : Option Piece) (a b : Board) (s t : Square) → slides_with c cell s t ≡ false → (has_colour c cell && cell_attacks cell a s t) ≡ (has_colour c cell && cell_attacks cell b s t)
+no_slide c cell a b s t none = on_board a ∙ sym (on_board b)
+  where
+    on_board : (d : Board) → (has_colour c cell && cell_attacks cell d s t) ≡ (near_with c cell s t || false)
+    on_board d = by_cell c cell d s t ∙ ap (λ x. near_with c cell s t || (x && (is_some cell && (is_aligned s t && is_clear d s t)))) none
+
+-- Where a piece leaves no line to k, and the piece that arrives does not attack k, k is attacked no
+-- more than before.
+module _ (b : Board) (from to k : Square) (cell : Option Piece) (c : Colour) (long : length b ≡ 64) (on_from : OnBoard from) (on_to : OnBoard to) (on_k : OnBoard k) where
+  left : Board
+  left = put b from None
+
+  new : Board
+  new = put (put b from None) to cell
+
+  left_long : length (put b from None) ≡ 64
+  left_long = length-put b from None ∙ long
+
+  arrived : at (put (put b from None) to cell) to ≡ cell
+  arrived = at_put_here (put b from None) to cell left_long on_to
+
+  clear_before : (s : Square) → is_none cell ≡ false → is_aligned from k ≡ false → is_clear (put (put b from None) to cell) s k ≡ true → is_clear b s k ≡ true
+  clear_before s full apart h =
+      all_squares (λ u. not (strictly_between s u k) || is_empty b u) (λ u file rank.
+      implied (strictly_between s u k) (is_empty b u) (λ between.
+      empty_before u (record { file = file; rank = rank }) between
+      (not_true (strictly_between s u k) _ between (each_square (λ u. not (strictly_between s u k) || is_empty (put (put b from None) to cell) u) u h file rank))))
+    where
+      empty_before : (u : Square) → OnBoard u → strictly_between s u k ≡ true → is_empty (put (put b from None) to cell) u ≡ true → is_empty b u ≡ true
+      empty_before u on between empty =
+          elim (at_put (put b from None) to u cell left_long on_to on) [
+            | inl here ↦ absurd (false≢true (sym full ∙ (sym (ap is_none here.1) ∙ empty)))
+            | inr there ↦ elim (at_put b from u None long on_from on) [
+              | inl gone ↦ absurd (false≢true (sym apart ∙ subst (λ (v : Square). is_aligned v k ≡ true) gone.0 (between_aligned s u k between)))
+              | inr stayed ↦ ap is_none (sym (there.1 ∙ stayed.1)) ∙ empty
+            ]
+          ]
+
+  abbrev pub Opens : Type 0
+  Opens = (is_aligned from k ≡ false) ⊎ (list_any (slides b c k) squares ≡ false)
+
+  attacked_before : (s : Square) → OnBoard s → s ≢ to → is_none cell ≡ false → Opens
+      → (has_colour c (at (put (put b from None) to cell) s) && attacks (put (put b from None) to cell) s k) ≡ true → (has_colour c (at b s) && attacks b s k) ≡ true
+  attacked_before s on differ full opens h =
+      elim (at_put (put b from None) to s cell left_long on_to on) [
+        | inl here ↦ absurd (differ here.0)
+        | inr there ↦ elim (at_put b from s None long on_from on) [
+          | inl gone ↦ absurd (false≢true (sym (ap (has_colour c) (there.1 ∙ gone.1)) ∙ first_true _ _ h))
+          | inr stayed ↦ as_before (ap (λ o. has_colour c o && cell_attacks o (put (put b from None) to cell) s k) (sym (there.1 ∙ stayed.1)) ∙ h) opens
+        ]
+      ]
+    where
+      as_before : (has_colour c (at b s) && cell_attacks (at b s) (put (put b from None) to cell) s k) ≡ true → Opens → (has_colour c (at b s) && attacks b s k) ≡ true
+      as_before g (inl apart) =
+          both_true _ _ (first_true _ _ g)
+          (cell_still (at b s) (put (put b from None) to cell) b s k (clear_before s full apart) (second_true (has_colour c (at b s)) _ g))
+      as_before g (inr none) =
+          sym (no_slide c (at b s) (put (put b from None) to cell) b s k
+          (to_false (slides b c k s) (λ slides_there. false≢true (sym none ∙ any_square (slides b c k) s on.file on.rank slides_there)))) ∙ g
+
+  pub calm : is_none cell ≡ false → Opens → (has_colour c cell && attacks (put (put b from None) to cell) to k) ≡ false
+      → is_attacked b c k ≡ false → is_attacked (put (put b from None) to cell) c k ≡ false
+  calm full opens quiet before = to_false (is_attacked (put (put b from None) to cell) c k) (λ h. by_square (some_square (λ s. has_colour c (at (put (put b from None) to cell) s) && attacks (put (put b from None) to cell) s k) h))
+    where
+      by_square : Passes (λ s. has_colour c (at (put (put b from None) to cell) s) && attacks (put (put b from None) to cell) s k) → ⊥
+      by_square w =
+          elim (at_put (put b from None) to w.on cell left_long on_to (record { file = w.file; rank = w.rank })) [
+            | inl here ↦ false≢true (sym quiet ∙ (ap (λ o. has_colour c o && attacks (put (put b from None) to cell) to k) (sym arrived)
+                ∙ subst (λ (s : Square). (has_colour c (at (put (put b from None) to cell) s) && attacks (put (put b from None) to cell) s k) ≡ true) here.0 w.holds))
+            | inr there ↦ false≢true (sym before ∙ any_square (λ s. has_colour c (at b s) && attacks b s k) w.on w.file w.rank
+                (attacked_before w.on (record { file = w.file; rank = w.rank }) there.0 full opens w.holds))
+          ]
+
+-- A plain step.
+
+pub record PlainStep (p : Parts) (m : Move) (b : Board) : Type 0 where
+  pub own : has_colour p.side (at p.board m.from) ≡ true
+  pub board : carried p m ≡ b
+
+far_castling : (p : Parts) (m : Move) (wing : Wing) → 2 ≤ gap 4 wing.end → Castles p m wing → king_goes_far p m ≡ true
+far_castling p m wing far w =
+    both_true _ _ (subst (λ (s : Square). nat_lt 1 (gap s.file m.to.file) ≡ true) (sym w.from) (subst (λ (t : Square). nat_lt 1 (gap 4 t.file) ≡ true) (sym w.to) (far_test (gap 4 wing.end) far))) w.king
+  where
+    far_test : (n : ℕ) → 2 ≤ n → nat_lt 1 n ≡ true
+    far_test n h = grind (arith, nat_tests)
+
+no_castling : (p : Parts) (m : Move) (b : Board) (wing : Wing) → 2 ≤ gap 4 wing.end → is_plain p m ≡ true → Castles p m wing → PlainStep p m b
+no_castling p m b wing far plain w =
+    absurd (false≢true (sym (not_means (king_goes_far p m) (second_true (not (is_target p.target m.to)) _ plain)) ∙ far_castling p m wing far w))
+
+pub plain_step : (p : Parts) (m : Move) (b : Board) → is_plain p m ≡ true → board_after p m ≡ Some b → PlainStep p m b
+plain_step p m b plain h =
+    elim (way_of p m b h) [
+      | inl piece ↦ record {
+        own = first_true _ _ (first_true _ _ (first_true _ _ piece.0));
+        board = piece.1;
+      }
+      | inr more ↦ elim more [
+        | inl pawn ↦ record {
+          own = colour_of_piece p.side Pawn (at p.board m.from) (first_true _ _ pawn.0);
+          board = pawn.1;
+        }
+        | inr more ↦ elim more [
+          | inl passing ↦ absurd (false≢true (sym (not_means (is_target p.target m.to) (first_true _ _ plain))
+              ∙ first_true (is_target p.target m.to) _ (second_true _ _ (first_true _ _ passing.0))))
+          | inr more ↦ elim more [
+            | inl short ↦ no_castling p m b short_wing (omega arith) plain (castles_means p m (short_right p.side p.rights) short_wing short.0)
+            | inr long ↦ no_castling p m b long_wing (omega arith) plain (castles_means p m (long_right p.side p.rights) long_wing long.0)
+          ]
+        ]
+      ]
+    ]
+
+same_as_itself : (c : Colour) → same_colour c c ≡ true
+same_as_itself White = refl
+same_as_itself Black = refl
+
+arriving_own : (c : Colour) (q : Option Promotion) (cell : Option Piece) → has_colour c cell ≡ true → has_colour c (promoted c q cell) ≡ true
+arriving_own c None cell h = h
+arriving_own c (Some x) cell h = same_as_itself c
+
+not_other : (c : Colour) (cell : Option Piece) → has_colour c cell ≡ true → has_colour (other c) cell ≡ false
+not_other c cell h = to_false (has_colour (other c) cell) (not_both c cell h)
+
+king_waits : (m : Move) (k : Square) → same_square m.from k ≡ false → king_after k m ≡ k
+king_waits m k apart = rw apart refl
+
+-- the king that stays is safe, if it was not attacked and sees no square that is left
+pub safe_when_plain : (p : Parts) (m : Move) (b : Board) (k : Square) → is_position p ≡ true → is_on_board m ≡ true → board_after p m ≡ Some b → is_plain p m ≡ true
+    → k ≡ king_square p.side p.board → is_check p ≡ false → same_square m.from k ≡ false
+    → (is_aligned m.from k ≡ false) ⊎ (list_any (slides p.board (other p.side) k) squares ≡ false) → is_legal p m ≡ true
+safe_when_plain p m b k position on h plain is calm_before apart unseen =
+    sym (legal_unless_attacked p m b (other p.side) (king_after (king_square p.side p.board) m) false position on h refl refl
+    (sym (ap (is_attacked b (other p.side)) (ap (λ s. king_after s m) (sym is) ∙ king_waits m k apart)
+    ∙ (ap (λ a. is_attacked a (other p.side) k) (sym step.board) ∙ quiet))))
+  where
+    sound : Sound p
+    sound = sound_from_position p position
+
+    step : PlainStep p m b
+    step = plain_step p m b plain h
+
+    stands : StandsAt p.side p.board (king_square p.side p.board)
+    stands = king_stands p.side p.board sound.long (sound.kings_of p.side)
+
+    on_k : OnBoard k
+    on_k = subst (λ (s : Square). OnBoard s) (sym is) (record { file = stands.file; rank = stands.rank })
+
+    before : is_attacked p.board (other p.side) k ≡ false
+    before = ap (is_attacked p.board (other p.side)) is ∙ (sym (king_attacked_there p.side p.board sound.long (sound.kings_of p.side)) ∙ calm_before)
+
+    arrives : has_colour p.side (arriving p m) ≡ true
+    arrives = arriving_own p.side m.promotion (at p.board m.from) step.own
+
+    quiet : is_attacked (carried p m) (other p.side) k ≡ false
+    quiet =
+        calm p.board m.from m.to k (arriving p m) (other p.side) sound.long (on_board_means m.from (first_true (on_board m.from) _ on)) (on_board_means m.to (second_true (on_board m.from) _ on)) on_k
+        (none_or_all p.side (arriving p m) arrives) unseen
+        (ap (λ x. x && attacks (carried p m) m.to k) (not_other p.side (arriving p m) arrives)) before
+
+-- the other king is not attacked, if the piece that arrives does not attack it, and it sees no
+-- square that is left
+pub no_check_when_plain : (p : Parts) (m : Move) (b : Board) (k : Square) → is_position p ≡ true → is_on_board m ≡ true → board_after p m ≡ Some b → is_plain p m ≡ true
+    → k ≡ king_square (other p.side) p.board → is_aligned m.from k ≡ false → attacks b m.to k ≡ false → king_attacked b (other p.side) ≡ false
+no_check_when_plain p m b k position on h plain is unseen harmless =
+    check_is_seen p m b k position on h (is ∙ sym (king_waits m (king_square (other p.side) p.board) (subst (λ (s : Square). same_square m.from s ≡ false) is apart)))
+    ∙ (ap (λ a. is_attacked a p.side k) (sym step.board) ∙ quiet)
+  where
+    sound : Sound p
+    sound = sound_from_position p position
+
+    step : PlainStep p m b
+    step = plain_step p m b plain h
+
+    stands : StandsAt (other p.side) p.board (king_square (other p.side) p.board)
+    stands = king_stands (other p.side) p.board sound.long (sound.kings_of (other p.side))
+
+    stands_k : StandsAt (other p.side) p.board k
+    stands_k = subst (λ (s : Square). StandsAt (other p.side) p.board s) (sym is) stands
+
+    apart : same_square m.from k ≡ false
+    apart = to_false (same_square m.from k) (λ same. not_both p.side (at p.board k)
+        (subst (λ (s : Square). has_colour p.side (at p.board s) ≡ true) (squares_same m.from k same) step.own)
+        (colour_of_piece (other p.side) King (at p.board k) stands_k.king))
+
+    before : is_attacked p.board p.side k ≡ false
+    before = ap₂ (λ c s. is_attacked p.board c s) (sym (other-other p.side)) is ∙ (sym (king_attacked_there (other p.side) p.board sound.long (sound.kings_of (other p.side))) ∙ sound.safe)
+
+    arrives : has_colour p.side (arriving p m) ≡ true
+    arrives = arriving_own p.side m.promotion (at p.board m.from) step.own
+
+    no : (x : Bool) → (x && false) ≡ false
+    no true = refl
+    no false = refl
+
+    quiet : is_attacked (carried p m) p.side k ≡ false
+    quiet =
+        calm p.board m.from m.to k (arriving p m) p.side sound.long (on_board_means m.from (first_true (on_board m.from) _ on)) (on_board_means m.to (second_true (on_board m.from) _ on))
+        (record { file = stands_k.file; rank = stands_k.rank })
+        (none_or_all p.side (arriving p m) arrives) (inl unseen)
+        (ap (λ x. has_colour p.side (arriving p m) && x) (ap (λ a. attacks a m.to k) step.board ∙ harmless) ∙ no (has_colour p.side (arriving p m))) before
+
+-- the board of a step
+pub stepped_board : (p : Parts) (m : Move) → is_some (board_after p m) ≡ true → (b : Board) × (board_after p m ≡ Some b)
+stepped_board p m h = by_board (board_after p m) refl h
+  where
+    by_board : (o : Option Board) → board_after p m ≡ o → is_some o ≡ true → (b : Board) × (board_after p m ≡ Some b)
+    by_board None e g = cc
+    by_board (Some b) e g = (b, e)
+
+pub plain_board : (p : Parts) (m : Move) → is_plain p m ≡ true → is_some (board_after p m) ≡ true → board_after p m ≡ Some (carried p m)
+plain_board p m plain h =
+    let (b, stepped) = stepped_board p m h in
+    stepped ∙ ap Some (sym (plain_step p m b plain stepped).board)
+
+-- a move that is no step is not legal, and a legal one is a step
+by_step : (on : Bool) (p : Parts) (m : Move) (o : Option Board) → is_some o ≡ false → if_safe (if on then option_map (after p m) o else None) ≡ None
+by_step false p m o h = refl
+by_step true p m None h = refl
+by_step true p m (Some b) h = cc
+
+pub none_unless_step : (p : Parts) (m : Move) → is_some (board_after p m) ≡ false → is_some (legal p m) ≡ false
+none_unless_step p m h = ap is_some (by_step (is_on_board m) p m (board_after p m) h)
+
+pub step_when_legal : (p : Parts) (m : Move) → is_legal p m ≡ true → is_some (board_after p m) ≡ true
+step_when_legal p m h = by_test (is_some (board_after p m)) refl
+  where
+    by_test : (x : Bool) → is_some (board_after p m) ≡ x → is_some (board_after p m) ≡ true
+    by_test true e = e
+    by_test false e = absurd (false≢true (sym (none_unless_step p m e) ∙ h))
+
+pub none_when_not : (o : Option Parts) → is_some o ≡ false → o ≡ None
+none_when_not None h = refl
+none_when_not (Some q) h = cc

@@ -1,0 +1,479 @@
+-- Each of the ways to step leaves the board in order.
+use Rattle.std.proofs.Common.{◌≡◌, ◌≢◌, ℕ, ◌<◌, Bool, true, false, not, ◌&&◌, ◌||◌, ◌⊎◌, inl, inr, refl, sym, ◌∙◌, ap, subst, arith}
+use Rattle.std.specs.Prelude.{◌==◌, Option, None, Some, is_none, is_some, if◌then◌else◌}
+use Rattle.std.proofs.lemmas.Bool.Decides.{nat_tests}
+use Rattle.chess_rules.specs.declared.piece.Colour.{Colour}
+use Rattle.chess_rules.specs.declared.piece.Colour.TheVariants.{White, Black}
+use Rattle.chess_rules.specs.declared.piece.Kind.{Kind}
+use Rattle.chess_rules.specs.declared.piece.Kind.TheVariants.{King, Rook, Pawn}
+use Rattle.chess_rules.specs.declared.piece.Piece.{Piece}
+use Rattle.chess_rules.specs.declared.piece.Promotion.{Promotion}
+use Rattle.chess_rules.specs.declared.piece.Promotion.TheVariants as become
+use Rattle.chess_rules.specs.declared.position.Move.{Move}
+use Rattle.chess_rules.specs.declared.position.Parts.{Parts}
+use Rattle.chess_rules.specs.Square.{Square, square, on_board, gap, same_square, strictly_between}
+use Rattle.chess_rules.specs.Board.{Board, some_piece, at, put, is_empty, other, same_colour, same_kind, has_colour, has_piece, is_pawn}
+use Rattle.chess_rules.specs.Attacks.{is_clear, is_ahead, kind_attacks, cell_attacks, attacks, is_attacked, king_attacked}
+use Rattle.chess_rules.specs.Position.{target_fits, target_rank}
+use Rattle.chess_rules.specs.Step.{own, home, home_rank, pawn_rank, double_rank, last_rank, is_piece_step, is_advance, is_double_step, is_pawn_capture, is_pawn_way, is_pawn_step, promotion_fits, is_en_passant, is_target, captured_pawn, crossed, is_king_move, stand_ready, is_unattacked, castles, Wing, short_wing, long_wing, kind_of, promoted, carried, en_passant_board, castled}
+use Rattle.chess_rules.proofs.squares.AllSquares.{split_or, first_true, second_true, both_true, each_square, any_square}
+use Rattle.chess_rules.proofs.rays.WalkToBetween.{equal_from, equal_tests, not_true}
+use Rattle.chess_rules.proofs.rays.AttacksByRay.{kinds_same, colours_same, squares_same, ahead_gap}
+use Rattle.chess_rules.proofs.moves.CellsAfterPut.{OnBoard, at_put}
+use Rattle.chess_rules.proofs.positions.RulesOfPosition.{Sound, to_false, is_edge}
+use Rattle.chess_rules.proofs.moves.BoardAfterMove.{arriving, Lands, Stays, IsPlain, carried_stays, put_stays, carried_free}
+
+-- Cells.
+
+pub other-other : (c : Colour) → other (other c) ≡ c
+other-other White = refl
+other-other Black = refl
+
+same_or_other : (c d : Colour) → (c ≡ d) ⊎ (c ≡ other d)
+same_or_other White White = inl refl
+same_or_other White Black = inr refl
+same_or_other Black White = inr refl
+same_or_other Black Black = inl refl
+
+pub colour_of_piece : (c : Colour) (k : Kind) (cell : Option Piece) → has_piece c k cell ≡ true → has_colour c cell ≡ true
+colour_of_piece c k None h = cc
+colour_of_piece c k (Some x) h = first_true (same_colour c x.colour) _ h
+
+pub not_both : (c : Colour) (cell : Option Piece) → has_colour c cell ≡ true → has_colour (other c) cell ≡ true → ⊥
+not_both c None h g = cc
+not_both White (Some x) h g = by_colour x.colour h g
+  where
+    by_colour : (d : Colour) → same_colour White d ≡ true → same_colour Black d ≡ true → ⊥
+    by_colour White a b = cc
+    by_colour Black a b = cc
+not_both Black (Some x) h g = by_colour x.colour h g
+  where
+    by_colour : (d : Colour) → same_colour Black d ≡ true → same_colour White d ≡ true → ⊥
+    by_colour White a b = cc
+    by_colour Black a b = cc
+
+-- a cell has pieces of one kind
+pub one_kind : (c d : Colour) (k l : Kind) (cell : Option Piece) → has_piece c k cell ≡ true → has_piece d l cell ≡ true → k ≡ l
+one_kind c d k l None h g = cc
+one_kind c d k l (Some x) h g =
+    kinds_same k x.kind (second_true (same_colour c x.colour) _ h) ∙ sym (kinds_same l x.kind (second_true (same_colour d x.colour) _ g))
+
+no_king_with : (c d : Colour) (k : Kind) (cell : Option Piece) → (King ≡ k → ⊥) → has_piece d k cell ≡ true → has_piece c King cell ≡ false
+no_king_with c d k cell differ h = to_false (has_piece c King cell) (λ king. differ (one_kind c d King k cell king h))
+
+pub pawn_is_no_king : King ≡ Pawn → ⊥
+pawn_is_no_king e = cc
+
+rook_is_no_king : King ≡ Rook → ⊥
+rook_is_no_king e = cc
+
+empty_free : (c : Colour) (k : Kind) (cell : Option Piece) → is_none cell ≡ true → has_piece c k cell ≡ false
+empty_free c k None h = refl
+empty_free c k (Some x) h = cc
+
+no_pawn_but_own : (c : Colour) (cell : Option Piece) → has_colour c cell ≡ true → has_piece c Pawn cell ≡ false → is_pawn cell ≡ false
+no_pawn_but_own c None h g = refl
+no_pawn_but_own White (Some x) h g = to_false (is_pawn (Some x)) (λ pawn.
+    elim (split_or (has_piece White Pawn (Some x)) (has_piece Black Pawn (Some x)) pawn) [
+      | inl own ↦ cc
+      | inr theirs ↦ not_both White (Some x) h (colour_of_piece Black Pawn (Some x) theirs)
+    ])
+no_pawn_but_own Black (Some x) h g = to_false (is_pawn (Some x)) (λ pawn.
+    elim (split_or (has_piece White Pawn (Some x)) (has_piece Black Pawn (Some x)) pawn) [
+      | inl theirs ↦ not_both Black (Some x) h (colour_of_piece White Pawn (Some x) theirs)
+      | inr own ↦ cc
+    ])
+
+king_is_no_pawn : (c : Colour) (cell : Option Piece) → has_piece c King cell ≡ true → is_pawn cell ≡ false
+king_is_no_pawn c cell h = to_false (is_pawn cell) (λ pawn.
+    elim (split_or (has_piece White Pawn cell) (has_piece Black Pawn cell) pawn) [
+      | inl white ↦ pawn_is_no_king (one_kind c White King Pawn cell h white)
+      | inr black ↦ pawn_is_no_king (one_kind c Black King Pawn cell h black)
+    ])
+
+promoted_is_no_pawn : (c : Colour) (q : Promotion) → is_pawn (some_piece c (kind_of q)) ≡ false
+promoted_is_no_pawn White become.Queen = refl
+promoted_is_no_pawn White become.Rook = refl
+promoted_is_no_pawn White become.Bishop = refl
+promoted_is_no_pawn White become.Knight = refl
+promoted_is_no_pawn Black become.Queen = refl
+promoted_is_no_pawn Black become.Rook = refl
+promoted_is_no_pawn Black become.Bishop = refl
+promoted_is_no_pawn Black become.Knight = refl
+
+promoted_is_no_king : (c d : Colour) (q : Promotion) → has_piece c King (some_piece d (kind_of q)) ≡ false
+promoted_is_no_king White White become.Queen = refl
+promoted_is_no_king White White become.Rook = refl
+promoted_is_no_king White White become.Bishop = refl
+promoted_is_no_king White White become.Knight = refl
+promoted_is_no_king White Black q = refl
+promoted_is_no_king Black White q = refl
+promoted_is_no_king Black Black become.Queen = refl
+promoted_is_no_king Black Black become.Rook = refl
+promoted_is_no_king Black Black become.Bishop = refl
+promoted_is_no_king Black Black become.Knight = refl
+
+not_means : (x : Bool) → not x ≡ true → x ≡ false
+not_means true h = cc
+not_means false h = refl
+
+none_is : {X : Type 0} (o : Option X) → is_none o ≡ true → o ≡ None
+none_is None h = refl
+none_is (Some x) h = cc
+
+-- the piece on a square attacks as its kind and colour do
+pub attacks_as : (c : Colour) (k : Kind) (cell : Option Piece) (b : Board) (s t : Square) → has_piece c k cell ≡ true → cell_attacks cell b s t ≡ true → kind_attacks k c b s t ≡ true
+attacks_as c k None b s t h g = cc
+attacks_as c k (Some x) b s t h g =
+    let kinds : k ≡ x.kind = kinds_same k x.kind (second_true (same_colour c x.colour) (same_kind k x.kind) h) in
+    let colours : c ≡ x.colour = colours_same c x.colour (first_true (same_colour c x.colour) (same_kind k x.kind) h) in
+    subst (λ (j : Kind). kind_attacks j c b s t ≡ true) (sym kinds) (subst (λ (d : Colour). kind_attacks x.kind d b s t ≡ true) (sym colours) g)
+
+-- The other king is never taken.
+
+king_not_taken : (p : Parts) (s t : Square) → Sound p → OnBoard s → OnBoard t → has_colour p.side (at p.board s) ≡ true → attacks p.board s t ≡ true → has_piece (other p.side) King (at p.board t) ≡ false
+king_not_taken p s t sound on_s on_t own hits =
+    to_false (has_piece (other p.side) King (at p.board t)) (λ king.
+    let attacked : is_attacked p.board (other (other p.side)) t ≡ true =
+    subst (λ (c : Colour). is_attacked p.board c t ≡ true) (sym (other-other p.side))
+    (any_square (λ u. has_colour p.side (at p.board u) && attacks p.board u t) s on_s.file on_s.rank (both_true _ _ own hits)) in
+    let taken : king_attacked p.board (other p.side) ≡ true =
+    any_square (λ k. has_piece (other p.side) King (at p.board k) && is_attacked p.board (other (other p.side)) k) t on_t.file on_t.rank (both_true _ _ king attacked) in
+    cc (taken, sound.safe))
+
+-- no king stands where no own piece and no other king stands
+free_of : (p : Parts) (t : Square) → has_colour p.side (at p.board t) ≡ false → has_piece (other p.side) King (at p.board t) ≡ false → (c : Colour) → has_piece c King (at p.board t) ≡ false
+free_of p t own theirs c =
+    elim (same_or_other c p.side) [
+      | inl same ↦ to_false (has_piece c King (at p.board t)) (λ king. cc (own, colour_of_piece p.side King (at p.board t) (subst (λ (d : Colour). has_piece d King (at p.board t) ≡ true) same king)))
+      | inr differ ↦ subst (λ (d : Colour). has_piece d King (at p.board t) ≡ false) (sym differ) theirs
+    ]
+
+arrives_as : (p : Parts) (m : Move) → is_none m.promotion ≡ true → arriving p m ≡ at p.board m.from
+arrives_as p m h = ap (λ o. promoted p.side o (at p.board m.from)) (none_is m.promotion h)
+
+-- A king, queen, rook, bishop or knight.
+
+pub piece_lands : (p : Parts) (m : Move) → Sound p → OnBoard m.from → OnBoard m.to → is_piece_step p m ≡ true → Lands p m
+piece_lands p m sound on_from on_to h =
+    record {
+      on_from = on_from;
+      on_to = on_to;
+      free = free_of p m.to (not_means (has_colour p.side (at p.board m.to)) (second_true (attacks p.board m.from m.to) _ goes)) (king_not_taken p m.from m.to sound on_from on_to own_piece (first_true (attacks p.board m.from m.to) _ goes));
+      alike = λ c. ap (has_piece c King) (arrives_as p m plain);
+      no_pawn = λ edge. ap is_pawn (arrives_as p m plain) ∙ no_pawn_but_own p.side (at p.board m.from) own_piece (not_means (own p Pawn m.from) (second_true (has_colour p.side (at p.board m.from)) _ whose));
+    }
+  where
+    stands : ((has_colour p.side (at p.board m.from) && not (own p Pawn m.from)) && is_none m.promotion) ≡ true
+    stands = first_true _ (attacks p.board m.from m.to && not (has_colour p.side (at p.board m.to))) h
+
+    goes : (attacks p.board m.from m.to && not (has_colour p.side (at p.board m.to))) ≡ true
+    goes = second_true ((has_colour p.side (at p.board m.from) && not (own p Pawn m.from)) && is_none m.promotion) _ h
+
+    whose : (has_colour p.side (at p.board m.from) && not (own p Pawn m.from)) ≡ true
+    whose = first_true _ (is_none m.promotion) stands
+
+    plain : is_none m.promotion ≡ true
+    plain = second_true (has_colour p.side (at p.board m.from) && not (own p Pawn m.from)) _ stands
+
+    own_piece : has_colour p.side (at p.board m.from) ≡ true
+    own_piece = first_true (has_colour p.side (at p.board m.from)) _ whose
+
+-- A pawn.
+
+pub pawn_attack : (p : Parts) (m : Move) → own p Pawn m.from ≡ true → attacks p.board m.from m.to ≡ true → ((gap m.from.file m.to.file == 1) && is_ahead p.side m.from.rank m.to.rank) ≡ true
+pawn_attack p m pawn hits = attacks_as p.side Pawn (at p.board m.from) p.board m.from m.to pawn hits
+
+-- one rank ahead, or from the pawns' first rank to that of the double step
+abbrev pub pawn_goes : Parts → Move → Type 0
+pawn_goes p m = (is_ahead p.side m.from.rank m.to.rank ≡ true) ⊎ ((m.from.rank ≡ pawn_rank p.side) × (m.to.rank ≡ double_rank p.side))
+
+pub double_ranks : (p : Parts) (m : Move) → is_double_step p m ≡ true → (m.from.rank ≡ pawn_rank p.side) × (m.to.rank ≡ double_rank p.side)
+double_ranks p m two =
+    let lines : ((m.from.rank == pawn_rank p.side) && (m.to.rank == double_rank p.side)) ≡ true = second_true (m.from.file == m.to.file) _ (first_true _ (is_empty p.board (crossed m) && is_empty p.board m.to) two) in
+    (equal_from m.from.rank (pawn_rank p.side) (first_true (m.from.rank == pawn_rank p.side) _ lines), equal_from m.to.rank (double_rank p.side) (second_true (m.from.rank == pawn_rank p.side) _ lines))
+
+pub way_goes : (p : Parts) (m : Move) → own p Pawn m.from ≡ true → is_pawn_way p m ≡ true → pawn_goes p m
+way_goes p m pawn h =
+    elim (split_or (is_advance p m) (is_double_step p m || is_pawn_capture p m) h) [
+      | inl one ↦ inl (second_true (m.from.file == m.to.file) _ (first_true _ (is_empty p.board m.to) one))
+      | inr more ↦ elim (split_or (is_double_step p m) (is_pawn_capture p m) more) [
+        | inl two ↦ inr (double_ranks p m two)
+        | inr takes ↦ inl (second_true (gap m.from.file m.to.file == 1) _ (pawn_attack p m pawn (first_true (attacks p.board m.from m.to) _ takes)))
+      ]
+    ]
+
+way_free : (p : Parts) (m : Move) → Sound p → OnBoard m.from → OnBoard m.to → own p Pawn m.from ≡ true → is_pawn_way p m ≡ true → (c : Colour) → has_piece c King (at p.board m.to) ≡ false
+way_free p m sound on_from on_to pawn h =
+    elim (split_or (is_advance p m) (is_double_step p m || is_pawn_capture p m) h) [
+      | inl one ↦ λ c. empty_free c King (at p.board m.to) (second_true ((m.from.file == m.to.file) && is_ahead p.side m.from.rank m.to.rank) _ one)
+      | inr more ↦ elim (split_or (is_double_step p m) (is_pawn_capture p m) more) [
+        | inl two ↦ λ c. empty_free c King (at p.board m.to) (second_true (is_empty p.board (crossed m)) _ (second_true ((m.from.file == m.to.file) && ((m.from.rank == pawn_rank p.side) && (m.to.rank == double_rank p.side))) _ two))
+        | inr takes ↦ by_capture (first_true (attacks p.board m.from m.to) _ takes) (second_true (attacks p.board m.from m.to) _ takes)
+      ]
+    ]
+  where
+    by_capture : attacks p.board m.from m.to ≡ true → has_colour (other p.side) (at p.board m.to) ≡ true → (c : Colour) → has_piece c King (at p.board m.to) ≡ false
+    by_capture hits theirs =
+        free_of p m.to (to_false (has_colour p.side (at p.board m.to)) (λ mine. not_both p.side (at p.board m.to) mine theirs))
+        (king_not_taken p m.from m.to sound on_from on_to (colour_of_piece p.side Pawn (at p.board m.from) pawn) hits)
+
+last_of : (c : Colour) (a b : ℕ) → a < 8 → (is_ahead c a b ≡ true) ⊎ ((a ≡ pawn_rank c) × (b ≡ double_rank c)) → is_edge b ≡ true → b ≡ last_rank c
+last_of White a b low (inl one) edge = grind (arith, nat_tests)
+last_of White a b low (inr two) edge = grind (arith, nat_tests)
+last_of Black a b low (inl one) edge = grind (arith, nat_tests)
+last_of Black a b low (inr two) edge = grind (arith, nat_tests)
+
+pub pawn_lands : (p : Parts) (m : Move) → Sound p → OnBoard m.from → OnBoard m.to → is_pawn_step p m ≡ true → Lands p m
+pawn_lands p m sound on_from on_to h =
+    record {
+      on_from = on_from;
+      on_to = on_to;
+      free = way_free p m sound on_from on_to pawn way;
+      alike = λ c. alike_for c m.promotion;
+      no_pawn = λ edge. last_for m.promotion (equal_tests m.to.rank (last_rank p.side) (last_of p.side m.from.rank m.to.rank on_from.rank (way_goes p m pawn way) edge)) fits;
+    }
+  where
+    pawn : own p Pawn m.from ≡ true
+    pawn = first_true (own p Pawn m.from) (is_pawn_way p m && promotion_fits p m) h
+
+    way : is_pawn_way p m ≡ true
+    way = first_true (is_pawn_way p m) (promotion_fits p m) (second_true (own p Pawn m.from) (is_pawn_way p m && promotion_fits p m) h)
+
+    fits : (if m.to.rank == last_rank p.side then is_some m.promotion else is_none m.promotion) ≡ true
+    fits = second_true (is_pawn_way p m) (promotion_fits p m) (second_true (own p Pawn m.from) (is_pawn_way p m && promotion_fits p m) h)
+
+    alike_for : (c : Colour) (q : Option Promotion) → has_piece c King (promoted p.side q (at p.board m.from)) ≡ has_piece c King (at p.board m.from)
+    alike_for c None = refl
+    alike_for c (Some q) = promoted_is_no_king c p.side q ∙ sym (no_king_with c p.side Pawn (at p.board m.from) pawn_is_no_king pawn)
+
+    last_for : (q : Option Promotion) → (m.to.rank == last_rank p.side) ≡ true → (if m.to.rank == last_rank p.side then is_some q else is_none q) ≡ true → is_pawn (promoted p.side q (at p.board m.from)) ≡ false
+    last_for None last named = cc (rw last at named)
+    last_for (Some q) last named = promoted_is_no_pawn p.side q
+
+target_line : (c : Colour) (o : Option Square) (t : Square) → target_fits c o ≡ true → is_target o t ≡ true → t.rank ≡ target_rank c
+target_line c None t fits hits = cc
+target_line c (Some u) t fits hits =
+    sym (equal_from u.rank t.rank (second_true (u.file == t.file) _ hits)) ∙ equal_from u.rank (target_rank c) (second_true (on_board u) _ fits)
+
+inner_line : (c : Colour) (rank : ℕ) → rank ≡ target_rank c → ((rank == last_rank c) ≡ false) × (is_edge rank ≡ false)
+inner_line White rank h = rw h (refl, refl)
+inner_line Black rank h = rw h (refl, refl)
+
+pub passing_lands : (p : Parts) (m : Move) → Sound p → OnBoard m.from → OnBoard m.to → is_en_passant p m ≡ true → Lands p m
+passing_lands p m sound on_from on_to h =
+    record {
+      on_from = on_from;
+      on_to = on_to;
+      free = λ c. empty_free c King (at p.board m.to) (second_true (is_target p.target m.to) _ (second_true (own p Pawn m.from && promotion_fits p m) _ stands));
+      alike = λ c. ap (has_piece c King) (arrives_as p m plain);
+      no_pawn = λ edge. cc (edge, line.1);
+    }
+  where
+    stands : ((own p Pawn m.from && promotion_fits p m) && (is_target p.target m.to && is_empty p.board m.to)) ≡ true
+    stands = first_true _ (attacks p.board m.from m.to && has_piece (other p.side) Pawn (at p.board (captured_pawn m))) h
+
+    line : ((m.to.rank == last_rank p.side) ≡ false) × (is_edge m.to.rank ≡ false)
+    line =
+        inner_line p.side m.to.rank
+        (target_line p.side p.target m.to sound.target (first_true (is_target p.target m.to) _ (second_true (own p Pawn m.from && promotion_fits p m) _ stands)))
+
+    fits : (if m.to.rank == last_rank p.side then is_some m.promotion else is_none m.promotion) ≡ true
+    fits = second_true (own p Pawn m.from) _ (first_true _ (is_target p.target m.to && is_empty p.board m.to) stands)
+
+    plain : is_none m.promotion ≡ true
+    plain = named (m.to.rank == last_rank p.side) line.0 fits
+      where
+        named : (x : Bool) → x ≡ false → (if x then is_some m.promotion else is_none m.promotion) ≡ true → is_none m.promotion ≡ true
+        named true e g = cc
+        named false e g = g
+
+nothing_plain : IsPlain None
+nothing_plain = record { no_king = λ c. refl; no_pawn = refl }
+
+rook_plain : (d : Colour) → IsPlain (some_piece d Rook)
+rook_plain White = record { no_king = rook_no_king White; no_pawn = refl }
+  where
+    rook_no_king : (d c : Colour) → has_piece c King (some_piece d Rook) ≡ false
+    rook_no_king White White = refl
+    rook_no_king White Black = refl
+    rook_no_king Black White = refl
+    rook_no_king Black Black = refl
+rook_plain Black = record { no_king = rook_no_king Black; no_pawn = refl }
+  where
+    rook_no_king : (d c : Colour) → has_piece c King (some_piece d Rook) ≡ false
+    rook_no_king White White = refl
+    rook_no_king White Black = refl
+    rook_no_king Black White = refl
+    rook_no_king Black Black = refl
+
+pub passing_stays : (p : Parts) (m : Move) → Sound p → OnBoard m.from → OnBoard m.to → is_en_passant p m ≡ true → Stays p m (en_passant_board p m)
+passing_stays p m sound on_from on_to h =
+    put_stays p m (carried p m) (captured_pawn m) None (carried_stays p m sound lands) on_captured
+    (carried_free p m sound lands (captured_pawn m) on_captured apart (λ c. no_king_with c (other p.side) Pawn (at p.board (captured_pawn m)) pawn_is_no_king taken))
+    nothing_plain
+  where
+    lands : Lands p m
+    lands = passing_lands p m sound on_from on_to h
+
+    on_captured : OnBoard (captured_pawn m)
+    on_captured = record { file = on_to.file; rank = on_from.rank }
+
+    stands : ((own p Pawn m.from && promotion_fits p m) && (is_target p.target m.to && is_empty p.board m.to)) ≡ true
+    stands = first_true _ (attacks p.board m.from m.to && has_piece (other p.side) Pawn (at p.board (captured_pawn m))) h
+
+    goes : (attacks p.board m.from m.to && has_piece (other p.side) Pawn (at p.board (captured_pawn m))) ≡ true
+    goes = second_true ((own p Pawn m.from && promotion_fits p m) && (is_target p.target m.to && is_empty p.board m.to)) _ h
+
+    taken : has_piece (other p.side) Pawn (at p.board (captured_pawn m)) ≡ true
+    taken = second_true (attacks p.board m.from m.to) _ goes
+
+    pawn : own p Pawn m.from ≡ true
+    pawn = first_true (own p Pawn m.from) _ (first_true _ (is_target p.target m.to && is_empty p.board m.to) stands)
+
+    ahead : gap m.from.rank m.to.rank ≡ 1
+    ahead = ahead_gap p.side m.from.rank m.to.rank (second_true (gap m.from.file m.to.file == 1) _ (pawn_attack p m pawn (first_true (attacks p.board m.from m.to) _ goes)))
+
+    apart : captured_pawn m ≢ m.to
+    apart e = (let same : m.from.rank ≡ m.to.rank = ap (λ s. s.rank) e in let one : gap m.from.rank m.to.rank ≡ 1 = ahead in absurd (omega arith))
+
+-- Castling.
+
+home_below : (c : Colour) → home_rank c < 8
+home_below White = omega arith
+home_below Black = omega arith
+
+between_empty : (b : Board) (s t u : Square) → is_clear b s t ≡ true → OnBoard u → strictly_between s u t ≡ true → is_empty b u ≡ true
+between_empty b s t u clear on between =
+    not_true (strictly_between s u t) (is_empty b u) between
+    (each_square (λ v. not (strictly_between s v t) || is_empty b v) u clear on.file on.rank)
+
+-- a wing: its squares are apart, and the king's end and the crossing lie between king and rook
+pub record IsWing (wing : Wing) : Type 0 where
+  pub rook_below : wing.rook < 8
+  pub end_below : wing.end < 8
+  pub crossing_below : wing.crossing < 8
+  pub rook_end : wing.rook ≢ wing.end
+  pub crossing_end : wing.crossing ≢ wing.end
+  pub between_end : (c : Colour) → strictly_between (square 4 (home_rank c)) (square wing.end (home_rank c)) (square wing.rook (home_rank c)) ≡ true
+  pub between_crossing : (c : Colour) → strictly_between (square 4 (home_rank c)) (square wing.crossing (home_rank c)) (square wing.rook (home_rank c)) ≡ true
+
+pub short_is_wing : IsWing short_wing
+short_is_wing =
+    record {
+      rook_below = omega arith;
+      end_below = omega arith;
+      crossing_below = omega arith;
+      rook_end = λ e. absurd (omega arith);
+      crossing_end = λ e. absurd (omega arith);
+      between_end = end;
+      between_crossing = crossing;
+    }
+  where
+    end : (c : Colour) → strictly_between (square 4 (home_rank c)) (square 6 (home_rank c)) (square 7 (home_rank c)) ≡ true
+    end White = refl
+    end Black = refl
+
+    crossing : (c : Colour) → strictly_between (square 4 (home_rank c)) (square 5 (home_rank c)) (square 7 (home_rank c)) ≡ true
+    crossing White = refl
+    crossing Black = refl
+
+pub long_is_wing : IsWing long_wing
+long_is_wing =
+    record {
+      rook_below = omega arith;
+      end_below = omega arith;
+      crossing_below = omega arith;
+      rook_end = λ e. absurd (omega arith);
+      crossing_end = λ e. absurd (omega arith);
+      between_end = end;
+      between_crossing = crossing;
+    }
+  where
+    end : (c : Colour) → strictly_between (square 4 (home_rank c)) (square 2 (home_rank c)) (square 0 (home_rank c)) ≡ true
+    end White = refl
+    end Black = refl
+
+    crossing : (c : Colour) → strictly_between (square 4 (home_rank c)) (square 3 (home_rank c)) (square 0 (home_rank c)) ≡ true
+    crossing White = refl
+    crossing Black = refl
+
+pub record Castles (p : Parts) (m : Move) (wing : Wing) : Type 0 where
+  pub plain : is_none m.promotion ≡ true
+  pub from : m.from ≡ home p 4
+  pub to : m.to ≡ home p wing.end
+  pub king : own p King m.from ≡ true
+  pub rook : own p Rook (home p wing.rook) ≡ true
+  pub clear : is_clear p.board (home p 4) (home p wing.rook) ≡ true
+
+pub castles_means : (p : Parts) (m : Move) (right : Bool) (wing : Wing) → castles p m right wing ≡ true → Castles p m wing
+castles_means p m right wing h =
+    record {
+      plain = second_true right _ (first_true (right && is_none m.promotion) (is_king_move p m wing.end) pair);
+      from = from;
+      to = squares_same m.to (home p wing.end) (second_true (same_square m.from (home p 4)) _ leads);
+      king = subst (λ (s : Square). own p King s ≡ true) (sym from) (first_true (own p King (home p 4)) _ pieces);
+      rook = second_true (own p King (home p 4)) _ pieces;
+      clear = second_true (own p King (home p 4) && own p Rook (home p wing.rook)) _ ready;
+    }
+  where
+    pair : ((right && is_none m.promotion) && is_king_move p m wing.end) ≡ true
+    pair = first_true _ (stand_ready p wing.rook && (is_unattacked p 4 && (is_unattacked p wing.crossing && is_unattacked p wing.end))) h
+
+    leads : is_king_move p m wing.end ≡ true
+    leads = second_true (right && is_none m.promotion) _ pair
+
+    ready : stand_ready p wing.rook ≡ true
+    ready = first_true (stand_ready p wing.rook) (is_unattacked p 4 && (is_unattacked p wing.crossing && is_unattacked p wing.end)) (second_true ((right && is_none m.promotion) && is_king_move p m wing.end) _ h)
+
+    pieces : (own p King (home p 4) && own p Rook (home p wing.rook)) ≡ true
+    pieces = first_true _ (is_clear p.board (home p 4) (home p wing.rook)) ready
+
+    from : m.from ≡ home p 4
+    from = squares_same m.from (home p 4) (first_true (same_square m.from (home p 4)) _ leads)
+
+pub castling_lands : (p : Parts) (m : Move) (wing : Wing) → IsWing wing → OnBoard m.from → OnBoard m.to → Castles p m wing → Lands p m
+castling_lands p m wing is_wing on_from on_to h =
+    record {
+      on_from = on_from;
+      on_to = on_to;
+      free = λ c. empty_free c King (at p.board m.to) empty;
+      alike = λ c. ap (has_piece c King) (arrives_as p m h.plain);
+      no_pawn = λ edge. ap is_pawn (arrives_as p m h.plain) ∙ king_is_no_pawn p.side (at p.board m.from) h.king;
+    }
+  where
+    empty : is_empty p.board m.to ≡ true
+    empty =
+        between_empty p.board (home p 4) (home p wing.rook) m.to h.clear on_to
+        (subst (λ (s : Square). strictly_between (home p 4) s (home p wing.rook) ≡ true) (sym h.to) (is_wing.between_end p.side))
+
+pub castling_stays : (p : Parts) (m : Move) (wing : Wing) → Sound p → IsWing wing → OnBoard m.from → OnBoard m.to → Castles p m wing → Stays p m (castled p m wing.rook wing.crossing)
+castling_stays p m wing sound is_wing on_from on_to h =
+    put_stays p m (put (carried p m) (home p wing.rook) None) (home p wing.crossing) (some_piece p.side Rook) cornered on_crossing crossing_free (rook_plain p.side)
+  where
+    lands : Lands p m
+    lands = castling_lands p m wing is_wing on_from on_to h
+
+    on_rook : OnBoard (home p wing.rook)
+    on_rook = record { file = is_wing.rook_below; rank = home_below p.side }
+
+    on_crossing : OnBoard (home p wing.crossing)
+    on_crossing = record { file = is_wing.crossing_below; rank = home_below p.side }
+
+    apart_from : (file : ℕ) → file ≢ wing.end → home p file ≢ m.to
+    apart_from file differ e = differ (ap (λ s. s.file) (e ∙ h.to))
+
+    cornered : Stays p m (put (carried p m) (home p wing.rook) None)
+    cornered =
+        put_stays p m (carried p m) (home p wing.rook) None (carried_stays p m sound lands) on_rook
+        (carried_free p m sound lands (home p wing.rook) on_rook (apart_from wing.rook is_wing.rook_end) (λ c. no_king_with c p.side Rook (at p.board (home p wing.rook)) rook_is_no_king h.rook))
+        nothing_plain
+
+    crossing_free : (c : Colour) → has_piece c King (at (put (carried p m) (home p wing.rook) None) (home p wing.crossing)) ≡ false
+    crossing_free c =
+        elim (at_put (carried p m) (home p wing.rook) (home p wing.crossing) None (carried_stays p m sound lands).long on_rook on_crossing) [
+          | inl here ↦ ap (has_piece c King) here.1
+          | inr there ↦ ap (has_piece c King) there.1
+              ∙ carried_free p m sound lands (home p wing.crossing) on_crossing (apart_from wing.crossing is_wing.crossing_end)
+              (λ d. empty_free d King (at p.board (home p wing.crossing)) (between_empty p.board (home p 4) (home p wing.rook) (home p wing.crossing) h.clear on_crossing (is_wing.between_crossing p.side))) c
+        ]

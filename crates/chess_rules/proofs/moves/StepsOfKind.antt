@@ -1,0 +1,204 @@
+-- A piece steps only in the ways of its kind.
+use Rattle.std.proofs.Common.{◌≡◌, arith, Bool, true, false, not, ◌&&◌, ◌||◌, refl, sym, ◌∙◌, ap}
+use Rattle.std.specs.Prelude.{Option, None, Some, is_none, is_some, ◌==◌, if◌then◌else◌}
+use Rattle.std.proofs.lemmas.Bool.{false≢true}
+use Rattle.chess_rules.specs.declared.piece.Colour.{Colour}
+use Rattle.chess_rules.specs.declared.piece.Kind.{Kind}
+use Rattle.chess_rules.specs.declared.piece.Kind.TheVariants.{King, Pawn}
+use Rattle.chess_rules.specs.declared.piece.Piece.{Piece}
+use Rattle.chess_rules.specs.declared.position.Move.{Move}
+use Rattle.chess_rules.specs.declared.position.Parts.{Parts}
+use Rattle.chess_rules.specs.Square.{Square, gap}
+use Rattle.chess_rules.specs.Board.{Board, at, is_empty, other, has_colour, has_piece, kind_number, same_colour}
+use Rattle.chess_rules.specs.Attacks.{attacks, cell_attacks, kind_attacks}
+use Rattle.chess_rules.specs.Step.{own, is_target, is_piece_step, is_pawn_way, is_pawn_step, promotion_fits, is_advance, is_double_step, crossed, is_pawn_capture, captured_pawn, is_en_passant, castles_short, castles_long, short_right, long_right, short_wing, long_wing, board_after}
+use Rattle.chess_rules.proofs.squares.AllSquares.{first_true, second_true, both_true}
+use Rattle.chess_rules.proofs.rays.WalkToBetween.{equal_from, equal_tests}
+use Rattle.chess_rules.proofs.positions.RulesOfPosition.{to_false}
+use Rattle.chess_rules.proofs.rays.AttacksByRay.{kinds_same, colours_same}
+use Rattle.chess_rules.proofs.moves.StepsKeepBoard.{one_kind, colour_of_piece, castles_means, pawn_attack}
+use Rattle.chess_rules.proofs.moves.OneWayToStep.{no_pawn_moves, pawn_of_step, pawn_of_en_passant}
+
+-- The five ways, one by one.
+
+abbrev some_way : Bool → Bool → Bool → Bool → Bool → Board → Board → Board → Board → Bool
+some_way v w x y z i j k l = is_some (if v || w then Some i else if x then Some j else if y then Some k else if z then Some l else None)
+
+piece_alone : (v w x y z : Bool) (i j k l : Board) → w ≡ false → x ≡ false → y ≡ false → z ≡ false → v ≡ some_way v w x y z i j k l
+piece_alone true w x y z i j k l b c d e = refl
+piece_alone false true x y z i j k l b c d e = cc
+piece_alone false false true y z i j k l b c d e = cc
+piece_alone false false false true z i j k l b c d e = cc
+piece_alone false false false false true i j k l b c d e = cc
+piece_alone false false false false false i j k l b c d e = refl
+
+pawn_alone : (v w x y z : Bool) (i j k l : Board) → v ≡ false → y ≡ false → z ≡ false → (w || x) ≡ some_way v w x y z i j k l
+pawn_alone true w x y z i j k l a d e = cc
+pawn_alone false true x y z i j k l a d e = refl
+pawn_alone false false true y z i j k l a d e = refl
+pawn_alone false false false true z i j k l a d e = cc
+pawn_alone false false false false true i j k l a d e = cc
+pawn_alone false false false false false i j k l a d e = refl
+
+king_alone : (v w x y z : Bool) (i j k l : Board) → w ≡ false → x ≡ false → (v || (y || z)) ≡ some_way v w x y z i j k l
+king_alone true w x y z i j k l b c = refl
+king_alone false true x y z i j k l b c = cc
+king_alone false false true y z i j k l b c = cc
+king_alone false false false true z i j k l b c = refl
+king_alone false false false false true i j k l b c = refl
+king_alone false false false false false i j k l b c = refl
+
+-- what is found on a square: a piece of the side to move, or one of the other side
+module _ (p : Parts) (s : Square) (b : Board) (o : Option Piece) (x : Piece) (c : Colour) (alike : Bool)
+    (board : b ≡ p.board) (content : o ≡ at b s) (found : o ≡ Some x) (side : c ≡ p.side) (compared : alike ≡ same_colour c x.colour) where
+  here : at p.board s ≡ Some x
+  here = ap (λ d. at d s) (sym board) ∙ (sym content ∙ found)
+
+  same : same_colour p.side x.colour ≡ alike
+  same = ap (λ d. same_colour d x.colour) (sym side) ∙ sym compared
+
+  pub own_found : alike ≡ true → own p x.kind s ≡ true
+  own_found h = ap (has_piece p.side x.kind) here ∙ both_true _ _ (same ∙ h) (equal_tests (kind_number x.kind) (kind_number x.kind) refl)
+
+  pub other_found : alike ≡ false → has_colour p.side (at p.board s) ≡ false
+  other_found h = ap (has_colour p.side) here ∙ (same ∙ h)
+
+module _ (p : Parts) (m : Move) where
+  -- a way that only such a piece has
+  no_way : (k l : Kind) (way : Bool) → own p k m.from ≡ true → (k ≡ l → ⊥) → (way ≡ true → own p l m.from ≡ true) → way ≡ false
+  no_way k l way here differ needs = to_false way (λ h. differ (one_kind p.side p.side k l (at p.board m.from) here (needs h)))
+
+  king_of_short : castles_short p m ≡ true → own p King m.from ≡ true
+  king_of_short h = (castles_means p m (short_right p.side p.rights) short_wing h).king
+
+  king_of_long : castles_long p m ≡ true → own p King m.from ≡ true
+  king_of_long h = (castles_means p m (long_right p.side p.rights) long_wing h).king
+
+  pub pawn_steps : own p Pawn m.from ≡ true → (is_pawn_step p m || is_en_passant p m) ≡ is_some (board_after p m)
+  pawn_steps stands =
+      pawn_alone (is_piece_step p m) (is_pawn_step p m) (is_en_passant p m) (castles_short p m) (castles_long p m) _ _ _ _
+      (to_false (is_piece_step p m) (λ h. no_pawn_moves p m h stands))
+      (no_way Pawn King (castles_short p m) stands (λ e. cc) king_of_short)
+      (no_way Pawn King (castles_long p m) stands (λ e. cc) king_of_long)
+
+  pub king_steps : own p King m.from ≡ true → (is_piece_step p m || (castles_short p m || castles_long p m)) ≡ is_some (board_after p m)
+  king_steps stands =
+      king_alone (is_piece_step p m) (is_pawn_step p m) (is_en_passant p m) (castles_short p m) (castles_long p m) _ _ _ _
+      (no_way King Pawn (is_pawn_step p m) stands (λ e. cc) (pawn_of_step p m))
+      (no_way King Pawn (is_en_passant p m) stands (λ e. cc) (pawn_of_en_passant p m))
+
+  pub piece_steps : (k : Kind) → own p k m.from ≡ true → (k ≡ Pawn → ⊥) → (k ≡ King → ⊥) → is_piece_step p m ≡ is_some (board_after p m)
+  piece_steps k stands no_pawn no_king =
+      piece_alone (is_piece_step p m) (is_pawn_step p m) (is_en_passant p m) (castles_short p m) (castles_long p m) _ _ _ _
+      (no_way k Pawn (is_pawn_step p m) stands no_pawn (pawn_of_step p m))
+      (no_way k Pawn (is_en_passant p m) stands no_pawn (pawn_of_en_passant p m))
+      (no_way k King (castles_short p m) stands no_king king_of_short)
+      (no_way k King (castles_long p m) stands no_king king_of_long)
+
+  mover_of_piece : is_piece_step p m ≡ true → has_colour p.side (at p.board m.from) ≡ true
+  mover_of_piece h =
+      first_true (has_colour p.side (at p.board m.from)) (not (own p Pawn m.from))
+      (first_true _ (is_none m.promotion) (first_true _ (attacks p.board m.from m.to && not (has_colour p.side (at p.board m.to))) h))
+
+  -- nothing of the side to move is there
+  pub none_steps : has_colour p.side (at p.board m.from) ≡ false → false ≡ is_some (board_after p m)
+  none_steps free =
+      sym (to_false (is_piece_step p m) (λ h. false≢true (sym free ∙ mover_of_piece h)))
+      ∙ piece_alone (is_piece_step p m) (is_pawn_step p m) (is_en_passant p m) (castles_short p m) (castles_long p m) _ _ _ _
+      (to_false (is_pawn_step p m) (λ h. false≢true (sym free ∙ colour_of_piece p.side Pawn (at p.board m.from) (pawn_of_step p m h))))
+      (to_false (is_en_passant p m) (λ h. false≢true (sym free ∙ colour_of_piece p.side Pawn (at p.board m.from) (pawn_of_en_passant p m h))))
+      (to_false (castles_short p m) (λ h. false≢true (sym free ∙ colour_of_piece p.side King (at p.board m.from) (king_of_short h))))
+      (to_false (castles_long p m) (λ h. false≢true (sym free ∙ colour_of_piece p.side King (at p.board m.from) (king_of_long h))))
+
+-- A piece's step.
+
+pub attacks_by : (c : Colour) (k : Kind) (cell : Option Piece) (b : Board) (s t : Square) → has_piece c k cell ≡ true → cell_attacks cell b s t ≡ kind_attacks k c b s t
+attacks_by c k None b s t h = cc
+attacks_by c k (Some x) b s t h =
+    let colour : c ≡ x.colour = colours_same c x.colour (first_true (same_colour c x.colour) _ h) in
+    let kind : k ≡ x.kind = kinds_same k x.kind (second_true (same_colour c x.colour) _ h) in
+    ap (λ d. kind_attacks x.kind d b s t) (sym colour) ∙ ap (λ l. kind_attacks l c b s t) (sym kind)
+
+not_named : (a b c d e : Bool) → c ≡ false → false ≡ (((a && b) && c) && (d && e))
+not_named true true c d e h = rw h refl
+not_named true false c d e h = refl
+not_named false b c d e h = refl
+
+not_open : (a b c d e : Bool) → e ≡ true → false ≡ (((a && b) && c) && (d && not e))
+not_open true true true true e h = rw h refl
+not_open true true true false e h = refl
+not_open true true false d e h = refl
+not_open true false c d e h = refl
+not_open false b c d e h = refl
+
+left_open : (a b c d e : Bool) → a ≡ true → b ≡ false → c ≡ true → e ≡ false → d ≡ (((a && not b) && c) && (d && not e))
+left_open true false true true false f g h i = refl
+left_open true false true false false f g h i = refl
+left_open false b c d e f g h i = cc
+left_open true true c d e f g h i = cc
+left_open true false false d e f g h i = cc
+left_open true false true d true f g h i = cc
+
+pub no_promoting : (p : Parts) (m : Move) → is_none m.promotion ≡ false → false ≡ is_piece_step p m
+no_promoting p m h = not_named (has_colour p.side (at p.board m.from)) (not (own p Pawn m.from)) (is_none m.promotion) (attacks p.board m.from m.to) _ h
+
+pub no_own_piece_taken : (p : Parts) (m : Move) → has_colour p.side (at p.board m.to) ≡ true → false ≡ is_piece_step p m
+no_own_piece_taken p m h =
+    not_open (has_colour p.side (at p.board m.from)) (not (own p Pawn m.from)) (is_none m.promotion) (attacks p.board m.from m.to) (has_colour p.side (at p.board m.to)) h
+
+pub attack_is_step : (p : Parts) (m : Move) (k : Kind) → own p k m.from ≡ true → (k ≡ Pawn → ⊥) → is_none m.promotion ≡ true → has_colour p.side (at p.board m.to) ≡ false
+    → kind_attacks k p.side p.board m.from m.to ≡ is_piece_step p m
+attack_is_step p m k stands no_pawn plain free =
+    sym (attacks_by p.side k (at p.board m.from) p.board m.from m.to stands)
+    ∙ left_open (has_colour p.side (at p.board m.from)) (own p Pawn m.from) (is_none m.promotion) (attacks p.board m.from m.to) (has_colour p.side (at p.board m.to))
+    (colour_of_piece p.side k (at p.board m.from) stands) (no_way p m k Pawn (own p Pawn m.from) stands no_pawn (λ h. h)) plain free
+
+-- A pawn's step.
+
+no_fit : (stands way fits empty hits : Bool) → fits ≡ false → false ≡ ((stands && (way && fits)) || (((stands && fits) && empty) && hits))
+no_fit true true true empty hits h = cc
+no_fit true false true empty hits h = cc
+no_fit false way true empty hits h = cc
+no_fit true true false empty hits h = refl
+no_fit true false false empty hits h = refl
+no_fit false way false empty hits h = refl
+
+ahead : (stands fits adv dbl att col empty there : Bool) → stands ≡ true → fits ≡ true → att ≡ false
+    → (adv || dbl) ≡ ((stands && ((adv || (dbl || (att && col))) && fits)) || (((stands && fits) && empty) && (att && there)))
+ahead true true true dbl false col empty there e f g = refl
+ahead true true false true false col empty there e f g = refl
+ahead true true false false false col true there e f g = refl
+ahead true true false false false col false there e f g = refl
+ahead false fits adv dbl att col empty there e f g = cc
+ahead true false adv dbl att col empty there e f g = cc
+ahead true true adv dbl true col empty there e f g = cc
+
+aside : (stands fits adv dbl cap passing : Bool) → stands ≡ true → fits ≡ true → adv ≡ false → dbl ≡ false
+    → (cap || passing) ≡ ((stands && ((adv || (dbl || cap)) && fits)) || passing)
+aside true true false false true passing e f g h = refl
+aside true true false false false passing e f g h = refl
+aside false fits adv dbl cap passing e f g h = cc
+aside true false adv dbl cap passing e f g h = cc
+aside true true true dbl cap passing e f g h = cc
+aside true true false true cap passing e f g h = cc
+
+module _ (p : Parts) (m : Move) (pawn : own p Pawn m.from ≡ true) where
+  pub pawn_promotes_wrongly : promotion_fits p m ≡ false → false ≡ (is_pawn_step p m || is_en_passant p m)
+  pawn_promotes_wrongly h =
+      no_fit (own p Pawn m.from) (is_pawn_way p m) (promotion_fits p m) (is_target p.target m.to && is_empty p.board m.to)
+      (attacks p.board m.from m.to && has_piece (other p.side) Pawn (at p.board (captured_pawn m))) h
+
+  pub pawn_ahead : promotion_fits p m ≡ true → m.from.file ≡ m.to.file → (is_advance p m || is_double_step p m) ≡ (is_pawn_step p m || is_en_passant p m)
+  pawn_ahead fits same =
+      ahead (own p Pawn m.from) (promotion_fits p m) (is_advance p m) (is_double_step p m) (attacks p.board m.from m.to)
+      (has_colour (other p.side) (at p.board m.to)) (is_target p.target m.to && is_empty p.board m.to)
+      (has_piece (other p.side) Pawn (at p.board (captured_pawn m))) pawn fits
+      (to_false (attacks p.board m.from m.to) (λ hits.
+      let one : gap m.from.file m.to.file ≡ 1 = equal_from _ 1 (first_true (gap m.from.file m.to.file == 1) _ (pawn_attack p m pawn hits)) in
+      omega arith))
+
+  pub pawn_aside : promotion_fits p m ≡ true → (m.from.file ≡ m.to.file → ⊥) → (is_pawn_capture p m || is_en_passant p m) ≡ (is_pawn_step p m || is_en_passant p m)
+  pawn_aside fits differ =
+      aside (own p Pawn m.from) (promotion_fits p m) (is_advance p m) (is_double_step p m) (is_pawn_capture p m) (is_en_passant p m) pawn fits
+      (to_false (is_advance p m) (λ h. differ (equal_from _ _ (first_true (m.from.file == m.to.file) _ (first_true _ (is_empty p.board m.to) h)))))
+      (to_false (is_double_step p m) (λ h. differ (equal_from _ _ (first_true (m.from.file == m.to.file) _ (first_true _ (is_empty p.board (crossed m) && is_empty p.board m.to) h)))))

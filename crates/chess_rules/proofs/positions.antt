@@ -1,0 +1,4 @@
+-- The rules that a position meets.
+pub mod OneKing
+pub mod PawnsOnEdge
+pub mod RulesOfPosition

@@ -1,0 +1,131 @@
+-- Sets of squares: what is in a meet or a union, whether a set is empty, and its members in turn.
+use Rattle.std.proofs.Common.{◌≡◌, ℕ, zero, suc, ◌+◌, ◌/◌, ◌%◌, ◌<◌, ◌≤◌, ◌^◌, Bool, true, false, ◌&&◌, ◌||◌, ◌⊎◌, inl, inr, List, [], ◌∷◌, length, map, cond, get_or, refl, sym, ◌∙◌, ap, ap₂, w64, arith}
+use Rattle.std.specs.Prelude.{◌==◌, Option, None, filter, if◌then◌else◌}
+use Rattle.std.specs.List.{list_any, range_with_len}
+use Rattle.std.specs.Int.Bits.{bit_and, bit_or}
+use Rattle.std.specs.Int.{trailing_zeros}
+use Rattle.std.proofs.lemmas.Bool.{false≢true}
+use Rattle.chess_rules.specs.declared.piece.Piece.{Piece}
+use Rattle.chess_rules.specs.Square.{Square, same_square, squares}
+use Rattle.chess_rules.specs.Board.{Board, at, cell_of}
+use Rattle.chess_rules.specs.Walk.{square_at}
+use Rattle.chess_rules.specs.Words.{has, members, IsLowest, Marks, Places, Sets}
+use Rattle.chess_rules.proofs.squares.WordsToCells.{has_and, has_or, has_zero, same_or_apart}
+use Rattle.chess_rules.proofs.squares.LowestAndHighest.{lowest_place}
+use Rattle.chess_rules.proofs.positions.OneKing.{cell_of-square_at, square_at-cell_of}
+use Rattle.chess_rules.proofs.squares.AllSquares.{both_true, Passes, some_square, any_square}
+use Rattle.chess_rules.proofs.rays.WalkToBetween.{equal_tests}
+use Rattle.chess_rules.proofs.trying.FoundLists.{list_any-filter}
+
+pub places_and : (v w : ℕ) (p q : Square → Bool) → Places v p → Places w q → Places (bit_and v w) (λ s. p s && q s)
+places_and v w p q h g = record { of = λ i low. has_and v w i ∙ ap₂ (λ x y. x && y) (h.of i low) (g.of i low) }
+
+pub places_or : (v w : ℕ) (p q : Square → Bool) → Places v p → Places w q → Places (bit_or v w) (λ s. p s || q s)
+places_or v w p q h g = record { of = λ i low. has_or v w i ∙ ap₂ (λ x y. x || y) (h.of i low) (g.of i low) }
+
+-- a set of cells is one of squares
+pub marked : (w : ℕ) (test : Option Piece → Bool) (b : Board) → Marks w test b → Places w (λ s. test (at b s))
+marked w test b h = record { of = λ i low. h.of i low ∙ ap (λ k. test (get_or b k None)) (sym (cell_of-square_at i)) }
+
+pub at_square : (w : ℕ) (test : Square → Bool) (s : Square) → Places w test → s.file < 8 → s.rank < 8 → has w (cell_of s) ≡ test s
+at_square w test s h file rank = h.of (cell_of s) (omega arith) ∙ ap test (square_at-cell_of s file)
+
+-- A set is empty exactly if no square passes.
+
+pub none_passes : (w : ℕ) (test : Square → Bool) → Places w test → w ≡ 0 → list_any test squares ≡ false
+none_passes w test h none = by_any (list_any test squares) refl
+  where
+    by_any : (x : Bool) → list_any test squares ≡ x → list_any test squares ≡ false
+    by_any false e = e
+    by_any true e =
+        let found : Passes test = some_square test e in
+        absurd (false≢true (sym (has_zero (cell_of found.on)) ∙ (ap (λ n. has n (cell_of found.on)) (sym none)
+        ∙ (at_square w test found.on h found.file found.rank ∙ found.holds))))
+
+pub one_passes : (w : ℕ) (test : Square → Bool) → Places w test → 0 < w → w < 2 ^ 64 → list_any test squares ≡ true
+one_passes w test h some fits =
+    let lowest : IsLowest w (trailing_zeros w64 w) = lowest_place w some fits in
+    at_place (trailing_zeros w64 w) lowest.inside lowest.here
+  where
+    at_place : (i : ℕ) → i < 64 → has w i ≡ true → list_any test squares ≡ true
+    at_place i low here = any_square test (square_at i) (omega arith) (omega arith) (sym (h.of i low) ∙ here)
+
+-- The members in turn.
+
+by_places : squares ≡ map square_at (range_with_len 0 64)
+unfolding squares
+by_places = refl
+
+same_filter : (p q : Square → Bool) (a n : ℕ) → ((i : ℕ) → a ≤ i → i < a + n → p (square_at i) ≡ q (square_at i)) → filter p (map square_at (range_with_len a n)) ≡ filter q (map square_at (range_with_len a n))
+same_filter p q a zero h = refl
+same_filter p q a (suc n) h =
+    ap₂ (λ v xs. cond v (square_at a ∷ xs) xs) (h a (omega arith) (omega arith)) (same_filter p q (a + 1) n (λ i low high. h i (omega arith) (omega arith)))
+
+pub members_are : (w : ℕ) (test : Square → Bool) → ((i : ℕ) → i < 64 → has w i ≡ test (square_at i)) → members w ≡ filter test squares
+unfolding members
+members_are w test h =
+    ap (filter (λ s. has w (cell_of s))) by_places
+    ∙ (same_filter (λ s. has w (cell_of s)) test 0 64 (λ i _ high. ap (has w) (cell_of-square_at i) ∙ h i (omega arith))
+    ∙ ap (filter test) (sym by_places))
+
+first_taken : (p q : Square → Bool) (a k n : ℕ) → a ≤ n → n < a + k → p (square_at n) ≡ true → ((i : ℕ) → i < n → p (square_at i) ≡ false)
+    → ((i : ℕ) → i < a + k → q (square_at i) ≡ (if i == n then false else p (square_at i)))
+    → filter p (map square_at (range_with_len a k)) ≡ square_at n ∷ filter q (map square_at (range_with_len a k))
+first_taken p q a zero n low high here none rest = absurd (omega arith)
+first_taken p q a (suc k) n low high here none rest =
+    elim (same_or_apart a n) [
+      | inl w ↦
+          ap (λ v. cond v (square_at a ∷ filter p (map square_at (range_with_len (a + 1) k))) (filter p (map square_at (range_with_len (a + 1) k)))) (ap (λ j. p (square_at j)) w.0 ∙ here)
+          ∙ (ap₂ (λ j xs. square_at j ∷ xs) w.0 (same_filter p q (a + 1) k (λ i above below. sym (rest i (omega arith) ∙ ap (λ v. if v then false else p (square_at i)) (later i above w.0))))
+          ∙ ap (λ v. square_at n ∷ cond v (square_at a ∷ filter q (map square_at (range_with_len (a + 1) k))) (filter q (map square_at (range_with_len (a + 1) k))))
+          (sym (rest a (omega arith) ∙ ap (λ v. if v then false else p (square_at a)) w.1)))
+      | inr w ↦
+          let early : a < n = less a n low w.0 in
+          let out : p (square_at a) ≡ false = none a early in
+          ap (λ v. cond v (square_at a ∷ filter p (map square_at (range_with_len (a + 1) k))) (filter p (map square_at (range_with_len (a + 1) k)))) out
+          ∙ (first_taken p q (a + 1) k n (omega arith) (omega arith) here none (λ i below. rest i (omega arith))
+          ∙ ap (λ v. square_at n ∷ cond v (square_at a ∷ filter q (map square_at (range_with_len (a + 1) k))) (filter q (map square_at (range_with_len (a + 1) k))))
+          (sym (rest a (omega arith) ∙ (ap (λ v. if v then false else p (square_at a)) w.1 ∙ out))))
+    ]
+  where
+    less : (i j : ℕ) → i ≤ j → (i ≡ j → ⊥) → i < j
+    less i j g apart = grind (arith, apart)
+
+    later : (i : ℕ) → a + 1 ≤ i → a ≡ n → (i == n) ≡ false
+    later i above same = by_test (same_or_apart i n)
+      where
+        by_test : ((i ≡ n) × ((i == n) ≡ true)) ⊎ ((i ≡ n → ⊥) × ((i == n) ≡ false)) → (i == n) ≡ false
+        by_test (inl v) = absurd (omega (arith, v.0))
+        by_test (inr v) = v.1
+
+pub next_member : (w rest n : ℕ) → IsLowest w n → Sets w rest n false → members w ≡ square_at n ∷ members rest
+unfolding members
+next_member w rest n lowest sets =
+    ap (filter (λ s. has w (cell_of s))) by_places
+    ∙ (first_taken (λ s. has w (cell_of s)) (λ s. has rest (cell_of s)) 0 64 n (omega arith) (omega (arith, lowest.inside))
+    (ap (has w) (cell_of-square_at n) ∙ lowest.here)
+    (λ i low. ap (has w) (cell_of-square_at i) ∙ lowest.none i low)
+    (λ i low. ap (has rest) (cell_of-square_at i) ∙ (sets.of i (omega arith) ∙ ap (λ v. if i == n then false else v) (ap (has w) (sym (cell_of-square_at i)))))
+    ∙ ap (λ xs. square_at n ∷ filter (λ s. has rest (cell_of s)) xs) (sym by_places))
+
+pub no_member : (w : ℕ) → w ≡ 0 → members w ≡ []
+no_member w none = members_are w (λ s. false) (λ i low. ap (λ n. has n i) none ∙ has_zero i) ∙ nothing squares
+  where
+    nothing : (xs : List Square) → filter (λ s. false) xs ≡ []
+    nothing [] = refl
+    nothing (x ∷ xs) = nothing xs
+
+-- a set that is not empty has a member
+pub some_member : (w n : ℕ) → IsLowest w n → 0 < length (members w)
+some_member w n lowest = by_length (members w) (there lowest.inside)
+  where
+    there : n < 64 → list_any (same_square (square_at n)) (members w) ≡ true
+    there low = ap (list_any (same_square (square_at n))) (members_are w (λ s. has w (cell_of s)) (λ i below. ap (has w) (sym (cell_of-square_at i))))
+        ∙ (list_any-filter (same_square (square_at n)) (λ s. has w (cell_of s)) squares
+        ∙ any_square (λ s. has w (cell_of s) && same_square (square_at n) s) (square_at n) (omega arith) (omega arith)
+        (both_true (has w (cell_of (square_at n))) (same_square (square_at n) (square_at n)) (ap (has w) (cell_of-square_at n) ∙ lowest.here)
+        (both_true (n % 8 == n % 8) (n / 8 == n / 8) (equal_tests (n % 8) (n % 8) refl) (equal_tests (n / 8) (n / 8) refl))))
+
+    by_length : (xs : List Square) → list_any (same_square (square_at n)) xs ≡ true → 0 < length xs
+    by_length [] h = cc
+    by_length (x ∷ xs) h = omega arith

@@ -1,0 +1,216 @@
+-- A move is legal exactly if one of the pairs that are tried is.
+use Rattle.std.proofs.Common.{◌≡◌, ◌<◌, Bool, true, false, not, ◌&&◌, ◌||◌, inl, inr, List, [], ◌∷◌, refl, sym, ◌∙◌, ap, ap₂, subst, arith}
+use Rattle.std.specs.Prelude.{Option, None, Some, is_none, if◌then◌else◌}
+use Rattle.std.specs.List.{list_any}
+use Rattle.chess_rules.specs.declared.direction.TheConstants.{DIRECTIONS, JUMPS}
+use Rattle.chess_rules.specs.declared.piece.Colour.{Colour}
+use Rattle.chess_rules.specs.declared.piece.Kind.{Kind}
+use Rattle.chess_rules.specs.declared.piece.Kind.TheVariants.{King, Queen, Rook, Bishop, Knight, Pawn}
+use Rattle.chess_rules.specs.declared.piece.Piece.{Piece}
+use Rattle.chess_rules.specs.declared.piece.Promotion.{Promotion}
+use Rattle.chess_rules.specs.declared.piece.Promotion.TheVariants as promotions
+use Rattle.chess_rules.specs.declared.position.Move.{Move}
+use Rattle.chess_rules.specs.declared.position.Parts.{Parts}
+use Rattle.chess_rules.specs.Square.{Square, squares, on_board, is_jump}
+use Rattle.chess_rules.specs.Board.{at, same_colour, same_kind, has_colour, has_piece}
+use Rattle.chess_rules.specs.Position.{is_position}
+use Rattle.chess_rules.specs.Step.{own, promotion_fits, is_target, short_right, long_right, short_wing, long_wing}
+use Rattle.chess_rules.specs.Board.{is_empty}
+use Rattle.chess_rules.specs.Legal.{is_legal, every_promotion, has_legal_move}
+use Rattle.chess_rules.specs.Candidate.{sees}
+use Rattle.chess_rules.specs.Walk.{stepped, king_square, square_at}
+use Rattle.chess_rules.specs.Board.{cell_of}
+use Rattle.chess_rules.specs.Pairs.{origin_by, one_move, is_legal_pair, hits, is_near, king_step, is_left, if_left, left_on, any_on_ways, any_by_jumps, any_left, any_king_step, any_other, indexes, hits_on, hits_by, king_hits_at, any_left_at}
+use Rattle.chess_rules.proofs.squares.AllSquares.{split_or, or_first, or_second, first_true, second_true, both_true, same_tests, Passes, some_square, any_square, any_of_range, range_of_any}
+use Rattle.chess_rules.proofs.positions.OneKing.{king_stands, king_only_there, square_at-cell_of}
+use Rattle.chess_rules.proofs.moves.CellsAfterPut.{OnBoard}
+use Rattle.chess_rules.proofs.positions.RulesOfPosition.{Sound, sound_from_position}
+use Rattle.chess_rules.proofs.moves.StepsKeepBoard.{one_kind, castles_means}
+use Rattle.chess_rules.proofs.moves.LegalToPosition.{on_board_means, way_of, Legal}
+use Rattle.chess_rules.proofs.trying.OriginsAreCandidates.{step_seen}
+use Rattle.chess_rules.proofs.rays.AttacksByRay.{both_of_any, jump_there, way_there}
+use Rattle.chess_rules.proofs.trying.FoundLists.{to_false}
+use Rattle.chess_rules.proofs.trying.CandidatesFoundOnce.{if_own_there, occupied, is_rider, kind_cases, sees_by_way}
+use Rattle.chess_rules.proofs.trying.PromotionsAlike.{legal_after, one_will_do}
+
+-- What is hit is a legal move.
+
+any_promotion : (test : Option Promotion → Bool) (o : Option Promotion) → test o ≡ true → list_any test every_promotion ≡ true
+any_promotion test None h = or_first (test None) _ h
+any_promotion test (Some promotions.Queen) h = or_second (test None) _ (or_first (test (Some promotions.Queen)) _ h)
+any_promotion test (Some promotions.Rook) h = or_second (test None) _ (or_second (test (Some promotions.Queen)) _ (or_first (test (Some promotions.Rook)) _ h))
+any_promotion test (Some promotions.Bishop) h =
+    or_second (test None) _ (or_second (test (Some promotions.Queen)) _ (or_second (test (Some promotions.Rook)) _ (or_first (test (Some promotions.Bishop)) _ h)))
+any_promotion test (Some promotions.Knight) h =
+    or_second (test None) _ (or_second (test (Some promotions.Queen)) _ (or_second (test (Some promotions.Rook)) _ (or_second (test (Some promotions.Bishop)) _ (or_first (test (Some promotions.Knight)) _ h))))
+
+abbrev some_promotion : Parts → Square → Square → Bool
+some_promotion p from to = list_any (λ promotion. is_legal p (record { from = from; to = to; promotion = promotion })) every_promotion
+
+moves_when : (p : Parts) (m : Move) → is_legal p m ≡ true → has_legal_move p ≡ true
+moves_when p m h = by_squares (legal_after p m h)
+  where
+    by_squares : ((q : Parts) × Legal p m q) → has_legal_move p ≡ true
+    by_squares (q, l) =
+        let from : OnBoard m.from = on_board_means m.from (first_true (on_board m.from) _ l.on) in
+        let to : OnBoard m.to = on_board_means m.to (second_true (on_board m.from) _ l.on) in
+        any_square (λ s. list_any (λ t. some_promotion p s t) squares) m.from from.file from.rank
+        (any_square (λ t. some_promotion p m.from t) m.to to.file to.rank
+        (any_promotion (λ promotion. is_legal p (record { from = m.from; to = m.to; promotion = promotion })) m.promotion h))
+
+moves_when_hit : (p : Parts) (t : Square) (o : Option Square) → hits p t o ≡ true → has_legal_move p ≡ true
+unfolding is_legal_pair
+moves_when_hit p t None h = cc
+moves_when_hit p t (Some s) h = moves_when p (one_move p s t) h
+
+moves_on_ways : (p : Parts) (near : Bool) (t : Square) → any_on_ways p near t ≡ true → has_legal_move p ≡ true
+unfolding any_on_ways
+moves_on_ways p near t h =
+    let (d, hit, _) = both_of_any (hits_on p near t) (λ d. true) DIRECTIONS h refl in
+    moves_when_hit p t (left_on p near t d) hit
+
+moves_by_jumps : (p : Parts) (t : Square) → any_by_jumps p t ≡ true → has_legal_move p ≡ true
+unfolding any_by_jumps
+moves_by_jumps p t h =
+    let (j, hit, _) = both_of_any (hits_by p t) (λ j. true) JUMPS h refl in
+    moves_when_hit p t (origin_by p t j) hit
+
+moves_with_king : (p : Parts) → any_king_step p ≡ true → has_legal_move p ≡ true
+unfolding any_king_step indexes
+moves_with_king p h =
+    let (i, _, _, hit) = any_of_range (king_hits_at p) 0 64 h in
+    moves_when_hit p (square_at i) (king_step p (square_at i)) hit
+
+moves_with_other : (p : Parts) → any_other p ≡ true → has_legal_move p ≡ true
+unfolding any_other indexes
+moves_with_other p h =
+    let (i, _, _, hit) = any_of_range (any_left_at p) 0 64 h in
+    elim (split_or (any_on_ways p (is_near p (square_at i)) (square_at i)) (any_by_jumps p (square_at i)) hit) [
+      | inl ways ↦ moves_on_ways p (is_near p (square_at i)) (square_at i) ways
+      | inr jumps ↦ moves_by_jumps p (square_at i) jumps
+    ]
+
+-- A legal move is hit.
+
+at_index : (test : Square → Bool) (t : Square) → OnBoard t → test t ≡ true → list_any (λ i. test (square_at i)) indexes ≡ true
+unfolding indexes
+at_index test t on h =
+    let f : t.file < 8 = on.file in let r : t.rank < 8 = on.rank in
+    range_of_any (λ i. test (square_at i)) 0 64 (cell_of t) (omega arith) (omega arith) (ap test (square_at-cell_of t on.file) ∙ h)
+
+hit_there : (p : Parts) (s t : Square) (o : Option Square) → o ≡ Some s → is_legal_pair p s t ≡ true → hits p t o ≡ true
+hit_there p s t o there h = ap (hits p t) there ∙ h
+
+-- the piece is one of some kind
+kind_there : (c : Colour) (cell : Option Piece) → has_colour c cell ≡ true → (k : Kind) × (has_piece c k cell ≡ true)
+kind_there c None h = cc
+kind_there c (Some x) h = (x.kind, both_true _ _ h (itself x.kind))
+  where
+    itself : (k : Kind) → same_kind k k ≡ true
+    itself King = refl
+    itself Queen = refl
+    itself Rook = refl
+    itself Bishop = refl
+    itself Knight = refl
+    itself Pawn = refl
+
+colour_there : (c : Colour) (k : Kind) (cell : Option Piece) → has_piece c k cell ≡ true → has_colour c cell ≡ true
+colour_there c k None h = cc
+colour_there c k (Some x) h = first_true (same_colour c x.colour) _ h
+
+mover : (p q : Parts) (m : Move) → Legal p m q → (k : Kind) × (own p k m.from ≡ true)
+mover p q m l =
+    elim (way_of p m l.board l.stepped) [
+      | inl piece ↦ kind_there p.side (at p.board m.from) (first_true (has_colour p.side (at p.board m.from)) (not (own p Pawn m.from)) (first_true _ (is_none m.promotion) (first_true _ _ piece.0)))
+      | inr more ↦ elim more [
+        | inl pawn ↦ (Pawn, first_true (own p Pawn m.from) _ pawn.0)
+        | inr more ↦ elim more [
+          | inl passing ↦ (Pawn, first_true (own p Pawn m.from) (promotion_fits p m) (first_true _ (is_target p.target m.to && is_empty p.board m.to) (first_true _ _ passing.0)))
+          | inr more ↦ elim more [
+            | inl short ↦ (King, (castles_means p m (short_right p.side p.rights) short_wing short.0).king)
+            | inr long ↦ (King, (castles_means p m (long_right p.side p.rights) long_wing long.0).king)
+          ]
+        ]
+      ]
+    ]
+
+king_hit : (p : Parts) (s t : Square) → Sound p → OnBoard s → OnBoard t → own p King s ≡ true → is_near p t ≡ true → is_legal_pair p s t ≡ true → any_king_step p ≡ true
+unfolding any_king_step
+king_hit p s t sound on_s on_t owns near h =
+    at_index (λ u. hits p u (king_step p u)) t on_t (hit_there p s t (king_step p t) (ap (λ v. if v then Some (king_square p.side p.board) else None) near ∙ ap Some (sym one)) h)
+  where
+    one : s ≡ king_square p.side p.board
+    one = king_only_there p.side p.board s (king_square p.side p.board) sound.long (sound.kings_of p.side)
+        (record { file = on_s.file; rank = on_s.rank; king = owns }) (king_stands p.side p.board sound.long (sound.kings_of p.side))
+
+jump_hit : (p : Parts) (s t : Square) → OnBoard s → OnBoard t → own p Knight s ≡ true → is_jump s t ≡ true → is_legal_pair p s t ≡ true → any_other p ≡ true
+unfolding any_other any_by_jumps
+jump_hit p s t on_s on_t owns jumps h =
+    at_index (any_left p) t on_t
+    (or_second (any_on_ways p (is_near p t) t) _
+    (jump_there (hits_by p t) s t on_s.file on_s.rank jumps
+    (λ j there. hit_there p s t (origin_by p t j) (if_own_there p Knight (stepped j.way t j.files j.ranks) s there owns) h)))
+
+way_hit : (p : Parts) (k : Kind) (s t : Square) → OnBoard s → OnBoard t → own p k s ≡ true → is_rider k ≡ true → sees k p s t ≡ true → (is_near p t && own p King s) ≡ false → is_legal_pair p s t ≡ true → any_other p ≡ true
+unfolding any_other any_on_ways
+way_hit p k s t on_s on_t owns rides seen far h =
+    at_index (any_left p) t on_t
+    (or_first _ (any_by_jumps p t)
+    (way_there (hits_on p (is_near p t) t) p.board s t on_s.file on_s.rank on_t.file on_t.rank
+    (sym (sees_by_way p k s t rides) ∙ seen) (occupied p k s owns)
+    (λ d there. hit_there p s t (left_on p (is_near p t) t d) (ap (if_left p (is_near p t)) there ∙ ap (λ v. if v then Some s else None) stays_left) h)))
+  where
+    no_knight : own p Knight s ≡ false
+    no_knight = to_false (own p Knight s) (λ knight. cc (rides, ap is_rider (one_kind p.side p.side k Knight (at p.board s) owns knight)))
+
+    stays_left : is_left p (is_near p t) s ≡ true
+    stays_left = both_true _ _ (both_true _ _ (colour_there p.side k (at p.board s) owns) (ap not no_knight)) (ap not far)
+
+hit_when : (p : Parts) (m : Move) → is_position p ≡ true → is_legal p m ≡ true → (any_king_step p || any_other p) ≡ true
+hit_when p m position h = by_legal (legal_after p m h)
+  where
+    pair : is_legal_pair p m.from m.to ≡ true
+    pair = one_will_do p m position h
+
+    sound : Sound p
+    sound = sound_from_position p position
+
+    by_kind : OnBoard m.from → OnBoard m.to → (k : Kind) → own p k m.from ≡ true → sees k p m.from m.to ≡ true → (any_king_step p || any_other p) ≡ true
+    by_kind from to k owns seen =
+        elim (kind_cases k) [
+          | inl rides ↦ by_near (is_near p m.to) refl (own p King m.from) refl rides
+          | inr knight ↦ or_second (any_king_step p) _
+              (jump_hit p m.from m.to from to (subst (λ (l : Kind). own p l m.from ≡ true) knight owns) (subst (λ (l : Kind). sees l p m.from m.to ≡ true) knight seen) pair)
+        ]
+      where
+        by_near : (x : Bool) → is_near p m.to ≡ x → (y : Bool) → own p King m.from ≡ y → is_rider k ≡ true → (any_king_step p || any_other p) ≡ true
+        by_near true near true king rides = or_first _ (any_other p) (king_hit p m.from m.to sound from to king near pair)
+        by_near true near false other rides = or_second (any_king_step p) _ (way_hit p k m.from m.to from to owns rides seen (ap₂ (λ v w. v && w) near other) pair)
+        by_near false far y other rides = or_second (any_king_step p) _ (way_hit p k m.from m.to from to owns rides seen (ap₂ (λ v w. v && w) far other) pair)
+
+    by_legal : ((q : Parts) × Legal p m q) → (any_king_step p || any_other p) ≡ true
+    by_legal (q, l) =
+        let (k, owns) = mover p q m l in
+        by_kind (on_board_means m.from (first_true (on_board m.from) _ l.on)) (on_board_means m.to (second_true (on_board m.from) _ l.on)) k owns (step_seen p q m k owns l)
+
+promotion_of : (p : Parts) (s t : Square) (os : List (Option Promotion)) → list_any (λ promotion. is_legal p (record { from = s; to = t; promotion = promotion })) os ≡ true → (o : Option Promotion) × (is_legal p (record { from = s; to = t; promotion = o }) ≡ true)
+promotion_of p s t [] h = cc
+promotion_of p s t (o ∷ os) h =
+    elim (split_or (is_legal p (record { from = s; to = t; promotion = o })) _ h) [
+      | inl here ↦ (o, here)
+      | inr later ↦ promotion_of p s t os later
+    ]
+
+-- the search finds a legal move exactly if there is one
+pub legal_move_found : (p : Parts) → is_position p ≡ true → has_legal_move p ≡ (any_king_step p || any_other p)
+legal_move_found p position =
+    same_tests _ _ (λ h. by_from (some_square (λ s. list_any (λ t. some_promotion p s t) squares) h))
+    (λ h. elim (split_or (any_king_step p) (any_other p) h) [ inl king ↦ moves_with_king p king | inr other ↦ moves_with_other p other ])
+  where
+    by_to : (s : Square) → Passes (λ t. some_promotion p s t) → (any_king_step p || any_other p) ≡ true
+    by_to s w =
+        let (o, legal) = promotion_of p s w.on every_promotion w.holds in
+        hit_when p (record { from = s; to = w.on; promotion = o }) position legal
+
+    by_from : Passes (λ s. list_any (λ t. some_promotion p s t) squares) → (any_king_step p || any_other p) ≡ true
+    by_from w = by_to w.on (some_square (λ t. some_promotion p w.on t) w.holds)

@@ -1,0 +1,145 @@
+-- The origin of each legal move is a candidate.
+use Rattle.std.proofs.Common.{◌≡◌, ℕ, ◌+◌, ◌/◌, ◌<◌, true, not, ◌&&◌, ◌||◌, inl, inr, refl, sym, ap₂, subst, arith}
+use Rattle.std.specs.Prelude.{◌==◌, is_none}
+use Rattle.std.proofs.lemmas.Bool.Decides.{nat_tests}
+use Rattle.chess_rules.specs.declared.piece.Colour.{Colour}
+use Rattle.chess_rules.specs.declared.piece.Colour.TheVariants.{White, Black}
+use Rattle.chess_rules.specs.declared.piece.Kind.{Kind}
+use Rattle.chess_rules.specs.declared.piece.Kind.TheVariants.{King, Queen, Rook, Bishop, Knight, Pawn}
+use Rattle.chess_rules.specs.declared.position.Move.{Move}
+use Rattle.chess_rules.specs.declared.position.Parts.{Parts}
+use Rattle.chess_rules.specs.Square.{Square, square, gap, same_square}
+use Rattle.chess_rules.specs.Board.{Board, at, is_empty, has_colour}
+use Rattle.chess_rules.specs.Attacks.{is_clear, is_ahead, kind_attacks, attacks}
+use Rattle.chess_rules.specs.Step.{own, home, home_rank, pawn_rank, double_rank, is_advance, is_double_step, is_pawn_capture, is_pawn_way, is_pawn_step, promotion_fits, is_target, crossed, short_right, long_right, short_wing, long_wing, Wing}
+use Rattle.chess_rules.specs.Candidate.{sees}
+use Rattle.chess_rules.specs.Walk.{toward, along, is_aligned}
+use Rattle.chess_rules.specs.Laws.{CandidatesComplete}
+use Rattle.chess_rules.proofs.squares.AllSquares.{split_or, or_first, or_second, first_true, second_true, both_true}
+use Rattle.chess_rules.proofs.rays.WalkToBetween.{clear_from_walk, walk_from_clear, equal_from, equal_tests}
+use Rattle.chess_rules.proofs.rays.AttacksByRay.{near, ahead_gap, attack_seen}
+use Rattle.chess_rules.proofs.moves.StepsKeepBoard.{one_kind, attacks_as, double_ranks, Castles, castles_means}
+use Rattle.chess_rules.proofs.moves.LegalToPosition.{way_of, Legal, legal_means}
+
+-- what a piece attacks it sees
+seen_by : (k : Kind) (c : Colour) (p : Parts) (s t : Square) → kind_attacks k c p.board s t ≡ true → sees k p s t ≡ true
+seen_by King c p s t h = elim (attack_seen King c p.board s t h) [ inl e ↦ cc | inr seen ↦ seen ]
+seen_by Queen c p s t h = h
+seen_by Rook c p s t h = elim (attack_seen Rook c p.board s t h) [ inl e ↦ cc | inr seen ↦ seen ]
+seen_by Bishop c p s t h = elim (attack_seen Bishop c p.board s t h) [ inl e ↦ cc | inr seen ↦ seen ]
+seen_by Knight c p s t h = h
+seen_by Pawn c p s t h = elim (attack_seen Pawn c p.board s t h) [ inl e ↦ cc | inr seen ↦ seen ]
+
+apart_by_rank : (s t : Square) → 0 < gap s.rank t.rank → not (same_square s t) ≡ true
+apart_by_rank s t h = grind (arith, nat_tests)
+
+advance_seen : (p : Parts) (m : Move) → is_advance p m ≡ true → sees Pawn p m.from m.to ≡ true
+advance_seen p m h =
+    let way : ((m.from.file == m.to.file) && is_ahead p.side m.from.rank m.to.rank) ≡ true = first_true _ (is_empty p.board m.to) h in
+    let file : m.from.file ≡ m.to.file = equal_from m.from.file m.to.file (first_true (m.from.file == m.to.file) _ way) in
+    let rank : gap m.from.rank m.to.rank ≡ 1 = ahead_gap p.side m.from.rank m.to.rank (second_true (m.from.file == m.to.file) _ way) in
+    near p.board m.from m.to (omega arith) (omega arith) (apart_by_rank m.from m.to (omega arith))
+
+only_one : (k : ℕ) → 0 < k → k < 2 → k ≡ 1
+only_one k started ends = omega arith
+
+middle : (c : Colour) (a b : ℕ) → a ≡ pawn_rank c → b ≡ double_rank c → (toward a b 1 ≡ (a + b) / 2) × (gap a b ≡ 2)
+middle White a b low high = rw (low, high) (refl, refl)
+middle Black a b low high = rw (low, high) (refl, refl)
+
+toward_same : (a b k : ℕ) → a ≡ b → toward a b k ≡ a
+toward_same a b k h = grind (arith, nat_tests)
+
+-- a pawn's double step is seen: the one square between is empty
+double_seen : (p : Parts) (m : Move) → is_double_step p m ≡ true → sees Pawn p m.from m.to ≡ true
+double_seen p m h =
+    let way : ((m.from.file == m.to.file) && ((m.from.rank == pawn_rank p.side) && (m.to.rank == double_rank p.side))) ≡ true =
+    first_true _ (is_empty p.board (crossed m) && is_empty p.board m.to) h in
+    let free : is_empty p.board (crossed m) ≡ true =
+    first_true (is_empty p.board (crossed m)) (is_empty p.board m.to)
+    (second_true ((m.from.file == m.to.file) && ((m.from.rank == pawn_rank p.side) && (m.to.rank == double_rank p.side))) _ h) in
+    let file : m.from.file ≡ m.to.file = equal_from m.from.file m.to.file (first_true (m.from.file == m.to.file) _ way) in
+    let ranks : (m.from.rank ≡ pawn_rank p.side) × (m.to.rank ≡ double_rank p.side) = double_ranks p m h in
+    let both : (toward m.from.rank m.to.rank 1 ≡ (m.from.rank + m.to.rank) / 2) × (gap m.from.rank m.to.rank ≡ 2) =
+    middle p.side m.from.rank m.to.rank ranks.0 ranks.1 in
+    let two : gap m.from.rank m.to.rank ≡ 2 = both.1 in
+    let place : along m.from m.to 1 ≡ crossed m = ap₂ square (toward_same m.from.file m.to.file 1 file) both.0 in
+    both_true _ _
+    (or_first _ _ (both_true _ _ (or_second _ _ (equal_tests m.from.file m.to.file file)) (apart_by_rank m.from m.to (omega arith))))
+    (clear_from_walk p.board m.from m.to (λ k started ends.
+    let one : k ≡ 1 = only_one k started (omega arith) in
+    subst (λ (j : ℕ). is_empty p.board (along m.from m.to j) ≡ true) (sym one)
+    (subst (λ (u : Square). is_empty p.board u ≡ true) (sym place) free)))
+
+-- Castling: the king sees its end over the square that it crosses.
+
+short_way : (b : Board) (c : Colour) → is_clear b (square 4 (home_rank c)) (square 7 (home_rank c)) ≡ true → (is_aligned (square 4 (home_rank c)) (square 6 (home_rank c)) && is_clear b (square 4 (home_rank c)) (square 6 (home_rank c))) ≡ true
+short_way b White h =
+    clear_from_walk b (square 4 0) (square 6 0) (λ k started ends.
+    subst (λ (j : ℕ). is_empty b (along (square 4 0) (square 6 0) j) ≡ true) (sym (only_one k started ends))
+    (walk_from_clear b (square 4 0) (square 7 0) refl (omega arith) (omega arith) (omega arith) (omega arith) h 1 (omega arith) (omega arith)))
+short_way b Black h =
+    clear_from_walk b (square 4 7) (square 6 7) (λ k started ends.
+    subst (λ (j : ℕ). is_empty b (along (square 4 7) (square 6 7) j) ≡ true) (sym (only_one k started ends))
+    (walk_from_clear b (square 4 7) (square 7 7) refl (omega arith) (omega arith) (omega arith) (omega arith) h 1 (omega arith) (omega arith)))
+
+long_way : (b : Board) (c : Colour) → is_clear b (square 4 (home_rank c)) (square 0 (home_rank c)) ≡ true → (is_aligned (square 4 (home_rank c)) (square 2 (home_rank c)) && is_clear b (square 4 (home_rank c)) (square 2 (home_rank c))) ≡ true
+long_way b White h =
+    clear_from_walk b (square 4 0) (square 2 0) (λ k started ends.
+    subst (λ (j : ℕ). is_empty b (along (square 4 0) (square 2 0) j) ≡ true) (sym (only_one k started ends))
+    (walk_from_clear b (square 4 0) (square 0 0) refl (omega arith) (omega arith) (omega arith) (omega arith) h 1 (omega arith) (omega arith)))
+long_way b Black h =
+    clear_from_walk b (square 4 7) (square 2 7) (λ k started ends.
+    subst (λ (j : ℕ). is_empty b (along (square 4 7) (square 2 7) j) ≡ true) (sym (only_one k started ends))
+    (walk_from_clear b (square 4 7) (square 0 7) refl (omega arith) (omega arith) (omega arith) (omega arith) h 1 (omega arith) (omega arith)))
+
+-- Each way to step.
+
+sees_pawn : (p : Parts) (k : Kind) (s t : Square) → own p k s ≡ true → own p Pawn s ≡ true → sees Pawn p s t ≡ true → sees k p s t ≡ true
+sees_pawn p k s t h g seen = subst (λ (j : Kind). sees j p s t ≡ true) (sym (one_kind p.side p.side k Pawn (at p.board s) h g)) seen
+
+by_attack : (p : Parts) (m : Move) (k : Kind) → own p k m.from ≡ true → attacks p.board m.from m.to ≡ true → sees k p m.from m.to ≡ true
+by_attack p m k h g = seen_by k p.side p m.from m.to (attacks_as p.side k (at p.board m.from) p.board m.from m.to h g)
+
+by_pawn : (p : Parts) (m : Move) (k : Kind) → own p k m.from ≡ true → is_pawn_step p m ≡ true → sees k p m.from m.to ≡ true
+by_pawn p m k h g =
+    elim (split_or (is_advance p m) (is_double_step p m || is_pawn_capture p m) way) [
+      | inl one ↦ sees_pawn p k m.from m.to h pawn (advance_seen p m one)
+      | inr more ↦ elim (split_or (is_double_step p m) (is_pawn_capture p m) more) [
+        | inl two ↦ sees_pawn p k m.from m.to h pawn (double_seen p m two)
+        | inr takes ↦ by_attack p m k h (first_true (attacks p.board m.from m.to) _ takes)
+      ]
+    ]
+  where
+    pawn : own p Pawn m.from ≡ true
+    pawn = first_true (own p Pawn m.from) (is_pawn_way p m && promotion_fits p m) g
+
+    way : is_pawn_way p m ≡ true
+    way = first_true (is_pawn_way p m) (promotion_fits p m) (second_true (own p Pawn m.from) (is_pawn_way p m && promotion_fits p m) g)
+
+by_castling : (p : Parts) (m : Move) (k : Kind) (wing : Wing)
+    → (is_clear p.board (home p 4) (home p wing.rook) ≡ true → (is_aligned (home p 4) (home p wing.end) && is_clear p.board (home p 4) (home p wing.end)) ≡ true)
+    → own p k m.from ≡ true → Castles p m wing → sees k p m.from m.to ≡ true
+by_castling p m k wing way h g =
+    let seen : sees King p (home p 4) (home p wing.end) ≡ true = way g.clear in
+    subst (λ (j : Kind). sees j p m.from m.to ≡ true) (sym (one_kind p.side p.side k King (at p.board m.from) h g.king))
+    (subst (λ (s : Square). sees King p s m.to ≡ true) (sym g.from) (subst (λ (t : Square). sees King p (home p 4) t ≡ true) (sym g.to) seen))
+
+pub step_seen : (p q : Parts) (m : Move) (k : Kind) → own p k m.from ≡ true → Legal p m q → sees k p m.from m.to ≡ true
+step_seen p q m k h l =
+    elim (way_of p m l.board l.stepped) [
+      | inl piece ↦ by_attack p m k h (first_true (attacks p.board m.from m.to) _ (second_true ((has_colour p.side (at p.board m.from) && not (own p Pawn m.from)) && is_none m.promotion) _ piece.0))
+      | inr more ↦ elim more [
+        | inl pawn ↦ by_pawn p m k h pawn.0
+        | inr more ↦ elim more [
+          | inl passing ↦ by_attack p m k h (first_true (attacks p.board m.from m.to) _ (second_true ((own p Pawn m.from && promotion_fits p m) && (is_target p.target m.to && is_empty p.board m.to)) _ passing.0))
+          | inr more ↦ elim more [
+            | inl short ↦ by_castling p m k short_wing (short_way p.board p.side) h (castles_means p m (short_right p.side p.rights) short_wing short.0)
+            | inr long ↦ by_castling p m k long_wing (long_way p.board p.side) h (castles_means p m (long_right p.side p.rights) long_wing long.0)
+          ]
+        ]
+      ]
+    ]
+
+pub candidates_complete : CandidatesComplete
+candidates_complete p q m k h own = both_true _ _ own (step_seen p q m k own (legal_means p m q h))

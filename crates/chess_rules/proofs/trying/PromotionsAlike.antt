@@ -1,0 +1,300 @@
+-- Whether a pair is legal does not depend on what a pawn becomes: the piece that arrives is no king
+-- and is there, whichever it is.
+use Rattle.std.proofs.Common.{◌≡◌, ℕ, ◌<◌, Bool, true, false, not, ◌&&◌, ◌||◌, inl, inr, refl, sym, ◌∙◌, ap, ap₂, subst, arith, length}
+use Rattle.std.specs.Prelude.{Option, None, Some, is_none, is_some, option_map, ◌==◌, if◌then◌else◌}
+use Rattle.std.specs.List.{list_any, list_all}
+use Rattle.chess_rules.specs.declared.piece.Colour.{Colour}
+use Rattle.chess_rules.specs.declared.piece.Colour.TheVariants.{White, Black}
+use Rattle.chess_rules.specs.declared.piece.Kind.{Kind}
+use Rattle.chess_rules.specs.declared.piece.Kind.TheVariants.{King, Queen, Rook, Bishop, Knight, Pawn}
+use Rattle.chess_rules.specs.declared.piece.Piece.{Piece}
+use Rattle.chess_rules.specs.declared.piece.Promotion.{Promotion}
+use Rattle.chess_rules.specs.declared.piece.Promotion.TheVariants as promotions
+use Rattle.chess_rules.specs.declared.position.Move.{Move}
+use Rattle.chess_rules.specs.declared.position.Parts.{Parts}
+use Rattle.chess_rules.specs.Square.{Square, squares, on_board, in_line, on_diagonal, strictly_between}
+use Rattle.chess_rules.specs.Board.{Board, at, put, some_piece, is_empty, other, has_colour, has_piece}
+use Rattle.chess_rules.specs.Attacks.{is_clear, kind_attacks, cell_attacks, attacks, is_attacked, king_attacked}
+use Rattle.chess_rules.specs.Position.{is_position}
+use Rattle.chess_rules.specs.Step.{own, home, home_rank, last_rank, is_on_board, is_piece_step, is_pawn_step, is_pawn_way, is_en_passant, promotion_fits, is_target, castles_short, castles_long, short_right, long_right, short_wing, long_wing, captured_pawn, kind_of, carried, en_passant_board, castled, board_after, after}
+use Rattle.chess_rules.specs.Legal.{legal, is_legal, if_safe}
+use Rattle.chess_rules.specs.Pairs.{one_move, is_legal_pair}
+use Rattle.chess_rules.specs.Laws.{PromotionsAlike}
+use Rattle.chess_rules.proofs.squares.AllSquares.{first_true, second_true, same_tests, Passes, some_square, any_square, each_square, all_squares}
+use Rattle.chess_rules.proofs.moves.CellsAfterPut.{OnBoard, at_put, length-put}
+use Rattle.chess_rules.proofs.positions.RulesOfPosition.{sound_from_position}
+use Rattle.chess_rules.proofs.moves.StepsKeepBoard.{other-other, one_kind, pawn_is_no_king, castles_means}
+use Rattle.chess_rules.proofs.moves.LegalToPosition.{on_board_means, way_of, Legal, legal_means}
+use Rattle.chess_rules.proofs.trying.FoundLists.{to_false, passes}
+
+-- Two boards that differ in pieces of one colour alone, none of them a king, attack that colour's
+-- king alike.
+
+pub record CellsAlike (c : Colour) (x y : Option Piece) : Type 0 where
+  pub king : has_piece c King x ≡ has_piece c King y
+  pub empty : is_none x ≡ is_none y
+  pub others : has_colour (other c) x ≡ true → x ≡ y
+  pub back : has_colour (other c) y ≡ true → x ≡ y
+
+pub record Alike (c : Colour) (b d : Board) : Type 0 where
+  pub left : length b ≡ 64
+  pub right : length d ≡ 64
+  pub cells : (u : Square) → OnBoard u → CellsAlike c (at b u) (at d u)
+
+itself : (c : Colour) (x : Option Piece) → CellsAlike c x x
+itself c x = record { king = refl; empty = refl; others = λ _. refl; back = λ _. refl }
+
+itself_too : (c : Colour) (b : Board) → length b ≡ 64 → Alike c b b
+itself_too c b long = record { left = long; right = long; cells = λ u on. itself c (at b u) }
+
+put_alike : (c : Colour) (b d : Board) (s : Square) (x y : Option Piece) → Alike c b d → OnBoard s → CellsAlike c x y → Alike c (put b s x) (put d s y)
+put_alike c b d s x y alike on cells =
+    record {
+      left = length-put b s x ∙ alike.left;
+      right = length-put d s y ∙ alike.right;
+      cells = λ u on_u.
+          elim (at_put b s u x alike.left on on_u) [
+            | inl here ↦ elim (at_put d s u y alike.right on on_u) [
+              | inl too ↦ subst (λ (v : Option Piece). CellsAlike c v (at (put d s y) u)) (sym here.1) (subst (λ (v : Option Piece). CellsAlike c x v) (sym too.1) cells)
+              | inr not_too ↦ absurd (not_too.0 here.0)
+            ]
+            | inr there ↦ elim (at_put d s u y alike.right on on_u) [
+              | inl not_too ↦ absurd (there.0 not_too.0)
+              | inr too ↦ subst (λ (v : Option Piece). CellsAlike c v (at (put d s y) u)) (sym there.1) (subst (λ (v : Option Piece). CellsAlike c (at b u) v) (sym too.1) (alike.cells u on_u))
+            ]
+          ];
+    }
+
+any_same : (f g : Square → Bool) → ((u : Square) → OnBoard u → f u ≡ g u) → list_any f squares ≡ list_any g squares
+any_same f g h = same_tests _ _ (λ a. one f g h (some_square f a)) (λ a. one g f (λ u on. sym (h u on)) (some_square g a))
+  where
+    one : (e k : Square → Bool) → ((u : Square) → OnBoard u → e u ≡ k u) → Passes e → list_any k squares ≡ true
+    one e k same w = any_square k w.on w.file w.rank (sym (same w.on (record { file = w.file; rank = w.rank })) ∙ w.holds)
+
+all_same : (f g : Square → Bool) → ((u : Square) → OnBoard u → f u ≡ g u) → list_all f squares ≡ list_all g squares
+all_same f g h = same_tests _ _ (λ a. each f g h a) (λ a. each g f (λ u on. sym (h u on)) a)
+  where
+    each : (e k : Square → Bool) → ((u : Square) → OnBoard u → e u ≡ k u) → list_all e squares ≡ true → list_all k squares ≡ true
+    each e k same a = all_squares k (λ u file rank. sym (same u (record { file = file; rank = rank })) ∙ each_square e u a file rank)
+
+clear_alike : (c : Colour) (b d : Board) (s t : Square) → Alike c b d → is_clear b s t ≡ is_clear d s t
+clear_alike c b d s t alike =
+    all_same (λ u. not (strictly_between s u t) || is_empty b u) (λ u. not (strictly_between s u t) || is_empty d u)
+    (λ u on. ap (λ v. not (strictly_between s u t) || v) (alike.cells u on).empty)
+
+kind_alike : (k : Kind) (a : Colour) (b d : Board) (s t : Square) → is_clear b s t ≡ is_clear d s t → kind_attacks k a b s t ≡ kind_attacks k a d s t
+kind_alike King a b d s t h = refl
+kind_alike Queen a b d s t h = ap (λ v. (in_line s t || on_diagonal s t) && v) h
+kind_alike Rook a b d s t h = ap (λ v. in_line s t && v) h
+kind_alike Bishop a b d s t h = ap (λ v. on_diagonal s t && v) h
+kind_alike Knight a b d s t h = refl
+kind_alike Pawn a b d s t h = refl
+
+cell_alike : (cell : Option Piece) (b d : Board) (s t : Square) → is_clear b s t ≡ is_clear d s t → cell_attacks cell b s t ≡ cell_attacks cell d s t
+cell_alike None b d s t h = refl
+cell_alike (Some x) b d s t h = kind_alike x.kind x.colour b d s t h
+
+attack_alike : (c : Colour) (b d : Board) (s t : Square) → Alike c b d → OnBoard s → (has_colour (other c) (at b s) && attacks b s t) ≡ (has_colour (other c) (at d s) && attacks d s t)
+attack_alike c b d s t alike on = by_colours (has_colour (other c) (at b s)) refl (has_colour (other c) (at d s)) refl
+  where
+    cells : CellsAlike c (at b s) (at d s)
+    cells = alike.cells s on
+
+    same : at b s ≡ at d s → attacks b s t ≡ attacks d s t
+    same e = ap (λ cell. cell_attacks cell b s t) e ∙ cell_alike (at d s) b d s t (clear_alike c b d s t alike)
+
+    by_colours : (x : Bool) → has_colour (other c) (at b s) ≡ x → (y : Bool) → has_colour (other c) (at d s) ≡ y → (x && attacks b s t) ≡ (y && attacks d s t)
+    by_colours true e true f = same (cells.others e)
+    by_colours true e false f = cc (ap (has_colour (other c)) (cells.others e))
+    by_colours false e true f = cc (ap (has_colour (other c)) (cells.back f))
+    by_colours false e false f = refl
+
+pub king_alike : (c : Colour) (b d : Board) → Alike c b d → king_attacked b c ≡ king_attacked d c
+king_alike c b d alike =
+    any_same (λ k. has_piece c King (at b k) && is_attacked b (other c) k) (λ k. has_piece c King (at d k) && is_attacked d (other c) k)
+    (λ k on. ap₂ (λ x y. x && y) (alike.cells k on).king
+    (any_same (λ s. has_colour (other c) (at b s) && attacks b s k) (λ s. has_colour (other c) (at d s) && attacks d s k)
+    (λ s on_s. attack_alike c b d s k alike on_s)))
+
+-- What arrives.
+
+not_other : (c : Colour) (k : Kind) → has_colour (other c) (some_piece c k) ≡ true → ⊥
+not_other White k h = cc
+not_other Black k h = cc
+
+men_alike : (c : Colour) (x y : Promotion) → CellsAlike c (some_piece c (kind_of x)) (some_piece c (kind_of y))
+men_alike c x y =
+    record {
+      king = no_king x ∙ sym (no_king y);
+      empty = refl;
+      others = λ h. absurd (not_other c (kind_of x) h);
+      back = λ h. absurd (not_other c (kind_of y) h);
+    }
+  where
+    neither : (v : Bool) → (v && false) ≡ false
+    neither true = refl
+    neither false = refl
+
+    no_king : (z : Promotion) → has_piece c King (some_piece c (kind_of z)) ≡ false
+    no_king promotions.Queen = neither _
+    no_king promotions.Rook = neither _
+    no_king promotions.Bishop = neither _
+    no_king promotions.Knight = neither _
+
+-- The boards after a pair with two promotions.
+
+abbrev promoting : Square → Square → Promotion → Move
+promoting s t x = record { from = s; to = t; promotion = Some x }
+
+home_low : (c : Colour) → home_rank c < 8
+home_low White = omega arith
+home_low Black = omega arith
+
+carried_alike : (p : Parts) (s t : Square) (x y : Promotion) → length p.board ≡ 64 → OnBoard s → OnBoard t → Alike p.side (carried p (promoting s t x)) (carried p (promoting s t y))
+carried_alike p s t x y long on_s on_t =
+    put_alike p.side (put p.board s None) (put p.board s None) t (some_piece p.side (kind_of x)) (some_piece p.side (kind_of y))
+    (itself_too p.side (put p.board s None) (length-put p.board s None ∙ long)) on_t (men_alike p.side x y)
+
+passing_alike : (p : Parts) (s t : Square) (x y : Promotion) → length p.board ≡ 64 → OnBoard s → OnBoard t → Alike p.side (en_passant_board p (promoting s t x)) (en_passant_board p (promoting s t y))
+passing_alike p s t x y long on_s on_t =
+    put_alike p.side (carried p (promoting s t x)) (carried p (promoting s t y)) (captured_pawn (promoting s t x)) None None
+    (carried_alike p s t x y long on_s on_t) (record { file = on_t.file; rank = on_s.rank }) (itself p.side None)
+
+castled_alike : (p : Parts) (s t : Square) (x y : Promotion) (rook crossing : ℕ) → length p.board ≡ 64 → OnBoard s → OnBoard t → rook < 8 → crossing < 8
+    → Alike p.side (castled p (promoting s t x) rook crossing) (castled p (promoting s t y) rook crossing)
+castled_alike p s t x y rook crossing long on_s on_t low_rook low_crossing =
+    put_alike p.side (put (carried p (promoting s t x)) (home p rook) None) (put (carried p (promoting s t y)) (home p rook) None) (home p crossing) (some_piece p.side Rook) (some_piece p.side Rook)
+    (put_alike p.side (carried p (promoting s t x)) (carried p (promoting s t y)) (home p rook) None None
+    (carried_alike p s t x y long on_s on_t) (record { file = low_rook; rank = home_low p.side }) (itself p.side None))
+    (record { file = low_crossing; rank = home_low p.side }) (itself p.side (some_piece p.side Rook))
+
+-- the mover's king is not attacked on the board
+abbrev leaves_safe : Parts → Board → Bool
+leaves_safe p b = not (king_attacked b (other (other p.side)))
+
+safe_alike : (p : Parts) (b d : Board) → Alike p.side b d → leaves_safe p b ≡ leaves_safe p d
+safe_alike p b d alike =
+    ap not (ap (king_attacked b) (other-other p.side) ∙ (king_alike p.side b d alike ∙ ap (king_attacked d) (sym (other-other p.side))))
+
+-- a move is legal if there is a step, and the board after it leaves the king safe
+legal_passes : (p : Parts) (m : Move) → is_legal p m ≡ (is_on_board m && passes (leaves_safe p) (board_after p m))
+legal_passes p m = by_step (is_on_board m) (board_after p m)
+  where
+    by_safety : (v : Bool) (q : Parts) → is_some (if v then Some q else None) ≡ v
+    by_safety true q = refl
+    by_safety false q = refl
+
+    by_step : (v : Bool) (o : Option Board) → is_some (if_safe (if v then option_map (after p m) o else None)) ≡ (v && passes (leaves_safe p) o)
+    by_step true None = refl
+    by_step true (Some b) = by_safety (leaves_safe p b) (after p m b)
+    by_step false o = refl
+
+pick : (test : Board → Bool) (v x y z : Bool) (i j k l e f g h : Board) → test i ≡ test e → test j ≡ test f → test k ≡ test g → test l ≡ test h
+    → passes test (if v then Some i else if x then Some j else if y then Some k else if z then Some l else None) ≡ passes test (if v then Some e else if x then Some f else if y then Some g else if z then Some h else None)
+pick test true x y z i j k l e f g h a b c d = a
+pick test false true y z i j k l e f g h a b c d = b
+pick test false false true z i j k l e f g h a b c d = c
+pick test false false false true i j k l e f g h a b c d = d
+pick test false false false false i j k l e f g h a b c d = refl
+
+both_when : (v x y : Bool) → (v ≡ true → x ≡ y) → (v && x) ≡ (v && y)
+both_when true x y h = h refl
+both_when false x y h = refl
+
+pub promotions_alike : PromotionsAlike
+promotions_alike p s t x y position =
+    legal_passes p (promoting s t x)
+    ∙ (both_when (is_on_board (promoting s t x)) _ _ (λ on. boards (on_board_means s (first_true (on_board s) _ on)) (on_board_means t (second_true (on_board s) _ on)))
+    ∙ sym (legal_passes p (promoting s t y)))
+  where
+    long : length p.board ≡ 64
+    long = (sound_from_position p position).long
+
+    boards : OnBoard s → OnBoard t → passes (leaves_safe p) (board_after p (promoting s t x)) ≡ passes (leaves_safe p) (board_after p (promoting s t y))
+    boards on_s on_t =
+        let m : Move = promoting s t x in
+        let n : Move = promoting s t y in
+        pick (leaves_safe p) (is_piece_step p m || is_pawn_step p m) (is_en_passant p m) (castles_short p m) (castles_long p m)
+        (carried p m) (en_passant_board p m) (castled p m 7 5) (castled p m 0 3) (carried p n) (en_passant_board p n) (castled p n 7 5) (castled p n 0 3)
+        (safe_alike p (carried p m) (carried p n) (carried_alike p s t x y long on_s on_t))
+        (safe_alike p (en_passant_board p m) (en_passant_board p n) (passing_alike p s t x y long on_s on_t))
+        (safe_alike p (castled p m 7 5) (castled p n 7 5) (castled_alike p s t x y 7 5 long on_s on_t (omega arith) (omega arith)))
+        (safe_alike p (castled p m 0 3) (castled p n 0 3) (castled_alike p s t x y 0 3 long on_s on_t (omega arith) (omega arith)))
+
+-- A legal move names a promotion exactly if a pawn reaches its last rank.
+
+names_fit : (r : Bool) (o : Option Promotion) → (if r then is_some o else is_none o) ≡ true → is_some o ≡ r
+names_fit true None h = cc
+names_fit true (Some x) h = refl
+names_fit false None h = refl
+names_fit false (Some x) h = cc
+
+none_named : (o : Option Promotion) → is_none o ≡ true → is_some o ≡ false
+none_named None h = refl
+none_named (Some x) h = cc
+
+not_and : (r v : Bool) → v ≡ false → (r && v) ≡ false
+not_and true v h = h
+not_and false v h = refl
+
+and_true : (r v : Bool) → v ≡ true → r ≡ (r && v)
+and_true true v h = sym h
+and_true false v h = refl
+
+is_false : (v : Bool) → not v ≡ true → v ≡ false
+is_false true h = cc
+is_false false h = refl
+
+abbrev arrives : Parts → Move → Bool
+arrives p m = (m.to.rank == last_rank p.side) && own p Pawn m.from
+
+named_by_pawn : (p : Parts) (m : Move) → own p Pawn m.from ≡ true → promotion_fits p m ≡ true → is_some m.promotion ≡ arrives p m
+named_by_pawn p m owns fits = names_fit (m.to.rank == last_rank p.side) m.promotion fits ∙ and_true (m.to.rank == last_rank p.side) (own p Pawn m.from) owns
+
+named_by_other : (p : Parts) (m : Move) → own p Pawn m.from ≡ false → is_none m.promotion ≡ true → is_some m.promotion ≡ arrives p m
+named_by_other p m owns none = none_named m.promotion none ∙ sym (not_and (m.to.rank == last_rank p.side) (own p Pawn m.from) owns)
+
+king_no_pawn : (p : Parts) (s : Square) → own p King s ≡ true → own p Pawn s ≡ false
+king_no_pawn p s h = to_false (own p Pawn s) (λ pawn. pawn_is_no_king (one_kind p.side p.side King Pawn (at p.board s) h pawn))
+
+named : (p q : Parts) (m : Move) → Legal p m q → is_some m.promotion ≡ arrives p m
+named p q m l =
+    elim (way_of p m l.board l.stepped) [
+      | inl piece ↦ (let goes : ((has_colour p.side (at p.board m.from) && not (own p Pawn m.from)) && is_none m.promotion) ≡ true = first_true _ _ piece.0 in
+          named_by_other p m
+          (is_false (own p Pawn m.from) (second_true (has_colour p.side (at p.board m.from)) _ (first_true _ (is_none m.promotion) goes)))
+          (second_true (has_colour p.side (at p.board m.from) && not (own p Pawn m.from)) _ goes))
+      | inr more ↦ elim more [
+        | inl pawn ↦ named_by_pawn p m (first_true (own p Pawn m.from) _ pawn.0) (second_true (is_pawn_way p m) _ (second_true (own p Pawn m.from) _ pawn.0))
+        | inr more ↦ elim more [
+          | inl passing ↦ (let fits : (own p Pawn m.from && promotion_fits p m) ≡ true = first_true _ (is_target p.target m.to && is_empty p.board m.to) (first_true _ _ passing.0) in
+              named_by_pawn p m (first_true (own p Pawn m.from) _ fits) (second_true (own p Pawn m.from) _ fits))
+          | inr more ↦ elim more [
+            | inl short ↦ by_castling (castles_means p m (short_right p.side p.rights) short_wing short.0).king (castles_means p m (short_right p.side p.rights) short_wing short.0).plain
+            | inr long ↦ by_castling (castles_means p m (long_right p.side p.rights) long_wing long.0).king (castles_means p m (long_right p.side p.rights) long_wing long.0).plain
+          ]
+        ]
+      ]
+    ]
+  where
+    by_castling : own p King m.from ≡ true → is_none m.promotion ≡ true → is_some m.promotion ≡ arrives p m
+    by_castling king plain = named_by_other p m (king_no_pawn p m.from king) plain
+
+is_some_means : (o : Option Parts) → is_some o ≡ true → (q : Parts) × (o ≡ Some q)
+is_some_means None h = cc
+is_some_means (Some q) h = (q, refl)
+
+pub legal_after : (p : Parts) (m : Move) → is_legal p m ≡ true → (q : Parts) × Legal p m q
+legal_after p m h = (let (q, e) = is_some_means (legal p m) h in (q, legal_means p m q e))
+
+-- the one promotion that is tried will do
+pub one_will_do : (p : Parts) (m : Move) → is_position p ≡ true → is_legal p m ≡ true → is_legal_pair p m.from m.to ≡ true
+unfolding is_legal_pair
+one_will_do p m position h = (let (q, l) = legal_after p m h in by_promotion m.promotion h (named p q m l))
+  where
+    by_arrival : (v w : Bool) → v ≡ w → is_legal p (record { from = m.from; to = m.to; promotion = if v then Some promotions.Queen else None }) ≡ is_legal p (record { from = m.from; to = m.to; promotion = if w then Some promotions.Queen else None })
+    by_arrival v w e = ap (λ x. is_legal p (record { from = m.from; to = m.to; promotion = if x then Some promotions.Queen else None })) e
+
+    by_promotion : (o : Option Promotion) → is_legal p (record { from = m.from; to = m.to; promotion = o }) ≡ true → is_some o ≡ arrives p m → is_legal p (one_move p m.from m.to) ≡ true
+    by_promotion None g e = by_arrival (arrives p m) false (sym e) ∙ g
+    by_promotion (Some x) g e = by_arrival (arrives p m) true (sym e) ∙ (promotions_alike p m.from m.to promotions.Queen x position ∙ g)

@@ -1,0 +1,11 @@
+-- The text of a move as a form, and the moves that a form names.
+pub mod AgreeingAreFound
+pub mod BeforeMarks
+pub mod CastlingForms
+pub mod CastlingMoves
+pub mod FormToSpelling
+pub mod MoverOfMove
+pub mod OnlyElement
+pub mod PawnWays
+pub mod PieceForms
+pub mod SpellingToForm

@@ -1,0 +1,80 @@
+-- What a form of castling names: the one move that is tried, or none.
+use Rattle.std.proofs.Common.{◌≡◌, Bool, true, false, ◌&&◌, ◌||◌, [], refl, sym, ◌∙◌, ap, subst, arith}
+use Rattle.std.specs.Prelude.{Option, None, Some, Ok, Err, is_none}
+use Rattle.std.specs.List.{cons_option}
+use Rattle.std.proofs.lemmas.Bool.{false≢true, and_parts}
+use Rattle.chess_rules.specs.declared.position.Move.{Move}
+use Rattle.chess_rules.specs.declared.position.Parts.{Parts}
+use Rattle.chess_rules.specs.Square.{Square, same_square}
+use Rattle.chess_rules.specs.Step.{home, Wing, short_wing, long_wing, short_right, long_right, is_king_move, stand_ready, is_unattacked, castles, castles_short, castles_long}
+use Rattle.chess_rules.specs.Legal.{legal}
+use Rattle.chess_text.specs.declared.form.Form.TheVariants.{Castle}
+use Rattle.chess_text.specs.declared.resolution.Played.{Played}
+use Rattle.chess_text.specs.declared.resolution.SanFault.TheVariants.{NoMove}
+use Rattle.chess_text.specs.Reads.{is_castling, describes, with_next, played, castling_move, agreeing, only, reads}
+use Rattle.chess_text.proofs.forms.CastlingMoves.{squares_same}
+
+-- where castling leads
+pub castles_ends : (p : Parts) (m : Move) (right : Bool) (wing : Wing) → castles p m right wing ≡ true → (m.from ≡ home p 4) × (m.to ≡ home p wing.end) × (is_none m.promotion ≡ true)
+castles_ends p m right wing h =
+    let moved = and_parts ((right && is_none m.promotion) && is_king_move p m wing.end) (stand_ready p wing.rook && (is_unattacked p 4 && (is_unattacked p wing.crossing && is_unattacked p wing.end))) h in
+    let leads = and_parts (right && is_none m.promotion) (is_king_move p m wing.end) moved.0 in
+    let ends = and_parts (same_square m.from (home p 4)) (same_square m.to (home p wing.end)) leads.1 in
+    (squares_same m.from (home p 4) ends.0, squares_same m.to (home p wing.end) ends.1, (and_parts right (is_none m.promotion) leads.0).1)
+
+-- the castling that the form names is the only one from and to its squares
+described : (p : Parts) (long : Bool) → describes p (Castle long) (castling_move p.side long) ≡ is_castling p (castling_move p.side long)
+described p false = first_alone (castles_short p (castling_move p.side false)) (castles_long p (castling_move p.side false)) no_long
+  where
+    first_alone : (x y : Bool) → (y ≡ true → ⊥) → x ≡ (x || y)
+    first_alone true y h = refl
+    first_alone false true h = absurd (h refl)
+    first_alone false false h = refl
+
+    no_long : castles_long p (castling_move p.side false) ≡ true → ⊥
+    no_long h =
+        let to = ap (λ (s : Square). s.file) (castles_ends p (castling_move p.side false) (long_right p.side p.rights) long_wing h).1 in
+        omega (arith, to)
+described p true = second_alone (castles_short p (castling_move p.side true)) (castles_long p (castling_move p.side true)) no_short
+  where
+    second_alone : (x y : Bool) → (x ≡ true → ⊥) → y ≡ (x || y)
+    second_alone true y h = absurd (h refl)
+    second_alone false y h = refl
+
+    no_short : castles_short p (castling_move p.side true) ≡ true → ⊥
+    no_short h =
+        let to = ap (λ (s : Square). s.file) (castles_ends p (castling_move p.side true) (short_right p.side p.rights) short_wing h).1 in
+        omega (arith, to)
+
+reads_one : (p : Parts) (long : Bool) → reads p (Castle long) ≡ only (cons_option (played (describes p (Castle long) (castling_move p.side long)) p (castling_move p.side long)) [])
+unfolding agreeing
+reads_one p long = refl
+
+pub played_none : (b : Bool) (p : Parts) (m : Move) → legal p m ≡ None → played b p m ≡ None
+played_none false p m h = refl
+played_none true p m h = ap (with_next m) h
+
+pub played_some : (b : Bool) (p q : Parts) (m : Move) → b ≡ true → legal p m ≡ Some q → played b p m ≡ Some (record { mv = m; next = q })
+played_some true p q m e h = ap (with_next m) h
+played_some false p q m e h = absurd (false≢true e)
+
+pub played_not : (b : Bool) (p : Parts) (m : Move) → b ≡ false → played b p m ≡ None
+played_not b p m e = ap (λ (x : Bool). played x p m) e
+
+module _ (p : Parts) (long : Bool) (m : Move) (is : m ≡ castling_move p.side long) where
+  answer_of : (o : Option Played) → played (describes p (Castle long) (castling_move p.side long)) p (castling_move p.side long) ≡ o → only (cons_option o []) ≡ reads p (Castle long)
+  answer_of o h = ap (λ (x : Option Played). only (cons_option x [])) (sym h) ∙ sym (reads_one p long)
+
+  pub castling_illegal : legal p m ≡ None → Err NoMove ≡ reads p (Castle long)
+  castling_illegal h =
+      answer_of None (played_none _ p (castling_move p.side long) (subst (λ (n : Move). legal p n ≡ None) is h))
+
+  pub castling_found : (q : Parts) → legal p m ≡ Some q → is_castling p m ≡ true → Ok (record { mv = m; next = q }) ≡ reads p (Castle long)
+  castling_found q h named =
+      ap (λ (n : Move). Ok (record { mv = n; next = q })) is
+      ∙ answer_of (Some (record { mv = castling_move p.side long; next = q }))
+      (played_some _ p q (castling_move p.side long) (described p long ∙ subst (λ (n : Move). is_castling p n ≡ true) is named) (subst (λ (n : Move). legal p n ≡ Some q) is h))
+
+  pub castling_other : is_castling p m ≡ false → Err NoMove ≡ reads p (Castle long)
+  castling_other named =
+      answer_of None (played_not _ p (castling_move p.side long) (described p long ∙ subst (λ (n : Move). is_castling p n ≡ false) is named))

@@ -1,0 +1,6 @@
+-- SAN: the text that is written for a move.
+pub mod OneMoveAgrees
+pub mod RivalsAreCandidates
+pub mod TextsToMoves
+pub mod WrittenMoveIsRead
+pub mod WrittenToForm

@@ -1,0 +1,163 @@
+-- What the texts of legal moves name.
+use Rattle.std.proofs.Common.{◌≡◌, ◌≢◌, ℕ, zero, suc, ◌+◌, ◌<◌, Bool, true, false, not, ◌&&◌, List, [], ◌∷◌, ◌++◌, append-nil, get_or, refl, sym, ◌∙◌, ap, subst, arith}
+use Rattle.std.specs.Prelude.{◌==◌, nat_lt, Option, None, Some, slice_index_or}
+use Rattle.std.specs.List.{list_any, Any}
+use Rattle.std.proofs.lemmas.Bool.{false≢true, and_parts, and_from, ltb-true}
+use Rattle.std.proofs.lemmas.List.Folds.{Any-from_list_any}
+use Rattle.chess_rules.specs.declared.piece.Kind.{Kind}
+use Rattle.chess_rules.specs.declared.piece.Kind.TheVariants.{King, Queen, Rook, Bishop, Knight, Pawn}
+use Rattle.chess_rules.specs.declared.position.Move.{Move}
+use Rattle.chess_rules.specs.declared.position.Parts.{Parts}
+use Rattle.chess_rules.specs.Square.{Square, squares, on_board, same_square}
+use Rattle.chess_rules.specs.Board.{same_kind}
+use Rattle.chess_rules.specs.Step.{own}
+use Rattle.chess_rules.specs.Legal.{legal, is_legal}
+use Rattle.chess_rules.specs.Laws.{OneKing}
+use Rattle.chess_text.specs.declared.form.Form.{Form}
+use Rattle.chess_text.specs.declared.form.Form.TheVariants.{Man}
+use Rattle.chess_text.specs.Letter.{letter, file_letter, rank_digit, square_text}
+use Rattle.chess_text.specs.Form.{Spells, is_form, below_eight, hint_text}
+use Rattle.chess_text.specs.Reads.{hints_fit, agrees, describes}
+use Rattle.chess_text.specs.San.{is_capture, capture_text, from_square, is_rival, rivals, on_file, on_rank, disambiguation_by, has_rivals, mark, san}
+use Rattle.chess_text.specs.Laws.{Names, SingleReading, disambiguations, text_with, ShorterIsAmbiguous}
+use Rattle.chess_text.proofs.forms.CastlingMoves.{stepped}
+use Rattle.chess_text.proofs.forms.SpellingToForm.{form_read}
+use Rattle.chess_text.proofs.forms.PieceForms.{same_square-refl}
+use Rattle.chess_text.proofs.names.RivalsAreCandidates.{any-filter}
+use Rattle.chess_text.proofs.names.WrittenToForm.{written, Moved, moved, san_spelled, good_form, written_agrees, capture_fits, own_letter, marks_alone, unpromoted, no_castling, man_described, itself}
+use Rattle.chess_text.proofs.names.OneMoveAgrees.{turn, alone}
+
+same_some : {A : Type 0} (x y : A) → Some x ≡ Some y → x ≡ y
+same_some x y h = cc
+
+pub single : OneKing → SingleReading
+single one p m position h =
+    let v : Moved p m = moved p m h in
+    let k : Kind = v.piece.kind in
+    let spelled : Spells (san p m) (written k p m) = san_spelled p m v in
+    let good : is_form (written k p m) ≡ true = good_form k p m h in (
+      (written k p m, spelled, good, written_agrees k p m h v.stands),
+      λ n r. alone one p k m n position h v.stands
+          (subst (λ (f : Form). agrees p f n ≡ true) (same_some r.0 (written k p m) (sym (form_read (san p m) r.0 r.1 r.2) ∙ form_read (san p m) (written k p m) spelled good)) r.3),
+    )
+
+-- With an earlier step.
+
+no_king : (k : Kind) → has_rivals k ≡ true → (same_kind King k ≡ false) × (same_kind k Pawn ≡ false)
+no_king King h = absurd (false≢true h)
+no_king Queen h = (refl, refl)
+no_king Rook h = (refl, refl)
+no_king Bishop h = (refl, refl)
+no_king Knight h = (refl, refl)
+no_king Pawn h = absurd (false≢true h)
+
+-- a rival that passes a test
+record Rival (p : Parts) (k : Kind) (m : Move) (test : Square → Bool) : Type 0 where
+  on : Square
+  stands : own p k on ≡ true
+  other : same_square on m.from ≡ false
+  goes : is_legal p (from_square m on) ≡ true
+  passes : test on ≡ true
+
+not_true : (b : Bool) → not b ≡ true → b ≡ false
+not_true true h = sym h
+not_true false h = refl
+
+some_rival : (p : Parts) (k : Kind) (m : Move) (test : Square → Bool) → list_any test (rivals p k m) ≡ true → Rival p k m test
+some_rival p k m test h = by_place (Any-from_list_any (λ s. (own p k s && is_rival p m s) && test s) squares (sym (any-filter test (λ s. own p k s && is_rival p m s) squares) ∙ h))
+  where
+    by_place : Any (λ s. ((own p k s && is_rival p m s) && test s) ≡ true) squares → Rival p k m test
+    by_place (i, s, low, there, holds) =
+        let both = and_parts (own p k s && is_rival p m s) (test s) holds in
+        let first = and_parts (own p k s) (is_rival p m s) both.0 in
+        let rival = and_parts (not (same_square s m.from)) (is_legal p (from_square m s)) first.1 in
+        record { on = s; stands = first.0; other = not_true (same_square s m.from) rival.0; goes = rival.1; passes = both.1 }
+
+-- the text with such hints names each move that fits them
+module _ (p : Parts) (k : Kind) (m : Move) (h : is_legal p m ≡ true) (stands : own p k m.from ≡ true) (officer : has_rivals k ≡ true)
+    (file rank : Option ℕ) (apart : List ℕ) (joined : (letter k ∷ []) ++ apart ≡ ((letter k ∷ []) ++ hint_text file_letter file) ++ hint_text rank_digit rank)
+    (below : (below_eight file && below_eight rank) ≡ true) where
+  spelled : Spells (text_with p k m apart) (Man k file rank m.to None)
+  spelled =
+      record {
+        bare = (letter k ∷ []) ++ apart ++ capture_text p m ++ square_text m.to;
+        marks = mark (legal p m);
+        joined = refl;
+        spells_bare = record {
+          letters = letter k ∷ [];
+          capture = capture_text p m;
+          promoted = [];
+          joined = ap (λ (s : List ℕ). (s ++ capture_text p m) ++ square_text m.to) joined ∙ sym (append-nil _);
+          letters_fit = own_letter k officer;
+          capture_fits = capture_fits (is_capture p m);
+          promoted_fits = refl;
+        };
+        marks_alone = marks_alone (legal p m);
+      }
+
+  good : is_form (Man k file rank m.to None) ≡ true
+  good = and_from (below_eight file && below_eight rank) (on_board m.to) below (and_parts (on_board m.from) (on_board m.to) (stepped p m h).on).1
+
+  names : (s : Square) → own p k s ≡ true → is_legal p (from_square m s) ≡ true → hints_fit file rank s ≡ true → Names p (text_with p k m apart) (from_square m s)
+  names s own_s goes hints = (
+    Man k file rank m.to None,
+    spelled,
+    good,
+    and_from (is_legal p (from_square m s)) (describes p (Man k file rank m.to None) (from_square m s)) goes
+        (man_described p (from_square m s) k file rank None own_s hints (unpromoted p m k h stands (no_king k officer).1) (no_castling p (from_square m s) k own_s (no_king k officer).0)),
+  )
+
+  two_named : hints_fit file rank m.from ≡ true → Rival p k m (λ s. hints_fit file rank s)
+      → Names p (text_with p k m apart) m × ((n : Move) × (n ≢ m) × Names p (text_with p k m apart) n)
+  two_named fits r = (
+    names m.from stands h fits,
+    (from_square m r.on, (λ e. false≢true (sym r.other ∙ (ap (λ (n : Move). same_square n.from m.from) e ∙ same_square-refl m.from))), names r.on r.stands r.goes r.passes),
+  )
+
+-- which rivals there are, by what is written
+record Flags (j : ℕ) (any file rank : Bool) : Type 0 where
+  any_is : 0 < j → any ≡ true
+  file_is : 1 < j → file ≡ true
+  rank_is : 2 < j → rank ≡ true
+
+letter_is_digit : (f r : ℕ) → r < 8 → (97 + f) ∷ [] ≡ (49 + r) ∷ [] → ⊥
+letter_is_digit f r low e = let same : 97 + f ≡ 49 + r = ap (λ (s : List ℕ). get_or s 0 0) e in omega (arith, same, low)
+
+flags : (s : Square) (any file rank : Bool) (j : ℕ) → s.rank < 8 → j < 4 → disambiguation_by s any file rank ≡ slice_index_or (disambiguations s) j [] → Flags j any file rank
+flags s any file rank zero low high told = record { any_is = λ h. absurd (omega (arith, h)); file_is = λ h. absurd (omega (arith, h)); rank_is = λ h. absurd (omega (arith, h)) }
+flags s false file rank (suc zero) low high told = absurd (cc)
+flags s false file rank (suc (suc zero)) low high told = absurd (cc)
+flags s false file rank (suc (suc (suc zero))) low high told = absurd (cc)
+flags s true file rank (suc zero) low high told = record { any_is = λ h. refl; file_is = λ h. absurd (omega (arith, h)); rank_is = λ h. absurd (omega (arith, h)) }
+flags s true false rank (suc (suc zero)) low high told = absurd (letter_is_digit s.file s.rank low told)
+flags s true false rank (suc (suc (suc zero))) low high told = absurd (cc)
+flags s true true rank (suc (suc zero)) low high told = record { any_is = λ h. refl; file_is = λ h. refl; rank_is = λ h. absurd (omega (arith, h)) }
+flags s true true false (suc (suc (suc zero))) low high told = absurd (cc)
+flags s true true true (suc (suc (suc zero))) low high told = record { any_is = λ h. refl; file_is = λ h. refl; rank_is = λ h. refl }
+flags s any file rank (suc (suc (suc (suc j)))) low high told = absurd (omega (arith, high))
+
+passing : (p : Parts) (k : Kind) (m : Move) (test other_test : Square → Bool) → ((s : Square) → test s ≡ true → other_test s ≡ true) → Rival p k m test → Rival p k m other_test
+passing p k m test other_test h r = record { on = r.on; stands = r.stands; other = r.other; goes = r.goes; passes = h r.on r.passes }
+
+pub less : ShorterIsAmbiguous
+less p k m i j h stands officer low high told =
+    by_step i low
+    (flags m.from (list_any (λ r. true) (rivals p k m)) (on_file m.from (rivals p k m)) (on_rank m.from (rivals p k m)) j (ltb-true m.from.rank 8 begins.1) high told)
+  where
+    begins : (nat_lt m.from.file 8 ≡ true) × (nat_lt m.from.rank 8 ≡ true)
+    begins = and_parts (nat_lt m.from.file 8) (nat_lt m.from.rank 8) (and_parts (on_board m.from) (on_board m.to) (stepped p m h).on).0
+
+    by_step : (i : ℕ) → i < j → Flags j (list_any (λ r. true) (rivals p k m)) (on_file m.from (rivals p k m)) (on_rank m.from (rivals p k m))
+        → Names p (text_with p k m (slice_index_or (disambiguations m.from) i [])) m
+        × ((n : Move) × (n ≢ m) × Names p (text_with p k m (slice_index_or (disambiguations m.from) i [])) n)
+    by_step zero low f = two_named p k m h stands officer None None [] refl refl refl (some_rival p k m (λ s. true) (f.any_is low))
+    by_step (suc zero) low f =
+        two_named p k m h stands officer (Some m.from.file) None (file_letter m.from.file ∷ []) refl (and_from (nat_lt m.from.file 8) true begins.0 refl)
+        (and_from (m.from.file == m.from.file) true (itself m.from.file) refl)
+        (passing p k m (λ s. s.file == m.from.file) (λ s. hints_fit (Some m.from.file) None s) (λ s e. and_from (m.from.file == s.file) true (turn s.file m.from.file e) refl)
+        (some_rival p k m (λ s. s.file == m.from.file) (f.file_is low)))
+    by_step (suc (suc zero)) low f =
+        two_named p k m h stands officer None (Some m.from.rank) (rank_digit m.from.rank ∷ []) refl begins.1 (itself m.from.rank)
+        (passing p k m (λ s. s.rank == m.from.rank) (λ s. hints_fit None (Some m.from.rank) s) (λ s e. turn s.rank m.from.rank e)
+        (some_rival p k m (λ s. s.rank == m.from.rank) (f.rank_is low)))
+    by_step (suc (suc (suc i))) low f = absurd (omega (arith, low, high))

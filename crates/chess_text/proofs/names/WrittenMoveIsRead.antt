@@ -1,0 +1,320 @@
+-- The text of a legal move is a symbol, and is read as the move.
+use Rattle.std.proofs.Common.{◌≡◌, ℕ, ◌+◌, ◌<◌, ◌≤◌, Bool, true, false, inl, inr, ◌&&◌, ◌||◌, List, [], ◌∷◌, ◌++◌, length, refl, sym, ap, subst, ◌∙◌, arith, length-append}
+use Rattle.std.specs.Prelude.{Option, None, Some, is_some, option_map, codes, bytes_eq, nat_le, nat_lt, ◌==◌, if◌then◌else◌}
+use Rattle.std.specs.List.{list_all, list_any}
+use Rattle.std.proofs.lemmas.Bool.{false≢true, and_parts, and_from, or_cases, le-leb, lt-leb, leb-true, ltb-true}
+use Rattle.std.proofs.lemmas.Slice.Eq.{bytes_eq-Decides}
+use Rattle.chess_rules.specs.declared.piece.Kind.{Kind}
+use Rattle.chess_rules.specs.declared.piece.Kind.TheVariants.{King, Queen, Rook, Bishop, Knight, Pawn}
+use Rattle.chess_rules.specs.declared.piece.Piece.{Piece}
+use Rattle.chess_rules.specs.declared.piece.Promotion.{Promotion}
+use Rattle.chess_rules.specs.declared.piece.Promotion.TheVariants as become
+use Rattle.chess_rules.specs.declared.position.Move.{Move}
+use Rattle.chess_rules.specs.declared.position.Parts.{Parts}
+use Rattle.chess_rules.specs.Laws.{OneKing}
+use Rattle.chess_rules.specs.Legal.{legal, is_legal, is_mate, is_check}
+use Rattle.chess_rules.specs.Square.{Square, on_board}
+use Rattle.chess_rules.specs.Step.{castles_short, castles_long}
+use Rattle.chess_text.specs.Reads.{reads}
+use Rattle.chess_text.specs.Field.{is_digit}
+use Rattle.chess_text.specs.Letter.{letter, file_letter, rank_digit, square_text}
+use Rattle.chess_text.specs.San.{disambiguation_by, disambiguation, rivals, on_file, on_rank, is_capture, capture_if, capture_text, pawn_capture, promotion_text, castling_text, king_text, officer_text, kind_text, piece_text, mark, san}
+use Rattle.chess_text.specs.WrittenMove.{is_letter, is_move_byte, begins_with_letter, is_marker, IsMoveSymbol, WrittenMoveIsSymbol, WrittenMoveIsRead}
+use Rattle.chess_text.proofs.forms.AgreeingAreFound.{reads_the_one}
+use Rattle.chess_text.proofs.forms.CastlingMoves.{stepped}
+use Rattle.chess_text.proofs.forms.SpellingToForm.{form_read}
+use Rattle.chess_text.proofs.names.TextsToMoves.{single}
+use Rattle.chess_text.proofs.names.WrittenToForm.{Moved, moved}
+
+-- bytes of moves, at most so many
+record Bytes (most : ℕ) (s : List ℕ) : Type 0 where
+  all : list_all is_move_byte s ≡ true
+  fits : length s ≤ most
+
+all_append : (xs ys : List ℕ) → list_all is_move_byte xs ≡ true
+    → list_all is_move_byte ys ≡ true → list_all is_move_byte (xs ++ ys) ≡ true
+all_append [] ys a b = b
+all_append (x ∷ xs) ys a b =
+    let first = and_parts (is_move_byte x) (list_all is_move_byte xs) a in
+    and_from (is_move_byte x) (list_all is_move_byte (xs ++ ys)) first.0
+    (all_append xs ys first.1 b)
+
+bytes_append : (m n : ℕ) (xs ys : List ℕ) → Bytes m xs → Bytes n ys → Bytes (m + n) (xs ++ ys)
+bytes_append m n xs ys a b =
+    record {
+      all = all_append xs ys a.all b.all;
+      fits = omega (arith, a.fits, b.fits, length-append xs ys);
+    }
+
+or_left : (a b : Bool) → a ≡ true → (a || b) ≡ true
+or_left true b e = refl
+or_left false b e = absurd (false≢true e)
+
+or_right : (a b : Bool) → b ≡ true → (a || b) ≡ true
+or_right true b e = refl
+or_right false b e = e
+
+-- the bytes of squares
+file_is_letter : (f : ℕ) → nat_lt f 8 ≡ true → is_letter (file_letter f) ≡ true
+file_is_letter f e =
+    let low : f < 8 = ltb-true f 8 e in
+    or_right (nat_le 65 (97 + f) && nat_le (97 + f) 90) (nat_le 97 (97 + f) && nat_le (97 + f) 122)
+    (and_from (nat_le 97 (97 + f)) (nat_le (97 + f) 122)
+    (le-leb 97 (97 + f) (omega arith)) (le-leb (97 + f) 122 (omega arith)))
+
+rank_is_digit : (r : ℕ) → nat_lt r 8 ≡ true → is_digit (rank_digit r) ≡ true
+rank_is_digit r e =
+    let low : r < 8 = ltb-true r 8 e in
+    and_from (nat_le 48 (49 + r)) (nat_le (49 + r) 57)
+    (le-leb 48 (49 + r) (omega arith)) (le-leb (49 + r) 57 (omega arith))
+
+byte_by : (l d p h q m : Bool) → (l || d) ≡ true → (l || d || p || h || q || m) ≡ true
+byte_by true d p h q m e = refl
+byte_by false true p h q m e = refl
+byte_by false false p h q m e = absurd (false≢true e)
+
+letter_passes : (c : ℕ) → is_letter c ≡ true → is_move_byte c ≡ true
+letter_passes c e =
+    byte_by (is_letter c) (is_digit c) (c == 43) (c == 35) (c == 61) (c == 45)
+    (or_left (is_letter c) (is_digit c) e)
+
+digit_passes : (c : ℕ) → is_digit c ≡ true → is_move_byte c ≡ true
+digit_passes c e =
+    byte_by (is_letter c) (is_digit c) (c == 43) (c == 35) (c == 61) (c == 45)
+    (or_right (is_letter c) (is_digit c) e)
+
+-- a square of the board, by its file and its rank
+record IsOnBoard (s : Square) : Type 0 where
+  file : nat_lt s.file 8 ≡ true
+  rank : nat_lt s.rank 8 ≡ true
+
+on_board_of : (s : Square) → on_board s ≡ true → IsOnBoard s
+on_board_of s e =
+    let both = and_parts (nat_lt s.file 8) (nat_lt s.rank 8) e in
+    record { file = both.0; rank = both.1 }
+
+file_bytes : (s : Square) → IsOnBoard s → Bytes 1 (file_letter s.file ∷ [])
+file_bytes s on =
+    record {
+      all = and_from (is_move_byte (file_letter s.file)) true
+          (letter_passes (file_letter s.file) (file_is_letter s.file on.file)) refl;
+      fits = omega arith;
+    }
+
+rank_bytes : (s : Square) → IsOnBoard s → Bytes 1 (rank_digit s.rank ∷ [])
+rank_bytes s on =
+    record {
+      all = and_from (is_move_byte (rank_digit s.rank)) true
+          (digit_passes (rank_digit s.rank) (rank_is_digit s.rank on.rank)) refl;
+      fits = omega arith;
+    }
+
+square_bytes : (s : Square) → IsOnBoard s → Bytes 2 (square_text s)
+square_bytes s on =
+    bytes_append 1 1 (file_letter s.file ∷ []) (rank_digit s.rank ∷ []) (file_bytes s on)
+    (rank_bytes s on)
+
+more : (m n : ℕ) (s : List ℕ) → m ≤ n → Bytes m s → Bytes n s
+more m n s less h = record { all = h.all; fits = omega (arith, h.fits) }
+
+-- the parts of a text
+apart_bytes : (s : Square) (any file rank : Bool) → IsOnBoard s → Bytes 2 (disambiguation_by s any file rank)
+apart_bytes s false file rank on = record { all = refl; fits = omega arith }
+apart_bytes s true false rank on = more 1 2 _ (omega arith) (file_bytes s on)
+apart_bytes s true true false on = more 1 2 _ (omega arith) (rank_bytes s on)
+apart_bytes s true true true on = square_bytes s on
+
+capture_bytes : (takes : Bool) → Bytes 1 (capture_if takes)
+capture_bytes true = record { all = refl; fits = omega arith }
+capture_bytes false = record { all = refl; fits = omega arith }
+
+promotion_bytes : (q : Option Promotion) → Bytes 2 (promotion_text q)
+promotion_bytes None = record { all = refl; fits = omega arith }
+promotion_bytes (Some become.Queen) = record { all = refl; fits = omega arith }
+promotion_bytes (Some become.Rook) = record { all = refl; fits = omega arith }
+promotion_bytes (Some become.Bishop) = record { all = refl; fits = omega arith }
+promotion_bytes (Some become.Knight) = record { all = refl; fits = omega arith }
+
+mark_bytes : (o : Option Parts) → Bytes 1 (mark o)
+mark_bytes None = record { all = refl; fits = omega arith }
+mark_bytes (Some q) = by_tests (is_mate q) (is_check q)
+  where
+    by_tests : (a b : Bool) → Bytes 1 (if a then codes "#" else if b then codes "+" else [])
+    by_tests true b = record { all = refl; fits = omega arith }
+    by_tests false true = record { all = refl; fits = omega arith }
+    by_tests false false = record { all = refl; fits = omega arith }
+
+letter_is_letter : (k : Kind) → is_letter (letter k) ≡ true
+letter_is_letter King = refl
+letter_is_letter Queen = refl
+letter_is_letter Rook = refl
+letter_is_letter Bishop = refl
+letter_is_letter Knight = refl
+letter_is_letter Pawn = refl
+
+letter_bytes : (k : Kind) → Bytes 1 (letter k ∷ [])
+letter_bytes k =
+    record {
+      all = and_from (is_move_byte (letter k)) true
+          (letter_passes (letter k) (letter_is_letter k)) refl;
+      fits = omega arith;
+    }
+
+-- the text without its mark
+record Unmarked (s : List ℕ) : Type 0 where
+  begins : begins_with_letter s ≡ true
+  bytes : Bytes 6 s
+
+-- of a queen, a rook, a bishop or a knight
+piece_symbol : (k : Kind) (p : Parts) (m : Move) → IsOnBoard m.from → IsOnBoard m.to
+    → Unmarked (officer_text k p m)
+piece_symbol k p m from to =
+    let others = rivals p k m in
+    let any : Bool = list_any (λ r. true) others in
+    let apart = apart_bytes m.from any (on_file m.from others) (on_rank m.from others) from in
+    let front =
+    bytes_append 1 2 (letter k ∷ []) (disambiguation m.from others) (letter_bytes k) apart in
+    let taking =
+    bytes_append 3 1 _ (capture_text p m) front (capture_bytes (is_capture p m)) in
+    record {
+      begins = letter_is_letter k;
+      bytes = bytes_append 4 2 _ (square_text m.to) taking (square_bytes m.to to);
+    }
+
+king_symbol : (p : Parts) (m : Move) → IsOnBoard m.to → Unmarked (king_text p m)
+king_symbol p m to = by_wing (castles_short p m) (castles_long p m)
+  where
+    plain : Unmarked (codes "K" ++ capture_text p m ++ square_text m.to)
+    plain =
+        let front =
+        bytes_append 1 1 (codes "K") (capture_text p m) (letter_bytes King)
+        (capture_bytes (is_capture p m)) in
+        let whole = bytes_append 2 2 _ (square_text m.to) front (square_bytes m.to to) in
+        record { begins = refl; bytes = more 4 6 _ (omega arith) whole }
+
+    by_wing : (a b : Bool) → Unmarked (if a then castling_text false
+        else if b then castling_text true else codes "K" ++ capture_text p m ++ square_text m.to)
+    by_wing true b = record { begins = refl; bytes = record { all = refl; fits = omega arith } }
+    by_wing false true =
+        record { begins = refl; bytes = record { all = refl; fits = omega arith } }
+    by_wing false false = plain
+
+pawn_symbol : (takes : Bool) (m : Move) → IsOnBoard m.from → IsOnBoard m.to
+    → Unmarked (pawn_capture takes m ++ square_text m.to ++ promotion_text m.promotion)
+pawn_symbol true m from to =
+    let taking : Bytes 2 (file_letter m.from.file ∷ codes "x") =
+    bytes_append 1 1 (file_letter m.from.file ∷ []) (codes "x") (file_bytes m.from from)
+    (record { all = refl; fits = omega arith }) in
+    let front = bytes_append 2 2 _ (square_text m.to) taking (square_bytes m.to to) in
+    record {
+      begins = file_is_letter m.from.file from.file;
+      bytes =
+          bytes_append 4 2 _ (promotion_text m.promotion) front (promotion_bytes m.promotion);
+    }
+pawn_symbol false m from to =
+    let whole =
+    bytes_append 2 2 (square_text m.to) (promotion_text m.promotion) (square_bytes m.to to)
+    (promotion_bytes m.promotion) in
+    record {
+      begins = file_is_letter m.to.file to.file;
+      bytes = more 4 6 _ (omega arith) whole;
+    }
+
+kind_symbol : (k : Kind) (p : Parts) (m : Move) → IsOnBoard m.from → IsOnBoard m.to
+    → Unmarked (kind_text k p m)
+kind_symbol King p m from to = king_symbol p m to
+kind_symbol Queen p m from to = piece_symbol Queen p m from to
+kind_symbol Rook p m from to = piece_symbol Rook p m from to
+kind_symbol Bishop p m from to = piece_symbol Bishop p m from to
+kind_symbol Knight p m from to = piece_symbol Knight p m from to
+kind_symbol Pawn p m from to = pawn_symbol (is_capture p m) m from to
+
+-- What begins with a letter is no number and no marker.
+and_last_false : (a b : Bool) → b ≡ false → (a && b) ≡ false
+and_last_false true b e = e
+and_last_false false b e = refl
+
+and_first_false : (a b : Bool) → a ≡ false → (a && b) ≡ false
+and_first_false true b e = absurd (false≢true (sym e))
+and_first_false false b e = refl
+
+letter_is_no_digit : (c : ℕ) → is_letter c ≡ true → is_digit c ≡ false
+letter_is_no_digit c e = and_last_false (nat_le 48 c) (nat_le c 57) (lt-leb c 57 high)
+  where
+    high : 57 < c
+    high =
+        elim (or_cases (nat_le 65 c && nat_le c 90) (nat_le 97 c && nat_le c 122) e) [
+          | inl capital ↦
+              omega (arith, leb-true 65 c (and_parts (nat_le 65 c) (nat_le c 90) capital).0)
+          | inr small ↦
+              omega (arith, leb-true 97 c (and_parts (nat_le 97 c) (nat_le c 122) small).0)
+        ]
+
+no_number : (s : List ℕ) → begins_with_letter s ≡ true → list_all is_digit s ≡ false
+no_number [] e = absurd (false≢true e)
+no_number (c ∷ s) e = and_first_false (is_digit c) (list_all is_digit s) (letter_is_no_digit c e)
+
+other_text : (s t : List ℕ) → begins_with_letter s ≡ true → begins_with_letter t ≡ false
+    → bytes_eq s t ≡ false
+other_text s t e other = by_test (bytes_eq s t) refl
+  where
+    by_test : (b : Bool) → bytes_eq s t ≡ b → bytes_eq s t ≡ false
+    by_test false same = same
+    by_test true same =
+        let begins = ap begins_with_letter ((bytes_eq-Decides s t).0 same) in
+        absurd (false≢true (sym other ∙ sym begins ∙ e))
+
+or_false : (a b : Bool) → a ≡ false → b ≡ false → (a || b) ≡ false
+or_false true b e g = absurd (false≢true (sym e))
+or_false false b e g = g
+
+no_marker : (s : List ℕ) → begins_with_letter s ≡ true → is_marker s ≡ false
+no_marker s e =
+    let win = other_text s (codes "1-0") e refl in
+    let loss = other_text s (codes "0-1") e refl in
+    let draw = other_text s (codes "1/2-1/2") e refl in
+    let unknown = other_text s (codes "*") e refl in
+    or_false
+    (bytes_eq s (codes "1-0") || bytes_eq s (codes "0-1") || bytes_eq s (codes "1/2-1/2"))
+    (bytes_eq s (codes "*"))
+    (or_false (bytes_eq s (codes "1-0") || bytes_eq s (codes "0-1"))
+    (bytes_eq s (codes "1/2-1/2"))
+    (or_false (bytes_eq s (codes "1-0")) (bytes_eq s (codes "0-1")) win loss) draw) unknown
+
+-- with the mark
+begins_append : (s t : List ℕ) → begins_with_letter s ≡ true → begins_with_letter (s ++ t) ≡ true
+begins_append [] t e = absurd (false≢true e)
+begins_append (c ∷ s) t e = e
+
+marked : (s t : List ℕ) → Unmarked s → Bytes 1 t → IsMoveSymbol (s ++ t)
+marked s t h last =
+    let begins = begins_append s t h.begins in
+    let bytes = bytes_append 6 1 s t h.bytes last in
+    record {
+      begins = begins;
+      bytes = bytes.all;
+      fits = bytes.fits;
+      no_number = no_number (s ++ t) begins;
+      no_marker = no_marker (s ++ t) begins;
+    }
+
+pub written_move_is_symbol : WrittenMoveIsSymbol
+written_move_is_symbol p m h =
+    let v : Moved p m = moved p m h in
+    let on = and_parts (on_board m.from) (on_board m.to) (stepped p m h).on in
+    let text : Unmarked (kind_text v.piece.kind p m) =
+    kind_symbol v.piece.kind p m (on_board_of m.from on.0) (on_board_of m.to on.1) in
+    subst IsMoveSymbol
+    (sym (ap (λ (o : Option Piece). piece_text o p m ++ mark (legal p m)) v.there))
+    (marked (kind_text v.piece.kind p m) (mark (legal p m)) text (mark_bytes (legal p m)))
+
+-- It is read as the move.
+pub written_move_is_read : OneKing → WrittenMoveIsRead
+written_move_is_read one p q m position next =
+    let legal_here : is_legal p m ≡ true = ap (λ o. is_some o) next in
+    let names = single one p m position legal_here in
+    let form = names.0.0 in
+    let read = form_read (san p m) form names.0.1 names.0.2 in
+    ap (option_map (reads p)) read
+    ∙ ap (λ r. Some r) ((reads_the_one p form (record { mv = m; next = q })).1
+    (names.0.3, next, λ n agreed. names.1 n (form, names.0.1, names.0.2, agreed)))

@@ -1,0 +1,13 @@
+-- FEN: reading and writing positions.
+pub mod BoardToText
+pub mod BytesOfRank
+pub mod CanonicalIsShortest
+pub mod CanonicalSpells
+pub mod FenLaws
+pub mod FieldsOfText
+pub mod RankToText
+pub mod RanksOfText
+pub mod ReadingToSpelling
+pub mod SixFieldsJoined
+pub mod SpellingToReading
+pub mod TextToBoard

@@ -1,0 +1,53 @@
+-- The canonical text of a board, rank by rank.
+use Rattle.std.proofs.Common.{◌≡◌, ℕ, zero, suc, ◌+◌, ◌-◌, ◌*◌, ◌<◌, ◌≤◌, List, [], ◌∷◌, ◌++◌, length, append_assoc, append-nil, sym, ◌∙◌, ap, arith, length-append}
+use Rattle.chess_rules.specs.Board.{Board}
+use Rattle.chess_text.proofs.positions.RankToText.{length-rank_text}
+use Rattle.chess_text.specs.Placement.{rank_text, row, placement_text}
+
+-- the n lowest ranks from the upper one on, each after a slash
+abbrev pub lower : Board → ℕ → List ℕ
+lower b zero = []
+lower b (suc n) = 47 ∷ (rank_text 0 (row b n) ++ lower b n)
+
+-- what is written of a board when the ranks from 8 to 8 - i are
+pub record WrittenTo (b : Board) (text : List ℕ) (i : ℕ) : Type 0 where
+  pub whole : text ++ lower b (7 - i) ≡ placement_text b
+  pub short : length text ≤ 9 * i + 8
+
+ends : (b : Board) → rank_text 0 (row b 7) ++ lower b 7 ≡ placement_text b
+ends b =
+    ap (λ t. rank_text 0 (row b 7) ++ 47 ∷ (rank_text 0 (row b 6) ++ 47 ∷ (rank_text 0 (row b 5) ++ 47 ∷ (rank_text 0 (row b 4) ++ 47 ∷ (rank_text 0 (row b 3) ++ 47 ∷ (rank_text 0 (row b 2) ++ 47 ∷ (rank_text 0 (row b 1) ++ 47 ∷ t)))))))
+    (append-nil (rank_text 0 (row b 0)))
+
+length-lower : (b : Board) (n : ℕ) → length (lower b n) ≤ 9 * n
+length-lower b zero = omega arith
+length-lower b (suc n) =
+    let row_low : length (rank_text 0 (row b n)) ≤ 8 = length-rank_text 0 (row b n) in
+    omega (arith, length-append (rank_text 0 (row b n)) (lower b n), row_low, length-lower b n)
+
+pub length-placement_text : (b : Board) → length (placement_text b) ≤ 71
+length-placement_text b =
+    let row_low : length (rank_text 0 (row b 7)) ≤ 8 = length-rank_text 0 (row b 7) in
+    omega (arith, ap (λ t. length t) (ends b), length-append (rank_text 0 (row b 7)) (lower b 7), row_low, length-lower b 7)
+
+pub first_rank : (b : Board) (text : List ℕ) → text ≡ rank_text 0 (row b 7) → length text ≤ 8 → WrittenTo b text 0
+first_rank b text e h = record { whole = ap (λ t. t ++ lower b 7) e ∙ ends b; short = omega (arith, h) }
+
+pub next_rank : (b : Board) (text rank : List ℕ) (i : ℕ) → WrittenTo b text i → i < 7 → rank ≡ rank_text 0 (row b (6 - i)) → length rank ≤ 8
+    → WrittenTo b ((text ++ 47 ∷ []) ++ rank) (i + 1)
+next_rank b text rank i so_far h e low =
+    record {
+      whole =
+          append_assoc (text ++ 47 ∷ []) rank (lower b (7 - (i + 1))) ∙ append_assoc text (47 ∷ []) (rank ++ lower b (7 - (i + 1)))
+          ∙ ap (λ t. text ++ t) (sym (down e)) ∙ so_far.whole;
+      short = omega (arith, so_far.short, low, length-append (text ++ 47 ∷ []) rank, length-append text (47 ∷ []));
+    }
+  where
+    down : rank ≡ rank_text 0 (row b (6 - i)) → lower b (7 - i) ≡ 47 ∷ (rank ++ lower b (7 - (i + 1)))
+    down e =
+        let one_less : 7 - i ≡ suc (6 - i) = omega (arith, h) in let same : 6 - i ≡ 7 - (i + 1) = omega (arith, h) in
+        ap (λ n. lower b n) one_less ∙ ap (λ t. 47 ∷ (t ++ lower b (6 - i))) (sym e) ∙ ap (λ n. 47 ∷ (rank ++ lower b n)) same
+
+pub last_rank_written : (b : Board) (text : List ℕ) (i : ℕ) → WrittenTo b text i → 7 ≤ i → text ≡ placement_text b
+last_rank_written b text i so_far h =
+    let none : 7 - i ≡ 0 = omega (arith, h) in sym (append-nil text) ∙ ap (λ n. text ++ lower b n) (sym none) ∙ so_far.whole

@@ -1,0 +1,100 @@
+-- The six fields of the canonical text, one after another, and how long they are.
+use Rattle.std.proofs.Common.{◌≡◌, ℕ, ◌≤◌, Bool, true, false, List, [], ◌∷◌, ◌++◌, length, append_assoc, refl, ◌∙◌, ap, arith, length-append}
+use Rattle.std.specs.Prelude.{Option, None, Some, decimal}
+use Rattle.std.specs.List.{join_with_byte}
+use Rattle.std.proofs.lemmas.Fmt.{length-decimal-le}
+use Rattle.chess_rules.specs.declared.piece.Colour.{Colour}
+use Rattle.chess_rules.specs.declared.piece.Colour.TheVariants.{White, Black}
+use Rattle.chess_rules.specs.declared.position.Rights.{Rights}
+use Rattle.chess_rules.specs.declared.position.Parts.{Parts}
+use Rattle.chess_rules.specs.Square.{Square}
+use Rattle.chess_text.specs.Placement.{placement_text}
+use Rattle.chess_text.specs.Field.{side_text, rights_text, or_dash, right_letter, target_text}
+use Rattle.chess_text.specs.Fen.{fen_text}
+use Rattle.chess_text.proofs.positions.BoardToText.{length-placement_text}
+
+length-side_text : (c : Colour) → length (side_text c) ≡ 1
+length-side_text White = refl
+length-side_text Black = refl
+
+length-target_text : (t : Option Square) → length (target_text t) ≤ 2
+length-target_text None = omega arith
+length-target_text (Some t) = omega arith
+
+length-held : (b : Bool) (c : ℕ) → length (right_letter b c) ≤ 1
+length-held true c = omega arith
+length-held false c = omega arith
+
+length-or_dash : (s : List ℕ) → length s ≤ 4 → length (or_dash s) ≤ 4
+length-or_dash [] h = omega arith
+length-or_dash (c ∷ s) h = h
+
+length-rights_text : (r : Rights) → length (rights_text r) ≤ 4
+length-rights_text r =
+    length-or_dash (right_letter r.white_short 75 ++ right_letter r.white_long 81 ++ right_letter r.black_short 107 ++ right_letter r.black_long 113)
+    (omega (
+      arith,
+      length-append (right_letter r.white_short 75 ++ right_letter r.white_long 81 ++ right_letter r.black_short 107) (right_letter r.black_long 113),
+      length-append (right_letter r.white_short 75 ++ right_letter r.white_long 81) (right_letter r.black_short 107),
+      length-append (right_letter r.white_short 75) (right_letter r.white_long 81),
+      length-held r.white_short 75,
+      length-held r.white_long 81,
+      length-held r.black_short 107,
+      length-held r.black_long 113,
+    ))
+
+pub length-number : (n : ℕ) → n ≤ 99999 → length (decimal n) ≤ 5
+length-number n h = length-decimal-le 5 n (omega arith) (omega (arith, h)) (omega (arith, h))
+
+-- what is written when all fields but the last are
+pub record FiveWritten (p : Parts) (text : List ℕ) : Type 0 where
+  pub whole : text ≡ placement_text p.board ++ 32 ∷ side_text p.side ++ 32 ∷ rights_text p.rights ++ 32 ∷ target_text p.target ++ 32 ∷ decimal p.half
+
+-- field after field
+pub five_written : (p : Parts) (board side rights target half : List ℕ)
+    → board ≡ placement_text p.board → side ≡ board ++ 32 ∷ side_text p.side → rights ≡ side ++ 32 ∷ rights_text p.rights
+    → target ≡ rights ++ 32 ∷ target_text p.target → half ≡ target ++ 32 ∷ decimal p.half → FiveWritten p half
+five_written p board side rights target half e f g h i =
+    record {
+      whole =
+          i ∙ ap (λ t. t ++ 32 ∷ decimal p.half)
+          (h ∙ ap (λ t. t ++ 32 ∷ target_text p.target)
+          (g ∙ ap (λ t. t ++ 32 ∷ rights_text p.rights) (f ∙ ap (λ t. t ++ 32 ∷ side_text p.side) e)));
+    }
+
+pub length-five : (p : Parts) (text : List ℕ) → FiveWritten p text → p.half ≤ 99999 → length text ≤ 87
+length-five p text five h =
+    omega (
+      arith,
+      ap (λ t. length t) five.whole,
+      length-append (placement_text p.board ++ 32 ∷ side_text p.side ++ 32 ∷ rights_text p.rights ++ 32 ∷ target_text p.target) (32 ∷ decimal p.half),
+      length-append (placement_text p.board ++ 32 ∷ side_text p.side ++ 32 ∷ rights_text p.rights) (32 ∷ target_text p.target),
+      length-append (placement_text p.board ++ 32 ∷ side_text p.side) (32 ∷ rights_text p.rights),
+      length-append (placement_text p.board) (32 ∷ side_text p.side),
+      length-placement_text p.board,
+      length-side_text p.side,
+      length-rights_text p.rights,
+      length-target_text p.target,
+      length-number p.half h,
+    )
+
+six_joined : (a b c d e f : List ℕ) → a ++ 32 ∷ b ++ 32 ∷ c ++ 32 ∷ d ++ 32 ∷ e ++ 32 ∷ f ≡ join_with_byte 32 (a ∷ b ∷ c ∷ d ∷ e ∷ f ∷ [])
+six_joined a b c d e f =
+    append_assoc (a ++ 32 ∷ b ++ 32 ∷ c ++ 32 ∷ d) (32 ∷ e) (32 ∷ f)
+    ∙ append_assoc (a ++ 32 ∷ b ++ 32 ∷ c) (32 ∷ d) (32 ∷ (e ++ 32 ∷ f))
+    ∙ append_assoc (a ++ 32 ∷ b) (32 ∷ c) (32 ∷ (d ++ 32 ∷ (e ++ 32 ∷ f)))
+    ∙ append_assoc a (32 ∷ b) (32 ∷ (c ++ 32 ∷ (d ++ 32 ∷ (e ++ 32 ∷ f))))
+
+pub six_written : (p : Parts) (text : List ℕ) → FiveWritten p text → text ++ 32 ∷ decimal p.full ≡ fen_text p
+six_written p text five =
+    ap (λ t. t ++ 32 ∷ decimal p.full) five.whole
+    ∙ six_joined (placement_text p.board) (side_text p.side) (rights_text p.rights) (target_text p.target) (decimal p.half) (decimal p.full)
+
+-- 71 bytes for the board, 1 for the side, 4 for the rights, 2 for the target, 5 for each number,
+-- and five spaces
+pub length-fen_text : (p : Parts) → p.half ≤ 99999 → p.full ≤ 99999 → length (fen_text p) ≤ 93
+length-fen_text p half full =
+    let five : FiveWritten p (placement_text p.board ++ 32 ∷ side_text p.side ++ 32 ∷ rights_text p.rights ++ 32 ∷ target_text p.target ++ 32 ∷ decimal p.half) =
+    record { whole = refl } in
+    let front : List ℕ = placement_text p.board ++ 32 ∷ side_text p.side ++ 32 ∷ rights_text p.rights ++ 32 ∷ target_text p.target ++ 32 ∷ decimal p.half in
+    omega (arith, ap (λ t. length t) (six_written p front five), length-append front (32 ∷ decimal p.full), length-five p front five half, length-number p.full full)

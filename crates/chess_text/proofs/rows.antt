@@ -1,0 +1,7 @@
+-- Worked rows.
+pub mod FenRows
+pub mod FormRows
+pub mod MoveSymbolRows
+pub mod ResolveRows
+pub mod SanRows
+pub mod TextLawRows

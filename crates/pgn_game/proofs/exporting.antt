@@ -1,0 +1,10 @@
+-- An export, read and written again.
+pub mod ExportAgain
+pub mod ExportToGames
+pub mod GameTextToGame
+pub mod MoveTextToMove
+pub mod MovetextOfMode
+pub mod MovetextToItems
+pub mod PairsExportedAgain
+pub mod PiecesToTokens
+pub mod SpelledToSound

@@ -1,0 +1,204 @@
+-- An export text is read as its games with their defaults filled in, so it is written again as it
+-- is.
+use Rattle.std.proofs.Common.{◌≡◌, ℕ, ◌+◌, ◌≤◌, ◌^◌, inl, inr, Bool, true, false, List, [], ◌∷◌, ◌++◌, length, map, refl, sym, ap, subst, ◌∙◌, arith, length-append, append-nil, Option, None, Some}
+use Rattle.std.specs.Prelude.{sum, IfSome, Ok, Err, filter, not, bytes_eq, codes}
+use Rattle.std.specs.Io.KnownBytes.{Appends, Consumes}
+use Rattle.std.proofs.lemmas.List.{length-map}
+use Rattle.std.proofs.lemmas.List.Sums.{length-filter, count_by-le-length}
+use Rattle.pgn_lexer.specs.Laws.{IsLast, RisesTo, TokensRise}
+use Rattle.pgn_lexer.specs.Tokens as tokens
+use Rattle.pgn_lexer.specs.Tokens.{Kind, Token}
+use Rattle.pgn_lexer.specs.TokensOf.{tokens_of}
+use Rattle.pgn_game.specs.declared.reason.Fault.{Fault}
+use Rattle.pgn_game.specs.declared.stage.Stage.TheVariants.{Between}
+use Rattle.pgn_game.specs.declared.conversion.Totals.{Totals}
+use Rattle.pgn_game.specs.Progress.{Progress, progress_after, Read, read_from, read, output, verdict, Counted, refused as is_refused, totals}
+use Rattle.pgn_game.specs.Converting.{FailsOn, Fails}
+use Rattle.pgn_game.specs.Converting as converting
+use Rattle.pgn_game.specs.FaultTable.{refusal, is_end}
+use Rattle.pgn_game.specs.Filled.{filled}
+use Rattle.pgn_game.specs.FixedPoint.{AreExportable, TextSpells, SameText, counted, IsWrittenAgain, SliceIsKept, SourceIsKept, FixedPoint, ExportIsKept, ExportIsKeptOfSource, games_in, IsExportable, ExportingTwice, SameOutput, FewPairsHaveRoom}
+use Rattle.pgn_game.specs.Game.{Game, Part}
+use Rattle.pgn_game.specs.Levels.{plies_of}
+use Rattle.pgn_game.specs.declared.mode.Mode.{Mode}
+use Rattle.pgn_game.specs.declared.mode.Mode.TheVariants.{Full, Reduced}
+use Rattle.pgn_game.specs.Pairs.{Pair, has_pair}
+use Rattle.pgn_game.specs.Profile.{Profile}
+use Rattle.pgn_game.specs.TagSection.{roster, in_roster, roster_pairs, with_set_up, other_pairs, exported}
+use Rattle.pgn_game.proofs.reading.PairsInTurn.{length-insert}
+use Rattle.pgn_game.proofs.pairs.ExportedValues.{set_up, set_up_if, without_set_up}
+use Rattle.pgn_game.specs.Spells.{Spells}
+use Rattle.pgn_game.specs.Text.{text_of}
+use Rattle.pgn_game.specs.UniqueReading.{UniqueReading}
+use Rattle.pgn_game.proofs.tokens.StepsAtEnd.{end_passes}
+use Rattle.pgn_game.proofs.putting.PairStepToReader.{no_torn}
+use Rattle.pgn_game.proofs.tokens.OneMoreToken.{first_passes, goes_on}
+use Rattle.pgn_game.proofs.tokens.WholeInput.{verdict_passes}
+
+-- Where all is read without a fault, reading ends between games.
+passing_last : (p : Profile) (part : Part) (k : Kind) → IsLast k → refusal p part k ≡ None → is_end k ≡ true
+unfolding refusal
+passing_last p part tokens.end last free = refl
+passing_last p part (tokens.refused r) last free = absurd (cc)
+passing_last p part _ last free = absurd last
+
+ends_between : (p : Profile) (b : Progress) (ts : List Token) → RisesTo ts → (read_from p b ts).fault ≡ None → (read_from p b ts).progress.part.stage ≡ Between
+ends_between p b [] rises e = absurd rises
+ends_between p b (t ∷ []) rises e =
+    let free = first_passes p b t [] e in
+    ap (λ (r : Read). r.progress.part.stage) (goes_on p b t [] free) ∙ end_passes p b t.kind (passing_last p b.part t.kind rises free) free
+ends_between p b (t ∷ u ∷ us) rises e =
+    let here = goes_on p b t (u ∷ us) (first_passes p b t (u ∷ us) e) in
+    ap (λ (r : Read). r.progress.part.stage) here ∙ ends_between p (progress_after b t) (u ∷ us) rises.2 (ap (λ (r : Read). r.fault) (sym here) ∙ e)
+
+module _ (unique : UniqueReading) (rise : TokensRise) where
+  -- a text that spells games is converted to theirs
+  pub output_is : (p : Profile) (s : List ℕ) (gs : List Game) → Spells p (tokens_of s) gs → output p s ≡ text_of p gs
+  output_is p s gs spelled =
+      let was_read = (unique p s gs).0 spelled in
+      let part = (read p (tokens_of s)).progress.part in
+      let none = no_torn p part Between (ends_between p _ (tokens_of s) (rise s) was_read.0) (λ e. absurd (cc)) in
+      ap (λ (xs : List ℕ). text_of p (read p (tokens_of s)).progress.games ++ xs) none ∙ append-nil (text_of p (read p (tokens_of s)).progress.games)
+      ∙ ap (text_of p) was_read.1
+
+  pub verdict_is : (p : Profile) (s : List ℕ) (gs : List Game) → Spells p (tokens_of s) gs → verdict p s ≡ totals (counted gs)
+  verdict_is p s gs spelled =
+      let was_read = (unique p s gs).0 spelled in
+      verdict_passes (read p (tokens_of s)) was_read.0 ∙ ap (λ xs. totals (counted xs)) was_read.1
+
+-- What a conversion of a text without a fault does.
+no_fault : (p : Profile) (s : List ℕ) (gs : List Game) (f : Fault) → verdict p s ≡ totals (counted gs) → verdict p s ≡ is_refused f → ⊥
+no_fault p s gs f e h = cc
+
+same_totals : (t : Totals) (gs : List Game) → totals (counted gs) ≡ totals (record { games = t.games; plies = t.plies })
+    → (t.games ≡ length gs) × (t.plies ≡ sum (map plies_of gs))
+same_totals t gs e =
+    let counts : counted gs ≡ record { games = t.games; plies = t.plies } = cc in
+    (sym (ap (λ (c : Counted). c.games) counts), sym (ap (λ (c : Counted). c.plies) counts))
+
+written_again : (p : Profile) (s : List ℕ) (gs : List Game) (t : Totals) (before after : Option (List ℕ)) → output p s ≡ text_of p gs → verdict p s ≡ totals (counted gs)
+    → converting.IsTotalled p s t before after → IsWrittenAgain p gs t before after
+written_again p s gs t before after out ver h =
+    let numbers = same_totals t gs (sym ver ∙ h.converted.0) in
+    (numbers.0, numbers.1, subst (Appends before after) out h.converted.1)
+
+slice_fails : (p : Profile) (s : List ℕ) (gs : List Game) (f : Fault) (before after : Option (List ℕ)) → verdict p s ≡ totals (counted gs) → length s ≤ 2 ^ 62
+    → FailsOn p s before after f → SliceIsKept p gs (Err f) before after
+slice_fails p s gs _ before after ver short (converting.FailsOn.refused f h) = absurd (no_fault p s gs f ver h.0)
+slice_fails p s gs _ before after ver short (converting.FailsOn.unwritten at stops) = refl
+slice_fails p s gs _ before after ver short (converting.FailsOn.too_long u rest e long some none) =
+    absurd (let sum = ap length e in omega (arith, length-append u rest))
+
+some_text : (o : Option (List ℕ)) (s : List ℕ) (P : List ℕ → Type 0) → o ≡ Some s → IfSome o P → P s
+some_text o s P e h = let Q : Option (List ℕ) → Type 0 = λ x. IfSome x P in subst Q e h
+
+consumed_fits : (o n : Option (List ℕ)) (s u : List ℕ) → o ≡ Some s → Consumes o n u → length u ≤ length s
+consumed_fits o n s u e h = by_rest n (let Q : Option (List ℕ) → Type 0 = λ x. Consumes x n u in subst Q e h)
+  where
+    by_rest : (m : Option (List ℕ)) → Consumes (Some s) m u → length u ≤ length s
+    by_rest None k = absurd k
+    by_rest (Some rest) k = let same = ap length k in omega (arith, length-append u rest)
+
+source_fails : (p : Profile) (s : List ℕ) (gs : List Game) (f : Fault) (left_old left_new before after : Option (List ℕ)) → verdict p s ≡ totals (counted gs) → length s ≤ 2 ^ 62
+    → left_old ≡ Some s → Fails p left_old left_new before after f → SourceIsKept p gs (Err f) before after
+source_fails p s gs _ left_old left_new before after ver short left (converting.Fails.refused f h) =
+    absurd (no_fault p s gs f ver (some_text left_old s (λ x. converting.IsConverted p x (is_refused f) before after) left h).0)
+source_fails p s gs _ left_old left_new before after ver short left (converting.Fails.unread u consumed none) = inl refl
+source_fails p s gs _ left_old left_new before after ver short left (converting.Fails.unwritten u at consumed stops) = inr refl
+source_fails p s gs _ left_old left_new before after ver short left (converting.Fails.too_long u rest consumed long some none) =
+    absurd (let fits = consumed_fits left_old left_new s (u ++ rest) left consumed in omega (arith, length-append u rest))
+
+-- The laws.
+module _ (unique : UniqueReading) (rise : TokensRise) (spells : TextSpells)
+    (again : (p : Profile) (gs : List Game) → AreExportable p gs → text_of p (map (filled p.mode) gs) ≡ text_of p gs)
+    (plies : (p : Profile) (gs : List Game) → AreExportable p gs → map plies_of (map (filled p.mode) gs) ≡ map plies_of gs) where
+  -- the games that the text spells are the only ones
+  pub same_text : SameText
+  same_text p gs hs h k = (
+    λ e.
+        let one = ((unique p (text_of p gs) (map (filled p.mode) gs)).0 (spells p gs h)).1 in
+        let other = ((unique p (text_of p hs) (map (filled p.mode) hs)).0 (spells p hs k)).1 in
+        sym one ∙ ap (λ s. (read p (tokens_of s)).progress.games) e ∙ other,
+    λ e. sym (again p gs h) ∙ ap (text_of p) e ∙ again p hs k,
+  )
+
+  counted_again : (p : Profile) (gs : List Game) → AreExportable p gs → counted (map (filled p.mode) gs) ≡ counted gs
+  counted_again p gs h =
+      ap (λ n. record { games = n; plies = sum (map plies_of (map (filled p.mode) gs)) }) (length-map gs (filled p.mode))
+      ∙ ap (λ ns. record { games = length gs; plies = sum ns }) (plies p gs h)
+
+  pub fixed_point : FixedPoint
+  fixed_point p gs h = (
+    output_is unique rise p (text_of p gs) (map (filled p.mode) gs) (spells p gs h) ∙ again p gs h,
+    verdict_is unique rise p (text_of p gs) (map (filled p.mode) gs) (spells p gs h) ∙ ap totals (counted_again p gs h),
+  )
+
+-- Converting an export text.
+pub slice_is_kept : FixedPoint → ExportIsKept
+slice_is_kept fixed p gs (Ok t) before after h short done =
+    let f = fixed p gs h in written_again p (text_of p gs) gs t before after f.0 f.1 done
+slice_is_kept fixed p gs (Err f) before after h short fails = slice_fails p (text_of p gs) gs f before after (fixed p gs h).1 short fails
+
+pub source_is_kept : FixedPoint → ExportIsKeptOfSource
+source_is_kept fixed p gs (Ok t) left_old left_new before after h short left done =
+    let f = fixed p gs h in
+    written_again p (text_of p gs) gs t before after f.0 f.1
+    (some_text left_old (text_of p gs) (λ s. converting.IsTotalled p s t before after) left done)
+source_is_kept fixed p gs (Err f) left_old left_new before after h short left fails =
+    source_fails p (text_of p gs) gs f left_old left_new before after (fixed p gs h).1 short left fails
+
+-- The same of inputs: each without a fault is the text of its games.
+module _ (unique : UniqueReading) (rise : TokensRise) where
+  spelled_in : (p : Profile) (s : List ℕ) → IsExportable p s → Spells p (tokens_of s) (games_in p s)
+  spelled_in p s h = (unique p s (games_in p s)).1 (h.no_fault, refl)
+
+  exportable : (p : Profile) (s : List ℕ) → IsExportable p s → AreExportable p (games_in p s)
+  exportable p s h = record { source = s; spelled = spelled_in p s h; room = h.room }
+
+  output_of : (p : Profile) (s : List ℕ) → IsExportable p s → output p s ≡ text_of p (games_in p s)
+  output_of p s h = output_is unique rise p s (games_in p s) (spelled_in p s h)
+
+  verdict_of_games : (p : Profile) (s : List ℕ) → IsExportable p s → verdict p s ≡ totals (counted (games_in p s))
+  verdict_of_games p s h = verdict_is unique rise p s (games_in p s) (spelled_in p s h)
+
+  pub exporting_twice : FixedPoint → ExportingTwice
+  exporting_twice fixed p s h =
+      let again = fixed p (games_in p s) (exportable p s h) in
+      let out = output_of p s h in
+      (ap (output p) out ∙ again.0 ∙ sym out, ap (verdict p) out ∙ again.1 ∙ sym (verdict_of_games p s h))
+
+  pub same_output : SameText → SameOutput
+  same_output same p s t h k =
+      let texts = same p (games_in p s) (games_in p t) (exportable p s h) (exportable p t k) in (
+        λ e. texts.0 (sym (output_of p s h) ∙ e ∙ output_of p t k),
+        λ e. output_of p s h ∙ texts.1 e ∙ sym (output_of p t k),
+      )
+
+-- Room for tag lines.
+filter_shortens : (f : Pair → Bool) (ps : List Pair) → length (filter f ps) ≤ length ps
+filter_shortens f ps = omega (arith, length-filter f ps, count_by-le-length f ps)
+
+one_set_up : (ps : List Pair) → length (with_set_up ps) ≤ length ps + 1
+one_set_up ps =
+    elim (has_pair ps (codes "FEN")) as (λ b. length (set_up_if b ps) ≤ length ps + 1) [
+      | true ↦
+          let more = length-insert set_up (without_set_up ps) in
+          let fewer = filter_shortens (λ p. not (bytes_eq p.name (codes "SetUp"))) ps in
+          omega arith
+      | false ↦ omega arith
+    ]
+
+seven_lines : (m : List ℕ) (ps : List Pair) → length (roster_pairs m ps) ≡ 7
+unfolding roster
+seven_lines m ps = refl
+
+exported_length : (mode : Mode) (m : List ℕ) (ps : List Pair) → length (exported mode m ps) ≤ length ps + 8
+exported_length Full m ps =
+    let seven = seven_lines m ps in
+    let others = filter_shortens (λ p. not (in_roster p.name)) (with_set_up ps) in
+    let one = one_set_up ps in
+    omega (arith, length-append (roster_pairs m ps) (other_pairs (with_set_up ps)))
+exported_length Reduced m ps = let seven = seven_lines m ps in omega arith
+
+pub few_pairs_have_room : FewPairsHaveRoom
+few_pairs_have_room p g few = let lines = exported_length p.mode g.marker g.pairs in omega arith

@@ -1,0 +1,192 @@
+-- The export text of games that some text spells: it spells them with their defaults filled in, and
+-- these have the same text.
+use Rattle.std.proofs.Common.{◌≡◌, ℕ, false, List, [], ◌∷◌, ◌++◌, length, map, refl, sym, ap, subst, ◌∙◌, append_assoc, append-nil, Some}
+use Rattle.std.specs.Prelude.{codes}
+use Rattle.std.proofs.ByRecursion.{All-append, All-map}
+use Rattle.std.specs.List.{AllByRecursion}
+use Rattle.chess_rules.specs.Laws.{LeavesPosition}
+use Rattle.chess_text.specs.Laws.{ReadsTheOne, ReadsFen}
+use Rattle.chess_text.specs.WrittenMove.{WrittenMoveIsSymbol, WrittenMoveIsRead}
+use Rattle.pgn_layout.specs.Laws.{LinesOfKeepTokens}
+use Rattle.pgn_layout.specs.Lines.{lines_of, text_of as text_of_lines}
+use Rattle.pgn_lexer.specs.Laws.{NumbersAreSymbols, KindsAreReadBack, TokensAreSound}
+use Rattle.pgn_lexer.specs.Sound.{IsSoundKind, CommentsClose}
+use Rattle.pgn_lexer.specs.Tokens as tokens
+use Rattle.pgn_lexer.specs.Tokens.{Kind}
+use Rattle.pgn_lexer.specs.TokensOf.{tokens_of}
+use Rattle.pgn_lexer.specs.Written.{written, AreEnded, IsReadable}
+use Rattle.pgn_game.specs.FaultTable.{marker_of}
+use Rattle.pgn_game.specs.Filled.{exported_pairs, filled}
+use Rattle.pgn_game.specs.FixedPoint.{HasRoom, AreExportable, TextSpells}
+use Rattle.pgn_game.specs.Game.{Game}
+use Rattle.pgn_game.specs.Levels.{start_of, plies_of}
+use Rattle.pgn_game.specs.Pairs.{value_of}
+use Rattle.pgn_game.specs.Profile.{Profile}
+use Rattle.pgn_game.specs.Spells.{by_name, SpellsText, new_level, IsResult, SpellsGame, SpellsGames, no_game, next_game}
+use Rattle.pgn_game.specs.TagSection.{tag_lines}
+use Rattle.pgn_game.specs.Text.{tokens_out, game_text, text_of}
+use Rattle.pgn_game.proofs.AllOfJoined.{all_front, all_behind}
+use Rattle.pgn_game.proofs.exporting.GameTextToGame.{ExportedPairs, exported_of, exported_result, given_result, some_exported, start_is_position}
+use Rattle.pgn_game.proofs.exporting.PairsExportedAgain.{exported_again, start_again, is_set_up_again, result_again, by_name_order}
+use Rattle.pgn_game.proofs.exporting.MovetextOfMode.{kept, KeptText, kept_text}
+use Rattle.pgn_game.proofs.exporting.PiecesToTokens.{IsWritable, AllShown, none_shown, next_shown, single, shown-append, PiecesOf, no_pieces, both_pieces, at_text, line_feed, line_pieces, tag_kinds, tag_pieces, tags_spell, tags_close}
+use Rattle.pgn_game.proofs.reading.RunsToEnd.{kinds}
+use Rattle.pgn_game.proofs.exporting.SpelledToSound.{SoundGame, sound_game, marker_opens, marker_closed, marker_written, marker_writable}
+
+-- The text of one game.
+pub record WrittenGame (p : Profile) (g : Game) : Type 0 where
+  pub kinds : List Kind
+  pub spells : SpellsGame p kinds (filled p.mode g)
+  pub pieces : PiecesOf kinds (game_text p g)
+  pub closes : (more : List Kind) → CommentsClose false more → CommentsClose false (kinds ++ more)
+  pub again : game_text p (filled p.mode g) ≡ game_text p g
+  pub plies : plies_of (filled p.mode g) ≡ plies_of g
+
+abbrev game_pairs : Profile → Game → List ℕ
+game_pairs p g = tag_lines (exported_pairs p.mode g)
+
+abbrev game_tokens : Profile → Game → List (List ℕ)
+game_tokens p g = tokens_out p.mode (start_of g.pairs) g.items ++ g.marker ∷ []
+
+marker_shown : (k : Kind) (marker : List ℕ) → marker_of k ≡ Some marker → AllShown (k ∷ []) (marker ∷ [])
+marker_shown k marker is = subst (λ t. AllShown (k ∷ []) (t ∷ [])) (marker_written k marker is) (next_shown (k ∷ []) [] (written k) [] (single k) none_shown)
+
+with_kinds : (ks ls : List Kind) (s : List ℕ) → ks ≡ ls → PiecesOf ks s → PiecesOf ls s
+with_kinds ks ls s e a = record { pieces = a.pieces; text = a.text; kinds = a.kinds ∙ e; sound = a.sound; ended = a.ended }
+
+with_feed : (ks : List Kind) (s : List ℕ) → PiecesOf ks s → PiecesOf ks (s ++ 10 ∷ [])
+with_feed ks s a = with_kinds (ks ++ []) ks (s ++ 10 ∷ []) (append-nil ks) (both_pieces ks [] s (10 ∷ []) a line_feed)
+
+-- the pieces of a tag section, of lines and of the empty line
+section_pieces : (tags text : List Kind) (a b : List ℕ) → PiecesOf tags a → PiecesOf text b → PiecesOf (tags ++ text) ((a ++ 10 ∷ []) ++ b ++ 10 ∷ [])
+section_pieces tags text a b h k =
+    with_feed (tags ++ text) ((a ++ 10 ∷ []) ++ b) (both_pieces tags text (a ++ 10 ∷ []) b (with_feed tags a h) k)
+
+module _ (one_read : ReadsTheOne) (leaves : LeavesPosition) (is_symbol : WrittenMoveIsSymbol) (is_read : WrittenMoveIsRead) (numbers : NumbersAreSymbols) (reads_fen : ReadsFen) (lines_keep : LinesOfKeepTokens) where
+  text_kept : (p : Profile) (g : Game) (h : SoundGame p g) → ExportedPairs p g → KeptText p.mode p (start_of g.pairs) h.text g.items
+  text_kept p g h e =
+      kept_text one_read leaves is_symbol is_read numbers p.mode p (start_of g.pairs) h.text g.items (start_is_position reads_fen p.mode g.pairs e.each) h.items h.sound_text
+
+  game_pieces : (p : Profile) (g : Game) (h : SoundGame p g) → ExportedPairs p g → (k : KeptText p.mode p (start_of g.pairs) h.text g.items)
+      → PiecesOf (tag_kinds (exported_pairs p.mode g) ++ (k.kinds ++ h.last ∷ [])) (game_text p g)
+  game_pieces p g h e k =
+      let lines = text_of_lines (lines_of (game_tokens p g)) in
+      let text = k.kinds ++ h.last ∷ [] in
+      at_text (tag_kinds (exported_pairs p.mode g) ++ text) ((game_pairs p g ++ 10 ∷ []) ++ lines ++ 10 ∷ [])
+      (game_text p g)
+      (ap (λ ps. (tag_lines ps ++ 10 ∷ []) ++ lines ++ 10 ∷ []) (sym (exported_result p.mode p.missing_result g.marker g.pairs h.result)))
+      (section_pieces (tag_kinds (exported_pairs p.mode g)) text (game_pairs p g) lines (tag_pieces (exported_pairs p.mode g) e.sound)
+      (line_pieces text (game_tokens p g) lines
+      (shown-append k.kinds (h.last ∷ []) (tokens_out p.mode (start_of g.pairs) g.items) (g.marker ∷ []) k.shown (marker_shown h.last g.marker h.marker))
+      (All-append IsWritable k.kinds _ k.writable (marker_writable h.last g.marker h.marker h.sound_marker, tt))
+      (lines_keep (game_tokens p g))))
+
+  result_meets : (p : Profile) (g : Game) → SoundGame p g → ExportedPairs p g
+      → IsResult p.missing_result (value_of (by_name (exported_pairs p.mode g)) (codes "Result")) g.marker
+  result_meets p g h e =
+      subst (λ o. IsResult p.missing_result o g.marker) (sym (result_again p.mode g.marker g.pairs (by_name (exported_pairs p.mode g)) e.same))
+      (given_result p.missing_result (value_of g.pairs (codes "Result")) g.marker h.result)
+
+  same_start : (p : Profile) (g : Game) → ExportedPairs p g → start_of (by_name (exported_pairs p.mode g)) ≡ start_of g.pairs
+  same_start p g e = start_again p.mode g.marker g.pairs (by_name (exported_pairs p.mode g)) e.each e.same
+
+  game_spells : (p : Profile) (g : Game) (h : SoundGame p g) → ExportedPairs p g → (k : KeptText p.mode p (start_of g.pairs) h.text g.items)
+      → SpellsGame p (tag_kinds (exported_pairs p.mode g) ++ (k.kinds ++ h.last ∷ [])) (filled p.mode g)
+  game_spells p g h e k = record {
+    before = [];
+    tags = tag_kinds (exported_pairs p.mode g);
+    text = k.kinds;
+    last = h.last;
+    given = exported_pairs p.mode g;
+    tokens = refl;
+    dropped = refl;
+    pairs = tags_spell (exported_pairs p.mode g);
+    keeps = e.keeps;
+    sorted = refl;
+    set_up = is_set_up_again p.mode g.marker g.pairs (by_name (exported_pairs p.mode g)) h.set_up e.same;
+    bare = λ none. absurd (some_exported p.mode g.marker g.pairs none);
+    items =
+        subst (λ first. SpellsText p first 0 (new_level []) k.kinds (kept p.mode (start_of g.pairs) g.items)) (sym (same_start p g e)) k.spells;
+    marker = h.marker;
+    result = result_meets p g h e;
+  }
+
+  game_closed : (p : Profile) (g : Game) (h : SoundGame p g) (k : KeptText p.mode p (start_of g.pairs) h.text g.items) (more : List Kind) → CommentsClose false more
+      → CommentsClose false ((tag_kinds (exported_pairs p.mode g) ++ (k.kinds ++ h.last ∷ [])) ++ more)
+  game_closed p g h k more closes =
+      simp append_assoc
+      (tags_close (exported_pairs p.mode g) (k.kinds ++ h.last ∷ more)
+      (k.closes (h.last ∷ h.later) (h.last ∷ more) (λ d c. marker_opens h.last g.marker d h.later more h.marker c closes)
+      (marker_closed h.last g.marker more h.marker closes) h.closes))
+
+  game_again : (p : Profile) (g : Game) (h : SoundGame p g) → ExportedPairs p g → KeptText p.mode p (start_of g.pairs) h.text g.items
+      → game_text p (filled p.mode g) ≡ game_text p g
+  game_again p g h e k =
+      let fs = by_name (exported_pairs p.mode g) in
+      let tags =
+      exported_result p.mode p.missing_result g.marker fs (result_meets p g h e)
+      ∙ exported_again p.mode g.marker g.pairs fs e.order (by_name_order p (exported_pairs p.mode g) e.keeps) e.same
+      ∙ sym (exported_result p.mode p.missing_result g.marker g.pairs h.result) in
+      let items = ap (λ first. tokens_out p.mode first (kept p.mode (start_of g.pairs) g.items)) (same_start p g e) ∙ k.again in
+      cc (tags, items)
+
+  written_game : (p : Profile) (g : Game) → SoundGame p g → HasRoom p g → WrittenGame p g
+  written_game p g h room =
+      let e = exported_of p g h room in
+      let k = text_kept p g h e in
+      record {
+        kinds = tag_kinds (exported_pairs p.mode g) ++ (k.kinds ++ h.last ∷ []);
+        spells = game_spells p g h e k;
+        pieces = game_pieces p g h e k;
+        closes = game_closed p g h k;
+        again = game_again p g h e k;
+        plies = ap length k.moves;
+      }
+
+  -- Games, one after another.
+  pub record WrittenGames (p : Profile) (gs : List Game) : Type 0 where
+    pub kinds : List Kind
+    pub spells : SpellsGames p (kinds ++ tokens.end ∷ []) (map (filled p.mode) gs)
+    pub pieces : PiecesOf kinds (text_of p gs)
+    pub closes : CommentsClose false kinds
+    pub again : text_of p (map (filled p.mode) gs) ≡ text_of p gs
+    pub plies : map plies_of (map (filled p.mode) gs) ≡ map plies_of gs
+
+  one_more_game : (p : Profile) (g : Game) (gs : List Game) → WrittenGame p g → WrittenGames p gs → WrittenGames p (g ∷ gs)
+  one_more_game p g gs a b = record {
+    kinds = a.kinds ++ b.kinds;
+    spells =
+        subst (λ ks. SpellsGames p ks (filled p.mode g ∷ map (filled p.mode) gs)) (sym (append_assoc a.kinds b.kinds (tokens.end ∷ [])))
+        (next_game a.kinds (b.kinds ++ tokens.end ∷ []) (filled p.mode g) (map (filled p.mode) gs) a.spells b.spells);
+    pieces = both_pieces a.kinds b.kinds (game_text p g) (text_of p gs) a.pieces b.pieces;
+    closes = a.closes b.kinds b.closes;
+    again = ap (λ s. s ++ text_of p (map (filled p.mode) gs)) a.again ∙ ap (λ s. game_text p g ++ s) b.again;
+    plies = ap (λ n. n ∷ map plies_of (map (filled p.mode) gs)) a.plies ∙ ap (λ ns. plies_of g ∷ ns) b.plies;
+  }
+
+  written_games : (p : Profile) (ks : List Kind) (gs : List Game) → SpellsGames p ks gs → AllByRecursion IsSoundKind ks → CommentsClose false ks
+      → AllByRecursion (HasRoom p) gs → WrittenGames p gs
+  written_games p _ _ (no_game ks are) sound closes room =
+      record { kinds = []; spells = no_game [] refl; pieces = no_pieces; closes = tt; again = refl; plies = refl }
+  written_games p _ _ (next_game ks ls g gs first rest) sound closes room =
+      let this = sound_game p ks ls g first (all_front IsSoundKind ks ls sound) closes in
+      one_more_game p g gs (written_game p g this.0 room.0) (written_games p ls gs rest (all_behind IsSoundKind ks ls sound) this.1 room.1)
+
+  module _ (sound : TokensAreSound) (read_back : KindsAreReadBack) where
+    pub exported_games : (p : Profile) (gs : List Game) → AreExportable p gs → WrittenGames p gs
+    exported_games p gs h =
+        let is = sound h.source in
+        written_games p (kinds (tokens_of h.source)) gs h.spelled (All-map IsSoundKind (λ t. t.kind) (tokens_of h.source) is.texts) is.comments h.room
+
+    pub text_spells : TextSpells
+    text_spells p gs h =
+        let w = exported_games p gs h in
+        let ps = w.pieces.pieces in
+        let readable : IsReadable ps =
+        record {
+          pieces = w.pieces.sound;
+          ended = subst AreEnded (append-nil ps) (w.pieces.ended [] tt);
+          comments = subst (CommentsClose false) (sym w.pieces.kinds) w.closes;
+        } in
+        let same = ap (λ s. kinds (tokens_of s)) (sym w.pieces.text) ∙ read_back ps readable ∙ ap (λ ks. ks ++ tokens.end ∷ []) w.pieces.kinds in
+        subst (λ ks. SpellsGames p ks (map (filled p.mode) gs)) (sym same) w.spells

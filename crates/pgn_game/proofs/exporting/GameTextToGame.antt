@@ -1,0 +1,133 @@
+-- The text of a game that sound tokens spelled: it spells the game with its defaults filled in, and
+-- that game has the same text.
+use Rattle.std.proofs.Common.{◌≡◌, ℕ, ◌≤◌, true, List, [], ◌∷◌, ◌++◌, length, refl, sym, ap, subst, arith, Option, None, Some}
+use Rattle.std.specs.Prelude.{codes, not, unwrap_or, IsTrue, Ok, Result}
+use Rattle.std.specs.List.{AllByRecursion, list_all}
+use Rattle.chess_rules.specs.declared.position.Parts.{Parts}
+use Rattle.chess_rules.specs.Position.{is_position}
+use Rattle.chess_rules.specs.Square.{squares}
+use Rattle.chess_text.specs.declared.fen.FenFault.{FenFault}
+use Rattle.chess_text.specs.Laws.{ReadsFen}
+use Rattle.pgn_lexer.specs.Bytes.{starts_symbol, continues_symbol}
+use Rattle.pgn_lexer.specs.Lexes.{is_barred}
+use Rattle.pgn_lexer.specs.Sound.{begins_with, IsSymbol, IsData}
+use Rattle.pgn_game.specs.declared.mode.Mode.{Mode}
+use Rattle.pgn_game.specs.declared.mode.Mode.TheVariants.{Full, Reduced}
+use Rattle.pgn_game.specs.Chess.{first_position, position_of}
+use Rattle.pgn_game.specs.FaultTable.{is_result, result_for}
+use Rattle.pgn_game.specs.Filled.{exported_pairs}
+use Rattle.pgn_game.specs.FixedPoint.{HasRoom}
+use Rattle.pgn_game.specs.Game.{Game}
+use Rattle.pgn_game.specs.Levels.{start_of, start_by, position_or_first}
+use Rattle.pgn_game.specs.Pairs.{Pair, value_of}
+use Rattle.pgn_game.specs.Profile.{Profile, Missing, counts_as, takes_the_marker}
+use Rattle.pgn_game.specs.Spells.{KeepsTags, IsPair, by_name, IsResult}
+use Rattle.pgn_game.specs.TagSection.{roster, roster_pairs, with_set_up, other_pairs, exported}
+use Rattle.pgn_game.proofs.reading.PairsInTurn.{all-all}
+use Rattle.pgn_game.proofs.pairs.ExportedValues.{set_up, on_roster, all-exported}
+use Rattle.pgn_game.proofs.exporting.PairsExportedAgain.{by_marker, keeps_exported, by_name_values, by_name_order}
+use Rattle.pgn_game.proofs.pairs.NameOrder.{InOrder}
+use Rattle.pgn_game.proofs.pairs.ValuesByName.{found}
+use Rattle.pgn_game.proofs.exporting.PiecesToTokens.{IsSoundPair}
+use Rattle.pgn_game.proofs.exporting.SpelledToSound.{SoundGame, marker_is_result}
+
+-- The Result that is exported where it is missing.
+same_result : (missing : Missing) (o : Option (List ℕ)) (m : List ℕ) → IsResult missing o m → unwrap_or o (result_for missing m) ≡ unwrap_or o m
+same_result takes_the_marker o m is = refl
+same_result (counts_as text) (Some v) m is = refl
+same_result (counts_as text) None m is = sym is
+
+roster_result : (r m : List ℕ) (ps : List Pair) → unwrap_or (value_of ps (codes "Result")) r ≡ unwrap_or (value_of ps (codes "Result")) m → roster_pairs r ps ≡ roster_pairs m ps
+unfolding roster
+roster_result r m ps e = cc
+
+pub exported_result : (mode : Mode) (missing : Missing) (m : List ℕ) (ps : List Pair) → IsResult missing (value_of ps (codes "Result")) m
+    → exported mode (result_for missing m) ps ≡ exported mode m ps
+exported_result Full missing m ps is =
+    ap (λ xs. xs ++ other_pairs (with_set_up ps)) (roster_result (result_for missing m) m ps (same_result missing (value_of ps (codes "Result")) m is))
+exported_result Reduced missing m ps is = roster_result (result_for missing m) m ps (same_result missing (value_of ps (codes "Result")) m is)
+
+pub given_result : (missing : Missing) (o : Option (List ℕ)) (m : List ℕ) → IsResult missing o m → m ≡ unwrap_or o m
+given_result missing (Some v) m is = is
+given_result missing None m is = refl
+
+-- Pairs that are exported are written as sound tokens.
+symbol_of : (text : List ℕ) → IsTrue (begins_with starts_symbol text) → IsTrue (list_all continues_symbol text) → length text ≤ 255 → IsSymbol text
+symbol_of text begins bytes fits = record { begins = begins; bytes = bytes; fits = fits }
+
+data_of : (text : List ℕ) → IsTrue (list_all (λ b. not (is_barred b)) text) → length text ≤ 255 → IsData text
+data_of text bytes fits = record { bytes = bytes; fits = fits }
+
+marker_data : (m : List ℕ) → is_result m ≡ true → IsData m
+marker_data m is =
+    by_marker IsData m is (data_of (codes "1-0") refl (omega arith)) (data_of (codes "0-1") refl (omega arith)) (data_of (codes "1/2-1/2") refl (omega arith))
+    (data_of (codes "*") refl (omega arith))
+
+unknown_pair : (name : List ℕ) → IsSymbol name → IsSoundPair (record { name = name; value = codes "?" })
+unknown_pair name is = record { name = is; value = data_of (codes "?") refl (omega arith) }
+
+sound_roster : (m : List ℕ) → is_result m ≡ true → AllByRecursion IsSoundPair (roster m)
+sound_roster m is =
+    on_roster IsSoundPair m (unknown_pair (codes "Event") (symbol_of (codes "Event") refl refl (omega arith)))
+    (unknown_pair (codes "Site") (symbol_of (codes "Site") refl refl (omega arith)))
+    (record {
+      name = symbol_of (codes "Date") refl refl (omega arith);
+      value = data_of (codes "????.??.??") refl (omega arith);
+    })
+    (unknown_pair (codes "Round") (symbol_of (codes "Round") refl refl (omega arith)))
+    (unknown_pair (codes "White") (symbol_of (codes "White") refl refl (omega arith)))
+    (unknown_pair (codes "Black") (symbol_of (codes "Black") refl refl (omega arith)))
+    (record { name = symbol_of (codes "Result") refl refl (omega arith); value = marker_data m is })
+
+sound_exported : (mode : Mode) (m : List ℕ) (ps : List Pair) → is_result m ≡ true → AllByRecursion IsSoundPair ps → AllByRecursion IsSoundPair (exported mode m ps)
+sound_exported mode m ps is h =
+    let one : IsSoundPair set_up =
+    record { name = symbol_of (codes "SetUp") refl refl (omega arith); value = data_of (codes "1") refl (omega arith) } in
+    all-exported IsSoundPair mode m ps one (sound_roster m is) h
+
+pub some_exported : (mode : Mode) (m : List ℕ) (ps : List Pair) → exported mode m ps ≡ [] → ⊥
+unfolding roster
+some_exported Full m ps e = cc
+some_exported Reduced m ps e = cc
+
+-- Where a game begins is a position.
+first_is_position : IsTrue (is_position first_position)
+unfolding first_position squares
+first_is_position = refl
+
+module _ (reads_fen : ReadsFen) where
+  fen_is_position : (text : List ℕ) (start : Parts) → position_of text ≡ Ok start → IsTrue (is_position start)
+  unfolding position_of
+  fen_is_position text start e = ((reads_fen text start).1 e).position
+
+  pub start_is_position : (mode : Mode) (ps : List Pair) → AllByRecursion (IsPair mode) ps → IsTrue (is_position (start_of ps))
+  start_is_position mode ps each = by_value (value_of ps (codes "FEN")) refl
+    where
+      by_value : (o : Option (List ℕ)) → value_of ps (codes "FEN") ≡ o → IsTrue (is_position (start_by o))
+      by_value None e = first_is_position
+      by_value (Some text) e =
+          let fen = (found (IsPair mode) ps (codes "FEN") text each e).fen refl in
+          subst (λ (r : Result Parts FenFault). IsTrue (is_position (position_or_first r))) (sym fen.2) (fen_is_position text fen.1 fen.2)
+
+-- What is known of the pairs.
+pub record ExportedPairs (p : Profile) (g : Game) : Type 0 where
+  pub keeps : KeepsTags p (exported_pairs p.mode g)
+  pub sound : AllByRecursion IsSoundPair (exported_pairs p.mode g)
+  pub order : InOrder g.pairs
+  pub each : AllByRecursion (IsPair p.mode) g.pairs
+  pub same : (n : List ℕ) → value_of (by_name (exported_pairs p.mode g)) n ≡ value_of (exported_pairs p.mode g) n
+
+pub exported_of : (p : Profile) (g : Game) → SoundGame p g → HasRoom p g → ExportedPairs p g
+exported_of p g h room =
+    let order = subst InOrder (sym h.sorted) (by_name_order p h.given h.keeps) in
+    let each = subst (AllByRecursion (IsPair p.mode)) (sym h.sorted) (all-all (IsPair p.mode) [] h.given tt h.keeps.each) in
+    let sound = subst (AllByRecursion IsSoundPair) (sym h.sorted) (all-all IsSoundPair [] h.given tt h.sound_pairs) in
+    let is = marker_is_result h.last g.marker h.marker in
+    let keeps = keeps_exported p g.marker g.pairs is order each room in
+    record {
+      keeps = keeps;
+      sound = sound_exported p.mode g.marker g.pairs is sound;
+      order = order;
+      each = each;
+      same = λ n. by_name_values p (exported_pairs p.mode g) n keeps;
+    }

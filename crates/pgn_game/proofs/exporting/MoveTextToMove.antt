@@ -1,0 +1,162 @@
+-- The text of a move that a game has: a symbol that names the same move again, after its number.
+use Rattle.std.proofs.Common.{◌≡◌, ℕ, ◌<◌, ◌≤◌, ◌^◌, Bool, true, false, List, [], ◌∷◌, ◌++◌, length, refl, sym, ap, subst, arith, Option, None, Some}
+use Rattle.std.specs.Prelude.{◌&&◌, ◌||◌, not, ◌==◌, nat_le, codes, decimal, bytes_eq, is_none, unwrap_or, IsTrue, IsFalse, Ok, if◌then◌else◌}
+use Rattle.std.specs.List.{AllByRecursion, list_all}
+use Rattle.std.proofs.lemmas.Bool.{false≢true, or_parts, and_parts, and_from, leb-true}
+use Rattle.chess_rules.specs.declared.piece.Colour.TheVariants.{White, Black}
+use Rattle.chess_rules.specs.declared.position.Move.{Move}
+use Rattle.chess_rules.specs.declared.position.Parts.{Parts}
+use Rattle.chess_rules.specs.declared.position.PositionFault.TheVariants.{Kings, PawnOnEdge, KingCapturable, TargetRank, NumberRange}
+use Rattle.chess_rules.specs.Attacks.{king_attacked}
+use Rattle.chess_rules.specs.Board.{other}
+use Rattle.chess_rules.specs.Laws.{LeavesPosition}
+use Rattle.chess_rules.specs.Position.{is_position, position_fault, one_king, pawn_on_edge, target_fits}
+use Rattle.chess_text.specs.declared.resolution.Played.{Played}
+use Rattle.chess_text.specs.Laws.{ReadsTheOne}
+use Rattle.chess_text.specs.WrittenMove.{is_letter, is_move_byte, begins_with_letter, IsMoveSymbol, WrittenMoveIsSymbol, WrittenMoveIsRead}
+use Rattle.pgn_lexer.specs.Bytes.{is_digit, starts_symbol, continues_symbol}
+use Rattle.pgn_lexer.specs.Laws.{NumbersAreSymbols}
+use Rattle.pgn_lexer.specs.Sound.{begins_with, IsSymbol, CommentsClose}
+use Rattle.pgn_lexer.specs.Tokens as tokens
+use Rattle.pgn_lexer.specs.Tokens.{Kind}
+use Rattle.pgn_game.specs.Chess.{move_of, text_of_move, play}
+use Rattle.pgn_game.specs.FaultTable.{is_number, is_score}
+use Rattle.pgn_game.specs.Game.{Item}
+use Rattle.pgn_game.specs.Levels.{Level, replayed, without_last}
+use Rattle.pgn_game.specs.Profile.{Profile}
+use Rattle.pgn_game.specs.Spells.{Names, SpellsText, token, number, period}
+use Rattle.pgn_game.specs.Text.{number_before}
+use Rattle.pgn_game.proofs.putting.PlayedMovesAreLegal.{named_is_legal}
+use Rattle.pgn_game.proofs.exporting.PiecesToTokens.{IsWritable, AllShown, next_shown, white, black}
+
+-- Positions: the fullmove number is at most 99,999.
+last_test : (a b c d e : Bool)
+    → is_none (if a then Some Kings else if b then Some PawnOnEdge else if c then Some KingCapturable else if d then Some TargetRank else if not e then Some NumberRange else None) ≡ true
+    → e ≡ true
+last_test a b c d true h = refl
+last_test false false false false false h = absurd (false≢true h)
+last_test _ _ _ _ false h = absurd (false≢true h)
+
+full_fits : (q : Parts) → IsTrue (is_position q) → q.full ≤ 99999
+full_fits q e =
+    let none = (and_parts (length q.board == 64) (is_none (position_fault q)) e).1 in
+    let numbers =
+    last_test (not (one_king q.board White && one_king q.board Black)) (pawn_on_edge q.board) (king_attacked q.board (other q.side)) (not (target_fits q.side q.target))
+    (nat_le q.half 99999 && nat_le q.full 99999) none in
+    leb-true q.full 99999 (and_parts (nat_le q.half 99999) (nat_le q.full 99999) numbers).1
+
+-- All positions that the moves of a trail lead through are positions.
+abbrev pub ArePositions : Parts → List Move → Type 0
+ArePositions first [] = IsTrue (is_position first)
+ArePositions first (m ∷ ms) = IsTrue (is_position (replayed first (m ∷ ms))) × ArePositions first ms
+
+pub last_position : (first : Parts) (trail : List Move) → ArePositions first trail → IsTrue (is_position (replayed first trail))
+last_position first [] h = h
+last_position first (m ∷ ms) h = h.0
+
+pub earlier_positions : (first : Parts) (trail : List Move) → ArePositions first trail → ArePositions first (without_last trail)
+earlier_positions first [] h = h
+earlier_positions first (m ∷ ms) h = h.1
+
+-- Bytes of a move's text.
+each_of : (f g : ℕ → Bool) (s : List ℕ) → ((c : ℕ) → f c ≡ true → g c ≡ true) → list_all f s ≡ true → list_all g s ≡ true
+each_of f g [] h e = refl
+each_of f g (c ∷ s) h e = let both = and_parts (f c) (list_all f s) e in and_from (g c) (list_all g s) (h c both.0) (each_of f g s h both.1)
+
+continues : (letter digit underscore plus hash equals colon hyphen slash : Bool)
+    → (letter || digit || plus || hash || equals || hyphen) ≡ true
+    → ((letter || digit) || underscore || plus || hash || equals || colon || hyphen || slash) ≡ true
+continues true d u p h e c m s i = refl
+continues false true u p h e c m s i = refl
+continues false false true p h e c m s i = refl
+continues false false false true h e c m s i = refl
+continues false false false false true e c m s i = refl
+continues false false false false false true c m s i = refl
+continues false false false false false false true m s i = refl
+continues false false false false false false false true s i = refl
+continues false false false false false false false false s i = absurd (false≢true i)
+
+move_byte : (c : ℕ) → is_move_byte c ≡ true → continues_symbol c ≡ true
+move_byte c = continues (is_letter c) (is_digit c) (c == 95) (c == 43) (c == 35) (c == 61) (c == 58) (c == 45) (c == 47)
+
+begins : (s : List ℕ) → IsTrue (begins_with_letter s) → IsTrue (begins_with starts_symbol s)
+begins [] e = absurd (false≢true e)
+begins (c ∷ s) e = ap (λ (b : Bool). b || is_digit c) e
+
+as_symbol : (s : List ℕ) → IsMoveSymbol s → IsSymbol s
+as_symbol s h = let fits = h.fits in record { begins = begins s h.begins; bytes = each_of is_move_byte continues_symbol s move_byte h.bytes; fits = omega arith }
+
+no_score : (s : List ℕ) → IsMoveSymbol s → IsFalse (is_score s)
+no_score s h = (or_parts (is_score s) (bytes_eq s (codes "*")) h.no_marker).0
+
+module _ (one_read : ReadsTheOne) (leaves : LeavesPosition) (is_symbol : WrittenMoveIsSymbol) (is_read : WrittenMoveIsRead) (numbers : NumbersAreSymbols) where
+  -- a move that is named leaves a position
+  pub plays_on : (first : Parts) (trail : List Move) (s : List ℕ) (x : Played) → Names (replayed first trail) s x → ArePositions first trail → ArePositions first (x.mv ∷ trail)
+  unfolding play
+  plays_on first trail s x names h =
+      let at = replayed first trail in
+      let is_legal = named_is_legal one_read at s x names.one in
+      let next : play at x.mv ≡ x.next = ap (λ o. unwrap_or o at) is_legal in
+      (subst (λ q. IsTrue (is_position q)) (sym next) (leaves at x.next x.mv (last_position first trail h) is_legal), h)
+
+  -- the text that is written for it
+  pub move_symbol : (at : Parts) (s : List ℕ) (x : Played) → Names at s x → IsMoveSymbol (text_of_move at x.mv)
+  unfolding text_of_move
+  move_symbol at s x names = is_symbol at x.mv (ap some_position (named_is_legal one_read at s x names.one))
+    where
+      some_position : Option Parts → Bool
+      some_position None = false
+      some_position (Some q) = true
+
+  pub writable_move : (at : Parts) (s : List ℕ) (x : Played) → Names at s x → IsWritable (tokens.symbol (text_of_move at x.mv))
+  writable_move at s x names = as_symbol (text_of_move at x.mv) (move_symbol at s x names)
+
+  reads_again : (at : Parts) (s : List ℕ) (x : Played) → IsTrue (is_position at) → Names at s x → move_of at (text_of_move at x.mv) ≡ Some (Ok x)
+  unfolding text_of_move move_of
+  reads_again at s x h names = is_read at x.next x.mv h (named_is_legal one_read at s x names.one)
+
+  pub names_again : (at : Parts) (s : List ℕ) (x : Played) → IsTrue (is_position at) → Names at s x → Names at (text_of_move at x.mv) x
+  names_again at s x h names =
+      let symbol = move_symbol at s x names in
+      record {
+        no_number = symbol.no_number;
+        no_marker = no_score (text_of_move at x.mv) symbol;
+        one = reads_again at s x h names;
+        within = names.within;
+      }
+
+  -- its number
+  number_is_symbol : (at : Parts) → IsTrue (is_position at) → IsSymbol (decimal at.full) × IsTrue (is_number (decimal at.full))
+  number_is_symbol at h = let fits = full_fits at h in let small : at.full < 2 ^ 64 = omega arith in numbers at.full small
+
+  abbrev pub number_kinds : Bool → Bool → ℕ → List Kind
+  number_kinds is_after_move false n = tokens.symbol (decimal n) ∷ tokens.period ∷ []
+  number_kinds false true n = tokens.symbol (decimal n) ∷ tokens.period ∷ tokens.period ∷ tokens.period ∷ []
+  number_kinds true true n = []
+
+  pub number_shown : (b is_black : Bool) (n : ℕ) (ks : List Kind) (ts : List (List ℕ)) → AllShown ks ts → AllShown (number_kinds b is_black n ++ ks) (number_before b is_black n ++ ts)
+  number_shown b false n ks ts h = next_shown (tokens.symbol (decimal n) ∷ tokens.period ∷ []) ks (decimal n ++ codes ".") ts (white n) h
+  number_shown false true n ks ts h =
+      next_shown (tokens.symbol (decimal n) ∷ tokens.period ∷ tokens.period ∷ tokens.period ∷ []) ks (decimal n ++ codes "...") ts (black n) h
+  number_shown true true n ks ts h = h
+
+  pub number_spells : (p : Profile) (first at : Parts) (deep : ℕ) (l : Level) (b is_black : Bool) (ks : List Kind) (items : List Item) → IsTrue (is_position at)
+      → SpellsText p first deep l ks items → SpellsText p first deep l (number_kinds b is_black at.full ++ ks) items
+  number_spells p first at deep l b false ks items h text =
+      token deep l (tokens.symbol (decimal at.full)) (tokens.period ∷ ks) [] items (number (decimal at.full) (number_is_symbol at h).1)
+      (token deep l tokens.period ks [] items period text)
+  number_spells p first at deep l false true ks items h text =
+      token deep l (tokens.symbol (decimal at.full)) (tokens.period ∷ tokens.period ∷ tokens.period ∷ ks) [] items (number (decimal at.full) (number_is_symbol at h).1)
+      (token deep l tokens.period (tokens.period ∷ tokens.period ∷ ks) [] items period
+      (token deep l tokens.period (tokens.period ∷ ks) [] items period (token deep l tokens.period ks [] items period text)))
+  number_spells p first at deep l true true ks items h text = text
+
+  pub number_writable : (at : Parts) (b is_black : Bool) → IsTrue (is_position at) → AllByRecursion IsWritable (number_kinds b is_black at.full)
+  number_writable at b false h = ((number_is_symbol at h).0, (tt, tt))
+  number_writable at false true h = ((number_is_symbol at h).0, (tt, (tt, (tt, tt))))
+  number_writable at true true h = tt
+
+  pub number_closes : (b is_black : Bool) (n : ℕ) (more : List Kind) → CommentsClose false more → CommentsClose false (number_kinds b is_black n ++ more)
+  number_closes b false n more h = h
+  number_closes false true n more h = h
+  number_closes true true n more h = h

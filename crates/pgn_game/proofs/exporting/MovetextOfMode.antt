@@ -1,0 +1,181 @@
+-- The movetext that is written, of all items or of the moves outside variations: it spells the
+-- items that are kept, and these are written in the same way again.
+use Rattle.std.proofs.Common.{◌≡◌, ℕ, suc, ◌+◌, Bool, true, false, cond, List, [], ◌∷◌, ◌++◌, length, map, refl, sym, ap, subst, ◌∙◌, arith}
+use Rattle.std.specs.Prelude.{◌==◌, filter, fold, IsTrue}
+use Rattle.std.specs.List.{AllByRecursion}
+use Rattle.std.proofs.lemmas.Bool.{ne_eqb}
+use Rattle.std.proofs.lemmas.List.Elements.{filter-append}
+use Rattle.std.proofs.lemmas.List.Sums.{fold-append}
+use Rattle.chess_rules.specs.declared.position.Parts.{Parts}
+use Rattle.chess_rules.specs.Laws.{LeavesPosition}
+use Rattle.chess_rules.specs.Position.{is_position}
+use Rattle.chess_text.specs.Laws.{ReadsTheOne}
+use Rattle.chess_text.specs.WrittenMove.{WrittenMoveIsSymbol, WrittenMoveIsRead}
+use Rattle.pgn_lexer.specs.Laws.{NumbersAreSymbols}
+use Rattle.pgn_lexer.specs.Sound.{IsSoundKind, CommentsClose}
+use Rattle.pgn_lexer.specs.Tokens as tokens
+use Rattle.pgn_lexer.specs.Tokens.{Kind}
+use Rattle.pgn_game.specs.declared.mode.Mode.{Mode}
+use Rattle.pgn_game.specs.declared.mode.Mode.TheVariants.{Full, Reduced}
+use Rattle.pgn_game.specs.Game as games
+use Rattle.pgn_game.specs.Game.{Item}
+use Rattle.pgn_game.specs.Levels.{Level, Levels, levels_after, first_level, back_to, depth, here, main_moves, outermost, without_last}
+use Rattle.pgn_game.specs.Profile.{Profile}
+use Rattle.pgn_game.specs.Spells.{SpellsText, no_more, token, move, variation, new_level, level_after_move}
+use Rattle.pgn_game.specs.Text.{Placed, placed_from, is_main_move, written_items, tokens_from, tokens_out}
+use Rattle.pgn_game.proofs.AllOfJoined.{all_behind}
+use Rattle.pgn_game.proofs.exporting.PiecesToTokens.{IsWritable, AllShown}
+use Rattle.pgn_game.proofs.exporting.MovetextToItems.{level_in, aside, around_again, close_at, placed_variation, rewritten}
+
+-- Inside variations no move is one outside them.
+inside : (n : ℕ) → (suc n == 0) ≡ false
+inside n = ne_eqb (suc n) 0 (λ e. absurd (omega arith))
+
+none_main : (p : Profile) (first : Parts) (deep : ℕ) (l : Level) (ks : List Kind) (items : List Item) → SpellsText p first deep l ks items → (m : Level) (around : List Level)
+    → filter is_main_move (placed_from first (level_in l (m ∷ around)) items) ≡ []
+none_main p first _ _ _ _ (no_more deep l) m around = refl
+none_main p first _ _ _ _ (token deep l k ks item items stands rest) m around =
+    (aside k item items first (level_in l (m ∷ around)) stands).1 ∙ none_main p first deep l ks items rest m around
+none_main p first _ _ _ _ (move deep l s x ks items names rest) m around =
+    let at = level_in l (m ∷ around) in
+    let this : Placed = record { position = here first at; depth = depth at; item = games.move x.mv } in
+    let others = filter is_main_move (placed_from first (level_in (level_after_move x.mv l.trail) (m ∷ around)) items) in
+    ap (λ v. cond v (this ∷ others) others) (inside (length around)) ∙ none_main p first deep (level_after_move x.mv l.trail) ks items rest m around
+none_main p first _ _ _ _ (variation deep l ks ls items more holds room inner rest) m around =
+    let at = level_in (new_level (without_last l.trail)) (l ∷ m ∷ around) in
+    let end = fold levels_after at items in
+    ap (filter is_main_move) (placed_variation p first deep l ks items more inner (m ∷ around))
+    ∙ filter-append is_main_move (placed_from first at items) (close_at first end ∷ placed_from first (level_in l (m ∷ around)) more)
+    ∙ ap (λ xs. xs ++ filter is_main_move (placed_from first (level_in l (m ∷ around)) more))
+    (none_main p first (deep + 1) (new_level (without_last l.trail)) ks items inner l (m ∷ around))
+    ∙ none_main p first deep l ls more rest m around
+
+-- The moves outside variations.
+abbrev placed_main : Parts → Level → List Item → List Placed
+placed_main first l items = filter is_main_move (placed_from first (level_in l []) items)
+
+abbrev main_items : Parts → Level → List Item → List Item
+main_items first l items = map (λ i. i.item) (placed_main first l items)
+
+-- a variation leaves none
+main_variation : (p : Profile) (first : Parts) (deep : ℕ) (l : Level) (ks : List Kind) (items more : List Item)
+    → SpellsText p first (deep + 1) (new_level (without_last l.trail)) ks items
+    → placed_main first l (games.open_variation ∷ (items ++ games.close_variation ∷ more)) ≡ placed_main first l more
+main_variation p first deep l ks items more inner =
+    let at = level_in (new_level (without_last l.trail)) (l ∷ []) in
+    let end = fold levels_after at items in
+    ap (filter is_main_move) (placed_variation p first deep l ks items more inner [])
+    ∙ filter-append is_main_move (placed_from first at items) (close_at first end ∷ placed_from first (level_in l []) more)
+    ∙ ap (λ xs. xs ++ placed_main first l more) (none_main p first (deep + 1) (new_level (without_last l.trail)) ks items inner l [])
+
+levels_variation : (p : Profile) (first : Parts) (deep : ℕ) (l : Level) (ks : List Kind) (items more : List Item)
+    → SpellsText p first (deep + 1) (new_level (without_last l.trail)) ks items
+    → fold levels_after (level_in l []) (games.open_variation ∷ (items ++ games.close_variation ∷ more)) ≡ fold levels_after (level_in l []) more
+levels_variation p first deep l ks items more inner =
+    let at = level_in (new_level (without_last l.trail)) (l ∷ []) in
+    fold-append levels_after at items (games.close_variation ∷ more)
+    ∙ ap (λ (x : List Level). fold levels_after (back_to x (fold levels_after at items)) more)
+    (around_again p first (deep + 1) (new_level (without_last l.trail)) ks items inner (l ∷ []))
+
+-- They are spelled by their symbols alone, lead to the same levels, and have the same places.
+record Main (p : Profile) (first : Parts) (deep : ℕ) (l : Level) (items : List Item) : Type 0 where
+  kinds : List Kind
+  spells : SpellsText p first deep l kinds (main_items first l items)
+  sound : AllByRecursion IsSoundKind kinds
+  closes : (more : List Kind) → CommentsClose false more → CommentsClose false (kinds ++ more)
+  placed : placed_from first (level_in l []) (main_items first l items) ≡ placed_main first l items
+  levels : fold levels_after (level_in l []) (main_items first l items) ≡ fold levels_after (level_in l []) items
+
+-- items that add no move outside variations, before others
+main_same : (p : Profile) (first : Parts) (deep : ℕ) (l : Level) (items more : List Item)
+    → placed_main first l items ≡ placed_main first l more
+    → fold levels_after (level_in l []) items ≡ fold levels_after (level_in l []) more → Main p first deep l more
+    → Main p first deep l items
+main_same p first deep l items more e same r = record {
+  kinds = r.kinds;
+  spells = subst (λ xs. SpellsText p first deep l r.kinds (map (λ i. i.item) xs)) (sym e) r.spells;
+  sound = r.sound;
+  closes = r.closes;
+  placed = ap (λ xs. placed_from first (level_in l []) (map (λ i. i.item) xs)) e ∙ r.placed ∙ sym e;
+  levels = ap (λ xs. fold levels_after (level_in l []) (map (λ i. i.item) xs)) e ∙ r.levels ∙ sym same;
+}
+
+main : (p : Profile) (first : Parts) (deep : ℕ) (l : Level) (ks : List Kind) (items : List Item) → SpellsText p first deep l ks items → AllByRecursion IsSoundKind ks
+    → Main p first deep l items
+main p first _ _ _ _ (no_more deep l) sound = record { kinds = []; spells = no_more deep l; sound = tt; closes = λ more h. h; placed = refl; levels = refl }
+main p first _ _ _ _ (token deep l k ks item items stands rest) sound =
+    let same = aside k item items first (level_in l []) stands in
+    main_same p first deep l (item ++ items) items same.1 same.0 (main p first deep l ks items rest sound.1)
+main p first _ _ _ _ (move deep l s x ks items names rest) sound =
+    let r = main p first deep (level_after_move x.mv l.trail) ks items rest sound.1 in
+    let this : Placed = record { position = here first (level_in l []); depth = 0; item = games.move x.mv } in
+    record {
+      kinds = tokens.symbol s ∷ r.kinds;
+      spells = move deep l s x r.kinds (main_items first (level_after_move x.mv l.trail) items) names r.spells;
+      sound = (sound.0, r.sound);
+      closes = r.closes;
+      placed = ap (λ xs. this ∷ xs) r.placed;
+      levels = r.levels;
+    }
+main p first _ _ _ _ (variation deep l ks ls items more holds room inner rest) sound =
+    main_same p first deep l (games.open_variation ∷ (items ++ games.close_variation ∷ more)) more
+    (main_variation p first deep l ks items more inner) (levels_variation p first deep l ks items more inner)
+    (main p first deep l ls more rest (all_behind IsSoundKind ks (tokens.right_paren ∷ ls) sound.1).1)
+
+-- What is kept of items, in either mode.
+abbrev pub kept : Mode → Parts → List Item → List Item
+kept mode first items = map (λ i. i.item) (written_items mode (placed_from first first_level items))
+
+all_kept : (first : Parts) (ls : Levels) (items : List Item) → map (λ i. i.item) (placed_from first ls items) ≡ items
+all_kept first ls [] = refl
+all_kept first ls (x ∷ xs) = ap (λ ys. x ∷ ys) (all_kept first (levels_after ls x) xs)
+
+kept_again : (x : Placed) (xs : List Placed) (b : Bool) → is_main_move x ≡ b → filter is_main_move (filter is_main_move xs) ≡ filter is_main_move xs
+    → filter is_main_move (cond b (x ∷ filter is_main_move xs) (filter is_main_move xs)) ≡ cond b (x ∷ filter is_main_move xs) (filter is_main_move xs)
+kept_again x xs true e rest = ap (λ v. cond v (x ∷ filter is_main_move (filter is_main_move xs)) (filter is_main_move (filter is_main_move xs))) e ∙ ap (λ ys. x ∷ ys) rest
+kept_again x xs false e rest = rest
+
+filter_again : (xs : List Placed) → filter is_main_move (filter is_main_move xs) ≡ filter is_main_move xs
+filter_again [] = refl
+filter_again (x ∷ xs) = kept_again x xs (is_main_move x) refl (filter_again xs)
+
+-- The text that is written spells what is kept, in the place of the text that was read.
+pub record KeptText (mode : Mode) (p : Profile) (first : Parts) (ks : List Kind) (items : List Item) : Type 0 where
+  pub kinds : List Kind
+  pub spells : SpellsText p first 0 (new_level []) kinds (kept mode first items)
+  pub shown : AllShown kinds (tokens_out mode first items)
+  pub writable : AllByRecursion IsWritable kinds
+  pub closes : (more then : List Kind) → ((d : Bool) → CommentsClose d more → CommentsClose d then) → CommentsClose false then → CommentsClose false (ks ++ more)
+      → CommentsClose false (kinds ++ then)
+  pub again : tokens_out mode first (kept mode first items) ≡ tokens_out mode first items
+  pub moves : main_moves (kept mode first items) ≡ main_moves items
+
+module _ (one_read : ReadsTheOne) (leaves : LeavesPosition) (is_symbol : WrittenMoveIsSymbol) (is_read : WrittenMoveIsRead) (numbers : NumbersAreSymbols) where
+  pub kept_text : (mode : Mode) (p : Profile) (first : Parts) (ks : List Kind) (items : List Item) → IsTrue (is_position first)
+      → SpellsText p first 0 (new_level []) ks items → AllByRecursion IsSoundKind ks → KeptText mode p first ks items
+  kept_text Full p first ks items start text sound =
+      let r = rewritten one_read leaves is_symbol is_read numbers p first 0 (new_level []) ks items text start sound [] false in
+      let same = all_kept first first_level items in
+      record {
+        kinds = r.kinds;
+        spells = subst (SpellsText p first 0 (new_level []) r.kinds) (sym same) r.spells;
+        shown = r.shown;
+        writable = r.writable;
+        closes = λ more then f h. r.closes false more then f;
+        again = ap (tokens_out Full first) same;
+        moves = ap main_moves same;
+      }
+  kept_text Reduced p first ks items start text sound =
+      let m = main p first 0 (new_level []) ks items text sound in
+      let r = rewritten one_read leaves is_symbol is_read numbers p first 0 (new_level []) m.kinds (main_items first (new_level []) items) m.spells start m.sound [] false in
+      record {
+        kinds = r.kinds;
+        spells = r.spells;
+        shown = subst (AllShown r.kinds) (ap (tokens_from false) m.placed) r.shown;
+        writable = r.writable;
+        closes = λ more then f h k. r.closes false then then (λ d x. x) (m.closes then h);
+        again =
+            ap (λ xs. tokens_from false (filter is_main_move xs)) m.placed
+            ∙ ap (tokens_from false) (filter_again (placed_from first first_level items));
+        moves = ap (λ (ls : Levels). (outermost ls.present ls.around).trail) m.levels;
+      }

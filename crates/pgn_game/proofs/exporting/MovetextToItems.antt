@@ -1,0 +1,246 @@
+-- The movetext that is written of a game spells the same items again.
+use Rattle.std.proofs.Common.{◌≡◌, ℕ, ◌+◌, ◌<◌, Bool, true, false, List, [], ◌∷◌, ◌++◌, refl, sym, ap, subst, ◌∙◌, append_assoc}
+use Rattle.std.specs.Prelude.{codes, filter, fold, IsTrue}
+use Rattle.std.proofs.ByRecursion.{All-append}
+use Rattle.std.specs.List.{AllByRecursion}
+use Rattle.std.proofs.lemmas.List.Sums.{fold-append}
+use Rattle.chess_rules.specs.declared.position.Parts.{Parts}
+use Rattle.chess_rules.specs.Laws.{LeavesPosition}
+use Rattle.chess_text.specs.Laws.{ReadsTheOne}
+use Rattle.chess_text.specs.WrittenMove.{WrittenMoveIsSymbol, WrittenMoveIsRead}
+use Rattle.pgn_lexer.specs.Laws.{NumbersAreSymbols}
+use Rattle.pgn_lexer.specs.Sound.{IsSoundKind, CommentsClose}
+use Rattle.pgn_lexer.specs.Tokens as tokens
+use Rattle.pgn_lexer.specs.Tokens.{Kind}
+use Rattle.pgn_lexer.specs.Written.{written}
+use Rattle.chess_text.specs.declared.resolution.Played.{Played}
+use Rattle.pgn_game.specs.Chess.{text_of_move, is_black_to_move}
+use Rattle.pgn_game.specs.FaultTable.{is_comment}
+use Rattle.pgn_game.specs.Game as games
+use Rattle.pgn_game.specs.Game.{Item}
+use Rattle.pgn_game.specs.Levels.{Level, Levels, levels_after, back_to, depth, here, without_last, replayed}
+use Rattle.pgn_game.specs.Profile.{Profile}
+use Rattle.pgn_game.specs.Spells.{StandsFor, Names, SpellsText, no_more, token, move, variation, number, period, glyph, comment_open, word, comment_close, new_level, level_after_move}
+use Rattle.pgn_game.specs.Text.{Placed, placed_from, is_main_move, tokens_from, tokens_at, number_before}
+use Rattle.pgn_game.proofs.AllOfJoined.{all_front, all_behind}
+use Rattle.pgn_game.proofs.putting.ItemsAppended.{placed-append, tokens_from-append}
+use Rattle.pgn_game.proofs.exporting.PiecesToTokens.{IsWritable, AllShown, none_shown, next_shown, shown-append, single}
+use Rattle.pgn_game.proofs.exporting.SpelledToSound.{GoesOn, plain}
+use Rattle.pgn_game.proofs.exporting.MoveTextToMove.{ArePositions, last_position, earlier_positions, plays_on, writable_move, names_again, number_kinds, number_shown, number_spells, number_writable, number_closes}
+
+abbrev pub level_in : Level → List Level → Levels
+level_in l around = record { present = l; around = around }
+
+-- A token anywhere in movetext leaves the levels as they are, and is no move.
+pub aside : (k : Kind) (item items : List Item) (first : Parts) (ls : Levels) → StandsFor k item
+    → (fold levels_after ls (item ++ items) ≡ fold levels_after ls items)
+    × (filter is_main_move (placed_from first ls (item ++ items)) ≡ filter is_main_move (placed_from first ls items))
+aside _ _ items first ls (number s is) = (refl, refl)
+aside _ _ items first ls period = (refl, refl)
+aside _ _ items first ls (glyph n) = (refl, refl)
+aside _ _ items first ls comment_open = (refl, refl)
+aside _ _ items first ls (word s) = (refl, refl)
+aside _ _ items first ls comment_close = (refl, refl)
+
+-- movetext closes the variations that it opens
+pub around_again : (p : Profile) (first : Parts) (deep : ℕ) (l : Level) (ks : List Kind) (items : List Item) → SpellsText p first deep l ks items
+    → (around : List Level) → (fold levels_after (level_in l around) items).around ≡ around
+around_again p first _ _ _ _ (no_more deep l) around = refl
+around_again p first _ _ _ _ (token deep l k ks item items stands rest) around =
+    ap (λ (x : Levels). x.around) (aside k item items first (level_in l around) stands).0
+    ∙ around_again p first deep l ks items rest around
+around_again p first _ _ _ _ (move deep l s x ks items names rest) around = around_again p first deep (level_after_move x.mv l.trail) ks items rest around
+around_again p first _ _ _ _ (variation deep l ks ls items more holds room inner rest) around =
+    let at = level_in (new_level (without_last l.trail)) (l ∷ around) in
+    ap (λ (x : Levels). x.around) (fold-append levels_after at items (games.close_variation ∷ more))
+    ∙ ap (λ (x : List Level). (fold levels_after (back_to x (fold levels_after at items)) more).around)
+    (around_again p first (deep + 1) (new_level (without_last l.trail)) ks items inner (l ∷ around))
+    ∙ around_again p first deep l ls more rest around
+
+-- the end of a variation
+abbrev pub close_at : Parts → Levels → Placed
+close_at first end = record { position = here first end; depth = depth end; item = games.close_variation }
+
+-- the items of a variation, and behind it
+pub placed_variation : (p : Profile) (first : Parts) (deep : ℕ) (l : Level) (ks : List Kind) (items more : List Item)
+    → SpellsText p first (deep + 1) (new_level (without_last l.trail)) ks items → (around : List Level)
+    → placed_from first (level_in (new_level (without_last l.trail)) (l ∷ around)) (items ++ games.close_variation ∷ more)
+    ≡ placed_from first (level_in (new_level (without_last l.trail)) (l ∷ around)) items
+    ++ (close_at first (fold levels_after (level_in (new_level (without_last l.trail)) (l ∷ around)) items) ∷ placed_from first (level_in l around) more)
+placed_variation p first deep l ks items more inner around =
+    let at = level_in (new_level (without_last l.trail)) (l ∷ around) in
+    let end = fold levels_after at items in
+    placed-append first at items (games.close_variation ∷ more)
+    ∙ ap (λ (x : List Level). placed_from first at items ++ (close_at first end ∷ placed_from first (back_to x end) more))
+    (around_again p first (deep + 1) (new_level (without_last l.trail)) ks items inner (l ∷ around))
+
+-- What is written in the place of tokens closes its comments if they do.
+abbrev pub InPlaceOf : List Kind → List Kind → Type 0
+InPlaceOf js ks =
+    (c : Bool) (more then : List Kind) → ((d : Bool) → CommentsClose d more → CommentsClose d then) → CommentsClose c (ks ++ more) → CommentsClose c (js ++ then)
+
+-- The kinds of these tokens, as they are put on lines, spell the items, in the place of the kinds
+-- that did.
+pub record Rewritten (p : Profile) (first : Parts) (deep : ℕ) (l : Level) (ks : List Kind) (items : List Item) (ts : List (List ℕ)) : Type 0 where
+  pub kinds : List Kind
+  pub spells : SpellsText p first deep l kinds items
+  pub shown : AllShown kinds ts
+  pub writable : AllByRecursion IsWritable kinds
+  pub closes : InPlaceOf kinds ks
+
+-- A token is left out: a number or a period.
+abbrev IsLeftOut : Kind → Type 0
+IsLeftOut k = (c : Bool) (more : List Kind) → CommentsClose c (k ∷ more) → CommentsClose c more
+
+no_comment : (k : Kind) → GoesOn k → is_comment k ≡ false → IsLeftOut k
+no_comment k on is c more h =
+    let none = plain k c more on is h in subst (λ b. CommentsClose b more) (sym none.0) none.1
+
+left_out : (p : Profile) (first : Parts) (deep : ℕ) (l : Level) (k : Kind) (ks : List Kind) (items : List Item) (ts : List (List ℕ)) → IsLeftOut k
+    → Rewritten p first deep l ks items ts → Rewritten p first deep l (k ∷ ks) items ts
+left_out p first deep l k ks items ts out r = record {
+  kinds = r.kinds;
+  spells = r.spells;
+  shown = r.shown;
+  writable = r.writable;
+  closes = λ c more then f h. r.closes c more then f (out c (ks ++ more) h);
+}
+
+-- A token is written as it was read.
+abbrev Passes : Kind → Type 0
+Passes k = (c : Bool) (more then : List Kind) → ((d : Bool) → CommentsClose d more → CommentsClose d then) → CommentsClose c (k ∷ more) → CommentsClose c (k ∷ then)
+
+passes : (k : Kind) → Passes k
+passes tokens.comment_open false more then f h = f true h
+passes (tokens.word s) false more then f h = h
+passes (tokens.word s) true more then f h = f true h
+passes tokens.comment_close false more then f h = h
+passes tokens.comment_close true more then f h = f false h
+passes (tokens.refused r) true more then f h = tt
+passes _ false more then f h = f false h
+passes _ true more then f h = h
+
+written_again : (p : Profile) (first : Parts) (deep : ℕ) (l : Level) (k : Kind) (ks : List Kind) (item items : List Item) (ts : List (List ℕ))
+    → StandsFor k item → IsWritable k → Rewritten p first deep l ks items ts
+    → Rewritten p first deep l (k ∷ ks) (item ++ items) (written k ∷ ts)
+written_again p first deep l k ks item items ts stands writable r = record {
+  kinds = k ∷ r.kinds;
+  spells = token deep l k r.kinds item items stands r.spells;
+  shown = next_shown (k ∷ []) r.kinds (written k) ts (single k) r.shown;
+  writable = (writable, r.writable);
+  closes = λ c more then f h. passes k c (ks ++ more) (r.kinds ++ then) (λ d. r.closes d more then f) h;
+}
+
+-- A variation.
+variation_closes : (js ks ls ms : List Kind) → InPlaceOf js ks → InPlaceOf ms ls
+    → InPlaceOf (tokens.left_paren ∷ (js ++ tokens.right_paren ∷ ms)) (tokens.left_paren ∷ (ks ++ tokens.right_paren ∷ ls))
+variation_closes js ks ls ms inner rest true more then f h = absurd h
+variation_closes js ks ls ms inner rest false more then f h =
+    subst (CommentsClose false) (sym (append_assoc js (tokens.right_paren ∷ ms) then))
+    (inner false (tokens.right_paren ∷ (ls ++ more)) (tokens.right_paren ∷ (ms ++ then)) behind
+    (subst (CommentsClose false) (append_assoc ks (tokens.right_paren ∷ ls) more) h))
+  where
+    behind : (d : Bool) → CommentsClose d (tokens.right_paren ∷ (ls ++ more)) → CommentsClose d (tokens.right_paren ∷ (ms ++ then))
+    behind false k = rest false more then f k
+    behind true k = absurd k
+
+variation_again : (p : Profile) (first : Parts) (deep : ℕ) (l : Level) (ks ls : List Kind) (items more : List Item) (ts us : List (List ℕ))
+    → IsTrue l.has_own_move → deep < p.depth → Rewritten p first (deep + 1) (new_level (without_last l.trail)) ks items ts → Rewritten p first deep l ls more us
+    → Rewritten p first deep l (tokens.left_paren ∷ (ks ++ tokens.right_paren ∷ ls)) (games.open_variation ∷ (items ++ games.close_variation ∷ more))
+    (codes "(" ∷ (ts ++ codes ")" ∷ us))
+variation_again p first deep l ks ls items more ts us holds room a b = record {
+  kinds = tokens.left_paren ∷ (a.kinds ++ tokens.right_paren ∷ b.kinds);
+  spells = variation deep l a.kinds b.kinds items more holds room a.spells b.spells;
+  shown =
+      next_shown (tokens.left_paren ∷ []) (a.kinds ++ tokens.right_paren ∷ b.kinds) (codes "(") (ts ++ codes ")" ∷ us) (single tokens.left_paren)
+      (shown-append a.kinds (tokens.right_paren ∷ b.kinds) ts (codes ")" ∷ us) a.shown
+      (next_shown (tokens.right_paren ∷ []) b.kinds (codes ")") us (single tokens.right_paren) b.shown));
+  writable = (tt, All-append IsWritable a.kinds (tokens.right_paren ∷ b.kinds) a.writable (tt, b.writable));
+  closes = variation_closes a.kinds ks ls b.kinds a.closes b.closes;
+}
+
+-- its tokens
+tokens_of_variation : (p : Profile) (first : Parts) (deep : ℕ) (l : Level) (ks : List Kind) (items more : List Item)
+    → SpellsText p first (deep + 1) (new_level (without_last l.trail)) ks items → (around : List Level) (b : Bool)
+    → tokens_from b (placed_from first (level_in l around) (games.open_variation ∷ (items ++ games.close_variation ∷ more)))
+    ≡ codes "(" ∷ (tokens_from false (placed_from first (level_in (new_level (without_last l.trail)) (l ∷ around)) items)
+    ++ codes ")" ∷ tokens_from false (placed_from first (level_in l around) more))
+tokens_of_variation p first deep l ks items more inner around b =
+    let at = level_in (new_level (without_last l.trail)) (l ∷ around) in
+    let end = fold levels_after at items in
+    ap (λ xs. codes "(" ∷ xs)
+    (ap (tokens_from false) (placed_variation p first deep l ks items more inner around)
+    ∙ tokens_from-append false (placed_from first at items) (close_at first end ∷ placed_from first (level_in l around) more))
+
+module _ (one_read : ReadsTheOne) (leaves : LeavesPosition) (is_symbol : WrittenMoveIsSymbol) (is_read : WrittenMoveIsRead) (numbers : NumbersAreSymbols) where
+  -- A move, with its number.
+  move_again : (p : Profile) (first : Parts) (deep : ℕ) (l : Level) (s : List ℕ) (x : Played) (ks : List Kind) (items : List Item) (ts : List (List ℕ)) (b : Bool)
+      → Names (replayed first l.trail) s x → ArePositions first l.trail → Rewritten p first deep (level_after_move x.mv l.trail) ks items ts
+      → Rewritten p first deep l (tokens.symbol s ∷ ks) (games.move x.mv ∷ items) (tokens_at b (replayed first l.trail) (games.move x.mv) ++ ts)
+  move_again p first deep l s x ks items ts b names h r =
+      let at = replayed first l.trail in
+      let text = text_of_move at x.mv in
+      let is_black = is_black_to_move at in
+      let here = last_position first l.trail h in
+      record {
+        kinds = number_kinds one_read leaves is_symbol is_read numbers b is_black at.full ++ tokens.symbol text ∷ r.kinds;
+        spells =
+            number_spells one_read leaves is_symbol is_read numbers p first at deep l b is_black (tokens.symbol text ∷ r.kinds) (games.move x.mv ∷ items) here
+            (move deep l text x r.kinds items (names_again one_read leaves is_symbol is_read numbers at s x here names) r.spells);
+        shown =
+            subst (AllShown (number_kinds one_read leaves is_symbol is_read numbers b is_black at.full ++ tokens.symbol text ∷ r.kinds))
+            (sym (append_assoc (number_before b is_black at.full) (text ∷ []) ts))
+            (number_shown one_read leaves is_symbol is_read numbers b is_black at.full (tokens.symbol text ∷ r.kinds) (text ∷ ts)
+            (next_shown (tokens.symbol text ∷ []) r.kinds text ts (single (tokens.symbol text)) r.shown));
+        writable =
+            All-append IsWritable (number_kinds one_read leaves is_symbol is_read numbers b is_black at.full)
+            (tokens.symbol text ∷ r.kinds)
+            (number_writable one_read leaves is_symbol is_read numbers at b is_black here)
+            (writable_move one_read leaves is_symbol is_read numbers at s x names, r.writable);
+        closes = closes r b is_black at.full text;
+      }
+    where
+      closes : (r : Rewritten p first deep (level_after_move x.mv l.trail) ks items ts) (b is_black : Bool) (n : ℕ) (text : List ℕ)
+          → InPlaceOf (number_kinds one_read leaves is_symbol is_read numbers b is_black n ++ tokens.symbol text ∷ r.kinds) (tokens.symbol s ∷ ks)
+      closes r b is_black n text true more then f h = absurd h
+      closes r b is_black n text false more then f h =
+          let kinds = number_kinds one_read leaves is_symbol is_read numbers b is_black n in
+          subst (CommentsClose false) (sym (append_assoc kinds (tokens.symbol text ∷ r.kinds) then))
+          (number_closes one_read leaves is_symbol is_read numbers b is_black n (tokens.symbol text ∷ (r.kinds ++ then)) (r.closes false more then f h))
+
+  -- All movetext.
+  pub rewritten : (p : Profile) (first : Parts) (deep : ℕ) (l : Level) (ks : List Kind) (items : List Item) → SpellsText p first deep l ks items
+      → ArePositions first l.trail → AllByRecursion IsSoundKind ks → (around : List Level) (b : Bool)
+      → Rewritten p first deep l ks items (tokens_from b (placed_from first (level_in l around) items))
+  rewritten p first _ _ _ _ (no_more deep l) h sound around b =
+      record { kinds = []; spells = no_more deep l; shown = none_shown; writable = tt; closes = λ c more then f k. f c k }
+  rewritten p first _ _ _ _ (token deep l _ ks _ items (number s is) rest) h sound around b =
+      left_out p first deep l _ ks items _ (no_comment (tokens.symbol s) tt refl)
+      (rewritten p first deep l ks items rest h sound.1 around b)
+  rewritten p first _ _ _ _ (token deep l _ ks _ items period rest) h sound around b =
+      left_out p first deep l _ ks items _ (no_comment tokens.period tt refl)
+      (rewritten p first deep l ks items rest h sound.1 around b)
+  rewritten p first _ _ _ _ (token deep l _ ks _ items (glyph n) rest) h sound around b =
+      written_again p first deep l _ ks _ items _ (glyph n) sound.0
+      (rewritten p first deep l ks items rest h sound.1 around false)
+  rewritten p first _ _ _ _ (token deep l _ ks _ items comment_open rest) h sound around b =
+      written_again p first deep l _ ks _ items _ comment_open tt
+      (rewritten p first deep l ks items rest h sound.1 around false)
+  rewritten p first _ _ _ _ (token deep l _ ks _ items (word s) rest) h sound around b =
+      written_again p first deep l _ ks _ items _ (word s) sound.0
+      (rewritten p first deep l ks items rest h sound.1 around false)
+  rewritten p first _ _ _ _ (token deep l _ ks _ items comment_close rest) h sound around b =
+      written_again p first deep l _ ks _ items _ comment_close tt
+      (rewritten p first deep l ks items rest h sound.1 around false)
+  rewritten p first _ _ _ _ (move deep l s x ks items names rest) h sound around b =
+      move_again p first deep l s x ks items _ b names h
+      (rewritten p first deep (level_after_move x.mv l.trail) ks items rest (plays_on one_read leaves is_symbol is_read numbers first l.trail s x names h) sound.1 around true)
+  rewritten p first _ _ _ _ (variation deep l ks ls items more holds room inner rest) h sound around b =
+      let sound_in = all_front IsSoundKind ks (tokens.right_paren ∷ ls) sound.1 in
+      let sound_behind = all_behind IsSoundKind ks (tokens.right_paren ∷ ls) sound.1 in
+      subst
+      (Rewritten p first deep l (tokens.left_paren ∷ (ks ++ tokens.right_paren ∷ ls)) (games.open_variation ∷ (items ++ games.close_variation ∷ more)))
+      (sym (tokens_of_variation p first deep l ks items more inner around b))
+      (variation_again p first deep l ks ls items more _ _ holds room
+      (rewritten p first (deep + 1) (new_level (without_last l.trail)) ks items inner (earlier_positions first l.trail h) sound_in (l ∷ around) false)
+      (rewritten p first deep l ls more rest h sound_behind.1 around false))

@@ -1,0 +1,198 @@
+-- Exported tag pairs are tag pairs of a game again, and exporting them again changes nothing.
+use Rattle.std.proofs.Common.{◌≡◌, ℕ, ◌+◌, ◌≤◌, Bool, true, false, cond, List, [], ◌∷◌, ◌++◌, length, map, drop, refl, sym, ap, subst, ◌∙◌, arith, Option, None, Some, inl, inr}
+use Rattle.std.specs.Prelude.{◌&&◌, ◌||◌, not, bytes_eq, is_some, unwrap_or, codes, IsTrue, IsFalse}
+use Rattle.std.specs.List.{AllByRecursion, list_all}
+use Rattle.std.proofs.lemmas.Bool.{false≢true, cases_Bool, or_cases}
+use Rattle.pgn_layout.specs.TagLine.{escaped}
+use Rattle.pgn_game.specs.declared.mode.Mode.{Mode}
+use Rattle.pgn_game.specs.declared.mode.Mode.TheVariants.{Full, Reduced}
+use Rattle.pgn_game.specs.Profile.{Profile}
+use Rattle.pgn_game.specs.Pairs.{Pair, value_of, has_pair}
+use Rattle.pgn_game.specs.TagSection.{roster, in_roster, roster_pairs, with_set_up, other_pairs, exported}
+use Rattle.pgn_game.specs.FaultTable.{in_name, is_score, is_result}
+use Rattle.pgn_game.specs.Levels.{start_by, start_of}
+use Rattle.pgn_game.specs.Spells.{IsPair, AreDistinct, KeepsTags, IsSetUp, by_name}
+use Rattle.pgn_game.proofs.reading.PairsInTurn.{takes, value_of-all, order-all}
+use Rattle.pgn_game.proofs.pairs.ExportedValues.{with_default, without_set_up, set_up, set_up_if, set_up_gone, set_up_values, no_fen, no_set_up, other_value, exported_known, exported_other, exported_none, no_set_up_of, on_roster, all-exported}
+use Rattle.pgn_game.proofs.pairs.NameOrder.{InOrder, order-insert, order-filter, same_pairs, distinct_in_order}
+use Rattle.pgn_game.proofs.pairs.ValuesByName.{bytes_eq-true, bytes_eq-refl, pick, found}
+
+-- The pairs that are exported beside the roster are in order.
+order_set_up : (ps : List Pair) → InOrder ps → InOrder (with_set_up ps)
+order_set_up ps h =
+    elim (has_pair ps (codes "FEN")) as (λ b. InOrder (set_up_if b ps)) [
+      | true ↦ order-insert set_up (without_set_up ps) (set_up_gone ps) (order-filter (λ p. not (bytes_eq p.name (codes "SetUp"))) ps h)
+      | false ↦ h
+    ]
+
+order_others : (ps : List Pair) → InOrder ps → InOrder (other_pairs (with_set_up ps))
+order_others ps h = order-filter (λ p. not (in_roster p.name)) (with_set_up ps) (order_set_up ps h)
+
+-- Exporting again.
+abbrev Same_values : Mode → List ℕ → List Pair → List Pair → Type 0
+Same_values mode m ps fs = (n : List ℕ) → value_of fs n ≡ value_of (exported mode m ps) n
+
+same_default : (fs ps ds : List Pair) → AllByRecursion (λ d. value_of fs d.name ≡ Some (unwrap_or (value_of ps d.name) d.value)) ds
+    → map (with_default fs) ds ≡ map (with_default ps) ds
+same_default fs ps [] h = refl
+same_default fs ps (d ∷ ds) h =
+    ap (λ o. record { name = d.name; value = unwrap_or o d.value } ∷ map (with_default fs) ds) h.0 ∙ ap (λ xs. with_default ps d ∷ xs) (same_default fs ps ds h.1)
+
+roster_again : (mode : Mode) (m : List ℕ) (ps fs : List Pair) → Same_values mode m ps fs → roster_pairs m fs ≡ roster_pairs m ps
+unfolding roster
+roster_again mode m ps fs same =
+    same_default fs ps (roster m) (on_roster (λ d. value_of fs d.name ≡ Some (unwrap_or (value_of ps d.name) d.value)) m
+    (value (codes "Event") (codes "?") refl) (value (codes "Site") (codes "?") refl)
+    (value (codes "Date") (codes "????.??.??") refl)
+    (value (codes "Round") (codes "?") refl) (value (codes "White") (codes "?") refl)
+    (value (codes "Black") (codes "?") refl)
+    (value (codes "Result") m refl))
+  where
+    value : (n d : List ℕ) → value_of (roster m) n ≡ Some d → value_of fs n ≡ Some (unwrap_or (value_of ps n) d)
+    value n d e = same n ∙ exported_known mode m ps n d e
+
+pick_again : (b : Bool) (v : List ℕ) (o : Option (List ℕ)) → pick b v (pick b v o) ≡ pick b v o
+pick_again true v o = refl
+pick_again false v o = refl
+
+fen_again : (m : List ℕ) (ps fs : List Pair) → Same_values Full m ps fs → value_of fs (codes "FEN") ≡ value_of ps (codes "FEN")
+fen_again m ps fs same = same (codes "FEN") ∙ exported_other m ps (codes "FEN") refl ∙ no_set_up ps (codes "FEN") refl
+
+set_up_again : (m : List ℕ) (ps fs : List Pair) (n : List ℕ) → Same_values Full m ps fs → in_roster n ≡ false
+    → value_of (with_set_up fs) n ≡ value_of (with_set_up ps) n
+set_up_again m ps fs n same other =
+    let given = same n ∙ exported_other m ps n other ∙ set_up_values ps n in
+    let twice = pick_again (has_pair ps (codes "FEN") && bytes_eq (codes "SetUp") n) (codes "1") (value_of ps n) in
+    cc (set_up_values fs n, set_up_values ps n, fen_again m ps fs same, given, twice)
+
+others_again : (m : List ℕ) (ps fs : List Pair) → InOrder ps → InOrder fs → Same_values Full m ps fs
+    → other_pairs (with_set_up fs) ≡ other_pairs (with_set_up ps)
+others_again m ps fs h k same =
+    same_pairs (other_pairs (with_set_up fs)) (other_pairs (with_set_up ps)) (order_others fs k) (order_others ps h)
+    (λ n. other_value fs n ∙ by_roster n (in_roster n) refl ∙ sym (other_value ps n))
+  where
+    by_roster : (n : List ℕ) (b : Bool) → in_roster n ≡ b
+        → cond (not b) (value_of (with_set_up fs) n) None ≡ cond (not b) (value_of (with_set_up ps) n) None
+    by_roster n true e = refl
+    by_roster n false e = set_up_again m ps fs n same e
+
+pub exported_again : (mode : Mode) (m : List ℕ) (ps fs : List Pair) → InOrder ps → InOrder fs → Same_values mode m ps fs
+    → exported mode m fs ≡ exported mode m ps
+exported_again Full m ps fs h k same =
+    ap (λ xs. xs ++ other_pairs (with_set_up fs)) (roster_again Full m ps fs same) ∙ ap (λ xs. roster_pairs m ps ++ xs) (others_again m ps fs h k same)
+exported_again Reduced m ps fs h k same = roster_again Reduced m ps fs same
+
+-- Where the game begins, its SetUp, and its Result.
+no_value_in_reduced : (m : List ℕ) (ps fs : List Pair) (n : List ℕ) → Same_values Reduced m ps fs → value_of (roster m) n ≡ None → value_of fs n ≡ None
+no_value_in_reduced m ps fs n same e = same n ∙ exported_none m ps n e
+
+no_fen_of : (m : List ℕ) → value_of (roster m) (codes "FEN") ≡ None
+unfolding roster
+no_fen_of m = refl
+
+result_of : (m : List ℕ) → value_of (roster m) (codes "Result") ≡ Some m
+unfolding roster
+result_of m = refl
+
+no_fen_in_reduced : (ps : List Pair) → AllByRecursion (IsPair Reduced) ps → (o : Option (List ℕ)) → value_of ps (codes "FEN") ≡ o → o ≡ None
+no_fen_in_reduced ps each None e = refl
+no_fen_in_reduced ps each (Some v) e = let full = ((found (IsPair Reduced) ps (codes "FEN") v each e).fen refl).0 in absurd (cc)
+
+pub start_again : (mode : Mode) (m : List ℕ) (ps fs : List Pair) → AllByRecursion (IsPair mode) ps → Same_values mode m ps fs → start_of fs ≡ start_of ps
+start_again Full m ps fs each same = ap start_by (fen_again m ps fs same)
+start_again Reduced m ps fs each same =
+    ap start_by (no_value_in_reduced m ps fs (codes "FEN") same (no_fen_of m) ∙ sym (no_fen_in_reduced ps each (value_of ps (codes "FEN")) refl))
+
+pub is_set_up_again : (mode : Mode) (m : List ℕ) (ps fs : List Pair) → IsSetUp ps → Same_values mode m ps fs → IsSetUp fs
+is_set_up_again Full m ps fs h same e =
+    ap is_some (fen_again m ps fs same)
+    ∙ elim (cases_Bool (has_pair ps (codes "FEN"))) [
+      | inl has ↦ has
+      | inr none ↦ h (sym (same (codes "SetUp") ∙ exported_other m ps (codes "SetUp") refl ∙ no_fen ps (codes "SetUp") none) ∙ e)
+    ]
+is_set_up_again Reduced m ps fs h same e = let none = no_value_in_reduced m ps fs (codes "SetUp") same (no_set_up_of m) in absurd (cc)
+
+pub result_again : (mode : Mode) (m : List ℕ) (ps fs : List Pair) → Same_values mode m ps fs
+    → value_of fs (codes "Result") ≡ Some (unwrap_or (value_of ps (codes "Result")) m)
+result_again mode m ps fs same = same (codes "Result") ∙ exported_known mode m ps (codes "Result") m (result_of m)
+
+-- What is asked of pairs.
+differ : (a b : List ℕ) → bytes_eq a b ≡ false → a ≡ b → ⊥
+differ a b e f = false≢true (sym e ∙ bytes_eq-refl a b f)
+
+plain_pair : (mode : Mode) (n v : List ℕ) → IsTrue (list_all in_name n) → length n + length (escaped v) ≤ 249 → bytes_eq n (codes "Result") ≡ false → bytes_eq n (codes "FEN") ≡ false
+    → IsPair mode (record { name = n; value = v })
+plain_pair mode n v name room no_result no_fen = record {
+  name = name;
+  room = room;
+  result = λ e. absurd (differ n (codes "Result") no_result e);
+  fen = λ e. absurd (differ n (codes "FEN") no_fen e);
+}
+
+pub by_marker : (P : List ℕ → Type 0) (m : List ℕ) → is_result m ≡ true → P (codes "1-0") → P (codes "0-1") → P (codes "1/2-1/2") → P (codes "*") → P m
+by_marker P m e a b c d =
+    elim (or_cases (is_score m) (bytes_eq m (codes "*")) e) [
+      | inl f ↦ elim (or_cases (bytes_eq m (codes "1-0") || bytes_eq m (codes "0-1")) (bytes_eq m (codes "1/2-1/2")) f) [
+        | inl g ↦ elim (or_cases (bytes_eq m (codes "1-0")) (bytes_eq m (codes "0-1")) g) [
+          | inl h ↦ subst P (sym (bytes_eq-true m (codes "1-0") h)) a
+          | inr h ↦ subst P (sym (bytes_eq-true m (codes "0-1") h)) b
+        ]
+        | inr g ↦ subst P (sym (bytes_eq-true m (codes "1/2-1/2") g)) c
+      ]
+      | inr f ↦ subst P (sym (bytes_eq-true m (codes "*") f)) d
+    ]
+
+marker_room : (m : List ℕ) → is_result m ≡ true → length (codes "Result") + length (escaped m) ≤ 249
+marker_room m e = by_marker (λ x. length (codes "Result") + length (escaped x) ≤ 249) m e (omega arith) (omega arith) (omega arith) (omega arith)
+
+result_pair : (mode : Mode) (m : List ℕ) → is_result m ≡ true → IsPair mode (record { name = codes "Result"; value = m })
+result_pair mode m e = record { name = refl; room = marker_room m e; result = λ f. e; fen = λ f. absurd (differ (codes "Result") (codes "FEN") refl f) }
+
+each_of_roster : (mode : Mode) (m : List ℕ) → is_result m ≡ true → AllByRecursion (IsPair mode) (roster m)
+each_of_roster mode m e =
+    on_roster (IsPair mode) m (plain_pair mode (codes "Event") (codes "?") refl (omega arith) refl refl)
+    (plain_pair mode (codes "Site") (codes "?") refl (omega arith) refl refl)
+    (plain_pair mode (codes "Date") (codes "????.??.??") refl (omega arith) refl refl)
+    (plain_pair mode (codes "Round") (codes "?") refl (omega arith) refl refl)
+    (plain_pair mode (codes "White") (codes "?") refl (omega arith) refl refl)
+    (plain_pair mode (codes "Black") (codes "?") refl (omega arith) refl refl) (result_pair mode m e)
+
+each_exported : (mode : Mode) (m : List ℕ) (ps : List Pair) → is_result m ≡ true → AllByRecursion (IsPair mode) ps → AllByRecursion (IsPair mode) (exported mode m ps)
+each_exported mode m ps e h =
+    all-exported (IsPair mode) mode m ps (plain_pair mode (codes "SetUp") (codes "1") refl (omega arith) refl refl)
+    (each_of_roster mode m e) h
+
+-- no name is exported twice
+roster_distinct : (m : List ℕ) (ps others : List Pair) → ((n : List ℕ) → in_roster n ≡ true → IsFalse (has_pair others n)) → AreDistinct others
+    → AreDistinct (roster_pairs m ps ++ others)
+unfolding roster
+roster_distinct m ps others off h =
+    let rest : AreDistinct (drop 4 (roster_pairs m ps) ++ others) =
+    (off (codes "White") refl, (off (codes "Black") refl, (off (codes "Result") refl, h))) in
+    (off (codes "Event") refl, (off (codes "Site") refl, (off (codes "Date") refl, (off (codes "Round") refl, rest))))
+
+roster_alone : (m : List ℕ) (ps : List Pair) → AreDistinct (roster_pairs m ps)
+unfolding roster
+roster_alone m ps = (refl, (refl, (refl, (refl, (refl, (refl, (refl, tt)))))))
+
+distinct_exported : (mode : Mode) (m : List ℕ) (ps : List Pair) → InOrder ps → AreDistinct (exported mode m ps)
+distinct_exported Full m ps h =
+    roster_distinct m ps (other_pairs (with_set_up ps))
+    (λ n e. ap is_some (other_value ps n) ∙ ap (λ (b : Bool). is_some (cond (not b) (value_of (with_set_up ps) n) None)) e)
+    (distinct_in_order (other_pairs (with_set_up ps)) (order_others ps h))
+distinct_exported Reduced m ps h = roster_alone m ps
+
+pub keeps_exported : (p : Profile) (m : List ℕ) (ps : List Pair) → is_result m ≡ true → InOrder ps → AllByRecursion (IsPair p.mode) ps → length (exported p.mode m ps) ≤ p.tags
+    → KeepsTags p (exported p.mode m ps)
+keeps_exported p m ps e order each room = record {
+  count = room;
+  each = each_exported p.mode m ps e each;
+  distinct = distinct_exported p.mode m ps order;
+}
+
+-- pairs that are kept have their values and their order by name
+pub by_name_values : (p : Profile) (qs : List Pair) (n : List ℕ) → KeepsTags p qs → value_of (by_name qs) n ≡ value_of qs n
+by_name_values p qs n h = value_of-all p [] qs n (takes p qs h)
+
+pub by_name_order : (p : Profile) (qs : List Pair) → KeepsTags p qs → InOrder (by_name qs)
+by_name_order p qs h = order-all p [] qs (takes p qs h) tt

@@ -1,0 +1,165 @@
+-- Texts in pieces that a lexer reads back: tag lines, and the lines of movetext.
+use Rattle.std.proofs.Common.{◌≡◌, ℕ, Bool, true, false, List, [], ◌∷◌, ◌++◌, refl, sym, ap, subst, ◌∙◌, append_assoc, inl, inr}
+use Rattle.std.specs.Prelude.{◌==◌, codes, decimal, IsTrue}
+use Rattle.std.proofs.ByRecursion.{All-append}
+use Rattle.std.specs.List.{AllByRecursion}
+use Rattle.std.proofs.lemmas.Bool.{or_cases, eqb-true}
+use Rattle.pgn_layout.specs.LineText.{is_gap, IsTextOf, no_token, next_token}
+use Rattle.pgn_layout.specs.TagLine.{tag_line, escaped}
+use Rattle.pgn_lexer.specs.Bytes.{is_space, is_digit, continues_symbol, continues_word}
+use Rattle.pgn_lexer.specs.Sound.{IsSymbol, IsData, CommentsClose}
+use Rattle.pgn_lexer.specs.Tokens as tokens
+use Rattle.pgn_lexer.specs.Tokens.{Kind}
+use Rattle.pgn_lexer.specs.Written as written
+use Rattle.pgn_lexer.specs.Written.{Piece, text_of_pieces, kinds_in, IsPiece, IsEndedBy, AreEnded}
+use Rattle.pgn_game.specs.Pairs.{Pair}
+use Rattle.pgn_game.specs.TagSection.{tag_lines}
+use Rattle.pgn_game.specs.Spells.{SpellsPairs, no_pair, next_pair, pair}
+use Rattle.pgn_game.proofs.AllOfJoined.{all_front, all_behind}
+
+-- a kind that has a text of its own, and is made as it has to be
+abbrev pub IsWritable : Kind → Type 0
+IsWritable k = IsPiece (written.token k)
+
+-- The kinds of what is put on a line as one token: one kind, or a move number with its periods.
+pub data Shown : List Kind → List ℕ → Type 0 where
+  single : (k : Kind) → Shown (k ∷ []) (written.written k)
+  white : (n : ℕ) → Shown (tokens.symbol (decimal n) ∷ tokens.period ∷ []) (decimal n ++ codes ".")
+  black : (n : ℕ) → Shown (tokens.symbol (decimal n) ∷ tokens.period ∷ tokens.period ∷ tokens.period ∷ []) (decimal n ++ codes "...")
+
+pub data AllShown : List Kind → List (List ℕ) → Type 0 where
+  none_shown : AllShown [] []
+  next_shown : (ks ls : List Kind) (t : List ℕ) (ts : List (List ℕ)) → Shown ks t → AllShown ls ts → AllShown (ks ++ ls) (t ∷ ts)
+
+pub shown-append : (ks ls : List Kind) (ts us : List (List ℕ)) → AllShown ks ts → AllShown ls us → AllShown (ks ++ ls) (ts ++ us)
+shown-append _ ls _ us none_shown more = more
+shown-append _ ls _ us (next_shown ks js t ts first rest) more =
+    subst (λ xs. AllShown xs (t ∷ (ts ++ us))) (sym (append_assoc ks js ls)) (next_shown ks (js ++ ls) t (ts ++ us) first (shown-append js ls ts us rest more))
+
+-- Pieces of a text, with these kinds. Whatever comes behind them, each is ended.
+pub record PiecesOf (ks : List Kind) (s : List ℕ) : Type 0 where
+  pub pieces : List Piece
+  pub text : text_of_pieces pieces ≡ s
+  pub kinds : kinds_in pieces ≡ ks
+  pub sound : AllByRecursion IsPiece pieces
+  pub ended : (more : List Piece) → AreEnded more → AreEnded (pieces ++ more)
+
+text-append : (ps qs : List Piece) → text_of_pieces (ps ++ qs) ≡ text_of_pieces ps ++ text_of_pieces qs
+text-append [] qs = refl
+text-append (written.token k ∷ ps) qs = ap (λ s. written.written k ++ s) (text-append ps qs) ∙ sym (append_assoc (written.written k) (text_of_pieces ps) (text_of_pieces qs))
+text-append (written.space b ∷ ps) qs = ap (λ s. b ∷ s) (text-append ps qs)
+
+kinds-append : (ps qs : List Piece) → kinds_in (ps ++ qs) ≡ kinds_in ps ++ kinds_in qs
+kinds-append [] qs = refl
+kinds-append (written.token k ∷ ps) qs = ap (λ ks. k ∷ ks) (kinds-append ps qs)
+kinds-append (written.space b ∷ ps) qs = kinds-append ps qs
+
+pub no_pieces : PiecesOf [] []
+no_pieces = record { pieces = []; text = refl; kinds = refl; sound = tt; ended = λ more h. h }
+
+pub line_feed : PiecesOf [] (10 ∷ [])
+line_feed = record { pieces = written.space 10 ∷ []; text = refl; kinds = refl; sound = (refl, tt); ended = λ more h. h }
+
+pub both_pieces : (ks ls : List Kind) (s t : List ℕ) → PiecesOf ks s → PiecesOf ls t → PiecesOf (ks ++ ls) (s ++ t)
+both_pieces ks ls s t a b = record {
+  pieces = a.pieces ++ b.pieces;
+  text = text-append a.pieces b.pieces ∙ ap (λ x. x ++ text_of_pieces b.pieces) a.text ∙ ap (λ x. s ++ x) b.text;
+  kinds = kinds-append a.pieces b.pieces ∙ ap (λ x. x ++ kinds_in b.pieces) a.kinds ∙ ap (λ x. ks ++ x) b.kinds;
+  sound = All-append IsPiece a.pieces b.pieces a.sound b.sound;
+  ended = λ more h. subst AreEnded (sym (append_assoc a.pieces b.pieces more)) (a.ended (b.pieces ++ more) (b.ended more h));
+}
+
+-- Movetext on lines.
+at_gap : (f : ℕ → Bool) (b : ℕ) (v : Bool) → f 32 ≡ v → f 10 ≡ v → is_gap b ≡ true → f b ≡ v
+at_gap f b v space line e =
+    elim (or_cases (b == 32) (b == 10) e) [
+      | inl g ↦ ap f (eqb-true b 32 g) ∙ space
+      | inr g ↦ ap f (eqb-true b 10 g) ∙ line
+    ]
+
+gap_is_space : (b : ℕ) → is_gap b ≡ true → IsTrue (is_space b)
+gap_is_space b e = at_gap is_space b true refl refl e
+
+gap_ends : (b : ℕ) (s : List ℕ) (k : Kind) → is_gap b ≡ true → IsEndedBy (b ∷ s) k
+gap_ends b s (tokens.symbol text) e = at_gap continues_symbol b false refl refl e
+gap_ends b s (tokens.glyph n) e = at_gap is_digit b false refl refl e
+gap_ends b s (tokens.word text) e = at_gap continues_word b false refl refl e
+gap_ends b s _ e = tt
+
+shown_pieces : (ks : List Kind) (t : List ℕ) (b : ℕ) → Shown ks t → AllByRecursion IsWritable ks → is_gap b ≡ true → PiecesOf ks (t ++ b ∷ [])
+shown_pieces _ _ b (single k) h gap = record {
+  pieces = written.token k ∷ written.space b ∷ [];
+  text = refl;
+  kinds = refl;
+  sound = (h.0, (gap_is_space b gap, tt));
+  ended = λ more rest. (gap_ends b (text_of_pieces more) k gap, rest);
+}
+shown_pieces _ _ b (white n) h gap = record {
+  pieces = written.token (tokens.symbol (decimal n)) ∷ written.token tokens.period ∷ written.space b ∷ [];
+  text = sym (append_assoc (decimal n) (codes ".") (b ∷ []));
+  kinds = refl;
+  sound = (h.0, (tt, (gap_is_space b gap, tt)));
+  ended = λ more rest. (refl, (tt, rest));
+}
+shown_pieces _ _ b (black n) h gap = record {
+  pieces =
+      written.token (tokens.symbol (decimal n)) ∷ written.token tokens.period ∷ written.token tokens.period ∷ written.token tokens.period ∷ written.space b ∷ [];
+  text = sym (append_assoc (decimal n) (codes "...") (b ∷ []));
+  kinds = refl;
+  sound = (h.0, (tt, (tt, (tt, (gap_is_space b gap, tt)))));
+  ended = λ more rest. (refl, (tt, (tt, (tt, rest))));
+}
+
+pub at_text : (ks : List Kind) (s t : List ℕ) → s ≡ t → PiecesOf ks s → PiecesOf ks t
+at_text ks s t e a = record { pieces = a.pieces; text = a.text ∙ e; kinds = a.kinds; sound = a.sound; ended = a.ended }
+
+pub line_pieces : (ks : List Kind) (ts : List (List ℕ)) (s : List ℕ) → AllShown ks ts → AllByRecursion IsWritable ks → IsTextOf ts s → PiecesOf ks s
+line_pieces _ _ _ none_shown h no_token = no_pieces
+line_pieces _ _ _ (next_shown ks ls _ _ first rest) h (next_token t b ts s gap more) =
+    at_text (ks ++ ls) ((t ++ b ∷ []) ++ s) (t ++ b ∷ s) (append_assoc t (b ∷ []) s)
+    (both_pieces ks ls (t ++ b ∷ []) s (shown_pieces ks t b first (all_front IsWritable ks ls h) gap)
+    (line_pieces ls ts s rest (all_behind IsWritable ks ls h) more))
+
+-- Tag lines.
+pub record IsSoundPair (q : Pair) : Type 0 where
+  pub name : IsSymbol q.name
+  pub value : IsData q.value
+
+abbrev pub tag_kinds : List Pair → List Kind
+tag_kinds [] = []
+tag_kinds (q ∷ qs) = tokens.left_bracket ∷ tokens.symbol q.name ∷ tokens.str q.value ∷ tokens.right_bracket ∷ tag_kinds qs
+
+same_escapes : (v : List ℕ) → written.escaped v ≡ escaped v
+same_escapes v = refl
+
+tag_text : (name value : List ℕ) → 91 ∷ (name ++ (32 ∷ ((34 ∷ (written.escaped value ++ 34 ∷ [])) ++ (93 ∷ 10 ∷ [])))) ≡ tag_line name value
+tag_text name value = simp (same_escapes, append_assoc)
+
+one_tag : (q : Pair) → IsSoundPair q
+    → PiecesOf (tokens.left_bracket ∷ tokens.symbol q.name ∷ tokens.str q.value ∷ tokens.right_bracket ∷ []) (tag_line q.name q.value)
+one_tag q h = record {
+  pieces =
+      written.token tokens.left_bracket ∷ written.token (tokens.symbol q.name) ∷ written.space 32 ∷ written.token (tokens.str q.value)
+      ∷ written.token tokens.right_bracket ∷ written.space 10 ∷ [];
+  text = tag_text q.name q.value;
+  kinds = refl;
+  sound = (tt, (h.name, (refl, (h.value, (tt, (refl, tt))))));
+  ended = λ more rest. (tt, (refl, (tt, (tt, rest))));
+}
+
+pub tag_pieces : (qs : List Pair) → AllByRecursion IsSoundPair qs → PiecesOf (tag_kinds qs) (tag_lines qs)
+tag_pieces [] h = no_pieces
+tag_pieces (q ∷ qs) h =
+    both_pieces (tokens.left_bracket ∷ tokens.symbol q.name ∷ tokens.str q.value ∷ tokens.right_bracket ∷ []) (tag_kinds qs) (tag_line q.name q.value) (tag_lines qs)
+    (one_tag q h.0) (tag_pieces qs h.1)
+
+-- they spell the pairs
+pub tags_spell : (qs : List Pair) → SpellsPairs (tag_kinds qs) qs
+tags_spell [] = no_pair
+tags_spell (q ∷ qs) =
+    next_pair (tokens.left_bracket ∷ tokens.symbol q.name ∷ tokens.str q.value ∷ tokens.right_bracket ∷ []) (tag_kinds qs) q qs
+    (pair [] [] [] q.name q.value refl refl refl) (tags_spell qs)
+
+pub tags_close : (qs : List Pair) (more : List Kind) → CommentsClose false more → CommentsClose false (tag_kinds qs ++ more)
+tags_close [] more h = h
+tags_close (q ∷ qs) more h = tags_close qs more h

@@ -1,0 +1,210 @@
+-- What is known of a game that a text spells: its tokens are sound, and its comments close.
+use Rattle.std.proofs.Common.{◌≡◌, ℕ, ◌+◌, Bool, true, false, List, [], ◌∷◌, ◌++◌, refl, sym, ap, subst, ◌∙◌, append_assoc, Some}
+use Rattle.std.specs.Prelude.{◌||◌, codes, bytes_eq}
+use Rattle.std.specs.List.{AllByRecursion, list_all}
+use Rattle.std.proofs.ByRecursion.{All-append}
+use Rattle.std.proofs.lemmas.Bool.{false≢true, and_parts}
+use Rattle.chess_rules.specs.declared.position.Parts.{Parts}
+use Rattle.pgn_lexer.specs.Sound.{IsSoundKind, CommentsClose}
+use Rattle.pgn_lexer.specs.Tokens as tokens
+use Rattle.pgn_lexer.specs.Tokens.{Kind}
+use Rattle.pgn_lexer.specs.Written.{written}
+use Rattle.pgn_game.specs.FaultTable.{is_comment, is_score, is_result, marker_of}
+use Rattle.pgn_game.specs.Game.{Item, Game}
+use Rattle.pgn_game.specs.Levels.{Level, start_of}
+use Rattle.pgn_game.specs.Pairs.{Pair, value_of}
+use Rattle.pgn_game.specs.Profile.{Profile}
+use Rattle.pgn_game.specs.Spells.{AreDropped, SpellsPair, pair, SpellsPairs, no_pair, next_pair, KeepsTags, by_name, IsSetUp, SpellsText, no_more, token, move, variation, StandsFor, number, period, glyph, comment_open, word, comment_close, new_level, BeginsBare, IsResult, SpellsGame}
+use Rattle.pgn_game.proofs.AllOfJoined.{all_front, all_behind}
+use Rattle.pgn_game.proofs.judging.RefusalsInMovetext.{score_of}
+use Rattle.pgn_game.proofs.exporting.PiecesToTokens.{IsSoundPair, IsWritable}
+
+-- Comments. They close behind these kinds if they close behind more before them.
+abbrev Closes : List Kind → Type 0
+Closes ks = (c : Bool) × CommentsClose c ks
+
+-- an error ends all tokens, so behind it nothing is known
+abbrev pub GoesOn : Kind → Type 0
+GoesOn (tokens.refused r) = ⊥
+GoesOn _ = Unit {0}
+
+-- What is open behind a token. If the token is none of a comment, no comment is open around it.
+around_token : (k : Kind) (c : Bool) (ks : List Kind) → GoesOn k → CommentsClose c (k ∷ ks)
+    → (d : Bool) × CommentsClose d ks × (is_comment k ≡ false → (c ≡ false) × (d ≡ false))
+around_token (tokens.refused r) c ks on h = absurd on
+around_token tokens.comment_open false ks on h = (true, h, λ is. absurd (cc))
+around_token (tokens.word s) false ks on h = absurd h
+around_token (tokens.word s) true ks on h = (true, h, λ is. absurd (cc))
+around_token tokens.comment_close false ks on h = absurd h
+around_token tokens.comment_close true ks on h = (false, h, λ is. absurd (cc))
+around_token _ false ks on h = (false, h, λ is. (refl, refl))
+around_token _ true ks on h = absurd h
+
+pub plain : (k : Kind) (c : Bool) (ks : List Kind) → GoesOn k → is_comment k ≡ false → CommentsClose c (k ∷ ks)
+    → (c ≡ false) × CommentsClose false ks
+plain k c ks on is h =
+    let a = around_token k c ks on h in
+    let none = a.2 is in (none.0, subst (λ d. CommentsClose d ks) none.1 a.1)
+
+behind : (xs : List Kind) (c : Bool) (ks : List Kind) → AllByRecursion GoesOn xs → CommentsClose c (xs ++ ks)
+    → Closes ks
+behind [] c ks on h = (c, h)
+behind (x ∷ xs) c ks on h = let next = around_token x c (xs ++ ks) on.0 h in behind xs next.0 ks on.1 next.1
+
+comment_goes_on : (k : Kind) → is_comment k ≡ true → GoesOn k
+comment_goes_on (tokens.refused r) is = absurd (false≢true is)
+comment_goes_on _ is = tt
+
+dropped_go_on : (xs : List Kind) → AreDropped xs → AllByRecursion GoesOn xs
+dropped_go_on [] are = tt
+dropped_go_on (x ∷ xs) are =
+    let both = and_parts (is_comment x) (list_all is_comment xs) are in
+    (comment_goes_on x both.0, dropped_go_on xs both.1)
+
+behind_pair : (ks : List Kind) (q : Pair) (c : Bool) (ls : List Kind) → SpellsPair ks q → CommentsClose c (ks ++ ls) → CommentsClose false ls
+behind_pair _ _ c ls (pair xs ys zs name value d e f) h =
+    let last = tokens.right_bracket ∷ ls in
+    let valued = tokens.str value ∷ (zs ++ last) in
+    let named = tokens.symbol name ∷ (ys ++ valued) in
+    let a = around_token tokens.left_bracket c (xs ++ named) tt (simp append_assoc at h) in
+    let b = behind xs a.0 named (dropped_go_on xs d) a.1 in
+    let g = behind (tokens.symbol name ∷ ys) b.0 valued (tt, dropped_go_on ys e) b.1 in
+    let i = behind (tokens.str value ∷ zs) g.0 last (tt, dropped_go_on zs f) g.1 in
+    (plain tokens.right_bracket i.0 ls tt refl i.1).1
+
+behind_pairs : (ks : List Kind) (qs : List Pair) (ls : List Kind) → SpellsPairs ks qs → CommentsClose false (ks ++ ls) → CommentsClose false ls
+behind_pairs _ _ ls no_pair h = h
+behind_pairs _ _ ls (next_pair ks js q qs first rest) h =
+    behind_pairs js qs ls rest (behind_pair ks q false (js ++ ls) first (subst (CommentsClose false) (append_assoc ks js ls) h))
+
+item_goes_on : (k : Kind) (item : List Item) → StandsFor k item → GoesOn k
+item_goes_on _ _ (number s is) = tt
+item_goes_on _ _ period = tt
+item_goes_on _ _ (glyph n) = tt
+item_goes_on _ _ comment_open = tt
+item_goes_on _ _ (word s) = tt
+item_goes_on _ _ comment_close = tt
+
+text_goes_on : (p : Profile) (first : Parts) (deep : ℕ) (l : Level) (ks : List Kind) (items : List Item)
+    → SpellsText p first deep l ks items → AllByRecursion GoesOn ks
+text_goes_on p first _ _ _ _ (no_more deep l) = tt
+text_goes_on p first _ _ _ _ (token deep l k ks item items stands rest) =
+    (item_goes_on k item stands, text_goes_on p first deep l ks items rest)
+text_goes_on p first _ _ _ _ (move deep l s x ks items names rest) = (tt, text_goes_on p first deep _ ks items rest)
+text_goes_on p first _ _ _ _ (variation deep l ks js items more holds room inner rest) =
+    let all = All-append GoesOn ks (tokens.right_paren ∷ js) (text_goes_on p first (deep + 1) _ ks items inner)
+    (tt, text_goes_on p first deep l js more rest) in (tt, all)
+
+-- a marker is no comment
+marker_goes_on : (k : Kind) (marker : List ℕ) → marker_of k ≡ Some marker → GoesOn k × (is_comment k ≡ false)
+marker_goes_on tokens.asterisk marker is = (tt, refl)
+marker_goes_on (tokens.symbol s) marker is = (tt, refl)
+marker_goes_on _ marker is = absurd (cc)
+
+marker_plain : (k : Kind) (marker : List ℕ) (c : Bool) (ks : List Kind) → marker_of k ≡ Some marker
+    → CommentsClose c (k ∷ ks)
+    → (c ≡ false) × CommentsClose false ks
+marker_plain k marker c ks is h = let on = marker_goes_on k marker is in plain k c ks on.0 on.1 h
+
+pub marker_closed : (k : Kind) (marker : List ℕ) (ks : List Kind) → marker_of k ≡ Some marker → CommentsClose false ks
+    → CommentsClose false (k ∷ ks)
+marker_closed tokens.asterisk marker ks is h = h
+marker_closed (tokens.symbol s) marker ks is h = h
+marker_closed _ marker ks is h = absurd (cc)
+
+pub marker_opens : (k : Kind) (marker : List ℕ) (c : Bool) (ks ls : List Kind) → marker_of k ≡ Some marker → CommentsClose c (k ∷ ks) → CommentsClose false ls → CommentsClose c (k ∷ ls)
+marker_opens k marker c ks ls is h more =
+    subst (λ b. CommentsClose b (k ∷ ls)) (sym (marker_plain k marker c ks is h).0) (marker_closed k marker ls is more)
+
+-- no comment is open where movetext begins
+bare_text : (ks : List Kind) (c : Bool) (k : Kind) (marker : List ℕ) (ls : List Kind) → AllByRecursion GoesOn ks
+    → BeginsBare ks
+    → marker_of k ≡ Some marker → CommentsClose c (ks ++ k ∷ ls) → CommentsClose false (ks ++ k ∷ ls)
+bare_text [] c k marker ls on bare is h = subst (λ b. CommentsClose b (k ∷ ls)) (marker_plain k marker c ls is h).0 h
+bare_text (t ∷ ts) c k marker ls on bare is h =
+    subst (λ b. CommentsClose b (t ∷ (ts ++ k ∷ ls))) (plain t c (ts ++ k ∷ ls) on.0 bare h).0 h
+
+before_text : (tags text : List Kind) (given : List Pair) (c : Bool) (k : Kind) (marker : List ℕ) (ls : List Kind)
+    → SpellsPairs tags given → (given ≡ [] → BeginsBare text) → AllByRecursion GoesOn text → marker_of k ≡ Some marker
+    → CommentsClose c (tags ++ (text ++ k ∷ ls)) → CommentsClose false (text ++ k ∷ ls)
+before_text _ text _ c k marker ls no_pair bare on is h = bare_text text c k marker ls on (bare refl) is h
+before_text _ text _ c k marker ls (next_pair ks js q qs one rest) bare on is h =
+    behind_pairs js qs (text ++ k ∷ ls) rest
+    (behind_pair ks q c (js ++ (text ++ k ∷ ls)) one (subst (CommentsClose c) (append_assoc ks js (text ++ k ∷ ls)) h))
+
+-- Pairs that sound tokens spell.
+sound_pair : (ks : List Kind) (q : Pair) → SpellsPair ks q → AllByRecursion IsSoundKind ks → IsSoundPair q
+sound_pair _ _ (pair xs ys zs name value d e f) sound =
+    let named = all_behind IsSoundKind xs (tokens.symbol name ∷ (ys ++ tokens.str value ∷ (zs ++ tokens.right_bracket ∷ []))) sound.1 in
+    let valued = all_behind IsSoundKind ys (tokens.str value ∷ (zs ++ tokens.right_bracket ∷ [])) named.1 in
+    record { name = named.0; value = valued.0 }
+
+sound_pairs : (ks : List Kind) (qs : List Pair) → SpellsPairs ks qs → AllByRecursion IsSoundKind ks → AllByRecursion IsSoundPair qs
+sound_pairs _ _ no_pair sound = tt
+sound_pairs _ _ (next_pair ks js q qs one rest) sound =
+    (sound_pair ks q one (all_front IsSoundKind ks js sound), sound_pairs js qs rest (all_behind IsSoundKind ks js sound))
+
+-- Markers.
+pub marker_is_result : (k : Kind) (marker : List ℕ) → marker_of k ≡ Some marker → is_result marker ≡ true
+marker_is_result tokens.asterisk marker is = let same : codes "*" ≡ marker = cc in ap is_result (sym same)
+marker_is_result (tokens.symbol s) marker is =
+    let score = score_of s marker (is_score s) refl is in
+    ap is_result (sym score.1) ∙ ap (λ (b : Bool). b || bytes_eq s (codes "*")) score.0
+marker_is_result _ marker is = absurd (cc)
+
+pub marker_written : (k : Kind) (marker : List ℕ) → marker_of k ≡ Some marker → written k ≡ marker
+marker_written tokens.asterisk marker is = let same : codes "*" ≡ marker = cc in same
+marker_written (tokens.symbol s) marker is = (score_of s marker (is_score s) refl is).1
+marker_written _ marker is = absurd (cc)
+
+pub marker_writable : (k : Kind) (marker : List ℕ) → marker_of k ≡ Some marker → IsSoundKind k → IsWritable k
+marker_writable tokens.asterisk marker is sound = tt
+marker_writable (tokens.symbol s) marker is sound = sound
+marker_writable _ marker is sound = absurd (cc)
+
+-- A game that is read of sound tokens.
+pub record SoundGame (p : Profile) (g : Game) : Type 0 where
+  pub given : List Pair
+  pub text : List Kind
+  pub last : Kind
+  pub later : List Kind
+  pub keeps : KeepsTags p given
+  pub sorted : g.pairs ≡ by_name given
+  pub set_up : IsSetUp g.pairs
+  pub sound_pairs : AllByRecursion IsSoundPair given
+  pub items : SpellsText p (start_of g.pairs) 0 (new_level []) text g.items
+  pub sound_text : AllByRecursion IsSoundKind text
+  pub marker : marker_of last ≡ Some g.marker
+  pub sound_marker : IsSoundKind last
+  pub closes : CommentsClose false (text ++ last ∷ later)
+  pub result : IsResult p.missing_result (value_of g.pairs (codes "Result")) g.marker
+
+pub sound_game : (p : Profile) (ks ls : List Kind) (g : Game) → SpellsGame p ks g → AllByRecursion IsSoundKind ks → CommentsClose false (ks ++ ls)
+    → SoundGame p g × CommentsClose false ls
+sound_game p ks ls g h sound closes =
+    let sound_behind = all_behind IsSoundKind h.before (h.tags ++ (h.text ++ h.last ∷ [])) (subst (AllByRecursion IsSoundKind) h.tokens sound) in
+    let sound_rest = all_behind IsSoundKind h.tags (h.text ++ h.last ∷ []) sound_behind in
+    let all = subst (CommentsClose false) (ap (λ xs. xs ++ ls) h.tokens) closes in
+    let some = behind h.before false (h.tags ++ (h.text ++ h.last ∷ ls)) (dropped_go_on h.before h.dropped)
+    (simp append_assoc at all) in
+    let on = text_goes_on p (start_of g.pairs) 0 (new_level []) h.text g.items h.items in
+    let text = before_text h.tags h.text h.given some.0 h.last g.marker ls h.pairs h.bare on h.marker some.1 in
+    let end = behind h.text false (h.last ∷ ls) on text in (
+      record {
+        given = h.given;
+        text = h.text;
+        last = h.last;
+        later = ls;
+        keeps = h.keeps;
+        sorted = h.sorted;
+        set_up = h.set_up;
+        sound_pairs = sound_pairs h.tags h.given h.pairs (all_front IsSoundKind h.tags (h.text ++ h.last ∷ []) sound_behind);
+        items = h.items;
+        sound_text = all_front IsSoundKind h.text (h.last ∷ []) sound_rest;
+        marker = h.marker;
+        sound_marker = (all_behind IsSoundKind h.text (h.last ∷ []) sound_rest).0;
+        closes = text;
+        result = h.result;
+      },
+      (marker_plain h.last g.marker end.0 ls h.marker end.1).1,
+    )

@@ -1,0 +1,200 @@
+-- Which tokens are rejected at a stage, and where the others lead.
+use Rattle.std.proofs.Common.{◌≡◌, ℕ, ◌+◌, Bool, true, false, ◌&&◌, List, [], length, nat_le, Option, None, Some, refl, sym, ap, subst, ◌∙◌, Bor}
+use Rattle.std.specs.Prelude.{IsTrue, Ok}
+use Rattle.pgn_lexer.specs.Tokens as tokens
+use Rattle.pgn_lexer.specs.Tokens.{left_bracket, right_bracket, symbol, str}
+use Rattle.pgn_lexer.specs.Scanned.{kind_of}
+use Rattle.pgn_lexer.specs.declared.token.TokenKind.{TokenKind}
+use Rattle.pgn_lexer.specs.declared.token.TokenKind.TheVariants as variants
+use Rattle.pgn_game.specs.declared.reason.Reason.{Reason}
+use Rattle.pgn_game.specs.declared.reason.Reason.TheVariants.{ExpectedName, TooManyTags, ExpectedValue, ExpectedBracket, SetUpWithoutFen, TagInMovetext, UnexpectedEnd}
+use Rattle.pgn_game.specs.declared.stage.Stage.{Stage}
+use Rattle.pgn_game.specs.declared.stage.Stage.TheVariants.{Between, AfterLeftBracket, AfterName, AfterValue, AfterTags, InMovetext}
+use Rattle.pgn_game.specs.Profile.{Profile}
+use Rattle.pgn_game.specs.Pairs.{insert_pair}
+use Rattle.pgn_game.specs.Game.{Part, no_part}
+use Rattle.pgn_game.specs.FaultTable.{refusal, is_at, is_comment, is_left_bracket, is_end, lacks_fen}
+use Rattle.pgn_game.specs.Progress.{going, next, at_stage, in_text}
+use Rattle.pgn_game.specs.Judging.{may_have_movetext, judged, outcome_of, or_else, text_refusal}
+use Rattle.pgn_game.specs.Handling.{begins_game}
+use Rattle.pgn_game.proofs.judging.RowsByStage.{naming, name_rows, valuing, value_rows, after_tags, comment_free, comment_stays, drops_comments, is_textual, leads_after_tags}
+
+-- what holds of a part at a stage holds of each that is there
+at_the_stage : (P : Part → Type 0) (part : Part) (stage : Stage) → part.stage ≡ stage → P (at_stage stage part) → P part
+at_the_stage P part stage e h = subst (λ (s : Stage). P (at_stage s part)) (sym e) h
+
+pub hit : (test : Bool) (reason : Reason) (rest : Option Reason) → test ≡ true → or_else test reason rest ≡ Some reason
+hit test reason rest e = ap (λ (b : Bool). or_else b reason rest) e
+
+pub pass : (test : Bool) (reason : Reason) (rest : Option Reason) → test ≡ false → or_else test reason rest ≡ rest
+pass test reason rest e = ap (λ (b : Bool). or_else b reason rest) e
+
+-- a comment before a game or in a pair is let pass, and leads nowhere
+pub comment_passes : (p : Profile) (part : Part) (k : TokenKind) (stage : Stage) → stage ≡ part.stage → IsTrue (drops_comments stage)
+    → true ≡ is_comment (kind_of k) → (refusal p part (kind_of k) ≡ None) × (next part (kind_of k) ≡ going part)
+comment_passes p part k stage at out is =
+    let drops = subst (λ (s : Stage). IsTrue (drops_comments s)) at out in (
+      comment_free p part.stage part.pairs part.name part.items (kind_of k) drops (sym is),
+      comment_stays part.stage part.pairs part.name part.items (kind_of k) drops (sym is),
+    )
+
+expected_name_at : (p : Profile) (part : Part) (k : TokenKind) → false ≡ is_comment (kind_of k) → ((text : Bor (List ℕ)) → k ≡ variants.Symbol text → ⊥)
+    → refusal p (at_stage AfterLeftBracket part) (kind_of k) ≡ Some ExpectedName
+unfolding refusal
+expected_name_at p part (variants.Symbol t) is other = absurd (other t refl)
+expected_name_at p part variants.CommentOpen is other = absurd (cc)
+expected_name_at p part (variants.Word t) is other = absurd (cc)
+expected_name_at p part variants.CommentClose is other = absurd (cc)
+expected_name_at p part _ is other = refl
+
+pub expected_name : (p : Profile) (part : Part) (k : TokenKind) → part.stage ≡ AfterLeftBracket → false ≡ is_comment (kind_of k) → ((text : Bor (List ℕ)) → k ≡ variants.Symbol text → ⊥)
+    → refusal p part (kind_of k) ≡ Some ExpectedName
+expected_name p part k at is other = at_the_stage (λ q. refusal p q (kind_of k) ≡ Some ExpectedName) part AfterLeftBracket at (expected_name_at p part k is other)
+
+expected_value_at : (p : Profile) (part : Part) (k : TokenKind) → false ≡ is_comment (kind_of k) → ((text : Bor (List ℕ)) → k ≡ variants.Str text → ⊥)
+    → refusal p (at_stage AfterName part) (kind_of k) ≡ Some ExpectedValue
+unfolding refusal
+expected_value_at p part (variants.Str t) is other = absurd (other t refl)
+expected_value_at p part variants.CommentOpen is other = absurd (cc)
+expected_value_at p part (variants.Word t) is other = absurd (cc)
+expected_value_at p part variants.CommentClose is other = absurd (cc)
+expected_value_at p part _ is other = refl
+
+pub expected_value : (p : Profile) (part : Part) (k : TokenKind) → part.stage ≡ AfterName → false ≡ is_comment (kind_of k) → ((text : Bor (List ℕ)) → k ≡ variants.Str text → ⊥)
+    → refusal p part (kind_of k) ≡ Some ExpectedValue
+expected_value p part k at is other = at_the_stage (λ q. refusal p q (kind_of k) ≡ Some ExpectedValue) part AfterName at (expected_value_at p part k is other)
+
+expected_bracket_at : (p : Profile) (part : Part) (k : TokenKind) → false ≡ is_comment (kind_of k) → (k ≡ variants.RightBracket → ⊥)
+    → refusal p (at_stage AfterValue part) (kind_of k) ≡ Some ExpectedBracket
+unfolding refusal
+expected_bracket_at p part variants.RightBracket is other = absurd (other refl)
+expected_bracket_at p part variants.CommentOpen is other = absurd (cc)
+expected_bracket_at p part (variants.Word t) is other = absurd (cc)
+expected_bracket_at p part variants.CommentClose is other = absurd (cc)
+expected_bracket_at p part _ is other = refl
+
+pub expected_bracket : (p : Profile) (part : Part) (k : TokenKind) → part.stage ≡ AfterValue → false ≡ is_comment (kind_of k) → (k ≡ variants.RightBracket → ⊥)
+    → refusal p part (kind_of k) ≡ Some ExpectedBracket
+expected_bracket p part k at is other = at_the_stage (λ q. refusal p q (kind_of k) ≡ Some ExpectedBracket) part AfterValue at (expected_bracket_at p part k is other)
+
+-- what a name is rejected for
+pub name_refusal : (p : Profile) (part : Part) (name : List ℕ) → part.stage ≡ AfterLeftBracket
+    → refusal p part (symbol name) ≡ name_rows p part.pairs name
+name_refusal p part name at =
+    ap (λ (s : Stage). refusal p (at_stage s part) (symbol name)) at ∙ naming p part.pairs part.name part.items name
+
+pub name_next : (part : Part) (name : List ℕ) → part.stage ≡ AfterLeftBracket → next part (symbol name) ≡ going (record { stage = AfterName; pairs = part.pairs; name = name; items = part.items })
+name_next part name at = at_the_stage (λ q. next q (symbol name) ≡ going (record { stage = AfterName; pairs = q.pairs; name = name; items = q.items })) part AfterLeftBracket at refl
+
+-- what a value is rejected for
+pub value_refusal : (p : Profile) (part : Part) (value : List ℕ) → part.stage ≡ AfterName
+    → refusal p part (str value) ≡ value_rows part.name value
+value_refusal p part value at =
+    ap (λ (s : Stage). refusal p (at_stage s part) (str value)) at ∙ valuing p part.pairs part.name part.items value
+
+pub value_next : (part : Part) (value : List ℕ) → part.stage ≡ AfterName
+    → next part (str value) ≡ going (record { stage = AfterValue; pairs = insert_pair (record { name = part.name; value = value }) part.pairs; name = []; items = part.items })
+value_next part value at =
+    at_the_stage (λ q. next q (str value) ≡ going (record { stage = AfterValue; pairs = insert_pair (record { name = q.name; value = value }) q.pairs; name = []; items = q.items })) part AfterName at refl
+
+pub close_refusal : (p : Profile) (part : Part) → part.stage ≡ AfterValue → refusal p part right_bracket ≡ None
+unfolding refusal
+close_refusal p part at = at_the_stage (λ q. refusal p q right_bracket ≡ None) part AfterValue at refl
+
+pub close_next : (part : Part) → part.stage ≡ AfterValue → next part right_bracket ≡ going (at_stage AfterTags part)
+close_next part at = at_the_stage (λ q. next q right_bracket ≡ going (at_stage AfterTags q)) part AfterValue at refl
+
+-- what a `[` is rejected for
+pub open_refusal : (p : Profile) (part : Part) → part.stage ≡ AfterTags
+    → refusal p part left_bracket ≡ or_else (nat_le p.tags (length part.pairs)) TooManyTags None
+unfolding refusal
+open_refusal p part at = at_the_stage (λ q. refusal p q left_bracket ≡ or_else (nat_le p.tags (length q.pairs)) TooManyTags None) part AfterTags at refl
+
+pub open_next : (part : Part) → part.stage ≡ AfterTags → next part left_bracket ≡ going (at_stage AfterLeftBracket part)
+open_next part at = at_the_stage (λ q. next q left_bracket ≡ going (at_stage AfterLeftBracket q)) part AfterTags at refl
+
+-- a token that is neither a `[` nor the end may be one of movetext
+textual : (k : TokenKind) → is_left_bracket (kind_of k) ≡ false → is_end (kind_of k) ≡ false → IsTrue (is_textual (kind_of k))
+textual variants.LeftBracket bracket over = absurd (cc)
+textual variants.End bracket over = absurd (cc)
+textual _ bracket over = refl
+
+text_in_movetext : (p : Profile) (part : Part) (k : TokenKind) → is_left_bracket (kind_of k) ≡ false → is_end (kind_of k) ≡ false
+    → refusal p (at_stage InMovetext part) (kind_of k) ≡ text_refusal p part (kind_of k)
+unfolding refusal
+text_in_movetext p part variants.LeftBracket bracket over = absurd (cc)
+text_in_movetext p part variants.End bracket over = absurd (cc)
+text_in_movetext p part _ bracket over = refl
+
+text_refusal_at : (p : Profile) (part : Part) (stage : Stage) (k : TokenKind) → IsTrue (may_have_movetext stage) → is_left_bracket (kind_of k) ≡ false
+    → is_end (kind_of k) ≡ false → (is_at AfterTags (at_stage stage part) && lacks_fen part.pairs) ≡ false
+    → refusal p (at_stage stage part) (kind_of k) ≡ text_refusal p part (kind_of k)
+text_refusal_at p part AfterTags k at bracket over free =
+    after_tags p part.pairs part.name part.items (kind_of k) (textual k bracket over) ∙ pass (lacks_fen part.pairs) SetUpWithoutFen _ free
+    ∙ text_in_movetext p part k bracket over
+text_refusal_at p part InMovetext k at bracket over free = text_in_movetext p part k bracket over
+text_refusal_at p part _ k at bracket over free = absurd (cc)
+
+-- a token of movetext, from a part at its stage
+pub record IsMovetext (part : Part) (k : TokenKind) : Type 0 where
+  pub stage : IsTrue (may_have_movetext part.stage)
+  pub bracket : is_left_bracket (kind_of k) ≡ false
+  pub over : is_end (kind_of k) ≡ false
+  pub set_up : (is_at AfterTags part && lacks_fen part.pairs) ≡ false
+
+text_next_at : (part : Part) (stage : Stage) (k : TokenKind) → IsTrue (may_have_movetext stage) → is_left_bracket (kind_of k) ≡ false
+    → is_end (kind_of k) ≡ false → next (at_stage stage part) (kind_of k) ≡ in_text part (kind_of k)
+text_next_at part AfterTags k at bracket over = leads_after_tags part.pairs part.name part.items (kind_of k) (textual k bracket over)
+text_next_at part InMovetext k at bracket over = refl
+text_next_at part _ k at bracket over = absurd (cc)
+
+-- the table of movetext is the one for it
+pub judged_in_text : (p : Profile) (part : Part) (k : TokenKind) → IsMovetext part k
+    → judged p part (kind_of k) ≡ outcome_of (text_refusal p part (kind_of k)) (in_text part (kind_of k))
+judged_in_text p part k is =
+    ap (λ (o : Option Reason). outcome_of o (next part (kind_of k))) (text_refusal_at p part part.stage k is.stage is.bracket is.over is.set_up)
+    ∙ ap (outcome_of (text_refusal p part (kind_of k))) (text_next_at part part.stage k is.stage is.bracket is.over)
+
+-- a token between games that begins none means nothing
+pub passes_between : (p : Profile) (part : Part) (k : TokenKind) → part.stage ≡ Between → begins_game Between (kind_of k) ≡ false
+    → judged p part (kind_of k) ≡ Ok (going part)
+unfolding refusal
+passes_between p part k at is = at_the_stage (λ q. judged p q (kind_of k) ≡ Ok (going q)) part Between at (by_kind k is)
+  where
+    by_kind : (k : TokenKind) → begins_game Between (kind_of k) ≡ false → judged p (at_stage Between part) (kind_of k) ≡ Ok (going (at_stage Between part))
+    by_kind variants.CommentOpen is = refl
+    by_kind (variants.Word t) is = refl
+    by_kind variants.CommentClose is = refl
+    by_kind variants.End is = refl
+    by_kind _ is = absurd (cc)
+
+-- A token that begins a game means what it means after pairs, of which there is none.
+pub begins_alike : (p : Profile) (k : TokenKind) → IsTrue (begins_game Between (kind_of k))
+    → judged p no_part (kind_of k) ≡ judged p (at_stage AfterTags no_part) (kind_of k)
+unfolding refusal
+begins_alike p variants.CommentOpen is = absurd (cc)
+begins_alike p (variants.Word t) is = absurd (cc)
+begins_alike p variants.CommentClose is = absurd (cc)
+begins_alike p variants.End is = absurd (cc)
+begins_alike p _ is = refl
+
+-- the end after the pairs of a game
+pub end_after_tags : (p : Profile) (part : Part) → part.stage ≡ AfterTags → refusal p part tokens.end ≡ Some UnexpectedEnd
+unfolding refusal
+end_after_tags p part at = at_the_stage (λ q. refusal p q tokens.end ≡ Some UnexpectedEnd) part AfterTags at refl
+
+-- the end and a `[` in movetext
+pub end_in_movetext : (p : Profile) (part : Part) → part.stage ≡ InMovetext → refusal p part tokens.end ≡ Some UnexpectedEnd
+unfolding refusal
+end_in_movetext p part at = at_the_stage (λ q. refusal p q tokens.end ≡ Some UnexpectedEnd) part InMovetext at refl
+
+pub bracket_in_movetext : (p : Profile) (part : Part) → part.stage ≡ InMovetext → refusal p part left_bracket ≡ Some TagInMovetext
+unfolding refusal
+bracket_in_movetext p part at = at_the_stage (λ q. refusal p q left_bracket ≡ Some TagInMovetext) part InMovetext at refl
+
+-- a token after the pairs of a game whose SetUp asks for a FEN
+pub refuses_set_up : (p : Profile) (part : Part) (k : TokenKind) → part.stage ≡ AfterTags → is_left_bracket (kind_of k) ≡ false → is_end (kind_of k) ≡ false → lacks_fen part.pairs ≡ true
+    → refusal p part (kind_of k) ≡ Some SetUpWithoutFen
+refuses_set_up p part k at bracket over lacks =
+    at_the_stage (λ q. refusal p q (kind_of k) ≡ Some SetUpWithoutFen) part AfterTags at
+    (after_tags p part.pairs part.name part.items (kind_of k) (textual k bracket over) ∙ hit _ SetUpWithoutFen _ lacks)

@@ -1,0 +1,223 @@
+-- What the tokens of movetext are rejected for, and where they lead, for a part that is open.
+use Rattle.std.proofs.Common.{◌≡◌, ℕ, Bool, true, false, ◌&&◌, ◌||◌, not, List, [], ◌∷◌, length, nat_le, Option, None, Some, Bor, refl, sym, ap, ◌∙◌, arith}
+use Rattle.std.proofs.lemmas.List.{length-map}
+use Rattle.std.proofs.lemmas.Bool.{or_right, or_from}
+use Rattle.std.specs.Option.{option_copied}
+use Rattle.std.specs.Prelude.{is_some, ◌==◌, Result, Ok, Err, bytes_eq, codes, unwrap_or}
+use Rattle.chess_rules.specs.declared.position.Parts.{Parts}
+use Rattle.chess_text.specs.declared.resolution.Played.{Played}
+use Rattle.chess_text.specs.declared.resolution.SanFault.{SanFault}
+use Rattle.chess_text.specs.declared.resolution.SanFault.TheVariants.{NoMove, Ambiguous}
+use Rattle.pgn_lexer.specs.Tokens.{Kind, symbol}
+use Rattle.pgn_lexer.specs.Scanned.{kind_of}
+use Rattle.pgn_lexer.specs.declared.token.TokenKind.{TokenKind}
+use Rattle.pgn_lexer.specs.declared.token.TokenKind.TheVariants as variants
+use Rattle.pgn_game.specs.declared.reason.Reason.{Reason}
+use Rattle.pgn_game.specs.declared.reason.Reason.TheVariants.{NotAMove, IllegalMove, AmbiguousMove, MoveLimit, MarkerInVariation, ResultDiffers}
+use Rattle.pgn_game.specs.Profile.{Profile, Missing, counts_as}
+use Rattle.pgn_game.specs.Chess.{move_of}
+use Rattle.pgn_game.specs.Pairs.{Pair, value_of}
+use Rattle.pgn_game.specs.Game as games
+use Rattle.pgn_game.specs.Game.{Part}
+use Rattle.pgn_game.specs.Levels.{Level as ModelLevel, depth, start_of, replayed, without_last}
+use Rattle.pgn_game.specs.FaultTable.{marker_of, is_number, is_score, is_at_limit, levels_of_part, position_in, result_for}
+use Rattle.pgn_game.specs.Finding.{found_in}
+use Rattle.pgn_game.specs.Progress.{Next, going, whole, in_text, move_item, items_of}
+use Rattle.pgn_game.specs.Movetext.{StoredLevels, before_last, stored_level}
+use Rattle.pgn_game.specs.Reading.{Reading}
+use Rattle.pgn_game.specs.declared.stage.Stage.{Stage}
+use Rattle.pgn_game.specs.Judging.{IsOpen, found_of, may_have_movetext, game_of, or_else, text_refusal, with_items}
+use Rattle.pgn_game.proofs.judging.RowsByStage.{symbol_rows}
+use Rattle.pgn_game.proofs.judging.RefusalsByStage.{hit, pass}
+
+-- The levels.
+
+some_before : (start : Parts) (l : ModelLevel) → is_some (before_last start l) ≡ l.has_own_move
+some_before start l =
+    elim l.has_own_move as (λ b. is_some {T = Parts} (elim b [ true ↦ Some (replayed start (without_last l.trail)) | false ↦ None ]) ≡ b) [ true ↦ refl | false ↦ refl ]
+
+pub holds_is : (old : Reading) (part : Part) → IsOpen old part → is_some old.text.levels.present.before ≡ (levels_of_part part).present.has_own_move
+holds_is old part is =
+    ap (λ (ls : StoredLevels). is_some ls.present.before) is.held.levels ∙ some_before (start_of part.pairs) (levels_of_part part).present
+
+pub depth_is : (old : Reading) (part : Part) → IsOpen old part → length old.text.levels.around ≡ depth (levels_of_part part)
+depth_is old part is =
+    ap (λ (ls : StoredLevels). length ls.around) is.held.levels
+    ∙ length-map (levels_of_part part).around (stored_level (start_of part.pairs))
+
+pub position_is : (old : Reading) (part : Part) → IsOpen old part → old.text.levels.present.present ≡ position_in part
+position_is old part is = ap (λ (ls : StoredLevels). ls.present.present) is.held.levels
+
+-- Symbols.
+
+abbrev MoveReading : Type 0
+MoveReading = Option (Result Played SanFault)
+
+abbrev marker_if : Bool → List ℕ → Option (List ℕ)
+marker_if score s = elim score [ true ↦ Some s | false ↦ None ]
+
+abbrev other_if : Missing → List Pair → Option (List ℕ) → Bool
+other_if missing ps o =
+    elim o [ None ↦ false | Some marker ↦ not (bytes_eq marker (unwrap_or (value_of ps (codes "Result")) (result_for missing marker))) ]
+
+-- the rows for a symbol, of whether it is a number or a marker, whether it is a marker, and what it
+-- comes to as a move
+abbrev rows_for : Profile → Part → List ℕ → Bool → Bool → MoveReading → Option Reason
+rows_for p part s word score r =
+    symbol_rows word r (is_at_limit (position_in part)) (depth (levels_of_part part))
+    (other_if p.missing_result part.pairs (marker_if score s)) (is_some (marker_if score s))
+
+symbol_refusal : (p : Profile) (part : Part) (s : List ℕ) (word score : Bool) → (is_number s || is_score s) ≡ word → is_score s ≡ score
+    → text_refusal p part (symbol s) ≡ rows_for p part s word score (move_of (position_in part) s)
+symbol_refusal p part s word score w e = cc
+
+abbrev symbol_next : Part → List ℕ → Bool → Bool → MoveReading → Next
+symbol_next part s number score r =
+    elim (marker_if score s) [ Some marker ↦ whole (game_of part marker) | None ↦ going (with_items part (elim number [ true ↦ [] | false ↦ move_item r ])) ]
+
+symbol_leads : (part : Part) (s : List ℕ) (number score : Bool) → is_number s ≡ number → is_score s ≡ score
+    → in_text part (symbol s) ≡ symbol_next part s number score (move_of (position_in part) s)
+symbol_leads part s number score n e = cc
+
+-- a move is rejected as it is found
+abbrev refused_as : Parts → MoveReading → Option Reason
+refused_as p None = Some NotAMove
+refused_as p (Some (Err NoMove)) = Some IllegalMove
+refused_as p (Some (Err Ambiguous)) = Some AmbiguousMove
+refused_as p (Some (Ok played)) = or_else (is_at_limit p) MoveLimit None
+
+move_rows : (p : Profile) (part : Part) (s : List ℕ) (r : MoveReading) → rows_for p part s false false r ≡ refused_as (position_in part) r
+move_rows p part s None = refl
+move_rows p part s (Some (Err NoMove)) = refl
+move_rows p part s (Some (Err Ambiguous)) = refl
+move_rows p part s (Some (Ok played)) = refl
+
+move_refusal : (p : Profile) (part : Part) (s : List ℕ) → is_number s ≡ false → is_score s ≡ false → text_refusal p part (symbol s) ≡ refused_as (position_in part) (move_of (position_in part) s)
+move_refusal p part s number score =
+    symbol_refusal p part s false false (or_from (is_number s) (is_score s) number score) score ∙ move_rows p part s (move_of (position_in part) s)
+
+abbrev one_move : Played → MoveReading
+one_move played = Some (Ok played)
+
+abbrev limited : Bool → Played → Result Played Reason
+limited b one = elim b [ true ↦ Err MoveLimit | false ↦ Ok one ]
+
+found_free : (p : Parts) (r : MoveReading) (played : Played) → found_in p r ≡ Ok played → (refused_as p r ≡ None) × (r ≡ Some (Ok played))
+found_free p (Some (Ok one)) played e = by_limit (is_at_limit p) refl
+  where
+    by_limit : (b : Bool) → is_at_limit p ≡ b → (refused_as p (one_move one) ≡ None) × (one_move one ≡ one_move played)
+    by_limit true is = let h : limited true one ≡ Ok played = sym (ap (λ (b : Bool). limited b one) is) ∙ e in absurd (cc)
+    by_limit false is =
+        let h : limited false one ≡ Ok played = sym (ap (λ (b : Bool). limited b one) is) ∙ e in
+        let k : one ≡ played = cc in
+        (pass (is_at_limit p) MoveLimit None is, ap one_move k)
+found_free p None played e = absurd (cc)
+found_free p (Some (Err NoMove)) played e = absurd (cc)
+found_free p (Some (Err Ambiguous)) played e = absurd (cc)
+
+-- what was found at the reader's position was found at the part's
+found_at : (old : Reading) (part : Part) (s : List ℕ) (here : Parts) (r : Result Played Reason) → IsOpen old part → here ≡ old.text.levels.present.present → r ≡ found_in here (move_of here s)
+    → found_in (position_in part) (move_of (position_in part) s) ≡ r
+found_at old part s here r is same found = sym (found ∙ ap (λ (p : Parts). found_in p (move_of p s)) (same ∙ position_is old part is))
+
+pub move_free : (old : Reading) (part : Part) (s : List ℕ) (here : Parts) (played : Played) → is_number s ≡ false → is_score s ≡ false → IsOpen old part → here ≡ old.text.levels.present.present
+    → Ok played ≡ found_in here (move_of here s) → text_refusal old.profile part (symbol s) ≡ None
+move_free old part s here played number score is same found =
+    move_refusal old.profile part s number score ∙ (found_free (position_in part) (move_of (position_in part) s) played (found_at old part s here (Ok played) is same found)).0
+
+pub move_leads : (old : Reading) (part : Part) (s : List ℕ) (here : Parts) (played : Played) → is_number s ≡ false → is_score s ≡ false → IsOpen old part → here ≡ old.text.levels.present.present
+    → Ok played ≡ found_in here (move_of here s) → in_text part (symbol s) ≡ going (with_items part (games.move played.mv ∷ []))
+move_leads old part s here played number score is same found =
+    symbol_leads part s false false number score
+    ∙ ap (λ (r : MoveReading). going (with_items part (move_item r))) (found_free (position_in part) (move_of (position_in part) s) played (found_at old part s here (Ok played) is same found)).1
+
+-- Markers.
+
+-- what a marker is rejected for
+abbrev marker_rows : Profile → Part → List ℕ → Option Reason
+marker_rows p part marker =
+    or_else (nat_le 1 (depth (levels_of_part part))) MarkerInVariation
+    (or_else (other_if p.missing_result part.pairs (Some marker) && (depth (levels_of_part part) == 0)) ResultDiffers None)
+
+pub score_of : (s marker : List ℕ) (b : Bool) → is_score s ≡ b → marker_if b s ≡ Some marker → (b ≡ true) × (s ≡ marker)
+score_of s marker true e h = (refl, cc)
+score_of s marker false e h = absurd (cc)
+
+symbol_marker : (p : Profile) (part : Part) (s marker : List ℕ) → marker_of (symbol s) ≡ Some marker → text_refusal p part (symbol s) ≡ marker_rows p part marker
+symbol_marker p part s marker is =
+    let h = score_of s marker (is_score s) refl is in
+    symbol_refusal p part s true true (or_right (is_number s) (is_score s) h.0) h.0 ∙ ap (λ (m : List ℕ). marker_rows p part m) h.1
+
+asterisk_marker : (p : Profile) (part : Part) (marker : List ℕ) → codes "*" ≡ marker → text_refusal p part (kind_of variants.Asterisk) ≡ marker_rows p part marker
+asterisk_marker p part marker e = ap (λ (m : List ℕ). marker_rows p part m) e
+
+marker_refusal : (p : Profile) (part : Part) (k : TokenKind) (marker : List ℕ) → marker_of (kind_of k) ≡ Some marker → text_refusal p part (kind_of k) ≡ marker_rows p part marker
+marker_refusal p part variants.Asterisk marker is = let e : codes "*" ≡ marker = cc in asterisk_marker p part marker e
+marker_refusal p part (variants.Symbol t) marker is = symbol_marker p part t.now marker is
+marker_refusal p part _ marker is = absurd (cc)
+
+-- whether a marker differs from the value for Result, or else from this text
+abbrev pub differs : List ℕ → Option (List ℕ) → List ℕ → Bool
+differs missing value marker = not (bytes_eq marker (unwrap_or value missing))
+
+other_is : (p : Profile) (ps : List Pair) (missing marker : List ℕ) → p.missing_result ≡ counts_as missing
+    → other_if p.missing_result ps (Some marker) ≡ differs missing (value_of ps (codes "Result")) marker
+other_is p ps missing marker known = ap (λ (m : Missing). other_if m ps (Some marker)) known
+
+marker_tested : (p : Profile) (part : Part) (missing marker : List ℕ) (inside other : Bool) → nat_le 1 (depth (levels_of_part part)) ≡ inside → p.missing_result ≡ counts_as missing
+    → differs missing (value_of part.pairs (codes "Result")) marker ≡ other
+    → marker_rows p part marker ≡ or_else inside MarkerInVariation (or_else (other && (depth (levels_of_part part) == 0)) ResultDiffers None)
+marker_tested p part missing marker inside other within known test =
+    ap (λ (b : Bool). or_else b MarkerInVariation (or_else (other_if p.missing_result part.pairs (Some marker) && (depth (levels_of_part part) == 0)) ResultDiffers None)) within
+    ∙ ap (λ (b : Bool). or_else inside MarkerInVariation (or_else (b && (depth (levels_of_part part) == 0)) ResultDiffers None)) (other_is p part.pairs missing marker known ∙ test)
+
+pub marker_inside : (old : Reading) (k : TokenKind) (marker : List ℕ) (part : Part) → marker_of (kind_of k) ≡ Some marker → nat_le 1 (depth (levels_of_part part)) ≡ true
+    → text_refusal old.profile part (kind_of k) ≡ Some MarkerInVariation
+marker_inside old k marker part is within = marker_refusal old.profile part k marker is ∙ hit _ MarkerInVariation _ within
+
+pub marker_differs : (old : Reading) (k : TokenKind) (missing marker : List ℕ) (part : Part) → marker_of (kind_of k) ≡ Some marker → depth (levels_of_part part) ≡ 0
+    → old.profile.missing_result ≡ counts_as missing → differs missing (value_of part.pairs (codes "Result")) marker ≡ true → text_refusal old.profile part (kind_of k) ≡ Some ResultDiffers
+marker_differs old k missing marker part is none known test =
+    marker_refusal old.profile part k marker is ∙ marker_tested old.profile part missing marker false true (ap (λ n. nat_le 1 n) none) known test
+    ∙ ap (λ n. or_else (n == 0) ResultDiffers None) none
+
+pub marker_free : (old : Reading) (k : TokenKind) (missing marker : List ℕ) (part : Part) → marker_of (kind_of k) ≡ Some marker → depth (levels_of_part part) ≡ 0
+    → old.profile.missing_result ≡ counts_as missing → differs missing (value_of part.pairs (codes "Result")) marker ≡ false → text_refusal old.profile part (kind_of k) ≡ None
+marker_free old k missing marker part is none known test =
+    marker_refusal old.profile part k marker is ∙ marker_tested old.profile part missing marker false false (ap (λ n. nat_le 1 n) none) known test
+
+abbrev leads_to : Part → Kind → Option (List ℕ) → Next
+leads_to part k o = elim o [ Some m ↦ whole (game_of part m) | None ↦ going (with_items part (items_of part k)) ]
+
+pub marker_whole : (part : Part) (k : Kind) (marker : List ℕ) → marker_of k ≡ Some marker → in_text part k ≡ whole (game_of part marker)
+marker_whole part k marker is = ap (leads_to part k) is
+
+-- the test of a reader that has the text of a missing Result
+unwrap_copied : (o : Option (Bor (List ℕ))) (d : Bor (List ℕ)) → (unwrap_or o d).now ≡ unwrap_or (option_copied o) d.now
+unwrap_copied None d = refl
+unwrap_copied (Some x) d = refl
+
+pub test_of : (held : List Pair) (value : Option (Bor (List ℕ))) (d known : Bor (List ℕ)) (missing marker : List ℕ) (test : Bool) (tags : List Pair) → held ≡ tags
+    → option_copied value ≡ value_of held (codes "Result") → d.now ≡ missing → known ≡ unwrap_or value d → test ≡ not (bytes_eq marker known.now)
+    → differs missing (value_of tags (codes "Result")) marker ≡ test
+test_of held value d known missing marker test tags same found text is tested =
+    sym (
+    tested ∙ ap (λ (n : List ℕ). not (bytes_eq marker n)) (ap (λ (x : Bor (List ℕ)). x.now) is ∙ unwrap_copied value d ∙ ap (unwrap_or (option_copied value)) text)
+    ∙ ap (λ (o : Option (List ℕ)). differs missing o marker) (found ∙ ap (λ (ps : List Pair). value_of ps (codes "Result")) same)
+    )
+
+pub none_around : {A : Type 0} (ls : List A) → length ls ≡ 0 → ls ≡ []
+none_around [] e = refl
+none_around (l ∷ ls) e = absurd (omega (arith, e))
+
+-- A symbol that was sought is neither a marker nor a number.
+pub sought : (stage : Stage) (here : Parts) (s : List ℕ) (r : Result Played Reason) → Some r ≡ found_of (may_have_movetext stage && not (is_score s || is_number s)) here s
+    → (is_number s ≡ false) × (is_score s ≡ false) × (r ≡ found_in here (move_of here s))
+sought stage here s r e = by_tests (may_have_movetext stage) (is_score s) (is_number s) refl refl e
+  where
+    by_tests : (at_text score number : Bool) → is_score s ≡ score → is_number s ≡ number → Some r ≡ found_of (at_text && not (score || number)) here s
+        → (is_number s ≡ false) × (is_score s ≡ false) × (r ≡ found_in here (move_of here s))
+    by_tests true false false is number e = (number, is, cc)
+    by_tests true false true is number e = absurd (cc)
+    by_tests true true number is other e = absurd (cc)
+    by_tests false score number is other e = absurd (cc)

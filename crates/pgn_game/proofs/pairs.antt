@@ -1,0 +1,8 @@
+-- Tag pairs: the order of names, and the value of a name.
+pub mod EscapedLength
+pub mod ExportedValues
+pub mod NameOrder
+pub mod PairsToFirstPosition
+pub mod SectionByLines
+pub mod SortedPairs
+pub mod ValuesByName

@@ -1,0 +1,165 @@
+-- The order of names is a strict order of all names; and pairs in this order.
+use Rattle.std.proofs.Common.{◌≡◌, ℕ, ◌<◌, ◌⊎◌, inl, inr, Bool, true, false, cond, List, [], ◌∷◌, refl, sym, ap, ◌∙◌, arith, Option, None, Some, le-ltb, lt-ltb, eq-eqb}
+use Rattle.std.specs.Prelude.{◌||◌, ◌&&◌, ◌==◌, nat_lt, bytes_eq, filter, is_some}
+use Rattle.std.specs.List.{AllByRecursion}
+use Rattle.std.proofs.ByRecursion.{All-weaker, all_kept_by}
+use Rattle.std.proofs.lemmas.Bool.{false≢true, or_cases, and_parts, ltb-true, eqb-true, cases_order}
+use Rattle.pgn_game.specs.Pairs.{Pair, value_of, has_pair, comes_before, insert_pair}
+use Rattle.pgn_game.specs.Spells.{AreDistinct}
+use Rattle.pgn_game.proofs.pairs.ValuesByName.{bytes_eq-true, bytes_eq-refl, pick, value_of-cons, not_among, all-insert}
+
+-- Names, byte after byte.
+abbrev goes_first : ℕ → ℕ → Bool → Bool
+goes_first x y rest = nat_lt x y || ((x == y) && rest)
+
+first_cases : (x y : ℕ) (rest : Bool) → goes_first x y rest ≡ true → (x < y) ⊎ ((x ≡ y) × (rest ≡ true))
+first_cases x y rest e =
+    elim (or_cases (nat_lt x y) ((x == y) && rest) e) [
+      | inl f ↦ inl (ltb-true x y f)
+      | inr f ↦ let both = and_parts (x == y) rest f in inr (eqb-true x y both.0, both.1)
+    ]
+
+by_byte : (x y : ℕ) (rest : Bool) → x < y → goes_first x y rest ≡ true
+by_byte x y rest h = ap (λ (t : Bool). t || ((x == y) && rest)) (lt-ltb x y h)
+
+by_rest : (x y : ℕ) (rest : Bool) → x ≡ y → rest ≡ true → goes_first x y rest ≡ true
+by_rest x y rest e f =
+    ap (λ (t : Bool). t || ((x == y) && rest)) (le-ltb x y (omega (arith, e))) ∙ ap (λ (t : Bool). t && rest) (eq-eqb x y e) ∙ f
+
+never_itself : (a : List ℕ) → comes_before a a ≡ true → ⊥
+never_itself [] e = false≢true e
+never_itself (x ∷ xs) e =
+    elim (first_cases x x (comes_before xs xs) e) [
+      | inl h ↦ absurd (omega arith)
+      | inr h ↦ never_itself xs h.1
+    ]
+
+before-trans : (a b c : List ℕ) → comes_before a b ≡ true → comes_before b c ≡ true → comes_before a c ≡ true
+before-trans a [] c e f = absurd (false≢true e)
+before-trans a (y ∷ ys) [] e f = absurd (false≢true f)
+before-trans [] (y ∷ ys) (z ∷ zs) e f = refl
+before-trans (x ∷ xs) (y ∷ ys) (z ∷ zs) e f =
+    by_cases (before-trans xs ys zs) (first_cases x y (comes_before xs ys) e) (first_cases y z (comes_before ys zs) f)
+  where
+    by_cases : (comes_before xs ys ≡ true → comes_before ys zs ≡ true → comes_before xs zs ≡ true) → (x < y) ⊎ ((x ≡ y) × (comes_before xs ys ≡ true)) → (y < z) ⊎ ((y ≡ z) × (comes_before ys zs ≡ true)) → goes_first x z (comes_before xs zs) ≡ true
+    by_cases rest (inl h) (inl k) = by_byte x z (comes_before xs zs) (omega arith)
+    by_cases rest (inl h) (inr k) = let e : y ≡ z = k.0 in by_byte x z (comes_before xs zs) (omega arith)
+    by_cases rest (inr h) (inl k) = let e : x ≡ y = h.0 in by_byte x z (comes_before xs zs) (omega arith)
+    by_cases rest (inr h) (inr k) = by_rest x z (comes_before xs zs) (h.0 ∙ k.0) (rest h.1 k.1)
+
+-- any two names come one before the other, or are the same
+abbrev Comparable : List ℕ → List ℕ → Type 0
+Comparable a b = (comes_before a b ≡ true) ⊎ ((a ≡ b) ⊎ (comes_before b a ≡ true))
+
+comparable-cons : (x y : ℕ) (xs ys : List ℕ) → x ≡ y → Comparable xs ys → Comparable (x ∷ xs) (y ∷ ys)
+comparable-cons x y xs ys e (inl h) = inl (by_rest x y (comes_before xs ys) e h)
+comparable-cons x y xs ys e (inr (inl h)) = inr (inl (ap (λ z. z ∷ xs) e ∙ ap (λ zs. y ∷ zs) h))
+comparable-cons x y xs ys e (inr (inr h)) = inr (inr (by_rest y x (comes_before ys xs) (sym e) h))
+
+comparable : (a b : List ℕ) → Comparable a b
+comparable [] [] = inr (inl refl)
+comparable [] (y ∷ ys) = inl refl
+comparable (x ∷ xs) [] = inr (inr refl)
+comparable (x ∷ xs) (y ∷ ys) =
+    elim (cases_order x y) [
+      | inl e ↦ comparable-cons x y xs ys e (comparable xs ys)
+      | inr (inl h) ↦ inl (by_byte x y (comes_before xs ys) h)
+      | inr (inr h) ↦ inr (inr (by_byte y x (comes_before ys xs) h))
+    ]
+
+-- Pairs in the order of their names, no name twice.
+abbrev AllAfter : List ℕ → List Pair → Type 0
+AllAfter name qs = AllByRecursion (λ q. comes_before name q.name ≡ true) qs
+
+abbrev pub InOrder : List Pair → Type 0
+InOrder [] = Unit {0}
+InOrder (q ∷ qs) = AllAfter q.name qs × InOrder qs
+
+further_after : (name next : List ℕ) (qs : List Pair) → comes_before name next ≡ true → AllAfter next qs → AllAfter name qs
+further_after name next qs e h =
+    All-weaker (λ q. comes_before next q.name ≡ true) (λ q. comes_before name q.name ≡ true)
+    (λ q f. before-trans name next q.name e f) qs h
+
+comes_later : (q r : List ℕ) → comes_before q r ≡ false → bytes_eq r q ≡ false → comes_before r q ≡ true
+comes_later q r e other =
+    elim (comparable q r) [
+      | inl h ↦ absurd (false≢true (sym e ∙ h))
+      | inr (inl h) ↦ absurd (false≢true (sym other ∙ bytes_eq-refl r q (sym h)))
+      | inr (inr h) ↦ h
+    ]
+
+pub order-insert : (q : Pair) (qs : List Pair) → has_pair qs q.name ≡ false → InOrder qs → InOrder (insert_pair q qs)
+order-insert q [] new h = (tt, tt)
+order-insert q (r ∷ rs) new h =
+    let apart = not_among r rs q.name new in
+    by_test (order-insert q rs apart.1 h.1) apart.0 (comes_before q.name r.name) refl
+  where
+    by_test : InOrder (insert_pair q rs) → bytes_eq r.name q.name ≡ false → (b : Bool) → comes_before q.name r.name ≡ b
+        → InOrder (elim b [ true ↦ q ∷ r ∷ rs | false ↦ r ∷ insert_pair q rs ])
+    by_test rest other true e = ((e, further_after q.name r.name rs e h.0), h)
+    by_test rest other false e =
+        (all-insert (λ p. comes_before r.name p.name ≡ true) q rs (comes_later q.name r.name e other) h.0, rest)
+
+pub order-filter : (f : Pair → Bool) (qs : List Pair) → InOrder qs → InOrder (filter f qs)
+order-filter f [] h = tt
+order-filter f (q ∷ qs) h =
+    let after = all_kept_by f (λ p. comes_before q.name p.name ≡ true) qs h.0 in
+    let more = order-filter f qs h.1 in
+    elim (f q) as (λ b. InOrder (cond b (q ∷ filter f qs) (filter f qs))) [ true ↦ (after, more) | false ↦ more ]
+
+-- a name before all others is none of them
+other_name : (name next : List ℕ) → comes_before name next ≡ true → (b : Bool) → bytes_eq next name ≡ b → b ≡ false
+other_name name next e true is = absurd (never_itself name (ap (comes_before name) (sym (bytes_eq-true next name is)) ∙ e))
+other_name name next e false is = refl
+
+absent : (name : List ℕ) (qs : List Pair) → AllAfter name qs → value_of qs name ≡ None
+absent name [] h = refl
+absent name (q ∷ qs) h =
+    value_of-cons q qs name
+    ∙ ap (λ b. pick b q.value (value_of qs name)) (other_name name q.name h.0 (bytes_eq q.name name) refl)
+    ∙ absent name qs h.1
+
+-- names in order are distinct
+pub distinct_in_order : (ps : List Pair) → InOrder ps → AreDistinct ps
+distinct_in_order [] h = tt
+distinct_in_order (q ∷ qs) h = (ap is_some (absent q.name qs h.0), distinct_in_order qs h.1)
+
+-- Pairs in order are determined by the values of the names.
+value_first : (q : Pair) (qs : List Pair) → value_of (q ∷ qs) q.name ≡ Some q.value
+value_first q qs = value_of-cons q qs q.name ∙ ap (λ b. pick b q.value (value_of qs q.name)) (bytes_eq-refl q.name q.name refl)
+
+is_not_there : (v : List ℕ) (o : Option (List ℕ)) → o ≡ Some v → o ≡ None → ⊥
+is_not_there v o e f = cc
+
+same_behind : (p q : Pair) (ps qs : List Pair) (n : List ℕ) → AllAfter p.name ps → AllAfter q.name qs → p.name ≡ q.name
+    → value_of (p ∷ ps) n ≡ value_of (q ∷ qs) n → value_of ps n ≡ value_of qs n
+same_behind p q ps qs n h k same e = by_test (bytes_eq p.name n) refl
+  where
+    by_test : (b : Bool) → bytes_eq p.name n ≡ b → value_of ps n ≡ value_of qs n
+    by_test true is = let here = bytes_eq-true p.name n is in cc (here, same, absent p.name ps h, absent q.name qs k)
+    by_test false is = cc (is, same, value_of-cons p ps n, value_of-cons q qs n, e)
+
+some_value : (v w : List ℕ) → Some v ≡ Some w → v ≡ w
+some_value v w e = cc
+
+pub same_pairs : (ps qs : List Pair) → InOrder ps → InOrder qs → ((name : List ℕ) → value_of ps name ≡ value_of qs name) → ps ≡ qs
+same_pairs [] [] h k e = refl
+same_pairs [] (q ∷ qs) h k e = absurd (is_not_there q.value (value_of (q ∷ qs) q.name) (value_first q qs) (sym (e q.name)))
+same_pairs (p ∷ ps) [] h k e = absurd (is_not_there p.value (value_of (p ∷ ps) p.name) (value_first p ps) (e p.name))
+same_pairs (p ∷ ps) (q ∷ qs) h k e = by_order (same_pairs ps qs h.1 k.1) (comparable p.name q.name)
+  where
+    here : p.name ≡ q.name → p ≡ q
+    here same =
+        let value = some_value p.value q.value (sym (value_first p ps) ∙ e p.name ∙ ap (value_of (q ∷ qs)) same ∙ value_first q qs) in
+        ap (λ n. record { name = n; value = p.value }) same ∙ ap (λ v. record { name = q.name; value = v }) value
+
+    by_order : (((n : List ℕ) → value_of ps n ≡ value_of qs n) → ps ≡ qs) → Comparable p.name q.name → (p ∷ ps) ≡ (q ∷ qs)
+    by_order rest (inl before) =
+        absurd (is_not_there p.value (value_of (p ∷ ps) p.name) (value_first p ps)
+        (e p.name ∙ absent p.name (q ∷ qs) (before, further_after p.name q.name qs before k.0)))
+    by_order rest (inr (inl same)) =
+        ap (λ x. x ∷ ps) (here same)
+        ∙ ap (λ xs. q ∷ xs) (rest (λ n. same_behind p q ps qs n h.0 k.0 same (e n)))
+    by_order rest (inr (inr before)) =
+        absurd (is_not_there q.value (value_of (q ∷ qs) q.name) (value_first q qs)
+        (sym (e q.name) ∙ absent q.name (p ∷ ps) (before, further_after q.name p.name ps before h.0)))

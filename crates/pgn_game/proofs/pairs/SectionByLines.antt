@@ -1,0 +1,123 @@
+-- A tag section is its lines one by one.
+use Rattle.std.proofs.Common.{◌≡◌, ℕ, suc, ◌+◌, Bool, true, false, cond, List, [], ◌∷◌, ◌++◌, take, drop, refl, ap, sym, subst, ◌∙◌, append_assoc, arith}
+use Rattle.std.specs.Prelude.{map, not, ◌||◌, unwrap_or, bytes_eq, codes}
+use Rattle.std.proofs.lemmas.Bool.{false≢true, or_right}
+use Rattle.pgn_layout.specs.TagLine.{tag_line}
+use Rattle.pgn_game.specs.declared.mode.Mode.{Mode}
+use Rattle.pgn_game.specs.declared.mode.Mode.TheVariants.{Full, Reduced}
+use Rattle.pgn_game.specs.Holding.{place_of}
+use Rattle.pgn_game.specs.Pairs.{Pair, value_of, has_pair, comes_before, insert_pair}
+use Rattle.pgn_game.specs.TagSection.{roster, in_roster, roster_pairs, other_pairs, with_set_up, tag_lines, tag_section}
+use Rattle.pgn_game.specs.SectionLines.{text_by, roster_line, other_line}
+use Rattle.pgn_game.proofs.pairs.ExportedValues.{without_set_up, set_up, set_up_if}
+use Rattle.pgn_game.proofs.pairs.ValuesByName.{bytes_eq-true}
+
+tag_lines-append : (ps qs : List Pair) → tag_lines (ps ++ qs) ≡ tag_lines ps ++ tag_lines qs
+tag_lines-append [] qs = refl
+tag_lines-append (p ∷ ps) qs = ap (λ l. tag_line p.name p.value ++ l) (tag_lines-append ps qs) ∙ sym (append_assoc (tag_line p.name p.value) (tag_lines ps) (tag_lines qs))
+
+roster_lines : (ps ds : List Pair) → text_by (roster_line ps) ds ≡ tag_lines (map (λ d. record { name = d.name; value = unwrap_or (value_of ps d.name) d.value }) ds)
+roster_lines ps [] = refl
+roster_lines ps (d ∷ ds) = ap (λ l. roster_line ps d ++ l) (roster_lines ps ds)
+
+or_false : (b : Bool) → (b || false) ≡ b
+or_false true = refl
+or_false false = refl
+
+-- the line of a pair, unless it is left out
+abbrev line_unless : Bool → Pair → List ℕ
+line_unless b p = elim b [ true ↦ [] | false ↦ tag_line p.name p.value ]
+
+kept_line : (p : Pair) (ps : List Pair) (b : Bool) → line_unless b p ++ tag_lines ps ≡ tag_lines (cond (not b) (p ∷ ps) ps)
+kept_line p ps true = refl
+kept_line p ps false = refl
+
+-- the lines of the pairs, where there is no FEN
+plain_lines : (ps : List Pair) → text_by (other_line false) ps ≡ tag_lines (other_pairs ps)
+plain_lines [] = refl
+plain_lines (p ∷ ps) =
+    ap (λ b. line_unless b p ++ text_by (other_line false) ps) (or_false (in_roster p.name))
+    ∙ ap (λ l. line_unless (in_roster p.name) p ++ l) (plain_lines ps)
+    ∙ kept_line p (other_pairs ps) (in_roster p.name)
+
+abbrev is_set_up : Pair → Bool
+is_set_up p = bytes_eq p.name (codes "SetUp")
+
+beside_line : (p : Pair) (ps : List Pair) (b : Bool) → line_unless (in_roster p.name || b) p ++ tag_lines (other_pairs ps) ≡ tag_lines (other_pairs (cond (not b) (p ∷ ps) ps))
+beside_line p ps true = ap (λ b. line_unless b p ++ tag_lines (other_pairs ps)) (or_right (in_roster p.name) true refl)
+beside_line p ps false = ap (λ b. line_unless b p ++ tag_lines (other_pairs ps)) (or_false (in_roster p.name)) ∙ kept_line p (other_pairs ps) (in_roster p.name)
+
+-- the lines of the pairs beside the SetUp of a FEN
+beside_lines : (ps : List Pair) → text_by (other_line true) ps ≡ tag_lines (other_pairs (without_set_up ps))
+beside_lines [] = refl
+beside_lines (p ∷ ps) = ap (λ l. other_line true p ++ l) (beside_lines ps) ∙ beside_line p (without_set_up ps) (is_set_up p)
+
+-- the lines with SetUp's after so many pairs
+abbrev pub lines_about : ℕ → List Pair → List ℕ
+lines_about n ps = (text_by (other_line true) (take n ps) ++ tag_line (codes "SetUp") (codes "1")) ++ text_by (other_line true) (drop n ps)
+
+lines_about-next : (n : ℕ) (p : Pair) (ps : List Pair) → lines_about (1 + n) (p ∷ ps) ≡ other_line true p ++ lines_about n ps
+lines_about-next n p ps =
+    let next : 1 + n ≡ suc n = omega arith in
+    ap (λ k. lines_about k (p ∷ ps)) next
+    ∙ ap (λ l. l ++ text_by (other_line true) (drop n ps)) (append_assoc (other_line true p) (text_by (other_line true) (take n ps)) (tag_line (codes "SetUp") (codes "1")))
+    ∙ append_assoc (other_line true p) (text_by (other_line true) (take n ps) ++ tag_line (codes "SetUp") (codes "1")) (text_by (other_line true) (drop n ps))
+
+abbrev kept : Bool → Pair → List Pair → List Pair
+kept b p ps = cond (not b) (p ∷ ps) ps
+
+abbrev placed : Bool → Pair → List Pair → List Pair
+placed b p ps = elim b [ true ↦ set_up ∷ p ∷ ps | false ↦ p ∷ insert_pair set_up ps ]
+
+set_up_here : (p : Pair) (ps : List Pair) (s b : Bool) → is_set_up p ≡ s → comes_before (codes "SetUp") p.name ≡ b
+    → lines_about (place_of (codes "SetUp") ps) ps ≡ tag_lines (other_pairs (insert_pair set_up (without_set_up ps)))
+    → lines_about (elim b [ true ↦ 0 | false ↦ 1 + place_of (codes "SetUp") ps ]) (p ∷ ps) ≡ tag_lines (other_pairs (insert_pair set_up (kept s p (without_set_up ps))))
+set_up_here p ps true true is before rest =
+    let same : comes_before (codes "SetUp") (codes "SetUp") ≡ true = subst (λ n. comes_before (codes "SetUp") n ≡ true) (bytes_eq-true p.name (codes "SetUp") is) before in
+    absurd (false≢true same)
+set_up_here p ps false true is before rest =
+    let here : other_pairs (insert_pair set_up (p ∷ without_set_up ps)) ≡ other_pairs (set_up ∷ p ∷ without_set_up ps) = ap (λ b. other_pairs (placed b p (without_set_up ps))) before in
+    ap (λ l. tag_line (codes "SetUp") (codes "1") ++ l) (beside_lines (p ∷ ps) ∙ ap (λ s. tag_lines (other_pairs (kept s p (without_set_up ps)))) is)
+    ∙ ap tag_lines (sym here)
+set_up_here p ps true false is before rest =
+    lines_about-next (place_of (codes "SetUp") ps) p ps
+    ∙ ap (λ s. line_unless (in_roster p.name || s) p ++ lines_about (place_of (codes "SetUp") ps) ps) is
+    ∙ ap (λ l. line_unless (in_roster p.name || true) p ++ l) rest
+    ∙ beside_line p (insert_pair set_up (without_set_up ps)) true
+set_up_here p ps false false is before rest =
+    let here : other_pairs (insert_pair set_up (p ∷ without_set_up ps)) ≡ other_pairs (p ∷ insert_pair set_up (without_set_up ps)) = ap (λ b. other_pairs (placed b p (without_set_up ps))) before in
+    lines_about-next (place_of (codes "SetUp") ps) p ps
+    ∙ ap (λ s. line_unless (in_roster p.name || s) p ++ lines_about (place_of (codes "SetUp") ps) ps) is
+    ∙ ap (λ l. line_unless (in_roster p.name || false) p ++ l) rest
+    ∙ beside_line p (insert_pair set_up (without_set_up ps)) false
+    ∙ ap tag_lines (sym here)
+
+set_up_lines : (ps : List Pair) → lines_about (place_of (codes "SetUp") ps) ps ≡ tag_lines (other_pairs (insert_pair set_up (without_set_up ps)))
+set_up_lines [] = refl
+set_up_lines (p ∷ ps) = set_up_here p ps (is_set_up p) (comes_before (codes "SetUp") p.name) refl refl (set_up_lines ps)
+
+-- what is written of the others, without a FEN and with one
+pub others_without_fen : (ps : List Pair) → has_pair ps (codes "FEN") ≡ false → text_by (other_line false) ps ≡ tag_lines (other_pairs (with_set_up ps))
+others_without_fen ps none = plain_lines ps ∙ ap (λ b. tag_lines (other_pairs (set_up_if b ps))) (sym none)
+
+pub others_with_fen : (ps : List Pair) → has_pair ps (codes "FEN") ≡ true → lines_about (place_of (codes "SetUp") ps) ps ≡ tag_lines (other_pairs (with_set_up ps))
+others_with_fen ps some = set_up_lines ps ∙ ap (λ b. tag_lines (other_pairs (set_up_if b ps))) (sym some)
+
+pub reduced_section : (result : List ℕ) (ps : List Pair) → text_by (roster_line ps) (roster result) ++ 10 ∷ [] ≡ tag_section Reduced result ps
+reduced_section result ps = ap (λ l. l ++ 10 ∷ []) (roster_lines ps (roster result))
+
+pub full_section : (result : List ℕ) (ps : List Pair) → (text_by (roster_line ps) (roster result) ++ tag_lines (other_pairs (with_set_up ps))) ++ 10 ∷ [] ≡ tag_section Full result ps
+full_section result ps =
+    ap (λ l. l ++ 10 ∷ [])
+    (
+    ap (λ l. l ++ tag_lines (other_pairs (with_set_up ps))) (roster_lines ps (roster result))
+    ∙ sym (tag_lines-append (roster_pairs result ps) (other_pairs (with_set_up ps)))
+    )
+
+-- the roster stands first in both modes
+pub roster_first : (result : List ℕ) (mode : Mode) (ps : List Pair) → (rest : List ℕ) × (tag_section mode result ps ≡ text_by (roster_line ps) (roster result) ++ rest)
+roster_first result Reduced ps = (10 ∷ [], sym (reduced_section result ps))
+roster_first result Full ps = (
+  tag_lines (other_pairs (with_set_up ps)) ++ 10 ∷ [],
+  sym (full_section result ps) ∙ append_assoc (text_by (roster_line ps) (roster result)) (tag_lines (other_pairs (with_set_up ps))) (10 ∷ []),
+)

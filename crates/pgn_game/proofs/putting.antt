@@ -1,0 +1,9 @@
+-- What a judged token adds to the reader and to the text.
+pub mod CodeLevelsToStored
+pub mod ItemToMovetext
+pub mod ItemToReader
+pub mod ItemsAppended
+pub mod MarkerToReader
+pub mod PairStepToReader
+pub mod PlayedMovesAreLegal
+pub mod WritesInTurn

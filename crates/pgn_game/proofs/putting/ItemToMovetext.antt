@@ -1,0 +1,294 @@
+-- What an item adds to the movetext that is held.
+use Rattle.std.proofs.Common.{◌≡◌, ℕ, ◌+◌, ◌<◌, ◌≤◌, Bool, true, false, cond, List, [], ◌∷◌, ◌++◌, map, length, drop, Option, Some, refl, sym, ap, subst, ◌∙◌, append_assoc, append-nil, arith}
+use Rattle.std.specs.Prelude.{All, ◌==◌, ◌&&◌, IsTrue, is_some, IfSome, Result, Ok, Err, IsErr, OnOk, unwrap_or}
+use Rattle.std.specs.Io.KnownBytes.{Appends}
+use Rattle.std.proofs.lemmas.List.Elements.{All-nil, All-cons, All-head, All-tail, All-append}
+use Rattle.std.proofs.lemmas.List.{length-map}
+use Rattle.std.proofs.lemmas.List.Sums.{fold-append}
+use Rattle.std.proofs.Math.Dec.{eqb-suc-zero}
+use Rattle.std.proofs.Math.Seq.{drop-append_seam}
+use Rattle.chess_rules.specs.declared.position.Move.{Move}
+use Rattle.chess_rules.specs.declared.position.Parts.{Parts}
+use Rattle.chess_rules.specs.Legal.{legal}
+use Rattle.chess_text.specs.San.{san, MarkPairs, disambiguation_pairs}
+use Rattle.pgn_layout.specs.declared.sink.WriteFault.{WriteFault}
+use Rattle.pgn_layout.specs.Device.{AppendsFront, Counts, Writes}
+use Rattle.pgn_layout.specs.Lines.{IsToken, lines_of, full_lines, last_line, text_of as text_of_lines}
+use Rattle.pgn_layout.specs.Layout.{Layout, Put, holding, laid_from, text_put, line_put}
+use Rattle.pgn_game.specs.declared.judged.Item.{Item as CodeItem}
+use Rattle.pgn_game.specs.declared.judged.Item.TheVariants as code
+use Rattle.pgn_game.specs.declared.mode.Mode.{Mode}
+use Rattle.pgn_game.specs.declared.mode.Mode.TheVariants.{Full, Reduced}
+use Rattle.pgn_game.specs.Chess.{play, text_of_move}
+use Rattle.pgn_game.specs.Game.{Item, move, open_variation, close_variation}
+use Rattle.pgn_game.specs.Levels.{Level as ModelLevel, Levels as ModelLevels, levels_after, levels_of, first_level, depth, here, outermost, main_moves}
+use Rattle.pgn_game.specs.Text.{Placed, is_move, tokens_at, tokens_from, tokens_out, full_text}
+use Rattle.pgn_game.specs.Movetext.{StoredLevels, Movetext, level_at, IsBackIn, before_last, stored_level, stored_levels, ends_in_move, HoldsItems}
+use Rattle.pgn_game.specs.Judging.{ItemFits, model_item}
+use Rattle.pgn_game.specs.Putting.{Device, PutsTokens, GoesOn, LeadsLevels, writes, tokens_if, after_move_if, plies_in, item_text, Adds}
+use Rattle.pgn_game.proofs.putting.WritesInTurn.{front_of_more, Writes-append}
+use Rattle.pgn_game.proofs.putting.ItemsAppended.{written_from_start, written_behind, written_more, tokens_behind, tokens_more, full_lines_put, last_line_put}
+
+-- Tokens put in turn: what goes out, and the line that is held.
+full_lines_laid : (ts us : List (List ℕ)) → All IsToken ts → All IsToken us
+    → text_of_lines (full_lines (lines_of (ts ++ us))) ≡ text_of_lines (full_lines (lines_of ts)) ++ (laid_from (last_line (lines_of ts)) (map Put us)).written
+full_lines_laid ts [] each more =
+    ap (λ l. text_of_lines (full_lines (lines_of l))) (append-nil ts) ∙ sym (append-nil (text_of_lines (full_lines (lines_of ts))))
+full_lines_laid ts (u ∷ us) each more =
+    let full = text_of_lines (full_lines (lines_of ts)) in
+    let last = last_line (lines_of ts) in
+    let first = All-append IsToken ts (u ∷ []) each (All-cons IsToken u [] (All-head IsToken u us more) (All-nil IsToken)) in
+    ap (λ l. text_of_lines (full_lines (lines_of l))) (sym (append_assoc ts (u ∷ []) us))
+    ∙ full_lines_laid (ts ++ u ∷ []) us first (All-tail IsToken u us more)
+    ∙ ap (λ l. l ++ (laid_from (last_line (lines_of (ts ++ u ∷ []))) (map Put us)).written) (full_lines_put ts u each)
+    ∙ ap (λ l. (full ++ text_put last u) ++ (laid_from l (map Put us)).written) (last_line_put ts u each)
+    ∙ append_assoc full (text_put last u) (laid_from (line_put last u) (map Put us)).written
+
+last_line_laid : (ts us : List (List ℕ)) → All IsToken ts → All IsToken us → last_line (lines_of (ts ++ us)) ≡ (laid_from (last_line (lines_of ts)) (map Put us)).line
+last_line_laid ts [] each more = ap (λ l. last_line (lines_of l)) (append-nil ts)
+last_line_laid ts (u ∷ us) each more =
+    let first = All-append IsToken ts (u ∷ []) each (All-cons IsToken u [] (All-head IsToken u us more) (All-nil IsToken)) in
+    ap (λ l. last_line (lines_of l)) (sym (append_assoc ts (u ∷ []) us))
+    ∙ last_line_laid (ts ++ u ∷ []) us first (All-tail IsToken u us more)
+    ∙ ap (λ l. (laid_from l (map Put us)).line) (last_line_put ts u each)
+
+-- One item more.
+levels_of-snoc : (items : List Item) (i : Item) → levels_of (items ++ i ∷ []) ≡ levels_after (levels_of items) i
+levels_of-snoc items i = fold-append levels_after first_level items (i ∷ [])
+
+ends_in_move-append : (b : Bool) (xs ys : List Placed) → ends_in_move b (xs ++ ys) ≡ ends_in_move (ends_in_move b xs) ys
+ends_in_move-append b [] ys = refl
+ends_in_move-append b (x ∷ xs) ys = ends_in_move-append (is_move x.item) xs ys
+
+-- the moves outside variations
+abbrev main_of : ModelLevels → List Move
+main_of ls = (outermost ls.present ls.around).trail
+
+none_more : (n : ℕ) → n ≡ n + 0
+none_more n = omega arith
+
+plies_by : (i : Item) (present : ModelLevel) (around : List ModelLevel)
+    → length (main_of (levels_after (record { present = present; around = around }) i)) ≡ length (main_of (record { present = present; around = around })) + plies_in i (length around)
+plies_by (move m) present [] = omega arith
+plies_by (move m) present (l ∷ around) =
+    let n = length (main_of (record { present = present; around = l ∷ around })) in
+    none_more n ∙ ap (λ b. n + elim b [ true ↦ 1 | false ↦ 0 ]) (sym (eqb-suc-zero (length around)))
+plies_by close_variation present [] = omega arith
+plies_by close_variation present (l ∷ around) = omega arith
+plies_by _ present around = omega arith
+
+plies-snoc : (items : List Item) (i : Item)
+    → length (main_moves (items ++ i ∷ [])) ≡ length (main_moves items) + plies_in i (depth (levels_of items))
+plies-snoc items i =
+    ap (λ ls. length (main_of ls)) (levels_of-snoc items i) ∙ plies_by i (levels_of items).present (levels_of items).around
+
+-- Whether an item is written decides its tokens, and whether a move was written last.
+module _ (mode : Mode) (start : Parts) (items : List Item) (i : Item) (text : Movetext) (layout : Layout) (written : Bool)
+    (holds : HoldsItems mode start items text layout) (is : writes mode (length text.levels.around) i ≡ written) where
+  abbrev placed : Placed
+  placed = record { position = here start (levels_of items); depth = depth (levels_of items); item = i }
+
+  same_depth : depth (levels_of items) ≡ length text.levels.around
+  same_depth =
+      sym (ap (λ (ls : StoredLevels). length ls.around) holds.levels ∙ length-map (levels_of items).around (stored_level start))
+
+  behind_by : (m : Mode)
+      → written_behind m start items (i ∷ []) ≡ elim (writes m (depth (levels_of items)) i) [ true ↦ placed ∷ [] | false ↦ [] ]
+  behind_by Full = refl
+  behind_by Reduced =
+      elim (is_move i && (depth (levels_of items) == 0))
+      as (λ v. cond v (placed ∷ []) [] ≡ elim v [ true ↦ placed ∷ [] | false ↦ [] ]) [
+        | true ↦ refl
+        | false ↦ refl
+      ]
+
+  behind_is : written_behind mode start items (i ∷ []) ≡ elim written [ true ↦ placed ∷ [] | false ↦ [] ]
+  behind_is =
+      behind_by mode
+      ∙ ap (λ (v : Bool). elim v [ true ↦ placed ∷ [] | false ↦ [] ]) (ap (λ n. writes mode n i) same_depth ∙ is)
+
+  tokens_are : tokens_behind mode start items (i ∷ []) ≡ tokens_if written text i
+  tokens_are =
+      ap (tokens_from (ends_in_move false (written_from_start mode start items))) behind_is ∙ by_written written
+    where
+      by_written : (v : Bool)
+          → tokens_from (ends_in_move false (written_from_start mode start items)) (elim v [ true ↦ placed ∷ [] | false ↦ [] ])
+          ≡ tokens_if v text i
+      by_written true =
+          append-nil _ ∙ ap (λ b. tokens_at b (here start (levels_of items)) i) (sym holds.is_after_move)
+          ∙ ap (λ p. tokens_at text.is_after_move p i) (sym (ap (λ (ls : StoredLevels). ls.present.present) holds.levels))
+      by_written false = refl
+
+  ends_are : after_move_if written text i ≡ ends_in_move text.is_after_move (written_behind mode start items (i ∷ []))
+  ends_are = by_written written ∙ sym (ap (ends_in_move text.is_after_move) behind_is)
+    where
+      by_written : (v : Bool)
+          → after_move_if v text i ≡ ends_in_move text.is_after_move (elim v [ true ↦ placed ∷ [] | false ↦ [] ])
+      by_written true = refl
+      by_written false = refl
+
+-- The levels that an item leads to.
+opened : (start : Parts) (trail : List Move) (holds : Bool) (around : List ModelLevel) (new : StoredLevels)
+    → IsTrue (is_some (before_last start (record { trail = trail; has_own_move = holds })))
+    → IfSome (before_last start (record { trail = trail; has_own_move = holds }))
+    (λ s. new ≡ record { present = level_at s; around = stored_level start (record { trail = trail; has_own_move = holds }) ∷ map (stored_level start) around })
+    → new ≡ stored_levels start (levels_after (record { present = record { trail = trail; has_own_move = holds }; around = around }) open_variation)
+opened start trail true around new some h = h
+opened start trail false around new some h = absurd (cc)
+
+closed : (start : Parts) (present : ModelLevel) (around : List ModelLevel) (new : StoredLevels) → 0 < length (map (stored_level start) around)
+    → IsBackIn (map (stored_level start) around) new → new ≡ stored_levels start (levels_after (record { present = present; around = around }) close_variation)
+closed start present [] new some h = absurd (omega arith)
+closed start present (l ∷ around) new some h = h
+
+-- a legal move leads to the position after it
+played_is : (p : Parts) (m : Move) (next : Parts) → legal p m ≡ Some next → next ≡ play p m
+unfolding play
+played_is p m next is = sym (ap (λ o. unwrap_or o p) is)
+
+abbrev then_at : StoredLevels → Parts → StoredLevels
+then_at ls next = record { present = record { present = next; before = Some ls.present.present }; around = ls.around }
+
+levels_lead : (most : ℕ) (i : CodeItem) (text : Movetext) (new : StoredLevels) (start : Parts) (ls : ModelLevels) → ItemFits most text i
+    → LeadsLevels i text.levels new → text.levels ≡ stored_levels start ls → new ≡ stored_levels start (levels_after ls (model_item i))
+levels_lead most (code.Move played) text new start ls fits leads e =
+    leads ∙ ap (then_at text.levels) (played_is text.levels.present.present played.now.mv played.now.next fits)
+    ∙ ap (λ (l : StoredLevels). then_at l (play l.present.present played.now.mv)) e
+levels_lead most code.Open text new start ls fits leads e =
+    opened start ls.present.trail ls.present.has_own_move ls.around new
+    (subst (λ (o : StoredLevels). IsTrue (is_some o.present.before)) e fits.0)
+    (subst (λ (o : StoredLevels). IfSome o.present.before (λ s. new ≡ record { present = level_at s; around = o.present ∷ o.around })) e leads)
+levels_lead most code.Close text new start ls fits leads e =
+    closed start ls.present ls.around new
+    (subst (λ (o : StoredLevels). 0 < length o.around) e fits) (subst (λ (o : StoredLevels). IsBackIn o.around new) e leads)
+levels_lead most _ text new start ls fits leads e = leads ∙ e
+
+one_at_most : (moved main : Bool) → elim moved [ true ↦ elim main [ true ↦ 1 | false ↦ 0 ] | false ↦ 0 ] ≤ 1
+one_at_most true true = omega arith
+one_at_most true false = omega arith
+one_at_most false main = omega arith
+
+-- An item's tokens were put where it is written, and the movetext went on with it.
+module _ (most : ℕ) (mode : Mode) (i : CodeItem) (text : Movetext) (layout new_layout : Layout) (d : Device) where
+  abbrev written : Bool
+  written = writes mode (length text.levels.around) (model_item i)
+
+  abbrev between : Movetext
+  between = record text { is_after_move = after_move_if written text (model_item i) }
+
+  abbrev us : List (List ℕ)
+  us = tokens_if written text (model_item i)
+
+  tokens_then : (start : Parts) (items : List Item) → HoldsItems mode start items text layout
+      → tokens_out mode start (items ++ model_item i ∷ []) ≡ tokens_out mode start items ++ us
+  tokens_then start items holds =
+      tokens_more mode start items (model_item i ∷ [])
+      ∙ ap (λ l. tokens_out mode start items ++ l) (tokens_are mode start items (model_item i) text layout written holds refl)
+
+  item_text_is : (start : Parts) (items : List Item) → HoldsItems mode start items text layout → All IsToken us
+      → (laid_from layout.line (map Put us)).written ≡ item_text mode start items (model_item i)
+  item_text_is start items holds each =
+      let ts = tokens_out mode start items in
+      ap (λ (l : Layout). (laid_from l.line (map Put us)).written) holds.line
+      ∙ sym (ap (λ l. drop (length (full_text mode start items)) (text_of_lines (full_lines (lines_of l)))) (tokens_then start items holds)
+      ∙ ap (drop (length (full_text mode start items))) (full_lines_laid ts us holds.tokens each)
+      ∙ drop-append_seam (full_text mode start items) (laid_from (last_line (lines_of ts)) (map Put us)).written)
+
+  held_then : (start : Parts) (items : List Item) (new : Movetext) → ItemFits most text i → HoldsItems mode start items text layout → All IsToken us
+      → new_layout ≡ holding (laid_from layout.line (map Put us)).line → GoesOn i between new
+      → HoldsItems mode start (items ++ model_item i ∷ []) new new_layout
+  held_then start items new fits holds each line on =
+      let ts = tokens_out mode start items in
+      let behind = written_behind mode start items (model_item i ∷ []) in
+      record {
+        levels = levels_lead most i text new.levels start (levels_of items) fits on.levels holds.levels
+            ∙ ap (stored_levels start) (sym (levels_of-snoc items (model_item i)));
+        plies = on.plies
+            ∙ ap (λ n. text.plies + plies_in (model_item i) n) (sym (same_depth mode start items (model_item i) text layout written holds refl))
+            ∙ ap (λ n. n + plies_in (model_item i) (depth (levels_of items))) holds.plies ∙ sym (plies-snoc items (model_item i));
+        is_after_move = on.is_after_move ∙ ends_are mode start items (model_item i) text layout written holds refl
+            ∙ ap (λ b. ends_in_move b behind) holds.is_after_move
+            ∙ sym (ap (ends_in_move false) (written_more mode start items (model_item i ∷ []))
+            ∙ ends_in_move-append false (written_from_start mode start items) behind);
+        tokens = subst (All IsToken) (sym (tokens_then start items holds)) (All-append IsToken ts us holds.tokens each);
+        line = line ∙ ap (λ (l : Layout). holding (laid_from l.line (map Put us)).line) holds.line
+            ∙ ap holding (sym (ap (λ l. last_line (lines_of l)) (tokens_then start items holds) ∙ last_line_laid ts us holds.tokens each));
+      }
+
+  pub adds_put : (new : Movetext) → ItemFits most text i → PutsTokens {A = Unit} {E = WriteFault} us layout new_layout (Ok tt) d
+      → GoesOn i between new → Adds {A = Unit} {E = WriteFault} mode (model_item i) text layout new new_layout (Ok tt) d
+  adds_put new fits puts on = record {
+    adds = λ start items holds. (
+      held_then start items new fits holds puts.each puts.line on,
+      subst (Appends d.before d.after) (item_text_is start items holds puts.each) puts.text,
+    );
+    going = ap (λ (l : Layout). l.has_failed) puts.line;
+    plies = omega (arith, on.plies, one_at_most (is_move (model_item i)) (length text.levels.around == 0));
+    counted = puts.counted;
+  }
+
+  pub adds_front : {A E : Type 0} (new : Movetext) (e : E) (result : Result Unit WriteFault) → PutsTokens {A = A} us layout new_layout (Err e) d → new ≡ text
+      → IsErr result → Adds mode (model_item i) text layout new new_layout result d
+  adds_front new e (Ok x) puts same err = absurd (cc)
+  adds_front new e (Err f) puts same err = record {
+    adds = λ start items holds. subst (AppendsFront d.before d.after) (item_text_is start items holds puts.each) puts.text;
+    going = tt;
+    plies = omega (arith, ap (λ (t : Movetext). t.plies) same);
+    counted = puts.counted;
+  }
+
+-- Tokens put after others.
+laid-written : (line : List ℕ) (xs ys : List (List ℕ))
+    → (laid_from line (map Put (xs ++ ys))).written ≡ (laid_from line (map Put xs)).written ++ (laid_from (laid_from line (map Put xs)).line (map Put ys)).written
+laid-written line [] ys = refl
+laid-written line (x ∷ xs) ys =
+    let next = line_put line x in
+    ap (λ l. text_put line x ++ l) (laid-written next xs ys)
+    ∙ sym (append_assoc (text_put line x) (laid_from next (map Put xs)).written (laid_from (laid_from next (map Put xs)).line (map Put ys)).written)
+
+laid-line : (line : List ℕ) (xs ys : List (List ℕ)) → (laid_from line (map Put (xs ++ ys))).line ≡ (laid_from (laid_from line (map Put xs)).line (map Put ys)).line
+laid-line line [] ys = refl
+laid-line line (x ∷ xs) ys = laid-line (line_put line x) xs ys
+
+abbrev pub from_to : Option (List ℕ) → Option (List ℕ) → ℕ → ℕ → Device
+from_to a b n m = record { before = a; after = b; failures = n; failures_after = m }
+
+pub puts_after : {A B E : Type 0} (xs ys : List (List ℕ)) (layout between new_layout : Layout) (x : A) (result : Result B E) (a b c : Option (List ℕ)) (n m k : ℕ)
+    → PutsTokens {A = A} {E = E} xs layout between (Ok x) (from_to a b n m) → PutsTokens ys between new_layout result (from_to b c m k)
+    → PutsTokens (xs ++ ys) layout new_layout result (from_to a c n k)
+puts_after xs ys layout between new_layout x result a b c n m k first more =
+    let from_there : (l : Layout) → between ≡ l → PutsTokens ys l new_layout result (from_to b c m k) =
+    λ l e. subst (λ (l : Layout). PutsTokens ys l new_layout result (from_to b c m k)) e more in
+    let next = from_there (holding (laid_from layout.line (map Put xs)).line) first.line in record {
+      text = subst (Writes a c result) (sym (laid-written layout.line xs ys)) (Writes-append a b c _ _ result first.text next.text);
+      line = subst (λ l. OnOk result (new_layout ≡ holding l)) (sym (laid-line layout.line xs ys)) next.line;
+      each = All-append IsToken xs ys first.each more.each;
+      counted = subst (λ (x : ℕ). Counts result x k) first.counted more.counted;
+    }
+
+-- so where a write failed before the last tokens
+pub puts_fail : {A B E F : Type 0} (xs ys : List (List ℕ)) (layout new_layout then_layout : Layout) (e : E) (result : Result B F) (d : Device) → All IsToken ys
+    → PutsTokens {A = A} {E = E} xs layout new_layout (Err e) d → IsErr result → PutsTokens (xs ++ ys) layout then_layout result d
+puts_fail xs ys layout new_layout then_layout e (Ok x) d each first err = absurd (cc)
+puts_fail xs ys layout new_layout then_layout e (Err f) d each first err = record {
+  text = subst (AppendsFront d.before d.after) (sym (laid-written layout.line xs ys)) (front_of_more d.before d.after _ _ first.text);
+  line = tt;
+  each = All-append IsToken xs ys first.each each;
+  counted = first.counted;
+}
+
+-- The text that is written for a move is the one of the definitions, and a token.
+pub is_text : (p q : Parts) (m : Move) (s : List ℕ) → s ≡ san q m → q ≡ p → s ≡ text_of_move p m
+unfolding text_of_move
+is_text p q m s text same = text ∙ ap (λ r. san r m) same
+
+pub is_token : (p : Parts) (m : Move) (s : List ℕ) → s ≡ text_of_move p m → 0 < length s → length s ≤ 7 → All IsToken (text_of_move p m ∷ [])
+is_token p m s text some short =
+    subst (λ (t : List ℕ). All IsToken (t ∷ [])) text (All-cons IsToken s [] (record { not_empty = some; fits = omega arith }) (All-nil IsToken))
+
+-- the pairs of a move are those of its position, however the code holds that
+pub writes_move : (place held : Parts) (m : Move) (next : Parts) (n k : ℕ) → held ≡ place → legal place m ≡ Some next
+    → MarkPairs next (n + disambiguation_pairs held m) k → MarkPairs (play place m) (n + disambiguation_pairs place m) k
+writes_move place held m next n k same is h =
+    subst (λ (q : Parts). MarkPairs q (n + disambiguation_pairs place m) k) (played_is place m next is)
+    (subst (λ (p : Parts). MarkPairs next (n + disambiguation_pairs p m) k) same h)

@@ -1,0 +1,234 @@
+-- What putting a token of movetext adds to what stands written of its game, and to the reader.
+use Rattle.std.proofs.Common.{◌≡◌, ℕ, ◌<◌, ◌≤◌, Bool, true, false, ◌||◌, List, [], ◌∷◌, ◌++◌, length, drop, Option, None, refl, sym, ap, subst, ◌∙◌, append-nil, length-append, arith}
+use Rattle.std.specs.Prelude.{IsTrue, Ok, Err}
+use Rattle.std.specs.List.{list_any}
+use Rattle.std.proofs.lemmas.List.Folds.{list_any-append}
+use Rattle.std.proofs.Math.Seq.{drop-append-add, drop-length}
+use Rattle.std.proofs.KnownBytes.{Appends-trans}
+use Rattle.std.specs.Io.KnownBytes.{Appends}
+use Rattle.chess_rules.specs.declared.position.Parts.{Parts}
+use Rattle.pgn_layout.specs.declared.sink.WriteFault.{WriteFault}
+use Rattle.pgn_layout.specs.Device.{AppendsFront, one_more}
+use Rattle.pgn_game.specs.declared.judged.Item.{Item as CodeItem}
+use Rattle.pgn_game.specs.declared.judged.Item.TheVariants as code
+use Rattle.pgn_game.specs.declared.judged.Judged.{Judged}
+use Rattle.pgn_game.specs.declared.judged.Judged.TheVariants.{Entry as InText}
+use Rattle.pgn_game.specs.declared.judged.Entry.TheVariants.{Number, Item as Put}
+use Rattle.pgn_game.specs.declared.mode.Mode.{Mode}
+use Rattle.pgn_game.specs.declared.mode.Mode.TheVariants.{Full, Reduced}
+use Rattle.pgn_game.specs.declared.stage.Stage.{Stage}
+use Rattle.pgn_game.specs.declared.stage.Stage.TheVariants.{Between, AfterLeftBracket, AfterName, AfterValue, AfterTags, InMovetext}
+use Rattle.pgn_game.specs.declared.accept.Accepted.TheVariants.{More}
+use Rattle.pgn_game.specs.declared.reason.Reason.TheVariants as reasons
+use Rattle.pgn_game.specs.Profile.{Profile, Missing, counts_as, known_result}
+use Rattle.pgn_game.specs.Pairs.{Pair}
+use Rattle.pgn_game.specs.Game.{Item, Part}
+use Rattle.pgn_game.specs.Levels.{start_of}
+use Rattle.pgn_game.specs.TagSection.{tag_section}
+use Rattle.pgn_game.specs.Text.{is_move, full_text, torn_at, torn_for}
+use Rattle.pgn_game.specs.Progress.{going}
+use Rattle.pgn_game.specs.Movetext.{HoldsItems}
+use Rattle.pgn_game.specs.Reading.{Reading, Agrees, HoldsPairs, HoldsText, has_move, plies_behind, whole_plies}
+use Rattle.pgn_game.specs.Judging.{IsOpen, IsProbed, after, may_have_movetext, model_item, with_items}
+use Rattle.pgn_game.specs.Putting.{Device, Adds}
+use Rattle.pgn_game.specs.Handling.{BeginsText, Goes, Keeps, PutResult, gain_to, section_due, section_due_of}
+use Rattle.pgn_game.proofs.putting.WritesInTurn.{front_after}
+use Rattle.pgn_game.proofs.putting.ItemToMovetext.{from_to}
+use Rattle.pgn_game.proofs.judging.PartsToJudgement.{open_agrees}
+
+-- what is written of the lines, besides what was
+abbrev pub lines_gain : Mode → List Pair → List Item → List Item → List ℕ
+lines_gain mode ps items more = drop (length (full_text mode (start_of ps) items)) (full_text mode (start_of ps) (items ++ more))
+
+abbrev part_at : Stage → List Pair → List ℕ → List Item → Part
+part_at stage ps name items = record { stage = stage; pairs = ps; name = name; items = items }
+
+pub no_text : (mode : Mode) (start : Parts) → full_text mode start [] ≡ []
+no_text Full start = refl
+no_text Reduced start = refl
+
+same_lines : (mode : Mode) (ps : List Pair) (items more : List Item) → items ≡ []
+    → full_text mode (start_of ps) (items ++ more) ≡ lines_gain mode ps items more
+same_lines mode ps items more none =
+    ap (λ (n : ℕ). drop n (full_text mode (start_of ps) (items ++ more))) (sym (ap (λ (is : List Item). length (full_text mode (start_of ps) is)) none ∙ ap (length {A = ℕ}) (no_text mode (start_of ps))))
+
+gain_at : (mode : Mode) (result : List ℕ) (stage : Stage) (ps : List Pair) (name : List ℕ) (items more : List Item) → IsTrue (may_have_movetext stage) → (stage ≡ AfterTags → items ≡ [])
+    → drop (length (torn_at stage mode result (part_at stage ps name items))) (torn_at InMovetext mode result (part_at InMovetext ps name (items ++ more)))
+    ≡ section_due stage mode result ps ++ lines_gain mode ps items more
+gain_at mode result Between ps name items more at fresh = absurd (cc)
+gain_at mode result AfterLeftBracket ps name items more at fresh = absurd (cc)
+gain_at mode result AfterName ps name items more at fresh = absurd (cc)
+gain_at mode result AfterValue ps name items more at fresh = absurd (cc)
+gain_at mode result AfterTags ps name items more at fresh = ap (λ l. tag_section mode result ps ++ l) (same_lines mode ps items more (fresh refl))
+gain_at mode result InMovetext ps name items more at fresh =
+    let section = tag_section mode result ps in
+    let old = full_text mode (start_of ps) items in
+    let new = full_text mode (start_of ps) (items ++ more) in
+    ap (λ n. drop n (section ++ new)) (length-append section old) ∙ drop-append-add section new (length old)
+
+-- the stage of a part is the reader's
+pub open_stage : (old : Reading) (part : Part) → IsOpen old part → IsTrue (may_have_movetext old.stage) → IsTrue (may_have_movetext part.stage)
+open_stage old part is at = subst (λ (s : Stage). IsTrue (may_have_movetext s)) is.stage at
+
+-- what is due of the section is the part's
+pub section_is : (old : Reading) (part : Part) → IsOpen old part
+    → section_due_of old ≡ section_due part.stage old.profile.mode (known_result old.profile.missing_result) part.pairs
+section_is old part is =
+    let result = known_result old.profile.missing_result in
+    ap (λ (s : Stage). section_due s old.profile.mode result old.tags.held) is.stage
+    ∙ ap (λ (ps : List Pair). section_due part.stage old.profile.mode result ps) (ap (λ t. t.held) is.pairs)
+
+-- What items add: the tag section, where movetext begins, and what they add to the full lines.
+pub gain_is : (old : Reading) (part : Part) (more : List Item) → old.profile.missing_result ≡ counts_as (known_result old.profile.missing_result) → IsTrue (may_have_movetext old.stage) → IsOpen old part
+    → section_due_of old ++ lines_gain old.profile.mode part.pairs part.items more ≡ gain_to old.profile part (going (with_items part more))
+gain_is old part more known at is =
+    let p = old.profile in
+    ap (λ l. l ++ lines_gain p.mode part.pairs part.items more) (section_is old part is)
+    ∙ sym (ap (λ (m : Missing). drop (length (torn_for m p.mode part)) (torn_for m p.mode (with_items part more))) known
+    ∙ gain_at p.mode (known_result p.missing_result) part.stage part.pairs part.name part.items more (open_stage old part is at) (λ e. is.fresh (is.stage ∙ e)))
+
+-- The section was written: so it is said of the reader as its fields make it.
+pub begins_as : (old begun held : Reading) (d : Device) → held ≡ begun → BeginsText {A = Unit {0}} {E = WriteFault} old begun (Ok tt) d
+    → BeginsText {A = Unit {0}} {E = WriteFault} old held (Ok tt) d
+begins_as old begun held d same begins = subst (λ (r : Reading). BeginsText {A = Unit {0}} {E = WriteFault} old r (Ok tt) d) (sym same) begins
+
+-- no move was played outside the games before
+pub plies_before : (old : Reading) → IsTrue (may_have_movetext old.stage) → whole_plies old ≡ old.earlier_plies
+plies_before old at = by_stage old.stage at
+  where
+    by_stage : (stage : Stage) → IsTrue (may_have_movetext stage) → plies_behind stage old.earlier_plies old.text.plies ≡ old.earlier_plies
+    by_stage Between at = absurd (cc)
+    by_stage AfterLeftBracket at = refl
+    by_stage AfterName at = refl
+    by_stage AfterValue at = refl
+    by_stage AfterTags at = refl
+    by_stage InMovetext at = refl
+
+-- a put that failed, and one after which the game goes on
+pub unwritten : (old new : Reading) (j : Judged) (d : Device) → Keeps old new → d.failures_after ≡ one_more d.failures
+    → ((part : Part) → Agrees old part → AppendsFront d.before d.after (gain_to old.profile part (after j part))) → PutResult old j new (Err reasons.WriteFault) d
+unwritten old new j d keeps counted front =
+    record { goes = λ part agrees. (refl, front part agrees); keeps = keeps; stays = tt; going = tt; finished = tt; counted = (refl, counted) }
+
+pub more_comes : (old new : Reading) (j : Judged) (d : Device) → Keeps old new → (new.stage ≡ Between → new ≡ old) → new.layout.has_failed ≡ false
+    → d.failures_after ≡ d.failures → ((part : Part) → Agrees old part → Goes old part (after j part) new More d) → PutResult old j new (Ok More) d
+more_comes old new j d keeps stays well counted on =
+    record { goes = on; keeps = keeps; stays = stays; going = well; finished = tt; counted = counted }
+
+-- a reader in movetext agrees with the part that it holds
+agrees_in_text : (r : Reading) (part : Part) → r.stage ≡ InMovetext → part.stage ≡ InMovetext → r.tags ≡ record { held = part.pairs; pending_name = None }
+    → HoldsItems r.profile.mode (start_of part.pairs) part.items r.text r.layout → (IsTrue (has_move part.items) → 0 < r.most_probes) → Agrees r part
+agrees_in_text r part stage same tags held probed =
+    record {
+      stage = stage ∙ sym same;
+      pairs = subst (λ (s : Stage). HoldsPairs s r.tags part) (sym stage) tags;
+      text = subst (λ (s : Stage). HoldsText s r part) (sym stage) (held, probed);
+    }
+
+not_between : (stage : Stage) {P : Type 0} → stage ≡ InMovetext → stage ≡ Between → P
+not_between stage at e = let h : InMovetext ≡ Between = sym at ∙ e in absurd (cc)
+
+-- The reader after the section and an item: its movetext and its line have changed, and nothing
+-- else but the count of probes.
+pub record IsAfterItem (begun new : Reading) : Type 0 where
+  pub profile : new.profile ≡ begun.profile
+  pub stage : new.stage ≡ begun.stage
+  pub tags : new.tags ≡ begun.tags
+  pub earlier : new.earlier_plies ≡ begun.earlier_plies
+  pub probes : begun.most_probes ≤ new.most_probes
+
+-- the section was written, and then items or none
+goes_with : (old begun new : Reading) (part : Part) (more : List Item) (d : Device) → IsTrue (may_have_movetext old.stage) → IsOpen old part
+    → begun ≡ record old { stage = InMovetext } → IsAfterItem begun new → HoldsItems old.profile.mode (start_of part.pairs) (part.items ++ more) new.text new.layout
+    → (IsTrue (has_move (part.items ++ more)) → 0 < new.most_probes) → Appends d.before d.after (gain_to old.profile part (going (with_items part more)))
+    → Goes old part (going (with_items part more)) new More d
+goes_with old begun new part more d at is begins next held probed appended =
+    let stage : new.stage ≡ InMovetext = next.stage ∙ ap (λ (r : Reading). r.stage) begins in
+    record {
+      leads = agrees_in_text new (with_items part more) stage refl (next.tags ∙ ap (λ (r : Reading). r.tags) begins ∙ is.pairs)
+          (subst (λ (p : Profile). HoldsItems p.mode (start_of part.pairs) (part.items ++ more) new.text new.layout)
+          (sym (next.profile ∙ ap (λ (r : Reading). r.profile) begins)) held) probed;
+      plies = ap (λ (s : Stage). plies_behind s new.earlier_plies new.text.plies) stage
+          ∙ omega (arith, next.earlier, ap (λ (r : Reading). r.earlier_plies) begins, plies_before old at);
+      appended = appended;
+    }
+
+-- A number was put, or a period: the section alone was written.
+pub puts_number : (old new : Reading) (d : Device) → IsTrue (may_have_movetext old.stage) → old.layout.has_failed ≡ false
+    → BeginsText {A = Unit} {E = WriteFault} old new (Ok tt) d → PutResult old (InText Number) new (Ok More) d
+puts_number old new d at well begins =
+    more_comes old new (InText Number) d
+    (record { profile = begins.profile; plies = omega (arith, begins.earlier, begins.plies); probes = omega (arith, begins.probes) })
+    (not_between new.stage (ap (λ (r : Reading). r.stage) begins.begun)) (ap (λ (r : Reading). r.layout.has_failed) begins.begun ∙ well) begins.counted
+    (λ part agrees.
+    let is = open_agrees old part agrees at in
+    let ps = part.pairs in
+    let items = part.items in
+    let nothing : lines_gain old.profile.mode ps items [] ≡ [] =
+    ap (λ (is : List Item). drop (length (full_text old.profile.mode (start_of ps) items)) (full_text old.profile.mode (start_of ps) is)) (append-nil items)
+    ∙ drop-length (full_text old.profile.mode (start_of ps) items) in
+    goes_with old new new part [] d at is begins.begun (record { profile = refl; stage = refl; tags = refl; earlier = refl; probes = omega arith })
+    (subst (λ (r : Reading). HoldsItems old.profile.mode (start_of ps) (items ++ []) r.text r.layout) (sym begins.begun)
+    (subst (λ (l : List Item). HoldsItems old.profile.mode (start_of ps) l old.text old.layout) (sym (append-nil items)) is.held))
+    (λ has. subst (λ (n : ℕ). 0 < n) (sym begins.probes) (is.probed (subst (λ (l : List Item). IsTrue (has_move l)) (append-nil items) has)))
+    (subst (Appends d.before d.after) (sym (append-nil _) ∙ ap (λ l. section_due_of old ++ l) (sym nothing) ∙ gain_is old part [] begins.known at is) begins.text))
+
+-- where a move was played, some pair was tried
+probed_with : (old : Reading) (part : Part) (i : CodeItem) (most : ℕ) → IsProbed (Put i) old.most_probes → old.most_probes ≤ most
+    → (IsTrue (has_move part.items) → 0 < old.most_probes) → IsTrue (has_move (part.items ++ model_item i ∷ [])) → 0 < most
+probed_with old part i most put rises before has = by_kind i put refl
+  where
+    or_left : (x y : Bool) → y ≡ false → (x || y) ≡ true → x ≡ true
+    or_left true y e h = refl
+    or_left false y e h = sym e ∙ h
+
+    earlier : list_any is_move (model_item i ∷ []) ≡ false → 0 < most
+    earlier none =
+        let some = before (or_left (has_move part.items) (list_any is_move (model_item i ∷ [])) none (sym (list_any-append is_move part.items (model_item i ∷ [])) ∙ has)) in
+        omega (arith, some, rises)
+
+    by_kind : (k : CodeItem) → IsProbed (Put k) old.most_probes → i ≡ k → 0 < most
+    by_kind (code.Move played) put is = omega (arith, put, rises)
+    by_kind (code.Glyph n) put is = earlier (ap (λ (k : CodeItem). list_any is_move (model_item k ∷ [])) is)
+    by_kind code.CommentOpen put is = earlier (ap (λ (k : CodeItem). list_any is_move (model_item k ∷ [])) is)
+    by_kind (code.Word text) put is = earlier (ap (λ (k : CodeItem). list_any is_move (model_item k ∷ [])) is)
+    by_kind code.CommentClose put is = earlier (ap (λ (k : CodeItem). list_any is_move (model_item k ∷ [])) is)
+    by_kind code.Open put is = earlier (ap (λ (k : CodeItem). list_any is_move (model_item k ∷ [])) is)
+    by_kind code.Close put is = earlier (ap (λ (k : CodeItem). list_any is_move (model_item k ∷ [])) is)
+
+-- the movetext that was held is held where its section is written
+begun_held : (old begun : Reading) (part : Part) → IsOpen old part → begun ≡ record old { stage = InMovetext }
+    → HoldsItems begun.profile.mode (start_of part.pairs) part.items begun.text begun.layout
+begun_held old begun part is begins = subst (λ (r : Reading). HoldsItems r.profile.mode (start_of part.pairs) part.items r.text r.layout) (sym begins) is.held
+
+-- The section was written, and then the item put.
+pub puts_item : (old begun new : Reading) (i : CodeItem) (a b c : Option (List ℕ)) (n m k : ℕ) → IsTrue (may_have_movetext old.stage)
+    → IsProbed (Put i) old.most_probes → BeginsText {A = Unit} {E = WriteFault} old begun (Ok tt) (from_to a b n m) → IsAfterItem begun new
+    → Adds {A = Unit} {E = WriteFault} begun.profile.mode (model_item i) begun.text begun.layout new.text new.layout (Ok tt) (from_to b c m k)
+    → PutResult old (InText (Put i)) new (Ok More) (from_to a c n k)
+puts_item old begun new i a b c n m k at put begins next adds =
+    let most : old.most_probes ≤ new.most_probes = omega (arith, next.probes, begins.probes) in
+    more_comes old new (InText (Put i)) (from_to a c n k)
+    (record { profile = next.profile ∙ begins.profile; plies = omega (arith, next.earlier, begins.earlier, begins.plies, adds.plies); probes = most })
+    (not_between new.stage (next.stage ∙ ap (λ (r : Reading). r.stage) begins.begun)) adds.going (adds.counted ∙ begins.counted)
+    (λ part agrees.
+    let is = open_agrees old part agrees at in
+    let added = adds.adds (start_of part.pairs) part.items (begun_held old begun part is begins.begun) in
+    goes_with old begun new part (model_item i ∷ []) (from_to a c n k) at is begins.begun next
+    (subst (λ (p : Profile). HoldsItems p.mode (start_of part.pairs) (part.items ++ model_item i ∷ []) new.text new.layout) begins.profile added.0)
+    (probed_with old part i new.most_probes put most is.probed)
+    (subst (Appends a c) (ap (λ (p : Profile). section_due_of old ++ lines_gain p.mode part.pairs part.items (model_item i ∷ [])) begins.profile
+    ∙ gain_is old part (model_item i ∷ []) begins.known at is) (Appends-trans a b c _ _ begins.text added.1)))
+
+pub fails_item : (old begun new : Reading) (i : CodeItem) (f : WriteFault) (a b c : Option (List ℕ)) (n m k : ℕ) → IsTrue (may_have_movetext old.stage)
+    → BeginsText {A = Unit} {E = WriteFault} old begun (Ok tt) (from_to a b n m) → IsAfterItem begun new
+    → Adds {A = Unit} begun.profile.mode (model_item i) begun.text begun.layout new.text new.layout (Err f) (from_to b c m k)
+    → PutResult old (InText (Put i)) new (Err reasons.WriteFault) (from_to a c n k)
+fails_item old begun new i f a b c n m k at begins next adds =
+    unwritten old new (InText (Put i)) (from_to a c n k)
+    (record { profile = next.profile ∙ begins.profile; plies = omega (arith, next.earlier, begins.earlier, begins.plies, adds.plies); probes = omega (arith, next.probes, begins.probes) })
+    (adds.counted ∙ ap one_more begins.counted) (λ part agrees.
+    let is = open_agrees old part agrees at in
+    subst (AppendsFront a c) (ap (λ (p : Profile). section_due_of old ++ lines_gain p.mode part.pairs part.items (model_item i ∷ [])) begins.profile
+    ∙ gain_is old part (model_item i ∷ []) begins.known at is)
+    (front_after a b c _ _ begins.text (adds.adds (start_of part.pairs) part.items (begun_held old begun part is begins.begun))))

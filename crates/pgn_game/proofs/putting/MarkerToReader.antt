@@ -1,0 +1,193 @@
+-- What putting a marker comes to, and a token of movetext whose section cannot be written.
+use Rattle.std.proofs.Common.{◌≡◌, ℕ, List, [], ◌∷◌, ◌++◌, length, drop, Option, Bor, refl, sym, ap, subst, ◌∙◌, append_assoc, length-append, arith}
+use Rattle.std.specs.Prelude.{IsTrue, Ok, Err, All}
+use Rattle.std.proofs.Math.Seq.{drop-append-add, drop-append_seam}
+use Rattle.std.proofs.KnownBytes.{Appends-trans}
+use Rattle.std.specs.Io.KnownBytes.{Appends}
+use Rattle.chess_rules.specs.declared.position.Move.{Move}
+use Rattle.pgn_layout.specs.declared.sink.WriteFault.{WriteFault}
+use Rattle.pgn_layout.specs.Device.{AppendsFront, one_more}
+use Rattle.pgn_layout.specs.Lines.{IsToken, lines_of, full_lines, last_line, text_of as text_of_lines}
+use Rattle.pgn_layout.specs.Layout.{Layout, holding, Put, EndGame, text_at, line_at}
+use Rattle.pgn_game.specs.declared.accept.Accepted.TheVariants.{Finished}
+use Rattle.pgn_game.specs.declared.reason.Reason.TheVariants as reasons
+use Rattle.pgn_game.specs.declared.judged.Judged.TheVariants.{Entry as InText}
+use Rattle.pgn_game.specs.declared.judged.Entry.{Entry}
+use Rattle.pgn_game.specs.declared.judged.Entry.TheVariants.{Number, Item as PutItem, Marker}
+use Rattle.pgn_game.specs.declared.mode.Mode.{Mode}
+use Rattle.pgn_game.specs.declared.stage.Stage.{Stage}
+use Rattle.pgn_game.specs.declared.stage.Stage.TheVariants.{Between, AfterLeftBracket, AfterName, AfterValue, AfterTags, InMovetext}
+use Rattle.pgn_game.specs.Profile.{Profile, Missing, counts_as, known_result}
+use Rattle.pgn_game.specs.Pairs.{Pair}
+use Rattle.pgn_game.specs.Game.{Item, Part}
+use Rattle.pgn_game.specs.Levels.{Level as ModelLevel, Levels as ModelLevels, depth, start_of, outermost, replayed, last_position}
+use Rattle.pgn_game.specs.TagSection.{tag_section}
+use Rattle.pgn_game.specs.FaultTable.{levels_of_part, result_for}
+use Rattle.pgn_game.specs.Text.{tokens_out, full_text, torn_at, torn_for}
+use Rattle.pgn_game.specs.Progress.{whole}
+use Rattle.pgn_game.specs.Movetext.{StoredLevel}
+use Rattle.pgn_game.specs.Reading.{Reading, IsBehind, plies_behind}
+use Rattle.pgn_game.specs.Judging.{EntryFits, IsOpen, after_entry, game_of, may_have_movetext, model_item}
+use Rattle.pgn_game.specs.Putting.{Device}
+use Rattle.pgn_game.specs.Handling.{BeginsText, PutResult, gain_to, section_due, section_due_of}
+use Rattle.pgn_game.proofs.putting.WritesInTurn.{front_of_more, front_after}
+use Rattle.pgn_game.proofs.putting.ItemToMovetext.{from_to}
+use Rattle.pgn_game.proofs.putting.ItemsAppended.{game_ends}
+use Rattle.pgn_game.proofs.judging.PartsToJudgement.{open_agrees}
+use Rattle.pgn_game.proofs.putting.ItemToReader.{gain_is, lines_gain, no_text, open_stage, plies_before, section_is, unwritten}
+use Rattle.pgn_game.proofs.judging.RefusalsInMovetext.{depth_is, position_is}
+
+-- the lines of a game whose items are these, and an empty line
+abbrev game_lines : Mode → List Pair → List Item → List ℕ → List ℕ
+game_lines mode ps items marker = text_of_lines (lines_of (tokens_out mode (start_of ps) items ++ marker ∷ [])) ++ 10 ∷ []
+
+-- what a marker and the end of the game write behind a line
+abbrev ending : List ℕ → List ℕ → List ℕ
+ending line marker = text_at line (Put marker) ++ text_at (line_at line (Put marker)) EndGame
+
+abbrev line_of : Mode → List Pair → List Item → List ℕ
+line_of mode ps items = last_line (lines_of (tokens_out mode (start_of ps) items))
+
+abbrev part_at : Stage → List Pair → List ℕ → List Item → Part
+part_at stage ps name items = record { stage = stage; pairs = ps; name = name; items = items }
+
+nothing_full : (mode : Mode) (ps : List Pair) (items : List Item) (rest : List ℕ) → items ≡ [] → full_text mode (start_of ps) items ++ rest ≡ rest
+nothing_full mode ps items rest none = ap (λ (l : List ℕ). l ++ rest) (ap (λ (is : List Item). full_text mode (start_of ps) is) none ∙ no_text mode (start_of ps))
+
+gain_at : (mode : Mode) (result : List ℕ) (stage : Stage) (ps : List Pair) (name : List ℕ) (items : List Item) (lines rest : List ℕ) → IsTrue (may_have_movetext stage) → (stage ≡ AfterTags → items ≡ [])
+    → lines ≡ full_text mode (start_of ps) items ++ rest
+    → drop (length (torn_at stage mode result (part_at stage ps name items))) (tag_section mode result ps ++ lines) ≡ section_due stage mode result ps ++ rest
+gain_at mode result Between ps name items lines rest at fresh is = absurd (cc)
+gain_at mode result AfterLeftBracket ps name items lines rest at fresh is = absurd (cc)
+gain_at mode result AfterName ps name items lines rest at fresh is = absurd (cc)
+gain_at mode result AfterValue ps name items lines rest at fresh is = absurd (cc)
+gain_at mode result AfterTags ps name items lines rest at fresh is = ap (λ l. tag_section mode result ps ++ l) (is ∙ nothing_full mode ps items rest (fresh refl))
+gain_at mode result InMovetext ps name items lines rest at fresh is =
+    let section = tag_section mode result ps in
+    let full = full_text mode (start_of ps) items in
+    ap (λ n. drop n (section ++ lines)) (length-append section full) ∙ drop-append-add section lines (length full)
+    ∙ ap (drop (length full)) is ∙ drop-append_seam full rest
+
+gain_of : (p : Profile) (part : Part) (marker : List ℕ) → p.missing_result ≡ counts_as (known_result p.missing_result) → IsTrue (may_have_movetext part.stage) → (part.stage ≡ AfterTags → part.items ≡ [])
+    → All IsToken (tokens_out p.mode (start_of part.pairs) part.items) → IsToken marker
+    → gain_to p part (whole (game_of part marker)) ≡ section_due part.stage p.mode (known_result p.missing_result) part.pairs ++ ending (line_of p.mode part.pairs part.items) marker
+gain_of p part marker known at fresh each token =
+    let result = known_result p.missing_result in
+    let lines = text_of_lines (lines_of (tokens_out p.mode (start_of part.pairs) part.items ++ marker ∷ [])) in
+    let ts = tokens_out p.mode (start_of part.pairs) part.items in
+    ap (λ (m : Missing). drop (length (torn_for m p.mode part)) (tag_section p.mode (result_for m marker) part.pairs ++ lines ++ 10 ∷ [])) known
+    ∙ ap (drop (length (torn_for (counts_as result) p.mode part))) (append_assoc (tag_section p.mode result part.pairs) lines (10 ∷ []))
+    ∙ gain_at p.mode result part.stage part.pairs part.name part.items (game_lines p.mode part.pairs part.items marker) (ending (line_of p.mode part.pairs part.items) marker) at fresh
+    (game_ends ts marker each token
+    ∙ append_assoc (text_of_lines (full_lines (lines_of ts))) (text_at (last_line (lines_of ts)) (Put marker)) (text_at (line_at (last_line (lines_of ts)) (Put marker)) EndGame))
+
+-- what is due for a marker, of a reader that holds the part
+due_is : (old : Reading) (part : Part) (marker : List ℕ) → old.profile.missing_result ≡ counts_as (known_result old.profile.missing_result) → IsTrue (may_have_movetext old.stage) → IsToken marker → IsOpen old part
+    → section_due_of old ++ ending old.layout.line marker ≡ gain_to old.profile part (whole (game_of part marker))
+due_is old part marker known at token is =
+    ap (λ (l : List ℕ). l ++ ending old.layout.line marker) (section_is old part is)
+    ∙ ap (λ (l : Layout). section_due part.stage old.profile.mode (known_result old.profile.missing_result) part.pairs ++ ending l.line marker) is.held.line
+    ∙ sym (gain_of old.profile part marker known (open_stage old part is at) (λ e. is.fresh (is.stage ∙ e)) is.held.tokens token)
+
+-- At depth 0 the moves that lead here are those outside variations.
+at_depth_0 : (ls : ModelLevels) (around : List ModelLevel) → ls.around ≡ around → length around ≡ 0 → (outermost ls.present ls.around).trail ≡ ls.present.trail
+at_depth_0 ls [] e n = ap (λ (l : List ModelLevel). (outermost ls.present l).trail) e
+at_depth_0 ls (l ∷ around) e n = absurd (omega (arith, n))
+
+last_is : (old : Reading) (part : Part) → old.text.levels.around ≡ [] → IsOpen old part → (marker : List ℕ) → old.text.levels.present.present ≡ last_position (game_of part marker)
+last_is old part outside is marker =
+    let none : depth (levels_of_part part) ≡ 0 = sym (depth_is old part is) ∙ ap (length {A = StoredLevel}) outside in
+    position_is old part is
+    ∙ ap (λ (ms : List Move). replayed (start_of part.pairs) ms) (sym (at_depth_0 (levels_of_part part) (levels_of_part part).around refl none))
+
+abbrev finished_reader : Reading → Reading
+finished_reader r = record r { stage = Between; layout = holding [] }
+
+behind : (old : Reading) (part : Part) (marker : List ℕ) → old.text.levels.around ≡ [] → IsOpen old part → IsBehind (finished_reader old) (game_of part marker)
+behind old part marker outside is =
+    record {
+      agrees = record { stage = refl; pairs = refl; text = refl };
+      pairs = ap (λ t. t.held) is.pairs;
+      plies = is.held.plies;
+      position = last_is old part outside is marker;
+      probed = is.probed;
+    }
+
+-- what a token of movetext adds behind the section
+abbrev rest_of : Reading → Part → Entry → List ℕ
+rest_of old part Number = lines_gain old.profile.mode part.pairs part.items []
+rest_of old part (PutItem i) = lines_gain old.profile.mode part.pairs part.items (model_item i ∷ [])
+rest_of old part (Marker marker) = ending old.layout.line marker.now
+
+entry_gain : (levels : ℕ) (old : Reading) (part : Part) (e : Entry) → EntryFits levels old.text e → old.profile.missing_result ≡ counts_as (known_result old.profile.missing_result) → IsTrue (may_have_movetext old.stage)
+    → IsOpen old part → section_due_of old ++ rest_of old part e ≡ gain_to old.profile part (after_entry e part)
+entry_gain levels old part Number fits known at is = gain_is old part [] known at is
+entry_gain levels old part (PutItem i) fits known at is = gain_is old part (model_item i ∷ []) known at is
+entry_gain levels old part (Marker marker) fits known at is = due_is old part marker.now known at fits.0 is
+
+-- The section could not be written.
+pub puts_unbegun : (levels : ℕ) (old new : Reading) (e : Entry) (f : WriteFault) (d : Device) → IsTrue (may_have_movetext old.stage) → EntryFits levels old.text e
+    → BeginsText {A = Unit} old new (Err f) d → PutResult old (InText e) new (Err reasons.WriteFault) d
+puts_unbegun levels old new e f d at fits begins =
+    unwritten old new (InText e) d (record { profile = begins.profile; plies = omega (arith, begins.earlier, begins.plies); probes = omega (arith, begins.probes) })
+    begins.counted (λ part agrees.
+    let is = open_agrees old part agrees at in
+    subst (AppendsFront d.before d.after) (entry_gain levels old part e fits begins.known at is) (front_of_more d.before d.after _ (rest_of old part e) begins.text))
+
+-- How the game ends, once its section is written.
+pub record EndsText (old begun : Reading) (marker : List ℕ) (a b : Option (List ℕ)) (n m : ℕ) : Type 0 where
+  pub begins : BeginsText {A = Unit} {E = WriteFault} old begun (Ok tt) (from_to a b n m)
+  pub outside : old.text.levels.around ≡ []
+  pub token : IsToken marker
+  pub at : IsTrue (may_have_movetext old.stage)
+
+abbrev of_line : (old begun : Reading) → begun ≡ record old { stage = InMovetext } → begun.layout.line ≡ old.layout.line
+of_line old begun e = ap (λ (r : Reading). r.layout.line) e
+
+pub ends_well : (old begun new : Reading) (marker : Bor (List ℕ)) (a b d c : Option (List ℕ)) (n m k : ℕ) → EndsText old begun marker.now a b n m
+    → Appends b d (text_at begun.layout.line (Put marker.now)) → Appends d c (text_at (line_at begun.layout.line (Put marker.now)) EndGame)
+    → new ≡ record begun { stage = Between; layout = new.layout } → new.layout ≡ holding [] → k ≡ m
+    → PutResult old (InText (Marker marker)) new (Ok Finished) (from_to a c n k)
+ends_well old begun new marker a b d c n m k ends put last rest empty counted =
+    let same : new ≡ finished_reader old = rest ∙ ap (λ (l : Layout). record begun { stage = Between; layout = l }) empty ∙ ap finished_reader ends.begins.begun in
+    let earlier : new.earlier_plies ≡ old.earlier_plies = ap (λ (r : Reading). r.earlier_plies) same in
+    let plies : new.text.plies ≡ old.text.plies = ap (λ (r : Reading). r.text.plies) same in
+    record {
+      goes = λ part agrees.
+          let is = open_agrees old part agrees ends.at in
+          record {
+            leads = subst (λ (r : Reading). IsBehind r (game_of part marker.now)) (sym same) (behind old part marker.now ends.outside is);
+            plies = ap (λ (s : Stage). plies_behind s new.earlier_plies new.text.plies) (ap (λ (r : Reading). r.stage) same)
+                ∙ omega (arith, earlier, plies, is.held.plies, plies_before old ends.at);
+            appended = subst (Appends a c) (ap (λ (l : List ℕ). section_due_of old ++ ending l marker.now) (of_line old begun ends.begins.begun)
+                ∙ due_is old part marker.now ends.begins.known ends.at ends.token is)
+                (Appends-trans a b c _ _ ends.begins.text (Appends-trans b d c _ _ put last));
+          };
+      keeps = record {
+        profile = ap (λ (r : Reading). r.profile) same;
+        plies = omega (arith, earlier, plies);
+        probes = omega (arith, ap (λ (r : Reading). r.most_probes) same);
+      };
+      stays = tt;
+      going = ap (λ (r : Reading). r.layout.has_failed) same;
+      finished = (refl, ap (λ (r : Reading). r.stage) same);
+      counted = counted ∙ ends.begins.counted;
+    }
+
+-- a write failed behind the section
+pub ends_ill : (old begun new : Reading) (marker : Bor (List ℕ)) (a b c : Option (List ℕ)) (n m k : ℕ) → EndsText old begun marker.now a b n m
+    → AppendsFront b c (ending begun.layout.line marker.now) → new ≡ record begun { layout = new.layout } → k ≡ one_more m
+    → PutResult old (InText (Marker marker)) new (Err reasons.WriteFault) (from_to a c n k)
+ends_ill old begun new marker a b c n m k ends front rest counted =
+    let begins = ends.begins in
+    unwritten old new (InText (Marker marker)) (from_to a c n k)
+    (record {
+      profile = ap (λ (r : Reading). r.profile) rest ∙ begins.profile;
+      plies = omega (arith, ap (λ (r : Reading). r.earlier_plies) rest, ap (λ (r : Reading). r.text.plies) rest, begins.earlier, begins.plies);
+      probes = omega (arith, ap (λ (r : Reading). r.most_probes) rest, begins.probes);
+    })
+    (counted ∙ ap one_more begins.counted) (λ part agrees.
+    let is = open_agrees old part agrees ends.at in
+    subst (AppendsFront a c) (ap (λ (l : List ℕ). section_due_of old ++ ending l marker.now) (of_line old begun begins.begun)
+    ∙ due_is old part marker.now begins.known ends.at ends.token is)
+    (front_after a b c _ _ begins.text front))

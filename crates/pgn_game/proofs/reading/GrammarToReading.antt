@@ -1,0 +1,336 @@
+-- From the grammar to reading: tokens that spell games run, and finish these games.
+use Rattle.std.proofs.Common.{◌≡◌, ℕ, ◌+◌, ◌<◌, Bool, true, false, ◌&&◌, not, List, [], ◌∷◌, ◌++◌, length, nat_lt, nat_le, refl, sym, ap, subst, ◌∙◌, arith, append_assoc, append-nil, Option, None, Some}
+use Rattle.std.specs.Prelude.{◌==◌, codes, bytes_eq, is_some, unwrap_or, IsTrue, IsFalse, Result, Ok}
+use Rattle.std.specs.List.{list_all}
+use Rattle.std.proofs.lemmas.Slice.Eq.{bytes_eq-Decides}
+use Rattle.std.proofs.lemmas.Bool.{and_parts}
+use Rattle.std.proofs.lemmas.Bool.Decides.{nat_tests}
+use Rattle.chess_text.specs.declared.resolution.Played.{Played}
+use Rattle.chess_text.specs.declared.resolution.SanFault.{SanFault}
+use Rattle.pgn_layout.specs.TagLine.{escaped}
+use Rattle.pgn_lexer.specs.Tokens as tokens
+use Rattle.pgn_lexer.specs.Tokens.{Kind}
+use Rattle.pgn_game.specs.declared.mode.Mode.{Mode}
+use Rattle.pgn_game.specs.declared.mode.Mode.TheVariants.{Full, Reduced}
+use Rattle.pgn_game.specs.declared.reason.Reason.TheVariants.{BadTagName, DuplicateTag, TooManyTags, BadResult, BadFen, TagLineTooLong, SetUpWithoutFen, ReducedFen, NoMoveBefore, TooDeep, UnmatchedClose, MarkerInVariation, ResultDiffers}
+use Rattle.pgn_game.specs.declared.stage.Stage.{Stage}
+use Rattle.pgn_game.specs.declared.stage.Stage.TheVariants.{Between, AfterLeftBracket, AfterName, AfterValue, AfterTags, InMovetext}
+use Rattle.pgn_game.specs.Profile.{Profile}
+use Rattle.pgn_game.specs.Pairs.{Pair, value_of, has_pair, insert_pair}
+use Rattle.pgn_game.specs.Chess.{move_of}
+use Rattle.pgn_game.specs.Game as games
+use Rattle.pgn_game.specs.Game.{Item, Game, Part, no_part}
+use Rattle.pgn_game.specs.Levels.{Level, Levels, levels_of, levels_after, depth, here, replayed, without_last, start_of}
+use Rattle.pgn_game.specs.FaultTable.{refusal, is_comment, in_name, is_result, is_score, is_number, is_end, is_at_limit, is_reduced, fen_field, fen_field_of, fen_fault_field, marker_of, lacks_fen, has_other_result}
+use Rattle.pgn_game.specs.Progress.{next, going, whole}
+use Rattle.pgn_game.specs.Spells.{AreDropped, SpellsPair, pair, SpellsPairs, no_pair, next_pair, IsPair, by_name, IsSetUp, Names, new_level, level_after_move, SpellsText, no_more, token, move, variation, BeginsBare, IsResult, SpellsGame, SpellsGames, no_game, next_game}
+use Rattle.pgn_game.proofs.reading.RunsToEnd.{at, Runs, ends, goes, finishes}
+use Rattle.pgn_game.proofs.judging.RowsByStage.{pass, drops_comments, comment_free, comment_stays, comment_goes, opening, opening_between, naming, valuing, closing, is_textual, after_tags, leads_after_tags, between, leads_between, varying, unvarying, starring, symbol_fault, symbolic}
+use Rattle.pgn_game.proofs.reading.PairsInTurn.{with_pairs, Takes, takes}
+use Rattle.pgn_game.proofs.judging.RefusalsInMovetext.{score_of}
+use Rattle.pgn_game.proofs.reading.MovetextTokens.{levels_more, result_meets, other_score, no_other, symbol_next, symbol_leads, stands_free, stands_leads, stands_levels, stands_goes}
+
+-- Comments that are dropped.
+dropped_run : (p : Profile) (stage : Stage) (ps : List Pair) (name : List ℕ) (items : List Item) → IsTrue (drops_comments stage)
+    → (ks rest : List Kind) (gs : List Game) → AreDropped ks → Runs p (at stage ps name items) rest gs → Runs p (at stage ps name items) (ks ++ rest) gs
+dropped_run p stage ps name items drops [] rest gs are runs = runs
+dropped_run p stage ps name items drops (k ∷ ks) rest gs are runs =
+    let both = and_parts (is_comment k) (list_all is_comment ks) are in
+    goes (at stage ps name items) (at stage ps name items) k (ks ++ rest) gs
+    (comment_free p stage ps name items k drops both.0) (comment_goes k both.0)
+    (comment_stays stage ps name items k drops both.0)
+    (dropped_run p stage ps name items drops ks rest gs both.1 runs)
+
+-- Pairs.
+name_fits : (mode : Mode) (q : Pair) → IsPair mode q → (is_reduced mode && bytes_eq q.name (codes "FEN")) ≡ false
+name_fits Full q h = refl
+name_fits Reduced q h = by_test (bytes_eq q.name (codes "FEN")) refl
+  where
+    by_test : (b : Bool) → bytes_eq q.name (codes "FEN") ≡ b → bytes_eq q.name (codes "FEN") ≡ false
+    by_test false e = e
+    by_test true e = let full : Reduced ≡ Full = (h.fen ((bytes_eq-Decides q.name (codes "FEN")).0 e)).0 in absurd (cc)
+
+name_passes : (p : Profile) (ps : List Pair) (name : List ℕ) (items : List Item) (q : Pair) → IsFalse (has_pair ps q.name) → IsPair p.mode q
+    → refusal p (at AfterLeftBracket ps name items) (tokens.symbol q.name) ≡ None
+name_passes p ps name items q new h =
+    let room = h.room in
+    let short : nat_lt 249 (length q.name) ≡ false = grind (arith, nat_tests) in
+    naming p ps name items q.name
+    ∙ pass (not (list_all in_name q.name)) BadTagName _ (ap not h.name)
+    (pass (has_pair ps q.name) DuplicateTag _ new (pass (nat_lt 249 (length q.name)) TagLineTooLong _ short
+    (pass (is_reduced p.mode && bytes_eq q.name (codes "FEN")) ReducedFen None (name_fits p.mode q h) refl)))
+
+guarded : (a b : Bool) → (a ≡ true → b ≡ false) → (a && b) ≡ false
+guarded true b h = h refl
+guarded false b h = refl
+
+value_passes : (p : Profile) (ps : List Pair) (items : List Item) (q : Pair) → IsPair p.mode q
+    → refusal p (at AfterName ps q.name items) (tokens.str q.value) ≡ None
+value_passes p ps items q h =
+    let room = h.room in
+    let short : nat_lt 249 (length q.name + length (escaped q.value)) ≡ false = grind (arith, nat_tests) in
+    let is_marker : (bytes_eq q.name (codes "Result") && not (is_result q.value)) ≡ false =
+    guarded (bytes_eq q.name (codes "Result")) (not (is_result q.value)) (λ e. ap not (h.result ((bytes_eq-Decides q.name (codes "Result")).0 e))) in
+    let is_position : (bytes_eq q.name (codes "FEN") && is_some (fen_field q.value)) ≡ false =
+    guarded (bytes_eq q.name (codes "FEN")) (is_some (fen_field q.value))
+    (λ e. ap (λ r. is_some (fen_fault_field r)) (h.fen ((bytes_eq-Decides q.name (codes "FEN")).0 e)).2) in
+    valuing p ps q.name items q.value
+    ∙ pass (bytes_eq q.name (codes "Result") && not (is_result q.value)) BadResult _ is_marker
+    (pass (bytes_eq q.name (codes "FEN") && is_some (fen_field q.value)) (BadFen (fen_field_of (tokens.str q.value))) _ is_position
+    (pass (nat_lt 249 (length q.name + length (escaped q.value))) TagLineTooLong None short refl))
+
+-- the tokens of a pair, and those behind it
+pair_run : (p : Profile) (ps : List Pair) (name : List ℕ) (ks rest : List Kind) (q : Pair) (gs : List Game) → SpellsPair ks q
+    → length ps < p.tags → IsFalse (has_pair ps q.name) → IsPair p.mode q
+    → Runs p (at AfterTags (insert_pair q ps) [] []) rest gs → Runs p (at AfterTags ps name []) (ks ++ rest) gs
+pair_run p ps name _ rest _ gs (pair xs ys zs n v before_name before_value before_bracket) room new is runs =
+    let q : Pair = record { name = n; value = v } in
+    let free : nat_le p.tags (length ps) ≡ false = grind (arith, nat_tests) in
+    simp append_assoc
+    (goes (at AfterTags ps name []) (at AfterLeftBracket ps name []) tokens.left_bracket _ gs (opening p ps name [] ∙ pass (nat_le p.tags (length ps)) TooManyTags None free refl) refl refl
+    (dropped_run p AfterLeftBracket ps name [] refl xs _ gs before_name
+    (goes (at AfterLeftBracket ps name []) (at AfterName ps n []) (tokens.symbol n) _ gs (name_passes p ps name [] q new is) refl refl
+    (dropped_run p AfterName ps n [] refl ys _ gs before_value
+    (goes (at AfterName ps n []) (at AfterValue (insert_pair q ps) [] []) (tokens.str v) _ gs (value_passes p ps [] q is) refl refl
+    (dropped_run p AfterValue (insert_pair q ps) [] [] refl zs _ gs before_bracket
+    (goes (at AfterValue (insert_pair q ps) [] []) (at AfterTags (insert_pair q ps) [] []) tokens.right_bracket rest gs (closing p (insert_pair q ps) [] []) refl refl runs)))))))
+
+pairs_run : (p : Profile) (ps : List Pair) (name : List ℕ) (ks rest : List Kind) (qs : List Pair) (gs : List Game) → SpellsPairs ks qs → Takes p ps qs
+    → ((n : List ℕ) → Runs p (at AfterTags (with_pairs ps qs) n []) rest gs) → Runs p (at AfterTags ps name []) (ks ++ rest) gs
+pairs_run p ps name _ rest _ gs no_pair takes runs = runs name
+pairs_run p ps name _ rest _ gs (next_pair ks ls q qs first others) takes runs =
+    subst (λ js. Runs p (at AfterTags ps name []) js gs) (sym (append_assoc ks ls rest))
+    (pair_run p ps name ks (ls ++ rest) q gs first takes.0 takes.1 takes.2 (pairs_run p (insert_pair q ps) [] ls rest qs gs others takes.3 runs))
+
+-- Movetext.
+move_passes : (o : Option (Result Played SanFault)) (played : Played) (is_digits score limit : Bool) (deep : ℕ) (other : Bool)
+    → o ≡ Some (Ok played) → is_digits ≡ false → score ≡ false → limit ≡ false → other ≡ false → symbol_fault is_digits score o limit deep other ≡ None
+move_passes o played is_digits score limit deep other one no_digits no_score within same = cc
+
+move_free : (p : Profile) (ps : List Pair) (name : List ℕ) (items : List Item) (s : List ℕ) (played : Played) → Names (here (start_of ps) (levels_of items)) s played
+    → refusal p (at InMovetext ps name items) (tokens.symbol s) ≡ None
+move_free p ps name items s played h =
+    let place = here (start_of ps) (levels_of items) in
+    symbolic p ps name items s
+    ∙ move_passes (move_of place s) played (is_number s) (is_score s) (is_at_limit place) (depth (levels_of items))
+    (has_other_result p.missing_result (at InMovetext ps name items) (tokens.symbol s)) h.one h.no_number h.no_marker h.within
+    (no_other p.missing_result ps name items s h.no_marker)
+
+move_leads : (ps : List Pair) (name : List ℕ) (items : List Item) (s : List ℕ) (played : Played) → Names (here (start_of ps) (levels_of items)) s played
+    → next (at InMovetext ps name items) (tokens.symbol s) ≡ going (at InMovetext ps name (items ++ games.move played.mv ∷ []))
+move_leads ps name items s played h = cc (symbol_leads ps name items s, h.no_marker, h.no_number, h.one)
+
+opens_free : (p : Profile) (ps : List Pair) (name : List ℕ) (items : List Item) → (levels_of items).present.has_own_move ≡ true → depth (levels_of items) < p.depth
+    → refusal p (at InMovetext ps name items) tokens.left_paren ≡ None
+opens_free p ps name items holds room =
+    let free : nat_le p.depth (depth (levels_of items)) ≡ false = grind (arith, nat_tests) in
+    varying p ps name items
+    ∙ pass (not (levels_of items).present.has_own_move) NoMoveBefore _ (ap not holds) (pass (nat_le p.depth (depth (levels_of items))) TooDeep None free refl)
+
+closes_free : (p : Profile) (ps : List Pair) (name : List ℕ) (items : List Item) → 0 < depth (levels_of items)
+    → refusal p (at InMovetext ps name items) tokens.right_paren ≡ None
+closes_free p ps name items some =
+    let free : (depth (levels_of items) == 0) ≡ false = grind (arith, nat_tests) in
+    unvarying p ps name items ∙ pass (depth (levels_of items) == 0) UnmatchedClose None free refl
+
+abbrev leveled : Level → List Level → Levels
+leveled l around = record { present = l; around = around }
+
+-- movetext, and what comes behind it
+abbrev Further : Profile → List Pair → List ℕ → List Item → List Level → List Kind → List Game → Type 0
+Further p ps name all around rest gs = (m : Level) → levels_of all ≡ leveled m around → Runs p (at InMovetext ps name all) rest gs
+
+text_run : (p : Profile) (ps : List Pair) (name : List ℕ) (deep : ℕ) (l : Level) (ks : List Kind) (items : List Item) → SpellsText p (start_of ps) deep l ks items
+    → (before all : List Item) (around : List Level) (rest : List Kind) (gs : List Game) → levels_of before ≡ leveled l around → length around ≡ deep → before ++ items ≡ all
+    → Further p ps name all around rest gs → Runs p (at InMovetext ps name before) (ks ++ rest) gs
+text_run p ps name deep l _ _ (no_more _ _) before all around rest gs at_level at_depth same further =
+    let e : all ≡ before = sym same ∙ append-nil before in
+    subst (λ xs. Runs p (at InMovetext ps name xs) rest gs) e (further l (ap levels_of e ∙ at_level))
+text_run p ps name deep l _ _ (token _ _ k ks item items stands text) before all around rest gs at_level at_depth same further =
+    goes (at InMovetext ps name before) (at InMovetext ps name (before ++ item)) k (ks ++ rest) gs (stands_free p ps name before k item stands) (stands_goes k item stands)
+    (stands_leads ps name before k item stands)
+    (text_run p ps name deep l ks items text (before ++ item) all around rest gs (stands_levels before k item stands ∙ at_level) at_depth
+    (append_assoc before item items ∙ same) further)
+text_run p ps name deep l _ _ (move _ _ s played ks items names text) before all around rest gs at_level at_depth same further =
+    let placed : replayed (start_of ps) l.trail ≡ here (start_of ps) (levels_of before) = ap (λ (x : Levels). here (start_of ps) x) (sym at_level) in
+    let named : Names (here (start_of ps) (levels_of before)) s played = subst (λ x. Names x s played) placed names in
+    goes (at InMovetext ps name before) (at InMovetext ps name (before ++ games.move played.mv ∷ [])) (tokens.symbol s) (ks ++ rest) gs (move_free p ps name before s played named) refl
+    (move_leads ps name before s played named)
+    (text_run p ps name deep (level_after_move played.mv l.trail) ks items text (before ++ games.move played.mv ∷ []) all around rest gs
+    (levels_more before (games.move played.mv) ∙ ap (λ (x : Levels). levels_after x (games.move played.mv)) at_level) at_depth
+    (append_assoc before (games.move played.mv ∷ []) items ∙ same) further)
+text_run p ps name deep l _ _ (variation _ _ ks ls items more holds room inner text) before all around rest gs at_level at_depth same further =
+    let opened : levels_of (before ++ games.open_variation ∷ []) ≡ leveled (new_level (without_last l.trail)) (l ∷ around) =
+    levels_more before games.open_variation ∙ ap (λ (x : Levels). levels_after x games.open_variation) at_level in
+    let middle : List Item = (before ++ games.open_variation ∷ []) ++ items in
+    let holding : (levels_of before).present.has_own_move ≡ true = ap (λ (x : Levels). x.present.has_own_move) at_level ∙ holds in
+    let deepness : depth (levels_of before) ≡ deep = ap (λ (x : Levels). depth x) at_level ∙ at_depth in
+    let deeper : depth (levels_of before) < p.depth = omega arith in
+    subst (λ js. Runs p (at InMovetext ps name before) (tokens.left_paren ∷ js) gs) (sym (append_assoc ks (tokens.right_paren ∷ ls) rest))
+    (goes (at InMovetext ps name before) (at InMovetext ps name (before ++ games.open_variation ∷ [])) tokens.left_paren (ks ++ tokens.right_paren ∷ (ls ++ rest)) gs
+    (opens_free p ps name before holding deeper) refl refl
+    (text_run p ps name (deep + 1) (new_level (without_last l.trail)) ks items inner (before ++ games.open_variation ∷ []) middle (l ∷ around) (tokens.right_paren ∷ (ls ++ rest)) gs
+    opened (omega arith) refl
+    (λ m inside.
+    let some : 0 < depth (levels_of middle) = subst (λ (x : Levels). 0 < depth x) (sym inside) (omega arith) in
+    goes (at InMovetext ps name middle) (at InMovetext ps name (middle ++ games.close_variation ∷ [])) tokens.right_paren (ls ++ rest) gs
+    (closes_free p ps name middle some) refl refl
+    (text_run p ps name deep l ls more text (middle ++ games.close_variation ∷ []) all around rest gs
+    (levels_more middle games.close_variation ∙ ap (λ (x : Levels). levels_after x games.close_variation) inside) at_depth
+    (joined before items more ∙ same) further))))
+  where
+    joined : (xs ys zs : List Item)
+        → (((xs ++ games.open_variation ∷ []) ++ ys) ++ games.close_variation ∷ []) ++ zs ≡ xs ++ games.open_variation ∷ (ys ++ games.close_variation ∷ zs)
+    joined xs ys zs = simp append_assoc
+
+-- Markers.
+score_passes : (number score : Bool) (o : Option (Result Played SanFault)) (limit : Bool) (deep : ℕ) (other : Bool) → score ≡ true → deep ≡ 0 → other ≡ false
+    → symbol_fault number score o limit deep other ≡ None
+score_passes true score o limit deep other e d f = cc
+score_passes false score o limit deep other e d f = cc
+
+abbrev finished : List Pair → List Item → List ℕ → Game
+finished ps items marker = record { pairs = ps; items = items; marker = marker }
+
+-- a marker in its place is let pass, and finishes the game
+record Finishes (p : Profile) (ps : List Pair) (name : List ℕ) (items : List Item) (k : Kind) (marker : List ℕ) : Type 0 where
+  free : refusal p (at InMovetext ps name items) k ≡ None
+  goes : is_end k ≡ false
+  leads : next (at InMovetext ps name items) k ≡ whole (finished ps items marker)
+
+star_finishes : (p : Profile) (ps : List Pair) (name : List ℕ) (items : List Item) → depth (levels_of items) ≡ 0
+    → IsResult p.missing_result (value_of ps (codes "Result")) (codes "*") → Finishes p ps name items tokens.asterisk (codes "*")
+star_finishes p ps name items outside is =
+    let shallow : nat_le 1 (depth (levels_of items)) ≡ false = grind (arith, nat_tests) in
+    let same : has_other_result p.missing_result (at InMovetext ps name items) tokens.asterisk ≡ false = result_meets p.missing_result (value_of ps (codes "Result")) (codes "*") is in
+    record {
+      free =
+          starring p ps name items
+          ∙ pass (nat_le 1 (depth (levels_of items))) MarkerInVariation _ shallow
+          (pass (has_other_result p.missing_result (at InMovetext ps name items) tokens.asterisk && (depth (levels_of items) == 0)) ResultDiffers None
+          (ap (λ (b : Bool). b && (depth (levels_of items) == 0)) same) refl);
+      goes = refl;
+      leads = refl;
+    }
+
+score_finishes : (p : Profile) (ps : List Pair) (name : List ℕ) (items : List Item) (s : List ℕ) → is_score s ≡ true → depth (levels_of items) ≡ 0
+    → IsResult p.missing_result (value_of ps (codes "Result")) s → Finishes p ps name items (tokens.symbol s) s
+score_finishes p ps name items s score outside is =
+    let place = here (start_of ps) (levels_of items) in
+    record {
+      free =
+          symbolic p ps name items s
+          ∙ score_passes (is_number s) (is_score s) (move_of place s) (is_at_limit place) (depth (levels_of items))
+          (has_other_result p.missing_result (at InMovetext ps name items) (tokens.symbol s)) score outside
+          (other_score p.missing_result ps name items s score ∙ result_meets p.missing_result (value_of ps (codes "Result")) s is);
+      goes = refl;
+      leads = symbol_leads ps name items s ∙ ap (λ (b : Bool). symbol_next ps name items s (is_number s) b (move_of place s)) score;
+    }
+
+marker_finishes : (p : Profile) (ps : List Pair) (name : List ℕ) (items : List Item) (k : Kind) (marker : List ℕ) → marker_of k ≡ Some marker → depth (levels_of items) ≡ 0
+    → IsResult p.missing_result (value_of ps (codes "Result")) marker → Finishes p ps name items k marker
+marker_finishes p ps name items tokens.asterisk marker is outside result =
+    let e : codes "*" ≡ marker = cc in
+    subst (Finishes p ps name items tokens.asterisk) e (star_finishes p ps name items outside (subst (IsResult p.missing_result (value_of ps (codes "Result"))) (sym e) result))
+marker_finishes p ps name items (tokens.symbol s) marker is outside result =
+    let score = score_of s marker (is_score s) refl is in
+    subst (Finishes p ps name items (tokens.symbol s)) score.1
+    (score_finishes p ps name items s score.0 outside
+    (subst (IsResult p.missing_result (value_of ps (codes "Result"))) (sym score.1) result))
+marker_finishes p ps name items _ marker is outside result = absurd (cc)
+
+-- Games.
+-- tokens run from another part too where the first is let pass and leads as it does from this one
+runs_alike : (p : Profile) (part other : Part) (ks : List Kind) (gs : List Game)
+    → ((k : Kind) (js : List Kind) → ks ≡ k ∷ js → refusal p part k ≡ None
+    → (refusal p other k ≡ None) × (next other k ≡ next part k))
+    → Runs p part ks gs → Runs p other ks gs
+runs_alike p _ other _ _ alike (ends part free) = ends other (alike tokens.end [] refl free).0
+runs_alike p _ other _ _ alike (goes part to k ks gs free end leads runs) =
+    let a = alike k ks refl free in goes other to k ks gs a.0 end (a.1 ∙ leads) runs
+runs_alike p _ other _ _ alike (finishes part k g ks gs free end leads runs) =
+    let a = alike k ks refl free in finishes other k g ks gs a.0 end (a.1 ∙ leads) runs
+
+-- what is let pass within movetext is a token of it
+textual : (p : Profile) (ps : List Pair) (name : List ℕ) (items : List Item) (k : Kind) → refusal p (at InMovetext ps name items) k ≡ None → IsTrue (is_textual k)
+unfolding refusal
+textual p ps name items tokens.left_bracket free = absurd (cc)
+textual p ps name items tokens.end free = absurd (cc)
+textual p ps name items (tokens.refused r) free = absurd (cc)
+textual p ps name items _ free = refl
+
+-- movetext begins behind the pairs
+begins_after_tags : (p : Profile) (ps : List Pair) (name : List ℕ) (items : List Item) (ks : List Kind) (gs : List Game) → lacks_fen ps ≡ false
+    → Runs p (at InMovetext ps name items) ks gs → Runs p (at AfterTags ps name items) ks gs
+begins_after_tags p ps name items ks gs has =
+    runs_alike p (at InMovetext ps name items) (at AfterTags ps name items) ks gs (λ k js e free.
+    let is = textual p ps name items k free in (
+      after_tags p ps name items k is ∙ pass (lacks_fen ps) SetUpWithoutFen _ has free,
+      leads_after_tags ps name items k is,
+    ))
+
+-- and without pairs
+begins_between : (p : Profile) (ps : List Pair) (name : List ℕ) (items : List Item) (ks : List Kind) (gs : List Game) → BeginsBare ks
+    → Runs p (at InMovetext ps name items) ks gs → Runs p (at Between ps name items) ks gs
+begins_between p ps name items ks gs bare =
+    runs_alike p (at InMovetext ps name items) (at Between ps name items) ks gs (λ k js e free.
+    let is = textual p ps name items k free in
+    let plain = subst BeginsBare e bare in
+    (between p ps name items k is plain ∙ free, leads_between ps name items k is plain))
+
+-- the movetext of a game, its marker, and the games behind it
+whole_text_run : (p : Profile) (ps : List Pair) (name : List ℕ) (text rest : List Kind) (items : List Item) (last : Kind) (marker : List ℕ) (gs : List Game)
+    → SpellsText p (start_of ps) 0 (new_level []) text items → marker_of last ≡ Some marker → IsResult p.missing_result (value_of ps (codes "Result")) marker
+    → Runs p no_part rest gs → Runs p (at InMovetext ps name []) (text ++ last ∷ rest) (finished ps items marker ∷ gs)
+whole_text_run p ps name text rest items last marker gs spells is result runs =
+    text_run p ps name 0 (new_level []) text items spells [] items [] (last ∷ rest) (finished ps items marker ∷ gs) refl refl refl
+    (λ m outside.
+    let h = marker_finishes p ps name items last marker is (ap (λ (x : Levels). depth x) outside) result in
+    finishes (at InMovetext ps name items) last (finished ps items marker) rest gs h.free h.goes h.leads runs)
+
+-- the first pair opens as any other
+opens_between : (p : Profile) (ps : List Pair) (name : List ℕ) (ks : List Kind) (gs : List Game)
+    → Runs p (at AfterTags ps name []) (tokens.left_bracket ∷ ks) gs → Runs p (at Between ps name []) (tokens.left_bracket ∷ ks) gs
+opens_between p ps name _ _ (goes _ to _ ks gs free end leads runs) =
+    goes (at Between ps name []) to tokens.left_bracket ks gs (opening_between p ps name [] ∙ sym (opening p ps name []) ∙ free) end leads runs
+opens_between p ps name _ _ (finishes _ _ g ks gs free end leads runs) = absurd (cc)
+
+has_fen : (o : Option (List ℕ)) (fen : Bool) → (o ≡ Some (codes "1") → fen ≡ true) → (bytes_eq (unwrap_or o []) (codes "1") && not fen) ≡ false
+has_fen None fen h = refl
+has_fen (Some v) fen h = guarded (bytes_eq v (codes "1")) (not fen) (λ e. ap not (h (ap Some ((bytes_eq-Decides v (codes "1")).0 e))))
+
+bare_with : (text : List Kind) (last : Kind) (rest : List Kind) (marker : List ℕ) → marker_of last ≡ Some marker → BeginsBare text → BeginsBare (text ++ last ∷ rest)
+bare_with (k ∷ ks) last rest marker is bare = bare
+bare_with [] tokens.comment_open rest marker is bare = absurd (cc)
+bare_with [] (tokens.word s) rest marker is bare = absurd (cc)
+bare_with [] tokens.comment_close rest marker is bare = absurd (cc)
+bare_with [] _ rest marker is bare = refl
+
+-- pairs and what comes behind them, or what comes in place of pairs
+tags_run : (p : Profile) (tags : List Kind) (given : List Pair) (rest : List Kind) (gs : List Game) → SpellsPairs tags given → Takes p [] given → IsSetUp (with_pairs [] given)
+    → (given ≡ [] → BeginsBare rest) → ((n : List ℕ) → Runs p (at InMovetext (with_pairs [] given) n []) rest gs) → Runs p no_part (tags ++ rest) gs
+tags_run p _ _ rest gs no_pair takes set_up bare runs = begins_between p [] [] [] rest gs (bare refl) (runs [])
+tags_run p _ _ rest gs (next_pair _ ls q qs (pair xs ys zs n v before_name before_value before_bracket) others) takes set_up bare runs =
+    let ps = with_pairs [] (q ∷ qs) in
+    opens_between p [] [] _ gs
+    (pairs_run p [] [] _ rest (q ∷ qs) gs (next_pair _ ls q qs (pair xs ys zs n v before_name before_value before_bracket) others) takes
+    (λ name. begins_after_tags p ps name [] rest gs (has_fen (value_of ps (codes "SetUp")) (has_pair ps (codes "FEN")) set_up) (runs name)))
+
+game_run : (p : Profile) (ks rest : List Kind) (g : Game) (gs : List Game) → SpellsGame p ks g → Runs p no_part rest gs → Runs p no_part (ks ++ rest) (g ∷ gs)
+game_run p ks rest g gs h runs =
+    let behind : List Kind = h.text ++ h.last ∷ rest in
+    let whole_text : (n : List ℕ) → Runs p (at InMovetext (by_name h.given) n []) behind (g ∷ gs) = λ n.
+    subst (λ ps. Runs p (at InMovetext ps n []) behind (g ∷ gs)) h.sorted (whole_text_run p g.pairs n h.text rest g.items h.last g.marker gs h.items h.marker h.result runs) in
+    let set_up : IsSetUp (by_name h.given) = subst IsSetUp h.sorted h.set_up in
+    let e : ks ++ rest ≡ h.before ++ (h.tags ++ behind) = ap (λ js. js ++ rest) h.tokens ∙ simp append_assoc in
+    subst (λ js. Runs p no_part js (g ∷ gs)) (sym e)
+    (dropped_run p Between [] [] [] refl h.before (h.tags ++ behind) (g ∷ gs) h.dropped
+    (tags_run p h.tags h.given behind (g ∷ gs) h.pairs (takes p h.given h.keeps) set_up (λ none. bare_with h.text h.last rest g.marker h.marker (h.bare none)) whole_text))
+
+end_free : (p : Profile) → refusal p no_part tokens.end ≡ None
+unfolding refusal
+end_free p = refl
+
+pub games_run : (p : Profile) (ks : List Kind) (gs : List Game) → SpellsGames p ks gs → Runs p no_part ks gs
+games_run p _ _ (no_game ks are) = dropped_run p Between [] [] [] refl ks (tokens.end ∷ []) [] are (ends no_part (end_free p))
+games_run p _ _ (next_game ks ls g gs first others) = game_run p ks ls g gs first (games_run p ls gs others)

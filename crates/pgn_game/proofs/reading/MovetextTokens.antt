@@ -1,0 +1,131 @@
+-- Where a token of movetext leads, and when a marker is the Result.
+use Rattle.std.proofs.Common.{◌≡◌, ℕ, Bool, true, false, ◌||◌, not, List, [], ◌∷◌, ◌++◌, Option, None, Some, refl, ap, ◌∙◌, append-nil}
+use Rattle.std.specs.Prelude.{codes, bytes_eq, unwrap_or, IsFalse, Result}
+use Rattle.std.proofs.lemmas.List.Sums.{fold-append}
+use Rattle.std.proofs.lemmas.Slice.Eq.{bytes_eq-Decides}
+use Rattle.chess_text.specs.declared.resolution.Played.{Played}
+use Rattle.chess_text.specs.declared.resolution.SanFault.{SanFault}
+use Rattle.pgn_lexer.specs.Tokens as tokens
+use Rattle.pgn_lexer.specs.Tokens.{Kind}
+use Rattle.pgn_game.specs.declared.stage.Stage.TheVariants.{InMovetext}
+use Rattle.pgn_game.specs.Profile.{Profile, Missing, counts_as, takes_the_marker}
+use Rattle.pgn_game.specs.Pairs.{Pair, value_of}
+use Rattle.pgn_game.specs.Chess.{move_of}
+use Rattle.pgn_game.specs.Game as games
+use Rattle.pgn_game.specs.Game.{Item, Game, Part}
+use Rattle.pgn_game.specs.Levels.{levels_of, levels_after, first_level, depth, here, start_of}
+use Rattle.pgn_game.specs.FaultTable.{refusal, is_score, is_number, is_end, is_at_limit, result_for, has_other_result}
+use Rattle.pgn_game.specs.Progress.{Next, next, going, whole, move_item}
+use Rattle.pgn_game.specs.Spells.{StandsFor, number, period, glyph, comment_open, word, comment_close, IsResult}
+use Rattle.pgn_game.proofs.reading.RunsToEnd.{at}
+use Rattle.pgn_game.proofs.judging.RowsByStage.{symbol_fault, symbolic}
+
+-- the levels behind one item more
+pub levels_more : (items : List Item) (x : Item) → levels_of (items ++ x ∷ []) ≡ levels_after (levels_of items) x
+levels_more items x = fold-append levels_after first_level items (x ∷ [])
+
+-- Markers.
+abbrev pub differs : Missing → Option (List ℕ) → List ℕ → Bool
+differs missing o marker = not (bytes_eq marker (unwrap_or o (result_for missing marker)))
+
+was_true : (b : Bool) → not b ≡ false → b ≡ true
+was_true true e = refl
+was_true false e = absurd (cc)
+
+pub result_is : (missing : Missing) (o : Option (List ℕ)) (marker : List ℕ) → IsFalse (differs missing o marker) → IsResult missing o marker
+result_is missing (Some v) marker h = (bytes_eq-Decides marker v).0 (was_true (bytes_eq marker v) h)
+result_is (counts_as text) None marker h = (bytes_eq-Decides marker text).0 (was_true (bytes_eq marker text) h)
+result_is takes_the_marker None marker h = tt
+
+pub result_meets : (missing : Missing) (o : Option (List ℕ)) (marker : List ℕ) → IsResult missing o marker → IsFalse (differs missing o marker)
+result_meets missing (Some v) marker h = ap not ((bytes_eq-Decides marker v).1 h)
+result_meets (counts_as text) None marker h = ap not ((bytes_eq-Decides marker text).1 h)
+result_meets takes_the_marker None marker h = ap not ((bytes_eq-Decides marker marker).1 refl)
+
+abbrev pub marked : Bool → List ℕ → Option (List ℕ)
+marked score s = elim score [ true ↦ Some s | false ↦ None ]
+
+pub other_score : (missing : Missing) (ps : List Pair) (name : List ℕ) (items : List Item) (s : List ℕ) → is_score s ≡ true
+    → has_other_result missing (at InMovetext ps name items) (tokens.symbol s) ≡ differs missing (value_of ps (codes "Result")) s
+other_score missing ps name items s is =
+    ap (λ (b : Bool). elim (marked b s) [ None ↦ false | Some marker ↦ not (bytes_eq marker (unwrap_or (value_of ps (codes "Result")) (result_for missing marker))) ]) is
+
+-- Symbols.
+abbrev pub symbol_next : List Pair → List ℕ → List Item → List ℕ → Bool → Bool → Option (Result Played SanFault) → Next
+symbol_next ps name items s is_digits score o =
+    elim (marked score s) [
+      | Some marker ↦ whole (record { pairs = ps; items = items; marker = marker })
+      | None ↦ going (at InMovetext ps name (items ++ elim is_digits [ true ↦ [] | false ↦ move_item o ]))
+    ]
+
+pub symbol_leads : (ps : List Pair) (name : List ℕ) (items : List Item) (s : List ℕ)
+    → next (at InMovetext ps name items) (tokens.symbol s) ≡ symbol_next ps name items s (is_number s) (is_score s) (move_of (here (start_of ps) (levels_of items)) s)
+symbol_leads ps name items s = refl
+
+-- no number is a score
+no_score_in : (s t : List ℕ) → is_number t ≡ false → is_number s ≡ true → bytes_eq s t ≡ false
+no_score_in s t no_number is = by_test (bytes_eq s t) refl
+  where
+    by_test : (b : Bool) → bytes_eq s t ≡ b → bytes_eq s t ≡ false
+    by_test true e = let same : s ≡ t = (bytes_eq-Decides s t).0 e in absurd (cc)
+    by_test false e = e
+
+pub number_no_score : (s : List ℕ) → is_number s ≡ true → is_score s ≡ false
+number_no_score s is =
+    ap (λ (b : Bool). b || bytes_eq s (codes "0-1") || bytes_eq s (codes "1/2-1/2")) (no_score_in s (codes "1-0") refl is)
+    ∙ ap (λ (b : Bool). b || bytes_eq s (codes "1/2-1/2")) (no_score_in s (codes "0-1") refl is)
+    ∙ no_score_in s (codes "1/2-1/2") refl is
+
+-- A token that stands anywhere.
+number_passes : (score : Bool) (o : Option (Result Played SanFault)) (limit : Bool) (deep : ℕ) (other : Bool) → score ≡ false → other ≡ false
+    → symbol_fault true score o limit deep other ≡ None
+number_passes score o limit deep other e f = ap (λ (b : Bool). symbol_fault true b o limit deep other) e ∙ ap (λ (b : Bool). symbol_fault true false o limit deep b) f
+
+pub no_other : (missing : Missing) (ps : List Pair) (name : List ℕ) (items : List Item) (s : List ℕ) → is_score s ≡ false
+    → has_other_result missing (at InMovetext ps name items) (tokens.symbol s) ≡ false
+no_other missing ps name items s is =
+    ap (λ (b : Bool). elim (marked b s) [ None ↦ false | Some marker ↦ not (bytes_eq marker (unwrap_or (value_of ps (codes "Result")) (result_for missing marker))) ]) is
+
+pub stands_free : (p : Profile) (ps : List Pair) (name : List ℕ) (items : List Item) (k : Kind) (item : List Item) → StandsFor k item
+    → refusal p (at InMovetext ps name items) k ≡ None
+unfolding refusal
+stands_free p ps name items _ _ (number s is) =
+    let place = here (start_of ps) (levels_of items) in
+    let other = has_other_result p.missing_result (at InMovetext ps name items) (tokens.symbol s) in
+    symbolic p ps name items s
+    ∙ ap (λ (b : Bool). symbol_fault b (is_score s) (move_of place s) (is_at_limit place) (depth (levels_of items)) other) is
+    ∙ number_passes (is_score s) (move_of place s) (is_at_limit place) (depth (levels_of items)) other (number_no_score s is)
+    (no_other p.missing_result ps name items s (number_no_score s is))
+stands_free p ps name items _ _ period = refl
+stands_free p ps name items _ _ (glyph n) = refl
+stands_free p ps name items _ _ comment_open = refl
+stands_free p ps name items _ _ (word s) = refl
+stands_free p ps name items _ _ comment_close = refl
+
+pub stands_leads : (ps : List Pair) (name : List ℕ) (items : List Item) (k : Kind) (item : List Item) → StandsFor k item
+    → next (at InMovetext ps name items) k ≡ going (at InMovetext ps name (items ++ item))
+stands_leads ps name items _ _ (number s is) =
+    symbol_leads ps name items s
+    ∙ ap (λ (b : Bool). symbol_next ps name items s b (is_score s) (move_of (here (start_of ps) (levels_of items)) s)) is
+    ∙ ap (λ (b : Bool). symbol_next ps name items s true b (move_of (here (start_of ps) (levels_of items)) s)) (number_no_score s is)
+stands_leads ps name items _ _ period = refl
+stands_leads ps name items _ _ (glyph n) = refl
+stands_leads ps name items _ _ comment_open = refl
+stands_leads ps name items _ _ (word s) = refl
+stands_leads ps name items _ _ comment_close = refl
+
+pub stands_levels : (items : List Item) (k : Kind) (item : List Item) → StandsFor k item → levels_of (items ++ item) ≡ levels_of items
+stands_levels items _ _ (number s is) = ap levels_of (append-nil items)
+stands_levels items _ _ period = ap levels_of (append-nil items)
+stands_levels items _ _ (glyph n) = levels_more items (games.glyph n)
+stands_levels items _ _ comment_open = levels_more items games.comment_open
+stands_levels items _ _ (word s) = levels_more items (games.word s)
+stands_levels items _ _ comment_close = levels_more items games.comment_close
+
+pub stands_goes : (k : Kind) (item : List Item) → StandsFor k item → is_end k ≡ false
+stands_goes _ _ (number s is) = refl
+stands_goes _ _ period = refl
+stands_goes _ _ (glyph n) = refl
+stands_goes _ _ comment_open = refl
+stands_goes _ _ (word s) = refl
+stands_goes _ _ comment_close = refl

@@ -1,0 +1,614 @@
+-- From reading to the grammar: tokens that run to their end spell the games that they finish.
+use Rattle.std.proofs.Common.{◌≡◌, ℕ, ◌+◌, ◌<◌, ◌≤◌, Bool, true, false, ◌&&◌, not, List, [], ◌∷◌, ◌++◌, length, nat_lt, nat_le, refl, sym, ap, subst, ◌∙◌, arith, append_assoc, append-nil, Option, None, Some}
+use Rattle.std.specs.Prelude.{◌==◌, codes, bytes_eq, is_some, unwrap_or, IsTrue, IsFalse, Result, Ok, Err}
+use Rattle.std.specs.List.{list_all}
+use Rattle.std.proofs.lemmas.Slice.Eq.{bytes_eq-Decides}
+use Rattle.std.proofs.lemmas.Bool.{not-false, leb-false, ltb-false}
+use Rattle.std.proofs.lemmas.Bool.Decides.{nat_tests}
+use Rattle.chess_rules.specs.declared.position.Parts.{Parts}
+use Rattle.chess_text.specs.declared.fen.FenFault.{FenFault}
+use Rattle.chess_text.specs.declared.resolution.Played.{Played}
+use Rattle.chess_text.specs.declared.resolution.SanFault.{SanFault}
+use Rattle.chess_text.specs.declared.resolution.SanFault.TheVariants.{NoMove, Ambiguous}
+use Rattle.pgn_layout.specs.TagLine.{escaped}
+use Rattle.pgn_lexer.specs.Tokens as tokens
+use Rattle.pgn_lexer.specs.Tokens.{Kind}
+use Rattle.pgn_game.specs.declared.mode.Mode.{Mode}
+use Rattle.pgn_game.specs.declared.mode.Mode.TheVariants.{Full, Reduced}
+use Rattle.pgn_game.specs.declared.reason.Reason.TheVariants.{BadTagName, DuplicateTag, TooManyTags, BadResult, BadFen, TagLineTooLong, SetUpWithoutFen, ReducedFen, MoveLimit, NoMoveBefore, TooDeep, UnmatchedClose, MarkerInVariation, ResultDiffers}
+use Rattle.pgn_game.specs.declared.stage.Stage.{Stage}
+use Rattle.pgn_game.specs.declared.stage.Stage.TheVariants.{Between, AfterLeftBracket, AfterName, AfterValue, AfterTags, InMovetext}
+use Rattle.pgn_game.specs.Profile.{Profile}
+use Rattle.pgn_game.specs.Pairs.{Pair, value_of, has_pair, insert_pair}
+use Rattle.pgn_game.specs.Chess.{position_of, move_of}
+use Rattle.pgn_game.specs.Game as games
+use Rattle.pgn_game.specs.Game.{Item, Game, Part, no_part}
+use Rattle.pgn_game.specs.Levels.{Level, Levels, levels_of, levels_after, depth, here, without_last, start_of}
+use Rattle.pgn_game.specs.FaultTable.{refusal, is_comment, in_name, is_result, is_score, is_number, is_end, is_at_limit, is_reduced, fen_field, fen_field_of, fen_fault_field, marker_of, lacks_fen, has_other_result}
+use Rattle.pgn_game.specs.Progress.{Next, next, going, whole}
+use Rattle.pgn_game.specs.Spells.{AreDropped, pair, SpellsPairs, no_pair, next_pair, by_name, IsSetUp, StandsFor, number, period, glyph, comment_open, word, comment_close, Names, new_level, level_after_move, SpellsText, no_more, token, move, variation, BeginsBare, IsResult, SpellsGame, SpellsGames, no_game, next_game}
+use Rattle.pgn_game.proofs.reading.RunsToEnd.{at, Runs, ends, goes, finishes}
+use Rattle.pgn_game.specs.Judging.{or_else}
+use Rattle.pgn_game.proofs.judging.RowsByStage.{test_failed, rest_passed, opening, opening_between, naming, valuing, is_textual, after_tags, leads_after_tags, between, leads_between, varying, unvarying, starring, symbol_fault, symbolic}
+use Rattle.pgn_game.proofs.reading.PairsInTurn.{with_pairs, Takes, taken}
+use Rattle.pgn_game.proofs.reading.MovetextTokens.{levels_more, stands_levels, differs, result_is, marked, other_score, symbol_next}
+
+-- Movetext that is left, at a level and at those around it.
+abbrev deep : List Level → ℕ
+deep [] = 0
+deep (l ∷ around) = deep around + 1
+
+deep-length : (around : List Level) → deep around ≡ length around
+deep-length [] = refl
+deep-length (l ∷ around) = let e = deep-length around in omega arith
+
+-- the rest of this level; and where there is one around it, a `)` and the rest of that
+data Closes (p : Profile) (first : Parts) : Level → List Level → List Kind → List Item → Type 0 where
+  outermost : (l : Level) (ks : List Kind) (items : List Item) → SpellsText p first 0 l ks items → Closes p first l [] ks items
+  inside : (l m : Level) (around : List Level) (ks ls : List Kind) (items more : List Item) → SpellsText p first (deep around + 1) l ks items
+      → Closes p first m around ls more → Closes p first l (m ∷ around) (ks ++ tokens.right_paren ∷ ls) (items ++ games.close_variation ∷ more)
+
+-- one token more at this level, from where it leads
+add_front : (p : Profile) (first : Parts) (l n : Level) (around : List Level) (k : Kind) (ks : List Kind)
+    (item items : List Item)
+    → ((d : ℕ) (js : List Kind) (is : List Item) → SpellsText p first d n js is
+    → SpellsText p first d l (k ∷ js) (item ++ is))
+    → Closes p first n around ks items → Closes p first l around (k ∷ ks) (item ++ items)
+add_front p first l _ _ k _ item _ front (outermost n ks items text) =
+    outermost l (k ∷ ks) (item ++ items) (front 0 ks items text)
+add_front p first l _ _ k _ item _ front (inside n m around ks ls items more text rest) =
+    subst (Closes p first l (m ∷ around) (k ∷ (ks ++ tokens.right_paren ∷ ls))) (append_assoc item items (games.close_variation ∷ more))
+    (inside l m around (k ∷ ks) ls (item ++ items) more (front (deep around + 1) ks items text) rest)
+
+-- a variation, with what comes behind it
+add_variation : (p : Profile) (first : Parts) (l : Level) (around : List Level) (ks ls : List Kind) (items more : List Item) → IsTrue l.has_own_move → deep around < p.depth
+    → SpellsText p first (deep around + 1) (new_level (without_last l.trail)) ks items → Closes p first l around ls more
+    → Closes p first l around (tokens.left_paren ∷ (ks ++ tokens.right_paren ∷ ls)) (games.open_variation ∷ (items ++ games.close_variation ∷ more))
+add_variation p first _ _ ks _ items _ holds room inner (outermost l ls more text) =
+    outermost l (tokens.left_paren ∷ (ks ++ tokens.right_paren ∷ ls)) (games.open_variation ∷ (items ++ games.close_variation ∷ more))
+    (variation 0 l ks ls items more holds room inner text)
+add_variation p first _ _ ks _ items _ holds room inner (inside l m around ls js more others text rest) =
+    subst (λ xs. Closes p first l (m ∷ around) (tokens.left_paren ∷ xs) (games.open_variation ∷ (items ++ games.close_variation ∷ (more ++ games.close_variation ∷ others))))
+    (append_assoc ks (tokens.right_paren ∷ ls) (tokens.right_paren ∷ js))
+    (subst (λ xs. Closes p first l (m ∷ around) (tokens.left_paren ∷ ((ks ++ tokens.right_paren ∷ ls) ++ tokens.right_paren ∷ js)) (games.open_variation ∷ xs))
+    (append_assoc items (games.close_variation ∷ more) (games.close_variation ∷ others))
+    (inside l m around (tokens.left_paren ∷ (ks ++ tokens.right_paren ∷ ls)) js (games.open_variation ∷ (items ++ games.close_variation ∷ more)) others
+    (variation (deep around + 1) l ks ls items more holds room inner text) rest))
+
+add_open : (p : Profile) (first : Parts) (l n : Level) (around : List Level) (ks : List Kind) (items : List Item) → IsTrue l.has_own_move → deep around < p.depth
+    → n ≡ new_level (without_last l.trail) → Closes p first n (l ∷ around) ks items
+    → Closes p first l around (tokens.left_paren ∷ ks) (games.open_variation ∷ items)
+add_open p first _ _ _ _ _ holds room e (inside n l around ks ls items more text rest) =
+    add_variation p first l around ks ls items more holds room (subst (λ x. SpellsText p first (deep around + 1) x ks items) e text) rest
+
+add_close : (p : Profile) (first : Parts) (l m : Level) (around : List Level) (ks : List Kind) (items : List Item) → Closes p first m around ks items
+    → Closes p first l (m ∷ around) (tokens.right_paren ∷ ks) (games.close_variation ∷ items)
+add_close p first l m around ks items rest = inside l m around [] ks [] items (no_more (deep around + 1) l) rest
+
+nothing_left : (p : Profile) (first : Parts) (l : Level) (around : List Level) → length around ≡ 0 → Closes p first l around [] []
+nothing_left p first l [] e = outermost l [] [] (no_more 0 l)
+nothing_left p first l (m ∷ around) e = absurd (omega (arith, e))
+
+-- What is left of a game in its movetext, and the games behind it.
+record Text_left (p : Profile) (ps : List Pair) (items : List Item) (ks : List Kind) (gs : List Game) : Type 0 where
+  text : List Kind
+  last : Kind
+  behind : List Kind
+  more : List Item
+  marker : List ℕ
+  later : List Game
+  kinds : ks ≡ text ++ last ∷ behind
+  closes : Closes p (start_of ps) (levels_of items).present (levels_of items).around text more
+  is_marker : marker_of last ≡ Some marker
+  result : IsResult p.missing_result (value_of ps (codes "Result")) marker
+  games : gs ≡ record { pairs = ps; items = items ++ more; marker = marker } ∷ later
+  others : SpellsGames p behind later
+
+-- one token more before it
+abbrev Adds : Profile → List Pair → List Item → Kind → List Item → Type 0
+Adds p ps items k new =
+    (text : List Kind) (more : List Item) → Closes p (start_of ps) (levels_of (items ++ new)).present (levels_of (items ++ new)).around text more
+    → Closes p (start_of ps) (levels_of items).present (levels_of items).around (k ∷ text) (new ++ more)
+
+text_more : (p : Profile) (ps : List Pair) (items new : List Item) (k : Kind) (ks : List Kind) (gs : List Game) → Adds p ps items k new
+    → Text_left p ps (items ++ new) ks gs → Text_left p ps items (k ∷ ks) gs
+text_more p ps items new k ks gs adds h = record {
+  text = k ∷ h.text;
+  last = h.last;
+  behind = h.behind;
+  more = new ++ h.more;
+  marker = h.marker;
+  later = h.later;
+  kinds = ap (λ xs. k ∷ xs) h.kinds;
+  closes = adds h.text h.more h.closes;
+  is_marker = h.is_marker;
+  result = h.result;
+  games = h.games ∙ ap (λ xs. record { pairs = ps; items = xs; marker = h.marker } ∷ h.later) (append_assoc items new h.more);
+  others = h.others;
+}
+
+-- What is left of a game at each stage.
+
+-- pairs, and movetext
+record Tags_left (p : Profile) (ps : List Pair) (ks : List Kind) (gs : List Game) : Type 0 where
+  tags : List Kind
+  given : List Pair
+  behind : List Kind
+  kinds : ks ≡ tags ++ behind
+  pairs : SpellsPairs tags given
+  takes : Takes p ps given
+  set_up : IsSetUp (with_pairs ps given)
+  text : Text_left p (with_pairs ps given) [] behind gs
+
+-- comments that are dropped, and what is left behind them
+record Dropping (P : List Kind → Type 0) (ks : List Kind) : Type 0 where
+  front : List Kind
+  rest : List Kind
+  kinds : ks ≡ front ++ rest
+  dropped : AreDropped front
+  left : P rest
+
+-- the end of a pair
+record Bracket (p : Profile) (ps : List Pair) (gs : List Game) (ks : List Kind) : Type 0 where
+  behind : List Kind
+  kinds : ks ≡ tokens.right_bracket ∷ behind
+  tags : Tags_left p ps behind gs
+
+abbrev Bracket_left : Profile → List Pair → List Kind → List Game → Type 0
+Bracket_left p ps ks gs = Dropping (Bracket p ps gs) ks
+
+-- a value, and that
+record Value (p : Profile) (ps : List Pair) (name : List ℕ) (gs : List Game) (ks : List Kind) : Type 0 where
+  value : List ℕ
+  behind : List Kind
+  kinds : ks ≡ tokens.str value ∷ behind
+  room : length name + length (escaped value) ≤ 249
+  result : name ≡ codes "Result" → IsTrue (is_result value)
+  fen : name ≡ codes "FEN" → (start : Parts) × (position_of value ≡ Ok start)
+  bracket : Bracket_left p (insert_pair (record { name = name; value = value }) ps) behind gs
+
+abbrev Value_left : Profile → List Pair → List ℕ → List Kind → List Game → Type 0
+Value_left p ps name ks gs = Dropping (Value p ps name gs) ks
+
+-- a name, and that
+record Name (p : Profile) (ps : List Pair) (gs : List Game) (ks : List Kind) : Type 0 where
+  name : List ℕ
+  behind : List Kind
+  kinds : ks ≡ tokens.symbol name ∷ behind
+  fresh : IsFalse (has_pair ps name)
+  is_name : IsTrue (list_all in_name name)
+  full : name ≡ codes "FEN" → p.mode ≡ Full
+  value : Value_left p ps name behind gs
+
+abbrev Name_left : Profile → List Pair → List Kind → List Game → Type 0
+Name_left p ps ks gs = Dropping (Name p ps gs) ks
+
+abbrev Left : Profile → Stage → List Pair → List ℕ → List Item → List Kind → List Game → Type 0
+Left p Between ps name items ks gs = SpellsGames p ks gs
+Left p AfterLeftBracket ps name items ks gs = Name_left p ps ks gs
+Left p AfterName ps name items ks gs = Value_left p ps name ks gs
+Left p AfterValue ps name items ks gs = Bracket_left p ps ks gs
+Left p AfterTags ps name items ks gs = Tags_left p ps ks gs
+Left p InMovetext ps name items ks gs = Text_left p ps items ks gs
+
+-- before movetext there are no items, and between games no pairs
+abbrev Fits : Stage → List Pair → List Item → Type 0
+Fits Between ps items = (ps ≡ []) × (items ≡ [])
+Fits InMovetext ps items = Unit {0}
+Fits _ ps items = items ≡ []
+
+-- what is left behind a token
+abbrev After : Profile → Next → List Kind → List Game → Type 0
+After p (going part) ks gs = Fits part.stage part.pairs part.items → Left p part.stage part.pairs part.name part.items ks gs
+After p (whole g) ks gs = (later : List Game) × (gs ≡ g ∷ later) × SpellsGames p ks later
+
+-- Movetext, token by token.
+token_step : (p : Profile) (ps : List Pair) (items item : List Item) (k : Kind) (ks : List Kind) (gs : List Game)
+    → StandsFor k item
+    → Text_left p ps (items ++ item) ks gs → Text_left p ps items (k ∷ ks) gs
+token_step p ps items item k ks gs stands h =
+    text_more p ps items item k ks gs (λ text more c.
+    let l = (levels_of items).present in
+    add_front p (start_of ps) l l (levels_of items).around k text item more
+    (λ d js is rest. token d l k js item is stands rest)
+    (subst (λ (ls : Levels). Closes p (start_of ps) ls.present ls.around text more) (stands_levels items k item stands) c)) h
+
+adds_move : (p : Profile) (ps : List Pair) (items : List Item) (s : List ℕ) (played : Played) → Names (here (start_of ps) (levels_of items)) s played
+    → Adds p ps items (tokens.symbol s) (games.move played.mv ∷ [])
+adds_move p ps items s played names text more c =
+    let l = (levels_of items).present in
+    add_front p (start_of ps) l (level_after_move played.mv l.trail) (levels_of items).around (tokens.symbol s) text
+    (games.move played.mv ∷ []) more
+    (λ d js is rest. move d l s played js is names rest)
+    (subst (λ (ls : Levels). Closes p (start_of ps) ls.present ls.around text more) (levels_more items (games.move played.mv)) c)
+
+adds_open : (p : Profile) (ps : List Pair) (items : List Item) → IsTrue (levels_of items).present.has_own_move → depth (levels_of items) < p.depth
+    → Adds p ps items tokens.left_paren (games.open_variation ∷ [])
+adds_open p ps items holds room text more c =
+    let e = deep-length (levels_of items).around in
+    add_open p (start_of ps) (levels_of items).present _ (levels_of items).around text more holds (omega arith) refl
+    (subst (λ (ls : Levels). Closes p (start_of ps) ls.present ls.around text more) (levels_more items games.open_variation) c)
+
+close_at : (p : Profile) (first : Parts) (l : Level) (around : List Level) (text : List Kind) (more : List Item) → (length around == 0) ≡ false
+    → Closes p first (levels_after (record { present = l; around = around }) games.close_variation).present
+    (levels_after (record { present = l; around = around }) games.close_variation).around text more
+    → Closes p first l around (tokens.right_paren ∷ text) (games.close_variation ∷ more)
+close_at p first l [] text more some c = absurd (cc)
+close_at p first l (m ∷ around) text more some c = add_close p first l m around text more c
+
+adds_close : (p : Profile) (ps : List Pair) (items : List Item) → (depth (levels_of items) == 0) ≡ false → Adds p ps items tokens.right_paren (games.close_variation ∷ [])
+adds_close p ps items some text more c =
+    close_at p (start_of ps) (levels_of items).present (levels_of items).around text more some
+    (subst (λ (ls : Levels). Closes p (start_of ps) ls.present ls.around text more) (levels_more items games.close_variation) c)
+
+-- what a test of two numbers says that failed
+no_one : (n : ℕ) → nat_le 1 n ≡ false → n ≡ 0
+no_one n e = grind (arith, nat_tests)
+
+open_step : (p : Profile) (ps : List Pair) (name : List ℕ) (items : List Item) (ks : List Kind) (gs : List Game) → refusal p (at InMovetext ps name items) tokens.left_paren ≡ None
+    → Text_left p ps (items ++ games.open_variation ∷ []) ks gs → Text_left p ps items (tokens.left_paren ∷ ks) gs
+open_step p ps name items ks gs free h =
+    let e : or_else (not (levels_of items).present.has_own_move) NoMoveBefore (or_else (nat_le p.depth (depth (levels_of items))) TooDeep None) ≡ None = sym (varying p ps name items) ∙ free in
+    let holds = not-false (levels_of items).present.has_own_move (test_failed (not (levels_of items).present.has_own_move) NoMoveBefore _ e) in
+    let room : nat_le p.depth (depth (levels_of items)) ≡ false =
+    test_failed (nat_le p.depth (depth (levels_of items))) TooDeep None (rest_passed (not (levels_of items).present.has_own_move) NoMoveBefore _ e) in
+    text_more p ps items (games.open_variation ∷ []) tokens.left_paren ks gs
+    (adds_open p ps items holds (leb-false p.depth (depth (levels_of items)) room)) h
+
+close_step : (p : Profile) (ps : List Pair) (name : List ℕ) (items : List Item) (ks : List Kind) (gs : List Game) → refusal p (at InMovetext ps name items) tokens.right_paren ≡ None
+    → Text_left p ps (items ++ games.close_variation ∷ []) ks gs → Text_left p ps items (tokens.right_paren ∷ ks) gs
+close_step p ps name items ks gs free h =
+    text_more p ps items (games.close_variation ∷ []) tokens.right_paren ks gs
+    (adds_close p ps items (test_failed (depth (levels_of items) == 0) UnmatchedClose None (sym (unvarying p ps name items) ∙ free))) h
+
+-- a marker finishes the game
+marker_step : (p : Profile) (ps : List Pair) (items : List Item) (k : Kind) (marker : List ℕ) (ks : List Kind) (gs : List Game) → marker_of k ≡ Some marker
+    → nat_le 1 (depth (levels_of items)) ≡ false → (differs p.missing_result (value_of ps (codes "Result")) marker && (depth (levels_of items) == 0)) ≡ false
+    → After p (whole (record { pairs = ps; items = items; marker = marker })) ks gs → Text_left p ps items (k ∷ ks) gs
+marker_step p ps items k marker ks gs is shallow same after =
+    let outside : depth (levels_of items) ≡ 0 = no_one (depth (levels_of items)) shallow in
+    record {
+      text = [];
+      last = k;
+      behind = ks;
+      more = [];
+      marker = marker;
+      later = after.0;
+      kinds = refl;
+      closes = nothing_left p (start_of ps) (levels_of items).present (levels_of items).around outside;
+      is_marker = is;
+      result =
+          result_is p.missing_result (value_of ps (codes "Result")) marker
+          (at_zero (differs p.missing_result (value_of ps (codes "Result")) marker) (depth (levels_of items)) outside same);
+      games = after.1 ∙ ap (λ xs. record { pairs = ps; items = xs; marker = marker } ∷ after.0) (sym (append-nil items));
+      others = after.2;
+    }
+  where
+    at_zero : (b : Bool) (n : ℕ) → n ≡ 0 → (b && (n == 0)) ≡ false → b ≡ false
+    at_zero true n e h = absurd (let zero_is : (n == 0) ≡ true = ap (λ x. x == 0) e in cc)
+    at_zero false n e h = refl
+
+symbol_step : (p : Profile) (ps : List Pair) (name : List ℕ) (items : List Item) (s : List ℕ) (ks : List Kind) (gs : List Game)
+    → (is_digits score : Bool) (o : Option (Result Played SanFault))
+    → is_number s ≡ is_digits → is_score s ≡ score → move_of (here (start_of ps) (levels_of items)) s ≡ o
+    → symbol_fault is_digits score o (is_at_limit (here (start_of ps) (levels_of items))) (depth (levels_of items))
+    (has_other_result p.missing_result (at InMovetext ps name items) (tokens.symbol s)) ≡ None
+    → After p (symbol_next ps name items s is_digits score o) ks gs → Text_left p ps items (tokens.symbol s ∷ ks) gs
+symbol_step p ps name items s ks gs true false o digits is_marker one free after =
+    token_step p ps items [] (tokens.symbol s) ks gs (number s digits) (after tt)
+symbol_step p ps name items s ks gs false false (Some (Ok played)) digits is_marker one free after =
+    text_more p ps items (games.move played.mv ∷ []) (tokens.symbol s) ks gs
+    (adds_move p ps items s played
+    (record { no_number = digits; no_marker = is_marker; one = one; within = test_failed (is_at_limit (here (start_of ps) (levels_of items))) MoveLimit _ free })) (after tt)
+symbol_step p ps name items s ks gs false false None digits is_marker one free after = absurd (cc)
+symbol_step p ps name items s ks gs false false (Some (Err NoMove)) digits is_marker one free after = absurd (cc)
+symbol_step p ps name items s ks gs false false (Some (Err Ambiguous)) digits is_marker one free after = absurd (cc)
+symbol_step p ps name items s ks gs true true o digits is_marker one free after =
+    marker_step p ps items (tokens.symbol s) s ks gs (ap (λ (b : Bool). marked b s) is_marker)
+    (test_failed (nat_le 1 (depth (levels_of items))) MarkerInVariation _ free)
+    (ap (λ (b : Bool). b && (depth (levels_of items) == 0)) (sym (other_score p.missing_result ps name items s is_marker))
+    ∙ test_failed _ ResultDiffers None (rest_passed (nat_le 1 (depth (levels_of items))) MarkerInVariation _ free)) after
+symbol_step p ps name items s ks gs false true o digits is_marker one free after =
+    marker_step p ps items (tokens.symbol s) s ks gs (ap (λ (b : Bool). marked b s) is_marker)
+    (test_failed (nat_le 1 (depth (levels_of items))) MarkerInVariation _ free)
+    (ap (λ (b : Bool). b && (depth (levels_of items) == 0)) (sym (other_score p.missing_result ps name items s is_marker))
+    ∙ test_failed _ ResultDiffers None (rest_passed (nat_le 1 (depth (levels_of items))) MarkerInVariation _ free)) after
+
+text_step : (p : Profile) (ps : List Pair) (name : List ℕ) (items : List Item) (k : Kind) (ks : List Kind) (gs : List Game) → refusal p (at InMovetext ps name items) k ≡ None
+    → is_end k ≡ false → After p (next (at InMovetext ps name items) k) ks gs → Text_left p ps items (k ∷ ks) gs
+unfolding refusal
+text_step p ps name items tokens.left_paren ks gs free end after = open_step p ps name items ks gs free (after tt)
+text_step p ps name items tokens.right_paren ks gs free end after = close_step p ps name items ks gs free (after tt)
+text_step p ps name items tokens.period ks gs free end after = token_step p ps items [] tokens.period ks gs period (after tt)
+text_step p ps name items (tokens.glyph n) ks gs free end after =
+    token_step p ps items _ (tokens.glyph n) ks gs (glyph n) (after tt)
+text_step p ps name items tokens.comment_open ks gs free end after =
+    token_step p ps items _ tokens.comment_open ks gs comment_open (after tt)
+text_step p ps name items (tokens.word s) ks gs free end after =
+    token_step p ps items _ (tokens.word s) ks gs (word s) (after tt)
+text_step p ps name items tokens.comment_close ks gs free end after =
+    token_step p ps items _ tokens.comment_close ks gs comment_close (after tt)
+text_step p ps name items tokens.asterisk ks gs free end after =
+    let e = sym (starring p ps name items) ∙ free in
+    marker_step p ps items tokens.asterisk (codes "*") ks gs refl (test_failed (nat_le 1 (depth (levels_of items))) MarkerInVariation _ e)
+    (test_failed _ ResultDiffers None (rest_passed (nat_le 1 (depth (levels_of items))) MarkerInVariation _ e)) after
+text_step p ps name items (tokens.symbol s) ks gs free end after =
+    let place = here (start_of ps) (levels_of items) in
+    symbol_step p ps name items s ks gs (is_number s) (is_score s) (move_of place s) refl refl refl (sym (symbolic p ps name items s) ∙ free) after
+text_step p ps name items _ ks gs free end after = absurd (cc)
+
+-- Pairs, token by token.
+dropped_more : (k : Kind) (ks : List Kind) → IsTrue (is_comment k) → AreDropped ks → AreDropped (k ∷ ks)
+dropped_more k ks is are = ap (λ (b : Bool). b && list_all is_comment ks) is ∙ are
+
+forced : (a b : Bool) → (a && b) ≡ false → a ≡ true → b ≡ false
+forced true b h e = h
+forced false b h e = absurd (cc)
+
+position_is : (r : Result Parts FenFault) → is_some (fen_fault_field r) ≡ false → (start : Parts) × (r ≡ Ok start)
+position_is (Ok start) h = (start, refl)
+position_is (Err fault) h = absurd (cc)
+
+is_full : (mode : Mode) (b : Bool) → (is_reduced mode && b) ≡ false → b ≡ true → mode ≡ Full
+is_full Full b h e = refl
+is_full Reduced b h e = absurd (cc)
+
+one_dropped : (P : List Kind → Type 0) (k : Kind) (ks : List Kind) → IsTrue (is_comment k) → Dropping P ks
+    → Dropping P (k ∷ ks)
+one_dropped P k ks is h =
+    let kinds = ap (λ xs. k ∷ xs) h.kinds in
+    record { front = k ∷ h.front; rest = h.rest; kinds = kinds; dropped = dropped_more k h.front is h.dropped; left = h.left }
+
+none_dropped : (P : List Kind → Type 0) (ks : List Kind) → P ks → Dropping P ks
+none_dropped P ks h = record { front = []; rest = ks; kinds = refl; dropped = refl; left = h }
+
+bracket_step : (p : Profile) (ps : List Pair) (name : List ℕ) (items : List Item) (k : Kind) (ks : List Kind) (gs : List Game) → items ≡ []
+    → refusal p (at AfterValue ps name items) k ≡ None → After p (next (at AfterValue ps name items) k) ks gs → Bracket_left p ps (k ∷ ks) gs
+unfolding refusal
+bracket_step p ps name items tokens.comment_open ks gs none free after =
+    one_dropped (Bracket p ps gs) tokens.comment_open ks refl (after none)
+bracket_step p ps name items (tokens.word s) ks gs none free after = one_dropped (Bracket p ps gs) (tokens.word s) ks refl (after none)
+bracket_step p ps name items tokens.comment_close ks gs none free after =
+    one_dropped (Bracket p ps gs) tokens.comment_close ks refl (after none)
+bracket_step p ps name items tokens.right_bracket ks gs none free after =
+    none_dropped (Bracket p ps gs) (tokens.right_bracket ∷ ks) (record { behind = ks; kinds = refl; tags = after none })
+bracket_step p ps name items _ ks gs none free after = absurd (cc)
+
+value_given : (p : Profile) (ps : List Pair) (name : List ℕ) (items : List Item) (s : List ℕ) (ks : List Kind) (gs : List Game)
+    → refusal p (at AfterName ps name items) (tokens.str s) ≡ None → Bracket_left p (insert_pair (record { name = name; value = s }) ps) ks gs
+    → Value_left p ps name (tokens.str s ∷ ks) gs
+value_given p ps name items s ks gs free h =
+    let e = sym (valuing p ps name items s) ∙ free in
+    let is_marker = test_failed (bytes_eq name (codes "Result") && not (is_result s)) BadResult _ e in
+    let f = rest_passed (bytes_eq name (codes "Result") && not (is_result s)) BadResult _ e in
+    let is_position = test_failed (bytes_eq name (codes "FEN") && is_some (fen_field s)) (BadFen (fen_field_of (tokens.str s))) _ f in
+    let short : nat_lt 249 (length name + length (escaped s)) ≡ false =
+    test_failed (nat_lt 249 (length name + length (escaped s))) TagLineTooLong None
+    (rest_passed (bytes_eq name (codes "FEN") && is_some (fen_field s)) (BadFen (fen_field_of (tokens.str s))) _ f) in
+    none_dropped (Value p ps name gs) (tokens.str s ∷ ks) (record {
+      value = s;
+      behind = ks;
+      kinds = refl;
+      room = ltb-false 249 (length name + length (escaped s)) short;
+      result = λ is. not-false (is_result s)
+          (forced (bytes_eq name (codes "Result")) (not (is_result s)) is_marker ((bytes_eq-Decides name (codes "Result")).1 is));
+      fen = λ is. position_is (position_of s) (forced (bytes_eq name (codes "FEN")) (is_some (fen_field s)) is_position ((bytes_eq-Decides name (codes "FEN")).1 is));
+      bracket = h;
+    })
+
+value_step : (p : Profile) (ps : List Pair) (name : List ℕ) (items : List Item) (k : Kind) (ks : List Kind) (gs : List Game) → items ≡ []
+    → refusal p (at AfterName ps name items) k ≡ None → After p (next (at AfterName ps name items) k) ks gs → Value_left p ps name (k ∷ ks) gs
+unfolding refusal
+value_step p ps name items tokens.comment_open ks gs none free after =
+    one_dropped (Value p ps name gs) tokens.comment_open ks refl (after none)
+value_step p ps name items (tokens.word s) ks gs none free after = one_dropped (Value p ps name gs) (tokens.word s) ks refl (after none)
+value_step p ps name items tokens.comment_close ks gs none free after =
+    one_dropped (Value p ps name gs) tokens.comment_close ks refl (after none)
+value_step p ps name items (tokens.str s) ks gs none free after = value_given p ps name items s ks gs free (after none)
+value_step p ps name items _ ks gs none free after = absurd (cc)
+
+name_given : (p : Profile) (ps : List Pair) (name : List ℕ) (items : List Item) (s : List ℕ) (ks : List Kind) (gs : List Game)
+    → refusal p (at AfterLeftBracket ps name items) (tokens.symbol s) ≡ None → Value_left p ps s ks gs → Name_left p ps (tokens.symbol s ∷ ks) gs
+name_given p ps name items s ks gs free h =
+    let e = sym (naming p ps name items s) ∙ free in
+    let f = rest_passed (not (list_all in_name s)) BadTagName _ e in
+    let g = rest_passed (nat_lt 249 (length s)) TagLineTooLong _ (rest_passed (has_pair ps s) DuplicateTag _ f) in
+    none_dropped (Name p ps gs) (tokens.symbol s ∷ ks) (record {
+      name = s;
+      behind = ks;
+      kinds = refl;
+      fresh = test_failed (has_pair ps s) DuplicateTag _ f;
+      is_name = not-false (list_all in_name s) (test_failed (not (list_all in_name s)) BadTagName _ e);
+      full = λ is.
+          is_full p.mode (bytes_eq s (codes "FEN")) (test_failed (is_reduced p.mode && bytes_eq s (codes "FEN")) ReducedFen None g)
+          ((bytes_eq-Decides s (codes "FEN")).1 is);
+      value = h;
+    })
+
+name_step : (p : Profile) (ps : List Pair) (name : List ℕ) (items : List Item) (k : Kind) (ks : List Kind) (gs : List Game) → items ≡ []
+    → refusal p (at AfterLeftBracket ps name items) k ≡ None → After p (next (at AfterLeftBracket ps name items) k) ks gs → Name_left p ps (k ∷ ks) gs
+unfolding refusal
+name_step p ps name items tokens.comment_open ks gs none free after =
+    one_dropped (Name p ps gs) tokens.comment_open ks refl (after none)
+name_step p ps name items (tokens.word s) ks gs none free after = one_dropped (Name p ps gs) (tokens.word s) ks refl (after none)
+name_step p ps name items tokens.comment_close ks gs none free after =
+    one_dropped (Name p ps gs) tokens.comment_close ks refl (after none)
+name_step p ps name items (tokens.symbol s) ks gs none free after = name_given p ps name items s ks gs free (after none)
+name_step p ps name items _ ks gs none free after = absurd (cc)
+
+-- a `[`, and a pair
+pair_step : (p : Profile) (ps : List Pair) (ks : List Kind) (gs : List Game) → nat_le p.tags (length ps) ≡ false → Name_left p ps ks gs
+    → (t : Tags_left p ps (tokens.left_bracket ∷ ks) gs) × (t.given ≡ [] → ⊥)
+pair_step p ps ks gs free dn =
+    let n = dn.left in
+    let dv = n.value in
+    let v = dv.left in
+    let db = v.bracket in
+    let b = db.left in
+    let t = b.tags in
+    let xs = dn.front in
+    let ys = dv.front in
+    let zs = db.front in
+    let q : Pair = record { name = n.name; value = v.value } in
+    let whole : ks ≡ xs ++ tokens.symbol n.name ∷ (ys ++ tokens.str v.value ∷ (zs ++ tokens.right_bracket ∷ (t.tags ++ t.behind))) =
+    cc (dn.kinds, n.kinds, dv.kinds, v.kinds, db.kinds, b.kinds, t.kinds) in (
+      record {
+        tags = (tokens.left_bracket ∷ (xs ++ tokens.symbol n.name ∷ (ys ++ tokens.str v.value ∷ (zs ++ tokens.right_bracket ∷ [])))) ++ t.tags;
+        given = q ∷ t.given;
+        behind = t.behind;
+        kinds = ap (λ js. tokens.left_bracket ∷ js) whole ∙ simp append_assoc;
+        pairs = next_pair _ t.tags q t.given (pair xs ys zs n.name v.value dn.dropped dv.dropped db.dropped) t.pairs;
+        takes = (
+          leb-false p.tags (length ps) free,
+          n.fresh,
+          record { name = n.is_name; room = v.room; result = v.result; fen = λ is. let h = v.fen is in (n.full is, h.0, h.1) },
+          t.takes,
+        );
+        set_up = t.set_up;
+        text = t.text;
+      },
+      λ e. absurd (cc),
+    )
+
+-- movetext in place of a pair
+no_pair_step : (p : Profile) (ps : List Pair) (items : List Item) (ks : List Kind) (gs : List Game) → items ≡ [] → IsSetUp ps → Text_left p ps items ks gs → Tags_left p ps ks gs
+no_pair_step p ps items ks gs none set_up h = record {
+  tags = [];
+  given = [];
+  behind = ks;
+  kinds = refl;
+  pairs = no_pair;
+  takes = tt;
+  set_up = set_up;
+  text = subst (λ xs. Text_left p ps xs ks gs) none h;
+}
+
+is_set_up : (o : Option (List ℕ)) (fen : Bool) → (bytes_eq (unwrap_or o []) (codes "1") && not fen) ≡ false → o ≡ Some (codes "1") → fen ≡ true
+is_set_up o fen h e =
+    not-false fen (ap (λ (x : Option (List ℕ)). bytes_eq (unwrap_or x []) (codes "1") && not fen) (sym e) ∙ h)
+
+tags_text : (p : Profile) (ps : List Pair) (name : List ℕ) (items : List Item) (k : Kind) (ks : List Kind) (gs : List Game) → items ≡ [] → IsTrue (is_textual k)
+    → refusal p (at AfterTags ps name items) k ≡ None → is_end k ≡ false → After p (next (at AfterTags ps name items) k) ks gs → Tags_left p ps (k ∷ ks) gs
+tags_text p ps name items k ks gs none is free end after =
+    let e = sym (after_tags p ps name items k is) ∙ free in
+    let lacks = lacks_fen ps in
+    no_pair_step p ps items (k ∷ ks) gs none (is_set_up (value_of ps (codes "SetUp")) (has_pair ps (codes "FEN")) (test_failed lacks SetUpWithoutFen _ e))
+    (text_step p ps name items k ks gs (rest_passed lacks SetUpWithoutFen _ e) end (subst (λ n. After p n ks gs) (leads_after_tags ps name items k is) after))
+
+tags_step : (p : Profile) (ps : List Pair) (name : List ℕ) (items : List Item) (k : Kind) (ks : List Kind) (gs : List Game) → items ≡ []
+    → refusal p (at AfterTags ps name items) k ≡ None → is_end k ≡ false → After p (next (at AfterTags ps name items) k) ks gs → Tags_left p ps (k ∷ ks) gs
+unfolding refusal
+tags_step p ps name items tokens.left_bracket ks gs none free end after =
+    (pair_step p ps ks gs (test_failed (nat_le p.tags (length ps)) TooManyTags None (sym (opening p ps name items) ∙ free)) (after none)).0
+tags_step p ps name items tokens.end ks gs none free end after = absurd (cc)
+tags_step p ps name items (tokens.refused r) ks gs none free end after = absurd (cc)
+tags_step p ps name items k ks gs none free end after = tags_text p ps name items k ks gs none refl free end after
+
+-- Games.
+game_drops : (p : Profile) (k : Kind) (ks : List Kind) (g : Game) → IsTrue (is_comment k) → SpellsGame p ks g → SpellsGame p (k ∷ ks) g
+game_drops p k ks g is h = record {
+  before = k ∷ h.before;
+  tags = h.tags;
+  text = h.text;
+  last = h.last;
+  given = h.given;
+  tokens = ap (λ xs. k ∷ xs) h.tokens;
+  dropped = dropped_more k h.before is h.dropped;
+  pairs = h.pairs;
+  keeps = h.keeps;
+  sorted = h.sorted;
+  set_up = h.set_up;
+  bare = h.bare;
+  items = h.items;
+  marker = h.marker;
+  result = h.result;
+}
+
+games_drop : (p : Profile) (k : Kind) (ks : List Kind) (gs : List Game) → IsTrue (is_comment k) → SpellsGames p ks gs → SpellsGames p (k ∷ ks) gs
+games_drop p k _ _ is (no_game ks are) = no_game (k ∷ ks) (dropped_more k ks is are)
+games_drop p k _ _ is (next_game ks ls g gs first others) = next_game (k ∷ ks) ls g gs (game_drops p k ks g is first) others
+
+outer_text : (p : Profile) (first : Parts) (l : Level) (ks : List Kind) (items : List Item) → Closes p first l [] ks items → SpellsText p first 0 l ks items
+outer_text p first l _ _ (outermost _ ks items text) = text
+
+-- pairs and movetext that begin between games
+game_begins : (p : Profile) (ps : List Pair) (ks : List Kind) (gs : List Game) → ps ≡ [] → (t : Tags_left p ps ks gs) → (t.given ≡ [] → BeginsBare t.text.text) → SpellsGames p ks gs
+game_begins p ps ks gs none t bare =
+    let x = t.text in
+    let sorted : with_pairs ps t.given ≡ by_name t.given = ap (λ qs. with_pairs qs t.given) none in
+    let g : Game = record { pairs = with_pairs ps t.given; items = x.more; marker = x.marker } in
+    let front : List Kind = t.tags ++ (x.text ++ x.last ∷ []) in
+    let e : ks ≡ front ++ x.behind = t.kinds ∙ ap (λ js. t.tags ++ js) x.kinds ∙ simp append_assoc in
+    let game : SpellsGame p front g =
+    record {
+      before = [];
+      tags = t.tags;
+      text = x.text;
+      last = x.last;
+      given = t.given;
+      tokens = refl;
+      dropped = refl;
+      pairs = t.pairs;
+      keeps = taken p t.given (subst (λ qs. Takes p qs t.given) none t.takes);
+      sorted = sorted;
+      set_up = t.set_up;
+      bare = bare;
+      items = outer_text p (start_of (with_pairs ps t.given)) (new_level []) x.text x.more x.closes;
+      marker = x.is_marker;
+      result = x.result;
+    } in
+    subst (λ js. SpellsGames p js gs) (sym e) (subst (SpellsGames p (front ++ x.behind)) (sym x.games) (next_game front x.behind g x.later game x.others))
+
+bare_from : (k : Kind) (ks text : List Kind) (last : Kind) (behind : List Kind) → IsFalse (is_comment k) → k ∷ ks ≡ text ++ last ∷ behind → BeginsBare text
+bare_from k ks [] last behind is e = tt
+bare_from k ks (j ∷ js) last behind is e = let same : j ≡ k = cc in ap is_comment same ∙ is
+
+between_text : (p : Profile) (ps : List Pair) (name : List ℕ) (items : List Item) (k : Kind) (ks : List Kind) (gs : List Game) → ps ≡ [] → items ≡ [] → IsTrue (is_textual k)
+    → IsFalse (is_comment k) → refusal p (at Between ps name items) k ≡ None → is_end k ≡ false → After p (next (at Between ps name items) k) ks gs → SpellsGames p (k ∷ ks) gs
+unfolding no_pair_step
+between_text p ps name items k ks gs no_pairs none is bare free end after =
+    let text = text_step p ps name items k ks gs (sym (between p ps name items k is bare) ∙ free) end (subst (λ n. After p n ks gs) (leads_between ps name items k is bare) after) in
+    let t = no_pair_step p ps items (k ∷ ks) gs none (subst IsSetUp (sym no_pairs) (λ e. absurd (cc))) text in
+    game_begins p ps (k ∷ ks) gs no_pairs t (λ given. bare_from k ks t.text.text t.text.last t.text.behind bare t.text.kinds)
+
+between_step : (p : Profile) (ps : List Pair) (name : List ℕ) (items : List Item) (k : Kind) (ks : List Kind) (gs : List Game) → ps ≡ [] → items ≡ []
+    → refusal p (at Between ps name items) k ≡ None → is_end k ≡ false → After p (next (at Between ps name items) k) ks gs → SpellsGames p (k ∷ ks) gs
+unfolding refusal
+between_step p ps name items tokens.comment_open ks gs no_pairs none free end after = games_drop p tokens.comment_open ks gs refl (after (no_pairs, none))
+between_step p ps name items (tokens.word s) ks gs no_pairs none free end after = games_drop p (tokens.word s) ks gs refl (after (no_pairs, none))
+between_step p ps name items tokens.comment_close ks gs no_pairs none free end after = games_drop p tokens.comment_close ks gs refl (after (no_pairs, none))
+between_step p ps name items tokens.left_bracket ks gs no_pairs none free end after =
+    let t = pair_step p ps ks gs (test_failed (nat_le p.tags (length ps)) TooManyTags None (sym (opening_between p ps name items) ∙ free)) (after none) in
+    game_begins p ps (tokens.left_bracket ∷ ks) gs no_pairs t.0 (λ e. absurd (t.1 e))
+between_step p ps name items tokens.end ks gs no_pairs none free end after = absurd (cc)
+between_step p ps name items (tokens.refused r) ks gs no_pairs none free end after = absurd (cc)
+between_step p ps name items k ks gs no_pairs none free end after = between_text p ps name items k ks gs no_pairs none refl refl free end after
+
+-- one token more, at any stage
+step : (p : Profile) (stage : Stage) (ps : List Pair) (name : List ℕ) (items : List Item) (k : Kind) (ks : List Kind) (gs : List Game) → Fits stage ps items
+    → refusal p (at stage ps name items) k ≡ None → is_end k ≡ false → After p (next (at stage ps name items) k) ks gs → Left p stage ps name items (k ∷ ks) gs
+step p Between ps name items k ks gs fits free end after = between_step p ps name items k ks gs fits.0 fits.1 free end after
+step p AfterLeftBracket ps name items k ks gs fits free end after = name_step p ps name items k ks gs fits free after
+step p AfterName ps name items k ks gs fits free end after = value_step p ps name items k ks gs fits free after
+step p AfterValue ps name items k ks gs fits free end after = bracket_step p ps name items k ks gs fits free after
+step p AfterTags ps name items k ks gs fits free end after = tags_step p ps name items k ks gs fits free end after
+step p InMovetext ps name items k ks gs fits free end after = text_step p ps name items k ks gs free end after
+
+-- the end is between games
+at_end : (p : Profile) (stage : Stage) (ps : List Pair) (name : List ℕ) (items : List Item) → refusal p (at stage ps name items) tokens.end ≡ None
+    → Left p stage ps name items (tokens.end ∷ []) []
+unfolding refusal
+at_end p Between ps name items free = no_game [] refl
+at_end p _ ps name items free = absurd (cc)
+
+left : (p : Profile) (part : Part) (ks : List Kind) (gs : List Game) → Runs p part ks gs → Fits part.stage part.pairs part.items
+    → Left p part.stage part.pairs part.name part.items ks gs
+left p _ _ _ (ends part free) fits = at_end p part.stage part.pairs part.name part.items free
+left p _ _ _ (goes part to k ks gs free end leads runs) fits =
+    step p part.stage part.pairs part.name part.items k ks gs fits free end (subst (λ n. After p n ks gs) (sym leads) (left p to ks gs runs))
+left p _ _ _ (finishes part k g ks gs free end leads runs) fits =
+    step p part.stage part.pairs part.name part.items k ks (g ∷ gs) fits free end
+    (subst (λ n. After p n ks (g ∷ gs)) (sym leads) (gs, refl, left p no_part ks gs runs (refl, refl)))
+
+pub games_spelled : (p : Profile) (ks : List Kind) (gs : List Game) → Runs p no_part ks gs → SpellsGames p ks gs
+games_spelled p ks gs runs = left p no_part ks gs runs (refl, refl)

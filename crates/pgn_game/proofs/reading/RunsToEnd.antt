@@ -1,0 +1,135 @@
+-- Tokens that are read to their end, as a relation: which games they finish from a part on.
+use Rattle.std.proofs.Common.{◌≡◌, ℕ, false, List, [], ◌∷◌, ◌++◌, map, None, refl, sym, ap, subst, ◌∙◌, append_assoc, append-nil}
+use Rattle.std.specs.Prelude.{◌↔◌}
+use Rattle.pgn_lexer.specs.Tokens as tokens
+use Rattle.pgn_lexer.specs.Tokens.{Kind, Token}
+use Rattle.pgn_lexer.specs.Laws.{IsLast, RisesTo}
+use Rattle.pgn_game.specs.declared.stage.Stage.{Stage}
+use Rattle.pgn_game.specs.declared.stage.Stage.TheVariants.{Between, AfterLeftBracket, AfterName, AfterValue, AfterTags, InMovetext}
+use Rattle.pgn_game.specs.Profile.{Profile}
+use Rattle.pgn_game.specs.Pairs.{Pair}
+use Rattle.pgn_game.specs.Game.{Item, Game, Part, no_part}
+use Rattle.pgn_game.specs.FaultTable.{refusal, is_end}
+use Rattle.pgn_game.proofs.tokens.OneMoreToken.{first_passes, goes_on}
+use Rattle.pgn_game.specs.Progress.{Next, going, whole, next, Progress, no_progress, progress_with, progress_after, Read, read_from, read}
+
+abbrev pub at : Stage → List Pair → List ℕ → List Item → Part
+at stage ps name items = record { stage = stage; pairs = ps; name = name; items = items }
+
+-- None is rejected, only the last is the end, and from this part on they finish these games.
+pub data Runs (p : Profile) : Part → List Kind → List Game → Type 0 where
+  ends : (part : Part) → refusal p part tokens.end ≡ None → Runs p part (tokens.end ∷ []) []
+  goes : (part to : Part) (k : Kind) (ks : List Kind) (gs : List Game) → refusal p part k ≡ None → is_end k ≡ false → next part k ≡ going to
+      → Runs p to ks gs → Runs p part (k ∷ ks) gs
+  finishes : (part : Part) (k : Kind) (g : Game) (ks : List Kind) (gs : List Game) → refusal p part k ≡ None → is_end k ≡ false → next part k ≡ whole g
+      → Runs p no_part ks gs → Runs p part (k ∷ ks) (g ∷ gs)
+
+abbrev pub kinds : List Token → List Kind
+kinds ts = map (λ t. t.kind) ts
+
+-- From reading to the relation.
+
+-- what was read finished these games, behind those before
+record Read_on (p : Profile) (b : Progress) (ts : List Token) (gs : List Game) : Type 0 where
+  same : (read_from p b ts).progress.games ≡ b.games ++ gs
+  runs : Runs p b.part (kinds ts) gs
+
+not_end : (k : Kind) → (IsLast k → ⊥) → is_end k ≡ false
+not_end tokens.end h = absurd (h tt)
+not_end _ h = refl
+
+end_leads : (stage : Stage) (ps : List Pair) (name : List ℕ) (items : List Item) → (to : Part) × (next (at stage ps name items) tokens.end ≡ going to)
+end_leads Between ps name items = (at Between ps name items, refl)
+end_leads AfterLeftBracket ps name items = (at AfterLeftBracket ps name items, refl)
+end_leads AfterName ps name items = (at AfterName ps name items, refl)
+end_leads AfterValue ps name items = (at AfterValue ps name items, refl)
+end_leads AfterTags ps name items = (at InMovetext ps name (items ++ []), refl)
+end_leads InMovetext ps name items = (at InMovetext ps name (items ++ []), refl)
+
+at_end : (p : Profile) (b : Progress) (place : ℕ) (k : Kind) → IsLast k → (read_from p b (record { at = place; kind = k } ∷ [])).fault ≡ None
+    → Read_on p b (record { at = place; kind = k } ∷ []) []
+unfolding refusal
+at_end p b place (tokens.refused r) last e = absurd (cc)
+at_end p b place tokens.end last e =
+    let t : Token = record { at = place; kind = tokens.end } in
+    let free = first_passes p b t [] e in
+    let leads = end_leads b.part.stage b.part.pairs b.part.name b.part.items in
+    record {
+      same = ap (λ (r : Read). r.progress.games) (goes_on p b t [] free) ∙ ap (λ (n : Next). (progress_with b.games n).games) leads.1 ∙ sym (append-nil b.games);
+      runs = ends b.part free;
+    }
+at_end p b place _ last e = absurd last
+
+one_more : (p : Profile) (b : Progress) (t : Token) (ts : List Token) → refusal p b.part t.kind ≡ None → is_end t.kind ≡ false → (n : Next) → next b.part t.kind ≡ n
+    → (gs : List Game) → Read_on p (progress_with b.games n) ts gs → (all : List Game) × Read_on p b (t ∷ ts) all
+one_more p b t ts free end (going to) leads gs rest = (
+  gs,
+  record {
+    same = ap (λ (r : Read). r.progress.games) (goes_on p b t ts free) ∙ ap (λ (n : Next). (read_from p (progress_with b.games n) ts).progress.games) leads ∙ rest.same;
+    runs = goes b.part to t.kind (kinds ts) gs free end leads rest.runs;
+  },
+)
+one_more p b t ts free end (whole g) leads gs rest = (
+  g ∷ gs,
+  record {
+    same = cc (goes_on p b t ts free, leads, rest.same, append_assoc b.games (g ∷ []) gs);
+    runs = finishes b.part t.kind g (kinds ts) gs free end leads rest.runs;
+  },
+)
+
+from_read : (p : Profile) (b : Progress) (ts : List Token) → RisesTo ts → (read_from p b ts).fault ≡ None → (gs : List Game) × Read_on p b ts gs
+from_read p b [] rises e = absurd rises
+from_read p b (t ∷ []) rises e = ([], at_end p b t.at t.kind rises e)
+from_read p b (t ∷ u ∷ us) rises e =
+    let free = first_passes p b t (u ∷ us) e in
+    let here = goes_on p b t (u ∷ us) free in
+    let rest = from_read p (progress_after b t) (u ∷ us) rises.2 (ap (λ (r : Read). r.fault) (sym here) ∙ e) in
+    one_more p b t (u ∷ us) free (not_end t.kind rises.0) (next b.part t.kind) refl rest.0 rest.1
+
+-- From the relation to reading.
+record Read_well (p : Profile) (b : Progress) (ts : List Token) (gs : List Game) : Type 0 where
+  fault : (read_from p b ts).fault ≡ None
+  games : (read_from p b ts).progress.games ≡ b.games ++ gs
+
+abbrev behind : List Game → Part → Progress
+behind games part = record { games = games; part = part }
+
+read_one : (p : Profile) (b c : Progress) (t : Token) (ts : List Token) (gs all : List Game) → refusal p b.part t.kind ≡ None → progress_after b t ≡ c → c.games ++ gs ≡ b.games ++ all
+    → Read_well p c ts gs → Read_well p b (t ∷ ts) all
+read_one p b c t ts gs all free leads same h =
+    let here : read_from p b (t ∷ ts) ≡ read_from p c ts = goes_on p b t ts free ∙ ap (λ (x : Progress). read_from p x ts) leads in
+    record {
+      fault = ap (λ (r : Read). r.fault) here ∙ h.fault;
+      games = ap (λ (r : Read). r.progress.games) here ∙ h.games ∙ same;
+    }
+
+to_read : (p : Profile) (part : Part) (ks : List Kind) (gs : List Game) → Runs p part ks gs → (ts : List Token) (before : List Game) → kinds ts ≡ ks
+    → Read_well p (behind before part) ts gs
+to_read p _ _ _ (ends part free) (t ∷ []) before e =
+    let kind : t.kind ≡ tokens.end = cc in
+    let leads = end_leads part.stage part.pairs part.name part.items in
+    read_one p (behind before part) (behind before leads.0) t [] [] [] (ap (refusal p part) kind ∙ free)
+    (ap (λ (k : Kind). progress_with before (next part k)) kind ∙ ap (progress_with before) leads.1) refl
+    (record { fault = refl; games = sym (append-nil before) })
+to_read p _ _ _ (goes part to k ks gs free end leads runs) (t ∷ ts) before e =
+    let kind : t.kind ≡ k = cc in
+    let rest : kinds ts ≡ ks = cc in
+    read_one p (behind before part) (behind before to) t ts gs gs (ap (refusal p part) kind ∙ free)
+    (ap (λ (j : Kind). progress_with before (next part j)) kind ∙ ap (progress_with before) leads) refl
+    (to_read p to ks gs runs ts before rest)
+to_read p _ _ _ (finishes part k g ks gs free end leads runs) (t ∷ ts) before e =
+    let kind : t.kind ≡ k = cc in
+    let rest : kinds ts ≡ ks = cc in
+    read_one p (behind before part) (behind (before ++ g ∷ []) no_part) t ts gs (g ∷ gs) (ap (refusal p part) kind ∙ free)
+    (ap (λ (j : Kind). progress_with before (next part j)) kind ∙ ap (progress_with before) leads) (append_assoc before (g ∷ []) gs)
+    (to_read p no_part ks gs runs ts (before ++ g ∷ []) rest)
+to_read p _ _ _ _ _ before e = absurd (cc)
+
+-- A list of tokens that ends with the one end, or with a rejection, is read to its end exactly if
+-- it runs.
+pub runs_as_read : (p : Profile) (ts : List Token) (gs : List Game) → RisesTo ts
+    → Runs p no_part (kinds ts) gs ↔ (((read p ts).fault ≡ None) × ((read p ts).progress.games ≡ gs))
+runs_as_read p ts gs rises = (
+  λ runs. let h = to_read p no_part (kinds ts) gs runs ts [] refl in (h.fault, h.games),
+  λ h. let r = from_read p no_progress ts rises h.0 in subst (Runs p no_part (kinds ts)) (sym r.1.same ∙ h.1) r.1.runs,
+)

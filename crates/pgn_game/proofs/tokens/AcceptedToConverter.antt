@@ -1,0 +1,402 @@
+-- One token that the lexer gave, and what the reader answered to it.
+use Rattle.std.proofs.Common.{◌≡◌, ℕ, ◌+◌, ◌*◌, is_some, ◌<◌, ◌≤◌, ◌⊎◌, inl, inr, Bool, false, true, List, [], ◌∷◌, ◌++◌, length, take, drop, Option, None, Some, Result, Ok, Err, refl, sym, ap, subst, ◌∙◌, append_assoc, append-nil, length-append, arith}
+use Rattle.std.specs.Prelude.{IsTrue, map, sum, ◌||◌}
+use Rattle.std.proofs.lemmas.List.{take-append-drop, map-append}
+use Rattle.std.proofs.lemmas.List.Sums.{sum_by-append, sum_by-cons}
+use Rattle.std.proofs.lemmas.List.Folds.{list_any-append}
+use Rattle.std.proofs.lemmas.Bool.{or_cases}
+use Rattle.std.proofs.KnownBytes.{Appends-nil}
+use Rattle.std.specs.Io.KnownBytes.{Appends}
+use Rattle.pgn_lexer.specs.declared.token.LexFault.{LexFault}
+use Rattle.pgn_lexer.specs.Tokens.{Token, EndsAt}
+use Rattle.pgn_lexer.specs.TokensOf.{tokens_of}
+use Rattle.pgn_lexer.specs.PartialToken.{refusal as refusal_token}
+use Rattle.pgn_lexer.specs.Scanned.{more, token, fault}
+use Rattle.pgn_lexer.specs.Standing.{Standing, coming, waiting}
+use Rattle.pgn_lexer.specs.Stands.{StandsAfter, Follows, AfterScan, first, still}
+use Rattle.pgn_game.specs.declared.accept.Accepted.{Accepted}
+use Rattle.pgn_game.specs.declared.accept.Accepted.TheVariants.{More, Finished}
+use Rattle.pgn_game.specs.declared.reason.Reason.{Reason}
+use Rattle.pgn_game.specs.declared.reason.Reason.TheVariants.{Lexical}
+use Rattle.pgn_game.specs.declared.reason.Fault.{Fault}
+use Rattle.pgn_game.specs.Profile.{Profile}
+use Rattle.pgn_game.specs.Game.{Game, Part}
+use Rattle.pgn_game.specs.FaultTable.{refusal}
+use Rattle.pgn_game.specs.Progress.{Next, going, whole, next, Progress, progress_with, progress_after, Read, read}
+use Rattle.pgn_game.specs.Due.{gain, Gains}
+use Rattle.pgn_game.specs.Levels.{plies_of}
+use Rattle.pgn_game.specs.Reading as reading
+use Rattle.pgn_game.specs.Reading.{Reading, Agrees, IsBehind, has_move, whole_plies, plies_next, Leads, Answers}
+use Rattle.pgn_game.specs.Feeding.{AtHand, hand_of, Converter, game_in_reader, game_in_reader_if, play_moves, has_played_move, HasRead, Stands, Stops, refused, unwritten, StopsWriting, AreNext, games_before, CountsAtStop}
+use Rattle.pgn_game.specs.Stepping.{SameGames, OneGame, AfterStep, outcome_at, finished_game, games_after, fault_of_step, StepAdvances}
+use Rattle.pgn_game.specs.MostTried.{MostTried, Raises, Tries, TriesUnwritten}
+use Rattle.pgn_game.proofs.tokens.PairsTriedForToken.{most_with, most_to_refused, part_probed, raises_none}
+use Rattle.pgn_game.proofs.tokens.OneMoreToken.{read-passes, read-refuses, due-passes, due-refuses, gains_none, gains_nothing}
+
+pub follows_first : (xs s : List ℕ) → Follows (first xs) (xs ++ s)
+follows_first [] s = tt
+follows_first (x ∷ xs) s = refl
+
+-- a piece goes on with its own first byte
+pub follows_own : (xs : List ℕ) → Follows (first xs) xs
+follows_own [] = tt
+follows_own (x ∷ xs) = refl
+
+-- what a token leads to, with the games before
+leads_more : (nx : Next) (games : List Game) (r : Reading) → Leads nx More r → ((progress_with games nx).games ≡ games) × Agrees r (progress_with games nx).part
+leads_more (going part) games r h = (refl, h)
+leads_more (whole g) games r h = absurd h
+
+leads_finished : (nx : Next) (games : List Game) (r : Reading) → Leads nx Finished r
+    → (g : Game) × ((progress_with games nx).games ≡ games ++ g ∷ []) × Agrees r (progress_with games nx).part × IsBehind r g × (plies_next nx ≡ plies_of g)
+leads_finished (going part) games r h = absurd h
+leads_finished (whole g) games r h = (g, refl, h.agrees, h, refl)
+
+-- a token that finishes no game counts no move
+plies_more : (nx : Next) (r : Reading) → Leads nx More r → plies_next nx ≡ 0
+plies_more (going part) r h = refl
+plies_more (whole g) r h = absurd h
+
+-- what the reader still holds of the game that it is behind
+hand_behind : (r : Reading) (g : Game) → IsBehind r g → game_in_reader r ≡ hand_of g
+hand_behind r g h = cc (h.pairs, h.plies, h.position)
+
+plies-snoc : (games : List Game) (g : Game) → sum (map plies_of (games ++ g ∷ [])) ≡ sum (map plies_of games) + plies_of g
+plies-snoc games g =
+    let one : sum (plies_of g ∷ []) ≡ plies_of g = omega (arith, sum_by-cons (λ n. n) (plies_of g) []) in
+    ap sum (map-append plies_of games (g ∷ [])) ∙ sum_by-append (λ n. n) (map plies_of games) (plies_of g ∷ []) ∙ ap (λ n. sum (map plies_of games) + n) one
+
+-- a move is in the games before, or in the last one
+moves-snoc : (games : List Game) (g : Game) → IsTrue (play_moves (games ++ g ∷ [])) → IsTrue (play_moves games) ⊎ IsTrue (has_move g.items)
+moves-snoc games g h =
+    elim (or_cases (play_moves games) (play_moves (g ∷ [])) (sym (list_any-append (λ (g : Game). has_move g.items) games (g ∷ [])) ∙ h)) [
+      | inl e ↦ inl e
+      | inr e ↦ inr (only (has_move g.items) e)
+    ]
+  where
+    only : (b : Bool) → (b || false) ≡ true → b ≡ true
+    only true e = refl
+    only false e = absurd (cc)
+
+length-snoc : (games : List Game) (g : Game) → length (games ++ g ∷ []) ≡ length games + 1
+length-snoc games g = length-append games (g ∷ [])
+
+-- a converter after a step
+abbrev pub stepped : Standing → Reading → ℕ → Bool → Result (Option Accepted) Fault → Converter
+stepped l r games finished outcome =
+    record {
+      lexer = l;
+      reading = r;
+      games = games_after outcome games;
+      at_hand = game_in_reader_if (finished_game outcome) r;
+      is_finished = finished;
+      fault = fault_of_step outcome;
+    }
+
+-- a move in one of the games was played
+pub in_games : (b : Progress) → IsTrue (play_moves b.games) → IsTrue (has_played_move b)
+in_games b h = or_left (play_moves b.games) (has_move b.part.items) h
+  where
+    or_left : (x y : Bool) → IsTrue x → IsTrue (x || y)
+    or_left true y h = refl
+    or_left false y h = absurd (cc)
+
+-- some pair was tried where a move was played in a game, or in the part
+in_either : (r : Reading) (b : Progress) → Agrees r b.part → (IsTrue (play_moves b.games) → 0 < r.most_probes) → IsTrue (has_played_move b) → 0 < r.most_probes
+in_either r b agrees before moves = by_or (play_moves b.games) (has_move b.part.items) before (part_probed r b.part agrees) moves
+  where
+    by_or : (x y : Bool) → (IsTrue x → 0 < r.most_probes) → (IsTrue y → 0 < r.most_probes) → IsTrue (x || y) → 0 < r.most_probes
+    by_or true y left right h = left refl
+    by_or false y left right h = right h
+
+module _ (p : Profile) (old : Converter) (given : List Token) (t : Token) (l : Standing) (new : Reading) (finished : Bool) (has_read : HasRead p old given) (profile : new.profile ≡ old.reading.profile) (probes : old.reading.most_probes ≤ new.most_probes) where
+  abbrev b : Progress
+  b = (read p given).progress
+
+  passes : refusal old.reading.profile b.part t.kind ≡ None → refusal p b.part t.kind ≡ None
+  passes h = subst (λ q. refusal q b.part t.kind ≡ None) has_read.profile h
+
+  reads : refusal old.reading.profile b.part t.kind ≡ None → read p (given ++ t ∷ []) ≡ record { progress = progress_after b t; fault = None }
+  reads h = read-passes p given t has_read.passes (passes h)
+
+  pub gains_token : (a c : Option (List ℕ)) → refusal old.reading.profile b.part t.kind ≡ None → Appends a c (gain old.reading.profile b.part t.kind) → Gains p given (given ++ t ∷ []) a c
+  gains_token a c h wrote =
+      record {
+        text = gain p b.part t.kind;
+        due_for = due-passes p given t has_read.passes (passes h);
+        appended = subst (λ q. Appends a c (gain q b.part t.kind)) has_read.profile wrote;
+      }
+
+  raised : Raises (Tries old.reading.profile b.part t.kind) old.reading.most_probes new.most_probes → Raises (Tries p b.part t.kind) old.reading.most_probes new.most_probes
+  raised h = subst (λ q. Raises (Tries q b.part t.kind) old.reading.most_probes new.most_probes) has_read.profile h
+
+  -- the most pairs tried, with this token
+  most_tried : refusal old.reading.profile b.part t.kind ≡ None → Raises (Tries old.reading.profile b.part t.kind) old.reading.most_probes new.most_probes
+      → MostTried p (given ++ t ∷ []) new.most_probes
+  most_tried h tries = most_with p given t old.reading.most_probes new.most_probes has_read.tried has_read.passes (passes h) (raised tries)
+
+  probed_before : IsTrue (has_played_move b) → 0 < new.most_probes
+  probed_before moves = let some = has_read.probed moves in omega (arith, some, probes)
+
+  -- the game goes on
+  pub same_games : refusal old.reading.profile b.part t.kind ≡ None → Leads (next b.part t.kind) More new → SameGames p given (given ++ t ∷ [])
+  same_games h leads = ap (λ (r : Read). r.progress.games) (reads h) ∙ (leads_more (next b.part t.kind) b.games new leads).0
+
+  pub has_read_more : refusal old.reading.profile b.part t.kind ≡ None → Leads (next b.part t.kind) More new
+      → whole_plies new ≡ whole_plies old.reading + plies_next (next b.part t.kind)
+      → Raises (Tries old.reading.profile b.part t.kind) old.reading.most_probes new.most_probes → HasRead p (stepped l new old.games finished (Ok (Some More))) (given ++ t ∷ [])
+  has_read_more h leads plies tries =
+      let more = leads_more (next b.part t.kind) b.games new leads in
+      let same = same_games h leads in
+      let none = plies_more (next b.part t.kind) new leads in
+      let total : whole_plies new ≡ whole_plies old.reading = omega (arith, plies, none) in
+      let agrees : Agrees new (read p (given ++ t ∷ [])).progress.part = subst (λ (r : Read). Agrees new r.progress.part) (sym (reads h)) more.1 in
+      record {
+        profile = profile ∙ has_read.profile;
+        no_fault = refl;
+        passes = ap (λ (r : Read). r.fault) (reads h);
+        agrees = agrees;
+        games = has_read.games ∙ ap (length {A = Game}) (sym same);
+        plies = total ∙ has_read.plies ∙ ap (λ games. sum (map plies_of games)) (sym same);
+        probed = in_either new (read p (given ++ t ∷ [])).progress agrees
+            (λ moves. probed_before (in_games b (subst (λ games. IsTrue (play_moves games)) same moves)));
+        tried = most_tried h tries;
+        at_hand = tt;
+      }
+
+  -- the game is whole
+  pub one_game : refusal old.reading.profile b.part t.kind ≡ None → Leads (next b.part t.kind) Finished new
+      → (g : Game) × OneGame p given (given ++ t ∷ []) g × (game_in_reader new ≡ hand_of g)
+  one_game h leads =
+      let done = leads_finished (next b.part t.kind) b.games new leads in
+      (done.0, ap (λ (r : Read). r.progress.games) (reads h) ∙ done.1, hand_behind new done.0 done.3)
+
+  pub has_read_game : refusal old.reading.profile b.part t.kind ≡ None → Leads (next b.part t.kind) Finished new
+      → whole_plies new ≡ whole_plies old.reading + plies_next (next b.part t.kind)
+      → Raises (Tries old.reading.profile b.part t.kind) old.reading.most_probes new.most_probes → HasRead p (stepped l new old.games finished (Ok (Some Finished))) (given ++ t ∷ [])
+  has_read_game h leads plies tries =
+      let done = leads_finished (next b.part t.kind) b.games new leads in
+      let one = ap (λ (r : Read). r.progress.games) (reads h) ∙ done.1 in
+      let g : Game = done.0 in
+      let behind : IsBehind new g = done.3 in
+      let agrees : Agrees new (read p (given ++ t ∷ [])).progress.part = subst (λ (r : Read). Agrees new r.progress.part) (sym (reads h)) done.2 in
+      record {
+        profile = profile ∙ has_read.profile;
+        no_fault = refl;
+        passes = ap (λ (r : Read). r.fault) (reads h);
+        agrees = agrees;
+        games = ap (λ n. n + 1) has_read.games ∙ sym (ap (length {A = Game}) one ∙ length-snoc b.games g);
+        plies = plies ∙ ap (λ n. n + plies_next (next b.part t.kind)) has_read.plies ∙ ap (λ n. sum (map plies_of b.games) + n) done.4
+            ∙ sym (ap (λ games. sum (map plies_of games)) one ∙ plies-snoc b.games g);
+        probed = in_either new (read p (given ++ t ∷ [])).progress agrees
+            (λ moves. elim (moves-snoc b.games g (subst (λ games. IsTrue (play_moves games)) one moves)) [
+              | inl before ↦ probed_before (in_games b before)
+              | inr here ↦ behind.probed here
+            ]);
+        tried = most_tried h tries;
+        at_hand = (b.games, g, one, hand_behind new g behind);
+      }
+
+  -- the token is rejected
+  pub stops_refused : (us : List Token) (a c : Option (List ℕ)) (reason : Reason) → refusal old.reading.profile b.part t.kind ≡ Some reason → Appends a c []
+      → Stops p given (given ++ t ∷ us) a c (record { at = t.at; reason = reason })
+  stops_refused us a c reason h wrote =
+      let some = subst (λ q. refusal q b.part t.kind ≡ Some reason) has_read.profile h in
+      refused (record { at = t.at; reason = reason }) (ap (λ (r : Read). r.fault) (read-refuses p given t us reason has_read.passes some))
+      (gains_nothing p given (given ++ t ∷ us) a c (due-refuses p given t us reason has_read.passes some) wrote)
+
+  pub none_before_refused : (us : List Token) (a c : Option (List ℕ)) (reason : Reason) (h : refusal old.reading.profile b.part t.kind ≡ Some reason) (wrote : Appends a c [])
+      → games_before (stops_refused us a c reason h wrote) ≡ b.games
+  unfolding stops_refused
+  none_before_refused us a c reason h wrote =
+      ap (λ (r : Read). r.progress.games) (read-refuses p given t us reason has_read.passes (subst (λ q. refusal q b.part t.kind ≡ Some reason) has_read.profile h))
+
+  pub count_at_refused : (us : List Token) (a c : Option (List ℕ)) (reason : Reason) (h : refusal old.reading.profile b.part t.kind ≡ Some reason) (wrote : Appends a c [])
+      → Raises (Tries old.reading.profile b.part t.kind) old.reading.most_probes new.most_probes → CountsAtStop (stops_refused us a c reason h wrote) new.most_probes
+  unfolding stops_refused
+  count_at_refused us a c reason h wrote tries =
+      let some = subst (λ q. refusal q b.part t.kind ≡ Some reason) has_read.profile h in
+      record {
+        tried = most_to_refused p given t us reason old.reading.most_probes new.most_probes has_read.tried has_read.passes some (raised tries);
+        probed = λ moves. probed_before (subst (λ (r : Read). IsTrue (has_played_move r.progress)) (read-refuses p given t us reason has_read.passes some) moves);
+      }
+
+  -- a write failed
+  pub writing : (us : List Token) (a c : Option (List ℕ)) → refusal old.reading.profile b.part t.kind ≡ None
+      → (n : ℕ) × (n < length (gain old.reading.profile b.part t.kind)) × Appends a c (take n (gain old.reading.profile b.part t.kind))
+      → StopsWriting p given (given ++ t ∷ us) t.at a c
+  writing us a c h (n, short, wrote) =
+      record {
+        front = given;
+        token = t;
+        rest = us;
+        cut = refl;
+        place = refl;
+        passes = ap (λ (r : Read). r.fault) (reads h);
+        text = gain p b.part t.kind;
+        due_for = due-passes p given t has_read.passes (passes h);
+        count = n;
+        least = omega arith;
+        short = subst (λ q. n < length (gain q b.part t.kind)) has_read.profile short;
+        appended = subst (λ q. Appends a c (take n (gain q b.part t.kind))) has_read.profile wrote;
+      }
+
+  pub none_before_unwritten : (us : List Token) (a c : Option (List ℕ)) (h : refusal old.reading.profile b.part t.kind ≡ None)
+      (wrote : (n : ℕ) × (n < length (gain old.reading.profile b.part t.kind)) × Appends a c (take n (gain old.reading.profile b.part t.kind)))
+      → games_before (unwritten t.at (writing us a c h wrote)) ≡ b.games
+  unfolding writing
+  none_before_unwritten us a c h (n, short, wrote) = refl
+
+  pub count_at_unwritten : (us : List Token) (a c : Option (List ℕ)) (h : refusal old.reading.profile b.part t.kind ≡ None)
+      (wrote : (n : ℕ) × (n < length (gain old.reading.profile b.part t.kind)) × Appends a c (take n (gain old.reading.profile b.part t.kind)))
+      → Raises (TriesUnwritten old.reading.profile b.part t.kind) old.reading.most_probes new.most_probes
+      → CountsAtStop (unwritten t.at (writing us a c h wrote)) new.most_probes
+  unfolding writing
+  count_at_unwritten us a c h (n, short, wrote) tries =
+      record {
+        tried = (
+          old.reading.most_probes,
+          has_read.tried,
+          subst (λ q. Raises (TriesUnwritten q b.part t.kind) old.reading.most_probes new.most_probes) has_read.profile tries,
+        );
+        probed = probed_before;
+      }
+
+-- a text that goes on behind the bytes used goes on behind the piece
+next_in_piece : (l : Standing) (u piece : List ℕ) (used : ℕ) (given : List Token) → StandsAfter l (u ++ take used piece) (first (drop used piece)) given → AreNext (u ++ piece) None given
+next_in_piece l u piece used given stands s follows =
+    let rest = drop used piece in
+    let whole : (u ++ piece) ++ s ≡ (u ++ take used piece) ++ (rest ++ s) =
+    ap (λ xs. (u ++ xs) ++ s) (sym (take-append-drop used piece)) ∙ ap (λ xs. xs ++ s) (sym (append_assoc u (take used piece) rest))
+    ∙ append_assoc (u ++ take used piece) rest s in
+    (coming l (rest ++ s), ap tokens_of whole ∙ stands.tokens (rest ++ s) (follows_first rest s))
+
+still_none : (b : Option ℕ) (piece : List ℕ) → 0 < length piece → still b piece ≡ None
+still_none b [] h = absurd (omega arith)
+still_none b (x ∷ xs) h = refl
+
+pub still_none-none : (piece : List ℕ) → still None piece ≡ None
+still_none-none [] = refl
+still_none-none (x ∷ xs) = refl
+
+-- What the reader answers to a token of the piece.
+pub took : (p : Profile) (old : Converter) (u : List ℕ) (given : List Token) (piece : List ℕ) (used : ℕ) (t : Token) (l : Standing) (new : Reading) (finished : Bool)
+    (a c : Option (List ℕ)) (r : Result Accepted Reason) → Stands p old u (first piece) given → AfterScan u (first piece) given piece l used (token t)
+    → EndsAt t.kind t.at l.count → l.count ≡ old.lexer.count + used → new.profile ≡ old.reading.profile → old.reading.most_probes ≤ new.most_probes
+    → Answers old.reading (read p given).progress.part t.kind new r a c
+    → AfterStep p u given piece (stepped l new old.games finished (outcome_at t.at r)) used (outcome_at t.at r) a c
+took p old u given piece used t l new finished a c (Ok More) stands scan ends count profile probes h = (
+  t,
+  record {
+    stands = record { lexer = scan.0; has_read = has_read_more p old given t l new finished stands.has_read profile probes h.free h.leads h.plies h.tried };
+    decided = scan.1;
+    ends = subst (EndsAt t.kind t.at) (count ∙ ap (λ n. n + used) stands.lexer.count) ends;
+    gains = gains_token p old given t l new finished stands.has_read profile probes a c h.free h.appended;
+  },
+  same_games p old given t l new finished stands.has_read profile probes h.free h.leads,
+)
+took p old u given piece used t l new finished a c (Ok Finished) stands scan ends count profile probes h =
+    let one = one_game p old given t l new finished stands.has_read profile probes h.free h.leads in (
+      t,
+      record {
+        stands = record { lexer = scan.0; has_read = has_read_game p old given t l new finished stands.has_read profile probes h.free h.leads h.plies h.tried };
+        decided = scan.1;
+        ends = subst (EndsAt t.kind t.at) (count ∙ ap (λ n. n + used) stands.lexer.count) ends;
+        gains = gains_token p old given t l new finished stands.has_read profile probes a c h.free h.appended;
+      },
+      (one.0, one.1, ap (λ (hand : AtHand). Some hand) one.2),
+    )
+took p old u given piece used t l new finished a c (Err why) stands scan ends count profile probes (reading.refused reason some wrote tries) =
+    record {
+      fed = record {
+        tokens = given ++ t ∷ [];
+        next = subst (λ b. AreNext (u ++ piece) b (given ++ t ∷ [])) (sym (still_none-none piece)) (next_in_piece l u piece used (given ++ t ∷ []) scan.0);
+        stops = stops_refused p old given t l new finished stands.has_read profile probes [] a c reason some wrote;
+      };
+      no_game = none_before_refused p old given t l new finished stands.has_read profile probes [] a c reason some wrote;
+      counts = count_at_refused p old given t l new finished stands.has_read profile probes [] a c reason some wrote tries;
+    }
+took p old u given piece used t l new finished a c (Err why) stands scan ends count profile probes (reading.unwritten none wrote tries) =
+    record {
+      fed = record {
+        tokens = given ++ t ∷ [];
+        next = subst (λ b. AreNext (u ++ piece) b (given ++ t ∷ [])) (sym (still_none-none piece)) (next_in_piece l u piece used (given ++ t ∷ []) scan.0);
+        stops = unwritten t.at (writing p old given t l new finished stands.has_read profile probes [] a c none wrote);
+      };
+      no_game = none_before_unwritten p old given t l new finished stands.has_read profile probes [] a c none wrote;
+      counts = count_at_unwritten p old given t l new finished stands.has_read profile probes [] a c none wrote tries;
+    }
+
+-- no token in the piece
+pub took_none : (p : Profile) (old : Converter) (u : List ℕ) (given : List Token) (piece : List ℕ) (used : ℕ) (l : Standing) (o : Option (List ℕ)) → 0 < length piece
+    → Stands p old u (first piece) given → AfterScan u (first piece) given piece l used more
+    → AfterStep p u given piece (record old { lexer = l }) used (Ok None) o o
+took_none p old u given piece used l o some stands scan =
+    let h = stands.has_read in (
+      scan.0,
+      record {
+        lexer = subst (λ b. StandsAfter l (u ++ piece) b given) (still_none (first piece) piece some) scan.1;
+        has_read = record { profile = h.profile; no_fault = h.no_fault; passes = h.passes; agrees = h.agrees; games = h.games; plies = h.plies; probed = h.probed; tried = h.tried; at_hand = h.at_hand };
+      },
+      scan.2 some,
+      gains_none p given o,
+    )
+
+-- a rejection of the lexer is a row of its own
+lexical-refusal : (p : Profile) (part : Part) (f : LexFault) → refusal p part (refusal_token f).kind ≡ Some (Lexical f.reason)
+unfolding refusal
+lexical-refusal p part f = refl
+
+pub stops_lexical : (p : Profile) (given : List Token) (f : LexFault) (o : Option (List ℕ)) → (read p given).fault ≡ None
+    → Stops p given (given ++ refusal_token f ∷ []) o o (record { at = f.at; reason = Lexical f.reason })
+stops_lexical p given f o passes =
+    let some = lexical-refusal p (read p given).progress.part f in
+    refused (record { at = f.at; reason = Lexical f.reason }) (ap (λ (r : Read). r.fault) (read-refuses p given (refusal_token f) [] (Lexical f.reason) passes some))
+    (gains_nothing p given (given ++ refusal_token f ∷ []) o o (due-refuses p given (refusal_token f) [] (Lexical f.reason) passes some) (Appends-nil o))
+
+pub none_before_lexical : (p : Profile) (given : List Token) (f : LexFault) (o : Option (List ℕ)) (passes : (read p given).fault ≡ None)
+    → games_before (stops_lexical p given f o passes) ≡ (read p given).progress.games
+unfolding stops_lexical
+none_before_lexical p given f o passes =
+    ap (λ (r : Read). r.progress.games) (read-refuses p given (refusal_token f) [] (Lexical f.reason) passes (lexical-refusal p (read p given).progress.part f))
+
+-- a rejection of the lexer tries no pair
+pub count_at_lexical : (p : Profile) (old : Converter) (given : List Token) (f : LexFault) (o : Option (List ℕ)) (has_read : HasRead p old given)
+    → CountsAtStop (stops_lexical p given f o has_read.passes) old.reading.most_probes
+unfolding stops_lexical
+count_at_lexical p old given f o has_read =
+    let b = (read p given).progress in
+    let some = lexical-refusal p b.part f in
+    record {
+      tried = most_to_refused p given (refusal_token f) [] (Lexical f.reason) old.reading.most_probes old.reading.most_probes has_read.tried has_read.passes some
+          (raises_none p b.part f.reason (Lexical f.reason) old.reading.most_probes some);
+      probed = λ moves. has_read.probed
+          (subst (λ (r : Read). IsTrue (has_played_move r.progress)) (read-refuses p given (refusal_token f) [] (Lexical f.reason) has_read.passes some) moves);
+    }
+
+pub took_fault : (p : Profile) (old : Converter) (u : List ℕ) (given : List Token) (piece : List ℕ) (used : ℕ) (f : LexFault) (l : Standing) (new : Converter) (o : Option (List ℕ)) → 0 < length piece
+    → Stands p old u (first piece) given → AfterScan u (first piece) given piece l used (fault f)
+    → new.reading ≡ old.reading → AfterStep p u given piece new used (Err (record { at = f.at; reason = Lexical f.reason })) o o
+took_fault p old u given piece used f l new o some stands scan same =
+    record {
+      fed = record {
+        tokens = given ++ refusal_token f ∷ [];
+        next = λ s follows.
+            let rest = subst (λ b. Follows b s) (still_none-none piece ∙ sym (still_none (first piece) piece some)) follows in
+            ([], scan.0 s rest ∙ sym (append-nil (given ++ refusal_token f ∷ [])));
+        stops = stops_lexical p given f o stands.has_read.passes;
+      };
+      no_game = none_before_lexical p given f o stands.has_read.passes;
+      counts = subst (λ (r : Reading). CountsAtStop (stops_lexical p given f o stands.has_read.passes) r.most_probes) (sym same)
+          (count_at_lexical p old given f o stands.has_read);
+    }
+
+-- a game is at hand after a step where the step finished one
+pub is_some_held : (b : Bool) (reading : Reading) → is_some (game_in_reader_if b reading) ≡ b
+is_some_held true reading = refl
+is_some_held false reading = refl
+
+pub advances_token : (old : Standing) (piece : List ℕ) (new : Standing) (used at : ℕ) (r : Result Accepted Reason) → waiting new < 2 * used + waiting old
+    → StepAdvances old piece new used (outcome_at at r)
+advances_token old piece new used at (Ok accepted) sooner = sooner
+advances_token old piece new used at (Err reason) sooner = tt

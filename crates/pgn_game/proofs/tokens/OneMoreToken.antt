@@ -1,0 +1,199 @@
+-- One token more: what was read, and what is due for it.
+use Rattle.std.proofs.Common.{◌≡◌, ℕ, ◌+◌, List, [], ◌∷◌, ◌++◌, length, Option, None, Some, refl, sym, ap, subst, ◌∙◌, append_assoc, append-nil, length-append, arith}
+use Rattle.std.proofs.Math.Seq.{take-append-add}
+use Rattle.std.proofs.KnownBytes.{Appends-trans, Appends-nil}
+use Rattle.std.specs.Io.KnownBytes.{Appends}
+use Rattle.pgn_lexer.specs.Tokens.{Kind, Token}
+use Rattle.pgn_game.specs.declared.reason.Reason.{Reason}
+use Rattle.pgn_game.specs.declared.reason.Fault.{Fault}
+use Rattle.pgn_game.specs.declared.mode.Mode.{Mode}
+use Rattle.pgn_game.specs.Profile.{Profile, Missing, counts_as, takes_the_marker}
+use Rattle.pgn_game.specs.Game.{Game, Part, no_part}
+use Rattle.pgn_game.specs.FaultTable.{refusal}
+use Rattle.pgn_game.specs.Text.{game_text, text_of, torn, torn_for}
+use Rattle.pgn_game.specs.Progress.{Next, going, whole, next, Progress, progress_with, progress_after, no_progress, Read, read_from, read, written, due}
+use Rattle.pgn_game.specs.Due.{text_next, gain, Gains}
+use Rattle.pgn_game.specs.Laws.{IsPrefix, DueGrows}
+use Rattle.pgn_game.specs.Feeding.{Stops, refused, unwritten, StopsWriting, games_before, CountsAtStop}
+use Rattle.pgn_game.proofs.tokens.NextGrows.{next_is}
+
+abbrev read_as : Progress → Option Fault → Read
+read_as b f = record { progress = b; fault = f }
+
+-- reading goes on where a token is not rejected
+abbrev pub after_test : Profile → Progress → Token → List Token → Option Reason → Read
+after_test p b t ts (Some reason) = read_as b (Some (record { at = t.at; reason = reason }))
+after_test p b t ts None = read_from p (progress_after b t) ts
+
+pub read_from-test : (p : Profile) (b : Progress) (t : Token) (ts : List Token) → read_from p b (t ∷ ts) ≡ after_test p b t ts (refusal p b.part t.kind)
+read_from-test p b t ts =
+    elim (refusal p b.part t.kind)
+    as (λ o. elim o [ Some reason ↦ read_as b (Some (record { at = t.at; reason = reason })) | None ↦ read_from p (progress_after b t) ts ] ≡ after_test p b t ts o) [
+      | Some reason ↦ refl
+      | None ↦ refl
+    ]
+
+passed : (p : Profile) (b : Progress) (t : Token) (ts : List Token) (o : Option Reason) → (after_test p b t ts o).fault ≡ None → o ≡ None
+passed p b t ts (Some reason) e = absurd (cc)
+passed p b t ts None e = refl
+
+pub first_passes : (p : Profile) (b : Progress) (t : Token) (ts : List Token) → (read_from p b (t ∷ ts)).fault ≡ None → refusal p b.part t.kind ≡ None
+first_passes p b t ts e = passed p b t ts (refusal p b.part t.kind) (ap (λ (r : Read). r.fault) (sym (read_from-test p b t ts)) ∙ e)
+
+pub goes_on : (p : Profile) (b : Progress) (t : Token) (ts : List Token) → refusal p b.part t.kind ≡ None → read_from p b (t ∷ ts) ≡ read_from p (progress_after b t) ts
+goes_on p b t ts none = read_from-test p b t ts ∙ ap (after_test p b t ts) none
+
+after_those : (p : Profile) (b : Progress) (ts : List Token) (t : Token) (us : List Token) → (read_from p b ts).fault ≡ None
+    → read_from p b (ts ++ t ∷ us) ≡ after_test p (read_from p b ts).progress t us (refusal p (read_from p b ts).progress.part t.kind)
+after_those p b [] t us e = read_from-test p b t us
+after_those p b (x ∷ xs) t us e =
+    let none = first_passes p b x xs e in
+    let here : read_from p b (x ∷ xs) ≡ read_from p (progress_after b x) xs = goes_on p b x xs none in
+    let rest = after_those p (progress_after b x) xs t us (ap (λ (r : Read). r.fault) (sym here) ∙ e) in
+    goes_on p b x (xs ++ t ∷ us) none ∙ rest
+    ∙ ap (λ (r : Read). after_test p r.progress t us (refusal p r.progress.part t.kind)) (sym here)
+
+-- a token that is not rejected
+pub read-passes : (p : Profile) (given : List Token) (t : Token) → (read p given).fault ≡ None → refusal p (read p given).progress.part t.kind ≡ None
+    → read p (given ++ t ∷ []) ≡ read_as (progress_after (read p given).progress t) None
+read-passes p given t e none = after_those p no_progress given t [] e ∙ ap (after_test p (read p given).progress t []) none
+
+-- a token that is rejected, whatever comes after it
+pub read-refuses : (p : Profile) (given : List Token) (t : Token) (us : List Token) (reason : Reason) → (read p given).fault ≡ None → refusal p (read p given).progress.part t.kind ≡ Some reason
+    → read p (given ++ t ∷ us) ≡ read_as (read p given).progress (Some (record { at = t.at; reason = reason }))
+read-refuses p given t us reason e some = after_those p no_progress given t us e ∙ ap (after_test p (read p given).progress t us) some
+
+text_of-snoc : (p : Profile) (games : List Game) (g : Game) → text_of p (games ++ g ∷ []) ≡ text_of p games ++ game_text p g
+text_of-snoc p [] g = append-nil (game_text p g)
+text_of-snoc p (x ∷ xs) g = ap (λ l. game_text p x ++ l) (text_of-snoc p xs g) ∙ sym (append_assoc (game_text p x) (text_of p xs) (game_text p g))
+
+-- where no game is begun, nothing stands written of one
+pub torn-none : (missing : Missing) (mode : Mode) → torn_for missing mode no_part ≡ []
+torn-none (counts_as text) mode = refl
+torn-none takes_the_marker mode = refl
+
+-- what is written when a token has led so far
+written_with : (p : Profile) (games : List Game) (nx : Next) → written p (progress_with games nx) ≡ text_of p games ++ text_next p nx
+written_with p games (going after) = refl
+written_with p games (whole g) =
+    ap (λ l. text_of p (games ++ g ∷ []) ++ l) (torn-none p.missing_result p.mode) ∙ append-nil (text_of p (games ++ g ∷ [])) ∙ text_of-snoc p games g
+
+-- what a token adds to what was written
+written-next : (p : Profile) (games : List Game) (part : Part) (k : Kind)
+    → written p (progress_with games (next part k)) ≡ written p (record { games = games; part = part }) ++ gain p part k
+written-next p games part k =
+    written_with p games (next part k) ∙ ap (λ l. text_of p games ++ l) (next_is p part k)
+    ∙ sym (append_assoc (text_of p games) (torn p part) (gain p part k))
+
+pub due-passes : (p : Profile) (given : List Token) (t : Token) → (read p given).fault ≡ None → refusal p (read p given).progress.part t.kind ≡ None
+    → due p (given ++ t ∷ []) ≡ due p given ++ gain p (read p given).progress.part t.kind
+due-passes p given t e none =
+    ap (λ (r : Read). written p r.progress) (read-passes p given t e none)
+    ∙ written-next p (read p given).progress.games (read p given).progress.part t.kind
+
+pub due-refuses : (p : Profile) (given : List Token) (t : Token) (us : List Token) (reason : Reason) → (read p given).fault ≡ None → refusal p (read p given).progress.part t.kind ≡ Some reason
+    → due p (given ++ t ∷ us) ≡ due p given
+due-refuses p given t us reason e some = ap (λ (r : Read). written p r.progress) (read-refuses p given t us reason e some)
+
+pub gains_none : (p : Profile) (given : List Token) (o : Option (List ℕ)) → Gains p given given o o
+gains_none p given o = record { text = []; due_for = sym (append-nil (due p given)); appended = Appends-nil o }
+
+-- nothing was due, and nothing was appended
+pub gains_nothing : (p : Profile) (given tokens : List Token) (a b : Option (List ℕ)) → due p tokens ≡ due p given → Appends a b [] → Gains p given tokens a b
+gains_nothing p given tokens a b same appended = record { text = []; due_for = same ∙ sym (append-nil (due p given)); appended = appended }
+
+pub gains_more : (p : Profile) (x y z : List Token) (a b c : Option (List ℕ)) → Gains p x y a b → Gains p y z b c → Gains p x z a c
+gains_more p x y z a b c first more =
+    record {
+      text = first.text ++ more.text;
+      due_for = more.due_for ∙ ap (λ l. l ++ more.text) first.due_for ∙ append_assoc (due p x) first.text more.text;
+      appended = Appends-trans a b c _ _ first.appended more.appended;
+    }
+
+writing_more : (p : Profile) (x y tokens : List Token) (at : ℕ) (a b c : Option (List ℕ)) → Gains p x y a b → StopsWriting p y tokens at b c → StopsWriting p x tokens at a c
+writing_more p x y tokens at a b c first more =
+    record {
+      front = more.front;
+      token = more.token;
+      rest = more.rest;
+      cut = more.cut;
+      place = more.place;
+      passes = more.passes;
+      text = first.text ++ more.text;
+      due_for = more.due_for ∙ ap (λ l. l ++ more.text) first.due_for ∙ append_assoc (due p x) first.text more.text;
+      count = length first.text + more.count;
+      least = omega (arith, more.least, ap (length {A = ℕ}) first.due_for, length-append (due p x) first.text);
+      short = omega (arith, more.short, length-append first.text more.text);
+      appended = subst (Appends a c) (sym (take-append-add first.text more.text more.count)) (Appends-trans a b c _ _ first.appended more.appended);
+    }
+
+-- tokens were read, and then reading stopped
+pub stops_more : (p : Profile) (x y tokens : List Token) (f : Fault) (a b c : Option (List ℕ)) → Gains p x y a b → Stops p y tokens b c f → Stops p x tokens a c f
+stops_more p x y tokens f a b c first (refused g fault gains) = refused g fault (gains_more p x y tokens a b c first gains)
+stops_more p x y tokens f a b c first (unwritten at writing) = unwritten at (writing_more p x y tokens at a b c first writing)
+
+-- where reading stops is not moved by what was read before
+pub games_still : (p : Profile) (x y tokens : List Token) (f : Fault) (a b c : Option (List ℕ)) (first : Gains p x y a b) (stops : Stops p y tokens b c f)
+    → games_before (stops_more p x y tokens f a b c first stops) ≡ games_before stops
+unfolding stops_more writing_more
+games_still p x y tokens f a b c first (refused g fault gains) = refl
+games_still p x y tokens f a b c first (unwritten at writing) = refl
+
+-- and the count there stays as it is
+pub counts_still : (p : Profile) (x y tokens : List Token) (f : Fault) (a b c : Option (List ℕ)) (first : Gains p x y a b) (stops : Stops p y tokens b c f) (most : ℕ)
+    → CountsAtStop stops most → CountsAtStop (stops_more p x y tokens f a b c first stops) most
+unfolding stops_more writing_more
+counts_still p x y tokens f a b c first (refused g fault gains) most h = record { tried = h.tried; probed = h.probed }
+counts_still p x y tokens f a b c first (unwritten at writing) most h = record { tried = h.tried; probed = h.probed }
+
+-- behind a token that is rejected nothing is read
+pub stops_from : (p : Profile) (b : Progress) (ts us : List Token) (f : Fault) → (read_from p b ts).fault ≡ Some f → read_from p b (ts ++ us) ≡ read_from p b ts
+stops_from p b [] us f e = absurd (cc)
+stops_from p b (t ∷ ts) us f e = by_test (refusal p b.part t.kind) refl (stops_from p (progress_after b t) ts us f)
+  where
+    by_test : (o : Option Reason) → refusal p b.part t.kind ≡ o
+        → ((read_from p (progress_after b t) ts).fault ≡ Some f → read_from p (progress_after b t) (ts ++ us) ≡ read_from p (progress_after b t) ts)
+        → read_from p b (t ∷ ts ++ us) ≡ read_from p b (t ∷ ts)
+    by_test (Some reason) is further =
+        read_from-test p b t (ts ++ us) ∙ ap (after_test p b t (ts ++ us)) is ∙ sym (read_from-test p b t ts ∙ ap (after_test p b t ts) is)
+    by_test None is further =
+        let here : read_from p b (t ∷ ts) ≡ read_from p (progress_after b t) ts = goes_on p b t ts is in
+        goes_on p b t (ts ++ us) is ∙ further (ap (λ (r : Read). r.fault) (sym here) ∙ e) ∙ sym here
+
+also : (xs ys zs : List ℕ) → IsPrefix xs ys → IsPrefix ys zs → IsPrefix xs zs
+also xs ys zs h k = (h.0 ++ k.0, k.1 ∙ ap (λ l. l ++ k.0) h.1 ∙ append_assoc xs h.0 k.0)
+
+same_text : (xs : List ℕ) → IsPrefix xs xs
+same_text xs = ([], sym (append-nil xs))
+
+grows_from : (p : Profile) (b : Progress) (us : List Token) → IsPrefix (written p b) (written p (read_from p b us).progress)
+grows_from p b [] = same_text (written p b)
+grows_from p b (t ∷ ts) = by_test (refusal p b.part t.kind) refl (grows_from p (progress_after b t) ts)
+  where
+    by_test : (o : Option Reason) → refusal p b.part t.kind ≡ o → IsPrefix (written p (progress_after b t)) (written p (read_from p (progress_after b t) ts).progress)
+        → IsPrefix (written p b) (written p (read_from p b (t ∷ ts)).progress)
+    by_test (Some reason) is further =
+        subst (λ (r : Read). IsPrefix (written p b) (written p r.progress)) (sym (read_from-test p b t ts ∙ ap (after_test p b t ts) is)) (same_text (written p b))
+    by_test None is further =
+        subst (λ (r : Read). IsPrefix (written p b) (written p r.progress)) (sym (goes_on p b t ts is))
+        (also (written p b) (written p (progress_after b t)) _
+        (gain p b.part t.kind, written-next p b.games b.part t.kind) further)
+
+abbrev Grows : Profile → Read → Read → Type 0
+Grows p r s = IsPrefix (written p r.progress) (written p s.progress)
+
+grows : (p : Profile) (b : Progress) (ts us : List Token) → IsPrefix (written p (read_from p b ts).progress) (written p (read_from p b (ts ++ us)).progress)
+grows p b [] us = grows_from p b us
+grows p b (t ∷ ts) us = by_test (refusal p b.part t.kind) refl (grows p (progress_after b t) ts us)
+  where
+    by_test : (o : Option Reason) → refusal p b.part t.kind ≡ o → Grows p (read_from p (progress_after b t) ts) (read_from p (progress_after b t) (ts ++ us))
+        → Grows p (read_from p b (t ∷ ts)) (read_from p b (t ∷ ts ++ us))
+    by_test (Some reason) is further =
+        subst (λ (r : Read). Grows p r (read_from p b (t ∷ ts ++ us))) (sym (read_from-test p b t ts ∙ ap (after_test p b t ts) is))
+        (subst (λ (r : Read). IsPrefix (written p b) (written p r.progress)) (sym (read_from-test p b t (ts ++ us) ∙ ap (after_test p b t (ts ++ us)) is)) (same_text (written p b)))
+    by_test None is further =
+        subst (λ (r : Read). Grows p r (read_from p b (t ∷ ts ++ us))) (sym (goes_on p b t ts is))
+        (subst (λ (r : Read). Grows p (read_from p (progress_after b t) ts) r) (sym (goes_on p b t (ts ++ us) is)) further)
+
+pub due_grows : DueGrows
+due_grows p ts us = grows p no_progress ts us

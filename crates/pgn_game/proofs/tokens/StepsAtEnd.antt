@@ -1,0 +1,469 @@
+-- Steps behind the last piece.
+use Rattle.std.proofs.Common.{◌≡◌, ℕ, ◌+◌, ◌<◌, ◌≤◌, Bool, true, false, List, [], ◌∷◌, ◌++◌, length, Option, None, Some, Result, Ok, Err, refl, sym, ap, subst, ◌∙◌, append-nil, append_assoc, length-append, le_refl, arith}
+use Rattle.std.specs.Prelude.{◌*◌, ◌^◌, IsTrue, OnOk, is_some, ◌↔◌}
+use Rattle.pgn_lexer.specs.declared.token.LexFault.{LexFault}
+use Rattle.pgn_lexer.specs.Tokens.{Kind, Token}
+use Rattle.pgn_lexer.specs.Tokens as tokens
+use Rattle.pgn_lexer.specs.TokensOf.{tokens_of}
+use Rattle.pgn_lexer.specs.PartialToken.{refusal as refusal_token}
+use Rattle.pgn_lexer.specs.Standing.{Standing, coming, waiting}
+use Rattle.pgn_lexer.specs.Stands.{HasLeft, IsNext, FinishGivesToken, Follows}
+use Rattle.pgn_game.specs.declared.stage.Stage.{Stage}
+use Rattle.pgn_game.specs.declared.stage.Stage.TheVariants.{Between, AfterLeftBracket, AfterName, AfterValue, AfterTags, InMovetext}
+use Rattle.pgn_game.specs.declared.accept.Accepted.{Accepted}
+use Rattle.pgn_game.specs.declared.accept.Accepted.TheVariants.{More, Finished}
+use Rattle.pgn_game.specs.declared.reason.Reason.{Reason}
+use Rattle.pgn_game.specs.declared.reason.Reason.TheVariants.{Lexical, ExpectedName, BadTagName, DuplicateTag, TooManyTags, ExpectedValue, BadResult, BadFen, TagLineTooLong, ExpectedBracket, SetUpWithoutFen, ReducedFen, TagInMovetext, NotAMove, IllegalMove, AmbiguousMove, MoveLimit, NoMoveBefore, TooDeep, UnmatchedClose, MarkerInVariation, ResultDiffers, UnexpectedEnd, ReadFault, WriteFault, InputTooLong, Changed}
+use Rattle.pgn_game.specs.declared.reason.Fault.{Fault}
+use Rattle.pgn_game.specs.Profile.{Profile}
+use Rattle.pgn_game.specs.Pairs.{Pair}
+use Rattle.pgn_game.specs.Game.{Item, Game}
+use Rattle.pgn_game.specs.FaultTable.{refusal, is_end, marker_of}
+use Rattle.pgn_game.specs.Progress.{next, progress_with, Progress, Read, read}
+use Rattle.pgn_game.specs.Due.{Gains}
+use Rattle.pgn_game.specs.Reading as reading
+use Rattle.pgn_game.specs.Reading.{Reading, Answers, Stays, FinishesAtMarker, CountsStop, CountsWrites, is_outside_the_table}
+use Rattle.pgn_game.specs.Feeding.{Converter, IsSound, game_in_reader, game_in_reader_if, IsLast, HasRead, Stands, unwritten, Finishes, FinishesToFault, CountsAtStop, CountsFault, CountsReason}
+use Rattle.pgn_game.specs.Stepping.{SameGames, FaultAtEnd, AfterStepAtEnd, StepAtEndAdvances, AtEndSoFar, StaysBetween, outcome_at, is_ended, games_after, ended_if, fault_of_step}
+use Rattle.pgn_game.proofs.tokens.OneMoreToken.{gains_none, gains_more, stops_more, games_still, counts_still, read-passes}
+use Rattle.pgn_game.proofs.tokens.AcceptedToConverter.{stepped, gains_token, same_games, has_read_more, one_game, has_read_game, stops_refused, writing, stops_lexical, none_before_refused, none_before_unwritten, none_before_lexical, count_at_refused, count_at_unwritten, count_at_lexical}
+
+-- what is left behind a token: nothing behind the end
+abbrev Left : List ℕ → List Token → Bool → Standing → Token → Type 0
+Left u given true l t = tokens_of u ≡ given ++ t ∷ []
+Left u given false l t = HasLeft l u (given ++ t ∷ [])
+
+pub left_by : (u : List ℕ) (given : List Token) (k : Kind) (l : Standing) (t : Token) → IsNext u given k l t → Left u given (is_end k) l t
+left_by u given tokens.left_bracket l t h = h
+left_by u given tokens.right_bracket l t h = h
+left_by u given tokens.left_paren l t h = h
+left_by u given tokens.right_paren l t h = h
+left_by u given tokens.period l t h = h
+left_by u given tokens.asterisk l t h = h
+left_by u given (tokens.symbol text) l t h = h
+left_by u given (tokens.str text) l t h = h
+left_by u given (tokens.glyph n) l t h = h
+left_by u given tokens.comment_open l t h = h
+left_by u given (tokens.word text) l t h = h
+left_by u given tokens.comment_close l t h = h
+left_by u given tokens.end l t h = h
+left_by u given (tokens.refused r) l t h = h
+
+-- a token was waiting, unless it is the end
+abbrev Nearer : Bool → Standing → Standing → Type 0
+Nearer true old new = new ≡ old
+Nearer false old new = (waiting new < waiting old) × (new.count ≡ old.count)
+
+pub nearer_by : (k : Kind) (old new : Standing) (t : Token) → FinishGivesToken k old new t → Nearer (is_end k) old new
+nearer_by tokens.left_bracket old new t h = (h.1, h.2)
+nearer_by tokens.right_bracket old new t h = (h.1, h.2)
+nearer_by tokens.left_paren old new t h = (h.1, h.2)
+nearer_by tokens.right_paren old new t h = (h.1, h.2)
+nearer_by tokens.period old new t h = (h.1, h.2)
+nearer_by tokens.asterisk old new t h = (h.1, h.2)
+nearer_by (tokens.symbol text) old new t h = (h.1, h.2)
+nearer_by (tokens.str text) old new t h = (h.1, h.2)
+nearer_by (tokens.glyph n) old new t h = (h.1, h.2)
+nearer_by tokens.comment_open old new t h = (h.1, h.2)
+nearer_by (tokens.word text) old new t h = (h.1, h.2)
+nearer_by tokens.comment_close old new t h = (h.1, h.2)
+nearer_by tokens.end old new t h = h.1
+nearer_by (tokens.refused r) old new t h = (h.1, h.2)
+
+-- the end is no marker
+marker_or_end : (k : Kind) → IsTrue (is_some (marker_of k)) → is_end k ≡ false
+marker_or_end tokens.left_bracket h = refl
+marker_or_end tokens.right_bracket h = refl
+marker_or_end tokens.left_paren h = refl
+marker_or_end tokens.right_paren h = refl
+marker_or_end tokens.period h = refl
+marker_or_end tokens.asterisk h = refl
+marker_or_end (tokens.symbol text) h = refl
+marker_or_end (tokens.str text) h = refl
+marker_or_end (tokens.glyph n) h = refl
+marker_or_end tokens.comment_open h = refl
+marker_or_end (tokens.word text) h = refl
+marker_or_end tokens.comment_close h = refl
+marker_or_end tokens.end h = absurd (cc)
+marker_or_end (tokens.refused r) h = refl
+
+-- the tokens of the text begin so in either case
+tokens_left : (u : List ℕ) (given : List Token) (e : Bool) (l : Standing) (t : Token) → Left u given e l t → (us : List Token) × (tokens_of u ≡ given ++ t ∷ us)
+tokens_left u given true l t h = ([], h)
+tokens_left u given false l t h = (coming l [], h ∙ append_assoc given (t ∷ []) (coming l []))
+
+-- the end is passed between games alone
+end_at : (p : Profile) (s : Stage) (ps : List Pair) (name : List ℕ) (items : List Item)
+    → refusal p (record { stage = s; pairs = ps; name = name; items = items }) tokens.end ≡ None → s ≡ Between
+unfolding refusal
+end_at p Between ps name items h = refl
+end_at p AfterLeftBracket ps name items h = absurd (cc)
+end_at p AfterName ps name items h = absurd (cc)
+end_at p AfterValue ps name items h = absurd (cc)
+end_at p AfterTags ps name items h = absurd (cc)
+end_at p InMovetext ps name items h = absurd (cc)
+
+between_after : (s : Stage) (ps : List Pair) (name : List ℕ) (items : List Item) (games : List Game) → s ≡ Between
+    → (progress_with games (next (record { stage = s; pairs = ps; name = name; items = items }) tokens.end)).part.stage ≡ Between
+between_after s ps name items games e =
+    subst (λ s. (progress_with games (next (record { stage = s; pairs = ps; name = name; items = items }) tokens.end)).part.stage ≡ Between) (sym e) refl
+
+is_the_end : (k : Kind) → is_end k ≡ true → k ≡ tokens.end
+is_the_end tokens.left_bracket h = absurd (cc)
+is_the_end tokens.right_bracket h = absurd (cc)
+is_the_end tokens.left_paren h = absurd (cc)
+is_the_end tokens.right_paren h = absurd (cc)
+is_the_end tokens.period h = absurd (cc)
+is_the_end tokens.asterisk h = absurd (cc)
+is_the_end (tokens.symbol text) h = absurd (cc)
+is_the_end (tokens.str text) h = absurd (cc)
+is_the_end (tokens.glyph n) h = absurd (cc)
+is_the_end tokens.comment_open h = absurd (cc)
+is_the_end (tokens.word text) h = absurd (cc)
+is_the_end tokens.comment_close h = absurd (cc)
+is_the_end tokens.end h = refl
+is_the_end (tokens.refused r) h = absurd (cc)
+
+pub end_passes : (p : Profile) (b : Progress) (k : Kind) → is_end k ≡ true → refusal p b.part k ≡ None → (progress_with b.games (next b.part k)).part.stage ≡ Between
+end_passes p b k e none =
+    let k_is = is_the_end k e in
+    subst (λ j. (progress_with b.games (next b.part j)).part.stage ≡ Between) (sym k_is)
+    (between_after b.part.stage b.part.pairs b.part.name b.part.items b.games
+    (end_at p b.part.stage b.part.pairs b.part.name b.part.items (subst (λ j. refusal p b.part j ≡ None) k_is none)))
+
+-- the game at hand is let go
+let_go : (p : Profile) (c : Converter) (given : List Token) → HasRead p c given → HasRead p (record c { at_hand = None }) given
+let_go p c given h = record { profile = h.profile; no_fault = h.no_fault; passes = h.passes; agrees = h.agrees; games = h.games; plies = h.plies; probed = h.probed; tried = h.tried; at_hand = tt }
+
+-- a converter after a step behind the last piece
+abbrev pub closed : Standing → Reading → ℕ → Bool → Result (Option Accepted) Fault → Converter
+closed l r games finished outcome = record (stepped l r games finished outcome) { at_hand = None }
+
+pub closes : (p : Profile) (old : Converter) (u : List ℕ) (given : List Token) (t : Token) (l : Standing) (new : Reading) (finished : Bool) (a c : Option (List ℕ))
+    (e : Bool) (r : Result Accepted Reason) → is_end t.kind ≡ e → HasRead p old given → Left u given e l t → new.profile ≡ old.reading.profile → old.reading.most_probes ≤ new.most_probes
+    → Answers old.reading (read p given).progress.part t.kind new r a c
+    → Stays old.reading new r → FinishesAtMarker t.kind new r
+    → AfterStepAtEnd p u given old (closed l new old.games finished (outcome_at t.at r)) (ended_if e (outcome_at t.at r)) a c
+closes p old u given t l new finished a c true (Ok More) is_e has_read left profile probes h stays at_marker =
+    let more = has_read_more p old given t l new finished has_read profile probes h.free h.leads h.plies h.tried in
+    let passes = subst (λ q. refusal q (read p given).progress.part t.kind ≡ None) has_read.profile h.free in (
+      t,
+      record {
+        whole = left;
+        has_read = let_go p _ _ more;
+        between = more.agrees.stage ∙ ap (λ (r : Read). r.progress.part.stage) (read-passes p given t has_read.passes passes)
+            ∙ end_passes p (read p given).progress t.kind is_e passes;
+        same = same_games p old given t l new finished has_read profile probes h.free h.leads;
+        gains = gains_token p old given t l new finished has_read profile probes a c h.free h.appended;
+      },
+      stays,
+    )
+closes p old u given t l new finished a c false (Ok More) is_e has_read left profile probes h stays at_marker = (
+  t,
+  record {
+    left = left;
+    has_read = let_go p _ _ (has_read_more p old given t l new finished has_read profile probes h.free h.leads h.plies h.tried);
+    gains = gains_token p old given t l new finished has_read profile probes a c h.free h.appended;
+  },
+  same_games p old given t l new finished has_read profile probes h.free h.leads,
+  stays,
+)
+closes p old u given t l new finished a c true (Ok Finished) is_e has_read left profile probes h stays at_marker =
+    absurd (differ (sym is_e ∙ marker_or_end t.kind at_marker.0))
+  where
+    differ : true ≡ false → ⊥
+    differ e = absurd (cc)
+closes p old u given t l new finished a c false (Ok Finished) is_e has_read left profile probes h stays at_marker = (
+  t,
+  record {
+    left = left;
+    has_read = let_go p _ _ (has_read_game p old given t l new finished has_read profile probes h.free h.leads h.plies h.tried);
+    gains = gains_token p old given t l new finished has_read profile probes a c h.free h.appended;
+  },
+  one_game p old given t l new finished has_read profile probes h.free h.leads,
+)
+closes p old u given t l new finished a c e (Err why) is_e has_read left profile probes (reading.refused reason some wrote tries) stays at_marker =
+    let rest = tokens_left u given e l t left in
+    (subst (λ ts. FaultAtEnd p given ts (record { at = t.at; reason = reason }) new.most_probes a c) (sym rest.1)
+    (record {
+      stops = stops_refused p old given t l new finished has_read profile probes rest.0 a c reason some wrote;
+      no_game = none_before_refused p old given t l new finished has_read profile probes rest.0 a c reason some wrote;
+      counts = count_at_refused p old given t l new finished has_read profile probes rest.0 a c reason some wrote tries;
+    }))
+closes p old u given t l new finished a c e (Err why) is_e has_read left profile probes (reading.unwritten none wrote tries) stays at_marker =
+    let rest = tokens_left u given e l t left in
+    (subst (λ ts. FaultAtEnd p given ts (record { at = t.at; reason = WriteFault }) new.most_probes a c) (sym rest.1)
+    (record {
+      stops = unwritten t.at (writing p old given t l new finished has_read profile probes rest.0 a c none wrote);
+      no_game = none_before_unwritten p old given t l new finished has_read profile probes rest.0 a c none wrote;
+      counts = count_at_unwritten p old given t l new finished has_read profile probes rest.0 a c none wrote tries;
+    }))
+
+pub closes_fault : (p : Profile) (old new : Converter) (u : List ℕ) (given : List Token) (f : LexFault) (o : Option (List ℕ)) → HasRead p old given
+    → tokens_of u ≡ given ++ refusal_token f ∷ [] → new.reading ≡ old.reading → AfterStepAtEnd p u given old new (Err (record { at = f.at; reason = Lexical f.reason })) o o
+closes_fault p old new u given f o has_read whole same =
+    subst (λ ts. FaultAtEnd p given ts (record { at = f.at; reason = Lexical f.reason }) new.reading.most_probes o o) (sym whole)
+    (record {
+      stops = stops_lexical p given f o has_read.passes;
+      no_game = none_before_lexical p given f o has_read.passes;
+      counts = subst (λ (r : Reading). CountsAtStop (stops_lexical p given f o has_read.passes) r.most_probes) (sym same) (count_at_lexical p old given f o has_read);
+    })
+
+-- the end has neither a fault of its own nor a failure
+pub fault_of_closed : (e : Bool) (outcome : Result (Option Accepted) Fault) → fault_of_step outcome ≡ fault_of_step (ended_if e outcome)
+fault_of_closed true (Ok o) = refl
+fault_of_closed false (Ok o) = refl
+fault_of_closed e (Err f) = refl
+
+-- a token that finishes no game is counted as none, and the end is no marker
+pub games_of_closed : (k : Kind) (after : Reading) (at : ℕ) (e : Bool) (r : Result Accepted Reason) (games : ℕ) → is_end k ≡ e → FinishesAtMarker k after r
+    → games_after (outcome_at at r) games ≡ games_after (ended_if e (outcome_at at r)) games
+games_of_closed k after at true (Ok More) games is_e marker = refl
+games_of_closed k after at false (Ok More) games is_e marker = refl
+games_of_closed k after at true (Ok Finished) games is_e marker = absurd (differ (sym is_e ∙ marker_or_end k marker.0))
+  where
+    differ : true ≡ false → ⊥
+    differ h = absurd (cc)
+games_of_closed k after at false (Ok Finished) games is_e marker = refl
+games_of_closed k after at e (Err reason) games is_e marker = refl
+
+-- an error of the reader counts as the fault that it is
+counts_reason : (r : Reason) (old new : ℕ) → CountsWrites (Err r) old new → CountsReason r old new
+counts_reason (Lexical x) old new h = by_test (is_outside_the_table (Lexical x)) h
+  where
+    differ : Lexical x ≡ WriteFault → ⊥
+    differ e = absurd (cc)
+
+    by_test : (b : Bool) → CountsStop b (Lexical x) old new → new ≡ old
+    by_test false h = h
+    by_test true h = absurd (differ h.0)
+counts_reason ExpectedName old new h = h
+counts_reason BadTagName old new h = h
+counts_reason DuplicateTag old new h = h
+counts_reason TooManyTags old new h = h
+counts_reason ExpectedValue old new h = h
+counts_reason BadResult old new h = h
+counts_reason (BadFen field) old new h = h
+counts_reason TagLineTooLong old new h = h
+counts_reason ExpectedBracket old new h = h
+counts_reason SetUpWithoutFen old new h = h
+counts_reason ReducedFen old new h = h
+counts_reason TagInMovetext old new h = h
+counts_reason NotAMove old new h = h
+counts_reason IllegalMove old new h = h
+counts_reason AmbiguousMove old new h = h
+counts_reason MoveLimit old new h = h
+counts_reason NoMoveBefore old new h = h
+counts_reason TooDeep old new h = h
+counts_reason UnmatchedClose old new h = h
+counts_reason MarkerInVariation old new h = h
+counts_reason ResultDiffers old new h = h
+counts_reason UnexpectedEnd old new h = h
+counts_reason WriteFault old new h = h.1
+counts_reason ReadFault old new h = absurd (differ h.0)
+  where
+    differ : ReadFault ≡ WriteFault → ⊥
+    differ e = absurd (cc)
+counts_reason InputTooLong old new h = absurd (differ h.0)
+  where
+    differ : InputTooLong ≡ WriteFault → ⊥
+    differ e = absurd (cc)
+counts_reason Changed old new h = absurd (differ h.0)
+  where
+    differ : Changed ≡ WriteFault → ⊥
+    differ e = absurd (cc)
+
+pub counts_token : (at : ℕ) (r : Result Accepted Reason) (old new : ℕ) → CountsWrites r old new → CountsFault (outcome_at at r) old new
+counts_token at (Ok accepted) old new h = h
+counts_token at (Err reason) old new h = counts_reason reason old new h
+
+pub counts_closed : (e : Bool) (outcome : Result (Option Accepted) Fault) (old new : ℕ) → CountsFault outcome old new → CountsFault (ended_if e outcome) old new
+counts_closed true (Ok o) old new h = h
+counts_closed false (Ok o) old new h = h
+counts_closed e (Err f) old new h = h
+
+-- A token behind the last piece keeps the counts small. The end takes no byte, but it is the last
+-- one.
+pub sound_behind : (old new : Standing) (before after : Reading) (games at : ℕ) (k : Kind) (e : Bool) (r : Result Accepted Reason) → is_end k ≡ e → Nearer e old new
+    → FinishesAtMarker k after r → OnOk r (after.layout.has_failed ≡ false) → old.count ≤ 2 ^ 62 → games + waiting old ≤ 2 * old.count + 2
+    → before.earlier_plies + before.text.plies + waiting old ≤ 2 * old.count + 2
+    → after.earlier_plies + after.text.plies ≤ before.earlier_plies + before.text.plies + 1
+    → IsSound new after (games_after (outcome_at at r) games) false (is_ended (ended_if e (outcome_at at r))) (fault_of_step (outcome_at at r))
+sound_behind old new before after games at k true (Ok More) is_e near marker going count few plies more =
+    let still = ap waiting near in
+    let place = ap (λ (l : Standing). l.count) near in
+    record {
+      count = λ none. omega (arith, count, place);
+      going = λ none. going;
+      few = λ none. omega (arith, few, still, place);
+      few_plies = λ none. omega (arith, plies, more, still, place);
+      fewer_plies = λ none is. absurd (cc);
+      between = λ is. absurd (cc);
+      no_fault = λ is. absurd (cc);
+    }
+sound_behind old new before after games at k false (Ok More) is_e near marker going count few plies more =
+    record {
+      count = λ none. omega (arith, count, near.1);
+      going = λ none. going;
+      few = λ none. omega (arith, few, near.0, near.1);
+      few_plies = λ none. omega (arith, plies, more, near.0, near.1);
+      fewer_plies = λ none is. omega (arith, plies, more, near.0, near.1);
+      between = λ is. absurd (cc);
+      no_fault = λ is. absurd (cc);
+    }
+sound_behind old new before after games at k true (Ok Finished) is_e near marker going count few plies more =
+    absurd (differ (sym is_e ∙ marker_or_end k marker.0))
+  where
+    differ : true ≡ false → ⊥
+    differ e = absurd (cc)
+sound_behind old new before after games at k false (Ok Finished) is_e near marker going count few plies more =
+    record {
+      count = λ none. omega (arith, count, near.1);
+      going = λ none. going;
+      few = λ none. omega (arith, few, near.0, near.1);
+      few_plies = λ none. omega (arith, plies, more, near.0, near.1);
+      fewer_plies = λ none is. omega (arith, plies, more, near.0, near.1);
+      between = λ is. absurd (cc);
+      no_fault = λ is. absurd (cc);
+    }
+sound_behind old new before after games at k e (Err reason) is_e near marker going count few plies more =
+    record {
+      count = λ none. absurd (cc);
+      going = λ none. absurd (cc);
+      few = λ none. absurd (cc);
+      few_plies = λ none. absurd (cc);
+      fewer_plies = λ none is. absurd (cc);
+      between = λ is. absurd (cc);
+      no_fault = λ is. absurd (cc);
+    }
+
+pub not_at_hand : (b : Bool) (r : Reading) → game_in_reader_if b r ≡ None → b ≡ false
+not_at_hand true r h = absurd (cc)
+not_at_hand false r h = refl
+
+-- before the first step behind the last piece
+pub closed_none : (p : Profile) (old : Converter) (u : List ℕ) (b : Option ℕ) (given : List Token) (o : Option (List ℕ)) → Stands p old u b given
+    → AtEndSoFar p u given (record old { at_hand = None }) false o o
+closed_none p old u b given o stands =
+    record {
+      tokens = given;
+      left = ap tokens_of (sym (append-nil u)) ∙ stands.lexer.tokens [] (follows_end b);
+      has_read = let_go p old given stands.has_read;
+      no_fewer = le_refl (length (read p given).progress.games);
+      game = (λ h. absurd (cc), λ h. absurd (omega (arith, h)));
+      last = λ h. absurd (cc);
+      gains = gains_none p given o;
+    }
+  where
+    follows_end : (b : Option ℕ) → Follows b []
+    follows_end None = tt
+    follows_end (Some x) = tt
+
+module _ (p : Profile) (u : List ℕ) (given : List Token) (now new : Converter) (finished_game : Bool) (a c d : Option (List ℕ)) (so : AtEndSoFar p u given now finished_game a c) where
+  same_length : (ts : List Token) → SameGames p so.tokens ts
+      → IsTrue finished_game ↔ (length (read p given).progress.games < length (read p ts).progress.games)
+  same_length ts same = subst (λ gs. IsTrue finished_game ↔ (length (read p given).progress.games < length {A = Game} gs)) (sym same) so.game
+
+  held_still : (ts : List Token) → SameGames p so.tokens ts → StaysBetween now new
+      → IsTrue finished_game → new.reading.stage ≡ Between → IsLast (Some (game_in_reader new.reading)) (read p ts).progress.games
+  held_still ts same stays h between =
+      let kept = stays between in
+      subst (λ gs. IsLast (Some (game_in_reader new.reading)) gs) (sym same)
+      (subst (λ (r : Reading). IsLast (Some (game_in_reader r)) (read p so.tokens).progress.games) (sym kept)
+      (so.last h (ap (λ (r : Reading). r.stage) (sym kept) ∙ between)))
+
+  pub closed_more : AfterStepAtEnd p u so.tokens now new (Ok (Some More)) c d → AtEndSoFar p u given new finished_game a d
+  closed_more (t, took, same, stays) =
+      record {
+        tokens = so.tokens ++ t ∷ [];
+        left = took.left;
+        has_read = took.has_read;
+        no_fewer = subst (λ gs. length (read p given).progress.games ≤ length {A = Game} gs) (sym same) so.no_fewer;
+        game = same_length _ same;
+        last = held_still _ same stays;
+        gains = gains_more p given so.tokens _ a c d so.gains took.gains;
+      }
+
+  pub closed_game : AfterStepAtEnd p u so.tokens now new (Ok (Some Finished)) c d → AtEndSoFar p u given new true a d
+  closed_game (t, took, (g, one, held)) =
+      let count : length (read p (so.tokens ++ t ∷ [])).progress.games ≡ length (read p so.tokens).progress.games + 1 =
+      ap (length {A = Game}) one ∙ length-append (read p so.tokens).progress.games (g ∷ []) in
+      record {
+        tokens = so.tokens ++ t ∷ [];
+        left = took.left;
+        has_read = took.has_read;
+        no_fewer = omega (arith, count, so.no_fewer);
+        game = (λ h. omega (arith, count, so.no_fewer), λ h. refl);
+        last = λ h between. ((read p so.tokens).progress.games, g, one, held);
+        gains = gains_more p given so.tokens _ a c d so.gains took.gains;
+      }
+
+  pub closed_end : (flag : Bool) → AfterStepAtEnd p u so.tokens now new (Ok None) c d → (new.reading.stage ≡ Between → flag ≡ finished_game)
+      → Finishes p u given (record { lexer = new.lexer; reading = new.reading; games = new.games; at_hand = game_in_reader_if flag new.reading; is_finished = new.is_finished; fault = new.fault }) finished_game a d
+  closed_end flag (t, took, stays) e =
+      let h = took.has_read in
+      let same_flag = e took.between in
+      let held = hands (so.tokens ++ t ∷ []) flag (λ h. held_still _ took.same stays (subst IsTrue same_flag h) took.between) in
+      record {
+        has_read = subst (HasRead p _) (sym took.whole) (record { profile = h.profile; no_fault = h.no_fault; passes = h.passes; agrees = h.agrees; games = h.games; plies = h.plies; probed = h.probed; tried = h.tried; at_hand = held });
+        game = subst (λ ts. IsTrue finished_game ↔ (length (read p given).progress.games < length (read p ts).progress.games)) (sym took.whole) (same_length _ took.same);
+        at_hand = λ is. (game_in_reader new.reading, ap (λ b. game_in_reader_if b new.reading) (same_flag ∙ is));
+        none_at_hand = λ is. ap (λ b. game_in_reader_if b new.reading) (same_flag ∙ is);
+        gains = subst (λ ts. Gains p given ts a d) (sym took.whole) (gains_more p given so.tokens _ a c d so.gains took.gains);
+      }
+    where
+      hands : (ts : List Token) (b : Bool) → (IsTrue b → IsLast (Some (game_in_reader new.reading)) (read p ts).progress.games) → IsLast (game_in_reader_if b new.reading) (read p ts).progress.games
+      hands ts true h = h refl
+      hands ts false h = tt
+
+  pub closed_fault : (f : Fault) → AfterStepAtEnd p u so.tokens now new (Err f) c d → new.games ≡ now.games → FinishesToFault p u given new f a d
+  closed_fault f to same =
+      record {
+        stops = stops_more p given so.tokens (tokens_of u) f a c d so.gains to.stops;
+        games = same ∙ so.has_read.games ∙ sym (ap (length {A = Game}) (games_still p given so.tokens (tokens_of u) f a c d so.gains to.stops ∙ to.no_game));
+        counts = counts_still p given so.tokens (tokens_of u) f a c d so.gains to.stops new.reading.most_probes to.counts;
+      }
+
+-- after a fault a converter owes nothing
+pub sound_behind_fault : (lexer : Standing) (reading : Reading) (games : ℕ) (is_finished : Bool) (f : Fault) → IsSound lexer reading games false is_finished (Some f)
+sound_behind_fault lexer reading games is_finished f =
+    record {
+      count = λ none. absurd (cc);
+      going = λ none. absurd (cc);
+      few = λ none. absurd (cc);
+      few_plies = λ none. absurd (cc);
+      fewer_plies = λ none is. absurd (cc);
+      between = λ is. absurd (cc);
+      no_fault = λ is. absurd (cc);
+    }
+
+-- behind the last piece a token was waiting, unless it is the end
+pub closes_sooner : (old new : Standing) (after : Reading) (at : ℕ) (k : Kind) (e : Bool) (r : Result Accepted Reason) → is_end k ≡ e → Nearer e old new
+    → FinishesAtMarker k after r → StepAtEndAdvances old new (ended_if e (outcome_at at r))
+closes_sooner old new after at k true (Ok More) is_e near marker = tt
+closes_sooner old new after at k false (Ok More) is_e near marker = near.0
+closes_sooner old new after at k true (Ok Finished) is_e near marker = absurd (differ (sym is_e ∙ marker_or_end k marker.0))
+  where
+    differ : true ≡ false → ⊥
+    differ e = absurd (cc)
+closes_sooner old new after at k false (Ok Finished) is_e near marker = near.0
+closes_sooner old new after at k e (Err reason) is_e near marker = tt
+
+-- while no game is at hand a converter owes no more
+pub sound_at_none : (lexer : Standing) (reading : Reading) (games : ℕ) (has_finished_game is_finished : Bool) (fault : Option Fault) → IsSound lexer reading games has_finished_game is_finished fault
+    → IsSound lexer reading games false is_finished fault
+sound_at_none lexer reading games has_finished_game is_finished fault sound =
+    record {
+      count = sound.count;
+      going = sound.going;
+      few = sound.few;
+      few_plies = sound.few_plies;
+      fewer_plies = sound.fewer_plies;
+      between = λ is. absurd (cc);
+      no_fault = λ is. absurd (cc);
+    }
+
+-- a fault is kept or not
+pub none_kept : (fault : Option Fault) (f : Fault) → fault ≡ None → fault ≡ Some f → ⊥
+none_kept None f none kept = absurd (cc)
+none_kept (Some other) f none kept = absurd (cc)

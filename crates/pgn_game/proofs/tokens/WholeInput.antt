@@ -1,0 +1,208 @@
+-- Conversions of whole inputs.
+use Rattle.std.proofs.Common.{◌≡◌, ℕ, ◌^◌, ◌<◌, ◌≤◌, List, [], ◌∷◌, ◌++◌, length, Option, None, Some, Result, Ok, Err, IfSome, OnOk, refl, sym, ap, subst, ◌∙◌, append-nil, append_assoc}
+use Rattle.std.specs.Prelude.{map, sum}
+use Rattle.std.proofs.KnownBytes.{Consumes-nil, Consumes-trans}
+use Rattle.std.specs.Io.KnownBytes.{Appends, Consumes, Keeps, IsAtEnd}
+use Rattle.pgn_lexer.specs.Tokens.{Token}
+use Rattle.pgn_lexer.specs.TokensOf.{tokens_of}
+use Rattle.pgn_lexer.specs.Decided.{decided}
+use Rattle.pgn_lexer.specs.Stands.{Follows}
+use Rattle.pgn_game.specs.declared.reason.Reason.TheVariants.{ReadFault, InputTooLong}
+use Rattle.pgn_game.specs.declared.reason.Fault.{Fault}
+use Rattle.pgn_game.specs.declared.conversion.Totals.{Totals}
+use Rattle.pgn_game.specs.Profile.{Profile}
+use Rattle.pgn_game.specs.Levels.{plies_of}
+use Rattle.pgn_game.specs.Reading.{whole_plies}
+use Rattle.pgn_game.specs.Progress.{no_progress, Read, read, written, due, refused as is_refused, totals, verdict_of}
+use Rattle.pgn_game.specs.Due.{Gains}
+use Rattle.pgn_game.specs.MostTried.{MostTried}
+use Rattle.pgn_game.specs.Feeding.{Converter, Stands, Stops, refused, unwritten, StopsWriting, StopsIn, at_token, too_long, FedFault, FedWhole, ReadsUpTo, Finishes}
+use Rattle.pgn_game.specs.Converting.{IsConverted, IsTotalled, ReadsNoMore, FailsOn, Fails, AfterEnd, ReadSoFar, Converts, ConvertsSlice}
+use Rattle.pgn_game.specs.Converting as converting
+use Rattle.pgn_game.proofs.tokens.OneMoreToken.{torn-none, gains_none, gains_more, stops_more, stops_from}
+use Rattle.pgn_game.proofs.tokens.AcceptedToConverter.{in_games, still_none-none}
+
+pub verdict_passes : (r : Read) → r.fault ≡ None → verdict_of r ≡ totals (record { games = length r.progress.games; plies = sum (map plies_of r.progress.games) })
+verdict_passes r e = ap (λ (o : Option Fault). elim o [ Some f ↦ is_refused f | None ↦ totals (record { games = length r.progress.games; plies = sum (map plies_of r.progress.games) }) ]) e
+
+verdict_refused : (r : Read) (f : Fault) → r.fault ≡ Some f → verdict_of r ≡ is_refused f
+verdict_refused r f e = ap (λ (o : Option Fault). elim o [ Some f ↦ is_refused f | None ↦ totals (record { games = length r.progress.games; plies = sum (map plies_of r.progress.games) }) ]) e
+
+pub ended : (p : Profile) (u : List ℕ) (given : List Token) (new : Converter) (finished_game : _) (t : Totals) (a c : Option (List ℕ)) → Finishes p u given new finished_game a c
+    → t.games ≡ new.games → t.plies ≡ whole_plies new.reading → t.most_probes ≡ new.reading.most_probes → t.most_probes ≤ 1040 → AfterEnd p u given (Ok t) a c
+ended p u given new finished_game t a c done games plies probes bound = (
+  verdict_passes (read p (tokens_of u)) done.has_read.passes
+      ∙ ap (λ n. totals (record { games = n; plies = sum (map plies_of (read p (tokens_of u)).progress.games) })) (sym (games ∙ done.has_read.games))
+      ∙ ap (λ n. totals (record { games = t.games; plies = n })) (sym (plies ∙ done.has_read.plies)),
+  record {
+    most = bound;
+    some = λ moves. subst (λ n. 0 < n) (sym probes) (done.has_read.probed (in_games (read p (tokens_of u)).progress moves));
+    tried = subst (MostTried p (tokens_of u)) (sym probes) done.has_read.tried;
+  },
+  done.gains,
+)
+
+-- what was due from the start on
+appended : (p : Profile) (tokens : List Token) (a c : Option (List ℕ)) → Gains p [] tokens a c → Appends a c (due p tokens)
+appended p tokens a c gains =
+    let whole : due p tokens ≡ gains.text = gains.due_for ∙ ap (λ l. l ++ gains.text) (torn-none p.missing_result p.mode) in
+    subst (Appends a c) (sym whole) gains.appended
+
+pub read_none : (p : Profile) (c : Converter) (left o : Option (List ℕ)) → Stands p c [] None [] → ReadSoFar p left left c o o
+read_none p c left o stands =
+    record { bytes = []; tokens = []; consumed = Consumes-nil left; stands = stands; decided = refl; gains = gains_none p [] o }
+
+pub read_more : (p : Profile) (left_old left left_new : Option (List ℕ)) (now new : Converter) (a c d : Option (List ℕ)) (piece : List ℕ) (so : ReadSoFar p left_old left now a c)
+    → Consumes left left_new piece → FedWhole p so.bytes so.tokens piece new c d → ReadSoFar p left_old left_new new a d
+read_more p left_old left left_new now new a c d piece so consumed fed =
+    record {
+      bytes = so.bytes ++ piece;
+      tokens = fed.tokens;
+      consumed = Consumes-trans left_old left left_new so.bytes piece so.consumed consumed;
+      stands = fed.stands;
+      decided = fed.decided;
+      gains = gains_more p [] so.tokens fed.tokens a c d so.gains fed.gains;
+    }
+
+keeps_consumed : (o m n : Option (List ℕ)) (u : List ℕ) → Consumes o m u → Keeps m n → Consumes o n u
+keeps_consumed None m n u h k = tt
+keeps_consumed (Some xs) None n u h k = absurd h
+keeps_consumed (Some xs) (Some ys) None u h k = absurd k
+keeps_consumed (Some xs) (Some ys) (Some zs) u h k = h ∙ ap (λ l. u ++ l) (sym k)
+
+no_more : (p : Profile) (u : List ℕ) (tokens : List Token) (a c : Option (List ℕ)) → tokens ≡ decided u → (read p tokens).fault ≡ None → Gains p [] tokens a c → ReadsNoMore p u a c
+no_more p u tokens a c is_decided passes gains =
+    record {
+      passes = subst (λ ts. (read p ts).fault ≡ None) is_decided passes;
+      appended = subst (λ ts. Appends a c (due p ts)) is_decided (appended p tokens a c gains);
+    }
+
+-- a read failed
+pub unread : (p : Profile) (left_old left left_new : Option (List ℕ)) (now : Converter) (a c : Option (List ℕ)) (at : ℕ) (so : ReadSoFar p left_old left now a c) → Keeps left left_new
+    → at ≡ now.lexer.count → Fails p left_old left_new a c (record { at = at; reason = ReadFault })
+unread p left_old left left_new now a c at so keeps place =
+    subst (λ n. Fails p left_old left_new a c (record { at = n; reason = ReadFault })) (sym (place ∙ so.stands.lexer.count))
+    (converting.unread so.bytes (keeps_consumed left_old left left_new so.bytes so.consumed keeps)
+    (no_more p so.bytes so.tokens a c so.decided so.stands.has_read.passes so.gains))
+
+-- the tokens up to a rejected one decide the verdict
+refused_text : (p : Profile) (s : List ℕ) (tokens more : List Token) (f : Fault) (a c : Option (List ℕ)) → tokens_of s ≡ tokens ++ more → (read p tokens).fault ≡ Some f → Gains p [] tokens a c
+    → IsConverted p s (is_refused f) a c
+refused_text p s tokens more f a c cut fault gains =
+    let same : read p (tokens_of s) ≡ read p tokens = ap (read p) cut ∙ stops_from p no_progress tokens more f fault in (
+      ap verdict_of same ∙ verdict_refused (read p tokens) f fault,
+      subst (λ (r : Read). Appends a c (written p r.progress)) (sym same) (appended p tokens a c gains),
+    )
+
+further_writing : (p : Profile) (given tokens more : List Token) (at : ℕ) (a c : Option (List ℕ)) → StopsWriting p given tokens at a c → StopsWriting p given (tokens ++ more) at a c
+further_writing p given tokens more at a c w =
+    record {
+      front = w.front;
+      token = w.token;
+      rest = w.rest ++ more;
+      cut = ap (λ ts. ts ++ more) w.cut ∙ append_assoc w.front (w.token ∷ w.rest) more;
+      place = w.place;
+      passes = w.passes;
+      text = w.text;
+      due_for = w.due_for;
+      count = w.count;
+      least = w.least;
+      short = w.short;
+      appended = w.appended;
+    }
+
+-- what is left, when it is known
+known_left : (o n : Option (List ℕ)) (u : List ℕ) (P : List ℕ → Type 0) → Consumes o n u → ((rest : List ℕ) → P (u ++ rest)) → IfSome o P
+known_left None n u P h all = tt
+known_left (Some s) None u P h all = absurd h
+known_left (Some s) (Some rest) u P h all = subst P (sym h) (all rest)
+
+known_whole : (o n : Option (List ℕ)) (u : List ℕ) (P : List ℕ → Type 0) → Consumes o n u → IsAtEnd n → P u → IfSome o P
+known_whole None n u P h end here = tt
+known_whole (Some s) None u P h end here = absurd h
+known_whole (Some s) (Some rest) u P h end here = subst P (sym (h ∙ ap (λ l. u ++ l) end ∙ append-nil u)) here
+
+-- a piece stopped it
+pub stops_in_piece : (p : Profile) (left_old left left_new : Option (List ℕ)) (now : Converter) (a c d : Option (List ℕ)) (piece : List ℕ) (f : Fault) (so : ReadSoFar p left_old left now a c)
+    → Consumes left left_new piece
+    → StopsIn so.bytes piece (λ fault. FedFault p so.bytes None so.tokens piece fault c d) (λ front. ReadsUpTo p so.tokens (so.bytes ++ front) c d) f
+    → Fails p left_old left_new a d f
+stops_in_piece p left_old left left_new now a c d piece f so consumed (at_token g fed) =
+    by_stops (stops_more p [] so.tokens fed.tokens g a c d so.gains fed.stops)
+  where
+    all : Consumes left_old left_new (so.bytes ++ piece)
+    all = Consumes-trans left_old left left_new so.bytes piece so.consumed consumed
+
+    goes : (s : List ℕ) → (rest : List Token) × (tokens_of ((so.bytes ++ piece) ++ s) ≡ fed.tokens ++ rest)
+    goes s = fed.next s (subst (λ b. Follows b s) (sym (still_none-none piece)) tt)
+
+    by_stops : {h : Fault} → Stops p [] fed.tokens a d h → Fails p left_old left_new a d h
+    by_stops (refused h fault gains) =
+        converting.refused h (known_left left_old left_new (so.bytes ++ piece) (λ s. IsConverted p s (is_refused h) a d) all
+        (λ rest. refused_text p ((so.bytes ++ piece) ++ rest) fed.tokens (goes rest).0 h a d (goes rest).1 fault gains))
+    by_stops (unwritten at writing) =
+        let here = goes [] in
+        let cut : tokens_of (so.bytes ++ piece) ≡ fed.tokens ++ here.0 = ap tokens_of (sym (append-nil (so.bytes ++ piece))) ∙ here.1 in
+        converting.unwritten (so.bytes ++ piece) at all (subst (λ ts. StopsWriting p [] ts at a d) (sym cut) (further_writing p [] fed.tokens here.0 at a d writing))
+stops_in_piece p left_old left left_new now a c d piece f so consumed (too_long front rest cut place some before) =
+    let all = Consumes-trans left_old left left_new so.bytes piece so.consumed consumed in
+    let text : so.bytes ++ piece ≡ (so.bytes ++ front) ++ rest = ap (λ xs. so.bytes ++ xs) cut ∙ sym (append_assoc so.bytes front rest) in
+    subst (λ n. Fails p left_old left_new a d (record { at = n; reason = InputTooLong })) place
+    (converting.too_long (so.bytes ++ front) rest (subst (Consumes left_old left_new) text all) place some
+    (no_more p (so.bytes ++ front) before.tokens a d before.decided before.passes (gains_more p [] so.tokens before.tokens a c d so.gains before.gains)))
+
+-- the source's end
+pub ends_here : (p : Profile) (left_old left left_new : Option (List ℕ)) (now : Converter) (a c d : Option (List ℕ)) (r : Result Totals Fault) (so : ReadSoFar p left_old left now a c)
+    → Consumes left left_new [] → IsAtEnd left_new → AfterEnd p so.bytes so.tokens r c d → Converts p left_old left_new r a d
+ends_here p left_old left left_new now a c d (Ok t) so consumed end (is_verdict, probes, gains) =
+    let all = subst (Consumes left_old left_new) (append-nil so.bytes) (Consumes-trans left_old left left_new so.bytes [] so.consumed consumed) in
+    known_whole left_old left_new so.bytes (λ s. IsTotalled p s t a d) all end
+    (record { converted = (is_verdict, appended p (tokens_of so.bytes) a d (gains_more p [] so.tokens (tokens_of so.bytes) a c d so.gains gains)); probes = probes })
+ends_here p left_old left left_new now a c d (Err f) so consumed end stops = by_stops (stops_more p [] so.tokens (tokens_of so.bytes) f a c d so.gains stops)
+  where
+    all : Consumes left_old left_new so.bytes
+    all = subst (Consumes left_old left_new) (append-nil so.bytes) (Consumes-trans left_old left left_new so.bytes [] so.consumed consumed)
+
+    by_stops : {h : Fault} → Stops p [] (tokens_of so.bytes) a d h → Fails p left_old left_new a d h
+    by_stops (refused h fault gains) =
+        converting.refused h (known_whole left_old left_new so.bytes (λ s. IsConverted p s (is_refused h) a d) all end
+        (refused_text p so.bytes (tokens_of so.bytes) [] h a d (sym (append-nil (tokens_of so.bytes))) fault gains))
+    by_stops (unwritten at writing) = converting.unwritten so.bytes at all writing
+
+-- a slice, fed from the start on
+pub slice_stops : (p : Profile) (f : Fault) (text : List ℕ) (a c : Option (List ℕ))
+    → StopsIn [] text (λ fault. FedFault p [] None [] text fault a c) (λ front. ReadsUpTo p [] front a c) f → FailsOn p text a c f
+slice_stops p f text a c (at_token g fed) = by_stops fed.stops
+  where
+    goes : (s : List ℕ) → (rest : List Token) × (tokens_of (text ++ s) ≡ fed.tokens ++ rest)
+    goes s = fed.next s (subst (λ b. Follows b s) (sym (still_none-none text)) tt)
+
+    here : (rest : List Token) × (tokens_of text ≡ fed.tokens ++ rest)
+    here = ((goes []).0, ap tokens_of (sym (append-nil text)) ∙ (goes []).1)
+
+    by_stops : {h : Fault} → Stops p [] fed.tokens a c h → FailsOn p text a c h
+    by_stops (refused h fault gains) = converting.FailsOn.refused h (refused_text p text fed.tokens here.0 h a c here.1 fault gains)
+    by_stops (unwritten at writing) =
+        converting.FailsOn.unwritten at (subst (λ ts. StopsWriting p [] ts at a c) (sym here.1) (further_writing p [] fed.tokens here.0 at a c writing))
+slice_stops p f text a c (too_long front rest cut place some before) =
+    subst (λ n. FailsOn p text a c (record { at = n; reason = InputTooLong })) place
+    (converting.FailsOn.too_long front rest cut place some (no_more p front before.tokens a c before.decided before.passes before.gains))
+
+pub slice_ends : (p : Profile) (text : List ℕ) (now : Converter) (a c d : Option (List ℕ)) (r : Result Totals Fault) (fed : FedWhole p [] [] text now a c) → AfterEnd p text fed.tokens r c d
+    → ConvertsSlice p text r a d
+slice_ends p text now a c d (Ok t) fed (is_verdict, probes, gains) =
+    record { converted = (is_verdict, appended p (tokens_of text) a d (gains_more p [] fed.tokens (tokens_of text) a c d fed.gains gains)); probes = probes }
+slice_ends p text now a c d (Err f) fed stops = by_stops (stops_more p [] fed.tokens (tokens_of text) f a c d fed.gains stops)
+  where
+    by_stops : {h : Fault} → Stops p [] (tokens_of text) a d h → FailsOn p text a d h
+    by_stops (refused h fault gains) =
+        converting.FailsOn.refused h (refused_text p text (tokens_of text) [] h a d (sym (append-nil (tokens_of text))) fault gains)
+    by_stops (unwritten at writing) = converting.FailsOn.unwritten at writing
+
+-- an input that was read to its end is no longer than the places go
+pub short_input : (p : Profile) (left_old left left_new : Option (List ℕ)) (now : Converter) (a c : Option (List ℕ)) (r : Result Totals Fault) (so : ReadSoFar p left_old left now a c)
+    → Consumes left left_new [] → IsAtEnd left_new → now.lexer.count ≤ 2 ^ 62 → OnOk r (IfSome left_old (λ s. length s ≤ 2 ^ 62))
+short_input p left_old left left_new now a c (Ok t) so consumed end few =
+    let all = subst (Consumes left_old left_new) (append-nil so.bytes) (Consumes-trans left_old left left_new so.bytes [] so.consumed consumed) in
+    known_whole left_old left_new so.bytes (λ s. length s ≤ 2 ^ 62) all end (subst (λ n. n ≤ 2 ^ 62) so.stands.lexer.count few)
+short_input p left_old left left_new now a c (Err f) so consumed end few = tt

@@ -1,0 +1,4 @@
+-- What the code's classes, tables and numbers say of bytes.
+pub mod ClassToTest
+pub mod DecimalsAreSymbols
+pub mod TablesOfBytes

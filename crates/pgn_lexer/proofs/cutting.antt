@@ -1,0 +1,7 @@
+-- The rules on whole runs of bytes, and what the tokens of a text are.
+pub mod EachTextIsCut
+pub mod PlacesOfTokens
+pub mod RulesToTokens
+pub mod StringData
+pub mod TokensAreSound
+pub mod WrittenToTokens

@@ -1,0 +1,245 @@
+-- Where tokens stand.
+use Rattle.std.proofs.Common.{◌≡◌, ℕ, ◌+◌, ◌<◌, ◌≤◌, inl, inr, Bool, true, false, cond, List, [], ◌∷◌, ◌++◌, length, refl, ap, ◌∙◌, arith}
+use Rattle.std.specs.Prelude.{take_while, nat_lt, drop, nat_le, ◌==◌, if◌then◌else◌}
+use Rattle.std.specs.List.{AllByRecursion}
+use Rattle.std.proofs.lemmas.Bool.{lt-ltb, le-ltb}
+use Rattle.pgn_lexer.specs.declared.class.Single.{Single}
+use Rattle.pgn_lexer.specs.declared.class.Single.TheVariants as singles
+use Rattle.pgn_lexer.specs.declared.class.Class.{Class}
+use Rattle.pgn_lexer.specs.declared.class.Class.TheVariants as classes
+use Rattle.pgn_lexer.specs.declared.class.CommentClass.{CommentClass}
+use Rattle.pgn_lexer.specs.declared.class.CommentClass.TheVariants as comments
+use Rattle.pgn_lexer.specs.declared.class.StringClass.{StringClass}
+use Rattle.pgn_lexer.specs.declared.class.StringClass.TheVariants as strings
+use Rattle.pgn_lexer.specs.declared.token.LexReason.TheVariants.{SymbolTooLong, StringTooLong, WordTooLong, GlyphRange, UnclosedString, ControlByte}
+use Rattle.pgn_lexer.specs.declared.token.LexReason.{LexReason}
+use Rattle.pgn_lexer.specs.Bytes.{is_digit, continues_symbol, is_suffix, continues_word}
+use Rattle.pgn_lexer.specs.Tokens.{Kind, Token, symbol, glyph, word}
+use Rattle.pgn_lexer.specs.Spelling as spelling
+use Rattle.pgn_lexer.specs.Laws.{IsLast, RisesTo, TokensRise}
+use Rattle.pgn_lexer.specs.Spelling.{kind_of_single, class, comment_class, string_class, Found, gives, stops, Reading, closed, broken, datum, reading, symbol_at, word_at, glyph_at, numbered_at, suffix_at, string_at, number_of}
+use Rattle.pgn_lexer.specs.TokensOf as tokens
+use Rattle.pgn_lexer.specs.TokensOf.{Within, begins_class, begins_first, begins_after, begins_word, begins_brace, begins_line, begins, next, onto, at_end, tokens_from}
+use Rattle.std.proofs.lemmas.List.Sums.{take_while-cons}
+
+-- What begins at a place stands there or further on, and is a rejection or a token that is not the
+-- last.
+abbrev FoundFrom : ℕ → Found → Type 0
+FoundFrom at spelling.nothing = Unit {0}
+FoundFrom at (gives k) = IsLast k → ⊥
+FoundFrom at (stops place r) = at ≤ place
+
+abbrev ReadingFrom : ℕ → Reading → Type 0
+ReadingFrom at (closed text) = Unit {0}
+ReadingFrom at (broken place r) = at ≤ place
+
+datum_from : (at b : ℕ) (r : Reading) → ReadingFrom at r → ReadingFrom at (datum b r)
+datum_from at b (closed text) from = tt
+datum_from at b (broken place r) from = from
+
+reading_from : (start at n : ℕ) (e : Bool) (s : List ℕ) → start ≤ at → ReadingFrom start (reading start at n e s)
+reading_from start at n false [] after = omega arith
+reading_from start at n true [] after = omega arith
+reading_from start at n false (b ∷ bs) after =
+    by_class (string_class b) (nat_lt n 255) (reading_from start (at + 1) n true bs (omega arith)) (reading_from start (at + 1) (n + 1) false bs (omega arith))
+  where
+    by_class : (c : StringClass) (d : Bool) → ReadingFrom start (reading start (at + 1) n true bs) → ReadingFrom start (reading start (at + 1) (n + 1) false bs)
+        → ReadingFrom start (elim c [
+          | strings.Quote ↦ closed []
+          | strings.LineEnd ↦ broken start UnclosedString
+          | strings.Control ↦ broken at ControlByte
+          | strings.Backslash ↦ elim d [ true ↦ reading start (at + 1) n true bs | false ↦ broken start StringTooLong ]
+          | strings.Plain ↦ elim d [ true ↦ datum b (reading start (at + 1) (n + 1) false bs) | false ↦ broken start StringTooLong ]
+        ])
+    by_class strings.Quote d escaped more = tt
+    by_class strings.LineEnd d escaped more = omega arith
+    by_class strings.Control d escaped more = omega arith
+    by_class strings.Backslash true escaped more = escaped
+    by_class strings.Backslash false escaped more = omega arith
+    by_class strings.Plain true escaped more = datum_from start b _ more
+    by_class strings.Plain false escaped more = omega arith
+reading_from start at n true (b ∷ bs) after =
+    by_class (string_class b) (nat_lt n 254) (reading_from start (at + 1) (n + 1) false bs (omega arith)) (reading_from start (at + 1) (n + 2) false bs (omega arith))
+  where
+    by_class : (c : StringClass) (d : Bool) → ReadingFrom start (reading start (at + 1) (n + 1) false bs) → ReadingFrom start (reading start (at + 1) (n + 2) false bs)
+        → ReadingFrom start (elim c [
+          | strings.Quote ↦ datum b (reading start (at + 1) (n + 1) false bs)
+          | strings.LineEnd ↦ broken start UnclosedString
+          | strings.Control ↦ broken at ControlByte
+          | strings.Backslash ↦ datum b (reading start (at + 1) (n + 1) false bs)
+          | strings.Plain ↦ elim d [ true ↦ datum 92 (datum b (reading start (at + 1) (n + 2) false bs)) | false ↦ broken start StringTooLong ]
+        ])
+    by_class strings.Quote d one two = datum_from start b _ one
+    by_class strings.LineEnd d one two = omega arith
+    by_class strings.Control d one two = omega arith
+    by_class strings.Backslash d one two = datum_from start b _ one
+    by_class strings.Plain true one two = datum_from start 92 (datum b (reading start (at + 1) (n + 2) false bs)) (datum_from start b _ two)
+    by_class strings.Plain false one two = omega arith
+
+string_from : (at : ℕ) (r : Reading) → ReadingFrom at r → FoundFrom at (string_at r)
+string_from at (closed text) from = λ last. last
+string_from at (broken place r) from = from
+
+-- a token where a test holds, and else a rejection at its place
+found_if : (at : ℕ) (k : Kind) (r : LexReason) (c : Bool) → (IsLast k → ⊥) → FoundFrom at (if c then gives k else stops at r)
+found_if at k r true other = other
+found_if at k r false other = omega arith
+
+single_other : (s : Single) → IsLast (kind_of_single s) → ⊥
+single_other singles.LeftBracket last = last
+single_other singles.RightBracket last = last
+single_other singles.LeftParen last = last
+single_other singles.RightParen last = last
+single_other singles.Period last = last
+single_other singles.Asterisk last = last
+
+glyph_from : (at : ℕ) (ds : List ℕ) → FoundFrom at (glyph_at at ds)
+glyph_from at [] = omega arith
+glyph_from at (d ∷ ds) = found_if at (glyph (number_of (d ∷ ds))) GlyphRange (nat_le (number_of (d ∷ ds)) 255) (λ last. last)
+
+suffix_from : (at : ℕ) (run : List ℕ) → FoundFrom at (suffix_at at run)
+suffix_from at [] = omega arith
+suffix_from at (a ∷ []) = cases (a == 33)
+  where
+    cases : (c : Bool) → FoundFrom at (if c then gives (glyph 1) else gives (glyph 2))
+    cases true = λ last. last
+    cases false = λ last. last
+suffix_from at (a ∷ b ∷ []) = cases (a == 33) (b == 33)
+  where
+    cases : (c d : Bool) → FoundFrom at (if c then (if d then gives (glyph 3) else gives (glyph 5)) else (if d then gives (glyph 6) else gives (glyph 4)))
+    cases true true = λ last. last
+    cases true false = λ last. last
+    cases false true = λ last. last
+    cases false false = λ last. last
+suffix_from at (a ∷ b ∷ c ∷ run) = omega arith
+
+class_from : (at : ℕ) (c : Class) (b : ℕ) (bs : List ℕ) → FoundFrom at (begins_class at c b bs)
+class_from at classes.LineEnd b bs = tt
+class_from at classes.Space b bs = tt
+class_from at classes.Percent b bs = omega arith
+class_from at classes.SymbolStart b bs = found_if at (symbol (b ∷ take_while continues_symbol bs)) SymbolTooLong (nat_le (length (b ∷ take_while continues_symbol bs)) 255) (λ last. last)
+class_from at classes.Quote b bs = string_from at (reading at (at + 1) 0 false bs) (reading_from at (at + 1) 0 false bs (omega arith))
+class_from at classes.Dollar b bs = glyph_from at (take_while is_digit bs)
+class_from at classes.Suffix b bs = suffix_from at (b ∷ take_while is_suffix bs)
+class_from at classes.OpenBrace b bs = λ last. last
+class_from at classes.Semicolon b bs = λ last. last
+class_from at (classes.Alone s) b bs = single_other s
+class_from at (classes.Refused r) b bs = omega arith
+
+first_from : (at : ℕ) (c : Class) (b : ℕ) (bs : List ℕ) → FoundFrom at (begins_first at c b bs)
+first_from at classes.Percent b bs = tt
+first_from at c b bs = class_from at c b bs
+
+after_from : (at : ℕ) (goes : Bool) (c : Class) (b : ℕ) (bs : List ℕ) → FoundFrom at (begins_after goes at c b bs)
+after_from at true c b bs = tt
+after_from at false c b bs = class_from at c b bs
+
+word_from : (at : ℕ) (goes : Bool) (b : ℕ) (bs : List ℕ) → FoundFrom at (begins_word at goes b bs)
+word_from at true b bs = tt
+word_from at false b bs = found_if at (word (b ∷ take_while continues_word bs)) WordTooLong (nat_le (length (b ∷ take_while continues_word bs)) 79) (λ last. last)
+
+brace_from : (at : ℕ) (goes : Bool) (c : CommentClass) (b : ℕ) (bs : List ℕ) → FoundFrom at (begins_brace at goes c b bs)
+brace_from at goes comments.LineEnd b bs = tt
+brace_from at goes comments.Space b bs = tt
+brace_from at goes comments.CloseBrace b bs = λ last. last
+brace_from at goes comments.WordByte b bs = word_from at goes b bs
+brace_from at goes comments.Control b bs = omega arith
+
+line_from : (at : ℕ) (goes : Bool) (c : CommentClass) (b : ℕ) (bs : List ℕ) → FoundFrom at (begins_line at goes c b bs)
+line_from at goes comments.LineEnd b bs = λ last. last
+line_from at goes comments.Space b bs = tt
+line_from at goes comments.CloseBrace b bs = omega arith
+line_from at goes comments.WordByte b bs = word_from at goes b bs
+line_from at goes comments.Control b bs = omega arith
+
+begins_from : (at : ℕ) (within : Within) (b : ℕ) (bs : List ℕ) → FoundFrom at (begins at within b bs)
+begins_from at tokens.column b bs = first_from at (class b) b bs
+begins_from at tokens.outside b bs = class_from at (class b) b bs
+begins_from at tokens.in_escape b bs = tt
+begins_from at tokens.in_symbol b bs = after_from at (continues_symbol b) (class b) b bs
+begins_from at tokens.in_glyph b bs = after_from at (is_digit b) (class b) b bs
+begins_from at tokens.in_suffix b bs = after_from at (is_suffix b) (class b) b bs
+begins_from at tokens.quotes b bs = tt
+begins_from at tokens.backslash b bs = tt
+begins_from at tokens.brace b bs = brace_from at false (comment_class b) b bs
+begins_from at tokens.brace_word b bs = brace_from at true (comment_class b) b bs
+begins_from at tokens.line b bs = line_from at false (comment_class b) b bs
+begins_from at tokens.line_word b bs = line_from at true (comment_class b) b bs
+
+-- tokens that all stand at a place or further on
+abbrev pub AllFrom : ℕ → List Token → Type 0
+AllFrom at ts = AllByRecursion (λ t. at ≤ t.at) ts
+
+all_from_less : (m n : ℕ) (ts : List Token) → m ≤ n → AllFrom n ts → AllFrom m ts
+all_from_less m n [] less all = tt
+all_from_less m n (t ∷ ts) less all = let here : n ≤ t.at = all.0 in (omega arith, all_from_less m n ts less all.1)
+
+onto_from : (at : ℕ) (f : Found) (ts : List Token) → FoundFrom at f → AllFrom (at + 1) ts → AllFrom at (onto at f ts)
+onto_from at spelling.nothing ts from all = all_from_less at (at + 1) ts (omega arith) all
+onto_from at (gives k) ts from all = (omega arith, all_from_less at (at + 1) ts (omega arith) all)
+onto_from at (stops place r) ts from all = (from, tt)
+
+end_from : (at : ℕ) (within : Within) → AllFrom at (at_end at within)
+end_from at tokens.column = (omega arith, tt)
+end_from at tokens.outside = (omega arith, tt)
+end_from at tokens.in_escape = (omega arith, tt)
+end_from at tokens.in_symbol = (omega arith, tt)
+end_from at tokens.in_glyph = (omega arith, tt)
+end_from at tokens.in_suffix = (omega arith, tt)
+end_from at tokens.quotes = (omega arith, tt)
+end_from at tokens.backslash = (omega arith, tt)
+end_from at tokens.brace = (omega arith, tt)
+end_from at tokens.brace_word = (omega arith, tt)
+end_from at tokens.line = (omega arith, (omega arith, tt))
+end_from at tokens.line_word = (omega arith, (omega arith, tt))
+
+pub tokens_from-from : (at : ℕ) (within : Within) (s : List ℕ) → AllFrom at (tokens_from at within s)
+tokens_from-from at within [] = end_from at within
+tokens_from-from at within (b ∷ bs) = onto_from at (begins at within b bs) (tokens_from (at + 1) (next within b) bs) (begins_from at within b bs) (tokens_from-from (at + 1) (next within b) bs)
+
+-- the front of such a list is one
+pub all_from-front : (n : ℕ) (xs zs : List Token) → AllFrom n (xs ++ zs) → AllFrom n xs
+all_from-front n [] zs all = tt
+all_from-front n (x ∷ xs) zs all = (all.0, all_from-front n xs zs all.1)
+
+-- the tokens before a place, of those before it and those from it on
+pub take_before : (n : ℕ) (given more : List Token) → AllByRecursion (λ t. t.at < n) given → AllFrom n more → take_while (λ t. nat_lt t.at n) (given ++ more) ≡ given
+take_before n [] [] before from = refl
+take_before n [] (t ∷ ts) before from = take_while-cons (λ t. nat_lt t.at n) t ts ∙ ap (λ c. cond c (t ∷ take_while (λ t. nat_lt t.at n) ts) []) (le-ltb _ _ from.0)
+take_before n (t ∷ given) more before from =
+    take_while-cons (λ t. nat_lt t.at n) t (given ++ more) ∙ ap (λ c. cond c (t ∷ take_while (λ t. nat_lt t.at n) (given ++ more)) []) (lt-ltb _ _ before.0)
+    ∙ ap (λ ts. t ∷ ts) (take_before n given more before.1 from)
+
+-- places rise to the last token
+
+onto_rises : (at : ℕ) (f : Found) (ts : List Token) → FoundFrom at f → AllFrom (at + 1) ts → RisesTo ts → RisesTo (onto at f ts)
+onto_rises at spelling.nothing ts from all rises = rises
+onto_rises at (gives k) [] from all rises = absurd rises
+onto_rises at (gives k) (t ∷ ts) from all rises = let here : at + 1 ≤ t.at = all.0 in (from, inl (omega arith), rises)
+onto_rises at (stops place r) ts from all rises = tt
+
+end_rises : (at : ℕ) (within : Within) → RisesTo (at_end at within)
+end_rises at tokens.column = tt
+end_rises at tokens.outside = tt
+end_rises at tokens.in_escape = tt
+end_rises at tokens.in_symbol = tt
+end_rises at tokens.in_glyph = tt
+end_rises at tokens.in_suffix = tt
+end_rises at tokens.quotes = tt
+end_rises at tokens.backslash = tt
+end_rises at tokens.brace = tt
+end_rises at tokens.brace_word = tt
+end_rises at tokens.line = ((λ last. last), inr (refl, omega arith), tt)
+end_rises at tokens.line_word = ((λ last. last), inr (refl, omega arith), tt)
+
+tokens_from-rises : (at : ℕ) (within : Within) (s : List ℕ) → RisesTo (tokens_from at within s)
+tokens_from-rises at within [] = end_rises at within
+tokens_from-rises at within (b ∷ bs) =
+    onto_rises at (begins at within b bs) (tokens_from (at + 1) (next within b) bs) (begins_from at within b bs) (tokens_from-from (at + 1) (next within b) bs) (tokens_from-rises (at + 1) (next within b) bs)
+
+pub tokens_rise : TokensRise
+tokens_rise s = cases (tokens.has_mark s)
+  where
+    cases : (m : Bool) → RisesTo (elim m [ true ↦ tokens_from 3 tokens.column (drop 3 s) | false ↦ tokens_from 0 tokens.column s ])
+    cases true = tokens_from-rises 3 tokens.column (drop 3 s)
+    cases false = tokens_from-rises 0 tokens.column s

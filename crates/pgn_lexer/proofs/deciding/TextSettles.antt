@@ -1,0 +1,98 @@
+-- Each text brings a lexer to a place from which nothing is decided yet, or to a rejection.
+use Rattle.std.proofs.Common.{◌≡◌, ℕ, zero, suc, ◌+◌, ◌*◌, ◌<◌, ◌≤◌, Bool, List, [], ◌∷◌, ◌++◌, length, drop, refl, sym, ap, ◌∙◌, append-nil, append_assoc, arith, take-append-drop}
+use Rattle.std.specs.Prelude.{take_while, nat_lt}
+use Rattle.std.specs.List.{prefix_len}
+use Rattle.pgn_lexer.specs.declared.partial_token.Mode.{Mode}
+use Rattle.pgn_lexer.specs.declared.partial_token.Mode.TheVariants as modes
+use Rattle.pgn_lexer.specs.declared.partial_token.Step.{Step}
+use Rattle.pgn_lexer.specs.declared.partial_token.Step.TheVariants.{Used, Ends, EndsBefore, Fault}
+use Rattle.pgn_lexer.specs.Tokens.{Token}
+use Rattle.pgn_lexer.specs.TokensOf.{tokens_of}
+use Rattle.pgn_lexer.specs.Decided.{decided, known}
+use Rattle.pgn_lexer.specs.PartialToken.{PartialToken, tokens_to_come, token_of, refusal, IsSound, IsGoing, pending_in, pending}
+use Rattle.pgn_lexer.specs.Taking.{after_byte}
+use Rattle.pgn_lexer.specs.Laws.{IsPrefix, DecidedIsPrefix, KnownIsPrefix}
+use Rattle.pgn_lexer.proofs.stepping.StepGives.{StepGives, front_of}
+use Rattle.pgn_lexer.proofs.stepping.ByteGives.{step_gives}
+use Rattle.pgn_lexer.proofs.deciding.GivenAreDecided.{common_of, decided_is, going_none}
+
+-- Whatever follows, the tokens are those given and then others, which have nothing in common.
+record Settles (tokens : List ℕ → List Token) : Type 0 where
+  given : List Token
+  later : List ℕ → List Token
+  comes : (s : List ℕ) → tokens s ≡ given ++ later s
+  none : common_of (later []) (later (49 ∷ [])) (later (33 ∷ [])) (later (34 ∷ 34 ∷ [])) (later (191 ∷ [])) (later (187 ∷ 191 ∷ [])) ≡ []
+
+few : (m : Mode) → pending_in m ≤ 2
+few modes.Start = omega arith
+few modes.AfterEf = omega arith
+few modes.AfterEfBb = omega arith
+few modes.LineStart = omega arith
+few modes.Outside = omega arith
+few modes.Escape = omega arith
+few modes.Symbol = omega arith
+few modes.Str = omega arith
+few modes.AfterBackslash = omega arith
+few modes.Dollar = omega arith
+few (modes.Glyph n) = omega arith
+few (modes.Suffix run) = omega arith
+few modes.Brace = omega arith
+few modes.BraceWord = omega arith
+few modes.Line = omega arith
+few modes.LineWord = omega arith
+few (modes.Failed f) = omega arith
+
+-- one token more at the front
+after_token : (tokens rest : List ℕ → List Token) (t : Token) → ((s : List ℕ) → tokens s ≡ t ∷ rest s) → Settles rest → Settles tokens
+after_token tokens rest t same h = record { given = t ∷ h.given; later = h.later; comes = λ s. same s ∙ ap (λ l. t ∷ l) (h.comes s); none = h.none }
+
+same_tokens : (tokens rest : List ℕ → List Token) → ((s : List ℕ) → tokens s ≡ rest s) → Settles rest → Settles tokens
+same_tokens tokens rest same h = record { given = h.given; later = h.later; comes = λ s. same s ∙ h.comes s; none = h.none }
+
+-- by the bytes left, and the tokens that wait
+settles : (n : ℕ) (u : List ℕ) (place : ℕ) (h : PartialToken) → 3 * length u + pending h ≤ n → IsSound place h → IsGoing h.mode → Settles (λ s. tokens_to_come place h (u ++ s))
+settles n [] place h enough sound going = record { given = []; later = tokens_to_come place h; comes = λ s. refl; none = going_none place h sound going }
+settles zero (b ∷ u) place h enough sound going = absurd (omega arith)
+settles (suc n) (b ∷ u) place h enough sound going =
+    by_step (after_byte place h b).held (after_byte place h b).step (step_gives place h b sound)
+    (λ new fewer sound going. settles n u (place + 1) new fewer sound going) (λ new fewer sound going. settles n (b ∷ u) place new fewer sound going)
+  where
+    by_step : (new : PartialToken) (step : Step) → StepGives (front_of place h b) new step
+        → ((new : PartialToken) → 3 * length u + pending new ≤ n → IsSound (place + 1) new → IsGoing new.mode → Settles (λ s. tokens_to_come (place + 1) new (u ++ s)))
+        → ((new : PartialToken) → 3 * length (b ∷ u) + pending new ≤ n → IsSound place new → IsGoing new.mode → Settles (λ s. tokens_to_come place new ((b ∷ u) ++ s)))
+        → Settles (λ s. tokens_to_come place h ((b ∷ u) ++ s))
+    by_step new Used g on again =
+        same_tokens _ _ (λ s. g.comes (u ++ s)) (on new (omega (arith, few new.mode)) g.sound g.going)
+    by_step new (Ends form) g on again =
+        after_token _ _ (token_of form new) (λ s. g.comes (u ++ s)) (on new (omega (arith, few new.mode)) g.sound g.going)
+    by_step new (EndsBefore form) g on again =
+        let less : pending new < pending h = g.less in
+        after_token _ _ (token_of form new) (λ s. g.comes (u ++ s)) (again new (omega arith) g.sound g.going)
+    by_step new (Fault f) g on again =
+        record { given = refusal f ∷ []; later = λ s. []; comes = λ s. g.comes (u ++ s); none = refl }
+
+-- before the first byte
+abbrev at_start : PartialToken
+at_start = record { mode = modes.Start; at = 0; text = [] }
+
+text_settles : (u : List ℕ) → Settles (λ s. tokens_of (u ++ s))
+text_settles u = settles (3 * length u) u 0 at_start (omega arith) (record { room = (omega arith, tt); placed = refl }) tt
+
+pub decided_is_prefix : DecidedIsPrefix
+decided_is_prefix u s =
+    let h : Settles (λ s. tokens_of (u ++ s)) = text_settles u in
+    let all : decided u ≡ h.given = decided_is h.given u h.later h.comes ∙ ap (λ l. h.given ++ l) h.none ∙ append-nil h.given in
+    (h.later s, h.comes s ∙ ap (λ l. l ++ h.later s) (sym all))
+
+-- the front of a front is one
+pub prefix_trans : (xs ys zs : List Token) → IsPrefix xs ys → IsPrefix ys zs → IsPrefix xs zs
+prefix_trans xs ys zs p q = (p.0 ++ q.0, q.1 ∙ ap (λ l. l ++ q.0) p.1 ∙ append_assoc xs p.0 q.0)
+
+take_while_front : (p : Token → Bool) (ts : List Token) → IsPrefix (take_while p ts) ts
+take_while_front p ts = (drop (prefix_len p ts) ts, sym (take-append-drop (prefix_len p ts) ts))
+
+pub known_is_prefix : KnownIsPrefix
+known_is_prefix u s b =
+    let front : IsPrefix (decided (u ++ b ∷ [])) (tokens_of ((u ++ b ∷ []) ++ s)) = decided_is_prefix (u ++ b ∷ []) s in
+    let whole : IsPrefix (decided (u ++ b ∷ [])) (tokens_of (u ++ b ∷ s)) = (front.0, sym (ap tokens_of (append_assoc u (b ∷ []) s)) ∙ front.1) in
+    prefix_trans (known u b) (decided (u ++ b ∷ [])) (tokens_of (u ++ b ∷ s)) (take_while_front (λ t. nat_lt t.at (length u)) (decided (u ++ b ∷ []))) whole

@@ -1,0 +1,400 @@
+-- Worked rows of written tokens (PGN 3.2, 5, 7, 8.2): texts that are read back, and what goes wrong
+-- where a premise is missing.
+use Rattle.std.proofs.Common.{◌≡◌, ℕ, ◌^◌, ◌<◌, ◌≤◌, Bool, true, false, List, [], ◌∷◌, ◌++◌, length, map, refl, sym, subst, ap, ◌∙◌, eq-eqb, arith}
+use Rattle.std.specs.Fmt.{digits}
+use Rattle.std.specs.List.{AllByRecursion, list_all}
+use Rattle.std.specs.Prelude.{codes, decimal, ◌==◌}
+use Rattle.pgn_lexer.specs.Bytes.{is_digit, starts_symbol}
+use Rattle.std.proofs.lemmas.Bool.{false≢true}
+use Rattle.pgn_lexer.specs.Laws.{PiecesAreReadBack, KindsAreReadBack, NumbersAreSymbols}
+use Rattle.pgn_lexer.specs.Sound.{begins_with, IsSymbol, IsWord, CommentsClose}
+use Rattle.pgn_lexer.specs.Tokens.{Kind, Token, left_bracket, right_bracket, left_paren, right_paren, period, asterisk, symbol, str, glyph, comment_open, word, comment_close, end}
+use Rattle.pgn_lexer.specs.TokensOf.{tokens_of}
+use Rattle.pgn_lexer.specs.Written.{Piece, token, space, text_of_pieces, kinds_in, tokens_at, IsPiece, IsEndedBy, AreEnded, IsReadable}
+use Rattle.pgn_lexer.proofs.rows.CuttingRows.{t, ending}
+
+abbrev sp : Piece
+sp = space 32
+
+abbrev lf : Piece
+lf = space 10
+
+abbrev IsReadBack : List Piece → Type 0
+IsReadBack ps = tokens_of (text_of_pieces ps) ≡ tokens_at 0 ps
+
+-- equal lists of tokens are equally long
+as_long : (ts us : List Token) → ts ≡ us → (length ts == length us) ≡ true
+as_long ts us e = eq-eqb (length ts) (length us) (ap length e)
+
+-- ---- A tag pair, on its line: `[A "a\"\\"]`.
+
+abbrev tag : List Piece
+tag =
+    token left_bracket ∷ token (symbol (codes "A")) ∷ sp ∷ token (str (codes "a\"\\"))
+    ∷ token right_bracket ∷ lf ∷ []
+
+tag_text : text_of_pieces tag ≡ codes "[A \"a\\\"\\\\\"]\n"
+tag_text = refl
+
+tag_readable : IsReadable tag
+tag_readable = record {
+  pieces = (
+    tt,
+    (
+      record { begins = refl; bytes = refl; fits = omega arith },
+      (refl, (record { bytes = refl; fits = omega arith }, (tt, (refl, tt)))),
+    ),
+  );
+  ended = (tt, (refl, (tt, (tt, tt))));
+  comments = tt;
+}
+
+tag_by_law : PiecesAreReadBack → tokens_of (codes "[A \"a\\\"\\\\\"]\n")
+    ≡ t 0 left_bracket ∷ t 1 (symbol (codes "A")) ∷ t 3 (str (codes "a\"\\"))
+    ∷ t 10 right_bracket ∷ ending 12
+tag_by_law law = law tag tag_readable
+
+-- ---- Movetext: numbers with their periods, a glyph, a comment, a variation, a marker.
+
+abbrev movetext : List Piece
+movetext =
+    token (symbol (codes "1")) ∷ token period ∷ sp ∷ token (symbol (codes "e4")) ∷ sp
+    ∷ token (glyph 10) ∷ lf ∷ token comment_open ∷ lf ∷ token (word (codes "%a;")) ∷ lf
+    ∷ token comment_close ∷ sp ∷ token left_paren ∷ sp ∷ token (symbol (codes "1"))
+    ∷ token period ∷ token period ∷ token period ∷ sp ∷ token (symbol (codes "e5"))
+    ∷ token right_paren ∷ lf ∷ token (symbol (codes "1/2-1/2")) ∷ lf ∷ token asterisk ∷ lf ∷ []
+
+movetext_text : text_of_pieces movetext ≡ codes "1. e4 $10\n{\n%a;\n} ( 1... e5)\n1/2-1/2\n*\n"
+unfolding digits
+movetext_text = refl
+
+a_symbol : IsSymbol (codes "1") × IsSymbol (codes "e4") × IsSymbol (codes "e5")
+    × IsSymbol (codes "1/2-1/2")
+a_symbol = (
+  record { begins = refl; bytes = refl; fits = omega arith },
+  record { begins = refl; bytes = refl; fits = omega arith },
+  record { begins = refl; bytes = refl; fits = omega arith },
+  record { begins = refl; bytes = refl; fits = omega arith },
+)
+
+a_word : IsWord (codes "%a;")
+a_word = record { some = omega arith; bytes = refl; fits = omega arith }
+
+movetext_readable : IsReadable movetext
+unfolding digits
+movetext_readable = record {
+  pieces = (
+    a_symbol.0,
+    (
+      tt,
+      (
+        refl,
+        (
+          a_symbol.1,
+          (
+            refl,
+            (
+              omega arith,
+              (
+                refl,
+                (
+                  tt,
+                  (
+                    refl,
+                    (
+                      a_word,
+                      (
+                        refl,
+                        (
+                          tt,
+                          (
+                            refl,
+                            (
+                              tt,
+                              (
+                                refl,
+                                (
+                                  a_symbol.0,
+                                  (
+                                    tt,
+                                    (
+                                      tt,
+                                      (
+                                        tt,
+                                        (
+                                          refl,
+                                          (
+                                            a_symbol.2,
+                                            (
+                                              tt,
+                                              (
+                                                refl,
+                                                (a_symbol.3, (refl, (tt, (refl, tt)))),
+                                              ),
+                                            ),
+                                          ),
+                                        ),
+                                      ),
+                                    ),
+                                  ),
+                                ),
+                              ),
+                            ),
+                          ),
+                        ),
+                      ),
+                    ),
+                  ),
+                ),
+              ),
+            ),
+          ),
+        ),
+      ),
+    ),
+  );
+  ended = (
+    refl,
+    (
+      tt,
+      (
+        refl,
+        (
+          refl,
+          (
+            tt,
+            (
+              refl,
+              (
+                tt,
+                (
+                  tt,
+                  (
+                    refl,
+                    (
+                      tt,
+                      (
+                        tt,
+                        (
+                          tt,
+                          (
+                            refl,
+                            (
+                              tt,
+                              (refl, (tt, tt)),
+                            ),
+                          ),
+                        ),
+                      ),
+                    ),
+                  ),
+                ),
+              ),
+            ),
+          ),
+        ),
+      ),
+    ),
+  );
+  comments = tt;
+}
+
+movetext_by_law : KindsAreReadBack
+    → map (λ i. i.kind) (tokens_of (codes "1. e4 $10\n{\n%a;\n} ( 1... e5)\n1/2-1/2\n*\n"))
+    ≡ symbol (codes "1") ∷ period ∷ symbol (codes "e4") ∷ glyph 10 ∷ comment_open
+    ∷ word (codes "%a;") ∷ comment_close ∷ left_paren ∷ symbol (codes "1") ∷ period ∷ period
+    ∷ period ∷ symbol (codes "e5") ∷ right_paren ∷ symbol (codes "1/2-1/2") ∷ asterisk ∷ end ∷ []
+movetext_by_law law =
+    ap (λ s. map (λ i. i.kind) (tokens_of s)) (sym movetext_text) ∙ law movetext movetext_readable
+
+-- Nothing written is read back as the end alone, and white space before it changes its place.
+nothing_by_law : PiecesAreReadBack → tokens_of [] ≡ ending 0
+nothing_by_law law = law [] (record { pieces = tt; ended = tt; comments = tt })
+
+white_space_by_law : PiecesAreReadBack → tokens_of (10 ∷ 13 ∷ 9 ∷ []) ≡ ending 3
+white_space_by_law law =
+    law (lf ∷ space 13 ∷ space 9 ∷ [])
+    (record { pieces = (refl, (refl, (refl, tt))); ended = tt; comments = tt })
+
+-- ---- Sound tokens can be written, with a space after each. What tokens of a text are made of is
+-- enough, if none of them is the end or a rejection.
+
+abbrev spaced : List Kind → List Piece
+spaced [] = []
+spaced (k ∷ ks) = token k ∷ sp ∷ spaced ks
+
+spaced_pieces : (ks : List Kind) → AllByRecursion (λ k. IsPiece (token k)) ks
+    → AllByRecursion IsPiece (spaced ks)
+spaced_pieces [] all = tt
+spaced_pieces (k ∷ ks) all = (all.0, (refl, spaced_pieces ks all.1))
+
+ended_by_space : (k : Kind) (s : List ℕ) → IsEndedBy (32 ∷ s) k
+ended_by_space (symbol text) s = refl
+ended_by_space (glyph n) s = refl
+ended_by_space (word text) s = refl
+ended_by_space _ s = tt
+
+spaced_ended : (ks : List Kind) → AreEnded (spaced ks)
+spaced_ended [] = tt
+spaced_ended (k ∷ ks) = (ended_by_space k (text_of_pieces (spaced ks)), spaced_ended ks)
+
+spaced_kinds : (ks : List Kind) → kinds_in (spaced ks) ≡ ks
+spaced_kinds [] = refl
+spaced_kinds (k ∷ ks) = ap (λ l. k ∷ l) (spaced_kinds ks)
+
+sound_tokens_by_law : KindsAreReadBack → (ks : List Kind)
+    → AllByRecursion (λ k. IsPiece (token k)) ks → CommentsClose false ks
+    → map (λ i. i.kind) (tokens_of (text_of_pieces (spaced ks))) ≡ ks ++ end ∷ []
+sound_tokens_by_law law ks all close =
+    law (spaced ks) (record {
+      pieces = spaced_pieces ks all;
+      ended = spaced_ended ks;
+      comments = subst (CommentsClose false) (sym (spaced_kinds ks)) close;
+    })
+    ∙ ap (λ l. l ++ end ∷ []) (spaced_kinds ks)
+
+-- ---- What is not ended goes on into the next token.
+
+abbrev joined_symbols : List Piece
+joined_symbols = token (symbol (codes "1")) ∷ token (symbol (codes "e4")) ∷ []
+
+symbols_join : IsReadBack joined_symbols → ⊥
+symbols_join e = false≢true (as_long _ _ e)
+
+symbols_not_ended : IsReadable joined_symbols → ⊥
+symbols_not_ended h = false≢true (sym h.ended.0)
+
+abbrev joined_digits : List Piece
+joined_digits = token (glyph 1) ∷ token (symbol (codes "0")) ∷ []
+
+digits_join : IsReadBack joined_digits → ⊥
+unfolding digits
+digits_join e = false≢true (as_long _ _ e)
+
+digits_not_ended : IsReadable joined_digits → ⊥
+digits_not_ended h = false≢true (sym h.ended.0)
+
+abbrev joined_words : List Piece
+joined_words =
+    token comment_open ∷ token (word (codes "a")) ∷ token (word (codes "b"))
+    ∷ token comment_close ∷ []
+
+words_join : IsReadBack joined_words → ⊥
+words_join e = false≢true (as_long _ _ e)
+
+words_not_ended : IsReadable joined_words → ⊥
+words_not_ended h = false≢true (sym h.ended.1.0)
+
+-- ---- What is no piece.
+
+-- a percent sign as white space: an escape takes what is behind it
+abbrev percent_space : List Piece
+percent_space = space 37 ∷ token asterisk ∷ []
+
+percent_escapes : IsReadBack percent_space → ⊥
+percent_escapes e = false≢true (as_long _ _ e)
+
+percent_is_no_space : IsReadable percent_space → ⊥
+percent_is_no_space h = false≢true h.pieces.0
+
+-- a symbol with a space in it is two
+abbrev spaced_symbol : List Piece
+spaced_symbol = token (symbol (codes "e4 e5")) ∷ []
+
+symbol_splits : IsReadBack spaced_symbol → ⊥
+symbol_splits e = false≢true (as_long _ _ e)
+
+symbol_is_unsound : IsReadable spaced_symbol → ⊥
+symbol_is_unsound h = false≢true h.pieces.0.bytes
+
+-- a glyph above 255 is rejected
+abbrev large_glyph : List Piece
+large_glyph = token (glyph 256) ∷ []
+
+glyph_is_rejected : IsReadBack large_glyph → ⊥
+unfolding digits
+glyph_is_rejected e = false≢true (as_long _ _ e)
+
+glyph_is_unsound : IsReadable large_glyph → ⊥
+glyph_is_unsound h = let small : 256 ≤ 255 = h.pieces.0 in absurd (omega arith)
+
+-- the end of the text is written with no byte, and there is one end
+abbrev two_ends : List Piece
+two_ends = token end ∷ []
+
+one_end : IsReadBack two_ends → ⊥
+one_end e = false≢true (as_long _ _ e)
+
+end_is_no_piece : IsReadable two_ends → ⊥
+end_is_no_piece h = h.pieces.0
+
+-- ---- Comments that do not close, and words outside them.
+
+abbrev open_comment : List Piece
+open_comment = token comment_open ∷ []
+
+abbrev is_end : Kind → Bool
+is_end end = true
+is_end _ = false
+
+abbrev last_is_end : List Token → Bool
+last_is_end [] = false
+last_is_end (i ∷ []) = is_end i.kind
+last_is_end (i ∷ j ∷ is) = last_is_end (j ∷ is)
+
+open_is_rejected : IsReadBack open_comment → ⊥
+open_is_rejected e = false≢true (ap last_is_end e)
+
+open_does_not_close : IsReadable open_comment → ⊥
+open_does_not_close h = h.comments
+
+-- a word that begins with a percent sign is an escape outside a comment
+abbrev lone_word : List Piece
+lone_word = token (word (codes "%a")) ∷ []
+
+word_escapes : IsReadBack lone_word → ⊥
+word_escapes e = false≢true (as_long _ _ e)
+
+word_is_outside : IsReadable lone_word → ⊥
+word_is_outside h = h.comments
+
+-- ---- So the law is false without each of its premises.
+
+fails_unless_ended : ((ps : List Piece) → AllByRecursion IsPiece ps
+    → CommentsClose false (kinds_in ps) → IsReadBack ps) → ⊥
+fails_unless_ended law = symbols_join (law joined_symbols (a_symbol.0, (a_symbol.1, tt)) tt)
+
+fails_unless_pieces : ((ps : List Piece) → AreEnded ps → CommentsClose false (kinds_in ps)
+    → IsReadBack ps) → ⊥
+fails_unless_pieces law = percent_escapes (law percent_space (tt, tt) tt)
+
+fails_unless_closed : ((ps : List Piece) → AllByRecursion IsPiece ps → AreEnded ps
+    → IsReadBack ps) → ⊥
+fails_unless_closed law = open_is_rejected (law open_comment (tt, tt) (tt, tt))
+
+-- ---- Numbers.
+
+number_by_law : NumbersAreSymbols → IsSymbol (codes "120")
+unfolding digits
+number_by_law law = (law 120 (omega arith)).0
+
+zero_by_law : NumbersAreSymbols → IsSymbol (codes "0")
+unfolding digits
+zero_by_law law = (law 0 (omega arith)).0
+
+-- a text that no number has in decimal
+abbrev IsOfNoNumber : List ℕ → Type 0
+IsOfNoNumber s = (n : ℕ) → n < 2 ^ 64 → decimal n ≡ s → ⊥
+
+no_byte : NumbersAreSymbols → IsOfNoNumber []
+no_byte law n small e =
+    let begins = subst (λ s. begins_with starts_symbol s ≡ true) e (law n small).0.begins in
+    false≢true begins
+
+with_period : NumbersAreSymbols → IsOfNoNumber (codes "1.")
+with_period law n small e =
+    false≢true (subst (λ s. list_all is_digit s ≡ true) e (law n small).1)
+
+a_marker : NumbersAreSymbols → IsOfNoNumber (codes "1-0")
+a_marker law n small e =
+    false≢true (subst (λ s. list_all is_digit s ≡ true) e (law n small).1)

@@ -1,0 +1,13 @@
+-- One byte, or the end of the text, gives the tokens that the definition gives.
+pub mod ByteGives
+pub mod ByteInComment
+pub mod ByteInGlyph
+pub mod ByteInString
+pub mod ByteInSymbol
+pub mod ByteOutside
+pub mod EndGives
+pub mod FirstBytes
+pub mod PieceByByte
+pub mod RunOfBytes
+pub mod StandsAfterCalls
+pub mod StepGives

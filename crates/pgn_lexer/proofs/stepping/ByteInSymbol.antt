@@ -1,0 +1,56 @@
+-- A byte in a symbol.
+use Rattle.std.proofs.Common.{◌≡◌, ℕ, ◌+◌, ◌<◌, ◌≤◌, Bool, true, false, List, [], ◌∷◌, ◌++◌, length, refl, ap, arith, length-append}
+use Rattle.std.specs.Prelude.{take_while, nat_lt, if◌then◌else◌}
+use Rattle.std.proofs.lemmas.Bool.{ltb-true, ltb-false, le-leb, lt-leb}
+use Rattle.pgn_lexer.specs.declared.token.LexReason.TheVariants.{SymbolTooLong}
+use Rattle.pgn_lexer.specs.declared.partial_token.Mode.TheVariants as modes
+use Rattle.pgn_lexer.specs.declared.partial_token.TokenForm.TheVariants as forms
+use Rattle.pgn_lexer.specs.Bytes.{continues_symbol}
+use Rattle.pgn_lexer.specs.Tokens.{symbol}
+use Rattle.pgn_lexer.specs.Spelling.{gives, stops, symbol_at}
+use Rattle.pgn_lexer.specs.TokensOf.{outside}
+use Rattle.pgn_lexer.specs.PartialToken.{PartialToken}
+use Rattle.pgn_lexer.specs.Taking.{into, grown, fails}
+use Rattle.pgn_lexer.specs.declared.partial_token.Step.TheVariants.{EndsBefore}
+use Rattle.pgn_lexer.proofs.stepping.RunOfBytes.{symbol_goes, symbol_ends, run_grows, run_breaks, run_ends, run_closes}
+use Rattle.pgn_lexer.proofs.stepping.StepGives.{Gives, front_of}
+
+pub symbol_fits : (at : ℕ) (run : List ℕ) → length run ≤ 255 → symbol_at at run ≡ gives (symbol run)
+symbol_fits at run fits = ap (λ c. if c then gives (symbol run) else stops at SymbolTooLong) (le-leb _ _ fits)
+
+pub symbol_long : (at : ℕ) (run : List ℕ) → 255 < length run → symbol_at at run ≡ stops at SymbolTooLong
+symbol_long at run long = ap (λ c. if c then gives (symbol run) else stops at SymbolTooLong) (lt-leb _ _ long)
+
+pub symbol_gives : (place at b : ℕ) (text : List ℕ) → length text ≤ 255 → 0 < length text → place ≡ at + length text → (c : Bool) → continues_symbol b ≡ c → (d : Bool) → nat_lt (length text) 255 ≡ d
+    → let h : PartialToken = record { mode = modes.Symbol; at = at; text = text } in
+    Gives (front_of place h b) (if c then (if d then grown h modes.Symbol b else fails h h.at SymbolTooLong) else into h modes.Outside (EndsBefore forms.Symbol))
+symbol_gives place at b text fits some began true e true room =
+    let short : length text < 255 = ltb-true _ _ room in
+    record {
+      sound = record { room = (omega (arith, length-append text (b ∷ [])), omega (arith, length-append text (b ∷ []))); placed = omega (arith, length-append text (b ∷ [])) };
+      going = tt;
+      comes = λ s. run_grows (symbol_at at) continues_symbol at b text s _ _ e (symbol_goes place b s e);
+    }
+symbol_gives place at b text fits some began true e false full =
+    let over : 255 ≤ length text = ltb-false _ _ full in
+    record {
+      sound = record { room = (fits, tt); placed = tt };
+      fails = refl;
+      comes = λ s. run_breaks (symbol_at at) continues_symbol at b text s _ at SymbolTooLong e
+          (symbol_long at (text ++ b ∷ take_while continues_symbol s) (omega (arith, length-append text (b ∷ take_while continues_symbol s))));
+    }
+symbol_gives place at b text fits some began false e d _ =
+    record {
+      sound = record { room = (fits, tt); placed = tt };
+      going = tt;
+      before = omega arith;
+      lengths = (some, fits);
+      ends_at = began;
+      runs = refl;
+      few = omega arith;
+      less = omega arith;
+      within = outside;
+      settled = λ s. refl;
+      comes = λ s. run_ends (symbol_at at) continues_symbol at b text s _ _ (symbol text) e (symbol_fits at text fits) (symbol_ends place b s e);
+      at_end = run_closes (symbol_at at) at text _ (symbol text) (symbol_fits at text fits);
+    }

@@ -1,0 +1,241 @@
+-- A run over a piece, byte by byte.
+use Rattle.std.proofs.Common.{◌≡◌, ℕ, zero, suc, ◌+◌, ◌*◌, ◌<◌, ◌≤◌, inl, inr, List, [], ◌∷◌, ◌++◌, length, get_or, take, drop, refl, sym, ap, subst, ◌∙◌, append_assoc, add-one, arith}
+use Rattle.std.specs.Prelude.{◌⊎◌, Bool, true, false, nat_lt, if◌then◌else◌}
+use Rattle.std.proofs.lemmas.Bool.{lt-ltb}
+use Rattle.std.proofs.lemmas.List.{take_all, take_more}
+use Rattle.std.proofs.Math.Seq.{drop-cons}
+use Rattle.pgn_lexer.specs.declared.token.LexFault.{LexFault}
+use Rattle.pgn_lexer.specs.declared.partial_token.Mode.{Mode}
+use Rattle.pgn_lexer.specs.declared.token.LexReason.TheVariants.{StringTooLong, SymbolTooLong, WordTooLong}
+use Rattle.pgn_lexer.specs.declared.class.Class.{Class}
+use Rattle.pgn_lexer.specs.declared.class.CommentClass.{CommentClass}
+use Rattle.pgn_lexer.specs.declared.class.CommentClass.TheVariants as comments
+use Rattle.pgn_lexer.specs.declared.class.StringClass.{StringClass}
+use Rattle.pgn_lexer.specs.declared.class.StringClass.TheVariants as strings
+use Rattle.pgn_lexer.specs.declared.partial_token.Mode.TheVariants.{LineStart, Outside, Symbol, Str, Brace, BraceWord, Failed}
+use Rattle.pgn_lexer.specs.declared.partial_token.TokenForm.TheVariants as forms
+use Rattle.pgn_lexer.specs.Bytes.{continues_symbol}
+use Rattle.pgn_lexer.specs.Spelling.{class, comment_class, string_class}
+use Rattle.pgn_lexer.specs.declared.partial_token.TokenForm.{TokenForm}
+use Rattle.pgn_lexer.specs.declared.partial_token.Step.{Step}
+use Rattle.pgn_lexer.specs.declared.partial_token.Step.TheVariants.{Used, Ends, EndsBefore, Fault}
+use Rattle.pgn_lexer.specs.Tokens.{EndsAt}
+use Rattle.pgn_lexer.specs.PartialToken.{PartialToken, tokens_to_come, kind_in, token_of, IsSound, IsGoing, pending, fault_of_mode, fault_met}
+use Rattle.pgn_lexer.specs.Taking.{begin, begin_line, brace, brace_word, string, fails, grown, into, symbol, after_byte, after_byte_in, IsAfterByte}
+use Rattle.pgn_lexer.specs.Running.{IsOutside, Ran, RunsOn, StoodAt, RunGives, RunsToToken, RunsToFault, used_after, found_after}
+use Rattle.pgn_lexer.specs.declared.partial_token.Found.TheVariants as found
+use Rattle.pgn_lexer.proofs.stepping.StepGives.{StepGives, Uses, EndsIn, EndsAhead, Fails, front_of}
+use Rattle.pgn_lexer.proofs.stepping.ByteGives.{step_gives}
+
+-- what a call that took a byte gives
+pub takes_gives : (place : ℕ) (h : PartialToken) (b : ℕ) (new : PartialToken) (answer : Step) → IsSound place h → IsAfterByte (after_byte place h b) new answer → StepGives (front_of place h b) new answer
+takes_gives place h b new answer sound t =
+    subst (λ n. StepGives (front_of place h b) n answer) (sym t.held)
+    (subst (λ step. StepGives (front_of place h b) (after_byte place h b).held step) (sym t.step) (step_gives place h b sound))
+
+-- a run that used nothing yet
+pub ran_none : (place : ℕ) (h : PartialToken) (piece : List ℕ) → IsSound place h → IsGoing h.mode → Ran place h piece h 0
+ran_none place h piece sound going =
+    let same : place ≡ place + 0 = omega arith in
+    record {
+      start = λ _. refl;
+      sound = subst (λ p. IsSound p h) same sound;
+      going = going;
+      fresh = going;
+      comes = λ s. ap (λ p. tokens_to_come p h s) same;
+    }
+
+-- a run that used the whole piece
+pub ran_all : (place : ℕ) (piece : List ℕ) (i : ℕ) (h new : PartialToken) (used : ℕ) → used ≡ length piece
+    → ((old : PartialToken) → Ran place old piece h i → Ran place old piece new used) → RunsOn place piece i h new used found.Nothing
+ran_all place piece i h new used all goes old ran =
+    let r : Ran place old piece new used = goes old ran in
+    record {
+      all = all;
+      fresh = r.fresh;
+      empty = λ none. r.start (all ∙ none);
+      sound = r.sound;
+      going = r.going;
+      comes = λ s. ap (λ l. tokens_to_come place old (l ++ s)) (sym (take_all used piece (omega (arith, all)))) ∙ r.comes s;
+    }
+
+going_on : (m : Mode) (f : LexFault) → IsGoing m → m ≡ Failed f → ⊥
+going_on m f going e = subst (λ m. IsGoing m) e going
+
+module _ (place : ℕ) (old : PartialToken) (piece : List ℕ) (h : PartialToken) (i b : ℕ) (here : i < length piece) (at_b : get_or piece i 0 ≡ b) (ran : Ran place old piece h i) where
+  -- with the byte
+  longer : (s : List ℕ) → tokens_to_come place old (take (i + 1) piece ++ s) ≡ tokens_to_come (place + i) h (b ∷ s)
+  longer s =
+      ap (λ l. tokens_to_come place old (l ++ s)) (take_more piece i 0 here)
+      ∙ ap (λ x. tokens_to_come place old ((take i piece ++ x ∷ []) ++ s)) at_b
+      ∙ ap (tokens_to_come place old) (append_assoc (take i piece) (b ∷ []) s) ∙ ran.comes (b ∷ s)
+
+  next_place : (place + i) + 1 ≡ place + (i + 1)
+  next_place = omega arith
+
+  standing : StoodAt place old piece i
+  standing = record { held = h; sound = ran.sound; going = ran.going; comes = ran.comes }
+
+  pub ran_uses : (new : PartialToken) → IsAfterByte (after_byte (place + i) h b) new Used → Ran place old piece new (i + 1)
+  ran_uses new t =
+      let g : Uses (front_of (place + i) h b) new = takes_gives (place + i) h b new Used ran.sound t in
+      record {
+        start = λ none. absurd (omega arith);
+        sound = subst (λ p. IsSound p new) next_place g.sound;
+        going = g.going;
+        fresh = ran.fresh;
+        comes = λ s. longer s ∙ g.comes s ∙ ap (λ p. tokens_to_come p new s) next_place;
+      }
+
+  pub ran_ends : (form : TokenForm) (new : PartialToken) → IsAfterByte (after_byte (place + i) h b) new (Ends form) → RunsToToken place old piece (token_of form new) new (i + 1)
+  ran_ends form new t =
+      let g : EndsIn (front_of (place + i) h b) form new = takes_gives (place + i) h b new (Ends form) ran.sound t in
+      let few : pending new ≤ 1 = g.few in
+      record {
+        within = omega arith;
+        some = omega arith;
+        fresh = ran.fresh;
+        sound = subst (λ p. IsSound p new) next_place g.sound;
+        going = g.going;
+        lengths = g.lengths;
+        ends_at = subst (EndsAt (kind_in form new.text) new.at) next_place g.ends_at;
+        before = subst (λ p. new.at < p) next_place g.before;
+        advances = omega arith;
+        ends = inl (record { some = omega arith; closed = g.closed; last = i; is_last = refl; stood = standing; comes = λ s. longer s ∙ g.comes s ∙ ap (λ p. token_of form new ∷ tokens_to_come p new s) next_place });
+      }
+
+  -- a token that took no byte was pending
+  moves : (new : PartialToken) → pending new ≤ 1 → pending new < pending h → (j : ℕ) → i ≡ j → pending new < 2 * j + pending old
+  moves new few less zero e =
+      let same : pending h ≡ pending old = ap pending (ran.start e) in
+      omega arith
+  moves new few less (suc j) e = omega arith
+
+  pub ran_ends_before : (form : TokenForm) (new : PartialToken) → IsAfterByte (after_byte (place + i) h b) new (EndsBefore form) → RunsToToken place old piece (token_of form new) new i
+  ran_ends_before form new t =
+      let g : EndsAhead (front_of (place + i) h b) form new = takes_gives (place + i) h b new (EndsBefore form) ran.sound t in
+      record {
+        within = omega arith;
+        some = omega arith;
+        fresh = ran.fresh;
+        sound = g.sound;
+        going = g.going;
+        lengths = g.lengths;
+        ends_at = g.ends_at;
+        before = g.before;
+        advances = moves new g.few g.less i refl;
+        ends = inr (record {
+          runs = g.runs;
+          stood = standing;
+          byte = b;
+          more = drop (i + 1) piece;
+          next = drop-cons piece i 0 here ∙ ap (λ x. x ∷ drop (suc i) piece) at_b ∙ ap (λ n. b ∷ drop n piece) (sym (add-one i));
+          within = g.within;
+          settled = g.settled;
+          comes = λ s. ran.comes (b ∷ s) ∙ g.comes s;
+          at_end = ran.comes [] ∙ g.at_end;
+        });
+      }
+
+  pub ran_fails : (f : LexFault) (new : PartialToken) → IsAfterByte (after_byte (place + i) h b) new (Fault f) → RunsToFault place old piece (fault_met new) new (i + 1)
+  ran_fails f new t =
+      let g : Fails (front_of (place + i) h b) f new = takes_gives (place + i) h b new (Fault f) ran.sound t in
+      subst (λ f. RunsToFault place old piece f new (i + 1)) (sym (ap (λ m. fault_of_mode m new.at) g.fails))
+      (record {
+        within = omega arith;
+        sound = subst (λ p. IsSound p new) next_place g.sound;
+        fails = g.fails;
+        stays = λ f' e. absurd (going_on old.mode f' ran.fresh e);
+        some = λ _. omega arith;
+        comes = λ s. longer s ∙ g.comes s;
+      })
+
+  pub ran_stops : (answer : Step) (new : PartialToken) → (answer ≡ Used → ⊥) → IsAfterByte (after_byte (place + i) h b) new answer → RunGives place old piece new (used_after answer i) (found_after answer)
+  ran_stops Used new other t = absurd (other refl)
+  ran_stops (Ends form) new other t = ran_ends form new t
+  ran_stops (EndsBefore form) new other t = ran_ends_before form new t
+  ran_stops (Fault f) new other t = ran_fails f new t
+
+-- a byte in a symbol
+pub takes_symbol : (place b : ℕ) (h new : PartialToken) (answer : Step) → h.mode ≡ Symbol → IsAfterByte (symbol h b) new answer → IsAfterByte (after_byte place h b) new answer
+unfolding after_byte
+takes_symbol place b h new answer e t = subst (λ m. IsAfterByte (after_byte_in m place h b) new answer) (sym e) t
+
+symbol_goes_on : (h new : PartialToken) (b : ℕ) (c d : Bool)
+    → IsAfterByte (if c then (if d then grown h Symbol b else fails h h.at SymbolTooLong) else into h Outside (EndsBefore forms.Symbol)) new Used → new.mode ≡ Symbol
+symbol_goes_on h new b true true t = ap (λ (h : PartialToken). h.mode) t.held
+symbol_goes_on h new b true false t = let e : Used ≡ Fault (record { at = h.at; reason = SymbolTooLong }) = t.step in absurd (cc)
+symbol_goes_on h new b false d t = let e : Used ≡ EndsBefore forms.Symbol = t.step in absurd (cc)
+
+pub still_symbol : (h new : PartialToken) (b : ℕ) → IsAfterByte (symbol h b) new Used → new.mode ≡ Symbol
+still_symbol h new b t = symbol_goes_on h new b (continues_symbol b) (nat_lt (length h.text) 255) t
+
+-- a byte between tokens
+taken_outside : (m : Mode) (place at b : ℕ) (text : List ℕ) (c : Class) → IsOutside m → class b ≡ c
+    → let h : PartialToken = record { mode = m; at = at; text = text } in
+    begin_line place h b c ≡ begin place h b c → after_byte_in m place h b ≡ begin place h b c
+taken_outside LineStart place at b text c outside e same = ap (begin_line place (record { mode = LineStart; at = at; text = text }) b) e ∙ same
+taken_outside Outside place at b text c outside e same = ap (begin place (record { mode = Outside; at = at; text = text }) b) e
+taken_outside _ place at b text c outside e same = absurd outside
+
+pub takes_outside : (place b : ℕ) (h new : PartialToken) (answer : Step) (c : Class) → IsOutside h.mode → class b ≡ c → begin_line place h b c ≡ begin place h b c
+    → IsAfterByte (begin place h b c) new answer → IsAfterByte (after_byte place h b) new answer
+unfolding after_byte
+takes_outside place b h new answer c outside e same t = subst (λ x. IsAfterByte x new answer) (sym (taken_outside h.mode place h.at b h.text c outside e same)) t
+
+-- no rejection was met, in any other mode
+pub unless_failed : (m : Mode) → ((f : LexFault) → m ≡ Failed f → ⊥) → IsGoing m
+unless_failed (Failed f) other = other f refl
+unless_failed _ other = tt
+
+pub in_mode : (m n : Mode) → IsGoing n → m ≡ n → IsGoing m
+in_mode m n going e = subst (λ m. IsGoing m) (sym e) going
+
+pub between_tokens : (m : Mode) → (m ≡ LineStart) ⊎ (m ≡ Outside) → IsGoing m
+between_tokens m (inl e) = subst (λ m. IsGoing m) (sym e) tt
+between_tokens m (inr e) = subst (λ m. IsGoing m) (sym e) tt
+
+-- a byte in a string
+taken_string : (place b : ℕ) (h : PartialToken) (c : StringClass) → h.mode ≡ Str → string_class b ≡ c → after_byte place h b ≡ string place h b c
+unfolding after_byte
+taken_string place b h c e same = ap (λ m. after_byte_in m place h b) e ∙ ap (string place h b) same
+
+pub takes_plain : (place b : ℕ) (h new : PartialToken) → h.mode ≡ Str → string_class b ≡ strings.Plain → length h.text < 255 → new ≡ record { mode = h.mode; at = h.at; text = h.text ++ b ∷ [] }
+    → IsAfterByte (after_byte place h b) new Used
+takes_plain place b h new e same room grows =
+    subst (λ t. IsAfterByte t new Used) (sym (taken_string place b h strings.Plain e same ∙ ap (λ d. if d then grown h Str b else fails h h.at StringTooLong) (lt-ltb _ _ room)))
+    (record { held = grows ∙ ap (λ m. record { mode = m; at = h.at; text = h.text ++ b ∷ [] }) e; step = refl })
+
+pub takes_quote : (place b : ℕ) (h new : PartialToken) → h.mode ≡ Str → string_class b ≡ strings.Quote → new ≡ record { mode = Outside; at = h.at; text = h.text }
+    → IsAfterByte (after_byte place h b) new (Ends forms.Str)
+takes_quote place b h new e same ends =
+    subst (λ t. IsAfterByte t new (Ends forms.Str)) (sym (taken_string place b h strings.Quote e same)) (record { held = ends; step = refl })
+
+-- a byte between the words of a comment in braces
+pub takes_brace : (place b : ℕ) (h new : PartialToken) (answer : Step) (c : CommentClass) → h.mode ≡ Brace → comment_class b ≡ c → IsAfterByte (brace place h b c) new answer → IsAfterByte (after_byte place h b) new answer
+unfolding after_byte
+takes_brace place b h new answer c e same t = subst (λ x. IsAfterByte x new answer) (sym (ap (λ m. after_byte_in m place h b) e ∙ ap (brace place h b) same)) t
+
+pub takes_gap : (place b : ℕ) (h new : PartialToken) (c : CommentClass) → h.mode ≡ Brace → comment_class b ≡ c → (c ≡ comments.LineEnd) ⊎ (c ≡ comments.Space)
+    → new ≡ record { mode = Brace; at = place; text = h.text } → IsAfterByte (after_byte place h b) new Used
+takes_gap place b h new c e same (inl gap) goes = takes_brace place b h new Used comments.LineEnd e (same ∙ gap) (record { held = goes; step = refl })
+takes_gap place b h new c e same (inr gap) goes = takes_brace place b h new Used comments.Space e (same ∙ gap) (record { held = goes; step = refl })
+
+-- and in a word of it
+pub takes_word : (place b : ℕ) (h new : PartialToken) (answer : Step) → h.mode ≡ BraceWord → IsAfterByte (brace_word h b (comment_class b)) new answer → IsAfterByte (after_byte place h b) new answer
+unfolding after_byte
+takes_word place b h new answer e t = subst (λ m. IsAfterByte (after_byte_in m place h b) new answer) (sym e) t
+
+word_goes_on : (h new : PartialToken) (b : ℕ) (d : Bool) → IsAfterByte (if d then grown h BraceWord b else fails h h.at WordTooLong) new Used → new.mode ≡ BraceWord
+word_goes_on h new b true t = ap (λ (h : PartialToken). h.mode) t.held
+word_goes_on h new b false t = let e : Used ≡ Fault (record { at = h.at; reason = WordTooLong }) = t.step in absurd (cc)
+
+still_in : (h new : PartialToken) (b : ℕ) (c : CommentClass) → IsAfterByte (brace_word h b c) new Used → new.mode ≡ BraceWord
+still_in h new b comments.WordByte t = word_goes_on h new b (nat_lt (length h.text) 79) t
+still_in h new b comments.LineEnd t = let e : Used ≡ EndsBefore forms.Word = t.step in absurd (cc)
+still_in h new b comments.Space t = let e : Used ≡ EndsBefore forms.Word = t.step in absurd (cc)
+still_in h new b comments.CloseBrace t = let e : Used ≡ EndsBefore forms.Word = t.step in absurd (cc)
+still_in h new b comments.Control t = let e : Used ≡ EndsBefore forms.Word = t.step in absurd (cc)
+
+pub still_word : (h new : PartialToken) (b : ℕ) → IsAfterByte (brace_word h b (comment_class b)) new Used → new.mode ≡ BraceWord
+still_word h new b t = still_in h new b (comment_class b) t

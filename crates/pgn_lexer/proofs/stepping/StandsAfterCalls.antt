@@ -1,0 +1,324 @@
+-- A call carries how the lexer stands.
+use Rattle.std.proofs.Common.{◌≡◌, ◌-◌, Bool, true, false, ℕ, zero, suc, ◌+◌, ◌<◌, ◌≤◌, inl, inr, List, [], ◌∷◌, ◌++◌, length, take, drop, refl, sym, ap, subst, ◌∙◌, append_assoc, arith, length-append, length-take-le, take-append-drop}
+use Rattle.std.specs.Prelude.{Option, None, Some, take_while, nat_lt, ◌⊎◌}
+use Rattle.std.specs.List.{AllByRecursion}
+use Rattle.pgn_lexer.specs.declared.token.LexFault.{LexFault}
+use Rattle.pgn_lexer.specs.declared.partial_token.Mode.{Mode}
+use Rattle.pgn_lexer.specs.declared.partial_token.Mode.TheVariants as modes
+use Rattle.pgn_lexer.specs.Tokens.{Token, is_run}
+use Rattle.pgn_lexer.specs.TokensOf.{tokens_of}
+use Rattle.pgn_lexer.specs.Decided.{decided, known}
+use Rattle.pgn_lexer.specs.declared.partial_token.TokenForm.{TokenForm}
+use Rattle.pgn_lexer.specs.PartialToken.{PartialToken, tokens_to_come, token_of, kind_in, refusal, IsGoing}
+use Rattle.pgn_lexer.specs.Running.{RunsOut, StoodAt, EndsWithByte, EndsBeforeByte, RunsToToken, RunsToFault}
+use Rattle.pgn_lexer.specs.Scanned.{Scanned, more, token, fault}
+use Rattle.pgn_lexer.specs.Standing.{Standing, fault_in_mode, fault_of}
+use Rattle.pgn_lexer.specs.Stands.{Follows, first, still, StandsAfter, IsDecided, EndsNoSooner, Scans}
+use Rattle.pgn_lexer.proofs.deciding.GivenAreDecided.{common_of, decided_is, going_decides, known_decides}
+use Rattle.pgn_lexer.proofs.deciding.CommonTokens.{common_front}
+use Rattle.pgn_lexer.proofs.cutting.PlacesOfTokens.{AllFrom, tokens_from-from, all_from-front, take_before}
+
+-- what may follow the front of a piece
+follows_front : (b : Option ℕ) (piece s : List ℕ) (used : ℕ) → 0 < length piece → Follows b piece → Follows (first (drop used piece)) s → Follows b (take used piece ++ s)
+follows_front None piece s used some starts goes = tt
+follows_front (Some b) [] s used some starts goes = absurd (omega arith)
+follows_front (Some b) (c ∷ piece) [] zero some starts goes = tt
+follows_front (Some b) (c ∷ piece) (d ∷ s) zero some starts goes = goes ∙ starts
+follows_front (Some b) (c ∷ piece) s (suc used) some starts goes = starts
+
+-- and of a whole one
+follows_piece : (b : Option ℕ) (piece s : List ℕ) → Follows b piece → Follows (still b piece) s → Follows b (piece ++ s)
+follows_piece None piece s starts goes = tt
+follows_piece (Some b) [] s starts goes = goes
+follows_piece (Some b) (c ∷ piece) s starts goes = starts
+
+still_none : (b : Option ℕ) (piece : List ℕ) → 0 < length piece → still b piece ≡ None
+still_none b [] some = absurd (omega arith)
+still_none b (c ∷ piece) some = refl
+
+follows_none : (o : Option ℕ) (s : List ℕ) → o ≡ None → Follows o s
+follows_none o s e = subst (λ o. Follows o s) (sym e) tt
+
+follows_taken : (b : Option ℕ) (piece s : List ℕ) (used : ℕ) → 0 < length piece → 0 < used → Follows b piece → Follows b (take used piece ++ s)
+follows_taken None piece s used some positive starts = tt
+follows_taken (Some b) [] s used some positive starts = absurd (omega arith)
+follows_taken (Some b) (c ∷ piece) s zero some positive starts = absurd (omega arith)
+follows_taken (Some b) (c ∷ piece) s (suc used) some positive starts = starts
+
+-- a piece, cut
+cut : (used : ℕ) (piece s : List ℕ) → piece ++ s ≡ take used piece ++ (drop used piece ++ s)
+cut used piece s = ap (λ l. l ++ s) (sym (take-append-drop used piece)) ∙ append_assoc (take used piece) (drop used piece) s
+
+-- no rejection was met
+pub going_fault : (m : Mode) → IsGoing m → fault_in_mode m ≡ None
+going_fault modes.Start going = refl
+going_fault modes.AfterEf going = refl
+going_fault modes.AfterEfBb going = refl
+going_fault modes.LineStart going = refl
+going_fault modes.Outside going = refl
+going_fault modes.Escape going = refl
+going_fault modes.Symbol going = refl
+going_fault modes.Str going = refl
+going_fault modes.AfterBackslash going = refl
+going_fault modes.Dollar going = refl
+going_fault (modes.Glyph n) going = refl
+going_fault (modes.Suffix run) going = refl
+going_fault modes.Brace going = refl
+going_fault modes.BraceWord going = refl
+going_fault modes.Line going = refl
+going_fault modes.LineWord going = refl
+going_fault (modes.Failed f) going = absurd going
+
+pub failed_mode : (m : Mode) (f : LexFault) → fault_in_mode m ≡ Some f → m ≡ modes.Failed f
+failed_mode (modes.Failed g) f e = cc
+failed_mode modes.Start f e = cc
+failed_mode modes.AfterEf f e = cc
+failed_mode modes.AfterEfBb f e = cc
+failed_mode modes.LineStart f e = cc
+failed_mode modes.Outside f e = cc
+failed_mode modes.Escape f e = cc
+failed_mode modes.Symbol f e = cc
+failed_mode modes.Str f e = cc
+failed_mode modes.AfterBackslash f e = cc
+failed_mode modes.Dollar f e = cc
+failed_mode (modes.Glyph n) f e = cc
+failed_mode (modes.Suffix run) f e = cc
+failed_mode modes.Brace f e = cc
+failed_mode modes.BraceWord f e = cc
+failed_mode modes.Line f e = cc
+failed_mode modes.LineWord f e = cc
+
+-- a mode is going, or failed
+going_or_failed : (m : Mode) → IsGoing m ⊎ ((f : LexFault) × (m ≡ modes.Failed f))
+going_or_failed (modes.Failed f) = inr (f, refl)
+going_or_failed modes.Start = inl tt
+going_or_failed modes.AfterEf = inl tt
+going_or_failed modes.AfterEfBb = inl tt
+going_or_failed modes.LineStart = inl tt
+going_or_failed modes.Outside = inl tt
+going_or_failed modes.Escape = inl tt
+going_or_failed modes.Symbol = inl tt
+going_or_failed modes.Str = inl tt
+going_or_failed modes.AfterBackslash = inl tt
+going_or_failed modes.Dollar = inl tt
+going_or_failed (modes.Glyph n) = inl tt
+going_or_failed (modes.Suffix run) = inl tt
+going_or_failed modes.Brace = inl tt
+going_or_failed modes.BraceWord = inl tt
+going_or_failed modes.Line = inl tt
+going_or_failed modes.LineWord = inl tt
+
+-- tokens before a place are before a later one
+before_more : (m n : ℕ) (ts : List Token) → m ≤ n → AllByRecursion (λ t. t.at < m) ts → AllByRecursion (λ t. t.at < n) ts
+before_more m n [] less all = tt
+before_more m n (t ∷ ts) less all = let here : t.at < m = all.0 in (omega arith, before_more m n ts less all.1)
+
+before_one : (n : ℕ) (ts : List Token) (t : Token) → AllByRecursion (λ t. t.at < n) ts → t.at < n → AllByRecursion (λ t. t.at < n) (ts ++ t ∷ [])
+before_one n [] t all here = (here, tt)
+before_one n (u ∷ ts) t all here = (all.0, before_one n ts t all.1 here)
+
+-- what is known with the byte that comes, where a lexer stands between tokens before it
+known_is : (u : List ℕ) (b : ℕ) (given : List Token) (comes : List ℕ → List Token) → AllByRecursion (λ t. t.at < length u) given
+    → AllFrom (length u) (comes (b ∷ [])) → ((s : List ℕ) → tokens_of (u ++ b ∷ s) ≡ given ++ comes (b ∷ s)) → given ≡ known u b
+known_is u b given comes before from tokens =
+    let later : List ℕ → List Token = λ s. comes (b ∷ s) in
+    let all : decided (u ++ b ∷ []) ≡ given ++ common_of (later []) (later (49 ∷ [])) (later (33 ∷ [])) (later (34 ∷ 34 ∷ [])) (later (191 ∷ [])) (later (187 ∷ 191 ∷ [])) =
+    decided_is given (u ++ b ∷ []) later (λ s. ap tokens_of (append_assoc u (b ∷ []) s) ∙ tokens s) in
+    let front = common_front (later []) _ in
+    sym (ap (take_while (λ t. nat_lt t.at (length u))) all
+    ∙ take_before (length u) given _ before (all_from-front (length u) _ front.0 (subst (AllFrom (length u)) front.1 from)))
+
+module _ (count : ℕ) (old new : PartialToken) (piece : List ℕ) (used : ℕ) where
+  abbrev from_standing : Standing
+  from_standing = record { count = count; held = old }
+
+  abbrev to_standing : Standing
+  to_standing = record { count = count + used; held = new }
+
+  pub scans_nothing : RunsOut count old piece new used → Scans from_standing piece to_standing used more
+  scans_nothing h =
+      record {
+        count = refl;
+        advances = tt;
+        reads = (h.all, h.comes);
+        lengths = tt;
+        ends = tt;
+        refused = going_fault new.mode h.going;
+        empty = λ none. (same none, inl refl);
+        stays = λ f failed. absurd (stuck f failed);
+        carries = λ u b given stands starts.
+            let after : StandsAfter to_standing (u ++ piece) (still b piece) given =
+            record {
+              count = omega (arith, h.all, stands.count, length-append u piece);
+              before = before_more (length u) (length (u ++ piece)) given (omega (arith, length-append u piece)) stands.before;
+              tokens = λ s goes. ap tokens_of (append_assoc u piece s) ∙ stands.tokens (piece ++ s) (follows_piece b piece s starts goes) ∙ ap (λ l. given ++ l) (h.comes s);
+            } in
+            (h.all, after, λ some. going_decides (count + used) new (u ++ piece) given h.sound h.going (λ s. after.tokens s (follows_none _ s (still_none b piece some))));
+      }
+    where
+      same : length piece ≡ 0 → to_standing ≡ from_standing
+      same none =
+          let here : count + used ≡ count = omega (arith, h.all) in
+          ap (λ n. record { count = n; held = new }) here ∙ ap (λ held. record { count = count; held = held }) (h.empty none)
+
+      stuck : (f : LexFault) → fault_of from_standing ≡ Some f → ⊥
+      stuck f failed = let none : fault_of from_standing ≡ None = going_fault old.mode h.fresh in cc
+
+  pub scans_fault : (f : LexFault) → RunsToFault count old piece f new used → Scans from_standing piece to_standing used (fault f)
+  scans_fault f h =
+      record {
+        count = refl;
+        advances = tt;
+        reads = whole;
+        lengths = tt;
+        ends = tt;
+        refused = ap fault_in_mode h.fails;
+        empty = λ none. nothing none (going_or_failed old.mode);
+        stays = λ g failed. stuck g (h.stays g (failed_mode old.mode g failed));
+        carries = λ u b given stands starts. (
+          λ s goes. comes u b given stands s (follows_piece b piece s starts goes),
+          λ some. known_decides (u ++ piece) given (refusal f ∷ [])
+              (λ s. comes u b given stands s (follows_piece b piece s starts (follows_none _ s (still_none b piece some)))),
+        );
+      }
+    where
+      whole : (s : List ℕ) → tokens_to_come count old (piece ++ s) ≡ refusal f ∷ []
+      whole s = ap (tokens_to_come count old) (cut used piece s) ∙ h.comes (drop used piece ++ s)
+
+      comes : (u : List ℕ) (b : Option ℕ) (given : List Token) → StandsAfter from_standing u b given → (s : List ℕ) → Follows b (piece ++ s)
+          → tokens_of ((u ++ piece) ++ s) ≡ given ++ refusal f ∷ []
+      comes u b given stands s goes = ap tokens_of (append_assoc u piece s) ∙ stands.tokens (piece ++ s) goes ∙ ap (λ l. given ++ l) (whole s)
+
+      stuck : (g : LexFault) → (used ≡ 0) × (f ≡ g) × (new ≡ old) → (used ≡ 0) × (fault f ≡ fault g) × (to_standing ≡ from_standing)
+      stuck g same =
+          let here : count + used ≡ count = omega (arith, same.0) in
+          (same.0, ap fault same.1, ap (λ n. record { count = n; held = new }) here ∙ ap (λ held. record { count = count; held = held }) same.2)
+
+      nothing : length piece ≡ 0 → IsGoing old.mode ⊎ ((g : LexFault) × (old.mode ≡ modes.Failed g))
+          → (to_standing ≡ from_standing) × ((fault f ≡ more) ⊎ ((g : LexFault) × (fault_of from_standing ≡ Some g)))
+      nothing none (inl going) = let some : 0 < length piece = h.some going in absurd (omega arith)
+      nothing none (inr failed) = ((stuck failed.0 (h.stays failed.0 failed.1)).2, inr (failed.0, ap fault_in_mode failed.1))
+
+abbrev ahead : ℕ → PartialToken → Standing
+ahead count old = record { count = count; held = old }
+
+abbrev behind : ℕ → PartialToken → ℕ → Standing
+behind count new used = record { count = count + used; held = new }
+
+module _ (count : ℕ) (old new : PartialToken) (piece : List ℕ) (used : ℕ) (t : Token) (h : RunsToToken count old piece t new used) where
+  reads_token : EndsWithByte count old piece (take used piece) t new used ⊎ EndsBeforeByte count old piece (take used piece) (drop used piece) t new used
+      → (s : List ℕ) → tokens_to_come count old (piece ++ s) ≡ t ∷ tokens_to_come (count + used) new (drop used piece ++ s)
+  reads_token (inl e) s = ap (tokens_to_come count old) (cut used piece s) ∙ e.comes (drop used piece ++ s)
+  reads_token (inr e) s =
+      ap (tokens_to_come count old) (cut used piece s) ∙ ap (λ rest. tokens_to_come count old (take used piece ++ (rest ++ s))) e.next
+      ∙ e.comes (e.more ++ s) ∙ ap (λ rest. t ∷ tokens_to_come (count + used) new (rest ++ s)) (sym e.next)
+
+  module _ (u : List ℕ) (b : Option ℕ) (given : List Token) (stands : StandsAfter (ahead count old) u b given) (starts : Follows b piece) where
+    -- the bytes used so far
+    abbrev u' : List ℕ
+    u' = u ++ take used piece
+
+    long : count + used ≡ length u'
+    long = omega (arith, stands.count, length-append u (take used piece), length-take-le used piece h.within)
+
+    before' : AllByRecursion (λ t. t.at < length u') (given ++ t ∷ [])
+    before' =
+        let less : length u ≤ length u' = omega (arith, length-append u (take used piece)) in
+        before_one (length u') given t (before_more (length u) (length u') given less stands.before) (subst (λ n. t.at < n) long h.before)
+
+    with_token : (s : List ℕ) → Follows b (take used piece ++ s) → tokens_to_come count old (take used piece ++ s) ≡ t ∷ tokens_to_come (count + used) new s
+        → tokens_of (u' ++ s) ≡ (given ++ t ∷ []) ++ tokens_to_come (count + used) new s
+    with_token s goes comes =
+        ap tokens_of (append_assoc u (take used piece) s) ∙ stands.tokens (take used piece ++ s) goes
+        ∙ ap (λ l. given ++ l) comes ∙ sym (append_assoc given (t ∷ []) (tokens_to_come (count + used) new s))
+
+    -- where no token had ended, no more was decided
+    stood_decides : (i : ℕ) → 0 < i → StoodAt count old piece i → given ≡ decided (u ++ take i piece)
+    stood_decides i some e =
+        going_decides (count + i) e.held (u ++ take i piece) given e.sound e.going
+        (λ s. ap tokens_of (append_assoc u (take i piece) s) ∙ stands.tokens (take i piece ++ s) (follows_taken b piece s i h.some some starts) ∙ ap (λ l. given ++ l) (e.comes s))
+
+    no_sooner_closed : (k : Bool) → k ≡ false → (last : ℕ) → used ≡ last + 1 → StoodAt count old piece last → EndsNoSooner k u piece used given
+    no_sooner_closed true e last is_last stood = absurd (cc)
+    no_sooner_closed false e last is_last stood =
+        λ some.
+        let here : used - 1 ≡ last = omega arith in
+        stood_decides last (omega arith) stood ∙ ap (λ n. decided (u ++ take n piece)) (sym here)
+
+    no_sooner_run : (k : Bool) → k ≡ true → StoodAt count old piece used → EndsNoSooner k u piece used given
+    no_sooner_run true e stood = λ some. stood_decides used some stood
+    no_sooner_run false e stood = absurd (cc)
+
+    -- the token ended with the last byte used
+    with_byte : EndsWithByte count old piece (take used piece) t new used
+        → StandsAfter (behind count new used) u' (first (drop used piece)) (given ++ t ∷ []) × IsDecided u' (drop used piece) (given ++ t ∷ []) × EndsNoSooner (is_run t.kind) u piece used given
+    with_byte e =
+        let tokens : (s : List ℕ) → tokens_of (u' ++ s) ≡ (given ++ t ∷ []) ++ tokens_to_come (count + used) new s =
+        λ s. with_token s (follows_taken b piece s used h.some e.some starts) (e.comes s) in (
+          record { count = long; before = before'; tokens = λ s goes. tokens s },
+          inl (going_decides (count + used) new u' (given ++ t ∷ []) h.sound h.going tokens),
+          no_sooner_closed (is_run t.kind) e.closed e.last e.is_last e.stood,
+        )
+
+    -- or before a byte that was not used
+    next_comes : (e : EndsBeforeByte count old piece (take used piece) (drop used piece) t new used) (s : List ℕ) → Follows (Some e.byte) s
+        → tokens_to_come count old (take used piece ++ s) ≡ t ∷ tokens_to_come (count + used) new s
+    next_comes e [] goes = e.at_end
+    next_comes e (c ∷ s) goes = subst (λ x. tokens_to_come count old (take used piece ++ x ∷ s) ≡ t ∷ tokens_to_come (count + used) new (x ∷ s)) (sym goes) (e.comes s)
+
+    ahead_of_byte : EndsBeforeByte count old piece (take used piece) (drop used piece) t new used
+        → StandsAfter (behind count new used) u' (first (drop used piece)) (given ++ t ∷ []) × IsDecided u' (drop used piece) (given ++ t ∷ []) × EndsNoSooner (is_run t.kind) u piece used given
+    ahead_of_byte e =
+        let tokens : (s : List ℕ) → Follows (first (drop used piece)) s → tokens_of (u' ++ s) ≡ (given ++ t ∷ []) ++ tokens_to_come (count + used) new s =
+        λ s goes. with_token s (follows_front b piece s used h.some starts goes) (next_comes e s (subst (λ rest. Follows (first rest) s) e.next goes)) in
+        let from : AllFrom (length u') (tokens_to_come (count + used) new (e.byte ∷ [])) =
+        subst (λ n. AllFrom n (tokens_to_come (count + used) new (e.byte ∷ []))) long
+        (subst (AllFrom (count + used)) (sym (e.settled (e.byte ∷ []))) (tokens_from-from (count + used) e.within (e.byte ∷ []))) in (
+          record { count = long; before = before'; tokens = tokens },
+          inr (
+            e.byte,
+            ap first e.next,
+            known_is u' e.byte (given ++ t ∷ []) (tokens_to_come (count + used) new) before' from
+                (λ s. tokens (e.byte ∷ s) (subst (λ rest. Follows (first rest) (e.byte ∷ s)) (sym e.next) refl)),
+          ),
+          no_sooner_run (is_run t.kind) e.runs e.stood,
+        )
+
+    carries_token : EndsWithByte count old piece (take used piece) t new used ⊎ EndsBeforeByte count old piece (take used piece) (drop used piece) t new used
+        → StandsAfter (behind count new used) u' (first (drop used piece)) (given ++ t ∷ []) × IsDecided u' (drop used piece) (given ++ t ∷ []) × EndsNoSooner (is_run t.kind) u piece used given
+    carries_token (inl e) = with_byte e
+    carries_token (inr e) = ahead_of_byte e
+
+  no_fault : (f : LexFault) → fault_of (ahead count old) ≡ Some f → ⊥
+  no_fault f failed = let none : fault_of (ahead count old) ≡ None = going_fault old.mode h.fresh in cc
+
+  pub scans_token : Scans (ahead count old) piece (behind count new used) used (token t)
+  scans_token =
+      record {
+        count = refl;
+        advances = h.advances;
+        reads = reads_token h.ends;
+        lengths = h.lengths;
+        ends = h.ends_at;
+        refused = going_fault new.mode h.going;
+        empty = λ none. let some : 0 < length piece = h.some in absurd (omega arith);
+        stays = λ f failed. absurd (no_fault f failed);
+        carries = λ u b given stands starts. carries_token u b given stands starts h.ends;
+      }
+
+pub same_parts : (i j : Token) → i.at ≡ j.at → i.kind ≡ j.kind → i ≡ j
+same_parts i j at kind = ap (λ n. record { at = n; kind = i.kind }) at ∙ ap (λ k. record { at = j.at; kind = k }) kind
+
+pub scans_form : (count : ℕ) (old new : PartialToken) (piece : List ℕ) (used : ℕ) (form : TokenForm) (t : Token) → t.at ≡ new.at → t.kind ≡ kind_in form new.text
+    → RunsToToken count old piece (token_of form new) new used → Scans (ahead count old) piece (behind count new used) used (token t)
+scans_form count old new piece used form t at kind h =
+    subst (λ t. Scans (ahead count old) piece (behind count new used) used (token t)) (sym (same_parts t (token_of form new) at kind))
+    (scans_token count old new piece used (token_of form new) h)
+
+-- what is said of one view of a lexer, of the other
+pub scans_of : (old old' new : Standing) (piece : List ℕ) (used : ℕ) (seen : Scanned) → old ≡ old' → Scans old piece new used seen → Scans old' piece new used seen
+scans_of old old' new piece used seen e = subst (λ (l : Standing). Scans l piece new used seen) e
+
+pub scans_told : (count : ℕ) (old new : PartialToken) (piece : List ℕ) (used : ℕ) (f g : LexFault) → f ≡ g → RunsToFault count old piece g new used
+    → Scans (ahead count old) piece (behind count new used) used (fault f)
+scans_told count old new piece used f g same h = scans_fault count old new piece used f (subst (λ f. RunsToFault count old piece f new used) (sym same) h)

@@ -1,0 +1,71 @@
+-- What a step must give, of the tokens that come.
+use Rattle.std.proofs.Common.{◌≡◌, ℕ, ◌+◌, ◌<◌, ◌≤◌, List, [], ◌∷◌, true, false}
+use Rattle.pgn_lexer.specs.declared.token.LexFault.{LexFault}
+use Rattle.pgn_lexer.specs.declared.partial_token.Mode.TheVariants.{Failed}
+use Rattle.pgn_lexer.specs.declared.partial_token.TokenForm.{TokenForm}
+use Rattle.pgn_lexer.specs.declared.partial_token.Step.{Step}
+use Rattle.pgn_lexer.specs.declared.partial_token.Step.TheVariants.{Used, Ends, EndsBefore, Fault}
+use Rattle.pgn_lexer.specs.Tokens.{Token, HasLength, EndsAt, is_run}
+use Rattle.pgn_lexer.specs.TokensOf.{Within, tokens_from}
+use Rattle.pgn_lexer.specs.PartialToken.{PartialToken, tokens_to_come, kind_in, token_of, refusal, IsSound, IsGoing, pending}
+use Rattle.pgn_lexer.specs.Taking.{AfterByte}
+
+-- What comes from a byte b at the place: `front s` where s follows b, and `ended` where the text
+-- ends before b; `waits` tokens at most came with no byte more.
+pub record Front : Type 0 where
+  pub place : ℕ
+  pub byte : ℕ
+  pub front : List ℕ → List Token
+  pub ended : List Token
+  pub waits : ℕ
+
+-- the byte is used, and no token ends
+pub record Uses (f : Front) (new : PartialToken) : Type 0 where
+  pub sound : IsSound (f.place + 1) new
+  pub going : IsGoing new.mode
+  pub comes : (s : List ℕ) → f.front s ≡ tokens_to_come (f.place + 1) new s
+
+-- a token ends with the byte
+pub record EndsIn (f : Front) (form : TokenForm) (new : PartialToken) : Type 0 where
+  pub sound : IsSound (f.place + 1) new
+  pub going : IsGoing new.mode
+  pub before : new.at < f.place + 1
+  pub lengths : HasLength (kind_in form new.text)
+  pub ends_at : EndsAt (kind_in form new.text) new.at (f.place + 1)
+  pub closed : is_run (kind_in form new.text) ≡ false
+  pub few : pending new ≤ 1
+  pub comes : (s : List ℕ) → f.front s ≡ token_of form new ∷ tokens_to_come (f.place + 1) new s
+
+-- a token ends before the byte
+pub record EndsAhead (f : Front) (form : TokenForm) (new : PartialToken) : Type 0 where
+  pub sound : IsSound f.place new
+  pub going : IsGoing new.mode
+  pub before : new.at < f.place
+  pub lengths : HasLength (kind_in form new.text)
+  pub ends_at : EndsAt (kind_in form new.text) new.at f.place
+  pub runs : is_run (kind_in form new.text) ≡ true
+  pub few : pending new ≤ 1
+  pub less : pending new < f.waits
+  pub within : Within
+  pub settled : (s : List ℕ) → tokens_to_come f.place new s ≡ tokens_from f.place within s
+  pub comes : (s : List ℕ) → f.front s ≡ token_of form new ∷ tokens_to_come f.place new (f.byte ∷ s)
+  pub at_end : f.ended ≡ token_of form new ∷ tokens_to_come f.place new []
+
+-- the byte is rejected
+pub record Fails (f : Front) (fault : LexFault) (new : PartialToken) : Type 0 where
+  pub sound : IsSound (f.place + 1) new
+  pub fails : new.mode ≡ Failed fault
+  pub comes : (s : List ℕ) → f.front s ≡ refusal fault ∷ []
+
+abbrev pub StepGives : Front → PartialToken → Step → Type 0
+StepGives f new Used = Uses f new
+StepGives f new (Ends form) = EndsIn f form new
+StepGives f new (EndsBefore form) = EndsAhead f form new
+StepGives f new (Fault fault) = Fails f fault new
+
+abbrev pub Gives : Front → AfterByte → Type 0
+Gives f t = StepGives f t.held t.step
+
+-- what comes from a byte, of a lexer that holds h
+abbrev pub front_of : ℕ → PartialToken → ℕ → Front
+front_of place h b = record { place = place; byte = b; front = λ s. tokens_to_come place h (b ∷ s); ended = tokens_to_come place h []; waits = pending h }

@@ -1,0 +1,137 @@
+-- **Bookkeeping**: what a lexer holds of the current token, and the tokens that it still gives.
+-- Letters: h is what is held, s the bytes that come. `place` is the number of bytes used, `at` the
+-- place of the current token, `text` its bytes so far. Bytes are numbers: 33 is `!`, 63 is `?`, and
+-- 239 187 191 is the byte order mark EF BB BF.
+use Rattle.std.specs.Prelude.{◌≡◌, ℕ, ◌+◌, ◌<◌, ◌≤◌, true, false, List, [], ◌∷◌, ◌++◌, take_while, length}
+use Rattle.pgn_lexer.specs.declared.token.LexFault.{LexFault}
+use Rattle.pgn_lexer.specs.declared.token.LexReason.TheVariants.{StrayByte}
+use Rattle.pgn_lexer.specs.declared.partial_token.Mode.{Mode}
+use Rattle.pgn_lexer.specs.declared.partial_token.Mode.TheVariants.{Start, AfterEf, AfterEfBb, LineStart, Outside, Escape, Symbol, Str, AfterBackslash, Dollar, Glyph, Suffix, Brace, BraceWord, Line, LineWord, Failed}
+use Rattle.pgn_lexer.specs.declared.partial_token.SuffixRun.{SuffixRun}
+use Rattle.pgn_lexer.specs.declared.partial_token.SuffixRun.TheVariants as runs
+use Rattle.pgn_lexer.specs.declared.partial_token.TokenForm.{TokenForm}
+use Rattle.pgn_lexer.specs.declared.partial_token.TokenForm.TheVariants as forms
+use Rattle.pgn_lexer.specs.Bytes.{is_digit, continues_symbol, is_suffix, continues_word}
+use Rattle.pgn_lexer.specs.Tokens.{Kind, Token, symbol, str, glyph, comment_open, word, comment_close, refused}
+use Rattle.pgn_lexer.specs.Spelling.{kind_of_single, Reading, closed, broken, reading, number_from, symbol_at, word_at, glyph_at, numbered_at, suffix_at, string_at}
+use Rattle.pgn_lexer.specs.TokensOf.{column, outside, in_escape, in_symbol, in_glyph, in_suffix, quotes, backslash, brace, brace_word, line, line_word, onto, tokens_from, tokens_of}
+
+-- where the partial token began, and what was read of it
+pub record PartialToken : Type 0 where
+  pub mode : Mode
+  pub at : ℕ
+  pub text : List ℕ
+
+-- the rejection, in the place of a token
+abbrev pub refusal : LexFault → Token
+refusal f = record { at = f.at; kind = refused f.reason }
+
+-- the token of a form, at its place with its text
+abbrev pub kind_in : TokenForm → List ℕ → Kind
+kind_in (forms.Single s) text = kind_of_single s
+kind_in forms.Symbol text = symbol text
+kind_in forms.Str text = str text
+kind_in (forms.Glyph n) text = glyph n
+kind_in forms.CommentOpen text = comment_open
+kind_in forms.Word text = word text
+kind_in forms.CommentClose text = comment_close
+
+abbrev pub token_of : TokenForm → PartialToken → Token
+token_of form h = record { at = h.at; kind = kind_in form h.text }
+
+-- the data so far, and those that come
+abbrev pub with_front : List ℕ → Reading → Reading
+with_front text (closed more) = closed (text ++ more)
+with_front text (broken at reason) = broken at reason
+
+-- the suffix so far: `!` is 33, `?` is 63
+abbrev pub spelling : SuffixRun → List ℕ
+spelling runs.Good = 33 ∷ []
+spelling runs.Poor = 63 ∷ []
+spelling runs.VeryGood = 33 ∷ 33 ∷ []
+spelling runs.VeryPoor = 63 ∷ 63 ∷ []
+spelling runs.Speculative = 33 ∷ 63 ∷ []
+spelling runs.Questionable = 63 ∷ 33 ∷ []
+
+-- the tokens that come, if the bytes from the place on are s
+abbrev pub tokens_to_come_in : Mode → ℕ → ℕ → List ℕ → List ℕ → List Token
+tokens_to_come_in Start place at text s = tokens_of s
+tokens_to_come_in AfterEf place at text s = tokens_of (239 ∷ s)
+tokens_to_come_in AfterEfBb place at text s = tokens_of (239 ∷ 187 ∷ s)
+tokens_to_come_in LineStart place at text s = tokens_from place column s
+tokens_to_come_in Outside place at text s = tokens_from place outside s
+tokens_to_come_in Escape place at text s = tokens_from place in_escape s
+tokens_to_come_in Symbol place at text s = onto at (symbol_at at (text ++ take_while continues_symbol s)) (tokens_from place in_symbol s)
+tokens_to_come_in Str place at text s = onto at (string_at (with_front text (reading at place (length text) false s))) (tokens_from place quotes s)
+tokens_to_come_in AfterBackslash place at text s = onto at (string_at (with_front text (reading at place (length text) true s))) (tokens_from place backslash s)
+tokens_to_come_in Dollar place at text s = onto at (glyph_at at (take_while is_digit s)) (tokens_from place in_glyph s)
+tokens_to_come_in (Glyph n) place at text s = onto at (numbered_at at (number_from n (take_while is_digit s))) (tokens_from place in_glyph s)
+tokens_to_come_in (Suffix run) place at text s = onto at (suffix_at at (spelling run ++ take_while is_suffix s)) (tokens_from place in_suffix s)
+tokens_to_come_in Brace place at text s = tokens_from place brace s
+tokens_to_come_in BraceWord place at text s = onto at (word_at at (text ++ take_while continues_word s)) (tokens_from place brace_word s)
+tokens_to_come_in Line place at text s = tokens_from place line s
+tokens_to_come_in LineWord place at text s = onto at (word_at at (text ++ take_while continues_word s)) (tokens_from place line_word s)
+tokens_to_come_in (Failed f) place at text s = refusal f ∷ []
+
+abbrev pub tokens_to_come : ℕ → PartialToken → List ℕ → List Token
+tokens_to_come place h s = tokens_to_come_in h.mode place h.at h.text s
+
+-- what the text and the number of a token so far have, and room for what must still go into the
+-- buffer
+abbrev pub HasMore : Mode → List ℕ → Type 0
+HasMore Symbol text = 0 < length text
+HasMore AfterBackslash text = length text < 255
+HasMore BraceWord text = (0 < length text) × (length text ≤ 79)
+HasMore LineWord text = (0 < length text) × (length text ≤ 79)
+HasMore (Glyph n) text = n ≤ 255
+HasMore _ text = Unit {0}
+
+-- the text fits the buffer
+abbrev pub HasRoom : Mode → List ℕ → Type 0
+HasRoom mode text = (length text ≤ 255) × HasMore mode text
+
+-- the partial token began before the place
+abbrev pub IsPlaced : Mode → ℕ → ℕ → List ℕ → Type 0
+IsPlaced Start place at text = place ≡ 0
+IsPlaced AfterEf place at text = place ≡ 1
+IsPlaced AfterEfBb place at text = place ≡ 2
+IsPlaced Symbol place at text = place ≡ at + length text
+IsPlaced Str place at text = at < place
+IsPlaced AfterBackslash place at text = at < place
+IsPlaced Dollar place at text = at < place
+IsPlaced (Glyph n) place at text = at < place
+IsPlaced (Suffix run) place at text = at < place
+IsPlaced BraceWord place at text = place ≡ at + length text
+IsPlaced LineWord place at text = place ≡ at + length text
+IsPlaced _ place at text = Unit {0}
+
+-- what holds of each lexer
+pub record IsSound (place : ℕ) (h : PartialToken) : Type 0 where
+  pub room : HasRoom h.mode h.text
+  pub placed : IsPlaced h.mode place h.at h.text
+
+-- no rejection was met
+abbrev pub IsGoing : Mode → Type 0
+IsGoing (Failed f) = ⊥
+IsGoing _ = Unit {0}
+
+-- the rejection that was met, in mode Failed
+abbrev pub fault_of_mode : Mode → ℕ → LexFault
+fault_of_mode (Failed f) at = f
+fault_of_mode _ at = record { at = at; reason = StrayByte }
+
+abbrev pub fault_met : PartialToken → LexFault
+fault_met h = fault_of_mode h.mode h.at
+
+-- how many tokens come with no byte more, but for the end
+abbrev pub pending_in : Mode → ℕ
+pending_in Symbol = 1
+pending_in (Glyph n) = 1
+pending_in (Suffix run) = 1
+pending_in BraceWord = 1
+pending_in Line = 1
+pending_in LineWord = 2
+pending_in _ = 0
+
+abbrev pub pending : PartialToken → ℕ
+pending h = pending_in h.mode

@@ -1,0 +1,4 @@
+-- Worked rows.
+pub mod CommandRows
+pub mod RunRows
+pub mod SplitRows

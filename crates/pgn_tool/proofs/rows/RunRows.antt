@@ -1,0 +1,76 @@
+-- Worked rows: what a job writes for a text, how it ends, and what is told.
+use Rattle.std.proofs.Common.{◌≡◌, ℕ, List, [], ◌++◌, refl}
+use Rattle.std.specs.Prelude.{codes}
+use Rattle.std.specs.Fmt.{digits}
+use Rattle.pgn_game.specs.declared.mode.Mode.TheVariants.{Full, Reduced}
+use Rattle.pgn_game.specs.declared.reason.Reason.TheVariants.{UnexpectedEnd}
+use Rattle.pgn_game.specs.FaultTable.{refusal}
+use Rattle.pgn_game.specs.TagSection.{roster}
+use Rattle.pgn_game.specs.Progress.{verdict}
+use Rattle.pgn_game.specs.Reason.{line_of}
+use Rattle.pgn_game.specs.Chess.{first_position}
+use Rattle.pgn_tool.specs.Listing.{finished_game_line}
+use Rattle.pgn_tool.specs.Running.{Job, checking, counting_line, exporting, line, listing, profile_for, status_of, text_for}
+
+-- the six roster lines before Result, with no value
+abbrev unknown : List ℕ
+unknown = codes "[Event \"?\"]\n[Site \"?\"]\n[Date \"????.??.??\"]\n[Round \"?\"]\n[White \"?\"]\n[Black \"?\"]\n"
+
+abbrev head : List ℕ
+head = unknown ++ codes "[Result \"*\"]\n\n"
+
+-- what a job writes for a text, and its status
+abbrev Gives : Job → List ℕ → List ℕ → ℕ → Type 0
+Gives job s text status = (text_for job s ≡ text) × (status_of (verdict (profile_for job) s) ≡ status)
+
+marker_alone : Gives (exporting Full) (codes "*") (head ++ codes "*\n\n") 0
+unfolding refusal roster
+marker_alone = (refl, refl)
+
+roster_alone : Gives (exporting Reduced) (codes "[A \"1\"] *") (head ++ codes "*\n\n") 0
+unfolding refusal roster
+roster_alone = (refl, refl)
+
+marker_differs : Gives (exporting Full) (codes "* 1-0") (head ++ codes "*\n\n") 1
+unfolding refusal roster
+marker_differs = (refl, refl)
+
+empty_input : Gives checking [] (codes "games: 0, plies: 0\n") 0
+unfolding refusal roster digits
+empty_input = (refl, refl)
+
+two_games : Gives checking (codes "* *") (codes "games: 2, plies: 0\n") 0
+unfolding refusal roster digits
+two_games = (refl, refl)
+
+no_line : Gives checking (codes "* 1-0") [] 1
+unfolding refusal roster
+no_line = (refl, refl)
+
+-- the usual first position, with LF
+abbrev first_fen : List ℕ
+first_fen = codes "rnbqkbnr/pppppppp/8/8/8/8/PPPPPPPP/RNBQKBNR w KQkq - 0 1\n"
+
+no_game : Gives listing [] [] 0
+unfolding refusal roster
+no_game = (refl, refl)
+
+two_lines : Gives listing (codes "* *") (codes "1\t?\t?\t*\t0\t" ++ first_fen ++ codes "2\t?\t?\t*\t0\t" ++ first_fen) 0
+unfolding refusal roster digits finished_game_line first_position
+two_lines = (refl, refl)
+
+values_in_a_line : Gives listing (codes "[White \"A\"] [Black \"B\"] [Result \"1-0\"] 1-0") (codes "1\tA\tB\t1-0\t0\t" ++ first_fen) 0
+unfolding refusal roster digits finished_game_line first_position
+values_in_a_line = (refl, refl)
+
+lines_before_a_fault : Gives listing (codes "* 1-0") (codes "1\t?\t?\t*\t0\t" ++ first_fen) 1
+unfolding refusal roster digits finished_game_line first_position
+lines_before_a_fault = (refl, refl)
+
+counts : counting_line 12 345 ≡ codes "games: 12, plies: 345\n"
+unfolding digits
+counts = refl
+
+fault_line : line (line_of (record { at = 7; reason = UnexpectedEnd })) ≡ codes "byte 7: unexpected end of input\n"
+unfolding digits
+fault_line = refl

@@ -1,0 +1,41 @@
+-- Worked rows: the files that a split makes of a text.
+use Rattle.std.proofs.Common.{◌≡◌, ℕ, List, [], ◌∷◌, ◌++◌, Some, refl}
+use Rattle.std.specs.Prelude.{codes}
+use Rattle.std.specs.Fmt.{digits}
+use Rattle.pgn_lexer.specs.TokensOf.{tokens_of}
+use Rattle.pgn_game.specs.declared.reason.Reason.TheVariants.{UnmatchedClose}
+use Rattle.pgn_game.specs.FaultTable.{refusal}
+use Rattle.pgn_game.specs.TagSection.{roster}
+use Rattle.pgn_game.specs.Progress.{read}
+use Rattle.pgn_tool.specs.Listing.{list_profile}
+use Rattle.pgn_tool.specs.Files.{FileStep, closed, made}
+use Rattle.pgn_tool.specs.SplitGames.{files_of}
+
+-- the tag section of a game without tag pairs
+abbrev head : List ℕ
+head = codes "[Event \"?\"]\n[Site \"?\"]\n[Date \"????.??.??\"]\n[Round \"?\"]\n[White \"?\"]\n[Black \"?\"]\n[Result \"*\"]\n\n"
+
+abbrev Makes : List ℕ → List FileStep → Type 0
+Makes s files = files_of (tokens_of s) ≡ files
+
+no_game : Makes (codes "{no game}") []
+unfolding refusal roster
+no_game = refl
+
+two_games : Makes (codes "* $1 *") (made 1 ∷ closed (Some (head ++ codes "*\n\n")) 0 ∷ made 2 ∷ closed (Some (head ++ codes "$1 *\n\n")) 0 ∷ [])
+unfolding refusal roster digits
+two_games = refl
+
+-- the second game is at fault before its first byte
+fault_before_a_byte : Makes (codes "* [Result 5]") (made 1 ∷ closed (Some (head ++ codes "*\n\n")) 0 ∷ [])
+unfolding refusal roster
+fault_before_a_byte = refl
+
+-- the second game is at fault behind its tag section
+fault_in_movetext : Makes (codes "* $1 )") (made 1 ∷ closed (Some (head ++ codes "*\n\n")) 0 ∷ made 2 ∷ closed (Some head) 0 ∷ [])
+unfolding refusal roster
+fault_in_movetext = refl
+
+its_fault : (read list_profile (tokens_of (codes "* $1 )"))).fault ≡ Some (record { at = 5; reason = UnmatchedClose })
+unfolding refusal roster
+its_fault = refl

@@ -1,0 +1,6 @@
+-- Runs of a task, and the lines of a list.
+pub mod CallToLines
+pub mod ConversionToRun
+pub mod FileToRun
+pub mod PartsOfText
+pub mod TokensInTwoParts

@@ -1,0 +1,87 @@
+-- How a run of the program is put together from opening its file and carrying out its task.
+use Rattle.std.proofs.Common.{◌≡◌, ◌∙◌, ℕ, List, [], Option, None, Some, Result, Ok, Err, refl, sym, ap, subst, map}
+use Rattle.std.specs.Prelude.{String, Vec, string_bytes}
+use Rattle.std.specs.Global.{Global}
+use Rattle.pgn_tool.specs.declared.arguments.Task.{Task}
+use Rattle.pgn_tool.specs.declared.arguments.ParseFault.{ParseFault}
+use Rattle.pgn_tool.specs.declared.machine.SystemFault.{SystemFault}
+use Rattle.pgn_tool.specs.Machine.{Holding, IsOpened, Machine, Reading, holds, missing}
+use Rattle.pgn_tool.specs.Program.{Carries, EndsUnopened, IsIdle, IsMissing, Ran, RunsWords, StartsFrom, by_fault, by_task, file_source, opened, source_of, unopened}
+use Rattle.pgn_tool.specs.Refusing.{AnswersFault}
+use Rattle.pgn_tool.specs.Requests.{AnswersBy, file_of, refusals, request_in, request_of}
+use Rattle.pgn_tool.specs.Running.{Device, IsUntouched}
+
+-- the device that was opened: what it had at first, and what it has in the end
+abbrev pub left_at : Option (List ℕ) → ℕ → Reading → Device
+left_at left failures r = record { before = left; after = r.standard.after; failures = failures; failures_after = r.standard.failures_after }
+
+-- the device until then
+abbrev pub opening : Option (List ℕ) → ℕ → Reading → Device
+opening left failures r = record { before = r.standard.before; after = left; failures = r.standard.failures; failures_after = failures }
+
+held_is : (h : Holding) (left : Option (List ℕ)) (failures : ℕ) (r : Reading) → IsOpened h (opening left failures r)
+    → file_source h r ≡ Some (left_at left failures r)
+held_is missing left failures r is = absurd is
+held_is (holds text) left failures r (same, none) =
+    ap (λ t. Some (left_at t 0 r)) (sym same) ∙ ap (λ n. Some (left_at left n r)) (sym none)
+
+-- the source is what was opened
+pub opened_is : (file : Option (List ℕ)) (left : Option (List ℕ)) (failures : ℕ) (r : Reading) (answer : Result Unit SystemFault)
+    → answer ≡ Ok tt
+    → StartsFrom file r.holding r.refuses (opening left failures r) answer
+    → source_of file r ≡ Some (left_at left failures r)
+opened_is (Some name) left failures r (Ok done) is starts = held_is (r.holding name) left failures r starts
+opened_is None left failures r (Ok done) is (same, none) =
+    ap (λ t. Some (left_at t r.standard.failures r)) (sym same) ∙ ap (λ n. Some (left_at left n r)) (sym none)
+opened_is file left failures r (Err fault) is starts = cc
+
+unopened_named : (file : Option (List ℕ)) (task : Task) (m : Machine) (status : ℕ) (fault : SystemFault)
+    → file_of (request_of task) ≡ file → StartsFrom file m.input.holding m.input.refuses m.input.standard (Err fault)
+    → m.files_after ≡ m.files → IsUntouched m.out → EndsUnopened fault m.err status → Carries task m status
+unopened_named None task m status fault same starts files out ends = absurd starts
+unopened_named (Some name) task m status fault same (refuses, stays) files out ends =
+    unopened name fault same refuses (stays, files) out ends
+
+-- the file was not opened
+pub unopened_is : (task : Task) (m : Machine) (status : ℕ) (fault : SystemFault) (answer : Result Unit SystemFault)
+    → answer ≡ Err fault
+    → StartsFrom (file_of (request_of task)) m.input.holding m.input.refuses m.input.standard answer
+    → m.files_after ≡ m.files → IsUntouched m.out → EndsUnopened fault m.err status → Carries task m status
+unopened_is task m status fault answer is starts =
+    unopened_named (file_of (request_of task)) task m status fault refl
+    (subst (λ (r : Result Unit SystemFault). StartsFrom (file_of (request_of task)) m.input.holding m.input.refuses m.input.standard r) is starts)
+
+-- the words of the call, as they were handed to `parse`
+abbrev pub Words : Type 0
+Words = Vec (String Global) Global
+
+ran_words : (call : Result Words SystemFault) (words : Words) (texts : List (String Global)) (m : Machine) (status : ℕ)
+    → call ≡ Ok words → texts ≡ words.items → RunsWords (map string_bytes texts) m status → Ran call m status
+ran_words call words texts m status is same runs =
+    subst (λ (c : Result Words SystemFault). Ran c m status) (sym is)
+    (subst (λ (l : List (String Global)). RunsWords (map string_bytes l) m status) same runs)
+
+-- the words are a task, which was carried out
+pub ran_task : (call : Result Words SystemFault) (words : Words) (texts : List (String Global)) (m : Machine) (status : ℕ) (task : Task)
+    → call ≡ Ok words → texts ≡ words.items
+    → request_in (map string_bytes texts) ≡ Some (request_of task) → refusals (map string_bytes texts) ≡ []
+    → Carries task m status → Ran call m status
+ran_task call words texts m status task is same request free carries =
+    ran_words call words texts m status is same (by_task task request free carries)
+
+-- the words are no task, which was answered
+pub ran_fault : (call : Result Words SystemFault) (words : Words) (texts : List (String Global)) (m : Machine) (status : ℕ) (fault : ParseFault)
+    → call ≡ Ok words → texts ≡ words.items
+    → AnswersBy (refusals (map string_bytes texts)) (Err fault) → AnswersFault fault m.out m.err status → IsIdle m → Ran call m status
+ran_fault call words texts m status fault is same refused answers idle =
+    ran_words call words texts m status is same (by_fault fault refused answers idle)
+
+none_is_some : {A : Type 0} → (x : A) → None ≡ Some x → ⊥
+none_is_some x same = cc
+
+-- a file that is not there is reported, and nothing is written
+pub missing_told : (task : Task) (m : Machine) (status : ℕ) (name : List ℕ) → file_of (request_of task) ≡ Some name
+    → m.input.holding name ≡ missing → Carries task m status → IsMissing m.out m.err status
+missing_told task m status name named gone (unopened other fault same refuses idle out ends) = (fault, ends, out)
+missing_told task m status name named gone (opened source is runs) =
+    absurd (none_is_some source (sym (ap (λ h. file_source h m.input) gone) ∙ sym (ap (λ f. source_of f m.input) named) ∙ is))
