@@ -4,8 +4,8 @@ ghost use Rattle.std.specs.Prelude.{◌≡◌, ◌+◌, [], ◌∷◌};
 ghost use Rattle.pgn_lexer.specs.Taking as taking;
 
 use crate::class::{
-    Class, CommentClass, Single, StringClass, class_of, comment_class_of, continues_symbol,
-    is_digit, is_line_end, is_suffix, string_class_of,
+    Class, CommentClass, StringClass, class_of, comment_class_of, continues_symbol, is_digit,
+    is_line_end, is_suffix, string_class_of,
 };
 use crate::partial_token::{Mode, PartialToken, Step, SuffixRun, TokenForm, glyph_of};
 use crate::token::{LexFault, LexReason};

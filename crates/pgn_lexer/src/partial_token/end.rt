@@ -3,7 +3,7 @@
 ghost use Rattle.pgn_lexer.specs.Taking as taking;
 
 use crate::partial_token::{AtEnd, Mode, PartialToken, TokenForm, glyph_of};
-use crate::token::{LexFault, LexReason, Token};
+use crate::token::{LexFault, LexReason};
 
 impl PartialToken {
     ghost use Rattle.pgn_lexer.specs.Taking.{IsAfterEnd};

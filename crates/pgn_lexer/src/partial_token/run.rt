@@ -3,11 +3,8 @@
 ghost use Rattle.std.specs.Prelude.{◌≡◌, ℕ, ◌+◌, ◌<◌, ◌≤◌, ◌^◌, length};
 ghost use Rattle.pgn_lexer.specs.Running.{used_after, found_after};
 
-use crate::class::{
-    Class, CommentClass, Single, StringClass, class_of, comment_class_of, string_class_of,
-};
+use crate::class::{Class, CommentClass, StringClass, class_of, comment_class_of, string_class_of};
 use crate::partial_token::{Found, Mode, PartialToken, Step, TokenForm};
-use crate::token::Token;
 
 impl PartialToken {
     ghost use Rattle.pgn_lexer.specs.PartialToken.{IsSound};
