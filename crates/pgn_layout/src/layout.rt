@@ -1,24 +1,16 @@
 //! Tag pairs and movetext tokens on lines.
-ghost use Rattle.std.specs.Prelude.{◌≡◌, ◌+◌, ◌≤◌, [], ◌∷◌, ◌++◌, length, false, OnOk};
+ghost use Rattle.std.specs.Prelude.{◌≡◌, ◌+◌, ◌≤◌, [], length, false, IsTrue, OnOk, OnErr};
 ghost use Rattle.pgn_layout.specs.Device.{Writes};
 ghost use Rattle.pgn_layout.specs.TagLine.{escaped};
 ghost use Rattle.pgn_layout.specs.Lines.{IsToken};
 ghost use Rattle.pgn_layout.specs.Layout.{holding, Fails, Tag, EndTags, Put, EndGame, DropLine, text_at, line_at};
 
-use crate::tag_line::tag_line;
-use crate::{Sink, WriteFault, write_all};
-use arrayvec::ArrayVec;
+use crate::{CurrentLine, Sink, WriteFault, end_tags, write_tag};
 use std::marker::Model;
-
-/// The longest line of movetext, without its LF (PGN 8.2.1).
-const LINE_LENGTH: usize = 79;
-
-/// The length of that line with its LF.
-const LINE_WITH_LF_LENGTH: usize = LINE_LENGTH + 1;
 
 /// Writes tag pairs, and sets movetext tokens on lines.
 ///
-/// It keeps the current line, which is not full yet.
+/// It keeps the current line, which is not full yet, and whether a write has failed.
 ///
 /// # Errors
 ///
@@ -43,19 +35,16 @@ const LINE_WITH_LF_LENGTH: usize = LINE_LENGTH + 1;
 /// ```
 #[derive(Drop)]
 pub struct Layout {
-    line: ArrayVec<u8, LINE_WITH_LF_LENGTH>,
+    line: CurrentLine,
     has_failed: bool,
 }
 
 impl Model for Layout {
-    ghost use Rattle.std.specs.Prelude.{◌≤◌, length};
     ghost use Rattle.pgn_layout.specs.Layout.{Layout as Seen};
 
     ghost Value = { Seen };
 
-    ghost view = { λ l. record { line = l.line.items; has_failed = l.has_failed } };
-
-    ghost invariant = { λ l. length l.line.items ≤ 79 };
+    ghost view = { λ l. record { line = l.line; has_failed = l.has_failed } };
 }
 
 impl Layout {
@@ -64,7 +53,7 @@ impl Layout {
         ensures { result ≡ holding [] }
     {
         Layout {
-            line: ArrayVec::new(),
+            line: CurrentLine::new(),
             has_failed: false,
         }
     }
@@ -88,8 +77,10 @@ impl Layout {
         ensures faults { Fails W.failures self.old.has_failed self.new.has_failed out.old out.new
             result }
     {
-        let line = tag_line(name, value);
-        write(&mut self.has_failed, line.as_slice(), out)
+        check(self.has_failed)?;
+        let written = write_tag(name, value, out);
+        self.has_failed = written.is_err();
+        written
     }
 
     /// Ends the tag section with an empty line (PGN 8.1).
@@ -106,8 +97,10 @@ impl Layout {
         ensures faults { Fails W.failures self.old.has_failed self.new.has_failed out.old out.new
             result }
     {
-        let empty_line = b"\n";
-        write(&mut self.has_failed, empty_line, out)
+        check(self.has_failed)?;
+        let written = end_tags(out);
+        self.has_failed = written.is_err();
+        written
     }
 
     /// Puts a movetext token of 1 to 79 bytes on the line (PGN 8.2.1).
@@ -128,21 +121,10 @@ impl Layout {
         ensures faults { Fails W.failures self.old.has_failed self.new.has_failed out.old out.new
             result }
     {
-        if self.has_failed {
-            return Err(WriteFault);
-        }
-        if self.line.is_empty() {
-            append(&mut self.line, token);
-            return Ok(());
-        }
-        if self.line.len() + 1 + token.len() <= LINE_LENGTH {
-            self.line.push(b' ');
-            append(&mut self.line, token);
-            return Ok(());
-        }
-        write_line(&mut self.has_failed, &mut self.line, out)?;
-        append(&mut self.line, token);
-        Ok(())
+        check(self.has_failed)?;
+        let written = self.line.put(token, out);
+        self.has_failed = written.is_err();
+        written
     }
 
     /// Ends the game: writes the line with LF, if it has a token, and an empty line (PGN 8.2.6).
@@ -159,61 +141,27 @@ impl Layout {
         ensures faults { Fails W.failures self.old.has_failed self.new.has_failed out.old out.new
             result }
     {
-        if self.line.is_empty() {
-            return write(&mut self.has_failed, b"\n", out);
-        }
-        write_line(&mut self.has_failed, &mut self.line, out)?;
-        write(&mut self.has_failed, b"\n", out)
+        check(self.has_failed)?;
+        let written = self.line.end_game(out);
+        self.has_failed = written.is_err();
+        written
     }
 
-    /// Empties the line, and writes nothing. For a caller that gives up a game; `pgn_game` never
-    /// calls it.
+    /// Empties the line, and writes nothing. For a caller that gives up a game.
     pub fn drop_line(&mut self)
         ensures { self.new ≡ record self.old { line = line_at self.old.line DropLine } }
     {
-        self.line.clear();
+        self.line = CurrentLine::new();
     }
 }
 
-// Adds the bytes at the line's end.
-#[inline(always)]
-fn append(line: &mut ArrayVec<u8, LINE_WITH_LF_LENGTH>, token: &[u8])
-    requires { length line.old.items + length token.now ≤ 79 }
-    ensures { line.new.items ≡ line.old.items ++ token.now }
+// Fails if a write has failed.
+fn check(has_failed: bool) -> Result<(), WriteFault>
+    ensures ready { OnOk result (has_failed ≡ false) }
+    ensures failed { OnErr result (IsTrue has_failed) }
 {
-    let _ = line.try_extend_from_slice(token);
-}
-
-// Writes the text, unless a write has failed.
-#[inline(always)]
-fn write<W: Sink>(has_failed: &mut bool, text: &[u8], out: &mut W) -> Result<(), WriteFault>
-    ensures text { has_failed.old ≡ false
-        → Writes (W.taken out.old) (W.taken out.new) result text.now }
-    ensures faults { Fails W.failures has_failed.old has_failed.new out.old out.new result }
-{
-    if *has_failed {
+    if has_failed {
         return Err(WriteFault);
     }
-    let written = write_all(out, text);
-    *has_failed = written.is_err();
-    written
-}
-
-// Writes the line with LF in one write, and empties it, also if the write failed.
-#[inline(always)]
-fn write_line<W: Sink>(
-    has_failed: &mut bool,
-    line: &mut ArrayVec<u8, LINE_WITH_LF_LENGTH>,
-    out: &mut W,
-) -> Result<(), WriteFault>
-    requires { length line.old.items ≤ 79 }
-    ensures text { has_failed.old ≡ false →
-        Writes (W.taken out.old) (W.taken out.new) result (line.old.items ++ 10 ∷ []) }
-    ensures faults { Fails W.failures has_failed.old has_failed.new out.old out.new result }
-    ensures empty { line.new.items ≡ [] }
-{
-    line.push(b'\n');
-    let answer = write(has_failed, line.as_slice(), out);
-    line.clear();
-    answer
+    Ok(())
 }

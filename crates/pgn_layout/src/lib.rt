@@ -2,9 +2,14 @@
 //!
 //! A [`Layout`] writes tag pairs, each on a line of its own (PGN 8.1), and sets movetext tokens on
 //! lines of at most 79 bytes (PGN 8.2.1). It keeps one line, never allocates, and writes to any
-//! [`Sink`]: an [`Outlet`] over a `std::io::Write`, or [`Nowhere`].
+//! [`Sink`]: an [`Outlet`] over a `std::io::Write`, or [`Nowhere`]. After a failed write each call
+//! fails again.
+//!
+//! A caller that stops at the first failed write itself needs less: [`write_tag`], [`end_tags`] and
+//! a [`CurrentLine`].
 #![tactic(auto)]
 
+mod current_line;
 pub mod laws;
 mod layout;
 mod nowhere;
@@ -14,8 +19,9 @@ mod tag_line;
 #[cfg(test)]
 mod tests;
 
+pub use current_line::CurrentLine;
 pub use layout::Layout;
 pub use nowhere::Nowhere;
 pub use outlet::Outlet;
 pub use sink::{Sink, WriteFault, write_all};
-pub use tag_line::fits_tag_line;
+pub use tag_line::{end_tags, fits_tag_line, write_tag};

@@ -1,7 +1,9 @@
 //! A tag pair on a line of its own.
-ghost use Rattle.std.specs.Prelude.{◌≡◌, ◌+◌, ◌≤◌, ◌↔◌, ◌++◌, IsTrue, length};
+ghost use Rattle.std.specs.Prelude.{◌≡◌, ◌+◌, ◌≤◌, ◌↔◌, [], ◌∷◌, ◌++◌, IsTrue, length};
+ghost use Rattle.pgn_layout.specs.Device.{Counts, Writes};
 ghost use Rattle.pgn_layout.specs.TagLine.{needs_escape, escape_of, escaped, tag_line as line_of_tag};
 
+use crate::{Sink, WriteFault, write_all};
 use arrayvec::ArrayVec;
 
 /// The longest line of a tag pair, its LF included (PGN 4.3).
@@ -31,9 +33,41 @@ pub fn fits_tag_line(name: &[u8], value: &[u8]) -> bool
     true
 }
 
+/// Writes a tag pair: `[name "value"]` and LF (PGN 7, 8.1).
+///
+/// In the value a backslash is written before each quote and each backslash. Name and value with
+/// these must have at most 249 bytes together ([`fits_tag_line`]), so that the line has at most
+/// 255.
+///
+/// # Errors
+///
+/// [`WriteFault`] if the sink fails. A prefix of the line was written, and not all of it.
+pub fn write_tag<W: Sink>(name: &[u8], value: &[u8], out: &mut W) -> Result<(), WriteFault>
+    requires { length name.now + length (escaped value.now) ≤ 249 }
+    ensures text { Writes (W.taken out.old) (W.taken out.new) result
+        (line_of_tag name.now value.now) }
+    ensures counted { Counts result (W.failures out.old) (W.failures out.new) }
+{
+    let line = tag_line(name, value);
+    write_all(out, line.as_slice())
+}
+
+/// Ends the tag section with an empty line (PGN 8.1).
+///
+/// # Errors
+///
+/// [`WriteFault`] if the sink fails. Nothing was written.
+pub fn end_tags<W: Sink>(out: &mut W) -> Result<(), WriteFault>
+    ensures text { Writes (W.taken out.old) (W.taken out.new) result (10 ∷ []) }
+    ensures counted { Counts result (W.failures out.old) (W.failures out.new) }
+{
+    let empty_line = b"\n";
+    write_all(out, empty_line)
+}
+
 // `[name "value"]` and LF, with a backslash before each quote and backslash of the value (PGN 7,
 // 8.1).
-pub fn tag_line(name: &[u8], value: &[u8]) -> ArrayVec<u8, TAG_LINE_LENGTH>
+fn tag_line(name: &[u8], value: &[u8]) -> ArrayVec<u8, TAG_LINE_LENGTH>
     requires { length name.now + length (escaped value.now) ≤ 249 }
     ensures { result.items ≡ line_of_tag name.now value.now }
 {

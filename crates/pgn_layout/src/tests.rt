@@ -1,5 +1,8 @@
 //! Texts of the standard, and writers that fail.
-use crate::{Layout, Nowhere, Outlet, Sink, WriteFault, fits_tag_line, write_all};
+use crate::{
+    CurrentLine, Layout, Nowhere, Outlet, Sink, WriteFault, end_tags, fits_tag_line, write_all,
+    write_tag,
+};
 use std::alloc::Global;
 use std::io::{self, ErrorKind, Write};
 use std::process::Abort;
@@ -180,6 +183,34 @@ fn writes_a_front_and_fails_from_then_on(rt: HostRuntime) -> Result<(), Fail> {
     assert_eq!(rt; layout.tag(b"A", b"1", &mut Nowhere), Err(WriteFault));
     assert_eq!(rt; layout.end_game(&mut Nowhere), Err(WriteFault));
     assert!(rt; room.as_slice() == b"[A ".as_slice());
+    Ok(())
+}
+
+#[test]
+fn writes_a_game_without_a_layout(rt: HostRuntime) -> Result<(), Fail> {
+    let mut out = Outlet::new(Vec::new(rt.alloc()));
+    assert!(rt; write_tag(b"Event", b"?", &mut out).is_ok());
+    assert!(rt; end_tags(&mut out).is_ok());
+    let mut line = CurrentLine::new();
+    assert!(rt; line.put(b"1.", &mut out).is_ok());
+    assert!(rt; line.put(b"e4", &mut out).is_ok());
+    assert!(rt; line.end_game(&mut out).is_ok());
+    assert!(rt; out.into_inner().as_slice() == b"[Event \"?\"]\n\n1. e4\n\n".as_slice());
+    Ok(())
+}
+
+#[test]
+fn has_an_empty_line_after_a_failed_write(rt: HostRuntime) -> Result<(), Fail> {
+    let mut room = [0; 3];
+    let mut short = Outlet::new(room.as_mut_slice());
+    let mut line = CurrentLine::new();
+    assert!(rt; line.put(b"1-0", &mut short).is_ok());
+    assert_eq!(rt; line.end_game(&mut short), Err(WriteFault));
+    let mut out = Outlet::new(Vec::new(rt.alloc()));
+    assert!(rt; line.put(b"*", &mut out).is_ok());
+    assert!(rt; line.end_game(&mut out).is_ok());
+    assert!(rt; out.into_inner().as_slice() == b"*\n\n".as_slice());
+    assert!(rt; room.as_slice() == b"1-0".as_slice());
     Ok(())
 }
 
