@@ -63,12 +63,11 @@ abbrev pub game_in_reader_if : Bool → Reading → Option AtHand
 game_in_reader_if true reading = Some (game_in_reader reading)
 game_in_reader_if false reading = None
 
--- What a converter keeps to. Before a fault its reader has not failed, and its counts stay small: a
--- byte ends at most two tokens, so the games fit, and the moves; the end is one token more. A game
--- is at hand only between games, and not after a fault.
+-- What a converter keeps to. Before a fault its counts stay small: a byte ends at most two tokens,
+-- so the games fit, and the moves; the end is one token more. A game is at hand only between games,
+-- and not after a fault.
 pub record IsSound (lexer : Standing) (reading : Reading) (games : ℕ) (has_finished_game is_finished : Bool) (fault : Option Fault) : Type 0 where
   pub count : fault ≡ None → lexer.count ≤ 2 ^ 62
-  pub going : fault ≡ None → reading.layout.has_failed ≡ false
   pub few : fault ≡ None → games + waiting lexer ≤ 2 * lexer.count + 2
   pub few_plies : fault ≡ None → reading.earlier_plies + reading.text.plies + waiting lexer ≤ 2 * lexer.count + 3
   pub fewer_plies : fault ≡ None → is_finished ≡ false → reading.earlier_plies + reading.text.plies + waiting lexer ≤ 2 * lexer.count + 2

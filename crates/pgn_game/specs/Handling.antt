@@ -93,7 +93,6 @@ pub record PutResult (old : Reading) (j : Judged) (new : Reading) (r : Result Ac
   pub goes : (part : Part) → Agrees old part → GoesTo old part (after j part) new r d
   pub keeps : Keeps old new
   pub stays : Stays old new r
-  pub going : OnOk r (new.layout.has_failed ≡ false)
   pub finished : FinishesFinal j new r
   pub counted : CountsWrites r d.failures d.failures_after
 

@@ -192,7 +192,7 @@ pub record IsOpen (reading : Reading) (part : Part) : Type 0 where
   pub pairs : reading.tags ≡ record { held = part.pairs; pending_name = None }
   pub fresh : reading.stage ≡ AfterTags → part.items ≡ []
   pub held : HoldsItems reading.profile.mode (start_of part.pairs) part.items
-      reading.text reading.layout
+      reading.text reading.line
   pub probed : IsTrue (has_move part.items) → 0 < reading.most_probes
 
 -- the reason where a test holds, and else what the rest gives

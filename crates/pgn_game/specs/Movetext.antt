@@ -3,7 +3,6 @@
 use Rattle.std.specs.Prelude.{◌≡◌, ℕ, ◌<◌, ◌≤◌, Bool, true, false, List, [], ◌∷◌, map, length, Option, None, Some, All}
 use Rattle.chess_rules.specs.declared.position.Parts.{Parts}
 use Rattle.pgn_layout.specs.Lines.{IsToken, lines_of, last_line}
-use Rattle.pgn_layout.specs.Layout.{Layout, holding}
 use Rattle.pgn_game.specs.declared.levels.Level.{Level as CodeLevel}
 use Rattle.pgn_game.specs.declared.mode.Mode.{Mode}
 use Rattle.pgn_game.specs.Chess.{first_position}
@@ -78,11 +77,11 @@ abbrev pub ends_in_move : Bool → List Placed → Bool
 ends_in_move is_after_move [] = is_after_move
 ends_in_move is_after_move (i ∷ is) = ends_in_move (is_move i.item) is
 
--- The movetext at hand is that of these items, of a game that begins there; and the layout holds
--- their last line.
-pub record HoldsItems (mode : Mode) (start : Parts) (items : List Item) (text : Movetext) (layout : Layout) : Type 0 where
+-- The movetext at hand is that of these items, of a game that begins there; and the line that is
+-- held is their last one.
+pub record HoldsItems (mode : Mode) (start : Parts) (items : List Item) (text : Movetext) (line : List ℕ) : Type 0 where
   pub levels : text.levels ≡ stored_levels start (levels_of items)
   pub plies : text.plies ≡ length (main_moves items)
   pub is_after_move : text.is_after_move ≡ ends_in_move false (written_items mode (placed_from start first_level items))
   pub tokens : All IsToken (tokens_out mode start items)
-  pub line : layout ≡ holding (last_line (lines_of (tokens_out mode start items)))
+  pub last : line ≡ last_line (lines_of (tokens_out mode start items))

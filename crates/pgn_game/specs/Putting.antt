@@ -1,10 +1,10 @@
--- **Bookkeeping**: what putting an item of movetext does to the levels, the layout and the sink.
+-- **Bookkeeping**: what putting an item of movetext does to the levels, the line and the sink.
 use Rattle.std.specs.Prelude.{◌≡◌, ℕ, ◌+◌, ◌≤◌, Bool, true, false, ◌&&◌, List, [], ◌∷◌, ◌++◌, ◌==◌, map, length, drop, Some, Option, IfSome, Result, MatchResult, OnOk, All}
 use Rattle.std.specs.Io.KnownBytes.{Appends}
 use Rattle.chess_rules.specs.declared.position.Parts.{Parts}
 use Rattle.pgn_layout.specs.Device.{AppendsFront, Counts, Writes}
 use Rattle.pgn_layout.specs.Lines.{IsToken}
-use Rattle.pgn_layout.specs.Layout.{Layout, Put, laid_from, holding}
+use Rattle.pgn_layout.specs.Layout.{Put, laid_from}
 use Rattle.pgn_game.specs.declared.judged.Item.{Item as CodeItem}
 use Rattle.pgn_game.specs.declared.judged.Item.TheVariants.{Move, Open, Close}
 use Rattle.pgn_game.specs.declared.mode.Mode.{Mode}
@@ -35,10 +35,10 @@ device taken failures old new =
     }
 
 -- tokens are put in turn: what goes out, and the line that is held then
-pub record PutsTokens {A E : Type 0} (tokens : List (List ℕ)) (layout new_layout : Layout)
+pub record PutsTokens {A E : Type 0} (tokens : List (List ℕ)) (line new_line : List ℕ)
     (result : Result A E) (d : Device) : Type 0 where
-  pub text : Writes d.before d.after result (laid_from layout.line (map Put tokens)).written
-  pub line : OnOk result (new_layout ≡ holding (laid_from layout.line (map Put tokens)).line)
+  pub text : Writes d.before d.after result (laid_from line (map Put tokens)).written
+  pub held : OnOk result (new_line ≡ (laid_from line (map Put tokens)).line)
   pub each : All IsToken tokens
   pub counted : Counts result d.failures d.failures_after
 
@@ -90,10 +90,10 @@ LeadsLevels Close old new = IsBackIn old.around new
 LeadsLevels _ old new = new ≡ old
 
 -- An item is written, or left out. Where a write failed, nothing changes.
-pub record WritesItem {A E : Type 0} (mode : Mode) (i : Item) (text : Movetext) (layout : Layout)
-    (new_text : Movetext) (new_layout : Layout) (result : Result A E) (d : Device) : Type 0 where
+pub record WritesItem {A E : Type 0} (mode : Mode) (i : Item) (text : Movetext) (line : List ℕ)
+    (new_text : Movetext) (new_line : List ℕ) (result : Result A E) (d : Device) : Type 0 where
   pub puts : PutsTokens (tokens_if (writes mode (length text.levels.around) i) text i)
-      layout new_layout result d
+      line new_line result d
   pub ends : MatchResult result (λ _. new_text ≡ written_text mode text i) (λ _. new_text ≡ text)
 
 -- how many pairs are tried to write an item
@@ -118,19 +118,18 @@ item_text mode start items i =
 
 -- One item more: it is held, and what it adds was appended, or a front of that where a write
 -- failed.
-abbrev pub AddsItem : {A E : Type 0} → Mode → Parts → List Item → Item → Movetext → Layout
+abbrev pub AddsItem : {A E : Type 0} → Mode → Parts → List Item → Item → Movetext → List ℕ
     → Result A E → Device → Type 0
-AddsItem mode start items i text layout result d =
+AddsItem mode start items i text line result d =
     MatchResult result
-    (λ _. HoldsItems mode start (items ++ i ∷ []) text layout
+    (λ _. HoldsItems mode start (items ++ i ∷ []) text line
     × Appends d.before d.after (item_text mode start items i))
     (λ _. AppendsFront d.before d.after (item_text mode start items i))
 
 -- so for all items that are held
-pub record Adds {A E : Type 0} (mode : Mode) (i : Item) (text : Movetext) (layout : Layout)
-    (new_text : Movetext) (new_layout : Layout) (result : Result A E) (d : Device) : Type 0 where
-  pub adds : (start : Parts) (items : List Item) → HoldsItems mode start items text layout
-      → AddsItem mode start items i new_text new_layout result d
-  pub going : OnOk result (new_layout.has_failed ≡ false)
+pub record Adds {A E : Type 0} (mode : Mode) (i : Item) (text : Movetext) (line : List ℕ)
+    (new_text : Movetext) (new_line : List ℕ) (result : Result A E) (d : Device) : Type 0 where
+  pub adds : (start : Parts) (items : List Item) → HoldsItems mode start items text line
+      → AddsItem mode start items i new_text new_line result d
   pub plies : new_text.plies ≤ text.plies + 1
   pub counted : Counts result d.failures d.failures_after

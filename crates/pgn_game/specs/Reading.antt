@@ -5,7 +5,6 @@ use Rattle.std.specs.Prelude.{◌≡◌, ℕ, ◌+◌, ◌<◌, ◌≤◌, nat_l
 use Rattle.std.specs.List.{list_any}
 use Rattle.std.specs.Io.KnownBytes.{Appends}
 use Rattle.pgn_layout.specs.Device.{AppendsFront, one_more}
-use Rattle.pgn_layout.specs.Layout.{Layout, holding}
 use Rattle.pgn_lexer.specs.Tokens.{Kind}
 use Rattle.pgn_game.specs.declared.reason.Reason.{Reason}
 use Rattle.pgn_game.specs.declared.reason.Reason.TheVariants.{WriteFault}
@@ -35,7 +34,7 @@ pub record Reading : Type 0 where
   pub text : Movetext
   pub earlier_plies : ℕ
   pub most_probes : ℕ
-  pub layout : Layout
+  pub line : List ℕ
 
 -- What holds of the pairs at a stage: a name has begun after a name alone, and after a `[` there is
 -- room for one.
@@ -58,10 +57,10 @@ has_move items = list_any is_move items
 -- The movetext held is that of the part, which before its stage has no item. Between games it may
 -- be that of the game before.
 abbrev pub HoldsText : Stage → Reading → Part → Type 0
-HoldsText Between reading part = reading.layout ≡ holding []
+HoldsText Between reading part = reading.line ≡ []
 HoldsText InMovetext reading part =
-    HoldsItems reading.profile.mode (start_of part.pairs) part.items reading.text reading.layout × (IsTrue (has_move part.items) → 0 < reading.most_probes)
-HoldsText _ reading part = (part.items ≡ []) × (reading.text ≡ movetext_from (start_of part.pairs)) × (reading.layout ≡ holding [])
+    HoldsItems reading.profile.mode (start_of part.pairs) part.items reading.text reading.line × (IsTrue (has_move part.items) → 0 < reading.most_probes)
+HoldsText _ reading part = (part.items ≡ []) × (reading.text ≡ movetext_from (start_of part.pairs)) × (reading.line ≡ [])
 
 -- The reader agrees with a part: its fields follow from it, but for what was left from the game
 -- before.

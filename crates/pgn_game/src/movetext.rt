@@ -1,5 +1,5 @@
 //! The movetext of a game: each item is written when it is read.
-ghost use Rattle.std.specs.Prelude.{◌≡◌, ◌+◌, ◌-◌, ◌^◌, ◌<◌, ◌≤◌, false, true, is_some, length};
+ghost use Rattle.std.specs.Prelude.{◌≡◌, ◌+◌, ◌-◌, ◌^◌, ◌<◌, ◌≤◌, true, is_some, length};
 ghost use Rattle.pgn_game.specs.Chess.{first_position};
 ghost use Rattle.pgn_game.specs.Game as games;
 ghost use Rattle.pgn_game.specs.Movetext.{movetext_from, movetext_after_fen};
@@ -14,7 +14,7 @@ use crate::mode::Mode;
 use crate::number::{black_number, glyph_text, white_number};
 use chess_rules::{Colour, Position, Probes};
 use chess_text::{Played, write_san};
-use pgn_layout::{Layout, Sink, WriteFault};
+use pgn_layout::{CurrentLine, Sink, WriteFault};
 use std::marker::Model;
 
 /// The levels, the number of moves so far, and whether a move was written last.
@@ -106,19 +106,18 @@ impl<const L: usize> Movetext<L> {
         mode: Mode,
         item: &Item<'_>,
         probes: &mut Probes,
-        layout: &mut Layout,
+        line: &mut CurrentLine,
         out: &mut W,
     ) -> Result<(), WriteFault>
         requires fits { ItemFits L self.old item.now }
         requires few { self.old.plies < 2 ^ 64 - 1 }
         requires room { probes.old + 1032 < 2 ^ 32 }
-        requires going { layout.old.has_failed ≡ false }
-        ensures adds { Adds mode (model_item item.now) self.old layout.old self.new layout.new
+        ensures adds { Adds mode (model_item item.now) self.old line.old self.new line.new
             result (device W.taken W.failures out.old out.new) }
         ensures probes { Rises probes.old probes.new }
         ensures tried { TriesItem mode self.old (model_item item.now) probes.old probes.new }
     {
-        self.write(mode, item, probes, layout, out)?;
+        self.write(mode, item, probes, line, out)?;
         self.go_on(item);
         Ok(())
     }
@@ -130,21 +129,20 @@ impl<const L: usize> Movetext<L> {
         mode: Mode,
         item: &Item<'_>,
         probes: &mut Probes,
-        layout: &mut Layout,
+        line: &mut CurrentLine,
         out: &mut W,
     ) -> Result<(), WriteFault>
         requires fits { ItemFits L self.old item.now }
         requires room { probes.old + 1032 < 2 ^ 32 }
-        requires going { layout.old.has_failed ≡ false }
-        ensures writes { WritesItem mode (model_item item.now) self.old layout.old self.new
-            layout.new result (device W.taken W.failures out.old out.new) }
+        ensures writes { WritesItem mode (model_item item.now) self.old line.old self.new
+            line.new result (device W.taken W.failures out.old out.new) }
         ensures probes { Rises probes.old probes.new }
         ensures tried { TriesItem mode self.old (model_item item.now) probes.old probes.new }
     {
         if !self.is_written(mode, item) {
             return Ok(());
         }
-        self.write_tokens(item, probes, layout, out)?;
+        self.write_tokens(item, probes, line, out)?;
         self.is_after_move = item.is_move();
         Ok(())
     }
@@ -163,26 +161,25 @@ impl<const L: usize> Movetext<L> {
         &self,
         item: &Item<'_>,
         probes: &mut Probes,
-        layout: &mut Layout,
+        line: &mut CurrentLine,
         out: &mut W,
     ) -> Result<(), WriteFault>
         requires fits { ItemFits L self.now item.now }
         requires room { probes.old + 1032 < 2 ^ 32 }
-        requires going { layout.old.has_failed ≡ false }
-        ensures puts { PutsTokens (tokens_due self.now (model_item item.now)) layout.old layout.new
+        ensures puts { PutsTokens (tokens_due self.now (model_item item.now)) line.old line.new
             result (device W.taken W.failures out.old out.new) }
         ensures probes { Rises probes.old probes.new }
         ensures tried { CostsToWrite true self.now.levels.present.present (model_item item.now)
             probes.old probes.new }
     {
         match item {
-            Item::Move(played) => self.write_move(played, probes, layout, out),
-            Item::Glyph(glyph) => layout.put(glyph_text(*glyph).as_slice(), out),
-            Item::CommentOpen => layout.put(b"{", out),
-            Item::Word(word) => layout.put(word, out),
-            Item::CommentClose => layout.put(b"}", out),
-            Item::Open => layout.put(b"(", out),
-            Item::Close => layout.put(b")", out),
+            Item::Move(played) => self.write_move(played, probes, line, out),
+            Item::Glyph(glyph) => line.put(glyph_text(*glyph).as_slice(), out),
+            Item::CommentOpen => line.put(b"{", out),
+            Item::Word(word) => line.put(word, out),
+            Item::CommentClose => line.put(b"}", out),
+            Item::Open => line.put(b"(", out),
+            Item::Close => line.put(b")", out),
         }
     }
 
@@ -192,38 +189,36 @@ impl<const L: usize> Movetext<L> {
         &self,
         played: &Played,
         probes: &mut Probes,
-        layout: &mut Layout,
+        line: &mut CurrentLine,
         out: &mut W,
     ) -> Result<(), WriteFault>
         requires legal { IsLegal self.now.levels.present.present played.now }
         requires room { probes.old + 1032 < 2 ^ 32 }
-        requires going { layout.old.has_failed ≡ false }
-        ensures puts { PutsTokens (tokens_due self.now (games.move played.now.mv)) layout.old
-            layout.new result (device W.taken W.failures out.old out.new) }
+        ensures puts { PutsTokens (tokens_due self.now (games.move played.now.mv)) line.old
+            line.new result (device W.taken W.failures out.old out.new) }
         ensures probes { Rises probes.old probes.new }
         ensures tried { CostsToWrite true self.now.levels.present.present (games.move played.now.mv)
             probes.old probes.new }
     {
         let san = write_san(self.levels.present(), played, probes);
-        self.put_number(layout, out)?;
-        layout.put(san.as_slice(), out)
+        self.put_number(line, out)?;
+        line.put(san.as_slice(), out)
     }
 
     // Writes the number of the next move, if it needs one (PGN 8.2.2.2).
     #[inline(always)]
-    fn put_number<W: Sink>(&self, layout: &mut Layout, out: &mut W) -> Result<(), WriteFault>
-        requires going { layout.old.has_failed ≡ false }
-        ensures puts { PutsTokens (number_due self.now) layout.old layout.new result
+    fn put_number<W: Sink>(&self, line: &mut CurrentLine, out: &mut W) -> Result<(), WriteFault>
+        ensures puts { PutsTokens (number_due self.now) line.old line.new result
             (device W.taken W.failures out.old out.new) }
     {
         let position = self.levels.present();
         match position.side() {
-            Colour::White => layout.put(white_number(position.full()).as_slice(), out),
+            Colour::White => line.put(white_number(position.full()).as_slice(), out),
             Colour::Black => {
                 if self.is_after_move {
                     return Ok(());
                 }
-                layout.put(black_number(position.full()).as_slice(), out)
+                line.put(black_number(position.full()).as_slice(), out)
             }
         }
     }

@@ -1,12 +1,11 @@
 //! Reads games token by token: judges what a token means, and carries that out.
 ghost use Rattle.std.specs.Prelude.{◌≡◌, ◌+◌, ◌-◌, ◌≤◌, ◌<◌, ◌^◌, ◌&&◌, [], false, not};
-ghost use Rattle.std.specs.Prelude.{Some, IsTrue, ◌↔◌, OnOk, bytes_eq, codes, max};
+ghost use Rattle.std.specs.Prelude.{Some, IsTrue, ◌↔◌, bytes_eq, codes, max};
 ghost use Rattle.std.specs.Option.{option_copied};
 ghost use Rattle.pgn_lexer.specs.declared.token.TokenKind.{TokenKind};
 ghost use Rattle.pgn_lexer.specs.Tokens.{HasLength, left_paren, right_paren, symbol};
 ghost use Rattle.pgn_lexer.specs.Scanned.{kind_of};
 ghost use Rattle.pgn_layout.specs.Lines.{IsToken};
-ghost use Rattle.pgn_layout.specs.Layout.{holding};
 ghost use Rattle.pgn_game.specs.Pairs.{value_of};
 ghost use Rattle.pgn_game.specs.Chess.{first_position};
 ghost use Rattle.pgn_game.specs.TagSection.{exported};
@@ -38,7 +37,7 @@ use crate::tags::TagPairs;
 use crate::token_tests::{is_comment, is_end, is_number, is_result, is_score, is_tag_name};
 use chess_rules::{Position, Probes};
 use chess_text::{Played, read_fen};
-use pgn_layout::{Layout, Sink, WriteFault, fits_tag_line};
+use pgn_layout::{CurrentLine, Sink, WriteFault, fits_tag_line};
 use pgn_lexer::TokenKind;
 use std::marker::Model;
 
@@ -53,7 +52,7 @@ pub struct Reader<const T: usize, const L: usize> {
     text: Movetext<L>,
     earlier_plies: u64,
     most_probes: u32,
-    layout: Layout,
+    line: CurrentLine,
 }
 
 impl<const T: usize, const L: usize> Model for Reader<T, L> {
@@ -76,7 +75,7 @@ impl<const T: usize, const L: usize> Model for Reader<T, L> {
       text = r.text;
       earlier_plies = r.earlier_plies;
       most_probes = r.most_probes;
-      layout = r.layout;
+      line = r.line;
     } };
 
     ghost invariant = { λ r. AreSound T r.stage r.tags × (r.most_probes ≤ 1040) };
@@ -98,7 +97,7 @@ impl<const T: usize, const L: usize> Reader<T, L> {
           text = movetext_from first_position;
           earlier_plies = 0;
           most_probes = 0;
-          layout = holding [];
+          line = [];
         } }
     {
         Reader {
@@ -109,7 +108,7 @@ impl<const T: usize, const L: usize> Reader<T, L> {
             text: Movetext::new(),
             earlier_plies: 0,
             most_probes: 0,
-            layout: Layout::new(),
+            line: CurrentLine::new(),
         }
     }
 
@@ -167,14 +166,12 @@ impl<const T: usize, const L: usize> Reader<T, L> {
     /// failed. Do not call this again after an error.
     #[inline(always)]
     pub fn accept<W: Sink>(&mut self, kind: TokenKind<'_>, out: &mut W) -> Result<Accepted, Reason>
-        requires going { self.old.layout.has_failed ≡ false }
         requires few { self.old.earlier_plies + self.old.text.plies < 2 ^ 64 - 1 }
         requires token { HasLength (kind_of kind) }
         ensures accepts { Accepts self.old (kind_of kind.entry) self.new result
             (W.taken out.old) (W.taken out.new) }
         ensures profile { self.new.profile ≡ self.old.profile }
         ensures stays { Stays self.old self.new result }
-        ensures going { OnOk result (self.new.layout.has_failed ≡ false) }
         ensures finished { FinishesAtMarker (kind_of kind.entry) self.new result }
         ensures counted { CountsWrites result (W.failures out.old) (W.failures out.new) }
         ensures plies { self.new.earlier_plies + self.new.text.plies
@@ -494,7 +491,6 @@ impl<const T: usize, const L: usize> Reader<T, L> {
         probes: &mut Probes,
         out: &mut W,
     ) -> Result<Accepted, Reason>
-        requires going { self.old.layout.has_failed ≡ false }
         requires counted { self.old.text.plies < 2 ^ 64 - 1 }
         requires fits { Fits T L self.old judged.now }
         requires few { probes.old ≤ 8 }
@@ -538,7 +534,6 @@ impl<const T: usize, const L: usize> Reader<T, L> {
         probes: &mut Probes,
         out: &mut W,
     ) -> Result<Accepted, Reason>
-        requires going { self.old.layout.has_failed ≡ false }
         requires counted { self.old.text.plies < 2 ^ 64 - 1 }
         requires fits { Fits T L self.old (InText entry.now) }
         requires few { probes.old ≤ 8 }
@@ -552,16 +547,14 @@ impl<const T: usize, const L: usize> Reader<T, L> {
         match entry {
             Entry::Number => Ok(Accepted::More),
             Entry::Item(item) => {
-                let put = self
-                    .text
-                    .put(self.mode, item, probes, &mut self.layout, out);
+                let put = self.text.put(self.mode, item, probes, &mut self.line, out);
                 self.count_probes(probes);
                 put?;
                 Ok(Accepted::More)
             }
             Entry::Marker(marker) => {
-                self.layout.put(marker, out)?;
-                self.layout.end_game(out)?;
+                self.line.put(marker, out)?;
+                self.line.end_game(out)?;
                 self.stage = Stage::Between;
                 Ok(Accepted::Finished)
             }
@@ -571,7 +564,6 @@ impl<const T: usize, const L: usize> Reader<T, L> {
     // Writes the tag section, if movetext has not begun yet.
     #[inline(always)]
     fn begin_movetext<W: Sink>(&mut self, out: &mut W) -> Result<(), WriteFault>
-        requires going { self.old.layout.has_failed ≡ false }
         requires stage { IsTrue (may_have_movetext self.old.stage) }
         ensures begins { BeginsText self.old self.new result
             (device W.taken W.failures out.old out.new) }
@@ -579,13 +571,7 @@ impl<const T: usize, const L: usize> Reader<T, L> {
         if self.stage == Stage::InMovetext {
             return Ok(());
         }
-        write_section(
-            self.mode,
-            self.missing_result,
-            self.tags.pairs(),
-            &mut self.layout,
-            out,
-        )?;
+        write_section(self.mode, self.missing_result, self.tags.pairs(), out)?;
         self.stage = Stage::InMovetext;
         Ok(())
     }

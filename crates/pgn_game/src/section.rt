@@ -1,5 +1,5 @@
 //! The tag section of a game.
-ghost use Rattle.std.specs.Prelude.{◌≡◌, ◌+◌, ◌<◌, ◌≤◌, false, Some, None, IsTrue, IfSome, OnOk, OnErr, codes, length, slice_get, unwrap_or};
+ghost use Rattle.std.specs.Prelude.{◌≡◌, ◌+◌, ◌<◌, ◌≤◌, Some, None, IfSome, codes, length, slice_get, unwrap_or};
 ghost use Rattle.std.specs.Option.{option_copied};
 ghost use Rattle.pgn_layout.specs.Device.{Counts, Writes};
 ghost use Rattle.pgn_layout.specs.TagLine.{escaped};
@@ -12,7 +12,7 @@ use crate::marker::Marker;
 use crate::mode::Mode;
 use crate::pair::TagPair;
 use crate::tags::{place_of, value_in};
-use pgn_layout::{Layout, Sink, WriteFault};
+use pgn_layout::{Sink, WriteFault, end_tags, write_tag};
 
 /// The name of the pair that says whether a game begins from a FEN (PGN 9.7.1).
 const SET_UP: &[u8] = b"SetUp";
@@ -33,22 +33,18 @@ pub fn write_section<W: Sink>(
     mode: Mode,
     missing_result: Marker,
     pairs: &[TagPair],
-    layout: &mut Layout,
     out: &mut W,
 ) -> Result<(), WriteFault>
-    requires going { layout.old.has_failed ≡ false }
     ensures text { Writes (W.taken out.old) (W.taken out.new) result
         (tag_section mode (marker_text missing_result) pairs.now) }
-    ensures line { OnOk result (layout.new ≡ layout.old) }
-    ensures failed { OnErr result (IsTrue layout.new.has_failed) }
     ensures counted { Counts result (W.failures out.old) (W.failures out.new) }
 {
-    write_roster(missing_result, pairs, layout, out)?;
+    write_roster(missing_result, pairs, out)?;
     match mode {
-        Mode::Reduced => layout.end_tags(out),
+        Mode::Reduced => end_tags(out),
         Mode::Full => {
-            write_others(pairs, layout, out)?;
-            layout.end_tags(out)
+            write_others(pairs, out)?;
+            end_tags(out)
         }
     }
 }
@@ -101,20 +97,16 @@ fn unknown_value(missing_result: Marker, name: &[u8]) -> Option<&'static [u8]>
 fn write_roster<W: Sink>(
     missing_result: Marker,
     pairs: &[TagPair],
-    layout: &mut Layout,
     out: &mut W,
 ) -> Result<(), WriteFault>
-    requires going { layout.old.has_failed ≡ false }
     ensures text { Writes (W.taken out.old) (W.taken out.new) result
         (text_by (roster_line pairs.now) (roster (marker_text missing_result))) }
-    ensures line { OnOk result (layout.new ≡ layout.old) }
-    ensures failed { OnErr result (IsTrue layout.new.has_failed) }
     ensures counted { Counts result (W.failures out.old) (W.failures out.new) }
 {
     for index in 0..7 {
         let (name, unknown) = roster_pair(missing_result, index);
         let value = value_or(pairs, name, unknown);
-        layout.tag(name, value, out)?;
+        write_tag(name, value, out)?;
     }
     Ok(())
 }
@@ -132,25 +124,18 @@ fn value_or<'a>(pairs: &'a [TagPair], name: &[u8], unknown: &'a [u8]) -> &'a [u8
 }
 
 // Writes the pairs outside the roster, SetUp 1 among them if there is a FEN (PGN 9.7.1).
-fn write_others<W: Sink>(
-    pairs: &[TagPair],
-    layout: &mut Layout,
-    out: &mut W,
-) -> Result<(), WriteFault>
-    requires going { layout.old.has_failed ≡ false }
+fn write_others<W: Sink>(pairs: &[TagPair], out: &mut W) -> Result<(), WriteFault>
     ensures text { Writes (W.taken out.old) (W.taken out.new) result
         (tag_lines (other_pairs (with_set_up pairs.now))) }
-    ensures line { OnOk result (layout.new ≡ layout.old) }
-    ensures failed { OnErr result (IsTrue layout.new.has_failed) }
     ensures counted { Counts result (W.failures out.old) (W.failures out.new) }
 {
     if !has_fen(pairs) {
-        return write_pairs(pairs, false, layout, out);
+        return write_pairs(pairs, false, out);
     }
     let (before, after) = pairs.split_at(place_of(pairs, SET_UP));
-    write_pairs(before, true, layout, out)?;
-    layout.tag(SET_UP, FROM_FEN, out)?;
-    write_pairs(after, true, layout, out)
+    write_pairs(before, true, out)?;
+    write_tag(SET_UP, FROM_FEN, out)?;
+    write_pairs(after, true, out)
 }
 
 // Whether there is a FEN.
@@ -161,42 +146,26 @@ fn has_fen(pairs: &[TagPair]) -> bool
 }
 
 // Writes those of the pairs that are outside the roster, and no second SetUp beside a FEN.
-fn write_pairs<W: Sink>(
-    pairs: &[TagPair],
-    has_fen: bool,
-    layout: &mut Layout,
-    out: &mut W,
-) -> Result<(), WriteFault>
-    requires going { layout.old.has_failed ≡ false }
+fn write_pairs<W: Sink>(pairs: &[TagPair], has_fen: bool, out: &mut W) -> Result<(), WriteFault>
     ensures text { Writes (W.taken out.old) (W.taken out.new) result
         (text_by (other_line has_fen) pairs.now) }
-    ensures line { OnOk result (layout.new ≡ layout.old) }
-    ensures failed { OnErr result (IsTrue layout.new.has_failed) }
     ensures counted { Counts result (W.failures out.old) (W.failures out.new) }
 {
     for pair in pairs {
-        write_other(pair, has_fen, layout, out)?;
+        write_other(pair, has_fen, out)?;
     }
     Ok(())
 }
 
 // Writes the pair, unless it is in the roster, or a second SetUp beside a FEN.
-fn write_other<W: Sink>(
-    pair: &TagPair,
-    has_fen: bool,
-    layout: &mut Layout,
-    out: &mut W,
-) -> Result<(), WriteFault>
-    requires { layout.old.has_failed ≡ false }
+fn write_other<W: Sink>(pair: &TagPair, has_fen: bool, out: &mut W) -> Result<(), WriteFault>
     ensures text { Writes (W.taken out.old) (W.taken out.new) result (other_line has_fen pair.now) }
-    ensures line { OnOk result (layout.new ≡ layout.old) }
-    ensures failed { OnErr result (IsTrue layout.new.has_failed) }
     ensures counted { Counts result (W.failures out.old) (W.failures out.new) }
 {
     if is_in_roster(pair.name()) || (has_fen && pair.name() == SET_UP) {
         return Ok(());
     }
-    layout.tag(pair.name(), pair.value(), out)
+    write_tag(pair.name(), pair.value(), out)
 }
 
 #[tactic(auto, unfolding(crate::specs::TagSection::roster))]

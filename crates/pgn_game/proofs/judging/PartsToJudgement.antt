@@ -6,7 +6,6 @@ use Rattle.std.proofs.lemmas.Bool.{and_right}
 use Rattle.std.proofs.lemmas.List.Elements.{All-nil}
 use Rattle.chess_rules.specs.declared.position.Parts.{Parts}
 use Rattle.pgn_layout.specs.Lines.{IsToken}
-use Rattle.pgn_layout.specs.Layout.{Layout, holding}
 use Rattle.pgn_lexer.specs.Tokens.{Kind}
 use Rattle.pgn_lexer.specs.Scanned.{kind_of}
 use Rattle.pgn_lexer.specs.declared.token.TokenKind.{TokenKind}
@@ -108,13 +107,13 @@ pub begun_name : (tags : TagPairs) (part : Part) (name : List ℕ) → tags ≡ 
 begun_name tags part name is begun = let e : Some name ≡ Some part.name = sym begun ∙ ap (λ (t : TagPairs). t.pending_name) is in cc
 
 -- Movetext that has no item yet is held.
-nothing_held : (mode : Mode) (start : Parts) → HoldsItems mode start [] (movetext_from start) (holding [])
-nothing_held Full start = record { levels = refl; plies = refl; is_after_move = refl; tokens = All-nil IsToken; line = refl }
-nothing_held Reduced start = record { levels = refl; plies = refl; is_after_move = refl; tokens = All-nil IsToken; line = refl }
+nothing_held : (mode : Mode) (start : Parts) → HoldsItems mode start [] (movetext_from start) []
+nothing_held Full start = record { levels = refl; plies = refl; is_after_move = refl; tokens = All-nil IsToken; last = refl }
+nothing_held Reduced start = record { levels = refl; plies = refl; is_after_move = refl; tokens = All-nil IsToken; last = refl }
 
-held_none : (mode : Mode) (start : Parts) (items : List Item) (text : Movetext) (layout : Layout) → items ≡ [] → text ≡ movetext_from start → layout ≡ holding []
-    → HoldsItems mode start items text layout
-held_none mode start items text layout none begins_game empty = rw (none, begins_game, empty) (nothing_held mode start)
+held_none : (mode : Mode) (start : Parts) (items : List Item) (text : Movetext) (line : List ℕ) → items ≡ [] → text ≡ movetext_from start → line ≡ []
+    → HoldsItems mode start items text line
+held_none mode start items text line none begins_game empty = rw (none, begins_game, empty) (nothing_held mode start)
 
 -- Where movetext can begin or goes on, it is open.
 open_at : (old : Reading) (part : Part) (stage : Stage) → Agrees old part → old.stage ≡ stage → IsTrue (may_have_movetext stage) → IsOpen old part
@@ -124,7 +123,7 @@ open_at old part AfterTags agrees at is =
       stage = agrees.stage;
       pairs = held_at old part AfterTags agrees at;
       fresh = λ e. text.0;
-      held = held_none old.profile.mode (start_of part.pairs) part.items old.text old.layout text.0 text.1 text.2;
+      held = held_none old.profile.mode (start_of part.pairs) part.items old.text old.line text.0 text.1 text.2;
       probed = λ has. let h : IsTrue (has_move []) = subst (λ (is : List Item). IsTrue (has_move is)) text.0 has in absurd (cc);
     }
 open_at old part InMovetext agrees at is =

@@ -14,7 +14,7 @@ use Rattle.chess_text.specs.San.{san, MarkPairs, disambiguation_pairs}
 use Rattle.pgn_layout.specs.declared.sink.WriteFault.{WriteFault}
 use Rattle.pgn_layout.specs.Device.{AppendsFront, Counts, Writes}
 use Rattle.pgn_layout.specs.Lines.{IsToken, lines_of, full_lines, last_line, text_of as text_of_lines}
-use Rattle.pgn_layout.specs.Layout.{Layout, Put, holding, laid_from, text_put, line_put}
+use Rattle.pgn_layout.specs.Layout.{Put, laid_from, text_put, line_put}
 use Rattle.pgn_game.specs.declared.judged.Item.{Item as CodeItem}
 use Rattle.pgn_game.specs.declared.judged.Item.TheVariants as code
 use Rattle.pgn_game.specs.declared.mode.Mode.{Mode}
@@ -83,8 +83,8 @@ plies-snoc items i =
     ap (λ ls. length (main_of ls)) (levels_of-snoc items i) ∙ plies_by i (levels_of items).present (levels_of items).around
 
 -- Whether an item is written decides its tokens, and whether a move was written last.
-module _ (mode : Mode) (start : Parts) (items : List Item) (i : Item) (text : Movetext) (layout : Layout) (written : Bool)
-    (holds : HoldsItems mode start items text layout) (is : writes mode (length text.levels.around) i ≡ written) where
+module _ (mode : Mode) (start : Parts) (items : List Item) (i : Item) (text : Movetext) (line : List ℕ) (written : Bool)
+    (holds : HoldsItems mode start items text line) (is : writes mode (length text.levels.around) i ≡ written) where
   abbrev placed : Placed
   placed = record { position = here start (levels_of items); depth = depth (levels_of items); item = i }
 
@@ -169,7 +169,7 @@ one_at_most true false = omega arith
 one_at_most false main = omega arith
 
 -- An item's tokens were put where it is written, and the movetext went on with it.
-module _ (most : ℕ) (mode : Mode) (i : CodeItem) (text : Movetext) (layout new_layout : Layout) (d : Device) where
+module _ (most : ℕ) (mode : Mode) (i : CodeItem) (text : Movetext) (line new_line : List ℕ) (d : Device) where
   abbrev written : Bool
   written = writes mode (length text.levels.around) (model_item i)
 
@@ -179,60 +179,58 @@ module _ (most : ℕ) (mode : Mode) (i : CodeItem) (text : Movetext) (layout new
   abbrev us : List (List ℕ)
   us = tokens_if written text (model_item i)
 
-  tokens_then : (start : Parts) (items : List Item) → HoldsItems mode start items text layout
+  tokens_then : (start : Parts) (items : List Item) → HoldsItems mode start items text line
       → tokens_out mode start (items ++ model_item i ∷ []) ≡ tokens_out mode start items ++ us
   tokens_then start items holds =
       tokens_more mode start items (model_item i ∷ [])
-      ∙ ap (λ l. tokens_out mode start items ++ l) (tokens_are mode start items (model_item i) text layout written holds refl)
+      ∙ ap (λ l. tokens_out mode start items ++ l) (tokens_are mode start items (model_item i) text line written holds refl)
 
-  item_text_is : (start : Parts) (items : List Item) → HoldsItems mode start items text layout → All IsToken us
-      → (laid_from layout.line (map Put us)).written ≡ item_text mode start items (model_item i)
+  item_text_is : (start : Parts) (items : List Item) → HoldsItems mode start items text line → All IsToken us
+      → (laid_from line (map Put us)).written ≡ item_text mode start items (model_item i)
   item_text_is start items holds each =
       let ts = tokens_out mode start items in
-      ap (λ (l : Layout). (laid_from l.line (map Put us)).written) holds.line
+      ap (λ (l : List ℕ). (laid_from l (map Put us)).written) holds.last
       ∙ sym (ap (λ l. drop (length (full_text mode start items)) (text_of_lines (full_lines (lines_of l)))) (tokens_then start items holds)
       ∙ ap (drop (length (full_text mode start items))) (full_lines_laid ts us holds.tokens each)
       ∙ drop-append_seam (full_text mode start items) (laid_from (last_line (lines_of ts)) (map Put us)).written)
 
-  held_then : (start : Parts) (items : List Item) (new : Movetext) → ItemFits most text i → HoldsItems mode start items text layout → All IsToken us
-      → new_layout ≡ holding (laid_from layout.line (map Put us)).line → GoesOn i between new
-      → HoldsItems mode start (items ++ model_item i ∷ []) new new_layout
-  held_then start items new fits holds each line on =
+  held_then : (start : Parts) (items : List Item) (new : Movetext) → ItemFits most text i → HoldsItems mode start items text line → All IsToken us
+      → new_line ≡ (laid_from line (map Put us)).line → GoesOn i between new
+      → HoldsItems mode start (items ++ model_item i ∷ []) new new_line
+  held_then start items new fits holds each held on =
       let ts = tokens_out mode start items in
       let behind = written_behind mode start items (model_item i ∷ []) in
       record {
         levels = levels_lead most i text new.levels start (levels_of items) fits on.levels holds.levels
             ∙ ap (stored_levels start) (sym (levels_of-snoc items (model_item i)));
         plies = on.plies
-            ∙ ap (λ n. text.plies + plies_in (model_item i) n) (sym (same_depth mode start items (model_item i) text layout written holds refl))
+            ∙ ap (λ n. text.plies + plies_in (model_item i) n) (sym (same_depth mode start items (model_item i) text line written holds refl))
             ∙ ap (λ n. n + plies_in (model_item i) (depth (levels_of items))) holds.plies ∙ sym (plies-snoc items (model_item i));
-        is_after_move = on.is_after_move ∙ ends_are mode start items (model_item i) text layout written holds refl
+        is_after_move = on.is_after_move ∙ ends_are mode start items (model_item i) text line written holds refl
             ∙ ap (λ b. ends_in_move b behind) holds.is_after_move
             ∙ sym (ap (ends_in_move false) (written_more mode start items (model_item i ∷ []))
             ∙ ends_in_move-append false (written_from_start mode start items) behind);
         tokens = subst (All IsToken) (sym (tokens_then start items holds)) (All-append IsToken ts us holds.tokens each);
-        line = line ∙ ap (λ (l : Layout). holding (laid_from l.line (map Put us)).line) holds.line
-            ∙ ap holding (sym (ap (λ l. last_line (lines_of l)) (tokens_then start items holds) ∙ last_line_laid ts us holds.tokens each));
+        last = held ∙ ap (λ (l : List ℕ). (laid_from l (map Put us)).line) holds.last
+            ∙ sym (ap (λ l. last_line (lines_of l)) (tokens_then start items holds) ∙ last_line_laid ts us holds.tokens each);
       }
 
-  pub adds_put : (new : Movetext) → ItemFits most text i → PutsTokens {A = Unit} {E = WriteFault} us layout new_layout (Ok tt) d
-      → GoesOn i between new → Adds {A = Unit} {E = WriteFault} mode (model_item i) text layout new new_layout (Ok tt) d
+  pub adds_put : (new : Movetext) → ItemFits most text i → PutsTokens {A = Unit} {E = WriteFault} us line new_line (Ok tt) d
+      → GoesOn i between new → Adds {A = Unit} {E = WriteFault} mode (model_item i) text line new new_line (Ok tt) d
   adds_put new fits puts on = record {
     adds = λ start items holds. (
-      held_then start items new fits holds puts.each puts.line on,
+      held_then start items new fits holds puts.each puts.held on,
       subst (Appends d.before d.after) (item_text_is start items holds puts.each) puts.text,
     );
-    going = ap (λ (l : Layout). l.has_failed) puts.line;
     plies = omega (arith, on.plies, one_at_most (is_move (model_item i)) (length text.levels.around == 0));
     counted = puts.counted;
   }
 
-  pub adds_front : {A E : Type 0} (new : Movetext) (e : E) (result : Result Unit WriteFault) → PutsTokens {A = A} us layout new_layout (Err e) d → new ≡ text
-      → IsErr result → Adds mode (model_item i) text layout new new_layout result d
+  pub adds_front : {A E : Type 0} (new : Movetext) (e : E) (result : Result Unit WriteFault) → PutsTokens {A = A} us line new_line (Err e) d → new ≡ text
+      → IsErr result → Adds mode (model_item i) text line new new_line result d
   adds_front new e (Ok x) puts same err = absurd (cc)
   adds_front new e (Err f) puts same err = record {
     adds = λ start items holds. subst (AppendsFront d.before d.after) (item_text_is start items holds puts.each) puts.text;
-    going = tt;
     plies = omega (arith, ap (λ (t : Movetext). t.plies) same);
     counted = puts.counted;
   }
@@ -253,26 +251,25 @@ laid-line line (x ∷ xs) ys = laid-line (line_put line x) xs ys
 abbrev pub from_to : Option (List ℕ) → Option (List ℕ) → ℕ → ℕ → Device
 from_to a b n m = record { before = a; after = b; failures = n; failures_after = m }
 
-pub puts_after : {A B E : Type 0} (xs ys : List (List ℕ)) (layout between new_layout : Layout) (x : A) (result : Result B E) (a b c : Option (List ℕ)) (n m k : ℕ)
-    → PutsTokens {A = A} {E = E} xs layout between (Ok x) (from_to a b n m) → PutsTokens ys between new_layout result (from_to b c m k)
-    → PutsTokens (xs ++ ys) layout new_layout result (from_to a c n k)
-puts_after xs ys layout between new_layout x result a b c n m k first more =
-    let from_there : (l : Layout) → between ≡ l → PutsTokens ys l new_layout result (from_to b c m k) =
-    λ l e. subst (λ (l : Layout). PutsTokens ys l new_layout result (from_to b c m k)) e more in
-    let next = from_there (holding (laid_from layout.line (map Put xs)).line) first.line in record {
-      text = subst (Writes a c result) (sym (laid-written layout.line xs ys)) (Writes-append a b c _ _ result first.text next.text);
-      line = subst (λ l. OnOk result (new_layout ≡ holding l)) (sym (laid-line layout.line xs ys)) next.line;
+pub puts_after : {A B E : Type 0} (xs ys : List (List ℕ)) (line between new_line : List ℕ) (x : A) (result : Result B E) (a b c : Option (List ℕ)) (n m k : ℕ)
+    → PutsTokens {A = A} {E = E} xs line between (Ok x) (from_to a b n m) → PutsTokens ys between new_line result (from_to b c m k)
+    → PutsTokens (xs ++ ys) line new_line result (from_to a c n k)
+puts_after xs ys line between new_line x result a b c n m k first more =
+    let held : between ≡ (laid_from line (map Put xs)).line = first.held in
+    let next = subst (λ (l : List ℕ). PutsTokens ys l new_line result (from_to b c m k)) held more in record {
+      text = subst (Writes a c result) (sym (laid-written line xs ys)) (Writes-append a b c _ _ result first.text next.text);
+      held = subst (λ (l : List ℕ). OnOk result (new_line ≡ l)) (sym (laid-line line xs ys)) next.held;
       each = All-append IsToken xs ys first.each more.each;
       counted = subst (λ (x : ℕ). Counts result x k) first.counted more.counted;
     }
 
 -- so where a write failed before the last tokens
-pub puts_fail : {A B E F : Type 0} (xs ys : List (List ℕ)) (layout new_layout then_layout : Layout) (e : E) (result : Result B F) (d : Device) → All IsToken ys
-    → PutsTokens {A = A} {E = E} xs layout new_layout (Err e) d → IsErr result → PutsTokens (xs ++ ys) layout then_layout result d
-puts_fail xs ys layout new_layout then_layout e (Ok x) d each first err = absurd (cc)
-puts_fail xs ys layout new_layout then_layout e (Err f) d each first err = record {
-  text = subst (AppendsFront d.before d.after) (sym (laid-written layout.line xs ys)) (front_of_more d.before d.after _ _ first.text);
-  line = tt;
+pub puts_fail : {A B E F : Type 0} (xs ys : List (List ℕ)) (line new_line then_line : List ℕ) (e : E) (result : Result B F) (d : Device) → All IsToken ys
+    → PutsTokens {A = A} {E = E} xs line new_line (Err e) d → IsErr result → PutsTokens (xs ++ ys) line then_line result d
+puts_fail xs ys line new_line then_line e (Ok x) d each first err = absurd (cc)
+puts_fail xs ys line new_line then_line e (Err f) d each first err = record {
+  text = subst (AppendsFront d.before d.after) (sym (laid-written line xs ys)) (front_of_more d.before d.after _ _ first.text);
+  held = tt;
   each = All-append IsToken xs ys first.each each;
   counted = first.counted;
 }

@@ -108,16 +108,16 @@ plies_before old at = by_stage old.stage at
 pub unwritten : (old new : Reading) (j : Judged) (d : Device) → Keeps old new → d.failures_after ≡ one_more d.failures
     → ((part : Part) → Agrees old part → AppendsFront d.before d.after (gain_to old.profile part (after j part))) → PutResult old j new (Err reasons.WriteFault) d
 unwritten old new j d keeps counted front =
-    record { goes = λ part agrees. (refl, front part agrees); keeps = keeps; stays = tt; going = tt; finished = tt; counted = (refl, counted) }
+    record { goes = λ part agrees. (refl, front part agrees); keeps = keeps; stays = tt; finished = tt; counted = (refl, counted) }
 
-pub more_comes : (old new : Reading) (j : Judged) (d : Device) → Keeps old new → (new.stage ≡ Between → new ≡ old) → new.layout.has_failed ≡ false
+pub more_comes : (old new : Reading) (j : Judged) (d : Device) → Keeps old new → (new.stage ≡ Between → new ≡ old)
     → d.failures_after ≡ d.failures → ((part : Part) → Agrees old part → Goes old part (after j part) new More d) → PutResult old j new (Ok More) d
-more_comes old new j d keeps stays well counted on =
-    record { goes = on; keeps = keeps; stays = stays; going = well; finished = tt; counted = counted }
+more_comes old new j d keeps stays counted on =
+    record { goes = on; keeps = keeps; stays = stays; finished = tt; counted = counted }
 
 -- a reader in movetext agrees with the part that it holds
 agrees_in_text : (r : Reading) (part : Part) → r.stage ≡ InMovetext → part.stage ≡ InMovetext → r.tags ≡ record { held = part.pairs; pending_name = None }
-    → HoldsItems r.profile.mode (start_of part.pairs) part.items r.text r.layout → (IsTrue (has_move part.items) → 0 < r.most_probes) → Agrees r part
+    → HoldsItems r.profile.mode (start_of part.pairs) part.items r.text r.line → (IsTrue (has_move part.items) → 0 < r.most_probes) → Agrees r part
 agrees_in_text r part stage same tags held probed =
     record {
       stage = stage ∙ sym same;
@@ -139,14 +139,14 @@ pub record IsAfterItem (begun new : Reading) : Type 0 where
 
 -- the section was written, and then items or none
 goes_with : (old begun new : Reading) (part : Part) (more : List Item) (d : Device) → IsTrue (may_have_movetext old.stage) → IsOpen old part
-    → begun ≡ record old { stage = InMovetext } → IsAfterItem begun new → HoldsItems old.profile.mode (start_of part.pairs) (part.items ++ more) new.text new.layout
+    → begun ≡ record old { stage = InMovetext } → IsAfterItem begun new → HoldsItems old.profile.mode (start_of part.pairs) (part.items ++ more) new.text new.line
     → (IsTrue (has_move (part.items ++ more)) → 0 < new.most_probes) → Appends d.before d.after (gain_to old.profile part (going (with_items part more)))
     → Goes old part (going (with_items part more)) new More d
 goes_with old begun new part more d at is begins next held probed appended =
     let stage : new.stage ≡ InMovetext = next.stage ∙ ap (λ (r : Reading). r.stage) begins in
     record {
       leads = agrees_in_text new (with_items part more) stage refl (next.tags ∙ ap (λ (r : Reading). r.tags) begins ∙ is.pairs)
-          (subst (λ (p : Profile). HoldsItems p.mode (start_of part.pairs) (part.items ++ more) new.text new.layout)
+          (subst (λ (p : Profile). HoldsItems p.mode (start_of part.pairs) (part.items ++ more) new.text new.line)
           (sym (next.profile ∙ ap (λ (r : Reading). r.profile) begins)) held) probed;
       plies = ap (λ (s : Stage). plies_behind s new.earlier_plies new.text.plies) stage
           ∙ omega (arith, next.earlier, ap (λ (r : Reading). r.earlier_plies) begins, plies_before old at);
@@ -154,12 +154,12 @@ goes_with old begun new part more d at is begins next held probed appended =
     }
 
 -- A number was put, or a period: the section alone was written.
-pub puts_number : (old new : Reading) (d : Device) → IsTrue (may_have_movetext old.stage) → old.layout.has_failed ≡ false
+pub puts_number : (old new : Reading) (d : Device) → IsTrue (may_have_movetext old.stage)
     → BeginsText {A = Unit} {E = WriteFault} old new (Ok tt) d → PutResult old (InText Number) new (Ok More) d
-puts_number old new d at well begins =
+puts_number old new d at begins =
     more_comes old new (InText Number) d
     (record { profile = begins.profile; plies = omega (arith, begins.earlier, begins.plies); probes = omega (arith, begins.probes) })
-    (not_between new.stage (ap (λ (r : Reading). r.stage) begins.begun)) (ap (λ (r : Reading). r.layout.has_failed) begins.begun ∙ well) begins.counted
+    (not_between new.stage (ap (λ (r : Reading). r.stage) begins.begun)) begins.counted
     (λ part agrees.
     let is = open_agrees old part agrees at in
     let ps = part.pairs in
@@ -168,8 +168,8 @@ puts_number old new d at well begins =
     ap (λ (is : List Item). drop (length (full_text old.profile.mode (start_of ps) items)) (full_text old.profile.mode (start_of ps) is)) (append-nil items)
     ∙ drop-length (full_text old.profile.mode (start_of ps) items) in
     goes_with old new new part [] d at is begins.begun (record { profile = refl; stage = refl; tags = refl; earlier = refl; probes = omega arith })
-    (subst (λ (r : Reading). HoldsItems old.profile.mode (start_of ps) (items ++ []) r.text r.layout) (sym begins.begun)
-    (subst (λ (l : List Item). HoldsItems old.profile.mode (start_of ps) l old.text old.layout) (sym (append-nil items)) is.held))
+    (subst (λ (r : Reading). HoldsItems old.profile.mode (start_of ps) (items ++ []) r.text r.line) (sym begins.begun)
+    (subst (λ (l : List Item). HoldsItems old.profile.mode (start_of ps) l old.text old.line) (sym (append-nil items)) is.held))
     (λ has. subst (λ (n : ℕ). 0 < n) (sym begins.probes) (is.probed (subst (λ (l : List Item). IsTrue (has_move l)) (append-nil items) has)))
     (subst (Appends d.before d.after) (sym (append-nil _) ∙ ap (λ l. section_due_of old ++ l) (sym nothing) ∙ gain_is old part [] begins.known at is) begins.text))
 
@@ -198,31 +198,31 @@ probed_with old part i most put rises before has = by_kind i put refl
 
 -- the movetext that was held is held where its section is written
 begun_held : (old begun : Reading) (part : Part) → IsOpen old part → begun ≡ record old { stage = InMovetext }
-    → HoldsItems begun.profile.mode (start_of part.pairs) part.items begun.text begun.layout
-begun_held old begun part is begins = subst (λ (r : Reading). HoldsItems r.profile.mode (start_of part.pairs) part.items r.text r.layout) (sym begins) is.held
+    → HoldsItems begun.profile.mode (start_of part.pairs) part.items begun.text begun.line
+begun_held old begun part is begins = subst (λ (r : Reading). HoldsItems r.profile.mode (start_of part.pairs) part.items r.text r.line) (sym begins) is.held
 
 -- The section was written, and then the item put.
 pub puts_item : (old begun new : Reading) (i : CodeItem) (a b c : Option (List ℕ)) (n m k : ℕ) → IsTrue (may_have_movetext old.stage)
     → IsProbed (Put i) old.most_probes → BeginsText {A = Unit} {E = WriteFault} old begun (Ok tt) (from_to a b n m) → IsAfterItem begun new
-    → Adds {A = Unit} {E = WriteFault} begun.profile.mode (model_item i) begun.text begun.layout new.text new.layout (Ok tt) (from_to b c m k)
+    → Adds {A = Unit} {E = WriteFault} begun.profile.mode (model_item i) begun.text begun.line new.text new.line (Ok tt) (from_to b c m k)
     → PutResult old (InText (Put i)) new (Ok More) (from_to a c n k)
 puts_item old begun new i a b c n m k at put begins next adds =
     let most : old.most_probes ≤ new.most_probes = omega (arith, next.probes, begins.probes) in
     more_comes old new (InText (Put i)) (from_to a c n k)
     (record { profile = next.profile ∙ begins.profile; plies = omega (arith, next.earlier, begins.earlier, begins.plies, adds.plies); probes = most })
-    (not_between new.stage (next.stage ∙ ap (λ (r : Reading). r.stage) begins.begun)) adds.going (adds.counted ∙ begins.counted)
+    (not_between new.stage (next.stage ∙ ap (λ (r : Reading). r.stage) begins.begun)) (adds.counted ∙ begins.counted)
     (λ part agrees.
     let is = open_agrees old part agrees at in
     let added = adds.adds (start_of part.pairs) part.items (begun_held old begun part is begins.begun) in
     goes_with old begun new part (model_item i ∷ []) (from_to a c n k) at is begins.begun next
-    (subst (λ (p : Profile). HoldsItems p.mode (start_of part.pairs) (part.items ++ model_item i ∷ []) new.text new.layout) begins.profile added.0)
+    (subst (λ (p : Profile). HoldsItems p.mode (start_of part.pairs) (part.items ++ model_item i ∷ []) new.text new.line) begins.profile added.0)
     (probed_with old part i new.most_probes put most is.probed)
     (subst (Appends a c) (ap (λ (p : Profile). section_due_of old ++ lines_gain p.mode part.pairs part.items (model_item i ∷ [])) begins.profile
     ∙ gain_is old part (model_item i ∷ []) begins.known at is) (Appends-trans a b c _ _ begins.text added.1)))
 
 pub fails_item : (old begun new : Reading) (i : CodeItem) (f : WriteFault) (a b c : Option (List ℕ)) (n m k : ℕ) → IsTrue (may_have_movetext old.stage)
     → BeginsText {A = Unit} {E = WriteFault} old begun (Ok tt) (from_to a b n m) → IsAfterItem begun new
-    → Adds {A = Unit} begun.profile.mode (model_item i) begun.text begun.layout new.text new.layout (Err f) (from_to b c m k)
+    → Adds {A = Unit} begun.profile.mode (model_item i) begun.text begun.line new.text new.line (Err f) (from_to b c m k)
     → PutResult old (InText (Put i)) new (Err reasons.WriteFault) (from_to a c n k)
 fails_item old begun new i f a b c n m k at begins next adds =
     unwritten old new (InText (Put i)) (from_to a c n k)

@@ -8,7 +8,7 @@ use Rattle.chess_rules.specs.declared.position.Move.{Move}
 use Rattle.pgn_layout.specs.declared.sink.WriteFault.{WriteFault}
 use Rattle.pgn_layout.specs.Device.{AppendsFront, one_more}
 use Rattle.pgn_layout.specs.Lines.{IsToken, lines_of, full_lines, last_line, text_of as text_of_lines}
-use Rattle.pgn_layout.specs.Layout.{Layout, holding, Put, EndGame, text_at, line_at}
+use Rattle.pgn_layout.specs.Layout.{Put, EndGame, text_at, line_at}
 use Rattle.pgn_game.specs.declared.accept.Accepted.TheVariants.{Finished}
 use Rattle.pgn_game.specs.declared.reason.Reason.TheVariants as reasons
 use Rattle.pgn_game.specs.declared.judged.Judged.TheVariants.{Entry as InText}
@@ -83,10 +83,10 @@ gain_of p part marker known at fresh each token =
 
 -- what is due for a marker, of a reader that holds the part
 due_is : (old : Reading) (part : Part) (marker : List ℕ) → old.profile.missing_result ≡ counts_as (known_result old.profile.missing_result) → IsTrue (may_have_movetext old.stage) → IsToken marker → IsOpen old part
-    → section_due_of old ++ ending old.layout.line marker ≡ gain_to old.profile part (whole (game_of part marker))
+    → section_due_of old ++ ending old.line marker ≡ gain_to old.profile part (whole (game_of part marker))
 due_is old part marker known at token is =
-    ap (λ (l : List ℕ). l ++ ending old.layout.line marker) (section_is old part is)
-    ∙ ap (λ (l : Layout). section_due part.stage old.profile.mode (known_result old.profile.missing_result) part.pairs ++ ending l.line marker) is.held.line
+    ap (λ (l : List ℕ). l ++ ending old.line marker) (section_is old part is)
+    ∙ ap (λ (l : List ℕ). section_due part.stage old.profile.mode (known_result old.profile.missing_result) part.pairs ++ ending l marker) is.held.last
     ∙ sym (gain_of old.profile part marker known (open_stage old part is at) (λ e. is.fresh (is.stage ∙ e)) is.held.tokens token)
 
 -- At depth 0 the moves that lead here are those outside variations.
@@ -101,7 +101,7 @@ last_is old part outside is marker =
     ∙ ap (λ (ms : List Move). replayed (start_of part.pairs) ms) (sym (at_depth_0 (levels_of_part part) (levels_of_part part).around refl none))
 
 abbrev finished_reader : Reading → Reading
-finished_reader r = record r { stage = Between; layout = holding [] }
+finished_reader r = record r { stage = Between; line = [] }
 
 behind : (old : Reading) (part : Part) (marker : List ℕ) → old.text.levels.around ≡ [] → IsOpen old part → IsBehind (finished_reader old) (game_of part marker)
 behind old part marker outside is =
@@ -117,7 +117,7 @@ behind old part marker outside is =
 abbrev rest_of : Reading → Part → Entry → List ℕ
 rest_of old part Number = lines_gain old.profile.mode part.pairs part.items []
 rest_of old part (PutItem i) = lines_gain old.profile.mode part.pairs part.items (model_item i ∷ [])
-rest_of old part (Marker marker) = ending old.layout.line marker.now
+rest_of old part (Marker marker) = ending old.line marker.now
 
 entry_gain : (levels : ℕ) (old : Reading) (part : Part) (e : Entry) → EntryFits levels old.text e → old.profile.missing_result ≡ counts_as (known_result old.profile.missing_result) → IsTrue (may_have_movetext old.stage)
     → IsOpen old part → section_due_of old ++ rest_of old part e ≡ gain_to old.profile part (after_entry e part)
@@ -141,15 +141,15 @@ pub record EndsText (old begun : Reading) (marker : List ℕ) (a b : Option (Lis
   pub token : IsToken marker
   pub at : IsTrue (may_have_movetext old.stage)
 
-abbrev of_line : (old begun : Reading) → begun ≡ record old { stage = InMovetext } → begun.layout.line ≡ old.layout.line
-of_line old begun e = ap (λ (r : Reading). r.layout.line) e
+abbrev of_line : (old begun : Reading) → begun ≡ record old { stage = InMovetext } → begun.line ≡ old.line
+of_line old begun e = ap (λ (r : Reading). r.line) e
 
 pub ends_well : (old begun new : Reading) (marker : Bor (List ℕ)) (a b d c : Option (List ℕ)) (n m k : ℕ) → EndsText old begun marker.now a b n m
-    → Appends b d (text_at begun.layout.line (Put marker.now)) → Appends d c (text_at (line_at begun.layout.line (Put marker.now)) EndGame)
-    → new ≡ record begun { stage = Between; layout = new.layout } → new.layout ≡ holding [] → k ≡ m
+    → Appends b d (text_at begun.line (Put marker.now)) → Appends d c (text_at (line_at begun.line (Put marker.now)) EndGame)
+    → new ≡ record begun { stage = Between; line = new.line } → new.line ≡ [] → k ≡ m
     → PutResult old (InText (Marker marker)) new (Ok Finished) (from_to a c n k)
 ends_well old begun new marker a b d c n m k ends put last rest empty counted =
-    let same : new ≡ finished_reader old = rest ∙ ap (λ (l : Layout). record begun { stage = Between; layout = l }) empty ∙ ap finished_reader ends.begins.begun in
+    let same : new ≡ finished_reader old = rest ∙ ap (λ (l : List ℕ). record begun { stage = Between; line = l }) empty ∙ ap finished_reader ends.begins.begun in
     let earlier : new.earlier_plies ≡ old.earlier_plies = ap (λ (r : Reading). r.earlier_plies) same in
     let plies : new.text.plies ≡ old.text.plies = ap (λ (r : Reading). r.text.plies) same in
     record {
@@ -169,14 +169,13 @@ ends_well old begun new marker a b d c n m k ends put last rest empty counted =
         probes = omega (arith, ap (λ (r : Reading). r.most_probes) same);
       };
       stays = tt;
-      going = ap (λ (r : Reading). r.layout.has_failed) same;
       finished = (refl, ap (λ (r : Reading). r.stage) same);
       counted = counted ∙ ends.begins.counted;
     }
 
 -- a write failed behind the section
 pub ends_ill : (old begun new : Reading) (marker : Bor (List ℕ)) (a b c : Option (List ℕ)) (n m k : ℕ) → EndsText old begun marker.now a b n m
-    → AppendsFront b c (ending begun.layout.line marker.now) → new ≡ record begun { layout = new.layout } → k ≡ one_more m
+    → AppendsFront b c (ending begun.line marker.now) → new ≡ record begun { line = new.line } → k ≡ one_more m
     → PutResult old (InText (Marker marker)) new (Err reasons.WriteFault) (from_to a c n k)
 ends_ill old begun new marker a b c n m k ends front rest counted =
     let begins = ends.begins in

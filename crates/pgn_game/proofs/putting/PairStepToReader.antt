@@ -58,14 +58,14 @@ pub record IsStep (old new : Reading) (part : Part) (next : Next) : Type 0 where
 
 -- The reader has new pairs, and perhaps a new first position.
 steps : (old new : Reading) (j : Judged) (from stage : Stage) (tags : TagPairs) (start : Option Parts) (o : Option (List ℕ)) (n : ℕ)
-    → new ≡ record old { stage = stage; tags = tags; text = movetext_after_fen start old.text } → old.layout.has_failed ≡ false
+    → new ≡ record old { stage = stage; tags = tags; text = movetext_after_fen start old.text }
     → old.stage ≡ from → (from ≡ Between → ⊥) → (stage ≡ Between → ⊥) → (stage ≡ InMovetext → ⊥)
     → ((part : Part) → Agrees old part → IsStep old (record old { stage = stage; tags = tags; text = movetext_after_fen start old.text }) part (after j part))
     → PutResult old j new (Ok More) (from_to o o n n)
-steps old new j from stage tags start o n is well at begun goes before each =
+steps old new j from stage tags start o n is at begun goes before each =
     let then : Reading = record old { stage = stage; tags = tags; text = movetext_after_fen start old.text } in
     subst (λ (r : Reading). PutResult old j r (Ok More) (from_to o o n n)) (sym is)
-    (more_comes old then j (from_to o o n n) (record { profile = refl; plies = omega (arith, few start); probes = le_refl old.most_probes }) (λ e. absurd (goes e)) well refl (λ part agrees.
+    (more_comes old then j (from_to o o n n) (record { profile = refl; plies = omega (arith, few start); probes = le_refl old.most_probes }) (λ e. absurd (goes e)) refl (λ part agrees.
     let h = each part agrees in
     subst (λ (x : Next). Goes old part x then More (from_to o o n n)) h.leads
     (record {
@@ -96,11 +96,11 @@ abbrev pub completed : List ℕ → List ℕ → List Pair → TagPairs
 completed name value ps = record { held = with_pair name value ps; pending_name = None }
 
 pub puts_value : (tags levels : ℕ) (old new : Reading) (value : Bor (List ℕ)) (name : List ℕ) (start : Option Parts) (held : TagPairs) (o : Option (List ℕ)) (n : ℕ)
-    → Fits tags levels old (Value value) → old.layout.has_failed ≡ false → IfSome old.tags.pending_name (λ m. held ≡ completed m value.now old.tags.held)
+    → Fits tags levels old (Value value) → IfSome old.tags.pending_name (λ m. held ≡ completed m value.now old.tags.held)
     → old.tags.pending_name ≡ Some name → start ≡ result_unwrap_or (fen_position name value.now) None
     → new ≡ record old { stage = AfterValue; tags = held; text = movetext_after_fen start old.text } → PutResult old (Value value) new (Ok More) (from_to o o n n)
-puts_value tags levels old new value name start held o n fits well completes begun starts is =
-    steps old new (Value value) AfterName AfterValue held start o n is well fits.0 (λ e. absurd (cc)) (λ e. absurd (cc)) (λ e. absurd (cc)) (λ part agrees.
+puts_value tags levels old new value name start held o n fits completes begun starts is =
+    steps old new (Value value) AfterName AfterValue held start o n is fits.0 (λ e. absurd (cc)) (λ e. absurd (cc)) (λ e. absurd (cc)) (λ part agrees.
     let pairs = held_at old part AfterName agrees fits.0 in
     let text = text_at old part AfterName agrees fits.0 in
     let same = begun_name old.tags part name pairs.0 begun in

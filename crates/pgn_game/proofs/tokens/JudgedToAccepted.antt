@@ -191,7 +191,6 @@ pub record KeepsFound (old found : Reading) (k : Kind) : Type 0 where
   pub profile : found.profile ≡ old.profile
   pub probes : old.most_probes ≤ found.most_probes
   pub plies : found.earlier_plies + found.text.plies ≡ old.earlier_plies + old.text.plies
-  pub layout : found.layout ≡ old.layout
   pub ready : begins_game found.stage k ≡ false
   pub stays : found.stage ≡ Between → found ≡ old
 
@@ -199,8 +198,8 @@ keeps_ready : (old : Reading) (k : Kind) → KeepsFound old (ready_for_token old
 keeps_ready old k = by_test (begins_game old.stage k) refl
   where
     by_test : (b : Bool) → begins_game old.stage k ≡ b → KeepsFound old (elim b [ true ↦ at_game_start old | false ↦ old ]) k
-    by_test true is = record { profile = refl; probes = omega arith; plies = omega arith; layout = refl; ready = refl; stays = λ at. absurd (cc) }
-    by_test false is = record { profile = refl; probes = omega arith; plies = refl; layout = refl; ready = is; stays = λ at. refl }
+    by_test true is = record { profile = refl; probes = omega arith; plies = omega arith; ready = refl; stays = λ at. absurd (cc) }
+    by_test false is = record { profile = refl; probes = omega arith; plies = refl; ready = is; stays = λ at. refl }
 
 pub keeps_found : (old ready found : Reading) (k : Kind) → ready ≡ ready_for_token old k → Counts ready found → KeepsFound old found k
 keeps_found old ready found k is counts =
@@ -209,7 +208,6 @@ keeps_found old ready found k is counts =
       profile = ap (λ (x : Reading). x.profile) counts.same ∙ m.profile;
       probes = omega (arith, counts.more, m.probes);
       plies = ap (λ (x : Reading). x.earlier_plies + x.text.plies) counts.same ∙ m.plies;
-      layout = ap (λ (x : Reading). x.layout) counts.same ∙ m.layout;
       ready = ap (λ (x : Reading). begins_game x.stage k) counts.same ∙ m.ready;
       stays = λ at.
           let between = ap (λ (x : Reading). x.stage) (sym counts.same) ∙ at in

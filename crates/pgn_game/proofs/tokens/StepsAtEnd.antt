@@ -1,6 +1,6 @@
 -- Steps behind the last piece.
 use Rattle.std.proofs.Common.{◌≡◌, ℕ, ◌+◌, ◌<◌, ◌≤◌, Bool, true, false, List, [], ◌∷◌, ◌++◌, length, Option, None, Some, Result, Ok, Err, refl, sym, ap, subst, ◌∙◌, append-nil, append_assoc, length-append, le_refl, arith}
-use Rattle.std.specs.Prelude.{◌*◌, ◌^◌, IsTrue, OnOk, is_some, ◌↔◌}
+use Rattle.std.specs.Prelude.{◌*◌, ◌^◌, IsTrue, is_some, ◌↔◌}
 use Rattle.pgn_lexer.specs.declared.token.LexFault.{LexFault}
 use Rattle.pgn_lexer.specs.Tokens.{Kind, Token}
 use Rattle.pgn_lexer.specs.Tokens as tokens
@@ -285,51 +285,47 @@ counts_closed e (Err f) old new h = h
 -- A token behind the last piece keeps the counts small. The end takes no byte, but it is the last
 -- one.
 pub sound_behind : (old new : Standing) (before after : Reading) (games at : ℕ) (k : Kind) (e : Bool) (r : Result Accepted Reason) → is_end k ≡ e → Nearer e old new
-    → FinishesAtMarker k after r → OnOk r (after.layout.has_failed ≡ false) → old.count ≤ 2 ^ 62 → games + waiting old ≤ 2 * old.count + 2
+    → FinishesAtMarker k after r → old.count ≤ 2 ^ 62 → games + waiting old ≤ 2 * old.count + 2
     → before.earlier_plies + before.text.plies + waiting old ≤ 2 * old.count + 2
     → after.earlier_plies + after.text.plies ≤ before.earlier_plies + before.text.plies + 1
     → IsSound new after (games_after (outcome_at at r) games) false (is_ended (ended_if e (outcome_at at r))) (fault_of_step (outcome_at at r))
-sound_behind old new before after games at k true (Ok More) is_e near marker going count few plies more =
+sound_behind old new before after games at k true (Ok More) is_e near marker count few plies more =
     let still = ap waiting near in
     let place = ap (λ (l : Standing). l.count) near in
     record {
       count = λ none. omega (arith, count, place);
-      going = λ none. going;
       few = λ none. omega (arith, few, still, place);
       few_plies = λ none. omega (arith, plies, more, still, place);
       fewer_plies = λ none is. absurd (cc);
       between = λ is. absurd (cc);
       no_fault = λ is. absurd (cc);
     }
-sound_behind old new before after games at k false (Ok More) is_e near marker going count few plies more =
+sound_behind old new before after games at k false (Ok More) is_e near marker count few plies more =
     record {
       count = λ none. omega (arith, count, near.1);
-      going = λ none. going;
       few = λ none. omega (arith, few, near.0, near.1);
       few_plies = λ none. omega (arith, plies, more, near.0, near.1);
       fewer_plies = λ none is. omega (arith, plies, more, near.0, near.1);
       between = λ is. absurd (cc);
       no_fault = λ is. absurd (cc);
     }
-sound_behind old new before after games at k true (Ok Finished) is_e near marker going count few plies more =
+sound_behind old new before after games at k true (Ok Finished) is_e near marker count few plies more =
     absurd (differ (sym is_e ∙ marker_or_end k marker.0))
   where
     differ : true ≡ false → ⊥
     differ e = absurd (cc)
-sound_behind old new before after games at k false (Ok Finished) is_e near marker going count few plies more =
+sound_behind old new before after games at k false (Ok Finished) is_e near marker count few plies more =
     record {
       count = λ none. omega (arith, count, near.1);
-      going = λ none. going;
       few = λ none. omega (arith, few, near.0, near.1);
       few_plies = λ none. omega (arith, plies, more, near.0, near.1);
       fewer_plies = λ none is. omega (arith, plies, more, near.0, near.1);
       between = λ is. absurd (cc);
       no_fault = λ is. absurd (cc);
     }
-sound_behind old new before after games at k e (Err reason) is_e near marker going count few plies more =
+sound_behind old new before after games at k e (Err reason) is_e near marker count few plies more =
     record {
       count = λ none. absurd (cc);
-      going = λ none. absurd (cc);
       few = λ none. absurd (cc);
       few_plies = λ none. absurd (cc);
       fewer_plies = λ none is. absurd (cc);
@@ -429,7 +425,6 @@ pub sound_behind_fault : (lexer : Standing) (reading : Reading) (games : ℕ) (i
 sound_behind_fault lexer reading games is_finished f =
     record {
       count = λ none. absurd (cc);
-      going = λ none. absurd (cc);
       few = λ none. absurd (cc);
       few_plies = λ none. absurd (cc);
       fewer_plies = λ none is. absurd (cc);
@@ -455,7 +450,6 @@ pub sound_at_none : (lexer : Standing) (reading : Reading) (games : ℕ) (has_fi
 sound_at_none lexer reading games has_finished_game is_finished fault sound =
     record {
       count = sound.count;
-      going = sound.going;
       few = sound.few;
       few_plies = sound.few_plies;
       fewer_plies = sound.fewer_plies;

@@ -2,7 +2,6 @@ use Rattle.std.proofs.Common.{◌≡◌, ℕ, true, false, List, ◌++◌, take,
 use Rattle.std.specs.Prelude.{codes}
 use Rattle.std.proofs.lemmas.Result.{err_from_is_err_and}
 use Rattle.std.proofs.KnownBytes.{Appends-trans}
-use Rattle.pgn_layout.specs.Layout.{Layout}
 use Rattle.pgn_layout.specs.TagLine.{tag_line}
 use Rattle.pgn_game.specs.Holding.{place_of}
 use Rattle.pgn_game.specs.Pairs.{Pair, has_pair}
@@ -37,17 +36,15 @@ returns-in_err-write_pairs-clause-text g c =
     rw (p.1, ← both_sides c.args.pairs.now _ _ _ _ refl c.place_of.ensures.place c.split_at.ensures.front c.split_at.ensures.back some)
     (front_of_more _ _ _ _ (front_of_more _ _ _ _ c.in_err-write_pairs.ensures.text))
 
-pub returns-in_err-tag-clause-text : goal.returns-in_err-tag-clause-text
-returns-in_err-tag-clause-text g c =
-    let p = err_from_is_err_and c.from_residual-in_err-tag.result c.from_residual-in_err-tag.ensures.1 in
+pub returns-in_err-write_tag-clause-text : goal.returns-in_err-write_tag-clause-text
+returns-in_err-write_tag-clause-text g c =
+    let p = err_from_is_err_and c.from_residual-in_err-write_tag.result c.from_residual-in_err-write_tag.ensures.1 in
     let some : has_pair c.args.pairs.now (codes "FEN") ≡ true = sym c.has_fen.ensures ∙ c.if-not-has_fen.false in
-    let going = ap (λ (l : Layout). l.has_failed) c.in_ok-write_pairs.ensures.line ∙ c.requires.going in
     rw (p.1, ← both_sides c.args.pairs.now _ _ _ _ refl c.place_of.ensures.place c.split_at.ensures.front c.split_at.ensures.back some)
-    (front_of_more _ _ _ _ (front_after _ _ _ _ _ c.in_ok-write_pairs.ensures.text (c.in_err-tag.ensures.text going)))
+    (front_of_more _ _ _ _ (front_after _ _ _ _ _ c.in_ok-write_pairs.ensures.text c.in_err-write_tag.ensures.text))
 
 pub returns-clause-text : goal.returns-clause-text
 returns-clause-text g c =
     let some : has_pair c.args.pairs.now (codes "FEN") ≡ true = sym c.has_fen.ensures ∙ c.if-not-has_fen.false in
-    let going = ap (λ (l : Layout). l.has_failed) c.in_ok-write_pairs.ensures.line ∙ c.requires.going in
     rw (← both_sides c.args.pairs.now _ _ _ _ refl c.place_of.ensures.place c.split_at.ensures.front c.split_at.ensures.back some)
-    (Writes-append _ _ _ _ _ _ (Appends-trans _ _ _ _ _ c.in_ok-write_pairs.ensures.text (c.in_ok-tag.ensures.text going)) c.write_pairs-3.ensures.text)
+    (Writes-append _ _ _ _ _ _ (Appends-trans _ _ _ _ _ c.in_ok-write_pairs.ensures.text c.in_ok-write_tag.ensures.text) c.write_pairs-3.ensures.text)

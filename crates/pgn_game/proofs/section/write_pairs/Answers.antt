@@ -8,11 +8,10 @@ pub returns-in_err-write_other-clause-text : goal.returns-in_err-write_other-cla
 returns-in_err-write_other-clause-text g c =
     let p = err_from_is_err_and c.from_residual.result c.from_residual.ensures.1 in
     rw p.1
-    (next_front (other_line c.args.has_fen) c.args.pairs.now c.loop-pair.pair-index c.pair-item.result _ _ _ c.loop-pair-test.true (sym c.pair-item.is) c.loop-pair.invariant.2 c.in_err-write_other.ensures.text)
+    (next_front (other_line c.args.has_fen) c.args.pairs.now c.loop-pair.pair-index c.pair-item.result _ _ _ c.loop-pair-test.true (sym c.pair-item.is) c.loop-pair.invariant.1 c.in_err-write_other.ensures.text)
 
 pub loop-pair-preserved : goal.loop-pair-preserved
 loop-pair-preserved g c = (
-  c.in_ok-write_other.ensures.line ∙ c.loop-pair.invariant.0,
-  c.in_ok-write_other.ensures.counted ∙ c.loop-pair.invariant.1,
-  next_text (other_line c.args.has_fen) c.args.pairs.now c.loop-pair.pair-index c.pair-item.result _ _ _ c.loop-pair-test.true (sym c.pair-item.is) c.loop-pair.invariant.2 c.in_ok-write_other.ensures.text,
+  c.in_ok-write_other.ensures.counted ∙ c.loop-pair.invariant.0,
+  next_text (other_line c.args.has_fen) c.args.pairs.now c.loop-pair.pair-index c.pair-item.result _ _ _ c.loop-pair-test.true (sym c.pair-item.is) c.loop-pair.invariant.1 c.in_ok-write_other.ensures.text,
 )

@@ -5,5 +5,5 @@ use Rattle.pgn_game.proofs.section.write_pairs.Given as goal
 
 abbrev pub invariant-loop-pair : goal.invariant-loop-pair
 invariant-loop-pair g l =
-    (l.layout ≡ l.fn.layout) × (g.W.Sink.failures l.out ≡ g.W.Sink.failures l.fn.out)
+    (g.W.Sink.failures l.out ≡ g.W.Sink.failures l.fn.out)
     × Appends (g.W.Sink.taken l.fn.out) (g.W.Sink.taken l.out) (text_by (other_line l.has_fen) (take l.pair-index l.pairs))

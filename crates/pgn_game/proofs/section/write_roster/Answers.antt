@@ -1,11 +1,10 @@
-use Rattle.std.proofs.Common.{◌≡◌, ℕ, Bool, ◌+◌, List, ◌∙◌, length, take, ap, sym, subst, arith, refl}
+use Rattle.std.proofs.Common.{◌≡◌, ℕ, ◌+◌, List, ◌∙◌, length, take, subst, arith, refl}
 use Rattle.std.specs.Prelude.{Option, Some, slice_get, unwrap_or}
 use Rattle.std.proofs.lemmas.Result.{err_from_is_err_and}
 use Rattle.std.proofs.lemmas.List.{take_all}
 use Rattle.std.specs.Io.KnownBytes.{Appends}
 use Rattle.pgn_layout.specs.Device.{AppendsFront}
 use Rattle.pgn_layout.specs.TagLine.{tag_line}
-use Rattle.pgn_layout.specs.Layout.{Layout}
 use Rattle.pgn_game.specs.Markers.{marker_text}
 use Rattle.pgn_game.specs.Pairs.{Pair, value_of}
 use Rattle.pgn_game.specs.SectionLines.{roster_line, text_by}
@@ -32,23 +31,22 @@ seven : (result : List ℕ) → length (roster result) ≡ 7
 unfolding roster
 seven result = refl
 
-pub returns-in_err-tag-clause-text : goal.returns-in_err-tag-clause-text
-returns-in_err-tag-clause-text g c =
+pub returns-in_err-write_tag-clause-text : goal.returns-in_err-write_tag-clause-text
+returns-in_err-write_tag-clause-text g c =
     let p = err_from_is_err_and c.from_residual.result c.from_residual.ensures.1 in
     rw p.1
     (front_of_line (marker_text c.args.missing_result) c.args.pairs.now c.loop-index.index c.roster_pair.result.0.now c.roster_pair.result.1.now c.value_or-value.result.now _ _ _
-    c.roster_pair.ensures.pair c.value_or-value.ensures.value c.loop-index.invariant.2 (c.in_err-tag.ensures.text (ap (λ (l : Layout). l.has_failed) c.loop-index.invariant.0 ∙ c.requires.going)))
+    c.roster_pair.ensures.pair c.value_or-value.ensures.value c.loop-index.invariant.1 c.in_err-write_tag.ensures.text)
 
 pub loop-index-preserved : goal.loop-index-preserved
 loop-index-preserved g c = (
-  c.in_ok-tag.ensures.line ∙ ap (λ (b : Bool). record { line = c.loop-index.layout.line; has_failed = b }) (sym (ap (λ (l : Layout). l.has_failed) c.loop-index.invariant.0 ∙ c.requires.going)) ∙ c.loop-index.invariant.0,
-  c.in_ok-tag.ensures.faults.counted (ap (λ (l : Layout). l.has_failed) c.loop-index.invariant.0 ∙ c.requires.going) ∙ c.loop-index.invariant.1,
+  c.in_ok-write_tag.ensures.counted ∙ c.loop-index.invariant.0,
   next_line (marker_text c.args.missing_result) c.args.pairs.now c.loop-index.index c.roster_pair.result.0.now c.roster_pair.result.1.now c.value_or-value.result.now _ _ _
-      c.roster_pair.ensures.pair c.value_or-value.ensures.value c.loop-index.invariant.2 (c.in_ok-tag.ensures.text (ap (λ (l : Layout). l.has_failed) c.loop-index.invariant.0 ∙ c.requires.going)),
+      c.roster_pair.ensures.pair c.value_or-value.ensures.value c.loop-index.invariant.1 c.in_ok-write_tag.ensures.text,
 )
 
 pub returns-clause-text : goal.returns-clause-text
 returns-clause-text g c =
     let held = c.args.pairs.now in
     let all : take c.loop-index.index (roster (marker_text c.args.missing_result)) ≡ roster (marker_text c.args.missing_result) = take_all c.loop-index.index (roster (marker_text c.args.missing_result)) (omega (arith, seven (marker_text c.args.missing_result), c.loop-index-test.false)) in
-    subst (λ ps. Appends (g.W.Sink.taken c.args.out.now) (g.W.Sink.taken c.loop-index.out) (text_by (roster_line held) ps)) all c.loop-index.invariant.2
+    subst (λ ps. Appends (g.W.Sink.taken c.args.out.now) (g.W.Sink.taken c.loop-index.out) (text_by (roster_line held) ps)) all c.loop-index.invariant.1

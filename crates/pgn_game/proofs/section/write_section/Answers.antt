@@ -1,5 +1,3 @@
-use Rattle.std.proofs.Common.{ap, ◌∙◌}
-use Rattle.pgn_layout.specs.Layout.{Layout}
 use Rattle.std.proofs.lemmas.Result.{err_from_is_err_and}
 use Rattle.std.proofs.KnownBytes.{Appends-trans}
 use Rattle.pgn_game.specs.Markers.{marker_text}
@@ -9,7 +7,7 @@ use Rattle.pgn_game.proofs.section.write_section.Goals as goal
 
 pub returns-in-Reduced-clause-text : goal.returns-in-Reduced-clause-text
 returns-in-Reduced-clause-text g c =
-    rw (c.in-Reduced.is, ← reduced_section (marker_text c.args.missing_result) c.args.pairs.now) (Writes-append _ _ _ _ _ _ c.in_ok-write_roster.ensures.text (c.end_tags.ensures.text (ap (λ (l : Layout). l.has_failed) c.in_ok-write_roster.ensures.line ∙ c.requires.going)))
+    rw (c.in-Reduced.is, ← reduced_section (marker_text c.args.missing_result) c.args.pairs.now) (Writes-append _ _ _ _ _ _ c.in_ok-write_roster.ensures.text c.end_tags.ensures.text)
 
 pub returns-in_err-write_roster-clause-text : goal.returns-in_err-write_roster-clause-text
 returns-in_err-write_roster-clause-text g c =
@@ -27,4 +25,4 @@ pub returns-in_ok-write_others-in-Full-clause-text : goal.returns-in_ok-write_ot
 returns-in_ok-write_others-in-Full-clause-text g c =
     rw (c.in-Full.is, ← full_section (marker_text c.args.missing_result) c.args.pairs.now)
     (Writes-append _ _ _ _ _ _ (Appends-trans _ _ _ _ _ c.in_ok-write_roster.ensures.text c.in_ok-write_others-in-Full.ensures.text)
-    (c.end_tags-in-Full.ensures.text (ap (λ (l : Layout). l.has_failed) (c.in_ok-write_others-in-Full.ensures.line ∙ c.in_ok-write_roster.ensures.line) ∙ c.requires.going)))
+    c.end_tags-in-Full.ensures.text)

@@ -99,7 +99,7 @@ next-scan-requires g c = omega (arith, ap (λ (s : Converter). s.lexer.count) c.
 pub accept-accepted-requires : goal.accept-accepted-requires
 accept-accepted-requires g c =
     let none = ap (λ (s : Converter). s.fault) c.self.view_is ∙ c.requires.going in
-    (search fits_reader, (c.self.invariant.going none, (omega (arith, c.self.invariant.few_plies none, c.self.invariant.count none), rw c.in-Token.is at c.next-scan.follows.holds-at-none.lengths)))
+    (search fits_reader, (omega (arith, c.self.invariant.few_plies none, c.self.invariant.count none), rw c.in-Token.is at c.next-scan.follows.holds-at-none.lengths))
 
 pub settle-outcome-requires-clause-few : goal.settle-outcome-requires-clause-few
 settle-outcome-requires-clause-few g c =

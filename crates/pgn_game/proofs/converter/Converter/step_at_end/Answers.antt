@@ -51,13 +51,13 @@ invariant_of-self-in-Token g c =
     let flag = not_at_hand _ _ (ap (λ (s : Converter). s.at_hand) c.self.view_is ∙ c.requires.hand) in
     rw (c.is_ended-self-inside.ensures, c.close_with-closed.ensures, c.settle-outcome.ensures.fault, c.settle-outcome.ensures.games, c.settle-outcome.ensures.outcome, c.is_end-is_end.ensures, flag)
     (sound_behind c.self.inside.lexer c.finish.follows.lender-at-none c.self.inside.reader c.accept-accepted.new.self c.self.inside.games c.in-Token.token.at _ _ c.accept-accepted.result refl
-    (nearer_by _ c.self.inside.lexer c.finish.follows.lender-at-none _ gives) c.accept-accepted.ensures.finished c.accept-accepted.ensures.going
+    (nearer_by _ c.self.inside.lexer c.finish.follows.lender-at-none _ gives) c.accept-accepted.ensures.finished
     (c.self.invariant.count none) (c.self.invariant.few none) (c.self.invariant.fewer_plies none not_over) c.accept-accepted.ensures.plies)
 
 pub accept-accepted-requires : goal.accept-accepted-requires
 accept-accepted-requires g c =
     let none = ap (λ (s : Converter). s.fault) c.self.view_is ∙ c.requires.no_fault in
-    (search fits_reader, (c.self.invariant.going none, (omega (arith, c.self.invariant.few_plies none, c.self.invariant.count none), rw c.in-Token.is at c.finish.follows.holds-at-none.lengths)))
+    (search fits_reader, (omega (arith, c.self.invariant.few_plies none, c.self.invariant.count none), rw c.in-Token.is at c.finish.follows.holds-at-none.lengths))
 
 pub settle-outcome-requires-clause-few : goal.settle-outcome-requires-clause-few
 settle-outcome-requires-clause-few g c =

@@ -1,4 +1,4 @@
-use Rattle.std.proofs.Common.{ap, ◌∙◌, arith}
+use Rattle.std.proofs.Common.{◌∙◌, arith}
 use Rattle.std.proofs.KnownBytes.{Appends-nil}
 use Rattle.pgn_lexer.specs.Scanned.{kind_of}
 use Rattle.pgn_game.specs.Reading as reading
@@ -23,10 +23,7 @@ pub carry_out-requires : goal.carry_out-requires
 carry_out-requires g c =
     let keeps = keeps_found c.args.self.now c.make_ready.new.self c.find-found.new.self (kind_of c.args.kind) c.make_ready.ensures c.find-found.ensures.counted in (
       search reader_alike,
-      (
-        ap (λ l. l.has_failed) keeps.layout ∙ c.requires.going,
-        (omega (arith, keeps.plies, c.requires.few), (c.in-Ok.ensures.fits, c.find-found.ensures.few)),
-      ),
+      (omega (arith, keeps.plies, c.requires.few), (c.in-Ok.ensures.fits, c.find-found.ensures.few)),
     )
 
 pub returns-in-Ok : goal.returns-in-Ok
@@ -42,7 +39,6 @@ returns-in-Ok g c =
           c.carry_out.ensures.tried c.carry_out.ensures.most);
       profile = puts.keeps.profile ∙ keeps.profile;
       stays = stays_found c.args.self.now c.find-found.new.self c.carry_out.new.self (kind_of c.args.kind) c.carry_out.result keeps puts.stays;
-      going = puts.going;
       finished = finishes_at_marker (kind_of c.args.kind) c.in-Ok.judged c.carry_out.new.self c.carry_out.result c.in-Ok.ensures.marks puts.finished;
       counted = puts.counted;
       plies = omega (arith, puts.keeps.plies, keeps.plies);
@@ -61,7 +57,6 @@ returns-in-Err g c =
           c.find-found.ensures.tried c.find-found.ensures.most c.in-Err.reason some);
       profile = keeps.profile;
       stays = tt;
-      going = tt;
       finished = tt;
       counted = counts_refused c.in-Err.reason _ c.in-Err.ensures.fits;
       plies = omega (arith, keeps.plies);

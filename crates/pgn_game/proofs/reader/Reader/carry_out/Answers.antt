@@ -16,7 +16,7 @@ returns-in-Value-clause-puts g c =
     let v = c.self-in-Value.view_is in
     let fits = subst (λ (j : Judged). Fits g.row.T g.row.L old j) c.in-Value.is c.requires.fits in
     rw c.in-Value.is
-    (puts_value g.row.T g.row.L old _ c.in-Value.value c.pending_name.result.now c.unwrap_or-start.result c.complete.new.self _ _ fits c.requires.going
+    (puts_value g.row.T g.row.L old _ c.in-Value.value c.pending_name.result.now c.unwrap_or-start.result c.complete.new.self _ _ fits
     (subst (λ (r : Reading). IfSome r.tags.pending_name (λ name. c.complete.new.self ≡ completed name c.in-Value.value.now r.tags.held)) v c.complete.ensures)
     (sym (ap (λ (r : Reading). r.tags.pending_name) v) ∙ c.pending_name.ensures)
     (c.unwrap_or-start.ensures ∙ ap (λ (r : Result (Option Parts) ℕ). result_unwrap_or r None) c.fen_position.ensures)

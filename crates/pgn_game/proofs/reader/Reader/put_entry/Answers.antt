@@ -1,10 +1,10 @@
-use Rattle.std.proofs.Common.{◌≡◌, max, ℕ, refl, ap, subst, ◌∙◌, arith}
+use Rattle.std.proofs.Common.{◌≡◌, max, ℕ, List, refl, ap, subst, ◌∙◌, arith}
 use Rattle.std.specs.Prelude.{Err}
 use Rattle.std.proofs.Math.Nat.{le-max_left}
 use Rattle.std.proofs.lemmas.Result.{err_from_is_err_and}
 use Rattle.std.specs.Io.KnownBytes.{Appends}
 use Rattle.pgn_layout.specs.Device.{AppendsFront, one_more}
-use Rattle.pgn_layout.specs.Layout.{Layout, Put, EndGame, text_at, line_at}
+use Rattle.pgn_layout.specs.Layout.{Put, EndGame, text_at, line_at}
 use Rattle.pgn_game.specs.declared.judged.Entry.{Entry}
 use Rattle.pgn_game.specs.Reading.{Reading}
 use Rattle.pgn_game.specs.Judging.{EntryFits, IsProbed}
@@ -33,7 +33,7 @@ returns-in_err-begin_movetext-clause-puts g c =
 pub returns-in-Number-clause-puts : goal.returns-in-Number-clause-puts
 returns-in-Number-clause-puts g c =
     rw c.in-Number.is
-    (puts_number c.args.self.now c.begin_movetext.new.self _ c.requires.fits.0 c.requires.going c.in_ok-begin_movetext.ensures.begins)
+    (puts_number c.args.self.now c.begin_movetext.new.self _ c.requires.fits.0 c.in_ok-begin_movetext.ensures.begins)
 
 pub returns-in_err-put-in-Item-clause-puts : goal.returns-in_err-put-in-Item-clause-puts
 returns-in_err-put-in-Item-clause-puts g c =
@@ -61,11 +61,10 @@ returns-in_err-put-in-Marker-clause-puts g c =
     let marker = c.in-Marker.marker in
     let p = err_from_is_err_and c.from_residual-in_err-put-in-Marker.result c.from_residual-in_err-put-in-Marker.ensures.1 in
     let begins = begins_as old _ _ _ c.self-in-Marker.view_is c.in_ok-begin_movetext.ensures.begins in
-    let well = ap (λ (r : Reading). r.layout.has_failed) begins.begun ∙ c.requires.going in
     let fits = subst (λ (e : Entry). EntryFits g.row.L old.text e) c.in-Marker.is c.requires.fits.1 in
-    let front = front_of_more (g.W.Sink.taken c.begin_movetext.new.out) (g.W.Sink.taken c.put.new.out) _ (text_at (line_at c.self-in-Marker.inside.layout.line (Put marker.now)) EndGame) (c.in_err-put-in-Marker.ensures.text well) in
+    let front = front_of_more (g.W.Sink.taken c.begin_movetext.new.out) (g.W.Sink.taken c.put.new.out) _ (text_at (line_at c.self-in-Marker.inside.line (Put marker.now)) EndGame) c.in_err-put-in-Marker.ensures.text in
     rw (c.in-Marker.is, p.1 ∙ ap Err p.2)
-    (ends_ill old _ _ marker _ _ _ _ _ _ (record { begins = begins; outside = fits.1; token = fits.0; at = c.requires.fits.0 }) front refl (c.in_err-put-in-Marker.ensures.faults.counted well))
+    (ends_ill old _ _ marker _ _ _ _ _ _ (record { begins = begins; outside = fits.1; token = fits.0; at = c.requires.fits.0 }) front refl c.in_err-put-in-Marker.ensures.counted)
 
 pub returns-in_err-end_game-in-Marker-clause-puts : goal.returns-in_err-end_game-in-Marker-clause-puts
 returns-in_err-end_game-in-Marker-clause-puts g c =
@@ -73,26 +72,22 @@ returns-in_err-end_game-in-Marker-clause-puts g c =
     let marker = c.in-Marker.marker in
     let p = err_from_is_err_and c.from_residual-in_err-end_game-in-Marker.result c.from_residual-in_err-end_game-in-Marker.ensures.1 in
     let begins = begins_as old _ _ _ c.self-in-Marker.view_is c.in_ok-begin_movetext.ensures.begins in
-    let well = ap (λ (r : Reading). r.layout.has_failed) begins.begun ∙ c.requires.going in
     let fits = subst (λ (e : Entry). EntryFits g.row.L old.text e) c.in-Marker.is c.requires.fits.1 in
     let held = c.in_ok-put-in-Marker.ensures.line in
-    let going = ap (λ (l : Layout). l.has_failed) held in
-    let last = subst (AppendsFront (g.W.Sink.taken c.put.new.out) (g.W.Sink.taken c.end_game.new.out)) (ap (λ (l : Layout). text_at l.line EndGame) held) (c.in_err-end_game-in-Marker.ensures.text going) in
-    let front = front_after (g.W.Sink.taken c.begin_movetext.new.out) (g.W.Sink.taken c.put.new.out) (g.W.Sink.taken c.end_game.new.out) _ _ (c.in_ok-put-in-Marker.ensures.text well) last in
+    let last = subst (AppendsFront (g.W.Sink.taken c.put.new.out) (g.W.Sink.taken c.end_game.new.out)) (ap (λ (l : List ℕ). text_at l EndGame) held) c.in_err-end_game-in-Marker.ensures.text in
+    let front = front_after (g.W.Sink.taken c.begin_movetext.new.out) (g.W.Sink.taken c.put.new.out) (g.W.Sink.taken c.end_game.new.out) _ _ c.in_ok-put-in-Marker.ensures.text last in
     rw (c.in-Marker.is, p.1 ∙ ap Err p.2)
     (ends_ill old _ _ marker _ _ _ _ _ _ (record { begins = begins; outside = fits.1; token = fits.0; at = c.requires.fits.0 }) front refl
-    (c.in_err-end_game-in-Marker.ensures.faults.counted going ∙ ap one_more (c.in_ok-put-in-Marker.ensures.faults.counted well)))
+    (c.in_err-end_game-in-Marker.ensures.counted ∙ ap one_more c.in_ok-put-in-Marker.ensures.counted))
 
 pub returns-in_ok-end_game-in-Marker-clause-puts : goal.returns-in_ok-end_game-in-Marker-clause-puts
 returns-in_ok-end_game-in-Marker-clause-puts g c =
     let old = c.args.self.now in
     let marker = c.in-Marker.marker in
     let begins = begins_as old _ _ _ c.self-in-Marker.view_is c.in_ok-begin_movetext.ensures.begins in
-    let well = ap (λ (r : Reading). r.layout.has_failed) begins.begun ∙ c.requires.going in
     let fits = subst (λ (e : Entry). EntryFits g.row.L old.text e) c.in-Marker.is c.requires.fits.1 in
     let held = c.in_ok-put-in-Marker.ensures.line in
-    let going = ap (λ (l : Layout). l.has_failed) held in
-    let last = subst (Appends (g.W.Sink.taken c.put.new.out) (g.W.Sink.taken c.end_game.new.out)) (ap (λ (l : Layout). text_at l.line EndGame) held) (c.in_ok-end_game-in-Marker.ensures.text going) in
+    let last = subst (Appends (g.W.Sink.taken c.put.new.out) (g.W.Sink.taken c.end_game.new.out)) (ap (λ (l : List ℕ). text_at l EndGame) held) c.in_ok-end_game-in-Marker.ensures.text in
     rw c.in-Marker.is
-    (ends_well old _ _ marker _ _ _ _ _ _ _ (record { begins = begins; outside = fits.1; token = fits.0; at = c.requires.fits.0 }) (c.in_ok-put-in-Marker.ensures.text well) last refl c.in_ok-end_game-in-Marker.ensures.line
-    (c.in_ok-end_game-in-Marker.ensures.faults.counted going ∙ c.in_ok-put-in-Marker.ensures.faults.counted well))
+    (ends_well old _ _ marker _ _ _ _ _ _ _ (record { begins = begins; outside = fits.1; token = fits.0; at = c.requires.fits.0 }) c.in_ok-put-in-Marker.ensures.text last refl c.in_ok-end_game-in-Marker.ensures.line
+    (c.in_ok-end_game-in-Marker.ensures.counted ∙ c.in_ok-put-in-Marker.ensures.counted))
