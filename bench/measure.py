@@ -29,7 +29,7 @@ MAIN_FUNCTIONS = {
     "lexer": ("pgn_lexer::lexer::Lexer::next",),
     "find": ("pgn_game::find::find_move",),
     "write_san": ("chess_text::san::write_san",),
-    "layout and sinks": ("pgn_layout::layout::Layout::put", "pgn_layout::sink::write_all"),
+    "layout and sinks": ("pgn_layout::current_line::CurrentLine::put", "pgn_layout::sink::write_all"),
     "reader and levels": ("pgn_game::reader::Reader::accept", "pgn_game::movetext::Movetext::put"),
 }
 STACK_STEP = 4
