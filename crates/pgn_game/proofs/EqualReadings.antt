@@ -41,11 +41,11 @@ ends (t ∷ []) rises = tt
 ends (t ∷ u ∷ ts) rises = (not_end t.kind rises.0, ends (u ∷ ts) rises.2)
 
 -- One token, by what it is rejected for, and by whether it shows a difference.
-abbrev after_marks : Profile → Progress → Token → List Token → Option Reason → List Mark
+abbrev pub after_marks : Profile → Progress → Token → List Token → Option Reason → List Mark
 after_marks p b t ts (Some reason) = []
 after_marks p b t ts None = mark_at t.at (next b.part t.kind) ++ marks_from p (progress_after b t) ts
 
-marks_test : (p : Profile) (b : Progress) (t : Token) (ts : List Token) → marks_from p b (t ∷ ts) ≡ after_marks p b t ts (refusal p b.part t.kind)
+pub marks_test : (p : Profile) (b : Progress) (t : Token) (ts : List Token) → marks_from p b (t ∷ ts) ≡ after_marks p b t ts (refusal p b.part t.kind)
 marks_test p b t ts =
     elim (refusal p b.part t.kind)
     as (λ o. elim o [ Some reason ↦ [] | None ↦ mark_at t.at (next b.part t.kind) ++ marks_from p (progress_after b t) ts ] ≡ after_marks p b t ts o) [
@@ -65,11 +65,11 @@ reading_test p b t ts =
       | None ↦ refl
     ]
 
-abbrev after_change : Profile → Mark → List Mark → Progress → Token → List Token → Bool → Followed
+abbrev pub after_change : Profile → Mark → List Mark → Progress → Token → List Token → Bool → Followed
 after_change p m ms b t ts true = record { progress = b; ahead = m ∷ ms; fault = Some (record { at = t.at; reason = Changed }) }
 after_change p m ms b t ts false = follow p (marks_after (next b.part t.kind) m ms) (progress_after b t) ts
 
-change_test : (p : Profile) (m : Mark) (ms : List Mark) (b : Progress) (t : Token) (ts : List Token)
+pub change_test : (p : Profile) (m : Mark) (ms : List Mark) (b : Progress) (t : Token) (ts : List Token)
     → follow p (m ∷ ms) b (t ∷ ts) ≡ after_change p m ms b t ts (is_changed p m b.part t)
 change_test p m ms b t ts =
     elim (is_changed p m b.part t)
@@ -88,7 +88,7 @@ same_mark : (g : Game) (t : Token) → is_other (record { text = g.marker; at = 
 same_mark g t = ap not (ap (λ (c : Bool). c && (t.at == t.at)) ((bytes_eq-Decides g.marker g.marker).1 refl) ∙ same_place t.at)
 
 -- behind the last mark nothing is read
-no_mark : (p : Profile) (b : Progress) (ts : List Token) → follow p [] b ts ≡ record { progress = b; ahead = []; fault = None }
+pub no_mark : (p : Profile) (b : Progress) (ts : List Token) → follow p [] b ts ≡ record { progress = b; ahead = []; fault = None }
 no_mark p b [] = refl
 no_mark p b (t ∷ ts) = refl
 

@@ -8,3 +8,4 @@ mod pairs
 mod putting
 mod reading
 mod tokens
+mod twice

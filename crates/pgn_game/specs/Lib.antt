@@ -27,6 +27,8 @@ pub mod Stepping
 pub mod Size
 pub mod Converting
 pub mod Checked
+pub mod ConvertingTwice
+pub mod Pass
 pub mod EqualReadings
 pub mod Laws
 pub mod MovesAreLegal

@@ -1,7 +1,12 @@
--- **Definition**: that a converter fits in memory: it takes fewer than 2 ^ 63 bytes.
+-- **Definition**: that a converter fits in memory, or one of two readings: it takes fewer than
+-- 2 ^ 63 bytes.
 use Rattle.std.specs.Mem.{FitsInMemory}
 use Rattle.std.specs.Borrow.{RattleType}
 use Rattle.pgn_game.specs.contracts.converter.Converter.{the_row}
+use Rattle.pgn_game.specs.contracts.checked.Pass.{the_row as pass_row}
 
 abbrev pub Holds : RattleType → RattleType → Type 0
 Holds T L = FitsInMemory (the_row T L)
+
+abbrev pub HoldsTwice : RattleType → RattleType → Type 0
+HoldsTwice T L = FitsInMemory (pass_row T L)

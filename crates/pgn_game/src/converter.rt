@@ -27,7 +27,7 @@ use pgn_lexer::{LexFault, Lexer, Outcome};
 use std::marker::Model;
 
 /// The most bytes of an input, and so the first place that no byte may have.
-const MAX_INPUT_LENGTH: u64 = 1 << 62;
+pub const MAX_INPUT_LENGTH: u64 = 1 << 62;
 
 /// What `Converter::feed` did with a piece.
 #[derive(Clone, Copy, Debug, PartialEq, Eq)]
@@ -463,7 +463,7 @@ fn fail(fault: Fault, kept: &mut Option<Fault>) -> Result<Option<Accepted>, Faul
 }
 
 // Makes a fault of the converter from one of the lexer.
-fn lexical(fault: LexFault) -> Fault
+pub fn lexical(fault: LexFault) -> Fault
     ensures { result ≡ record { at = fault.at; reason = Lexical fault.reason } }
 {
     Fault {

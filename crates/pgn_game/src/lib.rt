@@ -5,6 +5,7 @@
 #![tactic(auto)]
 
 mod accept;
+mod checked;
 mod conversion;
 mod converter;
 mod find;
@@ -24,6 +25,7 @@ mod stage;
 mod tags;
 mod token_tests;
 
+pub use checked::convert_checked;
 pub use conversion::{Totals, convert, convert_slice};
 pub use converter::{Converter, Fed};
 pub use find::find_move;

@@ -1,7 +1,13 @@
 //! The termination markers.
 ghost use Rattle.std.specs.Prelude.{◌≡◌, ◌≤◌, length};
 ghost use Rattle.pgn_layout.specs.TagLine.{escaped};
+ghost use Rattle.std.specs.Prelude.{option_map};
+ghost use Rattle.pgn_lexer.specs.Scanned.{kind_of};
+ghost use Rattle.pgn_lexer.specs.Tokens.{symbol};
 ghost use Rattle.pgn_game.specs.Markers.{marker_text};
+ghost use Rattle.pgn_game.specs.FaultTable.{marker_of};
+
+use pgn_lexer::TokenKind;
 
 /// A termination marker, which is also a value of Result (PGN 8.2.6).
 #[derive(Clone, Copy)]
@@ -17,6 +23,17 @@ pub enum Marker {
 }
 
 impl Marker {
+    /// Returns the marker that a token is, if it is one.
+    pub fn of(kind: TokenKind<'_>) -> Option<Marker>
+        ensures { option_map marker_text result ≡ marker_of (kind_of kind.entry) }
+    {
+        match kind {
+            TokenKind::Asterisk => Some(Marker::Unknown),
+            TokenKind::Symbol(text) => score_of(text),
+            _ => None,
+        }
+    }
+
     /// Returns the text of the marker.
     pub fn text(&self) -> &'static [u8]
         ensures text { result.now ≡ marker_text self.now }
@@ -28,5 +45,18 @@ impl Marker {
             Marker::Draw => b"1/2-1/2",
             Marker::Unknown => b"*",
         }
+    }
+}
+
+// Returns the marker that a symbol is, if it is one.
+fn score_of(text: &[u8]) -> Option<Marker>
+    ensures { option_map marker_text result ≡ marker_of (symbol text.now) }
+{
+    // Most symbols are moves, and differ in the first byte.
+    match text.first() {
+        Some(b'0') if text == b"0-1".as_slice() => Some(Marker::BlackWins),
+        Some(b'1') if text == b"1-0".as_slice() => Some(Marker::WhiteWins),
+        Some(b'1') if text == b"1/2-1/2".as_slice() => Some(Marker::Draw),
+        _ => None,
     }
 }

@@ -14,6 +14,7 @@ ghost use Rattle.pgn_game.specs.declared.stage.Stage.TheVariants.{AfterValue, Af
 ghost use Rattle.pgn_game.specs.declared.stage.Stage.TheVariants.{InMovetext};
 ghost use Rattle.pgn_game.specs.declared.judged.Judged.TheVariants.{Entry as InText};
 ghost use Rattle.pgn_game.specs.Profile.{counts_as, known_result};
+ghost use Rattle.pgn_game.specs.Markers.{marker_text};
 ghost use Rattle.pgn_game.specs.Movetext.{movetext_from};
 ghost use Rattle.pgn_game.specs.Reading.{Accepts, Stays, FinishesAtMarker, CountsWrites};
 ghost use Rattle.pgn_game.specs.Judging.{Counts, Finds, Fits, Judges, JudgesEntry, Seeks, may_have_movetext};
@@ -156,6 +157,15 @@ impl<const T: usize, const L: usize> Reader<T, L> {
         ensures { IsTrue result ↔ (self.now.stage ≡ Between) }
     {
         self.stage == Stage::Between
+    }
+
+    /// From now on a missing Result counts as this marker.
+    pub fn count_missing_result_as(&mut self, marker: Marker)
+        ensures { self.new ≡ record self.old {
+          profile = record self.old.profile { missing_result = counts_as (marker_text marker) };
+        } }
+    {
+        self.missing_result = marker;
     }
 
     /// Takes one token, and writes what it adds to the text of its game.

@@ -343,7 +343,7 @@ took_none p old u given piece used l o some stands scan =
     )
 
 -- a rejection of the lexer is a row of its own
-lexical-refusal : (p : Profile) (part : Part) (f : LexFault) → refusal p part (refusal_token f).kind ≡ Some (Lexical f.reason)
+pub lexical-refusal : (p : Profile) (part : Part) (f : LexFault) → refusal p part (refusal_token f).kind ≡ Some (Lexical f.reason)
 unfolding refusal
 lexical-refusal p part f = refl
 

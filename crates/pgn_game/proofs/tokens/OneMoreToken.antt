@@ -63,7 +63,7 @@ pub read-refuses : (p : Profile) (given : List Token) (t : Token) (us : List Tok
     → read p (given ++ t ∷ us) ≡ read_as (read p given).progress (Some (record { at = t.at; reason = reason }))
 read-refuses p given t us reason e some = after_those p no_progress given t us e ∙ ap (after_test p (read p given).progress t us) some
 
-text_of-snoc : (p : Profile) (games : List Game) (g : Game) → text_of p (games ++ g ∷ []) ≡ text_of p games ++ game_text p g
+pub text_of-snoc : (p : Profile) (games : List Game) (g : Game) → text_of p (games ++ g ∷ []) ≡ text_of p games ++ game_text p g
 text_of-snoc p [] g = append-nil (game_text p g)
 text_of-snoc p (x ∷ xs) g = ap (λ l. game_text p x ++ l) (text_of-snoc p xs g) ∙ sym (append_assoc (game_text p x) (text_of p xs) (game_text p g))
 

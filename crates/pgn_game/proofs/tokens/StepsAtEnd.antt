@@ -29,7 +29,7 @@ use Rattle.pgn_game.proofs.tokens.OneMoreToken.{gains_none, gains_more, stops_mo
 use Rattle.pgn_game.proofs.tokens.AcceptedToConverter.{stepped, gains_token, same_games, has_read_more, one_game, has_read_game, stops_refused, writing, stops_lexical, none_before_refused, none_before_unwritten, none_before_lexical, count_at_refused, count_at_unwritten, count_at_lexical}
 
 -- what is left behind a token: nothing behind the end
-abbrev Left : List ℕ → List Token → Bool → Standing → Token → Type 0
+abbrev pub Left : List ℕ → List Token → Bool → Standing → Token → Type 0
 Left u given true l t = tokens_of u ≡ given ++ t ∷ []
 Left u given false l t = HasLeft l u (given ++ t ∷ [])
 
@@ -50,7 +50,7 @@ left_by u given tokens.end l t h = h
 left_by u given (tokens.refused r) l t h = h
 
 -- a token was waiting, unless it is the end
-abbrev Nearer : Bool → Standing → Standing → Type 0
+abbrev pub Nearer : Bool → Standing → Standing → Type 0
 Nearer true old new = new ≡ old
 Nearer false old new = (waiting new < waiting old) × (new.count ≡ old.count)
 
@@ -71,7 +71,7 @@ nearer_by tokens.end old new t h = h.1
 nearer_by (tokens.refused r) old new t h = (h.1, h.2)
 
 -- the end is no marker
-marker_or_end : (k : Kind) → IsTrue (is_some (marker_of k)) → is_end k ≡ false
+pub marker_or_end : (k : Kind) → IsTrue (is_some (marker_of k)) → is_end k ≡ false
 marker_or_end tokens.left_bracket h = refl
 marker_or_end tokens.right_bracket h = refl
 marker_or_end tokens.left_paren h = refl
@@ -88,12 +88,12 @@ marker_or_end tokens.end h = absurd (cc)
 marker_or_end (tokens.refused r) h = refl
 
 -- the tokens of the text begin so in either case
-tokens_left : (u : List ℕ) (given : List Token) (e : Bool) (l : Standing) (t : Token) → Left u given e l t → (us : List Token) × (tokens_of u ≡ given ++ t ∷ us)
+pub tokens_left : (u : List ℕ) (given : List Token) (e : Bool) (l : Standing) (t : Token) → Left u given e l t → (us : List Token) × (tokens_of u ≡ given ++ t ∷ us)
 tokens_left u given true l t h = ([], h)
 tokens_left u given false l t h = (coming l [], h ∙ append_assoc given (t ∷ []) (coming l []))
 
 -- the end is passed between games alone
-end_at : (p : Profile) (s : Stage) (ps : List Pair) (name : List ℕ) (items : List Item)
+pub end_at : (p : Profile) (s : Stage) (ps : List Pair) (name : List ℕ) (items : List Item)
     → refusal p (record { stage = s; pairs = ps; name = name; items = items }) tokens.end ≡ None → s ≡ Between
 unfolding refusal
 end_at p Between ps name items h = refl
@@ -108,7 +108,7 @@ between_after : (s : Stage) (ps : List Pair) (name : List ℕ) (items : List Ite
 between_after s ps name items games e =
     subst (λ s. (progress_with games (next (record { stage = s; pairs = ps; name = name; items = items }) tokens.end)).part.stage ≡ Between) (sym e) refl
 
-is_the_end : (k : Kind) → is_end k ≡ true → k ≡ tokens.end
+pub is_the_end : (k : Kind) → is_end k ≡ true → k ≡ tokens.end
 is_the_end tokens.left_bracket h = absurd (cc)
 is_the_end tokens.right_bracket h = absurd (cc)
 is_the_end tokens.left_paren h = absurd (cc)
@@ -132,7 +132,7 @@ end_passes p b k e none =
     (end_at p b.part.stage b.part.pairs b.part.name b.part.items (subst (λ j. refusal p b.part j ≡ None) k_is none)))
 
 -- the game at hand is let go
-let_go : (p : Profile) (c : Converter) (given : List Token) → HasRead p c given → HasRead p (record c { at_hand = None }) given
+pub let_go : (p : Profile) (c : Converter) (given : List Token) → HasRead p c given → HasRead p (record c { at_hand = None }) given
 let_go p c given h = record { profile = h.profile; no_fault = h.no_fault; passes = h.passes; agrees = h.agrees; games = h.games; plies = h.plies; probed = h.probed; tried = h.tried; at_hand = tt }
 
 -- a converter after a step behind the last piece
@@ -228,7 +228,7 @@ games_of_closed k after at false (Ok Finished) games is_e marker = refl
 games_of_closed k after at e (Err reason) games is_e marker = refl
 
 -- an error of the reader counts as the fault that it is
-counts_reason : (r : Reason) (old new : ℕ) → CountsWrites (Err r) old new → CountsReason r old new
+pub counts_reason : (r : Reason) (old new : ℕ) → CountsWrites (Err r) old new → CountsReason r old new
 counts_reason (Lexical x) old new h = by_test (is_outside_the_table (Lexical x)) h
   where
     differ : Lexical x ≡ WriteFault → ⊥

@@ -112,12 +112,12 @@ further_writing p given tokens more at a c w =
     }
 
 -- what is left, when it is known
-known_left : (o n : Option (List ℕ)) (u : List ℕ) (P : List ℕ → Type 0) → Consumes o n u → ((rest : List ℕ) → P (u ++ rest)) → IfSome o P
+pub known_left : (o n : Option (List ℕ)) (u : List ℕ) (P : List ℕ → Type 0) → Consumes o n u → ((rest : List ℕ) → P (u ++ rest)) → IfSome o P
 known_left None n u P h all = tt
 known_left (Some s) None u P h all = absurd h
 known_left (Some s) (Some rest) u P h all = subst P (sym h) (all rest)
 
-known_whole : (o n : Option (List ℕ)) (u : List ℕ) (P : List ℕ → Type 0) → Consumes o n u → IsAtEnd n → P u → IfSome o P
+pub known_whole : (o n : Option (List ℕ)) (u : List ℕ) (P : List ℕ → Type 0) → Consumes o n u → IsAtEnd n → P u → IfSome o P
 known_whole None n u P h end here = tt
 known_whole (Some s) None u P h end here = absurd h
 known_whole (Some s) (Some rest) u P h end here = subst P (sym (h ∙ ap (λ l. u ++ l) end ∙ append-nil u)) here

@@ -1,0 +1,59 @@
+use Rattle.std.proofs.Common.{◌≡◌, ℕ, ◌+◌, ◌<◌, ◌≤◌, ◌-◌, ◌^◌, max, true, List, [], ◌++◌, length, take, drop, refl, sym, ap, subst, ◌∙◌, inl, inr, arith, length-take-le}
+use Rattle.std.specs.Io.KnownBytes.{Consumes}
+use Rattle.pgn_game.specs.Pass.{Pass}
+use Rattle.pgn_game.proofs.twice.BytesOfReading.{ended_here, fails_too_long, fails_unread, filled_here, front_fits, front_some, going_filled, kept_of, taken_front}
+use Rattle.pgn_game.proofs.checked.Pass.fill.Goals as goal
+
+pub returns-in-Err-clause-fills : goal.returns-in-Err-clause-fills
+returns-in-Err-clause-fills g c =
+    record {
+      fills = λ q left_old given has.
+          fails_unread q left_old _ _ c.args.self.now c.args.self.now given has c.requires.empty.0 c.requires.empty.1 _ c.in-Err.ensures.bytes
+          (c.count-at.ensures ∙ ap (λ (s : Pass). s.lexer.count) c.self.view_is);
+      kept = kept_of _ c.args.self.now _ _ c.self.view_is;
+      filled = tt;
+      going = tt;
+    }
+
+pub returns-in-Ok-eq0-clause-fills : goal.returns-in-Ok-eq0-clause-fills
+returns-in-Ok-eq0-clause-fills g c =
+    let read = rw c.in-Ok-eq0.field-0-test at c.in-Ok-eq0.ensures.bytes in
+    let some : 0 < length c.read_some.new.buffer = omega (arith, c.bytes_to_read.ensures.some, c.read_some.auto.buffer) in
+    record {
+      fills = λ q left_old given has.
+          ended_here q left_old _ _ c.args.self.now _ given has c.requires.empty.0 c.requires.empty.1 (kept_of _ c.args.self.now [] true c.self.view_is) refl refl read.0
+          (read.1 refl some);
+      kept = kept_of _ c.args.self.now [] true c.self.view_is;
+      filled = inl refl;
+      going = going_filled c.args.self.now _ c.requires.going (kept_of _ c.args.self.now [] true c.self.view_is) (omega (arith, c.requires.going.room));
+    }
+
+pub returns-in-Ok-clause-fills : goal.returns-in-Ok-clause-fills
+returns-in-Ok-clause-fills g c =
+    record {
+      fills = λ q left_old given has.
+          fails_too_long q left_old _ _ c.args.self.now c.args.self.now given has c.requires.empty.0 c.requires.empty.1 _ _ c.in-Ok.ensures.bytes.0
+          (omega (arith, length-take-le c.in-Ok.field-0 c.read_some.new.buffer c.in-Ok.ensures.bound.0, c.in-Ok.field-0-test))
+          (c.count-at.ensures ∙ ap (λ (s : Pass). s.lexer.count) c.self.view_is)
+          (omega (arith, c.if-room-eq0.true, c.count-at.ensures, c.requires.going.room, ap (λ (s : Pass). s.lexer.count) c.self.view_is));
+      kept = kept_of _ c.args.self.now _ _ c.self.view_is;
+      filled = tt;
+      going = tt;
+    }
+
+pub returns-in-Ok-2-clause-fills : goal.returns-in-Ok-2-clause-fills
+returns-in-Ok-2-clause-fills g c =
+    let within = c.in-Ok.ensures.bound.0 in
+    let some : 0 < c.in-Ok.field-0 = omega (arith, c.in-Ok.field-0-test) in
+    let place = ap (λ (s : Pass). s.lexer.count) c.self.view_is in
+    record {
+      fills = λ q left_old given has.
+          filled_here q left_old _ _ c.args.self.now _ given has c.requires.empty.0 c.requires.empty.1 (kept_of _ c.args.self.now _ _ c.self.view_is)
+          (ap (λ (s : Pass). s.has_ended) c.self.view_is ∙ c.requires.empty.0)
+          (subst (Consumes _ _) (sym (taken_front c.in-Ok.field-0 c.read_some.new.buffer _ within)) c.in-Ok.ensures.bytes.0);
+      kept = kept_of _ c.args.self.now _ _ c.self.view_is;
+      filled = inr (front_some c.in-Ok.field-0 c.read_some.new.buffer _ within some);
+      going = going_filled c.args.self.now _ c.requires.going (kept_of _ c.args.self.now _ _ c.self.view_is)
+          (front_fits c.args.self.now.lexer.count c.in-Ok.field-0 c.read_some.new.buffer _ within
+          (omega (arith, within, c.read_some.auto.buffer, c.bytes_to_read.ensures.room, c.if-room-eq0.false, c.count-at.ensures, place, c.requires.going.room)));
+    }

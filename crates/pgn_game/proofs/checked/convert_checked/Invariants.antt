@@ -1,0 +1,19 @@
+use Rattle.std.proofs.Common.{◌≡◌, ◌-◌}
+use Rattle.pgn_game.specs.Checked.{checked_profile}
+use Rattle.pgn_game.specs.Pass.{BothSoFar, IsGoing, steps_left}
+use Rattle.pgn_game.proofs.checked.convert_checked.Given as goal
+
+abbrev pub invariant-loop-mark : goal.invariant-loop-mark
+invariant-loop-mark g l =
+    record {
+      first_going : IsGoing l.ahead;
+      second_going : IsGoing l.behind;
+      first : g.Q.Source.failures l.first ≡ g.Q.Source.failures l.fn.first;
+      second : g.R.Source.failures l.second ≡ g.R.Source.failures l.fn.second;
+      sink : g.W.Sink.failures l.writer ≡ g.W.Sink.failures l.fn.writer;
+      both : BothSoFar (checked_profile g.row.T (g.row.L - 1) l.fn.mode) (g.Q.Source.left l.fn.first) (g.Q.Source.left l.first) (g.R.Source.left l.fn.second) (g.R.Source.left l.second)
+          l.ahead l.behind (g.W.Sink.taken l.fn.writer) (g.W.Sink.taken l.writer);
+    }
+
+abbrev pub decreases-loop-mark : goal.decreases-loop-mark
+decreases-loop-mark g l = steps_left l.ahead

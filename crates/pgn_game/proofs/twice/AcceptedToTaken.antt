@@ -1,0 +1,235 @@
+-- What the reader answers to a token, and what a reading takes: a missing Result counts as the
+-- token's marker.
+use Rattle.std.proofs.Common.{◌≡◌, ℕ, ◌<◌, ◌⊎◌, inl, inr, Bool, true, false, List, [], length, take, drop, Option, None, Some, Result, Ok, Err, refl, sym, ap, subst, ◌∙◌, arith}
+use Rattle.std.specs.Prelude.{◌||◌, ◌&&◌, ◌==◌, not, bytes_eq, is_some, option_map}
+use Rattle.std.proofs.Math.Seq.{drop-length}
+use Rattle.std.proofs.KnownBytes.{Appends-nil}
+use Rattle.std.specs.Io.KnownBytes.{Appends}
+use Rattle.pgn_lexer.specs.Tokens.{Kind, Token}
+use Rattle.pgn_lexer.specs.Tokens as tokens
+use Rattle.pgn_game.specs.declared.accept.Accepted.{Accepted}
+use Rattle.pgn_game.specs.declared.accept.Accepted.TheVariants.{More as Continues, Finished}
+use Rattle.pgn_game.specs.declared.checked.Mark.{Mark as CodeMark}
+use Rattle.pgn_game.specs.declared.checked.Taken.TheVariants.{More, Game as GameEnd, End}
+use Rattle.pgn_game.specs.declared.marker.Marker.{Marker}
+use Rattle.pgn_game.specs.declared.reason.Reason.{Reason}
+use Rattle.pgn_game.specs.declared.reason.Reason.TheVariants.{Changed}
+use Rattle.pgn_game.specs.declared.stage.Stage.{Stage}
+use Rattle.pgn_game.specs.declared.stage.Stage.TheVariants.{Between}
+use Rattle.pgn_game.specs.Markers.{marker_text}
+use Rattle.pgn_game.specs.Profile.{Profile, counts_as, takes_the_marker}
+use Rattle.pgn_game.specs.Pairs.{Pair}
+use Rattle.pgn_game.specs.Game.{Game, Item, Part}
+use Rattle.pgn_game.specs.FaultTable.{refusal, is_end, marker_of}
+use Rattle.pgn_game.specs.Text.{torn}
+use Rattle.pgn_game.specs.Due.{gain, text_next}
+use Rattle.pgn_game.specs.Progress.{Next, going, whole, next}
+use Rattle.pgn_game.specs.Reading.{Agrees, Answers, IsAccepted, Leads, Reading}
+use Rattle.pgn_game.specs.Reading as reading
+use Rattle.pgn_game.specs.Checked.{is_other}
+use Rattle.pgn_game.specs.Pass.{IsCounting, LeadsTo, TakesToken, TokenFails, counting, marks_differ, model_mark, other, reading_under, refused, rejects, shows_other, unwritten}
+use Rattle.pgn_game.proofs.tokens.StepsAtEnd.{end_at, is_the_end}
+use Rattle.pgn_game.proofs.twice.MarkerCounts.{accepted_under, agrees_under, marker_finishes, no_marker_goes, refusal_counting, rejected_under}
+
+-- the reader, where a missing Result counts as the marker of the token, if it is one
+abbrev pub with_marker : Option Marker → Reading → Reading
+with_marker None r = r
+with_marker (Some m) r =
+    record r { profile = record { tags = r.profile.tags; depth = r.profile.depth; mode = r.profile.mode; missing_result = counts_as (marker_text m) } }
+
+-- The end adds nothing.
+end_part : (s : Stage) (ps : List Pair) (name : List ℕ) (items : List Item) → s ≡ Between
+    → next (record { stage = s; pairs = ps; name = name; items = items }) tokens.end ≡ going (record { stage = s; pairs = ps; name = name; items = items })
+end_part s ps name items e =
+    subst (λ s. next (record { stage = s; pairs = ps; name = name; items = items }) tokens.end ≡ going (record { stage = s; pairs = ps; name = name; items = items })) (sym e) refl
+
+end_gains_nothing : (q p : Profile) (part : Part) (k : Kind) → is_end k ≡ true → refusal q part k ≡ None → gain p part k ≡ []
+end_gains_nothing q p part k is free =
+    let k_is = is_the_end k is in
+    let between = end_at q part.stage part.pairs part.name part.items (subst (λ j. refusal q part j ≡ None) k_is free) in
+    let leads : next part k ≡ going part = ap (next part) k_is ∙ end_part part.stage part.pairs part.name part.items between in
+    ap (λ n. drop (length (torn p part)) (text_next p n)) leads ∙ drop-length (torn p part)
+
+pub is_none : {A : Type 0} (o : Option A) → is_some o ≡ false → o ≡ None
+is_none None h = refl
+is_none (Some x) h = absurd (cc)
+
+-- a token that is not rejected, and shows no difference by its marker
+told_apart : (part : Part) (told : Option CodeMark) (at : ℕ) (k : Kind) (m : Marker) → next part k ≡ whole (record { pairs = part.pairs; items = part.items; marker = marker_text m })
+    → shows_other told (next part k) (record { at = at; kind = k }) ≡ marks_differ told (Some m) at
+told_apart part None at k m leads = refl
+told_apart part (Some x) at k m leads = ap (λ n. is_other (model_mark x) n (record { at = at; kind = k })) leads
+
+goes_apart : (part to : Part) (told : Option CodeMark) (at : ℕ) (k : Kind) → next part k ≡ going to → is_end k ≡ false → shows_other told (next part k) (record { at = at; kind = k }) ≡ false
+goes_apart part to None at k leads is = refl
+goes_apart part to (Some x) at k leads is = ap (λ n. is_other (model_mark x) n (record { at = at; kind = k })) leads ∙ is
+
+ends_apart : (part to : Part) (told : Option CodeMark) (at : ℕ) (k : Kind) → next part k ≡ going to → is_end k ≡ true → is_some told ≡ true
+    → shows_other told (next part k) (record { at = at; kind = k }) ≡ true
+ends_apart part to None at k leads is some = absurd (cc)
+ends_apart part to (Some x) at k leads is some = ap (λ n. is_other (model_mark x) n (record { at = at; kind = k })) leads ∙ is
+
+or_true : (o : Option Reason) (b : Bool) → b ≡ true → (is_some o || b) ≡ true
+or_true None b h = h
+or_true (Some reason) b h = refl
+
+module _ (q : Profile) (part : Part) (told : Option CodeMark) (at : ℕ) (k : Kind) (marker : Option Marker) (old set new : Reading) (a c : Option (List ℕ))
+    (takes : q.missing_result ≡ takes_the_marker) (counts : IsCounting q old.profile) (agrees : Agrees old part)
+    (marker_is : option_map marker_text marker ≡ marker_of k) (set_is : set ≡ with_marker marker old) where
+  abbrev t : Token
+  t = record { at = at; kind = k }
+
+  -- the text that a missing Result counts as
+  record CountsAs : Type 0 where
+    text : List ℕ
+    profile : set.profile ≡ counting q text
+    known : (marker_of k ≡ None) ⊎ (marker_of k ≡ Some text)
+
+  counts_as_marker : CountsAs
+  counts_as_marker = by_marker marker marker_is set_is
+    where
+      by_marker : (o : Option Marker) → option_map marker_text o ≡ marker_of k → set ≡ with_marker o old → CountsAs
+      by_marker None is set_to = record { text = counts.0; profile = ap (λ (r : Reading). r.profile) set_to ∙ counts.1; known = inl (sym is) }
+      by_marker (Some m) is set_to =
+          record {
+            text = marker_text m;
+            profile = ap (λ (r : Reading). r.profile) set_to ∙ ap (λ (p : Profile). counting p (marker_text m)) counts.1;
+            known = inr (sym is);
+          }
+
+  pub agrees_set : Agrees set part
+  agrees_set = by_marker marker set_is
+    where
+      by_marker : (o : Option Marker) → set ≡ with_marker o old → Agrees set part
+      by_marker None set_to = subst (λ r. Agrees r part) (sym set_to) agrees
+      by_marker (Some m) set_to = subst (λ r. Agrees r part) (sym set_to) (agrees_under (with_marker (Some m) old).profile old part refl agrees)
+
+  under_set : reading_under q set ≡ reading_under q old
+  under_set = by_marker marker set_is
+    where
+      by_marker : (o : Option Marker) → set ≡ with_marker o old → reading_under q set ≡ reading_under q old
+      by_marker None set_to = ap (reading_under q) set_to
+      by_marker (Some m) set_to = ap (reading_under q) set_to
+
+  pub counting_new : new.profile ≡ set.profile → IsCounting q new.profile
+  counting_new same = let x = counts_as_marker in (x.text, same ∙ x.profile)
+
+  free_of : refusal set.profile part k ≡ None → refusal q part k ≡ None
+  free_of h =
+      let x = counts_as_marker in
+      sym (refusal_counting q x.text part k takes x.known) ∙ ap (λ p. refusal p part k) (sym x.profile) ∙ h
+
+  accepted_of_set : (x : Accepted) → new.profile ≡ set.profile → IsAccepted set part k new x a c → IsAccepted (reading_under q old) part k (reading_under q new) x None None
+  accepted_of_set x same h =
+      let y = counts_as_marker in
+      subst (λ r. IsAccepted r part k (reading_under q new) x None None) under_set (accepted_under q y.text part k set new x a c takes y.profile same y.known h)
+
+  appended_of : new.profile ≡ set.profile → Appends a c (gain set.profile part k) → Appends a c (gain new.profile part k)
+  appended_of same = subst (λ p. Appends a c (gain p part k)) (sym same)
+
+  not_rejected : refusal q part k ≡ None → (b : Bool) → shows_other told (next part k) t ≡ b → rejects told q part t ≡ b
+  not_rejected free b same = ap (λ (o : Option Reason). is_some o || shows_other told (next part k) t) free ∙ same
+
+  finishes : (m : Marker) → marker ≡ Some m → refusal q part k ≡ None → next part k ≡ whole (record { pairs = part.pairs; items = part.items; marker = marker_text m })
+  finishes m is free = marker_finishes q part k (marker_text m) (sym marker_is ∙ ap (option_map marker_text) is) free
+
+  no_marker : marker ≡ None → (to : Part) × (next part k ≡ going to)
+  no_marker is = no_marker_goes part k (sym marker_is ∙ ap (option_map marker_text) is)
+
+  finished : (x : Accepted) (g : Game) → next part k ≡ whole g → Leads (next part k) x new → x ≡ Finished
+  finished Finished g is h = refl
+  finished Continues g is h = absurd (subst (λ n. Leads n Continues new) is h)
+
+  continued : (x : Accepted) (to : Part) → next part k ≡ going to → Leads (next part k) x new → x ≡ Continues
+  continued Continues to is h = refl
+  continued Finished to is h = absurd (subst (λ n. Leads n Finished new) is h)
+
+  pub taken_game : (m : Marker) (x : Accepted) → marker ≡ Some m → marks_differ told marker at ≡ false → new.profile ≡ set.profile → IsAccepted set part k new x a c
+      → TakesToken q part told t old new (GameEnd (record { marker = m; at = at })) a c
+  taken_game m x is same profile h =
+      let free = free_of h.free in
+      let leads = finishes m is free in
+      record {
+        free = free;
+        same = not_rejected free false (told_apart part told at k m leads ∙ ap (λ o. marks_differ told o at) (sym is) ∙ same);
+        leads = subst (λ n. LeadsTo n t (GameEnd (record { marker = m; at = at }))) (sym leads) refl;
+        accepted = accepted_of_set Finished profile (subst (λ y. IsAccepted set part k new y a c) (finished x _ leads h.leads) h);
+        appended = appended_of profile h.appended;
+      }
+
+  pub taken_more : (x : Accepted) → marker ≡ None → is_end k ≡ false → new.profile ≡ set.profile → IsAccepted set part k new x a c → TakesToken q part told t old new More a c
+  taken_more x is not_end profile h =
+      let free = free_of h.free in
+      let to = no_marker is in
+      record {
+        free = free;
+        same = not_rejected free false (goes_apart part to.0 told at k to.1 not_end);
+        leads = subst (λ n. LeadsTo n t More) (sym to.1) not_end;
+        accepted = accepted_of_set Continues profile (subst (λ y. IsAccepted set part k new y a c) (continued x to.0 to.1 h.leads) h);
+        appended = appended_of profile h.appended;
+      }
+
+  pub taken_end : (x : Accepted) → marker ≡ None → is_end k ≡ true → told ≡ None → new.profile ≡ set.profile → IsAccepted set part k new x a c → TakesToken q part told t old new End a c
+  taken_end x is at_end none profile h =
+      let free = free_of h.free in
+      let to = no_marker is in
+      record {
+        free = free;
+        same = not_rejected free false (ap (λ o. shows_other o (next part k) t) none);
+        leads = subst (λ n. LeadsTo n t End) (sym to.1) at_end;
+        accepted = accepted_of_set Continues profile (subst (λ y. IsAccepted set part k new y a c) (continued x to.0 to.1 h.leads) h);
+        appended = appended_of profile h.appended;
+      }
+
+  pub fails_at_end : (x : Accepted) → marker ≡ None → is_end k ≡ true → is_some told ≡ true → IsAccepted set part k new x a c → TokenFails q part told t new a c (record { at = at; reason = Changed })
+  fails_at_end x is at_end some h =
+      let free = free_of h.free in
+      let to = no_marker is in
+      other (not_rejected free true (ends_apart part to.0 told at k to.1 at_end some)) some (subst (Appends a c) (end_gains_nothing q set.profile part k at_end free) h.appended)
+
+  fails_marks_at : (x : CodeMark) (m : Marker) → told ≡ Some x → marker ≡ Some m → marks_differ told marker at ≡ true → rejects told q part t ≡ true
+  fails_marks_at x m told_is is differ = by_refusal (refusal q part k) refl
+    where
+      by_refusal : (o : Option Reason) → refusal q part k ≡ o → rejects told q part t ≡ true
+      by_refusal None free = not_rejected free true (told_apart part told at k m (finishes m is free) ∙ ap (λ o. marks_differ told o at) (sym is) ∙ differ)
+      by_refusal (Some reason) some = ap (λ (o : Option Reason). is_some o || shows_other told (next part k) t) some
+
+  pub fails_marks : (o : Option (List ℕ)) → marks_differ told marker at ≡ true → TokenFails q part told t old o o (record { at = at; reason = Changed })
+  fails_marks o differ = by_both told marker refl refl
+    where
+      by_both : (x : Option CodeMark) (y : Option Marker) → told ≡ x → marker ≡ y → TokenFails q part told t old o o (record { at = at; reason = Changed })
+      by_both (Some x) (Some m) told_is is = other (fails_marks_at x m told_is is differ) (ap is_some told_is) (Appends-nil o)
+      by_both None y told_is is = absurd (no_differ y (ap (λ x. marks_differ x marker at) (sym told_is) ∙ differ))
+        where
+          no_differ : (y : Option Marker) → marks_differ None marker at ≡ true → ⊥
+          no_differ y h = absurd (cc)
+      by_both (Some x) None told_is is = absurd (no_marker_differs (ap (λ y. marks_differ told y at) (sym is) ∙ differ))
+        where
+          no_marker_differs : marks_differ told None at ≡ true → ⊥
+          no_marker_differs h = by_told told h
+            where
+              by_told : (x : Option CodeMark) → marks_differ x None at ≡ true → ⊥
+              by_told None h = absurd (cc)
+              by_told (Some x) h = absurd (cc)
+
+  -- a write failed: so the token is not the end, which adds nothing
+  shows_none : refusal q part k ≡ None → marks_differ told marker at ≡ false → (n : ℕ) → n < length (gain set.profile part k) → shows_other told (next part k) t ≡ false
+  shows_none free same n short = by_marker marker refl
+    where
+      by_end : (e : Bool) (to : Part) → is_end k ≡ e → next part k ≡ going to → shows_other told (next part k) t ≡ false
+      by_end false to is leads = goes_apart part to told at k leads is
+      by_end true to is leads = absurd (omega (arith, short, ap (length {A = ℕ}) (end_gains_nothing q set.profile part k is free)))
+
+      by_marker : (o : Option Marker) → marker ≡ o → shows_other told (next part k) t ≡ false
+      by_marker (Some m) is = told_apart part told at k m (finishes m is free) ∙ ap (λ o. marks_differ told o at) (sym is) ∙ same
+      by_marker None is = let to = no_marker is in by_end (is_end k) to.0 refl to.1
+
+  pub fails : (reason : Reason) → marks_differ told marker at ≡ false → new.profile ≡ set.profile → Answers set part k new (Err reason) a c
+      → TokenFails q part told t new a c (record { at = at; reason = reason })
+  fails reason same profile (reading.refused why some wrote tries) =
+      let x = counts_as_marker in
+      refused why (rejected_under q x.text part k why takes x.known (ap (λ p. refusal p part k) (sym x.profile) ∙ some)) wrote
+  fails reason same profile (reading.unwritten none (n, short, wrote) tries) =
+      let free = free_of none in
+      unwritten (not_rejected free false (shows_none free same n short))
+      (n, subst (λ p. n < length (gain p part k)) (sym profile) short, subst (λ p. Appends a c (take n (gain p part k))) (sym profile) wrote)

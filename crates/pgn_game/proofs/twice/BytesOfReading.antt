@@ -1,0 +1,119 @@
+-- Bytes that a reading reads, where its buffer is used up.
+use Rattle.std.proofs.Common.{◌≡◌, ℕ, ◌+◌, ◌-◌, ◌<◌, ◌≤◌, Bool, true, false, List, [], ◌∷◌, ◌++◌, length, take, drop, Option, None, Some, IfSome, refl, sym, ap, subst, ◌∙◌, inl, append-nil, length-take-le, arith}
+use Rattle.std.specs.Prelude.{◌^◌}
+use Rattle.std.proofs.Math.Seq.{take-append-le}
+use Rattle.std.proofs.KnownBytes.{Consumes-kept, Consumes-trans}
+use Rattle.std.specs.Io.KnownBytes.{Consumes, IsAtEnd, Keeps}
+use Rattle.pgn_lexer.specs.Tokens.{Token}
+use Rattle.pgn_lexer.specs.TokensOf.{tokens_of}
+use Rattle.pgn_lexer.specs.Decided.{decided}
+use Rattle.pgn_lexer.specs.Standing.{Standing, coming}
+use Rattle.pgn_lexer.specs.Stands.{IsDecided, StandsAfter, first}
+use Rattle.pgn_game.specs.declared.reason.Reason.TheVariants.{ReadFault, InputTooLong}
+use Rattle.pgn_game.specs.Profile.{Profile}
+use Rattle.pgn_game.specs.Feeding.{HasRead, IsSound}
+use Rattle.pgn_game.specs.Pass.{HasGiven, IsCounting, IsGoing, Pass, ReadFails, StandsIn, as_converter, too_long, unread}
+use Rattle.pgn_game.proofs.tokens.StepsInPiece.{decided_at_end}
+use Rattle.pgn_game.proofs.tokens.WholeInput.{known_whole}
+
+in_buffer : (e : Bool) (l : Standing) (unused : List ℕ) (given : List Token) (u : List ℕ) (left_old : Option (List ℕ)) → e ≡ false → unused ≡ [] → StandsIn e l unused given u left_old
+    → StandsAfter l u None given × (given ≡ decided u)
+in_buffer true l unused given u left_old is empty h = absurd (cc)
+in_buffer false l unused given u left_old is empty h = (
+  subst (λ xs. StandsAfter l u (first xs) given) empty h.0,
+  decided_at_end u given (subst (λ xs. IsDecided u xs given) empty h.1),
+)
+
+before_any : (l : Standing) (u : List ℕ) (b : Option ℕ) (given : List Token) → StandsAfter l u None given → StandsAfter l u b given
+before_any l u b given h = record { count = h.count; before = h.before; tokens = λ s k. h.tokens s tt }
+
+module _ (q : Profile) (left_old left left_new : Option (List ℕ)) (old new : Pass) (given : List Token) (has : HasGiven q left_old left old given)
+    (not_ended : old.has_ended ≡ false) (empty : old.unused ≡ []) where
+  consumed : Consumes left_old left has.bytes
+  consumed = subst (Consumes left_old left) (ap (λ xs. has.bytes ++ xs) empty ∙ append-nil has.bytes) has.consumed
+
+  stands : StandsAfter old.lexer has.bytes None given × (given ≡ decided has.bytes)
+  stands = in_buffer old.has_ended old.lexer old.unused given has.bytes left_old not_ended empty has.stands
+
+  pub fails_unread : (at : ℕ) → Keeps left left_new → at ≡ old.lexer.count → ReadFails left_old left_new given (record { at = at; reason = ReadFault })
+  fails_unread at keeps place =
+      subst (λ n. ReadFails left_old left_new given (record { at = n; reason = ReadFault })) (sym (place ∙ has.counted))
+      (unread has.bytes (Consumes-kept left_old left left_new has.bytes consumed keeps) stands.1)
+
+  pub fails_too_long : (at : ℕ) (piece : List ℕ) → Consumes left left_new piece → 0 < length piece → at ≡ old.lexer.count → at ≡ 2 ^ 62
+      → ReadFails left_old left_new given (record { at = at; reason = InputTooLong })
+  fails_too_long at piece more some place long =
+      subst (λ n. ReadFails left_old left_new given (record { at = n; reason = InputTooLong })) (sym (place ∙ has.counted))
+      (too_long has.bytes piece (Consumes-trans left_old left left_new has.bytes piece consumed more) (sym has.counted ∙ sym place ∙ long) some stands.1)
+
+  module _ (kept : new ≡ record old { unused = new.unused; has_ended = new.has_ended }) where
+    lexer : old.lexer ≡ new.lexer
+    lexer = ap (λ (s : Pass). s.lexer) (sym kept)
+
+    read_still : HasRead q (as_converter q new) given
+    read_still = subst (λ (s : Pass). HasRead q (as_converter q s) given) (sym kept) has.has_read
+
+    profile : IsCounting q new.reading.profile
+    profile = subst (λ (s : Pass). IsCounting q s.reading.profile) (sym kept) has.profile
+
+    counted : new.lexer.count ≡ length has.bytes
+    counted = ap (λ (l : Standing). l.count) (sym lexer) ∙ has.counted
+
+    pub ended_here : new.has_ended ≡ true → new.unused ≡ [] → Consumes left left_new [] → IsAtEnd left_new → HasGiven q left_old left_new new given
+    ended_here is none more end =
+        let all : Consumes left_old left_new has.bytes =
+        subst (Consumes left_old left_new) (append-nil has.bytes) (Consumes-trans left_old left left_new has.bytes [] consumed more) in
+        record {
+          bytes = has.bytes;
+          consumed = subst (Consumes left_old left_new) (sym (ap (λ xs. has.bytes ++ xs) none ∙ append-nil has.bytes)) all;
+          stands = subst (λ e. StandsIn e new.lexer new.unused given has.bytes left_old) (sym is) (
+            ap tokens_of (sym (append-nil has.bytes)) ∙ stands.0.tokens [] tt ∙ ap (λ l. given ++ coming l []) lexer,
+            none,
+            known_whole left_old left_new has.bytes (λ s. s ≡ has.bytes) all end refl,
+          );
+          counted = counted;
+          has_read = read_still;
+          profile = profile;
+        }
+
+    pub filled_here : new.has_ended ≡ false → Consumes left left_new new.unused → HasGiven q left_old left_new new given
+    filled_here is more =
+        record {
+          bytes = has.bytes;
+          consumed = Consumes-trans left_old left left_new has.bytes new.unused consumed more;
+          stands = subst (λ e. StandsIn e new.lexer new.unused given has.bytes left_old) (sym is) (
+            before_any new.lexer has.bytes (first new.unused) given (subst (λ l. StandsAfter l has.bytes None given) lexer stands.0),
+            inl stands.1,
+          );
+          counted = counted;
+          has_read = read_still;
+          profile = profile;
+        }
+
+-- the bytes that are read are the buffer's first
+pub taken_front : (n : ℕ) (xs ys : List ℕ) → n ≤ length xs → take (n - 0) (drop 0 (xs ++ ys)) ≡ take n xs
+taken_front n xs ys within =
+    let all : n - 0 ≡ n = omega arith in
+    ap (λ m. take m (xs ++ ys)) all ∙ take-append-le n xs ys within
+
+front_length : (n : ℕ) (xs ys : List ℕ) → n ≤ length xs → length (take (n - 0) (drop 0 (xs ++ ys))) ≡ n
+front_length n xs ys within = ap (length {A = ℕ}) (taken_front n xs ys within) ∙ length-take-le n xs within
+
+pub front_some : (n : ℕ) (xs ys : List ℕ) → n ≤ length xs → 0 < n → 0 < length (take (n - 0) (drop 0 (xs ++ ys)))
+front_some n xs ys within some = omega (arith, front_length n xs ys within, some)
+
+pub front_fits : (place n : ℕ) (xs ys : List ℕ) → n ≤ length xs → place + n ≤ 2 ^ 62 → place + length (take (n - 0) (drop 0 (xs ++ ys))) ≤ 2 ^ 62
+front_fits place n xs ys within fits = omega (arith, front_length n xs ys within, fits)
+
+-- the counts stay as they were
+pub going_filled : (old new : Pass) → IsGoing old → new ≡ record old { unused = new.unused; has_ended = new.has_ended } → old.lexer.count + length new.unused ≤ 2 ^ 62 → IsGoing new
+going_filled old new going kept room =
+    record {
+      sound = subst (λ (s : Pass). IsSound s.lexer s.reading s.games false false None) (sym kept) going.sound;
+      room = subst (λ (s : Pass). s.lexer.count + length new.unused ≤ 2 ^ 62) (sym kept) room;
+    }
+
+-- only the bytes change, and whether the source has ended
+pub kept_of : (s old : Pass) (unused : List ℕ) (has_ended : Bool) → s ≡ old
+    → record { lexer = s.lexer; reading = s.reading; games = s.games; unused = unused; has_ended = has_ended } ≡ record old { unused = unused; has_ended = has_ended }
+kept_of s old unused has_ended is = ap (λ (x : Pass). record { lexer = x.lexer; reading = x.reading; games = x.games; unused = unused; has_ended = has_ended }) is

@@ -1,0 +1,203 @@
+-- A missing Result that counts as the game's marker, beside one that takes the marker: the fault
+-- table rejects the same tokens for the same reasons, and a game has the same export text.
+-- Letters: q is the profile whose missing Result takes the marker. For the reader it counts as the
+-- marker `text`. k is the kind of a token, g a game.
+use Rattle.std.proofs.Common.{◌≡◌, ℕ, ◌⊎◌, Bool, true, false, ◌&&◌, ◌||◌, not, List, [], ◌∷◌, ◌++◌, take, drop, Option, None, Some, inl, inr, refl, sym, ap, subst, ◌∙◌, true≢false}
+use Rattle.std.specs.Prelude.{IsTrue, ◌==◌, codes, bytes_eq}
+use Rattle.std.specs.List.{list_all}
+use Rattle.std.proofs.lemmas.Bool.{and_parts, not-true}
+use Rattle.std.proofs.lemmas.Slice.Eq.{bytes_eq-Decides}
+use Rattle.pgn_lexer.specs.Tokens as tokens
+use Rattle.pgn_lexer.specs.Tokens.{Kind}
+use Rattle.pgn_lexer.specs.declared.token.LexReason.{LexReason}
+use Rattle.pgn_lexer.specs.declared.token.LexReason.TheVariants as lexical
+use Rattle.pgn_game.specs.declared.accept.Accepted.{Accepted}
+use Rattle.pgn_game.specs.declared.accept.Accepted.TheVariants.{More, Finished}
+use Rattle.pgn_game.specs.declared.reason.Reason.{Reason}
+use Rattle.pgn_game.specs.declared.reason.Reason.TheVariants.{Lexical, BadTagName, ResultDiffers}
+use Rattle.pgn_game.specs.declared.stage.Stage.{Stage}
+use Rattle.pgn_game.specs.declared.stage.Stage.TheVariants.{Between, AfterLeftBracket, AfterName, AfterValue, AfterTags, InMovetext}
+use Rattle.pgn_game.specs.Profile.{Profile, Missing, counts_as, takes_the_marker}
+use Rattle.pgn_game.specs.Pairs.{Pair, value_of}
+use Rattle.pgn_game.specs.Game.{Game, Part, no_part}
+use Rattle.pgn_game.specs.Levels.{depth, start_of}
+use Rattle.pgn_game.specs.FaultTable.{Row, row, rows, first_holding, refusal, in_name, is_score, is_outside_tag_pairs, has_other_result, levels_of_part, marker_of, position_in}
+use Rattle.pgn_game.specs.Text.{game_text}
+use Rattle.pgn_game.specs.Progress.{Next, going, whole, at_stage, items_of, in_text, next, next_in}
+use Rattle.pgn_game.specs.MostTried.{CostsUnlessRefused, Tries, added}
+use Rattle.pgn_game.specs.Movetext.{HoldsItems}
+use Rattle.pgn_game.specs.Reading.{Reading, Agrees, HoldsText, IsAccepted, Leads, is_outside_the_table}
+use Rattle.pgn_game.specs.Judging.{game_of, or_else, with_items}
+use Rattle.pgn_game.specs.Pass.{counting, reading_under}
+use Rattle.pgn_game.proofs.judging.RowsByStage.{naming, test_failed}
+use Rattle.pgn_game.proofs.judging.RefusalsInMovetext.{marker_whole, score_of}
+use Rattle.pgn_game.proofs.reading.MovetextTokens.{differs}
+
+-- the same profile, but for a missing Result
+abbrev with_missing : Profile → Missing → Profile
+with_missing q missing = record { tags = q.tags; depth = q.depth; mode = q.mode; missing_result = missing }
+
+-- One row of the table depends on a missing Result, and only at a marker.
+abbrev other_if : Missing → List Pair → Option (List ℕ) → Bool
+other_if missing ps o = elim o [ None ↦ false | Some marker ↦ differs missing (value_of ps (codes "Result")) marker ]
+
+other_alike : (text : List ℕ) (part : Part) (k : Kind) → (marker_of k ≡ None) ⊎ (marker_of k ≡ Some text)
+    → has_other_result (counts_as text) part k ≡ has_other_result takes_the_marker part k
+other_alike text part k (inl none) = ap (other_if (counts_as text) part.pairs) none ∙ sym (ap (other_if takes_the_marker part.pairs) none)
+other_alike text part k (inr is) = ap (other_if (counts_as text) part.pairs) is ∙ sym (ap (other_if takes_the_marker part.pairs) is)
+
+table_alike : (q : Profile) (a b : Missing) (part : Part) (k : Kind) → has_other_result a part k ≡ has_other_result b part k
+    → refusal (with_missing q a) part k ≡ refusal (with_missing q b) part k
+unfolding refusal
+table_alike q a b part (tokens.refused r) same = refl
+table_alike q a b part k same =
+    ap (λ (other : Bool). first_holding (take 21 (rows q part k)
+    ++ row ResultDiffers (is_outside_tag_pairs part && other && (depth (levels_of_part part) == 0)) ∷ drop 22 (rows q part k))) same
+
+pub refusal_counting : (q : Profile) (text : List ℕ) (part : Part) (k : Kind) → q.missing_result ≡ takes_the_marker
+    → (marker_of k ≡ None) ⊎ (marker_of k ≡ Some text) → refusal (counting q text) part k ≡ refusal q part k
+refusal_counting q text part k takes known =
+    table_alike q (counts_as text) takes_the_marker part k (other_alike text part k known)
+    ∙ ap (λ (missing : Missing). refusal (with_missing q missing) part k) (sym takes)
+
+pub rejected_under : (q : Profile) (text : List ℕ) (part : Part) (k : Kind) (reason : Reason) → q.missing_result ≡ takes_the_marker
+    → (marker_of k ≡ None) ⊎ (marker_of k ≡ Some text) → refusal (counting q text) part k ≡ Some reason → refusal q part k ≡ Some reason
+rejected_under q text part k reason takes known is = sym (refusal_counting q text part k takes known) ∙ is
+
+-- A marker is rejected in a pair, and finishes the game elsewhere.
+-- a score has a byte that no name has
+no_name : (s : List ℕ) → is_score s ≡ true → list_all in_name s ≡ false
+no_name s is = by_tests (bytes_eq s (codes "1-0")) (bytes_eq s (codes "0-1")) (bytes_eq s (codes "1/2-1/2")) refl refl refl is
+  where
+    by_tests : (a b c : Bool) → bytes_eq s (codes "1-0") ≡ a → bytes_eq s (codes "0-1") ≡ b → bytes_eq s (codes "1/2-1/2") ≡ c
+        → (a || b || c) ≡ true → list_all in_name s ≡ false
+    by_tests true b c first second third is = ap (list_all in_name) ((bytes_eq-Decides s (codes "1-0")).0 first)
+    by_tests false true c first second third is = ap (list_all in_name) ((bytes_eq-Decides s (codes "0-1")).0 second)
+    by_tests false false true first second third is = ap (list_all in_name) ((bytes_eq-Decides s (codes "1/2-1/2")).0 third)
+    by_tests false false false first second third is = absurd (cc)
+
+star_leads : (q : Profile) (stage : Stage) (part : Part) → refusal q (at_stage stage part) tokens.asterisk ≡ None
+    → next (at_stage stage part) tokens.asterisk ≡ in_text part tokens.asterisk
+unfolding refusal
+star_leads q AfterLeftBracket part free = absurd (cc)
+star_leads q AfterName part free = absurd (cc)
+star_leads q AfterValue part free = absurd (cc)
+star_leads q _ part free = refl
+
+score_leads : (q : Profile) (stage : Stage) (part : Part) (s : List ℕ) → is_score s ≡ true → refusal q (at_stage stage part) (tokens.symbol s) ≡ None
+    → next (at_stage stage part) (tokens.symbol s) ≡ in_text part (tokens.symbol s)
+unfolding refusal
+score_leads q AfterLeftBracket part s is free =
+    let named = test_failed (not (list_all in_name s)) BadTagName _ (sym (naming q part.pairs part.name part.items s) ∙ free) in
+    absurd (true≢false (sym (ap not (no_name s is)) ∙ named))
+score_leads q AfterName part s is free = absurd (cc)
+score_leads q AfterValue part s is free = absurd (cc)
+score_leads q _ part s is free = refl
+
+pub marker_finishes : (q : Profile) (part : Part) (k : Kind) (marker : List ℕ) → marker_of k ≡ Some marker → refusal q part k ≡ None
+    → next part k ≡ whole (record { pairs = part.pairs; items = part.items; marker = marker })
+marker_finishes q part tokens.asterisk marker is free = star_leads q part.stage part free ∙ marker_whole part tokens.asterisk marker is
+marker_finishes q part (tokens.symbol s) marker is free =
+    score_leads q part.stage part s (score_of s marker (is_score s) refl is).0 free ∙ marker_whole part (tokens.symbol s) marker is
+marker_finishes q part _ marker is free = absurd (cc)
+
+-- Any other token goes on.
+text_goes : (part : Part) (k : Kind) → marker_of k ≡ None → (to : Part) × (in_text part k ≡ going to)
+text_goes part k none = (
+  with_items part (items_of part k),
+  ap (λ (o : Option (List ℕ)). elim o [ Some marker ↦ whole (game_of part marker) | None ↦ going (with_items part (items_of part k)) ]) none,
+)
+
+goes_at : (stage : Stage) (part : Part) (k : Kind) → marker_of k ≡ None → (to : Part) × (next_in stage part k ≡ going to)
+goes_at Between part tokens.left_bracket none = (_, refl)
+goes_at Between part tokens.comment_open none = (_, refl)
+goes_at Between part (tokens.word s) none = (_, refl)
+goes_at Between part tokens.comment_close none = (_, refl)
+goes_at Between part tokens.end none = (_, refl)
+goes_at Between part k none = text_goes part k none
+goes_at AfterTags part tokens.left_bracket none = (_, refl)
+goes_at AfterTags part k none = text_goes part k none
+goes_at InMovetext part k none = text_goes part k none
+goes_at AfterLeftBracket part (tokens.symbol name) none = (_, refl)
+goes_at AfterLeftBracket part _ none = (_, refl)
+goes_at AfterName part (tokens.str value) none = (_, refl)
+goes_at AfterName part _ none = (_, refl)
+goes_at AfterValue part tokens.right_bracket none = (_, refl)
+goes_at AfterValue part _ none = (_, refl)
+
+pub no_marker_goes : (part : Part) (k : Kind) → marker_of k ≡ None → (to : Part) × (next part k ≡ going to)
+no_marker_goes part k none = goes_at part.stage part k none
+
+-- The reader agrees with a part in any profile of its mode.
+text_under : (q : Profile) (r : Reading) (part : Part) (stage : Stage) → q.mode ≡ r.profile.mode → HoldsText stage r part → HoldsText stage (reading_under q r) part
+text_under q r part InMovetext same h =
+    (subst (λ mode. HoldsItems mode (start_of part.pairs) part.items r.text r.line) (sym same) h.0, h.1)
+text_under q r part _ same h = h
+
+pub agrees_under : (q : Profile) (r : Reading) (part : Part) → q.mode ≡ r.profile.mode → Agrees r part → Agrees (reading_under q r) part
+agrees_under q r part same agrees = record { stage = agrees.stage; pairs = agrees.pairs; text = text_under q r part r.stage same agrees.text }
+
+leads_under : (q : Profile) (r : Reading) (to : Next) (accepted : Accepted) → q.mode ≡ r.profile.mode → Leads to accepted r → Leads to accepted (reading_under q r)
+leads_under q r (going part) More same h = agrees_under q r part same h
+leads_under q r (going part) Finished same h = absurd h
+leads_under q r (whole g) More same h = absurd h
+leads_under q r (whole g) Finished same h =
+    record { agrees = agrees_under q r no_part same h.agrees; pairs = h.pairs; plies = h.plies; position = h.position; probed = h.probed }
+
+-- the same pairs are tried for a token
+tries_under : (q : Profile) (text : List ℕ) (part : Part) (k : Kind) (n : ℕ) → refusal (counting q text) part k ≡ refusal q part k
+    → Tries (counting q text) part k n → Tries q part k n
+tries_under q text part k n same h = record {
+  found = h.found;
+  finds = h.finds;
+  writes =
+      subst (λ (o : Option Reason). CostsUnlessRefused o q.mode (depth (levels_of_part part)) (position_in part) (added part (next part k)) h.found n) same
+      h.writes;
+}
+
+-- A token that the reader accepts is accepted under q too. This says nothing of what is written.
+pub accepted_under : (q : Profile) (text : List ℕ) (part : Part) (k : Kind) (old new : Reading) (accepted : Accepted) (a c : Option (List ℕ))
+    → q.missing_result ≡ takes_the_marker → old.profile ≡ counting q text → new.profile ≡ old.profile
+    → (marker_of k ≡ None) ⊎ (marker_of k ≡ Some text) → IsAccepted old part k new accepted a c
+    → IsAccepted (reading_under q old) part k (reading_under q new) accepted None None
+accepted_under q text part k old new accepted a c takes counts kept known h =
+    let same = refusal_counting q text part k takes known in
+    record {
+      free = sym same ∙ ap (λ (p : Profile). refusal p part k) (sym counts) ∙ h.free;
+      leads = leads_under q new (next part k) accepted (ap (λ (p : Profile). p.mode) (sym (kept ∙ counts))) h.leads;
+      plies = h.plies;
+      appended = tt;
+      tried = record {
+        tried = h.tried.tried;
+        allowed = tries_under q text part k h.tried.tried same (subst (λ (p : Profile). Tries p part k h.tried.tried) counts h.tried.allowed);
+        most = h.tried.most;
+      };
+    }
+
+-- The reasons of the table.
+abbrev is_inside : Row → Bool
+is_inside r = not (is_outside_the_table r.reason)
+
+inside_or : (test : Bool) (first reason : Reason) (rest : Option Reason) → is_outside_the_table first ≡ false
+    → (rest ≡ Some reason → is_outside_the_table reason ≡ false) → or_else test first rest ≡ Some reason → is_outside_the_table reason ≡ false
+inside_or true first reason rest inside more e = let same : first ≡ reason = cc in ap is_outside_the_table (sym same) ∙ inside
+inside_or false first reason rest inside more e = more e
+
+first_inside : (rs : List Row) (reason : Reason) → IsTrue (list_all is_inside rs) → first_holding rs ≡ Some reason → is_outside_the_table reason ≡ false
+first_inside [] reason all e = absurd (cc)
+first_inside (r ∷ rs) reason all e =
+    let both = and_parts (is_inside r) (list_all is_inside rs) all in
+    inside_or r.holds r.reason reason (first_holding rs) (not-true (is_outside_the_table r.reason) both.0) (first_inside rs reason both.1) e
+
+lexical_inside : (r : LexReason) → is_outside_the_table (Lexical r) ≡ false
+lexical_inside lexical.StrayByte = refl
+lexical_inside _ = refl
+
+pub refusals_are_inside : (q : Profile) (part : Part) (k : Kind) (reason : Reason) → refusal q part k ≡ Some reason → is_outside_the_table reason ≡ false
+unfolding refusal
+refusals_are_inside q part (tokens.refused r) reason is = let same : Lexical r ≡ reason = cc in ap is_outside_the_table (sym same) ∙ lexical_inside r
+refusals_are_inside q part k reason is = first_inside (rows q part k) reason refl is
+
+-- a game has the same export text
+pub same_game_text : (q : Profile) (g : Game) → q.missing_result ≡ takes_the_marker → game_text (counting q g.marker) g ≡ game_text q g
+same_game_text q g takes = ap (λ (missing : Missing). game_text (with_missing q missing) g) (sym takes)

@@ -1,0 +1,421 @@
+//! Converts an input that is read twice, so that a missing Result takes the marker.
+ghost use Rattle.std.specs.Prelude.{◌≡◌, ◌-◌, ◌+◌, ◌≤◌, ◌<◌, ◌^◌, length, max, false, [], ℕ, List};
+ghost use Rattle.std.specs.Prelude.{Option, OnOk, IfOk, IfSome, IsTrue};
+ghost use Rattle.pgn_lexer.specs.Scanned.{kind_of};
+ghost use Rattle.pgn_lexer.specs.Tokens.{HasLength};
+ghost use Rattle.pgn_game.specs.declared.reason.Reason.TheVariants.{Changed};
+ghost use Rattle.pgn_game.specs.Checked.{checked_profile};
+ghost use Rattle.pgn_game.specs.ConvertingTwice.{ConvertsTwice, CountsTwice};
+ghost use Rattle.pgn_game.specs.Pass.{CountsRead, CountsStep, CountsTaken, Fills, GoesBehind};
+ghost use Rattle.pgn_game.specs.Pass.{GoesOn, HasGiven};
+ghost use Rattle.pgn_game.specs.Pass.{IsGoing, IsTold, Keeps, LeavesReader, ReadsGame, Steps, Takes};
+ghost use Rattle.pgn_game.specs.Pass.{TakesKind, WritesGame, as_changed};
+ghost use Rattle.pgn_game.specs.Pass.{marks_differ as do_marks_differ};
+ghost use Rattle.pgn_game.specs.Reading.{whole_plies};
+ghost use Rattle.pgn_game.specs.Size.{HoldsTwice};
+
+use crate::conversion::Totals;
+use crate::converter::{MAX_INPUT_LENGTH, lexical};
+use crate::marker::Marker;
+use crate::mode::Mode;
+use crate::reader::Reader;
+use crate::reason::{Fault, Reason};
+use crate::source::Source;
+use crate::token_tests::is_end;
+use pgn_layout::{Nowhere, Sink};
+use pgn_lexer::laws::tokens_rise;
+use pgn_lexer::{Lexer, Outcome, TokenKind};
+use std::marker::Model;
+
+/// Converts the games of an input that is read twice, as `convert` does, except that a missing
+/// Result takes the game's marker (PGN 8.1.1.7).
+///
+/// Each game is read from `first` to its marker, then read again from `second` and written. So
+/// nothing is written of a game that is rejected. Both sources have to give the same bytes. Only
+/// the markers are compared, and their places. When `first` ends, the rest of `second` is not read.
+///
+/// # Errors
+///
+/// - The first fault of `first`. Every game before it is written, and nothing of its own game.
+/// - `Reason::Changed` if the next game of `second` has a fault, ends sooner, or has another marker,
+///   or the same one at another place: at the first token that shows this.
+/// - `Reason::ReadFault` if a read failed, at the number of bytes read from that source.
+/// - `Reason::WriteFault` if a write failed, at the first token with text missing.
+/// - `Reason::InputTooLong` if `first` has a byte at place 2^62.
+///
+/// After the last three, and after `Changed`, the text of the current game may be torn.
+///
+/// # Examples
+///
+/// ```
+/// use pgn_game::{Inlet, Mode, Outlet, convert_checked};
+///
+/// let text = b"1. f3 e5 2. g4 Qh4# 0-1".as_slice();
+/// let (mut first, mut second) = (Inlet::new(text), Inlet::new(text));
+/// let mut out = Outlet::new(Vec::new());
+/// convert_checked::<64, 33, _, _, _>(&mut first, &mut second, &mut out, Mode::Full).unwrap();
+/// let written = String::from_utf8(out.into_inner()).unwrap();
+/// assert!(written.contains("[Result \"0-1\"]\n"));
+/// ```
+pub fn convert_checked<const T: usize, const L: usize, Q: Source, R: Source, W: Sink>(
+    first: &mut Q,
+    second: &mut R,
+    writer: &mut W,
+    mode: Mode,
+) -> Result<Totals, Fault>
+    requires levels { 1 ≤ L }
+    requires memory { HoldsTwice T.row L.row }
+    ensures converts { ConvertsTwice (checked_profile T (L - 1) mode) (Q.left first.old)
+        (Q.left first.new) (R.left second.old) (R.left second.new) result
+        (W.taken writer.old) (W.taken writer.new) }
+    ensures counted { CountsTwice result (Q.failures first.old) (Q.failures first.new)
+        (R.failures second.old) (R.failures second.new)
+        (W.failures writer.old) (W.failures writer.new) }
+{
+    let mut ahead = Pass::<T, L>::new(mode);
+    let mut behind = Pass::<T, L>::new(mode);
+    loop {
+        let Some(mark) = ahead.read_game(first)? else {
+            return Ok(behind.totals(ahead.reader.most_probes()));
+        };
+        behind.write_game(second, mark, writer)?;
+    }
+}
+
+/// How a game ends: its termination marker, and the place of that.
+#[derive(Clone, Copy)]
+struct Mark {
+    marker: Marker,
+    at: u64,
+}
+
+/// What one step of a reading did.
+#[derive(Clone, Copy)]
+enum Taken {
+    /// It read bytes, or a token that finishes no game.
+    More,
+    /// It read the marker that finishes a game.
+    Game(Mark),
+    /// It read the end of the input.
+    End,
+}
+
+/// One of the two readings: the bytes that were read and not used yet, and the game they are in.
+#[derive(Drop)]
+struct Pass<const T: usize, const L: usize> {
+    buffer: [u8; 4096],
+    start: usize,
+    end: usize,
+    has_ended: bool,
+    lexer: Lexer,
+    reader: Reader<T, L>,
+    games: u64,
+}
+
+impl<const T: usize, const L: usize> Model for Pass<T, L> {
+    ghost use Rattle.std.specs.Prelude.{◌≡◌, ◌-◌, ◌≤◌, length, take, drop};
+    ghost use Rattle.pgn_game.specs.Pass.{Pass as Seen};
+
+    ghost Value = { Seen };
+
+    ghost view = { λ p. record {
+      lexer = p.lexer;
+      reading = p.reader;
+      games = p.games;
+      unused = take (p.end - p.start) (drop p.start p.buffer);
+      has_ended = p.has_ended;
+    } };
+
+    ghost invariant = { λ p. (p.start ≤ p.end) × (p.end ≤ 4096) × (length p.buffer ≡ 4096) };
+}
+
+impl<const T: usize, const L: usize> Pass<T, L> {
+    // Returns a reading that has read nothing.
+    fn new(mode: Mode) -> Self
+        requires { 1 ≤ L }
+        ensures given { (left : Option (List ℕ))
+            → HasGiven (checked_profile T (L - 1) mode) left left result [] }
+        ensures going { IsGoing result }
+    {
+        Pass {
+            buffer: [0; 4096],
+            start: 0,
+            end: 0,
+            has_ended: false,
+            lexer: Lexer::new(),
+            reader: Reader::new(mode),
+            games: 0,
+        }
+    }
+
+    // Returns the counts of what was written, where the other reading tried at most so many pairs
+    // for one move.
+    fn totals(&self, other_probes: u32) -> Totals
+        requires few { self.now.reading.earlier_plies + self.now.reading.text.plies < 2 ^ 64 }
+        requires bound { other_probes ≤ 1040 }
+        ensures games { result.games ≡ self.now.games }
+        ensures plies { result.plies ≡ whole_plies self.now.reading }
+        ensures probes { result.most_probes ≡ max other_probes self.now.reading.most_probes }
+        ensures bound { result.most_probes ≤ 1040 }
+    {
+        let plies = if self.reader.is_between() {
+            self.reader.earlier_plies() + self.reader.plies()
+        } else {
+            self.reader.earlier_plies()
+        };
+        Totals {
+            games: self.games,
+            plies,
+            most_probes: other_probes.max(self.reader.most_probes()),
+        }
+    }
+
+    // Reads to the end of the next game, and returns its mark. `None` is the end of the input.
+    //
+    // Nothing is written. A fault is the input's own, or `Reason::ReadFault`.
+    fn read_game<R: Source>(&mut self, source: &mut R) -> Result<Option<Mark>, Fault>
+        requires going { IsGoing self.old }
+        ensures reads { ReadsGame (R.left source.old) (R.left source.new) self.old self.new result }
+        ensures going { GoesOn self.old self.new result }
+        ensures counted { CountsRead result (R.failures source.old)
+            (R.failures source.new) }
+    {
+        loop {
+            match self.step(source, None, &mut Nowhere)? {
+                Taken::More => {}
+                Taken::Game(mark) => return Ok(Some(mark)),
+                Taken::End => return Ok(None),
+            }
+        }
+    }
+
+    // Reads the next game, and writes it. It has to end with this mark.
+    //
+    // A missing Result counts as the marker. A fault of the input's own is `Reason::Changed`.
+    fn write_game<R: Source, W: Sink>(
+        &mut self,
+        source: &mut R,
+        mark: Mark,
+        out: &mut W,
+    ) -> Result<(), Fault>
+        requires going { IsGoing self.old }
+        ensures writes { WritesGame (R.left source.old) (R.left source.new) self.old mark self.new
+            result (W.taken out.old) (W.taken out.new) }
+        ensures counted { CountsStep result (R.failures source.old) (R.failures source.new)
+            (W.failures out.old) (W.failures out.new) }
+    {
+        self.reader.count_missing_result_as(mark.marker);
+        loop {
+            match self.step(source, Some(mark), out) {
+                Ok(Taken::More) => {}
+                Ok(Taken::Game(_)) => return Ok(()),
+                // Never: the end is a difference.
+                Ok(Taken::End) => return Ok(()),
+                Err(fault) => return Err(changed(fault)),
+            }
+        }
+    }
+
+    // Takes the next token, or reads the bytes that it needs.
+    //
+    // `told` is the mark that the game has to end with, if the other reading has told it.
+    fn step<R: Source, W: Sink>(
+        &mut self,
+        source: &mut R,
+        told: Option<Mark>,
+        out: &mut W,
+    ) -> Result<Taken, Fault>
+        requires going { IsGoing self.old }
+        requires told { IsTold told self.old.reading }
+        ensures takes { Steps (R.left source.old) (R.left source.new) told self.old self.new
+            result (W.taken out.old) (W.taken out.new) }
+        ensures keeps { Keeps told self.old self.new result }
+        ensures counted { CountsStep result (R.failures source.old) (R.failures source.new)
+            (W.failures out.old) (W.failures out.new) }
+    {
+        if self.has_ended {
+            return self.take_at_end(told, out);
+        }
+        if self.start < self.end {
+            return self.take_in_buffer(told, out);
+        }
+        self.fill(source)?;
+        Ok(Taken::More)
+    }
+
+    // Takes the next token in the buffer, if there is one.
+    fn take_in_buffer<W: Sink>(&mut self, told: Option<Mark>, out: &mut W) -> Result<Taken, Fault>
+        requires going { IsGoing self.old }
+        requires told { IsTold told self.old.reading }
+        requires within { (self.old.has_ended ≡ false) × (0 < length self.old.unused) }
+        ensures takes { Takes told self.old self.new result (W.taken out.old) (W.taken out.new) }
+        ensures keeps { Keeps told self.old self.new result }
+        ensures counted { CountsTaken result (W.failures out.old) (W.failures out.new) }
+    {
+        tokens_rise();
+        let buffer = self.buffer.as_slice();
+        let scan = self.lexer.next(&buffer[self.start..self.end]);
+        self.start += scan.used;
+        match scan.outcome {
+            Outcome::NeedMore => Ok(Taken::More),
+            Outcome::Token(token) => take_token(
+                token.kind,
+                token.at,
+                told,
+                &mut self.reader,
+                &mut self.games,
+                out,
+            ),
+            Outcome::Fault(fault) => Err(lexical(fault)),
+        }
+    }
+
+    // Takes the next of the tokens that are left where the source has ended.
+    fn take_at_end<W: Sink>(&mut self, told: Option<Mark>, out: &mut W) -> Result<Taken, Fault>
+        requires going { IsGoing self.old }
+        requires told { IsTold told self.old.reading }
+        requires behind { IsTrue self.old.has_ended }
+        ensures takes { Takes told self.old self.new result (W.taken out.old) (W.taken out.new) }
+        ensures keeps { Keeps told self.old self.new result }
+        ensures counted { CountsTaken result (W.failures out.old) (W.failures out.new) }
+    {
+        match self.lexer.finish() {
+            // Never: `finish` gives a token or a fault.
+            Outcome::NeedMore => Ok(Taken::More),
+            Outcome::Token(token) => take_token(
+                token.kind,
+                token.at,
+                told,
+                &mut self.reader,
+                &mut self.games,
+                out,
+            ),
+            Outcome::Fault(fault) => Err(lexical(fault)),
+        }
+    }
+
+    // Reads bytes into the buffer, whose bytes are used. The source has ended if it gives none.
+    fn fill<R: Source>(&mut self, source: &mut R) -> Result<(), Fault>
+        requires going { IsGoing self.old }
+        requires empty { (self.old.has_ended ≡ false) × (self.old.unused ≡ []) }
+        ensures fills { Fills (R.left source.old) (R.left source.new) self.old self.new result }
+        ensures counted { CountsRead result (R.failures source.old)
+            (R.failures source.new) }
+    {
+        let at = self.lexer.count();
+        let room = MAX_INPUT_LENGTH - at;
+        match source.read_some(&mut self.buffer[..bytes_to_read(room)]) {
+            Err(_) => Err(Fault {
+                at,
+                reason: Reason::ReadFault,
+            }),
+            Ok(0) => {
+                self.start = 0;
+                self.end = 0;
+                self.has_ended = true;
+                Ok(())
+            }
+            Ok(_) if room == 0 => Err(Fault {
+                at,
+                reason: Reason::InputTooLong,
+            }),
+            Ok(n) => {
+                self.start = 0;
+                self.end = n;
+                Ok(())
+            }
+        }
+    }
+}
+
+// Takes a token, of which a missing Result takes the marker.
+//
+// A token that shows a difference from the mark does not go to the reader, or is the end.
+fn take_token<const T: usize, const L: usize, W: Sink>(
+    kind: TokenKind<'_>,
+    at: u64,
+    told: Option<Mark>,
+    reader: &mut Reader<T, L>,
+    games: &mut u64,
+    out: &mut W,
+) -> Result<Taken, Fault>
+    requires few { (reader.old.earlier_plies + reader.old.text.plies < 2 ^ 64 - 1)
+        × (games.old < 2 ^ 64 - 1) }
+    requires token { HasLength (kind_of kind) }
+    requires told { IsTold told reader.old }
+    ensures takes { TakesKind told (kind_of kind.entry) at reader.old reader.new result
+        (W.taken out.old) (W.taken out.new) }
+    ensures under { IsTold told reader.new }
+    ensures leaves { IfOk result (LeavesReader told reader.old reader.new games.old games.new) }
+    ensures behind { IfOk result (GoesBehind (kind_of kind.entry)) }
+    ensures counted { CountsTaken result (W.failures out.old) (W.failures out.new) }
+{
+    let marker = Marker::of(kind);
+    if marks_differ(told, marker, at) {
+        return Err(differs(at));
+    }
+    if let Some(marker) = marker {
+        reader.count_missing_result_as(marker);
+    }
+    if let Err(reason) = reader.accept(kind, out) {
+        return Err(Fault { at, reason });
+    }
+    if let Some(marker) = marker {
+        *games += 1;
+        return Ok(Taken::Game(Mark { marker, at }));
+    }
+    if !is_end(kind) {
+        return Ok(Taken::More);
+    }
+    if told.is_some() {
+        return Err(differs(at));
+    }
+    Ok(Taken::End)
+}
+
+// The fault of a token at which the readings differ.
+fn differs(at: u64) -> Fault
+    ensures { result ≡ record { at = at; reason = Changed } }
+{
+    Fault {
+        at,
+        reason: Reason::Changed,
+    }
+}
+
+// Whether a marker at this place shows a difference from the mark that was told.
+fn marks_differ(told: Option<Mark>, marker: Option<Marker>, at: u64) -> bool
+    ensures { result ≡ do_marks_differ told marker at }
+{
+    let (Some(told), Some(marker)) = (told, marker) else {
+        return false;
+    };
+    marker.text() != told.marker.text() || at != told.at
+}
+
+// How many bytes are read at once, with room for so many: as many as the buffer holds. Where there
+// is no room, one byte shows that the input is too long.
+fn bytes_to_read(room: u64) -> usize
+    ensures some { 0 < result }
+    ensures fits { result ≤ 4096 }
+    ensures room { result ≤ max 1 room }
+{
+    if room == 0 {
+        return 1;
+    }
+    room.min(4096) as usize
+}
+
+// The fault of the second reading: its own faults show that the input has changed.
+fn changed(fault: Fault) -> Fault
+    ensures { result ≡ as_changed fault }
+{
+    match fault.reason {
+        Reason::ReadFault => fault,
+        Reason::WriteFault => fault,
+        _ => Fault {
+            at: fault.at,
+            reason: Reason::Changed,
+        },
+    }
+}
