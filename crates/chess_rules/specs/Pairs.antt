@@ -70,7 +70,8 @@ is_near p t = is_adjacent (king_square p.side p.board) t
 abbrev pub king_step : Parts → Square → Option Square
 king_step p t = if is_near p t then Some (king_square p.side p.board) else None
 
--- a piece of the side to move, no knight, and no king whose step was tried
+-- the piece there is still to be tried: of the side to move, no knight, and no king whose step was
+-- tried
 abbrev pub is_left : Parts → Bool → Square → Bool
 is_left p near s = (has_colour p.side (at p.board s) && not (own p Knight s)) && not (near && own p King s)
 
@@ -78,7 +79,7 @@ abbrev pub if_left : Parts → Bool → Option Square → Option Square
 if_left p near None = None
 if_left p near (Some s) = if is_left p near s then Some s else None
 
--- the first piece in that direction from t, if it is left
+-- the first piece in that direction from t, if it is still to be tried
 abbrev pub left_on : Parts → Bool → Square → Direction → Option Square
 left_on p near t d = if_left p near (first_on p.board d t)
 

@@ -249,7 +249,7 @@ impl Board {
         board
     }
 
-    // States the invariant of every board; it does nothing.
+    // Gives the proof of a body the invariant of every board; it does nothing when it runs.
     pub(crate) fn has_all_cells(&self)
         ensures { length self.now ≡ 64 }
     {

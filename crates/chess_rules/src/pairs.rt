@@ -41,7 +41,7 @@ fn is_legal_pair(position: &Position, from: Square, to: Square, probes: &mut Pro
     is_legal(position, mv, probes)
 }
 
-// Tries the pair, if there is an origin.
+// Tries the pair, if there is an origin, and returns whether it is legal.
 fn hits(position: &Position, origin: Option<Square>, target: Square, probes: &mut Probes) -> bool
     requires { probes.old + spec.tried origin < 2 ^ 32 }
     ensures found { result ≡ spec.hits position.now target origin }
@@ -65,8 +65,8 @@ fn king_step(position: &Position, target: Square) -> Option<Square>
     }
 }
 
-// Whether there is a piece of the side to move that is no knight, and no king with a step that was
-// tried.
+// Whether the piece on the origin is still to be tried: it is of the side to move, no knight, and
+// no king with a step that was tried.
 fn is_left(position: &Position, near: bool, origin: Square) -> bool
     ensures { result ≡ spec.is_left position.now near origin }
 {
@@ -80,7 +80,7 @@ fn is_left(position: &Position, near: bool, origin: Square) -> bool
     }
 }
 
-// The first piece in that direction from the target, if it is left to try.
+// The first piece in that direction from the target, if it is still to be tried.
 fn left_on(position: &Position, near: bool, target: Square, way: Direction) -> Option<Square>
     ensures { result ≡ spec.left_on position.now near target way }
 {
@@ -121,7 +121,7 @@ pub(crate) fn any_other(position: &Position, probes: &mut Probes) -> bool
     false
 }
 
-// Whether a pair that is left to try for the target is legal.
+// Whether a pair that is still to be tried for the target is legal.
 fn any_left(position: &Position, target: Square, probes: &mut Probes) -> bool
     requires { probes.old + spec.count_left position.now target < 2 ^ 32 }
     ensures found { result ≡ spec.any_left position.now target }

@@ -200,7 +200,7 @@ impl Position {
         &self.board
     }
 
-    // States the invariant of every position; it does nothing.
+    // Gives the proof of a body the invariant of every position; it does nothing when it runs.
     pub(crate) fn keeps_rules(&self)
         ensures { IsTrue (spec.is_position self.now) }
     {

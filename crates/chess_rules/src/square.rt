@@ -96,7 +96,7 @@ impl Square {
         }
     }
 
-    // States the invariant of every square; it does nothing.
+    // Gives the proof of a body the invariant of every square; it does nothing when it runs.
     pub(crate) fn lies_on_board(self)
         ensures file { self.file < 8 }
         ensures rank { self.rank < 8 }

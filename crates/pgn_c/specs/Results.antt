@@ -35,7 +35,8 @@ result_of (Err f) written =
 abbrev pub profile_in : Mode → Profile
 profile_in mode = profile_of 64 32 mode
 
--- The text was checked: the conversion that this repeats writes nothing, and never lacks room.
+-- The text was checked: the result is that of a conversion that writes nothing. So it never says
+-- that a buffer is full.
 pub record Checks (text : List ℕ) (result : PgnResult) : Type 0 where
   pub outcome : Result Totals Fault
   pub converts : ConvertsSlice (profile_in Full) text outcome None None

@@ -1,4 +1,4 @@
--- **Definition**: how a text is cut into white space, escapes and tokens (PGN 5, 6, 7, 10).
+-- **Definition**: how a text is cut into white space, escape lines and tokens (PGN 5, 6, 7, 10).
 -- These are the rules themselves, on whole runs of bytes.
 use Rattle.std.specs.Prelude.{◌≡◌, ℕ, ◌+◌, ◌<◌, ◌≤◌, IsTrue, IsFalse, Bool, true, false, not, ◌||◌, nat_le, List, [], ◌∷◌, ◌++◌, length, ◌==◌, codes}
 use Rattle.std.specs.List.{list_all}

@@ -37,7 +37,7 @@ after_class OpenBrace = brace
 after_class Semicolon = line
 after_class _ = outside
 
--- in the first column a percent sign begins an escape (PGN 6)
+-- in the first column a percent sign begins an escape line (PGN 6)
 abbrev pub after_first : Class → Within
 after_first Percent = in_escape
 after_first c = after_class c

@@ -34,8 +34,8 @@ pub fn tokens_are_sound()
 ///
 /// The premise: each token is followed by white space, or by a byte that ends it. The tokens are a
 /// symbol, a NAG as `$` and a number, a string with escapes, a comment in braces, and
-/// `[ ] ( ) . *`. A `%` in the first column begins no escape there (PGN 6), since only the words of
-/// a comment can begin with it.
+/// `[ ] ( ) . *`. A `%` in the first column begins no escape line there (PGN 6), since only the
+/// words of a comment can begin with it.
 pub fn written_tokens_are_read_back()
     ensures places { laws.PiecesAreReadBack }
     ensures kinds { laws.KindsAreReadBack }

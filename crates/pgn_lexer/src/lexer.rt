@@ -72,8 +72,8 @@ impl Lexer {
     ///
     /// After a token, pass the rest of the piece. If a byte after the token was not used, it must
     /// come next. The result is `NeedMore` if no token ends in the piece; the whole piece is then
-    /// used. The bytes used and the piece must be together at most 2^62. Do not call this after
-    /// `finish`.
+    /// used. The bytes used and the piece must be together at most 2^62. `finish` ends the current
+    /// token, so bytes that come after it no longer continue the text.
     ///
     /// # Errors
     ///

@@ -35,6 +35,7 @@ pub(crate) enum Mode {
     LineStart,
     /// Outside all tokens.
     Outside,
+    /// After a percent sign in the first column.
     Escape,
     Symbol,
     Str,

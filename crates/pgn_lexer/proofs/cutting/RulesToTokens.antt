@@ -71,7 +71,7 @@ not_false : (b : Bool) → not b ≡ false → b ≡ true
 not_false true e = refl
 not_false false e = absurd (false≢true (sym e))
 
--- outside strings and comments, where no escape begins
+-- outside strings and comments, where no escape line begins
 from_class : (first : Bool) (at b : ℕ) (s : List ℕ) (c : Class) → class b ≡ c → (c ≡ classes.Percent → ⊥)
     → tokens_from at (within_of (rules.outside first)) (b ∷ s) ≡ onto at (begins_class at c b s) (tokens_from (at + 1) (after_class c) s)
 from_class false at b s c e other = ap (λ c. onto at (begins_class at c b s) (tokens_from (at + 1) (after_class c) s)) e
@@ -120,7 +120,7 @@ suffix_cut first at b run s e all stop =
     ∙ ap (λ r. onto at (suffix_at at (b ∷ r)) (tokens_from (at + 1) places.in_suffix (run ++ s))) (take_run is_suffix run s all stop)
     ∙ ap (onto at (suffix_at at (b ∷ run))) (skips places.in_suffix places.outside is_suffix suffix_goes suffix_stops (at + 1) run s all stop)
 
--- an escape
+-- an escape line
 escape_goes : (at b : ℕ) (s : List ℕ) → not (is_line_end b) ≡ true → tokens_from at places.in_escape (b ∷ s) ≡ tokens_from (at + 1) places.in_escape s
 escape_goes at b s e = ap (λ c. tokens_from (at + 1) (if c then places.column else places.in_escape) s) (not_true (is_line_end b) e)
 

@@ -155,9 +155,9 @@ open_line = rules.unmarked _ _ refl (rules.opens_line true 0 _ _ (rules.closed_a
 brace_in_line : Lexes (codes ";}") (t 0 comment_open ∷ t 1 (refused BraceInLineComment) ∷ [])
 brace_in_line = rules.unmarked _ _ refl (rules.opens_line true 0 _ _ (rules.brace_in_line 1 []))
 
--- ---- escapes (PGN 6) and the byte order mark
+-- ---- escape lines (PGN 6) and the byte order mark
 
--- An escape takes its line, in the first column alone.
+-- An escape line begins in the first column alone.
 escape : Lexes (codes "%*\n*") (t 3 asterisk ∷ ending 4)
 escape =
     rules.unmarked _ _ refl (rules.escape 0 (codes "*") (codes "\n*") _ (refl, refl)

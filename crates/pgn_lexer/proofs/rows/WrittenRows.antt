@@ -287,7 +287,7 @@ words_not_ended h = false≢true (sym h.ended.1.0)
 
 -- ---- What is no piece.
 
--- a percent sign as white space: an escape takes what is behind it
+-- a percent sign as white space: an escape line takes what is behind it
 abbrev percent_space : List Piece
 percent_space = space 37 ∷ token asterisk ∷ []
 
@@ -348,7 +348,7 @@ open_is_rejected e = false≢true (ap last_is_end e)
 open_does_not_close : IsReadable open_comment → ⊥
 open_does_not_close h = h.comments
 
--- a word that begins with a percent sign is an escape outside a comment
+-- a word that begins with a percent sign begins an escape line outside a comment
 abbrev lone_word : List Piece
 lone_word = token (word (codes "%a")) ∷ []
 

@@ -88,7 +88,7 @@ failed_mode modes.BraceWord f e = cc
 failed_mode modes.Line f e = cc
 failed_mode modes.LineWord f e = cc
 
--- a mode is going, or failed
+-- a mode is failed, or not
 going_or_failed : (m : Mode) → IsGoing m ⊎ ((f : LexFault) × (m ≡ modes.Failed f))
 going_or_failed (modes.Failed f) = inr (f, refl)
 going_or_failed modes.Start = inl tt
