@@ -7,8 +7,8 @@ use Rattle.pgn_lexer.specs.declared.partial_token.Mode.{Mode}
 use Rattle.pgn_lexer.specs.declared.partial_token.Mode.TheVariants.{LineStart, Outside, Failed}
 use Rattle.pgn_lexer.specs.declared.partial_token.Step.{Step}
 use Rattle.pgn_lexer.specs.declared.partial_token.Step.TheVariants.{Used, Ends, EndsBefore, Fault}
-use Rattle.pgn_lexer.specs.declared.partial_token.Found.{Found}
-use Rattle.pgn_lexer.specs.declared.partial_token.Found.TheVariants as found
+use Rattle.pgn_lexer.specs.declared.partial_token.Reached.{Reached}
+use Rattle.pgn_lexer.specs.declared.partial_token.Reached.TheVariants as reached
 use Rattle.pgn_lexer.specs.Tokens.{Token, HasLength, EndsAt, is_run}
 use Rattle.pgn_lexer.specs.TokensOf.{Within, tokens_from}
 use Rattle.pgn_lexer.specs.PartialToken.{PartialToken, tokens_to_come, token_of, refusal, IsSound, IsGoing, pending, fault_met}
@@ -70,10 +70,10 @@ pub record RunsToFault (place : ℕ) (old : PartialToken) (piece : List ℕ) (f 
   pub some : IsGoing old.mode → 0 < length piece
   pub comes : (s : List ℕ) → tokens_to_come place old (take used piece ++ s) ≡ refusal f ∷ []
 
-abbrev pub RunGives : ℕ → PartialToken → List ℕ → PartialToken → ℕ → Found → Type 0
-RunGives place old piece new used found.Nothing = RunsOut place old piece new used
-RunGives place old piece new used (found.Token form) = RunsToToken place old piece (token_of form new) new used
-RunGives place old piece new used found.Fault = RunsToFault place old piece (fault_met new) new used
+abbrev pub RunGives : ℕ → PartialToken → List ℕ → PartialToken → ℕ → Reached → Type 0
+RunGives place old piece new used reached.End = RunsOut place old piece new used
+RunGives place old piece new used (reached.Token form) = RunsToToken place old piece (token_of form new) new used
+RunGives place old piece new used reached.Fault = RunsToFault place old piece (fault_met new) new used
 
 -- no token ended in the first i bytes of the piece, and h is held after them
 pub record Ran (place : ℕ) (old : PartialToken) (piece : List ℕ) (h : PartialToken) (i : ℕ) : Type 0 where
@@ -84,8 +84,8 @@ pub record Ran (place : ℕ) (old : PartialToken) (piece : List ℕ) (h : Partia
   pub comes : (s : List ℕ) → tokens_to_come place old (take i piece ++ s) ≡ tokens_to_come (place + i) h s
 
 -- wherever a run came to hold h after i bytes of the piece, so it ends
-abbrev pub RunsOn : ℕ → List ℕ → ℕ → PartialToken → PartialToken → ℕ → Found → Type 0
-RunsOn place piece i h new used found = (old : PartialToken) → Ran place old piece h i → RunGives place old piece new used found
+abbrev pub RunsOn : ℕ → List ℕ → ℕ → PartialToken → PartialToken → ℕ → Reached → Type 0
+RunsOn place piece i h new used end = (old : PartialToken) → Ran place old piece h i → RunGives place old piece new used end
 
 -- between tokens, and in no comment
 abbrev pub IsOutside : Mode → Type 0
@@ -93,13 +93,13 @@ IsOutside LineStart = Unit {0}
 IsOutside Outside = Unit {0}
 IsOutside _ = ⊥
 
--- how many bytes a run used that a step ended, and what it came to
+-- how many bytes a run used that a step ended, and what it has reached then
 abbrev pub used_after : Step → ℕ → ℕ
 used_after (EndsBefore form) used = used
 used_after _ used = used + 1
 
-abbrev pub found_after : Step → Found
-found_after Used = found.Nothing
-found_after (Ends form) = found.Token form
-found_after (EndsBefore form) = found.Token form
-found_after (Fault f) = found.Fault
+abbrev pub reached_after : Step → Reached
+reached_after Used = reached.End
+reached_after (Ends form) = reached.Token form
+reached_after (EndsBefore form) = reached.Token form
+reached_after (Fault f) = reached.Fault

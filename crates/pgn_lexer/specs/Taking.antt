@@ -18,8 +18,8 @@ use Rattle.pgn_lexer.specs.declared.partial_token.TokenForm.{TokenForm}
 use Rattle.pgn_lexer.specs.declared.partial_token.TokenForm.TheVariants as forms
 use Rattle.pgn_lexer.specs.declared.partial_token.Step.{Step}
 use Rattle.pgn_lexer.specs.declared.partial_token.Step.TheVariants.{Used, Ends, EndsBefore, Fault}
-use Rattle.pgn_lexer.specs.declared.partial_token.AtEnd.{AtEnd}
-use Rattle.pgn_lexer.specs.declared.partial_token.AtEnd.TheVariants as lasts
+use Rattle.pgn_lexer.specs.declared.partial_token.Reached.{Reached}
+use Rattle.pgn_lexer.specs.declared.partial_token.Reached.TheVariants as reached
 use Rattle.pgn_lexer.specs.Bytes.{is_line_end, is_digit, continues_symbol, is_suffix}
 use Rattle.pgn_lexer.specs.Spelling.{class, comment_class, string_class}
 use Rattle.pgn_lexer.specs.PartialToken.{PartialToken}
@@ -179,16 +179,16 @@ after_byte place h b = after_byte_in h.mode place h b
 
 pub record AfterEnd : Type 0 where
   pub held : PartialToken
-  pub last : AtEnd
+  pub result : Reached
 
 abbrev pub gives : PartialToken → Mode → ℕ → TokenForm → AfterEnd
-gives h mode at form = record { held = record { mode = mode; at = at; text = h.text }; last = lasts.Token form }
+gives h mode at form = record { held = record { mode = mode; at = at; text = h.text }; result = reached.Token form }
 
 abbrev pub stops : PartialToken → ℕ → LexReason → AfterEnd
-stops h at reason = record { held = record { mode = Failed (record { at = at; reason = reason }); at = at; text = h.text }; last = lasts.Fault (record { at = at; reason = reason }) }
+stops h at reason = record { held = record { mode = Failed (record { at = at; reason = reason }); at = at; text = h.text }; result = reached.Fault }
 
 abbrev pub ends : PartialToken → AfterEnd
-ends h = record { held = h; last = lasts.End }
+ends h = record { held = h; result = reached.End }
 
 abbrev pub after_end_in : Mode → ℕ → PartialToken → AfterEnd
 after_end_in AfterEf place h = stops h 0 StrayByte
@@ -203,7 +203,7 @@ after_end_in Brace place h = stops h place UnclosedComment
 after_end_in BraceWord place h = gives h Brace h.at forms.Word
 after_end_in Line place h = gives h Outside place forms.CommentClose
 after_end_in LineWord place h = gives h Line h.at forms.Word
-after_end_in (Failed f) place h = record { held = h; last = lasts.Fault f }
+after_end_in (Failed f) place h = record { held = h; result = reached.Fault }
 after_end_in _ place h = ends h
 
 unfoldable pub after_end : ℕ → PartialToken → AfterEnd
@@ -214,6 +214,6 @@ pub record IsAfterByte (t : AfterByte) (new : PartialToken) (answer : Step) : Ty
   pub held : new ≡ t.held
   pub step : answer ≡ t.step
 
-pub record IsAfterEnd (t : AfterEnd) (new : PartialToken) (answer : AtEnd) : Type 0 where
+pub record IsAfterEnd (t : AfterEnd) (new : PartialToken) (answer : Reached) : Type 0 where
   pub held : new ≡ t.held
-  pub last : answer ≡ t.last
+  pub result : answer ≡ t.result

@@ -2,7 +2,7 @@
 ghost use Rattle.std.specs.Prelude.{◌≡◌, ◌+◌, ◌≤◌, ◌^◌, [], length, None};
 ghost use Rattle.std.specs.Borrow.{sem};
 
-use crate::partial_token::{AtEnd, Found, PartialToken};
+use crate::partial_token::{PartialToken, Reached};
 use crate::token::{Outcome, Scan, Token, TokenKind};
 use std::marker::Model;
 
@@ -86,18 +86,18 @@ impl Lexer {
         ensures* after { sem 𝓛 (Leaves self.entry
             (λ new. Scans self.old piece.now new result.used (scanned result.outcome))) }
     {
-        let (used, found) = self.partial.run(piece, self.count);
+        let (used, reached) = self.partial.run(piece, self.count);
         self.count += used as u64;
-        match found {
-            Found::Nothing => Scan {
+        match reached {
+            Reached::End => Scan {
                 used,
                 outcome: Outcome::NeedMore,
             },
-            Found::Token(form) => Scan {
+            Reached::Token(form) => Scan {
                 used,
                 outcome: Outcome::Token(self.partial.token(form)),
             },
-            Found::Fault => Scan {
+            Reached::Fault => Scan {
                 used,
                 outcome: Outcome::Fault(self.partial.fault_met()),
             },
@@ -114,12 +114,12 @@ impl Lexer {
         ensures* after { sem 𝓛 (Leaves self.entry (λ new. Finishes self.old new (scanned result))) }
     {
         match self.partial.close(self.count) {
-            AtEnd::End => Outcome::Token(Token {
+            Reached::End => Outcome::Token(Token {
                 at: self.count,
                 kind: TokenKind::End,
             }),
-            AtEnd::Token(form) => Outcome::Token(self.partial.token(form)),
-            AtEnd::Fault(fault) => Outcome::Fault(fault),
+            Reached::Token(form) => Outcome::Token(self.partial.token(form)),
+            Reached::Fault => Outcome::Fault(self.partial.fault_met()),
         }
     }
 }

@@ -80,19 +80,12 @@ pub(crate) enum Step {
     Fault(LexFault),
 }
 
-/// The result of the end of the text.
+/// What is reached in a piece, or after the last one.
 #[derive(Clone, Copy)]
-pub(crate) enum AtEnd {
+pub(crate) enum Reached {
+    /// The end of the piece, or of the text; no token ends before it.
     End,
-    Token(TokenForm),
-    Fault(LexFault),
-}
-
-/// The result of reading a piece.
-#[derive(Clone, Copy)]
-pub(crate) enum Found {
-    /// The whole piece was used.
-    Nothing,
+    /// The end of a token.
     Token(TokenForm),
     /// The text is rejected, as the mode says.
     Fault,

@@ -5,13 +5,13 @@ use Rattle.pgn_lexer.specs.declared.token.LexFault.{LexFault}
 use Rattle.pgn_lexer.specs.declared.partial_token.Mode.{Mode}
 use Rattle.pgn_lexer.specs.declared.partial_token.Mode.TheVariants as modes
 use Rattle.pgn_lexer.specs.declared.partial_token.TokenForm.{TokenForm}
-use Rattle.pgn_lexer.specs.declared.partial_token.AtEnd.{AtEnd}
-use Rattle.pgn_lexer.specs.declared.partial_token.AtEnd.TheVariants as lasts
+use Rattle.pgn_lexer.specs.declared.partial_token.Reached.{Reached}
+use Rattle.pgn_lexer.specs.declared.partial_token.Reached.TheVariants as reached
 use Rattle.pgn_lexer.specs.Bytes.{is_line_end, is_digit, continues_symbol, is_suffix}
 use Rattle.pgn_lexer.specs.Tokens.{HasLength, symbol, glyph, word, end}
 use Rattle.pgn_lexer.specs.Spelling.{class, comment_class, string_class, symbol_at, word_at, suffix_at}
 use Rattle.pgn_lexer.specs.TokensOf.{in_glyph, onto, tokens_from}
-use Rattle.pgn_lexer.specs.PartialToken.{PartialToken, IsSound, IsGoing, tokens_to_come, kind_in, token_of, refusal, pending, spelling}
+use Rattle.pgn_lexer.specs.PartialToken.{PartialToken, IsSound, IsGoing, tokens_to_come, kind_in, token_of, refusal, pending, spelling, fault_met}
 use Rattle.pgn_lexer.specs.Taking.{after_byte, after_byte_in, after_end, after_end_in, AfterEnd, IsAfterEnd, glyph_of}
 use Rattle.pgn_lexer.proofs.stepping.StepGives.{Gives, front_of}
 use Rattle.pgn_lexer.proofs.stepping.RunOfBytes.{run_closes}
@@ -73,13 +73,13 @@ pub record ClosesEnd (place : ℕ) (h new : PartialToken) : Type 0 where
   pub same : new ≡ h
   pub comes : tokens_to_come place h [] ≡ record { at = place; kind = end } ∷ []
 
-abbrev pub CloseGives : ℕ → PartialToken → PartialToken → AtEnd → Type 0
-CloseGives place h new lasts.End = ClosesEnd place h new
-CloseGives place h new (lasts.Token form) = ClosesToken place h form new
-CloseGives place h new (lasts.Fault fault) = ClosesFault place h fault new
+abbrev pub CloseGives : ℕ → PartialToken → PartialToken → Reached → Type 0
+CloseGives place h new reached.End = ClosesEnd place h new
+CloseGives place h new (reached.Token form) = ClosesToken place h form new
+CloseGives place h new reached.Fault = ClosesFault place h (fault_met new) new
 
 abbrev pub ClosedGives : ℕ → PartialToken → AfterEnd → Type 0
-ClosedGives place h t = CloseGives place h t.held t.last
+ClosedGives place h t = CloseGives place h t.held t.result
 
 close_in : (m : Mode) (place at : ℕ) (text : List ℕ) → length text ≤ 255 → IsSound place (holds m at text) → ClosedGives place (holds m at text) (after_end_in m place (holds m at text))
 close_in modes.Start place at text fits sound =
@@ -111,6 +111,6 @@ unfolding after_end
 close_gives place h sound = close_in h.mode place h.at h.text sound.room.0 sound
 
 -- what a call that met the end of the text gives
-pub closes_gives : (place : ℕ) (h new : PartialToken) (answer : AtEnd) → IsSound place h → IsAfterEnd (after_end place h) new answer → CloseGives place h new answer
+pub closes_gives : (place : ℕ) (h new : PartialToken) (answer : Reached) → IsSound place h → IsAfterEnd (after_end place h) new answer → CloseGives place h new answer
 closes_gives place h new answer sound t =
-    subst (λ n. CloseGives place h n answer) (sym t.held) (subst (λ last. CloseGives place h (after_end place h).held last) (sym t.last) (close_gives place h sound))
+    subst (λ n. CloseGives place h n answer) (sym t.held) (subst (λ (end : Reached). CloseGives place h (after_end place h).held end) (sym t.result) (close_gives place h sound))

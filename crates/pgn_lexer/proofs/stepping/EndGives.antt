@@ -81,6 +81,10 @@ module _ (count : ℕ) (old new : PartialToken) where
         stays = λ g failed. let same : (f ≡ g) × (new ≡ old) = h.stays g (failed_mode old.mode g failed) in (ap fault same.0, ap (λ held. record { count = count; held = held }) same.1);
       }
 
+  -- the fault that is told is the one that was met
+  pub finishes_told : (told f : LexFault) → told ≡ f → ClosesFault count old f new → Finishes before after (fault told)
+  finishes_told told f is h = subst (λ (g : LexFault). Finishes before after (fault g)) (sym is) (finishes_fault f h)
+
 -- what is said of one view of a lexer, of the other
 pub finishes_of : (old old' new : Standing) (seen : Scanned) → old ≡ old' → Finishes old new seen → Finishes old' new seen
 finishes_of old old' new seen e = subst (λ (l : Standing). Finishes l new seen) e

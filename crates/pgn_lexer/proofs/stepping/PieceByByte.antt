@@ -22,8 +22,8 @@ use Rattle.pgn_lexer.specs.declared.partial_token.Step.TheVariants.{Used, Ends, 
 use Rattle.pgn_lexer.specs.Tokens.{EndsAt}
 use Rattle.pgn_lexer.specs.PartialToken.{PartialToken, tokens_to_come, kind_in, token_of, IsSound, IsGoing, pending, fault_of_mode, fault_met}
 use Rattle.pgn_lexer.specs.Taking.{begin, begin_line, brace, brace_word, string, fails, grown, into, symbol, after_byte, after_byte_in, IsAfterByte}
-use Rattle.pgn_lexer.specs.Running.{IsOutside, Ran, RunsOn, StoodAt, RunGives, RunsToToken, RunsToFault, used_after, found_after}
-use Rattle.pgn_lexer.specs.declared.partial_token.Found.TheVariants as found
+use Rattle.pgn_lexer.specs.Running.{IsOutside, Ran, RunsOn, StoodAt, RunGives, RunsToToken, RunsToFault, used_after, reached_after}
+use Rattle.pgn_lexer.specs.declared.partial_token.Reached.TheVariants as reached
 use Rattle.pgn_lexer.proofs.stepping.StepGives.{StepGives, Uses, EndsIn, EndsAhead, Fails, front_of}
 use Rattle.pgn_lexer.proofs.stepping.ByteGives.{step_gives}
 
@@ -47,7 +47,7 @@ ran_none place h piece sound going =
 
 -- a run that used the whole piece
 pub ran_all : (place : ℕ) (piece : List ℕ) (i : ℕ) (h new : PartialToken) (used : ℕ) → used ≡ length piece
-    → ((old : PartialToken) → Ran place old piece h i → Ran place old piece new used) → RunsOn place piece i h new used found.Nothing
+    → ((old : PartialToken) → Ran place old piece h i → Ran place old piece new used) → RunsOn place piece i h new used reached.End
 ran_all place piece i h new used all goes old ran =
     let r : Ran place old piece new used = goes old ran in
     record {
@@ -150,7 +150,7 @@ module _ (place : ℕ) (old : PartialToken) (piece : List ℕ) (h : PartialToken
         comes = λ s. longer s ∙ g.comes s;
       })
 
-  pub ran_stops : (answer : Step) (new : PartialToken) → (answer ≡ Used → ⊥) → IsAfterByte (after_byte (place + i) h b) new answer → RunGives place old piece new (used_after answer i) (found_after answer)
+  pub ran_stops : (answer : Step) (new : PartialToken) → (answer ≡ Used → ⊥) → IsAfterByte (after_byte (place + i) h b) new answer → RunGives place old piece new (used_after answer i) (reached_after answer)
   ran_stops Used new other t = absurd (other refl)
   ran_stops (Ends form) new other t = ran_ends form new t
   ran_stops (EndsBefore form) new other t = ran_ends_before form new t

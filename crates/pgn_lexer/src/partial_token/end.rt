@@ -2,7 +2,7 @@
 
 ghost use Rattle.pgn_lexer.specs.Taking as taking;
 
-use crate::partial_token::{AtEnd, Mode, PartialToken, TokenForm, glyph_of};
+use crate::partial_token::{Mode, PartialToken, Reached, TokenForm, glyph_of};
 use crate::token::{LexFault, LexReason};
 
 impl PartialToken {
@@ -12,11 +12,11 @@ impl PartialToken {
     /// Ends the text at the place: gives a token that is left, after which there may be more, or
     /// the end.
     #[tactic(auto, unfolding(crate::specs::Taking::after_end))]
-    pub(crate) fn close(&mut self, place: u64) -> AtEnd
+    pub(crate) fn close(&mut self, place: u64) -> Reached
         ensures { IsAfterEnd (taking.after_end place self.old) self.new result }
     {
         match self.mode {
-            Mode::Start | Mode::LineStart | Mode::Outside | Mode::Escape => AtEnd::End,
+            Mode::Start | Mode::LineStart | Mode::Outside | Mode::Escape => Reached::End,
             Mode::AfterEf | Mode::AfterEfBb => self.fail_at_end(0, LexReason::StrayByte),
             Mode::Symbol => self.give(Mode::Outside, TokenForm::Symbol),
             Mode::Str | Mode::AfterBackslash => self.fail_at_end(
@@ -33,24 +33,24 @@ impl PartialToken {
                 self.give(Mode::Outside, TokenForm::CommentClose)
             }
             Mode::LineWord => self.give(Mode::Line, TokenForm::Word),
-            Mode::Failed(fault) => AtEnd::Fault(fault),
+            Mode::Failed(_) => Reached::Fault,
         }
     }
 
-    fn fail_at_end(&mut self, at: u64, reason: LexReason) -> AtEnd
+    fn fail_at_end(&mut self, at: u64, reason: LexReason) -> Reached
         ensures { IsAfterEnd (taking.stops self.old at reason) self.new result }
     {
         let fault = LexFault { at, reason };
         self.at = at;
         self.mode = Mode::Failed(fault);
-        AtEnd::Fault(fault)
+        Reached::Fault
     }
 
-    fn give(&mut self, mode: Mode, form: TokenForm) -> AtEnd
+    fn give(&mut self, mode: Mode, form: TokenForm) -> Reached
         requires { HasMore mode self.old.text }
         ensures { IsAfterEnd (taking.gives self.old mode self.old.at form) self.new result }
     {
         self.mode = mode;
-        AtEnd::Token(form)
+        Reached::Token(form)
     }
 }

@@ -1,10 +1,10 @@
 //! Reads a piece up to the end of a token, with loops for the long runs.
 
 ghost use Rattle.std.specs.Prelude.{◌≡◌, ℕ, ◌+◌, ◌<◌, ◌≤◌, ◌^◌, length};
-ghost use Rattle.pgn_lexer.specs.Running.{used_after, found_after};
+ghost use Rattle.pgn_lexer.specs.Running.{used_after, reached_after};
 
 use crate::class::{Class, CommentClass, StringClass, class_of, comment_class_of, string_class_of};
-use crate::partial_token::{Found, Mode, PartialToken, Step, TokenForm};
+use crate::partial_token::{Mode, PartialToken, Reached, Step, TokenForm};
 
 impl PartialToken {
     ghost use Rattle.pgn_lexer.specs.PartialToken.{IsSound};
@@ -13,13 +13,13 @@ impl PartialToken {
     /// Uses the piece, which begins at the place, up to the end of the first token. A rejected byte
     /// is used too.
     #[inline(always)]
-    pub(crate) fn run(&mut self, piece: &[u8], place: u64) -> (usize, Found)
+    pub(crate) fn run(&mut self, piece: &[u8], place: u64) -> (usize, Reached)
         requires room { place + length piece.now ≤ 2 ^ 62 }
         requires sound { IsSound place self.old }
         ensures { RunGives place self.old piece.now self.new result.0 result.1 }
     {
         match self.mode {
-            Mode::Failed(_) => (0, Found::Fault),
+            Mode::Failed(_) => (0, Reached::Fault),
             Mode::LineStart | Mode::Outside => self.run_outside(piece, place),
             Mode::Brace => self.run_brace(piece, place),
             _ => self.run_on(piece, 0, place),
@@ -28,7 +28,7 @@ impl PartialToken {
 
     /// Reads white space between tokens, and the token after it.
     #[inline(always)]
-    fn run_outside(&mut self, piece: &[u8], place: u64) -> (usize, Found)
+    fn run_outside(&mut self, piece: &[u8], place: u64) -> (usize, Reached)
         requires room { place + length piece.now ≤ 2 ^ 62 }
         requires outside { IsOutside self.old.mode }
         ensures { RunsOn place piece.now 0 self.old self.new result.0 result.1 }
@@ -52,22 +52,22 @@ impl PartialToken {
                 }
                 Class::Alone(single) => {
                     self.pass(Mode::Outside, at);
-                    return (used + 1, Found::Token(TokenForm::Single(single)));
+                    return (used + 1, Reached::Token(TokenForm::Single(single)));
                 }
                 Class::OpenBrace => {
                     self.pass(Mode::Brace, at);
-                    return (used + 1, Found::Token(TokenForm::CommentOpen));
+                    return (used + 1, Reached::Token(TokenForm::CommentOpen));
                 }
                 _ => return self.run_on(piece, used, place),
             }
             used += 1;
         }
-        (used, Found::Nothing)
+        (used, Reached::End)
     }
 
     /// Reads on in a symbol.
     #[inline(always)]
-    fn run_symbol(&mut self, piece: &[u8], from: usize) -> (usize, Found)
+    fn run_symbol(&mut self, piece: &[u8], from: usize) -> (usize, Reached)
         requires within { from ≤ length piece.now }
         requires symbol { self.old.mode ≡ Mode.Symbol }
         ensures { (place : ℕ) → RunsOn place piece.now from self.old self.new result.0 result.1 }
@@ -79,12 +79,12 @@ impl PartialToken {
                 step => return ended(step, used),
             }
         }
-        (used, Found::Nothing)
+        (used, Reached::End)
     }
 
     /// Reads on in a string.
     #[inline(always)]
-    fn run_string(&mut self, piece: &[u8], from: usize, place: u64) -> (usize, Found)
+    fn run_string(&mut self, piece: &[u8], from: usize, place: u64) -> (usize, Reached)
         requires room { place + length piece.now ≤ 2 ^ 62 }
         requires within { from ≤ length piece.now }
         requires string { self.old.mode ≡ Mode.Str }
@@ -102,18 +102,18 @@ impl PartialToken {
                 }
                 StringClass::Quote => {
                     self.mode = Mode::Outside;
-                    return (used + 1, Found::Token(TokenForm::Str));
+                    return (used + 1, Reached::Token(TokenForm::Str));
                 }
                 _ => return self.run_on(piece, used, place),
             }
             used += 1;
         }
-        (used, Found::Nothing)
+        (used, Reached::End)
     }
 
     /// Reads white space in a comment in braces, and the word after it.
     #[inline(always)]
-    fn run_brace(&mut self, piece: &[u8], place: u64) -> (usize, Found)
+    fn run_brace(&mut self, piece: &[u8], place: u64) -> (usize, Reached)
         requires room { place + length piece.now ≤ 2 ^ 62 }
         requires brace { self.old.mode ≡ Mode.Brace }
         ensures { RunsOn place piece.now 0 self.old self.new result.0 result.1 }
@@ -131,18 +131,18 @@ impl PartialToken {
                 }
                 CommentClass::CloseBrace => {
                     self.pass(Mode::Outside, at);
-                    return (used + 1, Found::Token(TokenForm::CommentClose));
+                    return (used + 1, Reached::Token(TokenForm::CommentClose));
                 }
                 _ => return self.run_on(piece, used, place),
             }
             used += 1;
         }
-        (used, Found::Nothing)
+        (used, Reached::End)
     }
 
     /// Reads on in a word of a comment in braces.
     #[inline(always)]
-    fn run_brace_word(&mut self, piece: &[u8], from: usize) -> (usize, Found)
+    fn run_brace_word(&mut self, piece: &[u8], from: usize) -> (usize, Reached)
         requires within { from ≤ length piece.now }
         requires word { self.old.mode ≡ Mode.BraceWord }
         ensures { (place : ℕ) → RunsOn place piece.now from self.old self.new result.0 result.1 }
@@ -154,13 +154,13 @@ impl PartialToken {
                 step => return ended(step, used),
             }
         }
-        (used, Found::Nothing)
+        (used, Reached::End)
     }
 
     /// Reads on after so many bytes of the piece, in any mode. Few tokens need it, so it is not
     /// inlined.
     #[inline(never)]
-    fn run_on(&mut self, piece: &[u8], from: usize, place: u64) -> (usize, Found)
+    fn run_on(&mut self, piece: &[u8], from: usize, place: u64) -> (usize, Reached)
         requires room { place + length piece.now ≤ 2 ^ 62 }
         requires within { from ≤ length piece.now }
         ensures { RunsOn place piece.now from self.old self.new result.0 result.1 }
@@ -172,20 +172,20 @@ impl PartialToken {
                 step => return ended(step, used),
             }
         }
-        (used, Found::Nothing)
+        (used, Reached::End)
     }
 }
 
 /// The result of reading a piece, after so many bytes and the step that ended it.
-fn ended(step: Step, used: usize) -> (usize, Found)
+fn ended(step: Step, used: usize) -> (usize, Reached)
     requires { used < 2 ^ 63 }
     ensures used { result.0 ≡ used_after step used }
-    ensures found { result.1 ≡ found_after step }
+    ensures reached { result.1 ≡ reached_after step }
 {
     match step {
-        Step::Used => (used + 1, Found::Nothing),
-        Step::Ends(form) => (used + 1, Found::Token(form)),
-        Step::EndsBefore(form) => (used, Found::Token(form)),
-        Step::Fault(_) => (used + 1, Found::Fault),
+        Step::Used => (used + 1, Reached::End),
+        Step::Ends(form) => (used + 1, Reached::Token(form)),
+        Step::EndsBefore(form) => (used, Reached::Token(form)),
+        Step::Fault(_) => (used + 1, Reached::Fault),
     }
 }

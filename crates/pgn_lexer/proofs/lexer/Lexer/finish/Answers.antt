@@ -1,7 +1,7 @@
 use Rattle.std.proofs.Common.{refl, sym, subst}
 use Rattle.pgn_lexer.specs.PartialToken.{PartialToken, IsSound}
 use Rattle.pgn_lexer.proofs.stepping.ByteGives.{closes_gives, ClosesEnd, ClosesToken, ClosesFault}
-use Rattle.pgn_lexer.proofs.stepping.EndGives.{finishes_end, finishes_token, finishes_fault, finishes_of}
+use Rattle.pgn_lexer.proofs.stepping.EndGives.{finishes_end, finishes_token, finishes_told, finishes_of}
 use Rattle.pgn_lexer.proofs.lexer.Lexer.finish.Goals as goal
 
 pub invariant_of-self : goal.invariant_of-self
@@ -13,8 +13,8 @@ pub invariant_of-self-in-Token : goal.invariant_of-self-in-Token
 invariant_of-self-in-Token c =
     let h : ClosesToken _ _ _ _ = closes_gives _ _ _ _ c.self.invariant c.in-Token.ensures in h.sound
 
-pub invariant_of-self-in-Fault-1 : goal.invariant_of-self-in-Fault-1
-invariant_of-self-in-Fault-1 c =
+pub invariant_of-self-in-Fault : goal.invariant_of-self-in-Fault
+invariant_of-self-in-Fault c =
     let h : ClosesFault _ _ _ _ = closes_gives _ _ _ _ c.self.invariant c.in-Fault.ensures in h.sound
 
 pub returns-in-End : goal.returns-in-End
@@ -30,4 +30,4 @@ returns-in-Token c =
 pub returns-in-Fault : goal.returns-in-Fault
 returns-in-Fault c =
     let h : ClosesFault _ _ _ _ = closes_gives _ _ _ _ c.self.invariant c.in-Fault.ensures in
-    ((refl, λ _. tt, finishes_of _ _ _ _ c.self.view_is (finishes_fault _ _ _ _ h)), record { after = tt })
+    ((refl, λ _. tt, finishes_of _ _ _ _ c.self.view_is (finishes_told _ _ _ _ _ c.fault_met.ensures h)), record { after = tt })

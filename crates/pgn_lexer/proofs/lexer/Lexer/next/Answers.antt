@@ -2,9 +2,9 @@ use Rattle.std.proofs.Common.{refl, arith}
 use Rattle.pgn_lexer.proofs.stepping.StandsAfterCalls.{scans_nothing, scans_form, scans_told, scans_of}
 use Rattle.pgn_lexer.proofs.lexer.Lexer.next.Goals as goal
 
-pub returns-in-Nothing : goal.returns-in-Nothing
-returns-in-Nothing c =
-    let ran = rw c.in-Nothing.is at c.run-used.ensures in
+pub returns-in-End : goal.returns-in-End
+returns-in-End c =
+    let ran = rw c.in-End.is at c.run-used.ensures in
     ((refl, λ _. tt, scans_of _ _ _ _ _ _ c.self.view_is (scans_nothing _ _ _ _ _ ran)), record { used = omega (arith, ran.all); after = tt })
 
 pub returns-in-Token : goal.returns-in-Token

@@ -4,7 +4,7 @@ use Rattle.pgn_lexer.proofs.partial_token.PartialToken.run_on.Goals as goal
 
 pub returns-in_default : goal.returns-in_default
 returns-in_default c = λ old ran.
-    rw (c.ended.ensures.used, c.ended.ensures.found)
+    rw (c.ended.ensures.used, c.ended.ensures.reached)
     (ran_stops _ old c.args.piece.now _ c.loop-used.used _ (omega arith) refl (c.loop-used.invariant.ran old ran) _ _ c.in_default.not-Used c.take.ensures)
 
 pub returns : goal.returns

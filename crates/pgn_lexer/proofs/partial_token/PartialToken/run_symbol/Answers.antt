@@ -4,7 +4,7 @@ use Rattle.pgn_lexer.proofs.partial_token.PartialToken.run_symbol.Goals as goal
 
 pub returns-in_default : goal.returns-in_default
 returns-in_default c = λ place old ran.
-    rw (c.ended.ensures.used, c.ended.ensures.found)
+    rw (c.ended.ensures.used, c.ended.ensures.reached)
     (ran_stops place old c.args.piece.now _ c.loop-used.used _ (omega arith) refl (c.loop-used.invariant.ran place old ran) _ _ c.in_default.not-Used
     (takes_symbol _ _ _ _ _ c.loop-used.invariant.symbol c.symbol.ensures))
 
