@@ -15,6 +15,14 @@ pub enum Task {
         /// The file to read; with none, standard input.
         file: Option<String>,
     },
+    /// Write the games in export format, where a missing Result takes the marker of its game, and
+    /// nothing is written of a game with a fault. The file is opened twice.
+    Checked {
+        /// Write the roster and the moves outside variations alone (PGN 3.2.4).
+        reduced: bool,
+        /// The file to read.
+        file: String,
+    },
     /// Count the games and their plies.
     Check {
         /// The file to read; with none, standard input.
@@ -39,6 +47,7 @@ impl Task {
     pub fn file(&self) -> Option<&str> {
         match self {
             Task::Export { file, .. } => file.as_deref(),
+            Task::Checked { file, .. } => Some(file),
             Task::Check { file } => file.as_deref(),
             Task::List { file } => file.as_deref(),
             Task::Split { file, .. } => file.as_deref(),
@@ -65,19 +74,24 @@ pub enum ParseFault {
 /// `Help` for `--help` and `--version`, `Bad` for words that are no task.
 pub fn parse(words: &[String]) -> Result<Task, ParseFault> {
     match command_line().try_get_matches_from(words) {
-        Ok(matches) => Ok(task_of(&matches)),
+        Ok(matches) => task_of(&matches),
         Err(error) if error.use_stderr() => Err(ParseFault::Bad(error.to_string())),
         Err(error) => Err(ParseFault::Help(error.to_string())),
     }
 }
+
+// What is said of `export --checked` without FILE, which `clap` accepts.
+const NEEDS_FILE: &str = "--checked needs FILE\n";
 
 const EXAMPLES: &str = "Examples:
   pgn_tool export games.pgn > clean.pgn    Write the games in export format
   pgn_tool check games.pgn                 Count the games, or report the first fault
   pgn_tool list < games.pgn                One line for each game, with tabs
   pgn_tool split folder games.pgn          Write each game to folder/000001.pgn and so on
+  pgn_tool export --checked games.pgn      Games without a Result tag, too
 
 Without FILE standard input is read. Never write to the file that is read.
+`export --checked` opens FILE twice, so FILE cannot be a pipe.
 
 Exit status:
   0  no fault
@@ -90,6 +104,10 @@ fn command_line() -> Command {
         .long("reduced")
         .action(ArgAction::SetTrue)
         .help("Write the roster of seven tags and the moves outside variations alone");
+    let checked = Arg::new("checked")
+        .long("checked")
+        .action(ArgAction::SetTrue)
+        .help("Let a missing Result be the game's marker; FILE is needed, and is opened twice");
     let dir = Arg::new("dir")
         .value_name("DIR")
         .required(true)
@@ -104,6 +122,7 @@ fn command_line() -> Command {
             Command::new("export")
                 .about("Write the games in export format to standard output")
                 .arg(reduced)
+                .arg(checked)
                 .arg(file_argument()),
         )
         .subcommand(
@@ -132,22 +151,30 @@ fn file_argument() -> Arg {
 }
 
 /// The task of the subcommand that was met. `clap` refuses words without one.
-fn task_of(matches: &ArgMatches) -> Task {
+fn task_of(matches: &ArgMatches) -> Result<Task, ParseFault> {
     let Some((name, inner)) = matches.subcommand() else {
         unreachable!()
     };
     let file = inner.get_one::<String>("file").cloned();
     match name {
-        "export" => Task::Export {
-            reduced: inner.get_flag("reduced"),
-            file,
-        },
-        "check" => Task::Check { file },
-        "list" => Task::List { file },
-        "split" => Task::Split {
+        "export" => export_task(inner.get_flag("checked"), inner.get_flag("reduced"), file),
+        "check" => Ok(Task::Check { file }),
+        "list" => Ok(Task::List { file }),
+        "split" => Ok(Task::Split {
             dir: inner.get_one::<String>("dir").cloned().unwrap_or_default(),
             file,
-        },
+        }),
         _ => unreachable!(),
+    }
+}
+
+/// The task of `export`. With `--checked` it is read from a file, which is opened twice.
+fn export_task(is_checked: bool, reduced: bool, file: Option<String>) -> Result<Task, ParseFault> {
+    if !is_checked {
+        return Ok(Task::Export { reduced, file });
+    }
+    match file {
+        Some(file) => Ok(Task::Checked { reduced, file }),
+        None => Err(ParseFault::Bad(NEEDS_FILE.to_string())),
     }
 }

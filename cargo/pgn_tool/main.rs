@@ -6,6 +6,7 @@
 //! the proved program, without their contracts.
 
 mod arguments;
+mod checked;
 mod files;
 mod folder;
 mod game_sink;
@@ -15,6 +16,7 @@ mod split;
 mod stream;
 
 use crate::arguments::{parse, Task};
+use crate::checked::run_checked;
 use crate::folder::Folder;
 use crate::replies::{answer_fault, out_of_memory, refuse_words};
 use crate::split::split_to;
@@ -53,14 +55,33 @@ fn run<E: Sink>(task: &Task, err: &mut E) -> u8 {
     let Some(name) = task.file() else {
         return run_on(task, io::stdin().lock(), err);
     };
+    let first = match File::open(name) {
+        Ok(file) => file,
+        Err(error) => return refuse_file(&error, err),
+    };
+    let Task::Checked { .. } = task else {
+        return run_on(task, first, err);
+    };
     match File::open(name) {
-        Ok(file) => run_on(task, file, err),
-        Err(error) if error.kind() == ErrorKind::OutOfMemory => out_of_memory(err),
-        Err(_) => {
-            let (at, reason) = (0, Reason::ReadFault);
-            refuse(Fault { at, reason }, err)
-        }
+        Ok(second) => run_twice(task, first, second, err),
+        Err(error) => refuse_file(&error, err),
     }
+}
+
+/// Reports why the file is not opened.
+fn refuse_file<E: Sink>(error: &io::Error, err: &mut E) -> u8 {
+    if error.kind() == ErrorKind::OutOfMemory {
+        return out_of_memory(err);
+    }
+    let (at, reason) = (0, Reason::ReadFault);
+    refuse(Fault { at, reason }, err)
+}
+
+/// Runs a task that reads its file twice.
+fn run_twice<E: Sink>(task: &Task, first: File, second: File, err: &mut E) -> u8 {
+    let writer = BufWriter::with_capacity(OUTPUT_BUFFER, io::stdout().lock());
+    let mut out = Outlet::new(writer);
+    run_checked(task, &mut Inlet::new(first), &mut Inlet::new(second), &mut out, err)
 }
 
 /// Runs the task on what the reader gives: to files, or to standard output.

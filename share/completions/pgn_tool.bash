@@ -13,7 +13,7 @@ _pgn_tool() {
     if [[ $word == -* ]]; then
         case $command in
             '') choices='-h --help -V --version' ;;
-            export) choices='--reduced -h --help' ;;
+            export) choices='--reduced --checked -h --help' ;;
             *) choices='-h --help' ;;
         esac
     fi

@@ -10,4 +10,6 @@ complete -c pgn_tool -n $first -s V -l version -d 'Print the version'
 complete -c pgn_tool -s h -l help -d 'Print help'
 complete -c pgn_tool -n '__fish_seen_subcommand_from export' -l reduced \
     -d 'Write the roster and the moves outside variations alone'
+complete -c pgn_tool -n '__fish_seen_subcommand_from export' -l checked \
+    -d 'Let a missing Result be the marker, and open the file twice'
 complete -c pgn_tool -n "__fish_seen_subcommand_from $commands" -F

@@ -39,7 +39,7 @@ class AllocationsTest(unittest.TestCase):
         ran = run(["bin/try_allocations"])
         self.assertEqual((ran.returncode, ran.stderr), (0, b""), ran.stdout)
         lines = ran.stdout.decode().splitlines()
-        self.assertEqual(len(lines), 14)
+        self.assertEqual(len(lines), 16)
         for line in lines:
             self.assertRegex(line, r"^.*: \d+ refusals, [1-9]\d* reported, 0 wrong$")
 

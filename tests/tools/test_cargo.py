@@ -89,11 +89,11 @@ class Built(unittest.TestCase):
             with open(file, "wb") as out:
                 out.write(made.stdout)
             files.append(file)
-        calls = [["export"], ["export", "--reduced"], ["check"], ["list"]]
+        calls = [["export"], ["export", "--reduced"], ["export", "--checked"], ["check"], ["list"]]
         for words in [it + [file] for file in files + [folder + "/none"] for it in calls]:
             ours, theirs = run([proved, *words]), run([program, *words])
             self.assertEqual(shown(ours), shown(theirs), words)
-        for words in ([], ["--bad"], ["export", "a", "b"], ["--version"]):
+        for words in ([], ["--bad"], ["export", "a", "b"], ["export", "--checked"], ["--version"]):
             self.assertEqual(run([proved, *words]).returncode, run([program, *words]).returncode)
         for file in files:
             parts = [self.parts(it, file, folder) for it in (proved, program)]

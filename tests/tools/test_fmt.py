@@ -136,10 +136,12 @@ class FmtTest(unittest.TestCase):
                    b"pgn_fmt: bad.pgn: byte 15: not a move\n")
 
     def test_checked_is_handed_on(self):
-        # it stands for a program that has the flag
-        self.write("program", b'#!/bin/sh\n[ "$1 $2" = "export --checked" ] && cat "$3"\n')
-        os.chmod(self.folder + "/program", 0o755)
-        self.check(self.call("--checked", "loose.pgn", program=self.folder + "/program"), 0, LOOSE)
+        self.write("won.pgn", b"1. e4 1-0")
+        self.check(self.call("won.pgn"), 1, b"",
+                   b"pgn_fmt: won.pgn: byte 6: result differs from the Result tag\n")
+        ran = self.call("--checked", "won.pgn")
+        self.assertEqual((ran.returncode, ran.stderr), (0, b""))
+        self.assertTrue(ran.stdout.endswith(b'[Result "1-0"]\n\n1. e4 1-0\n\n'), ran.stdout)
         self.assertEqual(self.call("--checked").returncode, 2)
 
     def test_errors(self):

@@ -49,7 +49,7 @@ def commands():
 
 
 def options(*words):
-    rows = help_of(*words).split("Options:\n")[1]
+    rows = help_of(*words).split("Options:\n")[1].split("\n\n")[0]
     return sorted(it for it in re.findall(r"--[\w-]+", rows) if it != "--help")
 
 
@@ -172,8 +172,9 @@ class Statuses(Folder):
     def test_the_stack(self):
         size = int(re.search(r"^\.It stack\n(\d+) KiB", text_of(PAGE), re.M)[1])
         script = "ulimit -s %d; cd %s/vectors; failed=0; for file in *.in; do" \
-            " for words in export check list; do pgn_tool $words $file >/dev/null 2>&1;" \
-            " [ $? -le 1 ] || failed=1; done; done; exit $failed"
+            " for words in export 'export --checked' check list; do" \
+            " pgn_tool $words $file >/dev/null 2>&1; [ $? -le 1 ] || failed=1; done; done;" \
+            " exit $failed"
         self.assertEqual(self.status(script % (size, ROOT)), 0)
         self.assertIn(self.status("ulimit -s 64; echo '*' | pgn_tool export"), KILLED)
 

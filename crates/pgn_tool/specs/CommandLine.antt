@@ -1,6 +1,6 @@
 -- **Definition**: the command line of the program, as `clap` sees it.
 --
---     pgn_tool export [--reduced] [FILE]
+--     pgn_tool export [--reduced] [--checked] [FILE]
 --     pgn_tool check [FILE]
 --     pgn_tool list [FILE]
 --     pgn_tool split DIR [FILE]
@@ -22,8 +22,16 @@ reduced_rule = record (new_rule (codes "reduced")) {
   action = Some SetTrue;
 }
 
+-- `[--checked]`: `clap` accepts it without FILE, and the program rejects that
+unfoldable pub checked_rule : Rule
+checked_rule = record (new_rule (codes "checked")) {
+  long = Some (codes "checked");
+  action = Some SetTrue;
+}
+
 unfoldable pub export_command : App
-export_command = with_rule (with_rule (new_app (codes "export")) reduced_rule) file_rule
+export_command =
+    with_rule (with_rule (with_rule (new_app (codes "export")) reduced_rule) checked_rule) file_rule
 
 unfoldable pub check_command : App
 check_command = with_rule (new_app (codes "check")) file_rule

@@ -4,6 +4,7 @@ pub mod Requests
 pub mod Listing
 pub mod ListState
 pub mod Running
+pub mod RunningTwice
 pub mod Refusing
 pub mod FileName
 pub mod Files

@@ -42,20 +42,22 @@ reading left failures holding refuses old new = record {
   refuses = refuses old;
 }
 
--- The devices at the beginning and the end of a run. There was no memory for the buffer of standard
--- output, if it is short.
+-- The devices at the beginning and the end of a run. `second` reads a file that is opened twice.
+-- There was no memory for the buffer of standard output, if it is short.
 pub record Machine : Type 0 where
   pub input : Reading
+  pub second : Reading
   pub out : Device
   pub is_short : Bool
   pub files : Option (List FileStep)
   pub files_after : Option (List FileStep)
   pub err : Device
 
-abbrev pub machine : Reading → Device → Bool → Option (List FileStep) → Option (List FileStep) → Device
+abbrev pub machine : Reading → Reading → Device → Bool → Option (List FileStep) → Option (List FileStep) → Device
     → Machine
-machine input out is_short files files_after err = record {
+machine input second out is_short files files_after err = record {
   input = input;
+  second = second;
   out = out;
   is_short = is_short;
   files = files;

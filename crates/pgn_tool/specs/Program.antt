@@ -1,10 +1,11 @@
 -- **Definition**: what a run of the program does to the devices of a machine, by its words.
-use Rattle.std.specs.Prelude.{◌≡◌, ℕ, ◌≤◌, Bool, true, List, [], ◌∷◌, map, codes, Option, None, Some, Result, Ok, Err, String, Vec, string_bytes}
+use Rattle.std.specs.Prelude.{◌≡◌, ℕ, ◌≤◌, Bool, true, false, List, [], ◌∷◌, map, codes, Option, None, Some, Result, Ok, Err, String, Vec, string_bytes}
 use Rattle.std.specs.Global.{Global}
 use Rattle.pgn_game.specs.declared.reason.Reason.TheVariants.{ReadFault}
+use Rattle.pgn_game.specs.declared.mode.Mode.{Mode}
 use Rattle.pgn_game.specs.Reason.{line_of}
 use Rattle.pgn_tool.specs.declared.arguments.Task.{Task}
-use Rattle.pgn_tool.specs.declared.arguments.Task.TheVariants.{Split}
+use Rattle.pgn_tool.specs.declared.arguments.Task.TheVariants.{Checked, Split}
 use Rattle.pgn_tool.specs.declared.arguments.ParseFault.{ParseFault}
 use Rattle.pgn_tool.specs.declared.machine.SystemFault.{SystemFault}
 use Rattle.pgn_tool.specs.declared.machine.SystemFault.TheVariants.{Refused, NoMemory}
@@ -12,7 +13,8 @@ use Rattle.pgn_tool.specs.Files.{FileStep, added, entered}
 use Rattle.pgn_tool.specs.Machine.{Holding, Machine, Opens, Reading, holds, missing}
 use Rattle.pgn_tool.specs.Refusing.{AnswersFault}
 use Rattle.pgn_tool.specs.Requests.{AnswersBy, file_of, refusals, request_in, request_of}
-use Rattle.pgn_tool.specs.Running.{Answers, Device, IsSmooth, IsUntouched, Job, Runs, Tells, job_of, line}
+use Rattle.pgn_tool.specs.Running.{Answers, Device, IsSmooth, IsUntouched, Job, Runs, Tells, job_of, line, mode_for}
+use Rattle.pgn_tool.specs.RunningTwice.{AnswersSame, AnswersTwice, RunsTwice}
 use Rattle.pgn_tool.specs.Splitting.{RunsSplit}
 
 -- ---- what is read
@@ -69,18 +71,57 @@ pub data RunsStream (job : Job) (source out : Device) (is_short : Bool) (err : D
       → Answers job s out err status)
       → RunsStream job source out is_short err status
 
+-- The same of a task that reads two sources: where no device fails it does what is said of the two
+-- texts, and if they are the same, what is said of one.
+pub data RunsBoth (mode : Mode) (first second out : Device) (is_short : Bool) (err : Device)
+    (status : ℕ) : Type 0 where
+  unbuffered_twice : is_short ≡ true → IsUntouched first → IsUntouched second → IsUntouched out
+      → Reports (codes "out of memory") 3 err status
+      → RunsBoth mode first second out is_short err status
+  streams_twice : status ≤ 1 → RunsTwice mode first second out err status
+      → ((s r : List ℕ) → IsSmooth s first out → IsSmooth r second out
+      → AnswersTwice mode s r out err status)
+      → ((s : List ℕ) → IsSmooth s first out → IsSmooth s second out
+      → AnswersSame mode s out err status)
+      → RunsBoth mode first second out is_short err status
+
+-- The file that is read by now is opened once more. It is refused, for a reason for which the
+-- machine refuses the file of this name, and nothing is read or written. Or it is read twice.
+pub data RunsAgain (mode : Mode) (name : List ℕ) (first : Device) (second : Reading) (out : Device)
+    (is_short : Bool) (err : Device) (status : ℕ) : Type 0 where
+  unopened_again : (fault : SystemFault) → second.refuses name fault ≡ true
+      → IsUntouched first → IsUntouched second.standard → IsUntouched out
+      → EndsUnopened fault err status
+      → RunsAgain mode name first second out is_short err status
+  opened_again : (again : Device) → source_of (Some name) second ≡ Some again
+      → RunsBoth mode first again out is_short err status
+      → RunsAgain mode name first second out is_short err status
+
+-- only `split` makes files
+abbrev pub makes_files : Task → Bool
+makes_files (Split dir file) = true
+makes_files _ = false
+
+-- A task that makes no file: `export --checked` opens its file once more, and no other task does.
+abbrev pub RunsToOutput : Task → Device → Reading → Device → Bool → Device → ℕ → Type 0
+RunsToOutput (Checked reduced file) source second out is_short err status =
+    RunsAgain (mode_for reduced) (string_bytes file) source second out is_short err status
+RunsToOutput task source second out is_short err status =
+    RunsStream (job_of task) source out is_short err status × IsUntouched second.standard
+
 -- the task, on what is read: only `split` makes files, in its folder, and it writes nothing else
-abbrev pub RunsOpened : Task → Device → Device → Bool → Option (List FileStep) → Option (List FileStep)
-    → Device → ℕ → Type 0
-RunsOpened (Split dir file) source out is_short files files_after err status =
+abbrev pub RunsOpened : Task → Device → Reading → Device → Bool → Option (List FileStep)
+    → Option (List FileStep) → Device → ℕ → Type 0
+RunsOpened (Split dir file) source second out is_short files files_after err status =
     RunsSplit (added files (entered (string_bytes dir) ∷ [])) files_after source err status
-    × IsUntouched out
-RunsOpened task source out is_short files files_after err status =
-    RunsStream (job_of task) source out is_short err status × (files_after ≡ files)
+    × IsUntouched out × IsUntouched second.standard
+RunsOpened task source second out is_short files files_after err status =
+    RunsToOutput task source second out is_short err status × (files_after ≡ files)
 
 -- nothing was read, and no file was made
 abbrev pub IsIdle : Machine → Type 0
-IsIdle m = IsUntouched m.input.standard × (m.files_after ≡ m.files)
+IsIdle m =
+    IsUntouched m.input.standard × IsUntouched m.second.standard × (m.files_after ≡ m.files)
 
 -- How a task is carried out: its file is refused, for a reason for which the machine refuses the
 -- file of this name, and nothing is read or written; or it runs on what is read.
@@ -90,7 +131,7 @@ pub data Carries (task : Task) (m : Machine) (status : ℕ) : Type 0 where
       → IsIdle m → IsUntouched m.out → EndsUnopened fault m.err status
       → Carries task m status
   opened : (source : Device) → source_of (file_of (request_of task)) m.input ≡ Some source
-      → RunsOpened task source m.out m.is_short m.files m.files_after m.err status
+      → RunsOpened task source m.second m.out m.is_short m.files m.files_after m.err status
       → Carries task m status
 
 -- ---- by the words
@@ -99,7 +140,7 @@ pub data Carries (task : Task) (m : Machine) (status : ℕ) : Type 0 where
 pub data RunsWords (words : List (List ℕ)) (m : Machine) (status : ℕ) : Type 0 where
   by_task : (task : Task) → request_in words ≡ Some (request_of task) → refusals words ≡ []
       → Carries task m status → RunsWords words m status
-  by_fault : (fault : ParseFault) → AnswersBy (refusals words) (Err fault)
+  by_fault : (fault : ParseFault) → AnswersBy words (Err fault)
       → AnswersFault fault m.out m.err status → IsIdle m → RunsWords words m status
 
 -- the words are not read

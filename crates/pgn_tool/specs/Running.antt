@@ -14,7 +14,7 @@ use Rattle.pgn_game.specs.Progress.{Verdict, refused, totals, output, verdict}
 use Rattle.pgn_game.specs.Feeding.{profile_of}
 use Rattle.pgn_game.specs.Converting.{Converts}
 use Rattle.pgn_tool.specs.declared.arguments.Task.{Task}
-use Rattle.pgn_tool.specs.declared.arguments.Task.TheVariants.{Export, Check, List as ListGames, Split}
+use Rattle.pgn_tool.specs.declared.arguments.Task.TheVariants.{Export, Checked, Check, List as ListGames, Split}
 use Rattle.pgn_tool.specs.declared.list.Stopped.{Stopped}
 use Rattle.pgn_tool.specs.declared.list.Stopped.TheVariants as stopped
 use Rattle.pgn_tool.specs.Listing.{ListResult, list_text}
@@ -31,14 +31,16 @@ abbrev pub mode_for : Bool → Mode
 mode_for true = Reduced
 mode_for false = Full
 
--- the task writes to standard output alone
+-- the task reads one source, and writes to standard output alone
 abbrev pub is_for_stream : Task → Bool
+is_for_stream (Checked reduced file) = false
 is_for_stream (Split dir file) = false
 is_for_stream _ = true
 
--- what is asked for; nothing is said of a task that writes files
+-- what is asked for; nothing is said of a task that reads two sources or writes files
 abbrev pub job_of : Task → Job
 job_of (Export reduced file) = exporting (mode_for reduced)
+job_of (Checked reduced file) = checking
 job_of (Check file) = checking
 job_of (ListGames file) = listing
 job_of (Split dir file) = checking

@@ -1,9 +1,9 @@
 //! The command line: which task the arguments ask for.
-ghost use Rattle.std.specs.Prelude.{◌≡◌, IfOk, IsSome, false, codes, map, option_map, string_bytes};
+ghost use Rattle.std.specs.Prelude.{◌≡◌, IfErr, IfOk, IsSome, false, codes, map, option_map, string_bytes};
 ghost use Rattle.clap.specs.Words.{app_of, first_of, found_of, kind_of, rows_of, rule_of, subcommand_rows_of};
 ghost use Rattle.pgn_tool.specs.CommandLine.{check_command, command_line, export_command, file_rule, list_command, split_command};
 ghost use Rattle.std.specs.Option.{option_copied};
-ghost use Rattle.pgn_tool.specs.Requests.{AnswersBy, AnswersError, dir_of, file_of, is_given, refusals, request_from, request_in, request_of};
+ghost use Rattle.pgn_tool.specs.Requests.{AnswersBy, AnswersError, LacksFile, dir_of, export_request, file_of, is_given, request_from, request_in, request_of};
 ghost use Rattle.pgn_tool.specs.declared.arguments.ParseFault.TheVariants.{NoMemory};
 
 use clap::error::ErrorKind;
@@ -22,6 +22,14 @@ pub enum Task {
         reduced: bool,
         /// The file to read; with none, standard input.
         file: Option<String>,
+    },
+    /// Write the games in export format, where a missing Result takes the marker of its game, and
+    /// nothing is written of a game with a fault. The file is opened twice.
+    Checked {
+        /// Write the roster and the moves outside variations alone (PGN 3.2.4).
+        reduced: bool,
+        /// The file to read.
+        file: String,
     },
     /// Count the games and their moves.
     Check {
@@ -49,6 +57,7 @@ impl Task {
     {
         match self {
             Task::Export { file, .. } => file.as_deref(),
+            Task::Checked { file, .. } => Some(file.as_str()),
             Task::Check { file } => file.as_deref(),
             Task::List { file } => file.as_deref(),
             Task::Split { file, .. } => file.as_deref(),
@@ -80,19 +89,23 @@ impl From<AllocError> for ParseFault {
 /// # Errors
 ///
 /// - `Help` if they ask for `--help` or `--version`.
-/// - `Bad` if they are no task.
+/// - `Bad` if they are no task. For `export --checked` without FILE the text is this crate's own,
+///   `--checked needs FILE` and LF, else that of `clap`.
 /// - `NoMemory` only if an allocation failed.
 pub fn parse<S: AsStr>(alloc: Global, words: &[S]) -> Result<Task, ParseFault>
     ensures task { IfOk result (λ task. request_in (map S.text words.now)
         ≡ Some (request_of task)) }
-    ensures refusal { AnswersBy (refusals (map S.text words.now)) result }
+    ensures refusal { AnswersBy (map S.text words.now) result }
 {
     let command = command_line(alloc)?;
     match command.try_get_matches_from(words) {
-        Ok(matches) => Ok(task_of(alloc, &matches)?),
+        Ok(matches) => task_of(alloc, &matches),
         Err(error) => Err(fault_of(alloc, &error)),
     }
 }
+
+// What is said of `export --checked` without FILE, which `clap` accepts.
+const NEEDS_FILE: &str = "--checked needs FILE\n";
 
 // The end of the program's help.
 const EXAMPLES: &str = "Examples:
@@ -100,8 +113,10 @@ const EXAMPLES: &str = "Examples:
   pgn_tool check games.pgn                 Count the games, or report the first fault
   pgn_tool list < games.pgn                One line for each game, with tabs
   pgn_tool split folder games.pgn          Write each game to folder/000001.pgn and so on
+  pgn_tool export --checked games.pgn      Games without a Result tag, too
 
 Without FILE standard input is read. Never write to the file that is read.
+`export --checked` opens FILE twice, so FILE cannot be a pipe.
 
 Exit status:
   0  no fault
@@ -132,9 +147,14 @@ fn export_command<'a>(alloc: Global) -> Result<Command<'a>, AllocError>
         .long("reduced")
         .action(ArgAction::SetTrue)
         .help("Write the roster of seven tags and the moves outside variations alone");
+    let checked = Arg::new(alloc, "checked")
+        .long("checked")
+        .action(ArgAction::SetTrue)
+        .help("Let a missing Result be the game's marker; FILE is needed, and is opened twice");
     Command::new(alloc, "export")
         .about("Write the games in export format to standard output")
         .arg(reduced)?
+        .arg(checked)?
         .arg(file_argument(alloc))
 }
 
@@ -178,20 +198,23 @@ fn file_argument<'a>(alloc: Global) -> Arg<'a>
 }
 
 // The task of the subcommand in the arguments.
-fn task_of(alloc: Global, matches: &ArgMatches<'_>) -> Result<Task, AllocError>
+fn task_of(alloc: Global, matches: &ArgMatches<'_>) -> Result<Task, ParseFault>
     requires { IsSome (request_from (subcommand_rows_of matches.now)) }
-    ensures { IfOk result (λ task. request_from (subcommand_rows_of matches.now)
+    ensures task { IfOk result (λ task. request_from (subcommand_rows_of matches.now)
         ≡ Some (request_of task)) }
+    ensures fault { IfErr result (LacksFile (request_from (subcommand_rows_of matches.now))) }
 {
     let Some((name, inner)) = matches.subcommand() else {
         unreachable!()
     };
     let file = file_of(alloc, inner)?;
     match name {
-        "export" => Ok(Task::Export {
-            reduced: is_given(inner, "reduced"),
+        "export" => export_task(
+            alloc,
+            is_given(inner, "checked"),
+            is_given(inner, "reduced"),
             file,
-        }),
+        ),
         "check" => Ok(Task::Check { file }),
         "list" => Ok(Task::List { file }),
         "split" => Ok(Task::Split {
@@ -199,6 +222,27 @@ fn task_of(alloc: Global, matches: &ArgMatches<'_>) -> Result<Task, AllocError>
             file,
         }),
         _ => unreachable!(),
+    }
+}
+
+// The task of `export`. With `--checked` it is read from a file, which is opened twice.
+fn export_task(
+    alloc: Global,
+    is_checked: bool,
+    reduced: bool,
+    file: Option<String>,
+) -> Result<Task, ParseFault>
+    ensures task { IfOk result (λ task.
+        export_request is_checked reduced (option_map string_bytes file) ≡ request_of task) }
+    ensures fault { IfErr result (LacksFile
+        (Some (export_request is_checked reduced (option_map string_bytes file)))) }
+{
+    if !is_checked {
+        return Ok(Task::Export { reduced, file });
+    }
+    match file {
+        Some(file) => Ok(Task::Checked { reduced, file }),
+        None => Err(ParseFault::Bad(String::from_str(alloc, NEEDS_FILE)?)),
     }
 }
 

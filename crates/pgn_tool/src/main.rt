@@ -3,6 +3,9 @@
 #![tactic(auto)]
 
 mod arguments;
+mod checked;
+#[cfg(test)]
+mod checked_tests;
 #[cfg(test)]
 mod devices;
 mod files;
@@ -35,15 +38,22 @@ fn main(rt: HostRuntime) -> ExitCode {
     ExitCode::from(run_on(
         rt,
         &mut StandardInput::new(rt),
+        &mut StandardInput::new(rt),
         &mut StandardOutput::new(rt),
     ))
 }
 
-fn run_on(rt: HostRuntime, input: &mut StandardInput, out: &mut StandardOutput) -> u8 {
+fn run_on(
+    rt: HostRuntime,
+    input: &mut StandardInput,
+    second: &mut StandardInput,
+    out: &mut StandardOutput,
+) -> u8 {
     run::run(
         rt.alloc(),
         words_of(rt),
         input,
+        second,
         out,
         &mut Folder::new(rt),
         &mut Outlet::new(rt.stderr()),

@@ -1,17 +1,20 @@
 //! A run of the program, on whatever machine.
-ghost use Rattle.std.specs.Prelude.{◌≡◌, ℕ, ◌≤◌, true, List, Some};
+ghost use Rattle.std.specs.Prelude.{◌≡◌, ℕ, ◌≤◌, false, true, List, Some};
 ghost use Rattle.pgn_tool.specs.Machine.{machine, missing, reading};
 ghost use Rattle.pgn_tool.specs.Requests.{file_of, request_of};
 ghost use Rattle.pgn_tool.specs.Running.{device, is_for_stream, job_of};
-ghost use Rattle.pgn_tool.specs.Program.{Carries, EndsUnopened, IsMissing, Ran, RunsOpened, RunsStream, StartsFrom};
+ghost use Rattle.pgn_tool.specs.RunningTwice.{checked_mode, is_checked};
+ghost use Rattle.pgn_tool.specs.Program.{Carries, EndsUnopened, IsMissing, Ran, RunsAgain, RunsBoth};
+ghost use Rattle.pgn_tool.specs.Program.{RunsOpened, RunsStream, RunsToOutput, StartsFrom, makes_files};
 
 use crate::arguments::{Task, parse};
+use crate::checked::run_checked;
 use crate::machine::{GameFolder, Input, Output, SystemFault};
 use crate::replies::{answer_fault, out_of_memory, refuse_words};
 use crate::split::split_to;
 use crate::stream::{refuse, run_stream};
 use pgn_game::{Fault, Reason, Sink};
-use std::alloc::Global;
+use std::alloc::{AllocError, Global};
 
 /// The fault of a file that cannot be opened.
 const UNREADABLE: Fault = Fault {
@@ -24,6 +27,8 @@ const UNREADABLE: Fault = Fault {
 /// The first word is the program's name. First the words are parsed, then the file that they name
 /// is opened, then the task is carried out: on standard input where no file is named.
 ///
+/// `export --checked` opens its file once more, in `second`. No other task touches that.
+///
 /// - 0: there was no fault, or help or the version was shown.
 /// - 1: there was a fault, or an output could not be written. A file that cannot be opened is a
 ///   fault: `byte 0: input cannot be read`.
@@ -35,6 +40,7 @@ pub fn run<I: Input, O: Output, F: GameFolder, E: Sink>(
     alloc: Global,
     words: Result<Vec<String>, SystemFault>,
     input: &mut I,
+    second: &mut I,
     out: &mut O,
     files: &mut F,
     err: &mut E,
@@ -42,13 +48,14 @@ pub fn run<I: Input, O: Output, F: GameFolder, E: Sink>(
     ensures status { result ≤ 3 }
     ensures ran { Ran words (machine
         (reading I.left I.failures I.holding I.refuses input.old input.new)
+        (reading I.left I.failures I.holding I.refuses second.old second.new)
         (device O.taken O.failures out.old out.new) (O.is_short out.new)
         (F.log files.old) (F.log files.new)
         (device E.taken E.failures err.old err.new)) result }
 {
     match words {
         Ok(words) => match parse(alloc, words.as_slice()) {
-            Ok(task) => run_task(task, input, out, files, err),
+            Ok(task) => run_task(task, input, second, out, files, err),
             Err(fault) => answer_fault(&fault, out, err),
         },
         Err(SystemFault::Refused) => refuse_words(err),
@@ -60,6 +67,7 @@ pub fn run<I: Input, O: Output, F: GameFolder, E: Sink>(
 fn run_task<I: Input, O: Output, F: GameFolder, E: Sink>(
     task: Task,
     input: &mut I,
+    second: &mut I,
     out: &mut O,
     files: &mut F,
     err: &mut E,
@@ -67,6 +75,7 @@ fn run_task<I: Input, O: Output, F: GameFolder, E: Sink>(
     ensures status { result ≤ 3 }
     ensures carries { Carries task (machine
         (reading I.left I.failures I.holding I.refuses input.old input.new)
+        (reading I.left I.failures I.holding I.refuses second.old second.new)
         (device O.taken O.failures out.old out.new) (O.is_short out.new)
         (F.log files.old) (F.log files.new)
         (device E.taken E.failures err.old err.new)) result }
@@ -76,7 +85,7 @@ fn run_task<I: Input, O: Output, F: GameFolder, E: Sink>(
         (device E.taken E.failures err.old err.new) result }
 {
     match open_file(&task, input) {
-        Ok(()) => run_opened(task, input, out, files, err),
+        Ok(()) => run_opened(task, input, second, out, files, err),
         Err(fault) => refuse_file(fault, err),
     }
 }
@@ -107,12 +116,14 @@ fn open_file<I: Input>(task: &Task, input: &mut I) -> Result<(), SystemFault>
 fn run_opened<I: Input, O: Output, F: GameFolder, E: Sink>(
     task: Task,
     input: &mut I,
+    second: &mut I,
     out: &mut O,
     files: &mut F,
     err: &mut E,
 ) -> u8
     ensures status { result ≤ 3 }
     ensures opened { RunsOpened task (device I.left I.failures input.old input.new)
+        (reading I.left I.failures I.holding I.refuses second.old second.new)
         (device O.taken O.failures out.old out.new) (O.is_short out.new)
         (F.log files.old) (F.log files.new)
         (device E.taken E.failures err.old err.new) result }
@@ -122,7 +133,76 @@ fn run_opened<I: Input, O: Output, F: GameFolder, E: Sink>(
             files.enter(dir);
             split_to(input, files, err)
         }
-        other => run_buffered(&other, input, out, err),
+        other => run_to_output(&other, input, second, out, err),
+    }
+}
+
+// Carries out a task that makes no file.
+fn run_to_output<I: Input, O: Output, E: Sink>(
+    task: &Task,
+    input: &mut I,
+    second: &mut I,
+    out: &mut O,
+    err: &mut E,
+) -> u8
+    requires { makes_files task.now ≡ false }
+    ensures status { result ≤ 3 }
+    ensures runs { RunsToOutput task.now (device I.left I.failures input.old input.new)
+        (reading I.left I.failures I.holding I.refuses second.old second.new)
+        (device O.taken O.failures out.old out.new) (O.is_short out.new)
+        (device E.taken E.failures err.old err.new) result }
+{
+    match task {
+        Task::Checked { file, .. } => run_again(task, file.as_str(), input, second, out, err),
+        Task::Export { .. } | Task::Check { .. } | Task::List { .. } => {
+            run_buffered(task, input, out, err)
+        }
+        Task::Split { .. } => unreachable!(),
+    }
+}
+
+// Opens the file once more, and carries out a task that reads it twice.
+fn run_again<I: Input, O: Output, E: Sink>(
+    task: &Task,
+    name: &str,
+    first: &mut I,
+    second: &mut I,
+    out: &mut O,
+    err: &mut E,
+) -> u8
+    requires { is_checked task.now ≡ true }
+    ensures status { result ≤ 3 }
+    ensures runs { RunsAgain (checked_mode task.now) name.now
+        (device I.left I.failures first.old first.new)
+        (reading I.left I.failures I.holding I.refuses second.old second.new)
+        (device O.taken O.failures out.old out.new) (O.is_short out.new)
+        (device E.taken E.failures err.old err.new) result }
+{
+    match second.open(name) {
+        Ok(()) => run_both(task, first, second, out, err),
+        Err(refusal) => refuse_file(refusal, err),
+    }
+}
+
+// Carries out a task that reads two sources, on standard output, by a buffer.
+fn run_both<I: Input, O: Output, E: Sink>(
+    task: &Task,
+    first: &mut I,
+    second: &mut I,
+    out: &mut O,
+    err: &mut E,
+) -> u8
+    requires { is_checked task.now ≡ true }
+    ensures status { result ≤ 3 }
+    ensures runs { RunsBoth (checked_mode task.now)
+        (device I.left I.failures first.old first.new)
+        (device I.left I.failures second.old second.new)
+        (device O.taken O.failures out.old out.new) (O.is_short out.new)
+        (device E.taken E.failures err.old err.new) result }
+{
+    match out.reserve() {
+        Ok(()) => run_checked(task, first, second, out, err),
+        Err(AllocError) => out_of_memory(err),
     }
 }
 

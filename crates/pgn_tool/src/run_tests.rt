@@ -5,6 +5,7 @@ use crate::devices::{Page, Reader, memory, whole};
 use crate::files::{CreateFault, GameFiles};
 use crate::machine::{GameFolder, Input, Output, SystemFault};
 use crate::run::run;
+use crate::stream_tests::{UNKNOWN, WON};
 use pgn_game::{Inlet, Outlet, ReadFailed, Sink, Source, WriteFault};
 use std::alloc::{AllocError, Global};
 use std::test::Fail;
@@ -17,12 +18,22 @@ const UNREAD: &[u8] = b"byte 0: input cannot be read\n";
 
 const UNWRITTEN: &[u8] = b"byte 0: output cannot be written\n";
 
+const DIFFERS: &[u8] = b"byte 0: second reading differs\n";
+
 const SHORT: &[u8] = b"out of memory\n";
 
-/// Standard input, which has one game, and files by name.
+/// Standard input, which has one game, and files by name. Some can be opened once only.
 #[derive(Drop)]
 struct Desk {
     inlet: Inlet<Reader>,
+    is_second: bool,
+}
+
+fn new_desk(is_second: bool) -> Desk {
+    Desk {
+        inlet: Inlet::new(whole(b"*")),
+        is_second,
+    }
 }
 
 impl Desk {
@@ -59,7 +70,12 @@ impl Input for Desk {
         match name {
             "two.pgn" => self.give(b"* *"),
             "bad.pgn" => self.give(b"* 1. e4 e5 2. Ke3 *"),
-            "short" => Err(SystemFault::NoMemory),
+            "won.pgn" => self.give(b"1-0"),
+            "other.pgn" if self.is_second => self.give(b"0-1"),
+            "other.pgn" => self.give(b"1-0"),
+            "once.pgn" if !self.is_second => self.give(b"1-0"),
+            "tight.pgn" if !self.is_second => self.give(b"1-0"),
+            "short" | "tight.pgn" => Err(SystemFault::NoMemory),
             _ => Err(SystemFault::Refused),
         }
     }
@@ -158,9 +174,7 @@ impl Ran {
 }
 
 fn run_words(alloc: Global, words: Result<Vec<String>, SystemFault>, has_memory: bool) -> Ran {
-    let mut input = Desk {
-        inlet: Inlet::new(whole(b"*")),
-    };
+    let (mut input, mut second) = (new_desk(false), new_desk(true));
     let mut out = Screen {
         outlet: Outlet::new(memory(alloc)),
         buffers: 0,
@@ -173,7 +187,15 @@ fn run_words(alloc: Global, words: Result<Vec<String>, SystemFault>, has_memory:
         files: 0,
     };
     let mut err = Outlet::new(memory(alloc));
-    let status = run(alloc, words, &mut input, &mut out, &mut folders, &mut err);
+    let status = run(
+        alloc,
+        words,
+        &mut input,
+        &mut second,
+        &mut out,
+        &mut folders,
+        &mut err,
+    );
     Ran {
         status,
         out: out.outlet.into_inner(),
@@ -216,6 +238,32 @@ const ROWS: &[Row] = &[
     (&["p", "split", "other"], 1, b"", 0, UNWRITTEN),
     (&["p", "split", "short"], 3, b"", 0, SHORT),
     (&["p", "--version"], 0, b"pgn_tool 0.1.0\n", 0, b""),
+    (&["p", "export", "--checked", "won.pgn"], 0, WON, 0, b""),
+    (
+        &["p", "export", "--checked", "bad.pgn"],
+        1,
+        UNKNOWN,
+        0,
+        NOT_LEGAL,
+    ),
+    (
+        &["p", "export", "--checked", "other.pgn"],
+        1,
+        b"",
+        0,
+        DIFFERS,
+    ),
+    (&["p", "export", "--checked", "none.pgn"], 1, b"", 0, UNREAD),
+    (&["p", "export", "--checked", "once.pgn"], 1, b"", 0, UNREAD),
+    (&["p", "export", "--checked", "short"], 3, b"", 0, SHORT),
+    (&["p", "export", "--checked", "tight.pgn"], 3, b"", 0, SHORT),
+    (
+        &["p", "export", "--checked"],
+        2,
+        b"",
+        0,
+        b"--checked needs FILE\n",
+    ),
 ];
 
 /// Without memory for the buffer, which only standard output has, where a task writes to it.
@@ -224,6 +272,8 @@ const SHORTS: &[Row] = &[
     (&["p", "check", "two.pgn"], 3, b"", 0, SHORT),
     (&["p", "list", "bad.pgn"], 3, b"", 0, SHORT),
     (&["p", "list", "none.pgn"], 1, b"", 0, UNREAD),
+    (&["p", "export", "--checked", "won.pgn"], 3, b"", 0, SHORT),
+    (&["p", "export", "--checked", "once.pgn"], 1, b"", 0, UNREAD),
     (&["p", "split", "games", "two.pgn"], 0, b"", 2, b""),
     (&["p", "--version"], 0, b"pgn_tool 0.1.0\n", 0, b""),
 ];

@@ -57,12 +57,12 @@ pub fn run_stream<R: Source, O: Sink, E: Sink>(
         Task::Export { reduced, .. } => export(export_mode(*reduced), reader, out, err),
         Task::Check { .. } => check(reader, out, err),
         Task::List { .. } => list(reader, out, err),
-        Task::Split { .. } => unreachable!(),
+        Task::Checked { .. } | Task::Split { .. } => unreachable!(),
     }
 }
 
-// Which parts of a game an export writes.
-fn export_mode(reduced: bool) -> Mode
+/// Which parts of a game an export writes.
+pub fn export_mode(reduced: bool) -> Mode
     ensures { result ≡ mode_for reduced }
 {
     if reduced { Mode::Reduced } else { Mode::Full }

@@ -12,7 +12,7 @@ use std::io::ErrorKind;
 /// Two games, of 27 bytes: their markers stand at 12 and 25.
 const TWO: &[u8] = b"[Event \"a\"] * [Site \"b\"]\n*\n";
 
-const UNKNOWN: &[u8] =
+pub const UNKNOWN: &[u8] =
     b"[Event \"?\"]\n[Site \"?\"]\n[Date \"????.??.??\"]\n[Round \"?\"]\n[White \"?\"]\n[Black \"?\"]\n[Result \"*\"]\n\n*\n\n";
 
 const FIRST: &[u8] =
@@ -21,7 +21,7 @@ const FIRST: &[u8] =
 const BOTH: &[u8] =
     b"[Event \"a\"]\n[Site \"?\"]\n[Date \"????.??.??\"]\n[Round \"?\"]\n[White \"?\"]\n[Black \"?\"]\n[Result \"*\"]\n\n*\n\n[Event \"?\"]\n[Site \"b\"]\n[Date \"????.??.??\"]\n[Round \"?\"]\n[White \"?\"]\n[Black \"?\"]\n[Result \"*\"]\n\n*\n\n";
 
-const WON: &[u8] =
+pub const WON: &[u8] =
     b"[Event \"?\"]\n[Site \"?\"]\n[Date \"????.??.??\"]\n[Round \"?\"]\n[White \"?\"]\n[Black \"?\"]\n[Result \"1-0\"]\n\n1-0\n\n";
 
 const NAMED: &[u8] =
@@ -36,7 +36,7 @@ const BOTH_LINES: &[u8] =
 /// The line of a check of `TWO`.
 const COUNTS: &[u8] = b"games: 2, plies: 0\n";
 
-const UNWRITTEN: &[u8] = b"output cannot be written\n";
+pub const UNWRITTEN: &[u8] = b"output cannot be written\n";
 
 /// The fault of `* 1-0`.
 const DIFFERS: &[u8] = b"byte 2: result differs from the Result tag\n";
@@ -91,14 +91,14 @@ impl Job {
 
 /// What a run left.
 #[derive(Drop)]
-struct Ran {
-    status: u8,
-    out: Page,
-    err: Page,
+pub struct Ran {
+    pub status: u8,
+    pub out: Page,
+    pub err: Page,
 }
 
 impl Ran {
-    fn is(&self, status: u8, out: &[u8], err: &[u8]) -> bool {
+    pub fn is(&self, status: u8, out: &[u8], err: &[u8]) -> bool {
         self.status == status
             && self.out.taken.as_slice() == out
             && self.err.taken.as_slice() == err

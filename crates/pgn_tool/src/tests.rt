@@ -31,6 +31,18 @@ const TASKS: &[Row] = &[
         &["pgn_tool", "export", "--", "--reduced"],
         &["Ok(Export { reduced: false, file: Some(\"--reduced\") })"],
     ),
+    (
+        &["pgn_tool", "export", "--checked", "a.pgn"],
+        &["Ok(Checked { reduced: false, file: \"a.pgn\" })"],
+    ),
+    (
+        &["pgn_tool", "export", "a.pgn", "--checked", "--reduced"],
+        &["Ok(Checked { reduced: true, file: \"a.pgn\" })"],
+    ),
+    (
+        &["pgn_tool", "export", "--checked", "-"],
+        &["Ok(Checked { reduced: false, file: \"-\" })"],
+    ),
     (&["pgn_tool", "check"], &["Ok(Check { file: None })"]),
     (
         &["pgn_tool", "check", "a.pgn"],
@@ -61,6 +73,30 @@ const TASKS: &[Row] = &[
 
 /// Words that are rejected, and parts of the reason.
 const REJECTED: &[Row] = &[
+    (
+        &["pgn_tool", "export", "--checked"],
+        &["Err(Bad(\"--checked needs FILE\\n\"))"],
+    ),
+    (
+        &["pgn_tool", "export", "--reduced", "--checked"],
+        &["Err(Bad(\"--checked needs FILE\\n\"))"],
+    ),
+    (
+        &["pgn_tool", "export", "--checked", "--checked", "a"],
+        &[
+            "Err(Bad(",
+            "cannot be used multiple times",
+            "Usage: pgn_tool",
+        ],
+    ),
+    (
+        &["pgn_tool", "list", "--checked", "a"],
+        &[
+            "Err(Bad(",
+            "unexpected argument '--checked'",
+            "Usage: pgn_tool",
+        ],
+    ),
     (
         &["pgn_tool", "list", "a", "b"],
         &["Err(Bad(", "unexpected argument 'b'", "Usage: pgn_tool"],
@@ -163,6 +199,8 @@ const SHOWN: &[Row] = &[
             "Err(Help(",
             "Usage: pgn_tool export",
             "--reduced",
+            "--checked",
+            "is opened twice",
             "[FILE]",
             "standard input",
         ],
@@ -206,6 +244,7 @@ fn answers_words(rt: HostRuntime) -> Result<(), Fail> {
 const TEXTS: &[(&[&str], &str, &str)] = &[
     (&["pgn_tool", "export", "--reduced", "a.pgn"], "", ""),
     (&["pgn_tool", "--help"], "Converts", "out of memory\n"),
+    (&["pgn_tool", "export", "--checked"], "--checked", " FILE\n"),
     (
         &["pgn_tool", "check", "a", "b"],
         "error: unexpected argument 'b' found",

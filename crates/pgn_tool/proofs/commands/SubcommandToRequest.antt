@@ -12,26 +12,26 @@ use Rattle.clap.specs.declared.builder.command.Command.{Command}
 use Rattle.clap.specs.declared.parser.matches.ArgMatches.{ArgMatches}
 use Rattle.clap.specs.declared.parser.matches.ArgMatches.TheViews.{out-ArgMatches, out-SubCommand}
 use Rattle.clap.proofs.OnLiterals.{clap_on_literals}
-use Rattle.pgn_tool.specs.CommandLine.{bare_program, check_command, command_line, dir_rule, export_command, file_rule, list_command, reduced_rule, split_command}
+use Rattle.pgn_tool.specs.CommandLine.{bare_program, check_command, checked_rule, command_line, dir_rule, export_command, file_rule, list_command, reduced_rule, split_command}
 use Rattle.pgn_tool.specs.Requests.{Request, request_from, request_named}
 use Rattle.pgn_tool.proofs.commands.BuilderSteps.{is_local}
 
 -- ---- the command line is one whose matches and refusals `clap` defines
 
 pub line_is_simple : is_simple command_line ≡ true
-unfolding clap_on_literals command_line bare_program export_command check_command list_command split_command reduced_rule file_rule dir_rule
+unfolding clap_on_literals command_line bare_program export_command check_command list_command split_command reduced_rule checked_rule file_rule dir_rule
 line_is_simple = refl
 
 pub line_is_free : is_simple_and_free command_line ≡ true
-unfolding clap_on_literals command_line bare_program export_command check_command list_command split_command reduced_rule file_rule dir_rule
+unfolding clap_on_literals command_line bare_program export_command check_command list_command split_command reduced_rule checked_rule file_rule dir_rule
 line_is_free = refl
 
 pub line_is_plain : command_line.top.is_plain ≡ true
-unfolding command_line bare_program export_command check_command list_command split_command reduced_rule file_rule dir_rule
+unfolding command_line bare_program export_command check_command list_command split_command reduced_rule checked_rule file_rule dir_rule
 line_is_plain = refl
 
 pub line_wants_subcommand : command_line.top.subcommand_required ≡ true
-unfolding command_line bare_program export_command check_command list_command split_command reduced_rule file_rule dir_rule
+unfolding command_line bare_program export_command check_command list_command split_command reduced_rule checked_rule file_rule dir_rule
 line_wants_subcommand = refl
 
 -- ---- a subcommand that is met is one that makes a request
@@ -76,7 +76,7 @@ entered_is_known a None known met = absurd (true≢false (sym met))
 entered_is_known a (Some p) known met = found_is_known a.subs _ p.1 known met
 
 line_is_known : list_all (λ s. is_known s.name) (built command_line).subs ≡ true
-unfolding clap_on_literals command_line bare_program export_command check_command list_command split_command reduced_rule file_rule dir_rule
+unfolding clap_on_literals command_line bare_program export_command check_command list_command split_command reduced_rule checked_rule file_rule dir_rule
 line_is_known = refl
 
 words_are_known : (words : List Text) → is_some (subcommand_of command_line words) ≡ true → IsSome (request_from (subcommand_of command_line words))

@@ -2,11 +2,11 @@
 use Rattle.std.proofs.Common.{◌≡◌, refl, codes, true, false, [], ◌∷◌, Some, None}
 use Rattle.clap.proofs.OnLiterals.{clap_on_literals}
 use Rattle.clap.specs.declared.error.kind.ErrorKind.TheVariants.{ArgumentConflict, DisplayHelp, DisplayVersion, InvalidSubcommand, MissingRequiredArgument, MissingSubcommand, UnknownArgument}
-use Rattle.pgn_tool.specs.CommandLine.{bare_program, check_command, command_line, export_command, dir_rule, file_rule, list_command, reduced_rule, split_command}
-use Rattle.pgn_tool.specs.Requests.{check, export, listing, splitting, refusals, request_from, request_in}
+use Rattle.pgn_tool.specs.CommandLine.{bare_program, check_command, checked_rule, command_line, export_command, dir_rule, file_rule, list_command, reduced_rule, split_command}
+use Rattle.pgn_tool.specs.Requests.{check, checked, export, listing, splitting, refusals, request_from, request_in}
 
 unfoldable line_on_words : Unit {0}
-unfolding clap_on_literals command_line bare_program export_command check_command list_command split_command reduced_rule file_rule dir_rule refusals request_from request_in
+unfolding clap_on_literals command_line bare_program export_command check_command list_command split_command reduced_rule checked_rule file_rule dir_rule refusals request_from request_in
 line_on_words = tt
 
 export-asks : request_in (codes "pgn_tool" ∷ codes "export" ∷ []) ≡ Some (export false None)
@@ -48,6 +48,32 @@ export_named_as_flag-asks = refl
 export_named_as_flag-refused : refusals (codes "pgn_tool" ∷ codes "export" ∷ codes "--" ∷ codes "--reduced" ∷ []) ≡ []
 unfolding line_on_words
 export_named_as_flag-refused = refl
+
+checked-asks : request_in (codes "pgn_tool" ∷ codes "export" ∷ codes "--checked" ∷ codes "a.pgn" ∷ []) ≡ Some (checked false (Some (codes "a.pgn")))
+unfolding line_on_words
+checked-asks = refl
+
+checked-refused : refusals (codes "pgn_tool" ∷ codes "export" ∷ codes "--checked" ∷ codes "a.pgn" ∷ []) ≡ []
+unfolding line_on_words
+checked-refused = refl
+
+checked_reduced-asks : request_in (codes "pgn_tool" ∷ codes "export" ∷ codes "--reduced" ∷ codes "a.pgn" ∷ codes "--checked" ∷ [])
+    ≡ Some (checked true (Some (codes "a.pgn")))
+unfolding line_on_words
+checked_reduced-asks = refl
+
+-- no task: the program rejects it itself
+checked_alone-asks : request_in (codes "pgn_tool" ∷ codes "export" ∷ codes "--checked" ∷ []) ≡ Some (checked false None)
+unfolding line_on_words
+checked_alone-asks = refl
+
+checked_alone-refused : refusals (codes "pgn_tool" ∷ codes "export" ∷ codes "--checked" ∷ []) ≡ []
+unfolding line_on_words
+checked_alone-refused = refl
+
+checked_check-refused : refusals (codes "pgn_tool" ∷ codes "check" ∷ codes "--checked" ∷ codes "a.pgn" ∷ []) ≡ UnknownArgument ∷ []
+unfolding line_on_words
+checked_check-refused = refl
 
 check-asks : request_in (codes "pgn_tool" ∷ codes "check" ∷ []) ≡ Some (check None)
 unfolding line_on_words

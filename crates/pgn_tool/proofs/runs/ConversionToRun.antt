@@ -136,7 +136,7 @@ silent_blames _ source out devices = tt
 
 -- ---- where no device fails
 
-longer : (s : List ℕ) (left_new : Option (List ℕ)) (u rest : List ℕ) → Consumes (Some s) left_new (u ++ rest) → length u ≡ 2 ^ 62 → 0 < length rest
+pub longer : (s : List ℕ) (left_new : Option (List ℕ)) (u rest : List ℕ) → Consumes (Some s) left_new (u ++ rest) → length u ≡ 2 ^ 62 → 0 < length rest
     → length s ≤ 2 ^ 62 → ⊥
 longer s None u rest consumed long more short = absurd consumed
 longer s (Some ys) u rest consumed long more short =
@@ -156,7 +156,7 @@ own_fault p s source out a b _ smooth (too_long u rest consumed long more reads)
 below_two : (code : ℕ) → code ≤ 1 → (code ≡ 1 → ⊥) → code ≡ 0
 below_two code low other = omega (arith, low, other)
 
-well : (source out err : Device) (code : ℕ) → Concludes source out err code → IsCalm out → code ≡ 0
+pub well : (source out err : Device) (code : ℕ) → Concludes source out err code → IsCalm out → code ≡ 0
 well source out err code ends calm = below_two code ends.ends (λ one. calm_fails out calm (ends.ill one).0)
 
 job_answers : (job : Job) (s : List ℕ) (source out err : Device) (code : ℕ) (answer : Result Totals Fault) → IsSmooth s source out

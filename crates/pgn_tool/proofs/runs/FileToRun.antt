@@ -1,15 +1,19 @@
 -- How a run of the program is put together from opening its file and carrying out its task.
-use Rattle.std.proofs.Common.{◌≡◌, ◌∙◌, ℕ, List, [], Option, None, Some, Result, Ok, Err, refl, sym, ap, subst, map}
+use Rattle.std.proofs.Common.{◌≡◌, ◌∙◌, ℕ, Bool, true≢false, false, List, [], Option, None, Some, Result, Ok, Err, refl, sym, ap, subst, map}
 use Rattle.std.specs.Prelude.{String, Vec, string_bytes}
 use Rattle.std.specs.Global.{Global}
+use Rattle.pgn_game.specs.declared.mode.Mode.{Mode}
 use Rattle.pgn_tool.specs.declared.arguments.Task.{Task}
+use Rattle.pgn_tool.specs.declared.arguments.Task.TheVariants.{Export, Checked, Check, List as ListGames, Split}
 use Rattle.pgn_tool.specs.declared.arguments.ParseFault.{ParseFault}
 use Rattle.pgn_tool.specs.declared.machine.SystemFault.{SystemFault}
-use Rattle.pgn_tool.specs.Machine.{Holding, IsOpened, Machine, Reading, holds, missing}
-use Rattle.pgn_tool.specs.Program.{Carries, EndsUnopened, IsIdle, IsMissing, Ran, RunsWords, StartsFrom, by_fault, by_task, file_source, opened, source_of, unopened}
+use Rattle.pgn_tool.specs.Machine.{Holding, IsOpened, Machine, Opens, Reading, holds, missing}
+use Rattle.pgn_tool.specs.Program.{Carries, EndsUnopened, IsIdle, IsMissing, Ran, RunsAgain, RunsOpened, RunsToOutput, RunsWords, StartsFrom, by_fault, by_task, file_source, makes_files, opened, source_of, unopened, unopened_again}
 use Rattle.pgn_tool.specs.Refusing.{AnswersFault}
 use Rattle.pgn_tool.specs.Requests.{AnswersBy, file_of, refusals, request_in, request_of}
-use Rattle.pgn_tool.specs.Running.{Device, IsUntouched}
+use Rattle.pgn_tool.specs.Running.{Device, IsUntouched, mode_for}
+use Rattle.pgn_tool.specs.RunningTwice.{checked_mode}
+use Rattle.pgn_tool.specs.Files.{FileStep}
 
 -- the device that was opened: what it had at first, and what it has in the end
 abbrev pub left_at : Option (List ℕ) → ℕ → Reading → Device
@@ -37,19 +41,47 @@ opened_is file left failures r (Err fault) is starts = cc
 
 unopened_named : (file : Option (List ℕ)) (task : Task) (m : Machine) (status : ℕ) (fault : SystemFault)
     → file_of (request_of task) ≡ file → StartsFrom file m.input.holding m.input.refuses m.input.standard (Err fault)
-    → m.files_after ≡ m.files → IsUntouched m.out → EndsUnopened fault m.err status → Carries task m status
-unopened_named None task m status fault same starts files out ends = absurd starts
-unopened_named (Some name) task m status fault same (refuses, stays) files out ends =
-    unopened name fault same refuses (stays, files) out ends
+    → IsUntouched m.second.standard → m.files_after ≡ m.files → IsUntouched m.out → EndsUnopened fault m.err status → Carries task m status
+unopened_named None task m status fault same starts second files out ends = absurd starts
+unopened_named (Some name) task m status fault same (refuses, stays) second files out ends =
+    unopened name fault same refuses (stays, second, files) out ends
 
 -- the file was not opened
 pub unopened_is : (task : Task) (m : Machine) (status : ℕ) (fault : SystemFault) (answer : Result Unit SystemFault)
     → answer ≡ Err fault
     → StartsFrom (file_of (request_of task)) m.input.holding m.input.refuses m.input.standard answer
-    → m.files_after ≡ m.files → IsUntouched m.out → EndsUnopened fault m.err status → Carries task m status
+    → IsUntouched m.second.standard → m.files_after ≡ m.files → IsUntouched m.out → EndsUnopened fault m.err status → Carries task m status
 unopened_is task m status fault answer is starts =
     unopened_named (file_of (request_of task)) task m status fault refl
     (subst (λ (r : Result Unit SystemFault). StartsFrom (file_of (request_of task)) m.input.holding m.input.refuses m.input.standard r) is starts)
+
+-- the file was opened once, and not once more
+pub refused_again : (mode : Mode) (name : List ℕ) (first : Device) (second : Reading) (out : Device) (is_short : Bool) (err : Device) (status : ℕ)
+    (fault : SystemFault) (answer : Result Unit SystemFault) → answer ≡ Err fault
+    → Opens (second.holding name) (second.refuses name) second.standard answer
+    → IsUntouched first → IsUntouched out → EndsUnopened fault err status → RunsAgain mode name first second out is_short err status
+refused_again mode name first second out is_short err status fault answer is opens still unwritten ends =
+    let refused = subst (λ (r : Result Unit SystemFault). Opens (second.holding name) (second.refuses name) second.standard r) is opens in
+    unopened_again fault refused.0 still refused.1 unwritten ends
+
+-- the task reads a file twice
+pub to_output : (task : Task) (reduced : Bool) (file : String Global) (name : List ℕ) (first : Device) (second : Reading) (out : Device) (is_short : Bool)
+    (err : Device) (status : ℕ) → task ≡ Checked reduced file → name ≡ string_bytes file
+    → RunsAgain (checked_mode task) name first second out is_short err status → RunsToOutput task first second out is_short err status
+to_output task reduced file name first second out is_short err status is same runs =
+    subst (λ (t : Task). RunsToOutput t first second out is_short err status) (sym is)
+    (subst (λ (n : List ℕ). RunsAgain (mode_for reduced) n first second out is_short err status) same
+    (subst (λ (t : Task). RunsAgain (checked_mode t) name first second out is_short err status) is runs))
+
+-- the task makes no file
+pub opened_to_output : (task : Task) (first : Device) (second : Reading) (out : Device) (is_short : Bool) (files : Option (List FileStep)) (err : Device)
+    (status : ℕ) → makes_files task ≡ false → RunsToOutput task first second out is_short err status
+    → RunsOpened task first second out is_short files files err status
+opened_to_output (Export reduced file) first second out is_short files err status not runs = (runs, refl)
+opened_to_output (Checked reduced file) first second out is_short files err status not runs = (runs, refl)
+opened_to_output (Check file) first second out is_short files err status not runs = (runs, refl)
+opened_to_output (ListGames file) first second out is_short files err status not runs = (runs, refl)
+opened_to_output (Split dir file) first second out is_short files err status not runs = absurd (true≢false not)
 
 -- the words of the call, as they were handed to `parse`
 abbrev pub Words : Type 0
@@ -72,7 +104,7 @@ ran_task call words texts m status task is same request free carries =
 -- the words are no task, which was answered
 pub ran_fault : (call : Result Words SystemFault) (words : Words) (texts : List (String Global)) (m : Machine) (status : ℕ) (fault : ParseFault)
     → call ≡ Ok words → texts ≡ words.items
-    → AnswersBy (refusals (map string_bytes texts)) (Err fault) → AnswersFault fault m.out m.err status → IsIdle m → Ran call m status
+    → AnswersBy (map string_bytes texts) (Err fault) → AnswersFault fault m.out m.err status → IsIdle m → Ran call m status
 ran_fault call words texts m status fault is same refused answers idle =
     ran_words call words texts m status is same (by_fault fault refused answers idle)
 

@@ -8,4 +8,4 @@ returns-in-Ok-parse-clause-ran g c =
 
 pub returns-in-Ok-clause-ran : goal.returns-in-Ok-clause-ran
 returns-in-Ok-clause-ran g c =
-    ran_fault _ _ _ _ _ _ c.in-Ok.is c.as_slice.ensures.value c.in-Err.ensures.refusal c.answer_fault.ensures ((refl, refl), refl)
+    ran_fault _ _ _ _ _ _ c.in-Ok.is c.as_slice.ensures.value c.in-Err.ensures.refusal c.answer_fault.ensures ((refl, refl), (refl, refl), refl)

@@ -1,0 +1,27 @@
+use Rattle.std.proofs.Common.{◌∙◌, ap, sym}
+use Rattle.pgn_tool.specs.RunningTwice.{checked_mode}
+use Rattle.pgn_tool.proofs.runs.ConversionTwiceToRun.{same_answers, twice_answers, twice_as, twice_status, twice_still}
+use Rattle.pgn_tool.proofs.checked.run_checked.Goals as goal
+
+pub returns-clause-runs : goal.returns-clause-runs
+returns-clause-runs g c =
+    twice_as _ _ _ _ _ _ _ (c.export_mode.ensures ∙ sym (ap checked_mode c.in-Checked.is)) c.export_twice.ensures
+
+pub returns-clause-answers : goal.returns-clause-answers
+returns-clause-answers g c = λ s r one other. twice_answers _ s r _ _ _ _ _ one other (returns-clause-runs g c)
+
+pub returns-clause-same : goal.returns-clause-same
+returns-clause-same g c =
+    λ s one other. same_answers _ s _ _ _ c.equal_readings.ensures (twice_answers _ s s _ _ _ _ _ one other (returns-clause-runs g c))
+
+pub returns-clause-status : goal.returns-clause-status
+returns-clause-status g c = twice_status c.export_mode.result _ _ _ _ _ c.export_twice.ensures
+
+pub returns-clause-first_kept : goal.returns-clause-first_kept
+returns-clause-first_kept g c = λ zero. (twice_still c.export_mode.result _ _ _ _ _ c.export_twice.ensures zero).0
+
+pub returns-clause-second_kept : goal.returns-clause-second_kept
+returns-clause-second_kept g c = λ zero. (twice_still c.export_mode.result _ _ _ _ _ c.export_twice.ensures zero).1
+
+pub returns-clause-out_kept : goal.returns-clause-out_kept
+returns-clause-out_kept g c = λ zero. (twice_still c.export_mode.result _ _ _ _ _ c.export_twice.ensures zero).2

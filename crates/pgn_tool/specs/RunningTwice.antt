@@ -1,0 +1,73 @@
+-- **Definition**: what a run does that reads its file twice, and the status that it ends with.
+-- Letters: s is the text of the first source, r that of the second.
+use Rattle.std.specs.Prelude.{◌≡◌, ℕ, ◌⊎◌, Bool, true, false, List, Result, Ok, Err}
+use Rattle.std.specs.Io.KnownBytes.{Appends}
+use Rattle.pgn_game.specs.declared.mode.Mode.{Mode}
+use Rattle.pgn_game.specs.declared.mode.Mode.TheVariants.{Full}
+use Rattle.pgn_game.specs.declared.reason.Reason.{Reason}
+use Rattle.pgn_game.specs.declared.reason.Reason.TheVariants.{ReadFault, WriteFault}
+use Rattle.pgn_game.specs.declared.reason.Fault.{Fault}
+use Rattle.pgn_game.specs.declared.conversion.Totals.{Totals}
+use Rattle.pgn_game.specs.Profile.{Profile}
+use Rattle.pgn_game.specs.Reason.{line_of}
+use Rattle.pgn_game.specs.Progress.{output, verdict}
+use Rattle.pgn_game.specs.Checked.{checked_output, checked_profile, checked_verdict}
+use Rattle.pgn_game.specs.ConvertingTwice.{ConvertsTwice}
+use Rattle.pgn_tool.specs.declared.arguments.Task.{Task}
+use Rattle.pgn_tool.specs.declared.arguments.Task.TheVariants.{Checked}
+use Rattle.pgn_tool.specs.Running.{Concludes, Device, HasFailed, IsStill, Tells, TellsVerdict, line, mode_for, status_of}
+
+-- ---- what is asked for
+
+-- the task reads its file twice
+abbrev pub is_checked : Task → Bool
+is_checked (Checked reduced file) = true
+is_checked _ = false
+
+-- the mode of such a task; nothing is said of another one
+abbrev pub checked_mode : Task → Mode
+checked_mode (Checked reduced file) = mode_for reduced
+checked_mode _ = Full
+
+-- 64 tag pairs of a game, variations to depth 32, and a missing Result takes the marker
+abbrev pub profile_twice : Mode → Profile
+profile_twice mode = checked_profile 64 32 mode
+
+-- ---- if no device fails
+
+-- The run of two texts: its status, what standard output has then, and what standard error has.
+pub record AnswersTwice (mode : Mode) (s r : List ℕ) (out err : Device) (status : ℕ) : Type 0 where
+  pub ends : status ≡ status_of (checked_verdict (profile_twice mode) s r)
+  pub written : Appends out.before out.after (checked_output (profile_twice mode) s r)
+  pub told : TellsVerdict err (checked_verdict (profile_twice mode) s r)
+
+-- Where both sources give the text s: the verdict and the output are those of one reading.
+pub record AnswersSame (mode : Mode) (s : List ℕ) (out err : Device) (status : ℕ) : Type 0 where
+  pub ends : status ≡ status_of (verdict (profile_twice mode) s)
+  pub written : Appends out.before out.after (output (profile_twice mode) s)
+  pub told : TellsVerdict err (verdict (profile_twice mode) s)
+
+-- ---- whatever the devices do
+
+-- ReadFault is reported only if one of the sources failed, WriteFault only if standard output did
+abbrev pub BlamesTwice : Reason → (first second out : Device) → Type 0
+BlamesTwice ReadFault first second out = HasFailed first ⊎ HasFailed second
+BlamesTwice WriteFault first second out = HasFailed out
+BlamesTwice _ first second out = Unit {0}
+
+-- there was a fault, which is reported
+pub record RefusesTwice (f : Fault) (first second out err : Device) (status : ℕ) : Type 0 where
+  pub ends : status ≡ 1
+  pub told : Tells err (line (line_of f))
+  pub blames : BlamesTwice f.reason first second out
+
+abbrev pub EndsTwice : Result Totals Fault → (first second out err : Device) → ℕ → Type 0
+EndsTwice (Ok t) first second out err status = Concludes first out err status × IsStill second
+EndsTwice (Err f) first second out err status = RefusesTwice f first second out err status
+
+-- A run that reads two sources: a conversion with its result, what it wrote to standard output, and
+-- how the run ends.
+pub record RunsTwice (mode : Mode) (first second out err : Device) (status : ℕ) : Type 0 where
+  pub answer : Result Totals Fault
+  pub works : ConvertsTwice (profile_twice mode) first.before first.after second.before second.after answer out.before out.after
+  pub ends : EndsTwice answer first second out err status

@@ -1,0 +1,165 @@
+#!/usr/bin/env python3
+"""Tests of `pgn_tool export --checked` with real files, pipes and devices."""
+import os
+import shutil
+import subprocess
+import sys
+import tempfile
+import time
+import unittest
+
+sys.path.insert(0, os.path.dirname(os.path.realpath(__file__)))
+from programs import ROOT, need_program, not_tried, run
+
+HEAD = (b'[Event "?"]\n[Site "?"]\n[Date "????.??.??"]\n[Round "?"]\n[White "?"]\n[Black "?"]\n'
+        b'[Result "%s"]\n\n')
+DIFFERS = b"byte %d: second reading differs\n"
+
+
+def game(moves, result=b"*"):
+    return HEAD % result + moves + b"\n\n"
+
+
+class CheckedTest(unittest.TestCase):
+    def setUp(self):
+        self.program = need_program()
+        self.folder = tempfile.mkdtemp()
+        self.addCleanup(shutil.rmtree, self.folder, True)
+
+    def write(self, text):
+        path = os.path.join(self.folder, "games.pgn")
+        with open(path, "wb") as file:
+            file.write(text)
+        return path
+
+    def export(self, *words, **more):
+        return run([self.program, "export", "--checked", *words], **more)
+
+    def check(self, ran, status, out, err=b""):
+        self.assertEqual((ran.returncode, ran.stdout, ran.stderr), (status, out, err))
+
+    def test_missing_result_takes_the_marker(self):
+        path = self.write(b"1. e4 e5 1-0\n0-1 {end}")
+        wanted = game(b"1. e4 e5 1-0", b"1-0") + game(b"0-1", b"0-1")
+        self.check(self.export(path), 0, wanted)
+        # the export has its Result tags, and is written again as it is
+        with open(path, "wb") as file:
+            file.write(wanted)
+        self.check(run([self.program, "export", path]), 0, wanted)
+        self.check(self.export(path), 0, wanted)
+
+    def test_result_that_differs(self):
+        self.check(self.export(self.write(b'[Result "1-0"] 0-1')), 1, b"",
+                   b"byte 15: result differs from the Result tag\n")
+
+    def test_nothing_of_a_game_with_a_fault(self):
+        path = self.write(b"1. d4 1-0 1. e4 e5 2. Ke3 *")
+        self.check(self.export(path), 1, game(b"1. d4 1-0", b"1-0"),
+                   b"byte 22: move is not legal\n")
+        # without it the tag section of the second game is written
+        ran = run([self.program, "export", self.write(b"1. d4 * 1. e4 e5 2. Ke3 *")])
+        self.check(ran, 1, game(b"1. d4 *") + HEAD % b"*", b"byte 20: move is not legal\n")
+
+    def test_reduced(self):
+        path = self.write(b'[ECO "C20"] 1. e4 $1 {good} (1. d4) e5 1-0')
+        wanted = game(b"1. e4 e5 1-0", b"1-0")
+        for words in (["--reduced", path], [path, "--reduced"]):
+            self.check(self.export(*words), 0, wanted)
+
+    def test_long_games(self):
+        # each has more bytes than are read at once
+        text = (b"1. e4 {" + b"word " * 3000 + b"} e5 1-0\n") * 5
+        ran = self.export(self.write(text))
+        self.assertEqual((ran.returncode, ran.stderr), (0, b""))
+        self.assertEqual(ran.stdout.count(b'[Result "1-0"]\n'), 5)
+        self.assertEqual(ran.stdout.count(b"word"), 15000)
+
+    def test_each_vector_without_a_fault(self):
+        tried = 0
+        folder = os.path.join(ROOT, "vectors")
+        for name in sorted(os.listdir(folder)):
+            path = os.path.join(folder, name)
+            if name.endswith(".in"):
+                plain, twice = run([self.program, "export", path]), self.export(path)
+                if plain.returncode == 0:
+                    self.check(twice, 0, plain.stdout)
+                    tried += 1
+                elif b"result differs" not in plain.stderr:
+                    self.check(twice, 1, twice.stdout, plain.stderr)
+                    self.assertTrue(plain.stdout.startswith(twice.stdout), name)
+        self.assertGreater(tried, 100)
+
+    def test_without_a_file(self):
+        for words in ([], ["--reduced"]):
+            self.check(self.export(*words, input=b"*"), 2, b"", b"--checked needs FILE\n")
+
+    def test_other_commands(self):
+        for command in ("check", "list", "split"):
+            ran = run([self.program, command, "--checked", "x"])
+            self.assertEqual((ran.returncode, ran.stdout), (2, b""), command)
+
+    def test_file_that_cannot_be_opened(self):
+        unread = b"byte 0: input cannot be read\n"
+        self.check(self.export(self.folder + "/missing"), 1, b"", unread)
+        self.check(self.export(self.folder), 1, b"", unread)
+
+    def test_standard_input_by_its_name(self):
+        if not os.path.exists("/dev/stdin"):
+            not_tried("/dev/stdin is missing")
+        # a pipe gives its bytes once: the first reading has them all
+        for text in (b"1. e4 1-0", b"1-0 0-1"):
+            self.check(self.export("/dev/stdin", input=text), 1, b"", DIFFERS % 0)
+
+    def test_named_pipe(self):
+        path = os.path.join(self.folder, "pipe")
+        os.mkfifo(path)
+        words = [self.program, "export", "--checked", path]
+        with subprocess.Popen(words, stdout=subprocess.PIPE, stderr=subprocess.PIPE) as process:
+            with open(path, "wb") as pipe:
+                self.wait_for_both(process, path)
+                pipe.write(b"1. e4 1-0 1. d4 0-1")
+            out, err = process.communicate(timeout=60)
+        self.assertEqual((process.returncode, out, err), (1, b"", DIFFERS % 0))
+
+    def wait_for_both(self, process, path):
+        """Waits until the program has opened the pipe twice."""
+        folder = "/proc/%d/fd" % process.pid
+        if not os.path.isdir(folder):
+            process.kill()
+            not_tried("/proc is missing")
+        for _ in range(600):
+            links = [os.path.join(folder, it) for it in os.listdir(folder)]
+            if sum(os.path.realpath(it) == os.path.realpath(path) for it in links) == 2:
+                return
+            time.sleep(0.1)
+        self.fail("the pipe was not opened twice")
+
+    def test_file_that_changes_between_the_readings(self):
+        # The game is read whole before any of it is written. Then its second reading has to wait:
+        # the output is longer than the program's buffer and the pipe.
+        text = b"1. e4 {" + b"word " * 100000 + b"} "
+        path = self.write(text + b"1-0")
+        whole = self.export(path).stdout
+        words = [self.program, "export", "--checked", path]
+        with subprocess.Popen(words, stdout=subprocess.PIPE, stderr=subprocess.PIPE,
+                              bufsize=0) as process:
+            begun = process.stdout.read(1)
+            with open(path, "r+b") as file:
+                file.seek(len(text))
+                file.write(b"0-1")
+            out, err = process.communicate(timeout=60)
+        self.assertEqual((process.returncode, err), (1, DIFFERS % len(text)))
+        # the complete lines of the game
+        self.assertTrue(whole.startswith(begun + out) and len(out) > 100000, len(out))
+        self.assertTrue((begun + out).startswith(HEAD % b"1-0"))
+
+    def test_full_device(self):
+        if not os.path.exists("/dev/full"):
+            not_tried("/dev/full is missing")
+        with open("/dev/full", "wb") as full:
+            ran = run([self.program, "export", "--checked", self.write(b"1-0")], stdout=full)
+        self.assertEqual((ran.returncode, ran.stderr), (1, b"output cannot be written\n"))
+
+
+if __name__ == "__main__":
+    unittest.main()
