@@ -52,9 +52,9 @@ unfoldable pub is_legal_pair : Parts → Square → Square → Bool
 is_legal_pair p s t = is_legal p (one_move p s t)
 
 -- there is an origin, and the pair is legal
-abbrev pub hits : Parts → Square → Option Square → Bool
-hits p t None = false
-hits p t (Some s) = is_legal_pair p s t
+abbrev pub is_legal_from : Parts → Square → Option Square → Bool
+is_legal_from p t None = false
+is_legal_from p t (Some s) = is_legal_pair p s t
 
 -- how many pairs that is
 abbrev pub tried : Option Square → ℕ
@@ -72,75 +72,75 @@ king_step p t = if is_near p t then Some (king_square p.side p.board) else None
 
 -- the piece there is still to be tried: of the side to move, no knight, and no king whose step was
 -- tried
-abbrev pub is_left : Parts → Bool → Square → Bool
-is_left p near s = (has_colour p.side (at p.board s) && not (own p Knight s)) && not (near && own p King s)
+abbrev pub is_untried : Parts → Bool → Square → Bool
+is_untried p near s = (has_colour p.side (at p.board s) && not (own p Knight s)) && not (near && own p King s)
 
-abbrev pub if_left : Parts → Bool → Option Square → Option Square
-if_left p near None = None
-if_left p near (Some s) = if is_left p near s then Some s else None
+abbrev pub if_untried : Parts → Bool → Option Square → Option Square
+if_untried p near None = None
+if_untried p near (Some s) = if is_untried p near s then Some s else None
 
 -- the first piece in that direction from t, if it is still to be tried
-abbrev pub left_on : Parts → Bool → Square → Direction → Option Square
-left_on p near t d = if_left p near (first_on p.board d t)
+abbrev pub untried_on : Parts → Bool → Square → Direction → Option Square
+untried_on p near t d = if_untried p near (first_on p.board d t)
 
-abbrev pub hits_on : Parts → Bool → Square → Direction → Bool
-hits_on p near t d = hits p t (left_on p near t d)
+abbrev pub is_legal_on : Parts → Bool → Square → Direction → Bool
+is_legal_on p near t d = is_legal_from p t (untried_on p near t d)
 
 abbrev pub tried_on : Parts → Bool → Square → Direction → ℕ
-tried_on p near t d = tried (left_on p near t d)
+tried_on p near t d = tried (untried_on p near t d)
 
-abbrev pub hits_by : Parts → Square → Jump → Bool
-hits_by p t j = hits p t (origin_by p t j)
+abbrev pub is_legal_by : Parts → Square → Jump → Bool
+is_legal_by p t j = is_legal_from p t (origin_by p t j)
 
 abbrev pub tried_by : Parts → Square → Jump → ℕ
 tried_by p t j = tried (origin_by p t j)
 
 unfoldable pub any_on_ways : Parts → Bool → Square → Bool
-any_on_ways p near t = list_any (hits_on p near t) DIRECTIONS
+any_on_ways p near t = list_any (is_legal_on p near t) DIRECTIONS
 
 unfoldable pub count_on_ways : Parts → Bool → Square → ℕ
 count_on_ways p near t = sum_by (tried_on p near t) DIRECTIONS
 
 unfoldable pub any_by_jumps : Parts → Square → Bool
-any_by_jumps p t = list_any (hits_by p t) JUMPS
+any_by_jumps p t = list_any (is_legal_by p t) JUMPS
 
 unfoldable pub count_by_jumps : Parts → Square → ℕ
 count_by_jumps p t = sum_by (tried_by p t) JUMPS
 
-abbrev pub any_left : Parts → Square → Bool
-any_left p t = any_on_ways p (is_near p t) t || any_by_jumps p t
+abbrev pub any_untried : Parts → Square → Bool
+any_untried p t = any_on_ways p (is_near p t) t || any_by_jumps p t
 
-abbrev pub count_left : Parts → Square → ℕ
-count_left p t = count_on_ways p (is_near p t) t + count_by_jumps p t
+abbrev pub count_untried : Parts → Square → ℕ
+count_untried p t = count_on_ways p (is_near p t) t + count_by_jumps p t
 
 -- The same at the places of all squares.
 
 unfoldable pub indexes : List ℕ
 indexes = range_with_len 0 64
 
-abbrev pub king_hits_at : Parts → ℕ → Bool
-king_hits_at p i = hits p (square_at i) (king_step p (square_at i))
+abbrev pub king_step_is_legal_at : Parts → ℕ → Bool
+king_step_is_legal_at p i = is_legal_from p (square_at i) (king_step p (square_at i))
 
 abbrev pub king_tried_at : Parts → ℕ → ℕ
 king_tried_at p i = tried (king_step p (square_at i))
 
-abbrev pub any_left_at : Parts → ℕ → Bool
-any_left_at p i = any_left p (square_at i)
+abbrev pub any_untried_at : Parts → ℕ → Bool
+any_untried_at p i = any_untried p (square_at i)
 
-abbrev pub count_left_at : Parts → ℕ → ℕ
-count_left_at p i = count_left p (square_at i)
+abbrev pub count_untried_at : Parts → ℕ → ℕ
+count_untried_at p i = count_untried p (square_at i)
 
 unfoldable pub any_king_step : Parts → Bool
-any_king_step p = list_any (king_hits_at p) indexes
+any_king_step p = list_any (king_step_is_legal_at p) indexes
 
 unfoldable pub count_king_steps : Parts → ℕ
 count_king_steps p = sum_by (king_tried_at p) indexes
 
 unfoldable pub any_other : Parts → Bool
-any_other p = list_any (any_left_at p) indexes
+any_other p = list_any (any_untried_at p) indexes
 
 unfoldable pub count_others : Parts → ℕ
-count_others p = sum_by (count_left_at p) indexes
+count_others p = sum_by (count_untried_at p) indexes
 
 -- What a search counts: each of its pairs, or fewer, but one at least, where one is legal.
 pub record Counts (found : Bool) (old new whole : ℕ) : Type 0 where

@@ -23,49 +23,49 @@ use crate::word::{has, highest, lowest, single};
 pub(crate) fn first_on(board: &Board, direction: Direction, from: Square) -> Option<Square>
     ensures { result ≡ walk.first_on board.now direction from }
 {
-    from.lies_on_board();
-    let hits = direction.ray(from) & board.occupied();
-    if hits == 0 {
+    from.recall_invariant();
+    let pieces = direction.ray(from) & board.occupied();
+    if pieces == 0 {
         return None;
     }
     if direction.goes_up() {
-        return Some(Square::nth(lowest(hits)));
+        return Some(Square::nth(lowest(pieces)));
     }
-    Some(Square::nth(highest(hits)))
+    Some(Square::nth(highest(pieces)))
 }
 
 // The first occupied square on that way, as a set.
-fn first_hit(board: &Board, direction: Direction, target: Square) -> u64
+fn first_piece(board: &Board, direction: Direction, target: Square) -> u64
     ensures { Places result (λ s. walk.is_first_on board.now target s direction) }
 {
     match first_on(board, direction, target) {
         None => 0,
         Some(origin) => {
-            origin.lies_on_board();
+            origin.recall_invariant();
             single(origin.index())
         }
     }
 }
 
 // The first occupied squares on the eight ways from the target.
-pub(crate) fn first_hits(board: &Board, target: Square) -> u64
+pub(crate) fn first_pieces(board: &Board, target: Square) -> u64
     ensures { Places result (walk.is_first board.now target) }
 {
-    first_hit(board, DIRECTIONS[0], target)
-        | first_hit(board, DIRECTIONS[1], target)
-        | first_hit(board, DIRECTIONS[2], target)
-        | first_hit(board, DIRECTIONS[3], target)
-        | first_hit(board, DIRECTIONS[4], target)
-        | first_hit(board, DIRECTIONS[5], target)
-        | first_hit(board, DIRECTIONS[6], target)
-        | first_hit(board, DIRECTIONS[7], target)
+    first_piece(board, DIRECTIONS[0], target)
+        | first_piece(board, DIRECTIONS[1], target)
+        | first_piece(board, DIRECTIONS[2], target)
+        | first_piece(board, DIRECTIONS[3], target)
+        | first_piece(board, DIRECTIONS[4], target)
+        | first_piece(board, DIRECTIONS[5], target)
+        | first_piece(board, DIRECTIONS[6], target)
+        | first_piece(board, DIRECTIONS[7], target)
 }
 
 // Whether the two are side by side, on a rank, a file or a diagonal.
 pub(crate) fn is_adjacent(from: Square, to: Square) -> bool
     ensures { result ≡ square.is_adjacent from to }
 {
-    from.lies_on_board();
+    from.recall_invariant();
     has(adjacent(to), from.index())
 }
 
@@ -99,7 +99,7 @@ fn reaching(kind: Kind, colour: Colour, to: Square) -> u64
 fn reaches(kind: Kind, colour: Colour, from: Square, to: Square) -> bool
     ensures { result ≡ walk.reaches kind colour from to }
 {
-    from.lies_on_board();
+    from.recall_invariant();
     has(reaching(kind, colour, to), from.index())
 }
 
@@ -110,8 +110,8 @@ pub(crate) fn is_clear(board: &Board, from: Square, to: Square) -> bool
     requires occupied { IsTrue (is_some (at board.now from)) }
     ensures { result ≡ spec.is_clear board.now from to }
 {
-    from.lies_on_board();
-    to.lies_on_board();
+    from.recall_invariant();
+    to.recall_invariant();
     match first_on(board, Direction::between(to, from), to) {
         None => false,
         Some(origin) => origin.is(from),
@@ -153,7 +153,7 @@ pub(crate) fn attacks(board: &Board, from: Square, to: Square) -> bool
 pub(crate) fn knights_to(target: Square) -> u64
     ensures { Places result (λ s. square.is_jump s target) }
 {
-    target.lies_on_board();
+    target.recall_invariant();
     JUMPS_TO[target.index()]
 }
 
@@ -161,7 +161,7 @@ pub(crate) fn knights_to(target: Square) -> u64
 fn adjacent(target: Square) -> u64
     ensures { Places result (λ s. square.is_adjacent s target) }
 {
-    target.lies_on_board();
+    target.recall_invariant();
     ADJACENT[target.index()]
 }
 
@@ -169,7 +169,7 @@ fn adjacent(target: Square) -> u64
 fn lines(target: Square) -> u64
     ensures { Places result (λ s. square.in_line s target) }
 {
-    target.lies_on_board();
+    target.recall_invariant();
     LINES[target.index()]
 }
 
@@ -177,7 +177,7 @@ fn lines(target: Square) -> u64
 fn diagonals(target: Square) -> u64
     ensures { Places result (λ s. square.on_diagonal s target) }
 {
-    target.lies_on_board();
+    target.recall_invariant();
     DIAGONALS[target.index()]
 }
 
@@ -185,7 +185,7 @@ fn diagonals(target: Square) -> u64
 fn pawns_to(by: Colour, target: Square) -> u64
     ensures { Places result (λ s. walk.reaches Pawn by s target) }
 {
-    target.lies_on_board();
+    target.recall_invariant();
     match by {
         Colour::White => WHITE_PAWNS[target.index()],
         Colour::Black => BLACK_PAWNS[target.index()],
@@ -216,7 +216,7 @@ fn sliders(board: &Board, by: Colour, target: Square) -> u64
 pub(crate) fn sees(from: Square, to: Square) -> bool
     ensures { result ≡ walk.is_aligned from to }
 {
-    from.lies_on_board();
+    from.recall_invariant();
     has(lines(to) | diagonals(to), from.index())
 }
 
@@ -241,12 +241,12 @@ pub(crate) fn has_sliders(board: &Board, by: Colour, target: Square) -> bool
 pub(crate) fn is_attacked(board: &Board, by: Colour, target: Square) -> bool
     ensures { result ≡ spec.is_attacked board.now by target }
 {
-    target.lies_on_board();
+    target.recall_invariant();
     if near_attackers(board, by, target) != 0 {
         return true;
     }
     let sliders = sliders(board, by, target);
-    sliders != 0 && sliders & first_hits(board, target) != 0
+    sliders != 0 && sliders & first_pieces(board, target) != 0
 }
 
 // Whether the colour's one king, on that square, is attacked.
@@ -255,6 +255,6 @@ pub(crate) fn is_king_attacked(board: &Board, colour: Colour, king: Square) -> b
     requires there { king ≡ walk.king_square colour board.now }
     ensures { result ≡ spec.king_attacked board.now colour }
 {
-    board.has_all_cells();
+    board.recall_invariant();
     is_attacked(board, colour.other(), king)
 }

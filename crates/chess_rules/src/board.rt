@@ -250,7 +250,7 @@ impl Board {
     }
 
     // Gives the proof of a body the invariant of every board; it does nothing when it runs.
-    pub(crate) fn has_all_cells(&self)
+    pub(crate) fn recall_invariant(&self)
         ensures { length self.now ≡ 64 }
     {
         let _ = &self.ones;

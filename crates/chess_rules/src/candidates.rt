@@ -8,7 +8,7 @@ ghost use Rattle.chess_rules.specs.Pairs as spec;
 ghost use Rattle.chess_rules.specs.Walk.{jump_numbered};
 ghost use Rattle.chess_rules.specs.Words.{members};
 
-use crate::attack::{first_hits, knights_to};
+use crate::attack::{first_pieces, knights_to};
 use crate::direction::landing;
 use crate::piece::Kind;
 use crate::position::Position;
@@ -26,11 +26,11 @@ pub fn origins(position: &Position, kind: Kind, target: Square) -> ArrayVec<Squa
     ensures once { AllPairs ◌≢◌ result.items }
     ensures few { array_vec_len result ≤ 8 }
 {
-    target.lies_on_board();
+    target.recall_invariant();
     let own = position.board().pieces(position.side(), kind);
     match kind {
         Kind::Knight => squares_of(own & knights_to(target)),
-        _ => squares_of(own & first_hits(position.board(), target)),
+        _ => squares_of(own & first_pieces(position.board(), target)),
     }
 }
 

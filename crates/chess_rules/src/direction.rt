@@ -63,7 +63,7 @@ impl Direction {
     pub(crate) fn ray(self, from: Square) -> u64
         ensures { Places result (walk.lies_on self from) }
     {
-        from.lies_on_board();
+        from.recall_invariant();
         RAYS[64 * self.number() + from.index()]
     }
 
@@ -202,6 +202,6 @@ pub(crate) fn landing(from: Square, jump: usize) -> Option<Square>
     requires { jump < 8 }
     ensures { result ≡ walk.landing from jump }
 {
-    from.lies_on_board();
+    from.recall_invariant();
     Square::at_place(LANDINGS[8 * from.index() + jump])
 }

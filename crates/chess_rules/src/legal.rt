@@ -34,8 +34,8 @@ pub fn try_pair(position: &Position, mv: Move, probes: &mut Probes) -> Option<Po
     ensures after { result ≡ spec.legal position.now mv }
     ensures count { probes.new ≡ probes.old + 1 }
 {
-    mv.from.lies_on_board();
-    mv.to.lies_on_board();
+    mv.from.recall_invariant();
+    mv.to.recall_invariant();
     if is_legal(position, mv, probes) {
         Some(position.after(&mv))
     } else {
@@ -53,8 +53,8 @@ pub(crate) fn is_legal(position: &Position, mv: Move, probes: &mut Probes) -> bo
     ensures count { probes.new ≡ probes.old + 1 }
 {
     probes.add_one();
-    mv.from.lies_on_board();
-    mv.to.lies_on_board();
+    mv.from.recall_invariant();
+    mv.to.recall_invariant();
     allows(position, &mv)
 }
 
@@ -87,6 +87,6 @@ pub fn has_legal_move(position: &Position, probes: &mut Probes) -> bool
     ensures some { result ≡ true → probes.old < probes.new }
     ensures all { result ≡ false → probes.new ≡ probes.old + pair_count position.now }
 {
-    position.keeps_rules();
+    position.recall_invariant();
     any_king_step(position, probes) || any_other(position, probes)
 }

@@ -42,9 +42,14 @@ fn is_legal_pair(position: &Position, from: Square, to: Square, probes: &mut Pro
 }
 
 // Tries the pair, if there is an origin, and returns whether it is legal.
-fn hits(position: &Position, origin: Option<Square>, target: Square, probes: &mut Probes) -> bool
+fn is_legal_from(
+    position: &Position,
+    origin: Option<Square>,
+    target: Square,
+    probes: &mut Probes,
+) -> bool
     requires { probes.old + spec.tried origin < 2 ^ 32 }
-    ensures found { result ≡ spec.hits position.now target origin }
+    ensures found { result ≡ spec.is_legal_from position.now target origin }
     ensures count { probes.new ≡ probes.old + spec.tried origin }
 {
     match origin {
@@ -67,8 +72,8 @@ fn king_step(position: &Position, target: Square) -> Option<Square>
 
 // Whether the piece on the origin is still to be tried: it is of the side to move, no knight, and
 // no king with a step that was tried.
-fn is_left(position: &Position, near: bool, origin: Square) -> bool
-    ensures { result ≡ spec.is_left position.now near origin }
+fn is_untried(position: &Position, near: bool, origin: Square) -> bool
+    ensures { result ≡ spec.is_untried position.now near origin }
 {
     match position.board().at(origin) {
         None => false,
@@ -81,11 +86,11 @@ fn is_left(position: &Position, near: bool, origin: Square) -> bool
 }
 
 // The first piece in that direction from the target, if it is still to be tried.
-fn left_on(position: &Position, near: bool, target: Square, way: Direction) -> Option<Square>
-    ensures { result ≡ spec.left_on position.now near target way }
+fn untried_on(position: &Position, near: bool, target: Square, way: Direction) -> Option<Square>
+    ensures { result ≡ spec.untried_on position.now near target way }
 {
     let origin = first_on(position.board(), way, target)?;
-    if is_left(position, near, origin) {
+    if is_untried(position, near, origin) {
         Some(origin)
     } else {
         None
@@ -100,7 +105,7 @@ pub(crate) fn any_king_step(position: &Position, probes: &mut Probes) -> bool
 {
     for index in 0..64 {
         let target = Square::nth(index);
-        if hits(position, king_step(position, target), target, probes) {
+        if is_legal_from(position, king_step(position, target), target, probes) {
             return true;
         }
     }
@@ -114,7 +119,7 @@ pub(crate) fn any_other(position: &Position, probes: &mut Probes) -> bool
     ensures count { Counts result probes.old probes.new (spec.count_others position.now) }
 {
     for index in 0..64 {
-        if any_left(position, Square::nth(index), probes) {
+        if any_untried(position, Square::nth(index), probes) {
             return true;
         }
     }
@@ -122,10 +127,10 @@ pub(crate) fn any_other(position: &Position, probes: &mut Probes) -> bool
 }
 
 // Whether a pair that is still to be tried for the target is legal.
-fn any_left(position: &Position, target: Square, probes: &mut Probes) -> bool
-    requires { probes.old + spec.count_left position.now target < 2 ^ 32 }
-    ensures found { result ≡ spec.any_left position.now target }
-    ensures count { Counts result probes.old probes.new (spec.count_left position.now target) }
+fn any_untried(position: &Position, target: Square, probes: &mut Probes) -> bool
+    requires { probes.old + spec.count_untried position.now target < 2 ^ 32 }
+    ensures found { result ≡ spec.any_untried position.now target }
+    ensures count { Counts result probes.old probes.new (spec.count_untried position.now target) }
 {
     let near = is_adjacent(position.king(), target);
     any_on_ways(position, near, target, probes) || any_by_jumps(position, target, probes)
@@ -138,8 +143,8 @@ fn any_on_ways(position: &Position, near: bool, target: Square, probes: &mut Pro
         (spec.count_on_ways position.now near target) }
 {
     for way in DIRECTIONS.iter() {
-        let origin = left_on(position, near, target, *way);
-        if hits(position, origin, target, probes) {
+        let origin = untried_on(position, near, target, *way);
+        if is_legal_from(position, origin, target, probes) {
             return true;
         }
     }
@@ -153,7 +158,7 @@ fn any_by_jumps(position: &Position, target: Square, probes: &mut Probes) -> boo
 {
     for jump in 0..8 {
         let origin = origin_by(position, target, jump);
-        if hits(position, origin, target, probes) {
+        if is_legal_from(position, origin, target, probes) {
             return true;
         }
     }

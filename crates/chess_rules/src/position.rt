@@ -201,7 +201,7 @@ impl Position {
     }
 
     // Gives the proof of a body the invariant of every position; it does nothing when it runs.
-    pub(crate) fn keeps_rules(&self)
+    pub(crate) fn recall_invariant(&self)
         ensures { IsTrue (spec.is_position self.now) }
     {
         let _ = &self.board;

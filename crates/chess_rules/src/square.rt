@@ -97,7 +97,7 @@ impl Square {
     }
 
     // Gives the proof of a body the invariant of every square; it does nothing when it runs.
-    pub(crate) fn lies_on_board(self)
+    pub(crate) fn recall_invariant(self)
         ensures file { self.file < 8 }
         ensures rank { self.rank < 8 }
     {

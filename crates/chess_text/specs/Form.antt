@@ -43,7 +43,7 @@ is_among s texts = list_any (bytes_eq s) texts
 
 -- the letter, the hints, a capture's x, the target and the promotion, in this order (8.2.3.2 to
 -- 8.2.3.4)
-pub record SpellsMan (s : List ℕ) (k : Kind) (file rank : Option ℕ) (to : Square) (promotion : Option Promotion) : Type 0 where
+pub record SpellsPieceMove (s : List ℕ) (k : Kind) (file rank : Option ℕ) (to : Square) (promotion : Option Promotion) : Type 0 where
   pub letters : List ℕ
   pub capture : List ℕ
   pub promoted : List ℕ
@@ -54,7 +54,7 @@ pub record SpellsMan (s : List ℕ) (k : Kind) (file rank : Option ℕ) (to : Sq
 
 abbrev pub SpellsBare : List ℕ → Form → Type 0
 SpellsBare s (Castle long) = IsTrue (is_among s (castle_texts long))
-SpellsBare s (Man k file rank to promotion) = SpellsMan s k file rank to promotion
+SpellsBare s (Man k file rank to promotion) = SpellsPieceMove s k file rank to promotion
 
 -- + and # (8.2.3.5)
 abbrev pub is_mark : ℕ → Bool
@@ -150,31 +150,31 @@ kind_of_text [] = Some Pawn
 kind_of_text (c ∷ []) = find (λ k. letter k == c) kinds
 kind_of_text (c ∷ d ∷ s) = None
 
-abbrev pub man_if : Option Kind → Option ℕ → Option ℕ → Option Square → Option Promotion → Option Form
-man_if k file rank None promotion = None
-man_if None file rank (Some to) promotion = None
-man_if (Some k) file rank (Some to) promotion = Some (Man k file rank to promotion)
+abbrev pub piece_move_if : Option Kind → Option ℕ → Option ℕ → Option Square → Option Promotion → Option Form
+piece_move_if k file rank None promotion = None
+piece_move_if None file rank (Some to) promotion = None
+piece_move_if (Some k) file rank (Some to) promotion = Some (Man k file rank to promotion)
 
 -- the form of the hints and the letter before the target
-abbrev pub man_before : List ℕ → Option Square → Option Promotion → Option Form
-man_before s to promotion =
-    man_if (kind_of_text (before_file (before_rank s))) (file_at_end (before_rank s)) (rank_at_end s) to promotion
+abbrev pub piece_move_before : List ℕ → Option Square → Option Promotion → Option Form
+piece_move_before s to promotion =
+    piece_move_if (kind_of_text (before_file (before_rank s))) (file_at_end (before_rank s)) (rank_at_end s) to promotion
 
-abbrev pub man_at : List ℕ → Option Promotion → Option Form
-man_at s promotion = man_before (before_target s) (target_at_end s) promotion
+abbrev pub piece_move_at : List ℕ → Option Promotion → Option Form
+piece_move_at s promotion = piece_move_before (before_target s) (target_at_end s) promotion
 
-abbrev pub man_of : List ℕ → Option Form
-man_of s = man_at (before_promotion s) (promotion_at_end s)
+abbrev pub piece_move_of : List ℕ → Option Form
+piece_move_of s = piece_move_at (before_promotion s) (promotion_at_end s)
 
 abbrev pub castle_of : List ℕ → Option Bool
 castle_of s = find (λ long. is_among s (castle_texts long)) (false ∷ true ∷ [])
 
 abbrev pub castle_or : Option Bool → Option Form → Option Form
-castle_or None man = man
-castle_or (Some long) man = Some (Castle long)
+castle_or None piece_move = piece_move
+castle_or (Some long) piece_move = Some (Castle long)
 
 abbrev pub bare_form : List ℕ → Option Form
-bare_form s = castle_or (castle_of s) (man_of s)
+bare_form s = castle_or (castle_of s) (piece_move_of s)
 
 -- the form that the text spells
 abbrev pub form_of : List ℕ → Option Form

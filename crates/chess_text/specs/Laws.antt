@@ -20,12 +20,12 @@ use Rattle.chess_text.specs.Field.{side_text, side_of, rights_text, rights_of, t
 use Rattle.chess_text.specs.Fen.{SpellsBoard, SpellsNumber, Fen, field, read, fen_text}
 use Rattle.chess_text.specs.Form.{Spells, is_form, form_of}
 use Rattle.chess_text.specs.Letter.{letter, file_letter, rank_digit, square_text}
-use Rattle.chess_text.specs.Reads.{agrees, reads}
+use Rattle.chess_text.specs.MoveOfForm.{agrees, move_of_form}
 use Rattle.chess_text.specs.San.{rivals, disambiguation, has_rivals, capture_text, mark, san}
 
 -- a text is read as the position that it spells
-abbrev pub ReadsFen : Type 0
-ReadsFen = (s : List ℕ) (p : Parts) → Fen s p ↔ (read s ≡ Ok p)
+abbrev pub ReadingIsSpelling : Type 0
+ReadingIsSpelling = (s : List ℕ) (p : Parts) → Fen s p ↔ (read s ≡ Ok p)
 
 -- a text spells at most one position
 abbrev pub FenOnce : Type 0
@@ -68,28 +68,28 @@ abbrev pub FaultIsLowest : Type 0
 FaultIsLowest = (s : List ℕ) (fault : FenFault) → read s ≡ Err fault → fault.field ≡ prefix_len (λ b. b) (spelled s) + 1
 
 -- the text of a move is read as the form that it spells
-abbrev pub ReadsForm : Type 0
-ReadsForm = (s : List ℕ) (f : Form) → (Spells s f × IsTrue (is_form f)) ↔ (form_of s ≡ Some f)
+abbrev pub ReadingAFormIsSpelling : Type 0
+ReadingAFormIsSpelling = (s : List ℕ) (f : Form) → (Spells s f × IsTrue (is_form f)) ↔ (form_of s ≡ Some f)
 
 -- a text spells at most one form
 abbrev pub FormOnce : Type 0
 FormOnce = (s : List ℕ) (f g : Form) → IsTrue (is_form f) → IsTrue (is_form g) → Spells s f → Spells s g → f ≡ g
 
 -- a form is read as the one move that agrees, with the position after it
-abbrev pub ReadsTheOne : Type 0
-ReadsTheOne =
+abbrev pub TheOneMoveIsRead : Type 0
+TheOneMoveIsRead =
     (p : Parts) (f : Form) (x : Played)
-    → (reads p f ≡ Ok x) ↔ (IsTrue (agrees p f x.mv) × (legal p x.mv ≡ Some x.next) × ((m : Move) → IsTrue (agrees p f m) → m ≡ x.mv))
+    → (move_of_form p f ≡ Ok x) ↔ (IsTrue (agrees p f x.mv) × (legal p x.mv ≡ Some x.next) × ((m : Move) → IsTrue (agrees p f m) → m ≡ x.mv))
 
 -- the fault is NoMove exactly if no move agrees
-abbrev pub ReadsNone : Type 0
-ReadsNone = (p : Parts) (f : Form) → (reads p f ≡ Err NoMove) ↔ ((m : Move) → ¬ IsTrue (agrees p f m))
+abbrev pub NoMoveIsRead : Type 0
+NoMoveIsRead = (p : Parts) (f : Form) → (move_of_form p f ≡ Err NoMove) ↔ ((m : Move) → ¬ IsTrue (agrees p f m))
 
 -- the fault is Ambiguous exactly if two or more moves agree
-abbrev pub ReadsTwo : Type 0
-ReadsTwo =
+abbrev pub TwoMovesAreAmbiguous : Type 0
+TwoMovesAreAmbiguous =
     (p : Parts) (f : Form)
-    → (reads p f ≡ Err Ambiguous) ↔ ((m : Move) × (n : Move) × (m ≢ n) × IsTrue (agrees p f m) × IsTrue (agrees p f n))
+    → (move_of_form p f ≡ Err Ambiguous) ↔ ((m : Move) × (n : Move) × (m ≢ n) × IsTrue (agrees p f m) × IsTrue (agrees p f n))
 
 -- the text names the move: it spells a form with which the move agrees
 abbrev pub Names : Parts → List ℕ → Move → Type 0

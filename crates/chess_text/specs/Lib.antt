@@ -5,7 +5,7 @@ pub mod Ranks
 pub mod Field
 pub mod Fen
 pub mod Form
-pub mod Reads
+pub mod MoveOfForm
 pub mod San
 pub mod Laws
 pub mod WrittenMove

@@ -76,13 +76,13 @@ abbrev pub pawn_text : Parts → Move → List ℕ
 pawn_text p m = pawn_capture (is_capture p m) m ++ square_text m.to ++ promotion_text m.promotion
 
 -- of a queen, a rook, a bishop or a knight
-abbrev pub officer_text : Kind → Parts → Move → List ℕ
-officer_text k p m = (letter k ∷ []) ++ disambiguation m.from (rivals p k m) ++ capture_text p m ++ square_text m.to
+abbrev pub disambiguated_text : Kind → Parts → Move → List ℕ
+disambiguated_text k p m = (letter k ∷ []) ++ disambiguation m.from (rivals p k m) ++ capture_text p m ++ square_text m.to
 
 abbrev pub kind_text : Kind → Parts → Move → List ℕ
 kind_text King p m = king_text p m
 kind_text Pawn p m = pawn_text p m
-kind_text k p m = officer_text k p m
+kind_text k p m = disambiguated_text k p m
 
 -- the text without its mark, by the piece that moves; no legal move begins on an empty square
 abbrev pub piece_text : Option Piece → Parts → Move → List ℕ

@@ -9,7 +9,7 @@ use Rattle.chess_rules.specs.Position.{is_position}
 use Rattle.chess_rules.specs.Legal.{legal, is_legal}
 use Rattle.chess_text.specs.Field.{is_digit}
 use Rattle.chess_text.specs.Form.{form_of}
-use Rattle.chess_text.specs.Reads.{reads}
+use Rattle.chess_text.specs.MoveOfForm.{move_of_form}
 use Rattle.chess_text.specs.San.{san}
 
 abbrev pub is_letter : ℕ → Bool
@@ -46,4 +46,4 @@ WrittenMoveIsSymbol = (p : Parts) (m : Move) → IsTrue (is_legal p m) → IsMov
 abbrev pub WrittenMoveIsRead : Type 0
 WrittenMoveIsRead =
     (p q : Parts) (m : Move) → IsTrue (is_position p) → legal p m ≡ Some q
-    → option_map (reads p) (form_of (san p m)) ≡ Some (Ok (record { mv = m; next = q }))
+    → option_map (move_of_form p) (form_of (san p m)) ≡ Some (Ok (record { mv = m; next = q }))

@@ -45,7 +45,7 @@ pub fn read_form(text: &[u8]) -> Option<Form>
     let bare = before_marks(text);
     match castle_of(bare) {
         Some(long) => Some(Form::Castle { long }),
-        None => read_man(bare),
+        None => read_piece_move(bare),
     }
 }
 
@@ -84,8 +84,8 @@ fn castle_of(text: &[u8]) -> Option<bool>
 }
 
 // The move of one piece that the text names, read from its end.
-fn read_man(text: &[u8]) -> Option<Form>
-    ensures { result ≡ spec.man_of text.now }
+fn read_piece_move(text: &[u8]) -> Option<Form>
+    ensures { result ≡ spec.piece_move_of text.now }
 {
     let promotion = promotion_at_end(text);
     let text = before_promotion(text);

@@ -1,7 +1,7 @@
 //! Laws of the definitions of texts: what they promise for all texts and positions. The functions
 //! do nothing.
 
-ghost use Rattle.chess_text.specs.Laws.{CanonicalFits, CanonicalIsShortest, CanonicalSpells, FaultIsLowest, FenOnce, FieldsAreSpellings, FormOnce, ReadsFen, ReadsForm, ReadsNone, ReadsTheOne, ReadsTwo, ShorterIsAmbiguous, SingleReading};
+ghost use Rattle.chess_text.specs.Laws.{CanonicalFits, CanonicalIsShortest, CanonicalSpells, FaultIsLowest, FenOnce, FieldsAreSpellings, FormOnce, NoMoveIsRead, ReadingAFormIsSpelling, ReadingIsSpelling, ShorterIsAmbiguous, SingleReading, TheOneMoveIsRead, TwoMovesAreAmbiguous};
 ghost use Rattle.chess_text.specs.WrittenMove.{WrittenMoveIsRead, WrittenMoveIsSymbol};
 
 use chess_rules::laws::one_king_a_side;
@@ -10,7 +10,7 @@ use chess_rules::laws::one_king_a_side;
 ///
 /// A FEN spells a position if it is six texts, joined by single spaces, that spell the six parts.
 pub fn reading_is_spelling()
-    ensures { ReadsFen }
+    ensures { ReadingIsSpelling }
 {}
 
 /// Each text spells at most one position.
@@ -47,7 +47,7 @@ pub fn canonical_text_is_shortest()
 ///
 /// Its target and its hints are on the board.
 pub fn reading_a_form_is_spelling()
-    ensures { ReadsForm }
+    ensures { ReadingAFormIsSpelling }
 {}
 
 /// Each text spells at most one form.
@@ -57,17 +57,17 @@ pub fn one_form_a_text()
 
 /// A form is read as the one legal move that agrees with it, with the position after it.
 pub fn the_one_move_is_read()
-    ensures { ReadsTheOne }
+    ensures { TheOneMoveIsRead }
 {}
 
 /// The error is `NoMove` exactly if no legal move agrees with the form.
 pub fn no_move_is_read()
-    ensures { ReadsNone }
+    ensures { NoMoveIsRead }
 {}
 
 /// The error is `Ambiguous` exactly if two different legal moves agree with the form.
 pub fn two_moves_are_ambiguous()
-    ensures { ReadsTwo }
+    ensures { TwoMovesAreAmbiguous }
 {}
 
 /// The SAN of a legal move names this move and no other.

@@ -8,7 +8,7 @@ ghost use Rattle.chess_rules.specs.Legal.{is_legal};
 ghost use Rattle.chess_rules.specs.Step.{own};
 ghost use Rattle.chess_text.specs.declared.form.Form.TheVariants.{Castle, Man};
 ghost use Rattle.chess_text.specs.declared.resolution.SanFault.TheVariants.{Ambiguous};
-ghost use Rattle.chess_text.specs.Reads as spec;
+ghost use Rattle.chess_text.specs.MoveOfForm as spec;
 
 use crate::form::Form;
 use chess_rules::laws::candidates_are_complete;
@@ -63,11 +63,11 @@ pub enum SanFault {
 /// ```
 pub fn resolve(position: &Position, form: &Form, probes: &mut Probes) -> Result<Played, SanFault>
     requires { probes.old + 8 < 2 ^ 32 }
-    ensures answer { result ≡ spec.reads position.now form.now }
+    ensures answer { result ≡ spec.move_of_form position.now form.now }
     ensures each { result ≢ Err Ambiguous
-        → probes.new ≡ probes.old + spec.pair_count position.now form.now }
+        → probes.new ≡ probes.old + spec.form_pairs position.now form.now }
     ensures two { result ≡ Err Ambiguous → probes.old + 2 ≤ probes.new }
-    ensures most { probes.new ≤ probes.old + spec.pair_count position.now form.now }
+    ensures most { probes.new ≤ probes.old + spec.form_pairs position.now form.now }
     ensures some { OnOk result (probes.old < probes.new) }
     ensures bound { probes.new ≤ probes.old + 8 }
 {
@@ -79,7 +79,7 @@ pub fn resolve(position: &Position, form: &Form, probes: &mut Probes) -> Result<
             rank,
             to,
             promotion,
-        } => resolve_man(position, kind, Hints { file, rank }, to, promotion, probes),
+        } => resolve_piece_move(position, kind, Hints { file, rank }, to, promotion, probes),
     }
 }
 
@@ -125,7 +125,7 @@ fn resolve_castling(
     probes: &mut Probes,
 ) -> Result<Played, SanFault>
     requires { probes.old + 1 < 2 ^ 32 }
-    ensures answer { result ≡ spec.reads position.now (Castle long) }
+    ensures answer { result ≡ spec.move_of_form position.now (Castle long) }
     ensures single { result ≢ Err Ambiguous }
     ensures count { probes.new ≡ probes.old + 1 }
 {
@@ -168,10 +168,15 @@ fn is_fit(hint: Option<u8>, number: u8) -> bool
 
 // The move with the position after it, if it is legal, no castling, and begins where the hints
 // allow.
-fn try_man(position: &Position, hints: Hints, mv: Move, probes: &mut Probes) -> Option<Played>
+fn try_piece_move(
+    position: &Position,
+    hints: Hints,
+    mv: Move,
+    probes: &mut Probes,
+) -> Option<Played>
     requires { probes.old + 1 < 2 ^ 32 }
-    ensures played { result ≡ spec.played (spec.man_fits position.now hints.file hints.rank mv)
-        position.now mv }
+    ensures played { result
+        ≡ spec.played (spec.piece_move_fits position.now hints.file hints.rank mv) position.now mv }
     ensures count { probes.new ≡ probes.old + 1 }
 {
     let Some(next) = try_pair(position, mv, probes) else {
@@ -185,7 +190,7 @@ fn try_man(position: &Position, hints: Hints, mv: Move, probes: &mut Probes) -> 
 }
 
 // Tries the move from each origin, until a second one agrees.
-fn resolve_man(
+fn resolve_piece_move(
     position: &Position,
     kind: Kind,
     hints: Hints,
@@ -194,7 +199,7 @@ fn resolve_man(
     probes: &mut Probes,
 ) -> Result<Played, SanFault>
     requires { probes.old + 8 < 2 ^ 32 }
-    ensures answer { result ≡ spec.reads position.now
+    ensures answer { result ≡ spec.move_of_form position.now
         (Man kind hints.file hints.rank to promotion) }
     ensures each { result ≢ Err Ambiguous
         → probes.new ≡ probes.old + length (candidates position.now kind to) }
@@ -212,7 +217,7 @@ fn resolve_man(
             to,
             promotion,
         };
-        if let Some(played) = try_man(position, hints, mv, probes) {
+        if let Some(played) = try_piece_move(position, hints, mv, probes) {
             if found.is_some() {
                 return Err(SanFault::Ambiguous);
             }

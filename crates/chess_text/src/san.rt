@@ -95,7 +95,7 @@ fn unmarked(position: &Position, mv: &Move, probes: &mut Probes) -> ArrayVec<u8,
     match piece.kind {
         Kind::King => king_text(position, mv),
         Kind::Pawn => pawn_text(position, mv),
-        kind => officer_text(position, kind, mv, probes),
+        kind => disambiguated_text(position, kind, mv, probes),
     }
 }
 
@@ -175,11 +175,16 @@ fn push_promotion(text: &mut ArrayVec<u8, 7>, promotion: Option<Promotion>)
 }
 
 // The text of a queen's, a rook's, a bishop's or a knight's move. (PGN 8.2.3.4)
-fn officer_text(position: &Position, kind: Kind, mv: &Move, probes: &mut Probes) -> ArrayVec<u8, 7>
+fn disambiguated_text(
+    position: &Position,
+    kind: Kind,
+    mv: &Move,
+    probes: &mut Probes,
+) -> ArrayVec<u8, 7>
     requires own { IsTrue (own position.now kind mv.now.from) }
-    requires officer { IsTrue (spec.has_rivals kind) }
+    requires may_have_rivals { IsTrue (spec.has_rivals kind) }
     requires room { probes.old + 8 < 2 ^ 32 }
-    ensures text { result.items ≡ spec.officer_text kind position.now mv.now }
+    ensures text { result.items ≡ spec.disambiguated_text kind position.now mv.now }
     ensures some { 0 < length result.items }
     ensures short { length result.items ≤ 6 }
     ensures pairs { probes.new ≡ probes.old + length (candidates position.now kind mv.now.to) }

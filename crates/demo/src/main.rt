@@ -9,7 +9,7 @@ ghost use Rattle.chess_text.specs.declared.form.Form.{Form};
 ghost use Rattle.chess_text.specs.declared.resolution.Played.{Played};
 ghost use Rattle.chess_text.specs.Fen.{read};
 ghost use Rattle.chess_text.specs.Form.{form_of};
-ghost use Rattle.chess_text.specs.Reads.{reads};
+ghost use Rattle.chess_text.specs.MoveOfForm.{move_of_form};
 ghost use Rattle.chess_text.specs.San.{san};
 
 use arrayvec::ArrayVec;
@@ -63,8 +63,8 @@ fn list_games<R: Source, W: Sink>(source: &mut R, out: &mut W) -> Result<(), Fau
 ///
 /// An error is the fault of the input, or that of a write that failed.
 fn list_piece<W: Sink>(games: &mut Games, piece: &[u8], out: &mut W) -> Result<(), Fault>
-    requires going { games.old.is_finished ≡ false }
-    ensures going { games.new.is_finished ≡ false }
+    requires not_finished { games.old.is_finished ≡ false }
+    ensures not_finished { games.new.is_finished ≡ false }
     ensures short { OnOk result (games.new.lexer.count ≤ 2 ^ 62) }
     ensures count { OnOk result
         (games.new.lexer.count ≡ games.old.lexer.count + length piece.now) }
@@ -119,7 +119,7 @@ fn write_words<W: Sink>(words: &[&[u8]], out: &mut W) -> Result<(), WriteFault> 
 fn san_of(fen: &[u8], text: &[u8]) -> Option<ArrayVec<u8, 7>>
     ensures { (position : Parts) (form : Form) (played : Played)
         → read fen.now ≡ Ok position → form_of text.now ≡ Some form
-        → reads position form ≡ Ok played
+        → move_of_form position form ≡ Ok played
         → IsSomeAnd result (λ written. written.items ≡ san position played.mv) }
 {
     the_one_move_is_read();

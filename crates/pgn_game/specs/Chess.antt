@@ -11,7 +11,7 @@ use Rattle.chess_text.specs.declared.resolution.Played.{Played}
 use Rattle.chess_text.specs.declared.resolution.SanFault.{SanFault}
 use Rattle.chess_text.specs.Fen.{read}
 use Rattle.chess_text.specs.Form.{form_of}
-use Rattle.chess_text.specs.Reads.{reads}
+use Rattle.chess_text.specs.MoveOfForm.{move_of_form}
 use Rattle.chess_text.specs.San.{san}
 
 -- the usual first position (FIDE 2.3)
@@ -25,7 +25,7 @@ position_of text = read text
 -- What a symbol means as a move: None if it lacks the pattern of a move; else the one legal move
 -- that agrees with it and the position after it, or why there is none (PGN 8.2.3).
 unfoldable pub move_of : Parts → List ℕ → Option (Result Played SanFault)
-move_of p s = option_map (reads p) (form_of s)
+move_of p s = option_map (move_of_form p) (form_of s)
 
 -- how a legal move is written (PGN 8.2.3)
 unfoldable pub text_of_move : Parts → Move → List ℕ

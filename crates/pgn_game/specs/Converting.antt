@@ -29,7 +29,7 @@ IsConverted p s v before after = (verdict p s ≡ v) × Appends before after (ou
 -- The most pairs tried for one move of the input: at most 1,040, which is 8 for the candidates of
 -- its piece, 8 for their rivals, and 1,024 for an answer to a check; and at least one, if any move
 -- was played.
-pub record CountsProbes (p : Profile) (s : List ℕ) (n : ℕ) : Type 0 where
+pub record MostProbes (p : Profile) (s : List ℕ) (n : ℕ) : Type 0 where
   pub most : n ≤ 1040
   pub some : IsTrue (play_moves (read p (tokens_of s)).progress.games) → 0 < n
   pub tried : MostTried p (tokens_of s) n
@@ -37,7 +37,7 @@ pub record CountsProbes (p : Profile) (s : List ℕ) (n : ℕ) : Type 0 where
 -- the same with these numbers
 pub record IsTotalled (p : Profile) (s : List ℕ) (t : Totals) (before after : Option (List ℕ)) : Type 0 where
   pub converted : IsConverted p s (verdict_in t) before after
-  pub probes : CountsProbes p s t.most_probes
+  pub probes : MostProbes p s t.most_probes
 
 -- After the bytes u, of which nothing is rejected, no more are read: what they decide is written.
 pub record ReadsNoMore (p : Profile) (u : List ℕ) (before after : Option (List ℕ)) : Type 0 where
@@ -93,7 +93,7 @@ CountsSink (Err f) old new = CountsWriting f.reason old new
 
 -- How a conversion ends behind the bytes u, which are then the whole input.
 abbrev pub AfterEnd : Profile → List ℕ → List Token → Result Totals Fault → Option (List ℕ) → Option (List ℕ) → Type 0
-AfterEnd p u given (Ok t) before after = (verdict p u ≡ verdict_in t) × CountsProbes p u t.most_probes × Gains p given (tokens_of u) before after
+AfterEnd p u given (Ok t) before after = (verdict p u ≡ verdict_in t) × MostProbes p u t.most_probes × Gains p given (tokens_of u) before after
 AfterEnd p u given (Err f) before after = Stops p given (tokens_of u) before after f
 
 -- What was read of a source so far, and fed.

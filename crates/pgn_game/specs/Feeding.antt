@@ -1,8 +1,8 @@
 -- **Definition**: what a contract sees of a converter, and what each call does to it.
 -- Letters: p is the profile, u the bytes used so far, b the byte known to be next, if one is.
 -- `given` are the tokens given so far, and f is a fault. `before` and `after` are the bytes that
--- the sink has taken, before the call and after it, if it reports them. A game is at hand if it is
--- just finished.
+-- the sink has taken, before the call and after it, if it reports them. A game is just finished
+-- from the call that finished it to the next call of `feed` or `finish`.
 use Rattle.std.specs.Prelude.{◌≡◌, ℕ, ◌+◌, ◌*◌, ◌^◌, ◌<◌, ◌≤◌, ◌↔◌, Bool, true, false, ◌||◌, IsTrue, List, [], ◌∷◌, ◌++◌, length, take, drop, map, sum, codes, option_map, Option, None, Some, Result, Ok, Err}
 use Rattle.std.specs.List.{list_any}
 use Rattle.std.specs.Io.KnownBytes.{Appends}
@@ -30,23 +30,23 @@ use Rattle.pgn_game.specs.Due.{Gains}
 use Rattle.pgn_game.specs.Levels.{plies_of, last_position}
 use Rattle.pgn_game.specs.Reading.{Reading, Agrees, has_move, whole_plies}
 
--- what is told of a game that is whole: its pairs, how many moves it has outside variations, and
--- the position after these
-pub record AtHand : Type 0 where
+-- what can be asked of the game just finished: its pairs, how many moves it has outside variations,
+-- and the position after these
+pub record FinishedGame : Type 0 where
   pub pairs : List Pair
   pub plies : ℕ
   pub position : Parts
 
-abbrev pub hand_of : Game → AtHand
-hand_of g = record { pairs = g.pairs; plies = plies_of g; position = last_position g }
+abbrev pub finished_game_of : Game → FinishedGame
+finished_game_of g = record { pairs = g.pairs; plies = plies_of g; position = last_position g }
 
--- the lexer, the reader, how many games were finished, the game at hand, whether the input has
--- ended, and the fault
+-- the lexer, the reader, how many games were finished, the game just finished, whether the input
+-- has ended, and the fault
 pub record Converter : Type 0 where
   pub lexer : Standing
   pub reading : Reading
   pub games : ℕ
-  pub at_hand : Option AtHand
+  pub just_finished : Option FinishedGame
   pub is_finished : Bool
   pub fault : Option Fault
 
@@ -55,17 +55,17 @@ abbrev pub profile_of : ℕ → ℕ → Mode → Profile
 profile_of most depth mode = record { tags = most; depth = depth; mode = mode; missing_result = counts_as (codes "*") }
 
 -- what the reader still holds of a game
-abbrev pub game_in_reader : Reading → AtHand
+abbrev pub game_in_reader : Reading → FinishedGame
 game_in_reader reading = record { pairs = reading.tags.held; plies = reading.text.plies; position = reading.text.levels.present.present }
 
--- the same, while a game is at hand
-abbrev pub game_in_reader_if : Bool → Reading → Option AtHand
+-- the same, while a game is just finished
+abbrev pub game_in_reader_if : Bool → Reading → Option FinishedGame
 game_in_reader_if true reading = Some (game_in_reader reading)
 game_in_reader_if false reading = None
 
 -- What a converter keeps to. Before a fault its counts stay small: a byte ends at most two tokens,
--- so the games fit, and the moves; the end is one token more. A game is at hand only between games,
--- and not after a fault.
+-- so the games fit, and the moves; the end is one token more. A game is just finished only between
+-- games, and not after a fault.
 pub record IsSound (lexer : Standing) (reading : Reading) (games : ℕ) (has_finished_game is_finished : Bool) (fault : Option Fault) : Type 0 where
   pub count : fault ≡ None → lexer.count ≤ 2 ^ 62
   pub few : fault ≡ None → games + waiting lexer ≤ 2 * lexer.count + 2
@@ -74,21 +74,21 @@ pub record IsSound (lexer : Standing) (reading : Reading) (games : ℕ) (has_fin
   pub between : IsTrue has_finished_game → reading.stage ≡ Between
   pub no_fault : IsTrue has_finished_game → fault ≡ None
 
--- What is told of the game at hand: the value of a name in its tag section, how many moves outside
--- variations it has, and the position after them.
-abbrev pub value_at_hand : Converter → List ℕ → Option (List ℕ)
-value_at_hand c name = elim c.at_hand [ None ↦ None | Some hand ↦ value_of (exported c.reading.profile.mode (known_result c.reading.profile.missing_result) hand.pairs) name ]
+-- The answers about the game just finished: the value of a name in its tag section, how many moves
+-- it has outside variations, and the position after them.
+abbrev pub finished_game_value : Converter → List ℕ → Option (List ℕ)
+finished_game_value c name = elim c.just_finished [ None ↦ None | Some finished ↦ value_of (exported c.reading.profile.mode (known_result c.reading.profile.missing_result) finished.pairs) name ]
 
-abbrev pub plies_at_hand : Converter → ℕ
-plies_at_hand c = elim c.at_hand [ None ↦ 0 | Some hand ↦ hand.plies ]
+abbrev pub finished_game_plies : Converter → ℕ
+finished_game_plies c = elim c.just_finished [ None ↦ 0 | Some finished ↦ finished.plies ]
 
-abbrev pub position_at_hand : Converter → Option Parts
-position_at_hand c = option_map (λ hand. hand.position) c.at_hand
+abbrev pub finished_game_position : Converter → Option Parts
+finished_game_position c = option_map (λ finished. finished.position) c.just_finished
 
--- the game at hand is the last one
-abbrev pub IsLast : Option AtHand → List Game → Type 0
+-- the game just finished is the last one
+abbrev pub IsLast : Option FinishedGame → List Game → Type 0
 IsLast None games = Unit {0}
-IsLast (Some hand) games = (earlier : List Game) × (g : Game) × (games ≡ earlier ++ g ∷ []) × (hand ≡ hand_of g)
+IsLast (Some finished) games = (earlier : List Game) × (g : Game) × (games ≡ earlier ++ g ∷ []) × (finished ≡ finished_game_of g)
 
 -- a move is in one of the games
 abbrev pub play_moves : List Game → Bool
@@ -99,8 +99,8 @@ abbrev pub has_played_move : Progress → Bool
 has_played_move b = play_moves b.games || has_move b.part.items
 
 -- The converter has read these tokens: none is rejected, its reader agrees with the part that they
--- leave, and its counts and the game at hand are theirs. It has tried at least one pair for a move
--- once a move was played.
+-- leave, and its counts and the game just finished are theirs. It has tried at least one pair for a
+-- move once a move was played.
 pub record HasRead (p : Profile) (c : Converter) (given : List Token) : Type 0 where
   pub profile : c.reading.profile ≡ p
   pub no_fault : c.fault ≡ None
@@ -110,7 +110,7 @@ pub record HasRead (p : Profile) (c : Converter) (given : List Token) : Type 0 w
   pub plies : whole_plies c.reading ≡ sum (map plies_of (read p given).progress.games)
   pub probed : IsTrue (has_played_move (read p given).progress) → 0 < c.reading.most_probes
   pub tried : MostTried p given c.reading.most_probes
-  pub at_hand : IsLast c.at_hand (read p given).progress.games
+  pub just_finished : IsLast c.just_finished (read p given).progress.games
 
 -- The converter stands after the bytes u, of which the lexer has given these tokens; b, where there
 -- is one, is known to be next.
@@ -153,11 +153,11 @@ pub record FedAll (p : Profile) (u : List ℕ) (b : Option ℕ) (given : List To
   pub decided : 0 < length piece → tokens ≡ decided (u ++ piece)
   pub empty : length piece ≡ 0 → tokens ≡ given
   pub no_game : (read p tokens).progress.games ≡ (read p given).progress.games
-  pub none_at_hand : new.at_hand ≡ None
+  pub none_just_finished : new.just_finished ≡ None
   pub gains : Gains p given tokens before after
 
--- The used bytes end with a marker: it finished a game, which is at hand, and no token before it
--- did; what they gain was written. A byte at place 2^62 is never looked at.
+-- The used bytes end with a marker: it finished a game, and no token before it did; what they gain
+-- was written. A byte at place 2^62 is never looked at.
 pub record FedGame (p : Profile) (u : List ℕ) (given : List Token) (piece : List ℕ) (used : ℕ) (new : Converter) (before after : Option (List ℕ)) : Type 0 where
   pub tokens : List Token
   pub marker : Token
@@ -169,7 +169,7 @@ pub record FedGame (p : Profile) (u : List ℕ) (given : List Token) (piece : Li
   pub ends : EndsAt marker.kind marker.at (length u + used)
   pub no_game : (read p tokens).progress.games ≡ (read p given).progress.games
   pub one_game : (read p (tokens ++ marker ∷ [])).progress.games ≡ (read p given).progress.games ++ game ∷ []
-  pub at_hand : new.at_hand ≡ Some (hand_of game)
+  pub just_finished : new.just_finished ≡ Some (finished_game_of game)
   pub gains : Gains p given (tokens ++ marker ∷ []) before after
 
 -- a token that is known by now is rejected, or a write failed
@@ -196,7 +196,7 @@ MostAtStop {p} (unwritten at writing) most =
     × Raises (TriesUnwritten p (read p writing.front).progress.part writing.token.kind) least most
 
 -- that, and some pair was tried if a move was played
-pub record CountsAtStop {p : Profile} {given tokens : List Token} {before after : Option (List ℕ)} {f : Fault}
+pub record ProbesAtStop {p : Profile} {given tokens : List Token} {before after : Option (List ℕ)} {f : Fault}
     (stops : Stops p given tokens before after f) (most : ℕ) : Type 0 where
   pub tried : MostAtStop stops most
   pub probed : IsTrue (has_played_move (progress_before stops)) → 0 < most
@@ -205,7 +205,7 @@ pub record CountsAtStop {p : Profile} {given tokens : List Token} {before after 
 pub record FedToFault (p : Profile) (u : List ℕ) (b : Option ℕ) (given : List Token) (piece : List ℕ) (f : Fault) (most : ℕ) (before after : Option (List ℕ)) : Type 0 where
   pub fed : FedFault p u b given piece f before after
   pub no_game : games_before fed.stops ≡ (read p given).progress.games
-  pub counts : CountsAtStop fed.stops most
+  pub counts : ProbesAtStop fed.stops most
 
 -- How reading stops in a piece that follows the bytes u: at one of its tokens; or because the byte
 -- at place 2^62 is in it, and then `Before` says what was read and written of the bytes before that
@@ -233,11 +233,11 @@ abbrev pub Feeds : Converter → List ℕ → Converter → Result Fed Fault →
 Feeds old piece new result before after =
     (p : Profile) (u : List ℕ) (b : Option ℕ) (given : List Token) → Stands p old u b given → Follows b piece → AfterFeed p u b given piece new result before after
 
--- Unless a game is finished no game is counted, and none is at hand.
+-- Unless a game is finished no game is counted, and none is just finished.
 abbrev pub KeepsGames : Converter → Converter → Result Fed Fault → Type 0
 KeepsGames old new (Ok (GameEnd used)) = Unit {0}
-KeepsGames old new (Ok All) = (new.games ≡ old.games) × (new.at_hand ≡ None)
-KeepsGames old new (Err f) = (new.games ≡ old.games) × (new.at_hand ≡ None)
+KeepsGames old new (Ok All) = (new.games ≡ old.games) × (new.just_finished ≡ None)
+KeepsGames old new (Err f) = (new.games ≡ old.games) × (new.just_finished ≡ None)
 
 -- The whole piece was used, however many games are finished in it: all tokens that are decided then
 -- were read, and what they gain was written.
@@ -283,12 +283,12 @@ Advances old new All = Unit {0}
 Advances old new (GameEnd used) = waiting new < 2 * used + waiting old
 
 -- The text u has ended: all its tokens were read, and what they add to what was due was written. A
--- game is at hand exactly if the call finished one.
+-- game is just finished exactly if the call finished one.
 pub record Finishes (p : Profile) (u : List ℕ) (given : List Token) (new : Converter) (finished_game : Bool) (before after : Option (List ℕ)) : Type 0 where
   pub has_read : HasRead p new (tokens_of u)
   pub game : IsTrue finished_game ↔ (length (read p given).progress.games < length (read p (tokens_of u)).progress.games)
-  pub at_hand : finished_game ≡ true → (hand : AtHand) × (new.at_hand ≡ Some hand)
-  pub none_at_hand : finished_game ≡ false → new.at_hand ≡ None
+  pub just_finished : finished_game ≡ true → (finished : FinishedGame) × (new.just_finished ≡ Some finished)
+  pub none_just_finished : finished_game ≡ false → new.just_finished ≡ None
   pub gains : Gains p given (tokens_of u) before after
 
 -- The text u has ended, but one of its tokens is rejected, or a write failed; the games before that
@@ -296,7 +296,7 @@ pub record Finishes (p : Profile) (u : List ℕ) (given : List Token) (new : Con
 pub record FinishesToFault (p : Profile) (u : List ℕ) (given : List Token) (new : Converter) (f : Fault) (before after : Option (List ℕ)) : Type 0 where
   pub stops : Stops p given (tokens_of u) before after f
   pub games : new.games ≡ length (games_before stops)
-  pub counts : CountsAtStop stops new.reading.most_probes
+  pub counts : ProbesAtStop stops new.reading.most_probes
 
 abbrev pub AfterFinish : Profile → List ℕ → List Token → Converter → Result Bool Fault → Option (List ℕ) → Option (List ℕ) → Type 0
 AfterFinish p u given new (Ok finished_game) before after = Finishes p u given new finished_game before after

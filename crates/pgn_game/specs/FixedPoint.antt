@@ -19,15 +19,15 @@ use Rattle.pgn_game.specs.Converting.{Converts, ConvertsSlice}
 use Rattle.pgn_game.specs.Filled.{exported_pairs, filled}
 
 -- The tag section that is written has no more lines than a game may have pairs.
-abbrev pub HasRoom : Profile → Game → Type 0
-HasRoom p g = length (exported_pairs p.mode g) ≤ p.tags
+abbrev pub TagSectionFits : Profile → Game → Type 0
+TagSectionFits p g = length (exported_pairs p.mode g) ≤ p.tags
 
 -- Some text spells these games, so they are what a conversion of that text reads; and there is room
 -- for the tag lines of each.
 pub record AreExportable (p : Profile) (gs : List Game) : Type 0 where
   pub source : List ℕ
   pub spelled : Spells p (tokens_of source) gs
-  pub room : AllByRecursion (HasRoom p) gs
+  pub room : AllByRecursion (TagSectionFits p) gs
 
 -- The export text of games spells exactly these games with their defaults filled in, in the reduced
 -- format cut down to what is written.
@@ -91,7 +91,7 @@ games_in p s = (read p (tokens_of s)).progress.games
 -- An input that is converted without a fault, and with room for the tag lines of each game.
 pub record IsExportable (p : Profile) (s : List ℕ) : Type 0 where
   pub no_fault : (read p (tokens_of s)).fault ≡ None
-  pub room : AllByRecursion (HasRoom p) (games_in p s)
+  pub room : AllByRecursion (TagSectionFits p) (games_in p s)
 
 -- The output for such an input is converted to itself, and ends as the input did.
 abbrev pub ExportingTwice : Type 0
@@ -108,4 +108,4 @@ SameOutput = (p : Profile) (s t : List ℕ) → IsExportable p s → IsExportabl
 -- There is room for the tag lines of a game with eight pairs fewer than a game may have: seven
 -- lines are the roster's, and one may be a SetUp.
 abbrev pub FewPairsHaveRoom : Type 0
-FewPairsHaveRoom = (p : Profile) (g : Game) → length g.pairs + 8 ≤ p.tags → HasRoom p g
+FewPairsHaveRoom = (p : Profile) (g : Game) → length g.pairs + 8 ≤ p.tags → TagSectionFits p g

@@ -26,10 +26,10 @@ abbrev pub pairs_seen : List Pair → Bool → TagPairs
 pairs_seen ps true = record { held = but_last ps; pending_name = last_name ps }
 pairs_seen ps false = record { held = ps; pending_name = None }
 
--- how many pairs stand before the place of a name
-abbrev pub place_of : List ℕ → List Pair → ℕ
-place_of name [] = 0
-place_of name (p ∷ ps) = elim (comes_before name p.name) [ true ↦ 0 | false ↦ 1 + place_of name ps ]
+-- the index that a name has in the order of names: how many pairs come before it
+abbrev pub index_of : List ℕ → List Pair → ℕ
+index_of name [] = 0
+index_of name (p ∷ ps) = elim (comes_before name p.name) [ true ↦ 0 | false ↦ 1 + index_of name ps ]
 
 -- how the pairs are held: at most so many, and one if a name has begun
 pub record FitsPairStore (most : ℕ) (ps : List Pair) (has_pending_name : Bool) : Type 0 where

@@ -157,7 +157,7 @@ Seeks r (tokens.symbol s) n =
 Seeks r k n = n ≡ 0
 
 -- the count of probes has risen, if anything has changed
-pub record Counts (old new : Reading) : Type 0 where
+pub record OnlyProbesRise (old new : Reading) : Type 0 where
   pub same : new ≡ record old { most_probes = new.most_probes }
   pub more : old.most_probes ≤ new.most_probes
   pub closed : may_have_movetext old.stage ≡ false → new ≡ old
@@ -167,8 +167,8 @@ abbrev pub is_final : Judged → Bool
 is_final (InText (Marker marker)) = true
 is_final _ = false
 
-abbrev pub Marks : Kind → Judged → Type 0
-Marks k j = IsTrue (is_final j) → IsTrue (is_some (marker_of k))
+abbrev pub FinalIsMarker : Kind → Judged → Type 0
+FinalIsMarker k j = IsTrue (is_final j) → IsTrue (is_some (marker_of k))
 
 -- What judging a token results in, where the model says this of it after each of these parts: the
 -- reader says the same. What it means can be put, or its reason is one of the table.
@@ -177,7 +177,7 @@ pub record Judgement (tags levels : ℕ) (reader : Reading) (is_of : Part → Ty
   pub judges : (part : Part) → is_of part → says part ≡ leads part r
   pub fits : MatchResult r (Fits tags levels reader)
       (λ reason. IsFalse (is_outside_the_table reason))
-  pub marks : IfOk r (Marks k)
+  pub final_is_marker : IfOk r (FinalIsMarker k)
 
 -- of any token, after a part that the reader agrees with
 abbrev pub Judges : ℕ → ℕ → Reading → Kind → Result Judged Reason → Type 0

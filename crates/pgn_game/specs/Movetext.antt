@@ -15,7 +15,7 @@ pub record StoredLevel : Type 0 where
   pub present : Parts
   pub before : Option Parts
 
--- the level at hand, and those around it, the nearest first
+-- the current level, and those around it, the nearest first
 pub record StoredLevels : Type 0 where
   pub present : StoredLevel
   pub around : List StoredLevel
@@ -42,12 +42,12 @@ pub record FitsLevelStore (most : ℕ) (levels : List CodeLevel) : Type 0 where
   pub some : 0 < length levels
   pub room : length levels ≤ most
 
--- the nearest of the levels around has become the one at hand
+-- the nearest of the levels around is the current one again
 abbrev pub IsBackIn : List StoredLevel → StoredLevels → Type 0
 IsBackIn [] new = Unit {0}
 IsBackIn (l ∷ around) new = new ≡ record { present = l; around = around }
 
--- What a contract sees of the movetext at hand.
+-- What a contract sees of the current movetext.
 pub record Movetext : Type 0 where
   pub levels : StoredLevels
   pub plies : ℕ
@@ -77,7 +77,7 @@ abbrev pub ends_in_move : Bool → List Placed → Bool
 ends_in_move is_after_move [] = is_after_move
 ends_in_move is_after_move (i ∷ is) = ends_in_move (is_move i.item) is
 
--- The movetext at hand is that of these items, of a game that begins there; and the line that is
+-- The current movetext is that of these items, of a game that begins there; and the line that is
 -- held is their last one.
 pub record HoldsItems (mode : Mode) (start : Parts) (items : List Item) (text : Movetext) (line : List ℕ) : Type 0 where
   pub levels : text.levels ≡ stored_levels start (levels_of items)

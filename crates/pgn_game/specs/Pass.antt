@@ -14,8 +14,8 @@ use Rattle.pgn_lexer.specs.Stands.{StandsAfter, HasLeft, IsDecided, first}
 use Rattle.pgn_game.specs.declared.reason.Reason.{Reason}
 use Rattle.pgn_game.specs.declared.reason.Reason.TheVariants.{ReadFault, WriteFault, InputTooLong, Changed}
 use Rattle.pgn_game.specs.declared.reason.Fault.{Fault}
-use Rattle.pgn_game.specs.declared.accept.Accepted.{Accepted}
-use Rattle.pgn_game.specs.declared.accept.Accepted.TheVariants.{More as Continues, Finished}
+use Rattle.pgn_game.specs.declared.accepted.Accepted.{Accepted}
+use Rattle.pgn_game.specs.declared.accepted.Accepted.TheVariants.{More as Continues, Finished}
 use Rattle.pgn_game.specs.declared.marker.Marker.{Marker}
 use Rattle.pgn_game.specs.declared.checked.Mark.{Mark as CodeMark}
 use Rattle.pgn_game.specs.declared.checked.Taken.{Taken}
@@ -58,7 +58,7 @@ abbrev pub reading_under : Profile → Reading → Reading
 reading_under q r = record r { profile = q }
 
 abbrev pub as_converter : Profile → Pass → Converter
-as_converter q s = record { lexer = s.lexer; reading = reading_under q s.reading; games = s.games; at_hand = None; is_finished = false; fault = None }
+as_converter q s = record { lexer = s.lexer; reading = reading_under q s.reading; games = s.games; just_finished = None; is_finished = false; fault = None }
 
 -- The lexer stands after the bytes u that it has used, and those not used come next; or the source
 -- has ended, and u is the whole text.

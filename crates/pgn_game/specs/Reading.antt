@@ -10,8 +10,8 @@ use Rattle.pgn_game.specs.declared.reason.Reason.{Reason}
 use Rattle.pgn_game.specs.declared.reason.Reason.TheVariants.{WriteFault}
 use Rattle.pgn_game.specs.declared.stage.Stage.{Stage}
 use Rattle.pgn_game.specs.declared.stage.Stage.TheVariants.{Between, AfterLeftBracket, AfterName, InMovetext}
-use Rattle.pgn_game.specs.declared.accept.Accepted.{Accepted}
-use Rattle.pgn_game.specs.declared.accept.Accepted.TheVariants.{More, Finished}
+use Rattle.pgn_game.specs.declared.accepted.Accepted.{Accepted}
+use Rattle.pgn_game.specs.declared.accepted.Accepted.TheVariants.{More, Finished}
 use Rattle.pgn_game.specs.Profile.{Profile}
 use Rattle.pgn_game.specs.Pairs.{has_pair}
 use Rattle.pgn_game.specs.Holding.{TagPairs}

@@ -12,15 +12,15 @@ use Rattle.pgn_lexer.specs.Stands.{HasLeft, Follows, IsDecided, first}
 use Rattle.pgn_game.specs.declared.stage.Stage.TheVariants.{Between}
 use Rattle.pgn_game.specs.declared.reason.Fault.{Fault}
 use Rattle.pgn_game.specs.declared.reason.Reason.{Reason}
-use Rattle.pgn_game.specs.declared.accept.Accepted.{Accepted}
-use Rattle.pgn_game.specs.declared.accept.Accepted.TheVariants.{More, Finished}
+use Rattle.pgn_game.specs.declared.accepted.Accepted.{Accepted}
+use Rattle.pgn_game.specs.declared.accepted.Accepted.TheVariants.{More, Finished}
 use Rattle.pgn_game.specs.declared.converter.Fed.{Fed}
 use Rattle.pgn_game.specs.declared.converter.Fed.TheVariants.{All, Game as GameEnd}
 use Rattle.pgn_game.specs.Profile.{Profile}
 use Rattle.pgn_game.specs.Game.{Game}
 use Rattle.pgn_game.specs.Progress.{read}
 use Rattle.pgn_game.specs.Due.{Gains}
-use Rattle.pgn_game.specs.Feeding.{Converter, game_in_reader, hand_of, IsLast, HasRead, Stands, Stops, games_before, CountsAtStop, FedAll, FedGame, FedToFault}
+use Rattle.pgn_game.specs.Feeding.{Converter, game_in_reader, finished_game_of, IsLast, HasRead, Stands, Stops, games_before, ProbesAtStop, FedAll, FedGame, FedToFault}
 
 -- the games read with one token more: none more, or one
 abbrev pub SameGames : Profile → List Token → List Token → Type 0
@@ -44,7 +44,7 @@ AfterStep p u given piece new used (Ok None) before after =
 AfterStep p u given piece new used (Ok (Some More)) before after =
     (t : Token) × ReadsToken p u given piece used t new before after × SameGames p given (given ++ t ∷ [])
 AfterStep p u given piece new used (Ok (Some Finished)) before after =
-    (t : Token) × ReadsToken p u given piece used t new before after × ((g : Game) × OneGame p given (given ++ t ∷ []) g × (new.at_hand ≡ Some (hand_of g)))
+    (t : Token) × ReadsToken p u given piece used t new before after × ((g : Game) × OneGame p given (given ++ t ∷ []) g × (new.just_finished ≡ Some (finished_game_of g)))
 AfterStep p u given piece new used (Err f) before after =
     FedToFault p u None given piece f new.reading.most_probes before after
 
@@ -70,7 +70,7 @@ pub record ReadsEnd (p : Profile) (u : List ℕ) (given : List Token) (t : Token
 pub record FaultAtEnd (p : Profile) (given tokens : List Token) (f : Fault) (most : ℕ) (before after : Option (List ℕ)) : Type 0 where
   pub stops : Stops p given tokens before after f
   pub no_game : games_before stops ≡ (read p given).progress.games
-  pub counts : CountsAtStop stops most
+  pub counts : ProbesAtStop stops most
 
 -- What a step after the last piece results in.
 abbrev pub AfterStepAtEnd : Profile → List ℕ → List Token → Converter → Converter
@@ -78,7 +78,7 @@ abbrev pub AfterStepAtEnd : Profile → List ℕ → List Token → Converter �
 AfterStepAtEnd p u given old new (Ok (Some More)) before after =
     (t : Token) × ReadsTokenAtEnd p u given t new before after × SameGames p given (given ++ t ∷ []) × StaysBetween old new
 AfterStepAtEnd p u given old new (Ok (Some Finished)) before after =
-    (t : Token) × ReadsTokenAtEnd p u given t new before after × ((g : Game) × OneGame p given (given ++ t ∷ []) g × (game_in_reader new.reading ≡ hand_of g))
+    (t : Token) × ReadsTokenAtEnd p u given t new before after × ((g : Game) × OneGame p given (given ++ t ∷ []) g × (game_in_reader new.reading ≡ finished_game_of g))
 AfterStepAtEnd p u given old new (Ok None) before after =
     (t : Token) × ReadsEnd p u given t new before after × StaysBetween old new
 AfterStepAtEnd p u given old new (Err f) before after =
@@ -124,11 +124,11 @@ abbrev pub fault_of_step : Result (Option Accepted) Fault → Option Fault
 fault_of_step (Ok accepted) = None
 fault_of_step (Err f) = Some f
 
--- the outcome behind the last piece, where the end is no token more
-abbrev pub ended_if : Bool → Result (Option Accepted) Fault → Result (Option Accepted) Fault
-ended_if is_end (Err f) = Err f
-ended_if true (Ok accepted) = Ok None
-ended_if false (Ok accepted) = Ok accepted
+-- the outcome of a step after the last piece: none if the token is the end and accepted
+abbrev pub none_at_end : Bool → Result (Option Accepted) Fault → Result (Option Accepted) Fault
+none_at_end is_end (Err f) = Err f
+none_at_end true (Ok accepted) = Ok None
+none_at_end false (Ok accepted) = Ok accepted
 
 -- A step without a token uses the whole piece; one with a token uses a byte, or the token was
 -- waiting.

@@ -9,18 +9,18 @@ use Rattle.chess_text.specs.declared.resolution.Played.{Played}
 use Rattle.chess_text.specs.declared.resolution.SanFault.{SanFault}
 use Rattle.chess_text.specs.declared.resolution.SanFault.TheVariants.{NoMove, Ambiguous}
 use Rattle.chess_text.specs.Form.{form_of}
-use Rattle.chess_text.specs.Reads.{reads, pair_count}
+use Rattle.chess_text.specs.MoveOfForm.{move_of_form, form_pairs}
 
 -- the pairs of a form, by what it names
 abbrev pub CostsAnswer : Parts → Form → Result Played SanFault → ℕ → Type 0
-CostsAnswer p f (Ok played) n = n ≡ pair_count p f
-CostsAnswer p f (Err NoMove) n = n ≡ pair_count p f
-CostsAnswer p f (Err Ambiguous) n = (2 ≤ n) × (n ≤ pair_count p f)
+CostsAnswer p f (Ok played) n = n ≡ form_pairs p f
+CostsAnswer p f (Err NoMove) n = n ≡ form_pairs p f
+CostsAnswer p f (Err Ambiguous) n = (2 ≤ n) × (n ≤ form_pairs p f)
 
 -- the pairs of what a text is read as; a text that is no form has none
 abbrev pub CostsForm : Parts → Option Form → ℕ → Type 0
 CostsForm p None n = n ≡ 0
-CostsForm p (Some f) n = CostsAnswer p f (reads p f) n
+CostsForm p (Some f) n = CostsAnswer p f (move_of_form p f) n
 
 -- For a text in a position n pairs are tried. It is `unfoldable`, so that goals show it by its
 -- name.

@@ -112,16 +112,16 @@ pub fn convert_slice<const T: usize, const L: usize, W: Sink>(
 // Ends the input, and counts what was converted.
 fn end<const T: usize, const L: usize, W: Sink>(
     converter: &mut Converter<T, L>,
-    writer: &mut W,
+    out: &mut W,
 ) -> Result<Totals, Fault>
-    requires going { converter.old.is_finished ≡ false }
+    requires not_finished { converter.old.is_finished ≡ false }
     requires no_fault { converter.old.fault ≡ None }
     ensures ends { (p : Profile) (u : List ℕ) (given : List Token)
         → Stands p converter.old u None given
-        → AfterEnd p u given result (W.taken writer.old) (W.taken writer.new) }
-    ensures counted { CountsFault result (W.failures writer.old) (W.failures writer.new) }
+        → AfterEnd p u given result (W.taken out.old) (W.taken out.new) }
+    ensures counted { CountsFault result (W.failures out.old) (W.failures out.new) }
 {
-    converter.finish(writer)?;
+    converter.finish(out)?;
     Ok(Totals {
         games: converter.games(),
         plies: converter.whole_plies(),

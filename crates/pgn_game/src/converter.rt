@@ -8,15 +8,15 @@ ghost use Rattle.pgn_game.specs.declared.reason.Reason.TheVariants.{InputTooLong
 ghost use Rattle.pgn_game.specs.Profile.{Profile};
 ghost use Rattle.pgn_game.specs.Stepping.{FeedsFront, AfterStep, AfterStepAtEnd};
 ghost use Rattle.pgn_game.specs.Stepping.{StepAdvances, StepAtEndAdvances, outcome_at, games_after};
-ghost use Rattle.pgn_game.specs.Stepping.{fault_of_step, ended_if};
-ghost use Rattle.pgn_game.specs.Stepping.{finished_game as step_finished_game};
-ghost use Rattle.pgn_game.specs.Stepping.{is_ended as is_of_end};
+ghost use Rattle.pgn_game.specs.Stepping.{fault_of_step};
+ghost use Rattle.pgn_game.specs.Stepping as stepping;
 ghost use Rattle.pgn_game.specs.Feeding.{HasRead, Stands, Feeds, KeepsGames, FeedsAll, Ends};
 ghost use Rattle.pgn_game.specs.Feeding.{Again, KeepsFault, CountsFault, Advances, profile_of};
-ghost use Rattle.pgn_game.specs.Feeding.{used_of, value_at_hand, plies_at_hand, position_at_hand};
+ghost use Rattle.pgn_game.specs.Feeding.{used_of, finished_game_value};
+ghost use Rattle.pgn_game.specs.Feeding.{finished_game_plies, finished_game_position};
 ghost use Rattle.pgn_game.specs.Reading.{whole_plies};
 
-use crate::accept::Accepted;
+use crate::accepted::Accepted;
 use crate::mode::Mode;
 use crate::reader::Reader;
 use crate::reason::{Fault, Reason};
@@ -38,8 +38,8 @@ pub enum Fed {
     Game(usize),
 }
 
-/// One step in a piece: how many of its bytes were used, and what the reader says of the token.
-/// There is none if the rest of the piece ends no token.
+/// One step in a piece: how many of its bytes were used, and the reader's result for its token. The
+/// outcome is `Ok(None)` if no token ends in the rest of the piece.
 #[derive(Clone, Copy)]
 struct Step {
     used: usize,
@@ -86,7 +86,7 @@ impl<const T: usize, const L: usize> Model for Converter<T, L> {
       lexer = c.lexer;
       reading = c.reader;
       games = c.games;
-      at_hand = game_in_reader_if c.has_finished_game c.reader;
+      just_finished = game_in_reader_if c.has_finished_game c.reader;
       is_finished = c.is_finished;
       fault = c.fault;
     } };
@@ -100,7 +100,7 @@ impl<const T: usize, const L: usize> Converter<T, L> {
     pub fn new(mode: Mode) -> Self
         requires { 1 ≤ L }
         ensures stands { Stands (profile_of T (L - 1) mode) result [] None [] }
-        ensures going { result.is_finished ≡ false }
+        ensures not_finished { result.is_finished ≡ false }
     {
         Converter {
             lexer: Lexer::new(),
@@ -115,8 +115,8 @@ impl<const T: usize, const L: usize> Converter<T, L> {
     /// Converts the piece up to the end of the next game, and reports how much of it was used.
     ///
     /// After `Game(used)` the next piece that is not empty has to begin with the rest of this one.
-    /// A marker that is a symbol is known only at the byte after it, so `Game(0)` is possible. Do
-    /// not call this after `finish` has returned `Ok`.
+    /// A marker that is a symbol is known only at the byte after it, so `Game(0)` is possible. This
+    /// requires that `finish` has not returned `Ok` (`is_finished`).
     ///
     /// # Errors
     ///
@@ -127,7 +127,7 @@ impl<const T: usize, const L: usize> Converter<T, L> {
     /// After the first two the output is complete up to the token before. Each later call reports
     /// the same fault and writes nothing.
     pub fn feed<W: Sink>(&mut self, piece: &[u8], out: &mut W) -> Result<Fed, Fault>
-        requires going { self.old.is_finished ≡ false }
+        requires not_finished { self.old.is_finished ≡ false }
         ensures used { IfOk result (λ fed. used_of fed piece.now ≤ length piece.now) }
         ensures feeds { Feeds self.old piece.now self.new result
             (W.taken out.old) (W.taken out.new) }
@@ -135,7 +135,7 @@ impl<const T: usize, const L: usize> Converter<T, L> {
             self.new.lexer.count ≡ self.old.lexer.count + used_of fed piece.now) }
         ensures short { OnOk result (self.new.lexer.count ≤ 2 ^ 62) }
         ensures advances { IfOk result (λ fed. Advances self.old.lexer self.new.lexer fed) }
-        ensures going { self.new.is_finished ≡ false }
+        ensures not_finished { self.new.is_finished ≡ false }
         ensures fault { KeepsFault self.new result }
         ensures games { KeepsGames self.old self.new result }
         ensures probes { self.old.reading.most_probes ≤ self.new.reading.most_probes }
@@ -160,14 +160,14 @@ impl<const T: usize, const L: usize> Converter<T, L> {
 
     /// Converts the whole piece, however many games are finished in it.
     pub(crate) fn feed_all<W: Sink>(&mut self, piece: &[u8], out: &mut W) -> Result<(), Fault>
-        requires going { self.old.is_finished ≡ false }
+        requires not_finished { self.old.is_finished ≡ false }
         requires no_fault { self.old.fault ≡ None }
         ensures feeds { FeedsAll self.old piece.now self.new result
             (W.taken out.old) (W.taken out.new) }
         ensures count { OnOk result
             (self.new.lexer.count ≡ self.old.lexer.count + length piece.now) }
         ensures short { OnOk result (self.new.lexer.count ≤ 2 ^ 62) }
-        ensures going { self.new.is_finished ≡ false }
+        ensures not_finished { self.new.is_finished ≡ false }
         ensures fault { KeepsFault self.new result }
         ensures counted { CountsFault result (W.failures out.old) (W.failures out.new) }
     {
@@ -182,7 +182,7 @@ impl<const T: usize, const L: usize> Converter<T, L> {
 
     /// Ends the input: converts what is left, and reports whether that finished a game.
     ///
-    /// Do not call this again after it has returned `Ok`.
+    /// This requires that it has not returned `Ok` before (`is_finished`).
     ///
     /// # Errors
     ///
@@ -190,12 +190,12 @@ impl<const T: usize, const L: usize> Converter<T, L> {
     /// one that ends inside a tag pair is `Reason::ExpectedName`, `Reason::ExpectedValue` or
     /// `Reason::ExpectedBracket`.
     pub fn finish<W: Sink>(&mut self, out: &mut W) -> Result<bool, Fault>
-        requires going { self.old.is_finished ≡ false }
+        requires not_finished { self.old.is_finished ≡ false }
         ensures ends { Ends self.old self.new result (W.taken out.old) (W.taken out.new) }
         ensures finished { self.new.is_finished ≡ is_ok result }
         ensures probes { self.old.reading.most_probes ≤ self.new.reading.most_probes }
         ensures fault { KeepsFault self.new result }
-        ensures hand { OnErr result (self.new.at_hand ≡ None) }
+        ensures none_just_finished { OnErr result (self.new.just_finished ≡ None) }
         ensures again { Again self.old self.new result out.old out.new }
         ensures counted { self.old.fault ≡ None
             → CountsFault result (W.failures out.old) (W.failures out.new) }
@@ -224,7 +224,7 @@ impl<const T: usize, const L: usize> Converter<T, L> {
     /// A game counts as just finished from the call that finished it to the next call of `feed` or
     /// `finish`. At any other time the result is `None`.
     pub fn tag(&self, name: &[u8]) -> Option<&[u8]>
-        ensures { option_copied result ≡ value_at_hand self.now name.now }
+        ensures { option_copied result ≡ finished_game_value self.now name.now }
     {
         if self.has_finished_game {
             return self.reader.value(name);
@@ -235,7 +235,7 @@ impl<const T: usize, const L: usize> Converter<T, L> {
     /// Returns the number of plies of the game just finished, without its variations; 0 at any
     /// other time.
     pub fn plies(&self) -> u64
-        ensures { result ≡ plies_at_hand self.now }
+        ensures { result ≡ finished_game_plies self.now }
     {
         if self.has_finished_game {
             return self.reader.plies();
@@ -246,7 +246,7 @@ impl<const T: usize, const L: usize> Converter<T, L> {
     /// Returns the position at the end of the game just finished, after its moves outside
     /// variations; `None` at any other time.
     pub fn position(&self) -> Option<&Position>
-        ensures { option_copied result ≡ position_at_hand self.now }
+        ensures { option_copied result ≡ finished_game_position self.now }
     {
         if self.has_finished_game {
             return Some(self.reader.position());
@@ -300,7 +300,7 @@ impl<const T: usize, const L: usize> Converter<T, L> {
 
     /// Converts a piece that ends before place 2^62, up to the end of the next game.
     fn feed_front<W: Sink>(&mut self, piece: &[u8], out: &mut W) -> Result<Fed, Fault>
-        requires going { self.old.is_finished ≡ false }
+        requires not_finished { self.old.is_finished ≡ false }
         requires no_fault { self.old.fault ≡ None }
         requires short { self.old.lexer.count + length piece.now ≤ 2 ^ 62 }
         ensures used { IfOk result (λ fed. used_of fed piece.now ≤ length piece.now) }
@@ -309,7 +309,7 @@ impl<const T: usize, const L: usize> Converter<T, L> {
         ensures count { IfOk result (λ fed.
             self.new.lexer.count ≡ self.old.lexer.count + used_of fed piece.now) }
         ensures advances { IfOk result (λ fed. Advances self.old.lexer self.new.lexer fed) }
-        ensures going { self.new.is_finished ≡ false }
+        ensures not_finished { self.new.is_finished ≡ false }
         ensures fault { KeepsFault self.new result }
         ensures games { KeepsGames self.old self.new result }
         ensures probes { self.old.reading.most_probes ≤ self.new.reading.most_probes }
@@ -332,10 +332,10 @@ impl<const T: usize, const L: usize> Converter<T, L> {
 
     /// Takes the next token of the piece.
     fn step<W: Sink>(&mut self, piece: &[u8], out: &mut W) -> Step
-        requires going { self.old.fault ≡ None }
+        requires no_fault { self.old.fault ≡ None }
         requires short { self.old.lexer.count + length piece.now ≤ 2 ^ 62 }
         requires some { 0 < length piece.now }
-        requires hand { self.old.at_hand ≡ None }
+        requires none_just_finished { self.old.just_finished ≡ None }
         ensures used { result.used ≤ length piece.now }
         ensures after { (p : Profile) (u : List ℕ) (given : List Token)
             → Stands p self.old u (first piece.now) given
@@ -347,8 +347,9 @@ impl<const T: usize, const L: usize> Converter<T, L> {
         ensures fault { self.new.fault ≡ fault_of_step result.outcome }
         ensures games { self.new.games ≡ games_after result.outcome self.old.games }
         ensures probes { self.old.reading.most_probes ≤ self.new.reading.most_probes }
-        ensures hand { is_some self.new.at_hand ≡ step_finished_game result.outcome }
-        ensures going { self.new.is_finished ≡ self.old.is_finished }
+        ensures just_finished { is_some self.new.just_finished
+            ≡ stepping.finished_game result.outcome }
+        ensures finished { self.new.is_finished ≡ self.old.is_finished }
         ensures counted { CountsFault result.outcome (W.failures out.old) (W.failures out.new) }
     {
         let scan = self.lexer.next(piece);
@@ -375,8 +376,8 @@ impl<const T: usize, const L: usize> Converter<T, L> {
     /// Takes the next of the tokens that are left after the last piece; `None` is the end.
     fn step_at_end<W: Sink>(&mut self, out: &mut W) -> Result<Option<Accepted>, Fault>
         requires no_fault { self.old.fault ≡ None }
-        requires going { self.old.is_finished ≡ false }
-        requires hand { self.old.at_hand ≡ None }
+        requires not_finished { self.old.is_finished ≡ false }
+        requires none_just_finished { self.old.just_finished ≡ None }
         ensures after { (p : Profile) (u : List ℕ) (given : List Token)
             → HasLeft self.old.lexer u given → HasRead p self.old given
             → AfterStepAtEnd p u given self.old self.new result (W.taken out.old)
@@ -385,8 +386,8 @@ impl<const T: usize, const L: usize> Converter<T, L> {
         ensures fault { self.new.fault ≡ fault_of_step result }
         ensures games { self.new.games ≡ games_after result self.old.games }
         ensures probes { self.old.reading.most_probes ≤ self.new.reading.most_probes }
-        ensures hand { self.new.at_hand ≡ None }
-        ensures finished { self.new.is_finished ≡ is_of_end result }
+        ensures none_just_finished { self.new.just_finished ≡ None }
+        ensures finished { self.new.is_finished ≡ stepping.is_ended result }
         ensures counted { CountsFault result (W.failures out.old) (W.failures out.new) }
     {
         match self.lexer.finish() {
@@ -397,7 +398,7 @@ impl<const T: usize, const L: usize> Converter<T, L> {
                 let is_end = is_end(token.kind);
                 let accepted = self.reader.accept(token.kind, out);
                 let outcome = settle(at, accepted, &mut self.games, &mut self.fault);
-                let closed = close_with(is_end, outcome);
+                let closed = none_at_end(is_end, outcome);
                 self.is_finished = is_ended(closed);
                 closed
             }
@@ -429,8 +430,8 @@ fn too_long(kept: &mut Option<Fault>) -> Fault
     Fault { at, reason }
 }
 
-// Turns the reader's result for a token at this place into a step: counts a finished game, keeps a
-// fault.
+// Counts the game that a token has finished, or keeps the fault that it has. Returns the reader's
+// result for the token, with the token's place in a fault.
 fn settle(
     at: u64,
     accepted: Result<Accepted, Reason>,
@@ -438,7 +439,7 @@ fn settle(
     fault: &mut Option<Fault>,
 ) -> Result<Option<Accepted>, Fault>
     requires few { games.old < 2 ^ 64 - 1 }
-    requires going { fault.old ≡ None }
+    requires no_fault { fault.old ≡ None }
     ensures outcome { result ≡ outcome_at at accepted }
     ensures games { games.new ≡ games_after result games.old }
     ensures fault { fault.new ≡ fault_of_step result }
@@ -474,7 +475,7 @@ pub fn lexical(fault: LexFault) -> Fault
 
 // Whether the step finished a game.
 fn finished_game(outcome: Result<Option<Accepted>, Fault>) -> bool
-    ensures { result ≡ step_finished_game outcome }
+    ensures { result ≡ stepping.finished_game outcome }
 {
     match outcome {
         Ok(Some(Accepted::Finished)) => true,
@@ -484,7 +485,7 @@ fn finished_game(outcome: Result<Option<Accepted>, Fault>) -> bool
 
 // Whether the step read the end of the input.
 fn is_ended(outcome: Result<Option<Accepted>, Fault>) -> bool
-    ensures { result ≡ is_of_end outcome }
+    ensures { result ≡ stepping.is_ended outcome }
 {
     match outcome {
         Ok(None) => true,
@@ -492,12 +493,12 @@ fn is_ended(outcome: Result<Option<Accepted>, Fault>) -> bool
     }
 }
 
-// The result of a step at the end of the input, where the end itself is no token more.
-fn close_with(
+// The outcome of a step at the end of the input: `Ok(None)` if the token is the end and accepted.
+fn none_at_end(
     is_end: bool,
     outcome: Result<Option<Accepted>, Fault>,
 ) -> Result<Option<Accepted>, Fault>
-    ensures { result ≡ ended_if is_end outcome }
+    ensures { result ≡ stepping.none_at_end is_end outcome }
 {
     match outcome {
         Ok(_) => {

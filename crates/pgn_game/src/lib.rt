@@ -4,7 +4,7 @@
 //! [`Converter`] does it in pieces of any length. No call allocates.
 #![tactic(auto)]
 
-mod accept;
+mod accepted;
 mod checked;
 mod conversion;
 mod converter;

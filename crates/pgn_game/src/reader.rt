@@ -17,14 +17,14 @@ ghost use Rattle.pgn_game.specs.Profile.{counts_as, known_result};
 ghost use Rattle.pgn_game.specs.Markers.{marker_text};
 ghost use Rattle.pgn_game.specs.Movetext.{movetext_from};
 ghost use Rattle.pgn_game.specs.Reading.{Accepts, Stays, FinishesAtMarker, CountsWrites};
-ghost use Rattle.pgn_game.specs.Judging.{Counts, Finds, Fits, Judges, JudgesEntry, Seeks, may_have_movetext};
+ghost use Rattle.pgn_game.specs.Judging.{Finds, Fits, Judges, JudgesEntry, OnlyProbesRise, Seeks, may_have_movetext};
 ghost use Rattle.pgn_game.specs.Judging.{fen_position as position_in_fen};
 ghost use Rattle.pgn_game.specs.Putting.{device};
 ghost use Rattle.pgn_game.specs.Handling.{BeginsText, PutResult, TriesJudged, begins_game, ready_for_token};
 ghost use Rattle.pgn_game.specs.FaultTable.{is_result as is_any_result, is_reduced};
 ghost use Rattle.pgn_game.specs.FaultTable.{lacks_fen as set_up_lacks_fen, marker_of};
 
-use crate::accept::Accepted;
+use crate::accepted::Accepted;
 use crate::find::find_move;
 use crate::judged::{Entry, Item, Judged};
 use crate::marker::Marker;
@@ -219,7 +219,7 @@ impl<const T: usize, const L: usize> Reader<T, L> {
     fn find(&mut self, kind: TokenKind<'_>, probes: &mut Probes) -> Option<Result<Played, Reason>>
         requires none { probes.old ≡ 0 }
         ensures found { Finds self.new (kind_of kind.entry) result }
-        ensures counted { Counts self.old self.new }
+        ensures counted { OnlyProbesRise self.old self.new }
         ensures few { probes.new ≤ 8 }
         ensures tried { Seeks self.new (kind_of kind.entry) probes.new }
         ensures most { self.new.most_probes ≡ max self.old.most_probes probes.new }

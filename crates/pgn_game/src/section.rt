@@ -11,7 +11,7 @@ ghost use Rattle.pgn_game.specs.TagSection.{roster, in_roster, exported, other_p
 use crate::marker::Marker;
 use crate::mode::Mode;
 use crate::pair::TagPair;
-use crate::tags::{place_of, value_in};
+use crate::tags::{index_of, value_in};
 use pgn_layout::{Sink, WriteFault, end_tags, write_tag};
 
 /// The name of the pair that says whether a game begins from a FEN (PGN 9.7.1).
@@ -132,7 +132,7 @@ fn write_others<W: Sink>(pairs: &[TagPair], out: &mut W) -> Result<(), WriteFaul
     if !has_fen(pairs) {
         return write_pairs(pairs, false, out);
     }
-    let (before, after) = pairs.split_at(place_of(pairs, SET_UP));
+    let (before, after) = pairs.split_at(index_of(pairs, SET_UP));
     write_pairs(before, true, out)?;
     write_tag(SET_UP, FROM_FEN, out)?;
     write_pairs(after, true, out)

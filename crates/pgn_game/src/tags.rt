@@ -2,7 +2,8 @@
 ghost use Rattle.std.specs.Prelude.{◌≡◌, ◌+◌, ◌<◌, ◌≤◌, ◌↔◌, [], ◌∷◌, ◌++◌, List, IsTrue, IfSome, IsSome, IsSomeAnd, Some, None, insert, length};
 ghost use Rattle.pgn_layout.specs.TagLine.{escaped};
 ghost use Rattle.pgn_game.specs.Pairs.{Pair, value_of, comes_before, insert_pair};
-ghost use Rattle.pgn_game.specs.Holding.{place_of as place_before, last_name, but_last};
+ghost use Rattle.pgn_game.specs.Holding as spec;
+ghost use Rattle.pgn_game.specs.Holding.{last_name, but_last};
 ghost use Rattle.std.specs.Option.{option_copied};
 
 use crate::pair::TagPair;
@@ -123,8 +124,8 @@ pub fn value_in<'a>(pairs: &'a [TagPair], name: &[u8]) -> Option<&'a [u8]>
 }
 
 /// Returns how many pairs come before a name in their order.
-pub fn place_of(pairs: &[TagPair], name: &[u8]) -> usize
-    ensures place { result ≡ place_before name.now (pairs.now) }
+pub fn index_of(pairs: &[TagPair], name: &[u8]) -> usize
+    ensures index { result ≡ spec.index_of name.now pairs.now }
     ensures within { result ≤ length pairs.now }
 {
     for (i, pair) in pairs.iter().enumerate() {
@@ -145,19 +146,19 @@ fn complete_last(pairs: &mut [TagPair], value: &[u8])
 {
     if let Some((last, front)) = pairs.split_last_mut() {
         last.set_value(value);
-        let place = place_of(front, last.name());
-        move_last(pairs, place);
+        let index = index_of(front, last.name());
+        move_last(pairs, index);
     }
 }
 
-// Moves the last pair to this place, and the pairs from there on up.
-fn move_last(pairs: &mut [TagPair], place: usize)
-    requires { place < length pairs.old }
+// Moves the last pair to this index, and the pairs from there on up.
+fn move_last(pairs: &mut [TagPair], index: usize)
+    requires { index < length pairs.old }
     ensures len { length pairs.new ≡ length pairs.old }
     ensures pairs { (front : List Pair) (last : Pair) → pairs.old ≡ front ++ last ∷ []
-        → pairs.new ≡ insert front place last }
+        → pairs.new ≡ insert front index last }
 {
-    pairs[place..].rotate_right(1);
+    pairs[index..].rotate_right(1);
 }
 
 // Whether a name comes before another in the order of ASCII.

@@ -106,7 +106,7 @@ pub data Cuts : Where → ℕ → List ℕ → List Token → Type 0 where
   ends : (first : Bool) (at : ℕ) → Cuts (outside first) at [] (record { at = at; kind = tokens.end } ∷ [])
   space : (first : Bool) (at b : ℕ) (s : List ℕ) (ts : List Token) → IsTrue (is_space b) → Cuts (outside (is_line_end b)) (at + 1) s ts
       → Cuts (outside first) at (b ∷ s) ts
-  escape : (at : ℕ) (run s : List ℕ) (ts : List Token) → IsRun (λ b. not (is_line_end b)) run s → Cuts (outside false) (at + 1 + length run) s ts
+  escape_line : (at : ℕ) (run s : List ℕ) (ts : List Token) → IsRun (λ b. not (is_line_end b)) run s → Cuts (outside false) (at + 1 + length run) s ts
       → Cuts (outside true) at (37 ∷ (run ++ s)) ts
   stray_percent : (at : ℕ) (s : List ℕ) → Cuts (outside false) at (37 ∷ s) (record { at = at; kind = tokens.refused StrayByte } ∷ [])
   token : (first : Bool) (at : ℕ) (run s : List ℕ) (k : Kind) (ts : List Token) → SpellsToken run s k → Cuts (outside false) (at + length run) s ts

@@ -6,7 +6,7 @@ use Rattle.std.specs.Prelude.{◌≡◌, ℕ, ◌+◌, ◌<◌, ◌≤◌, true,
 use Rattle.pgn_lexer.specs.declared.token.LexFault.{LexFault}
 use Rattle.pgn_lexer.specs.declared.token.LexReason.TheVariants.{StrayByte}
 use Rattle.pgn_lexer.specs.declared.partial_token.Mode.{Mode}
-use Rattle.pgn_lexer.specs.declared.partial_token.Mode.TheVariants.{Start, AfterEf, AfterEfBb, LineStart, Outside, Escape, Symbol, Str, AfterBackslash, Dollar, Glyph, Suffix, Brace, BraceWord, Line, LineWord, Failed}
+use Rattle.pgn_lexer.specs.declared.partial_token.Mode.TheVariants.{Start, AfterEf, AfterEfBb, LineStart, Outside, EscapeLine, Symbol, Str, AfterBackslash, Dollar, Glyph, Suffix, Brace, BraceWord, Line, LineWord, Failed}
 use Rattle.pgn_lexer.specs.declared.partial_token.SuffixRun.{SuffixRun}
 use Rattle.pgn_lexer.specs.declared.partial_token.SuffixRun.TheVariants as runs
 use Rattle.pgn_lexer.specs.declared.partial_token.TokenForm.{TokenForm}
@@ -14,7 +14,7 @@ use Rattle.pgn_lexer.specs.declared.partial_token.TokenForm.TheVariants as forms
 use Rattle.pgn_lexer.specs.Bytes.{is_digit, continues_symbol, is_suffix, continues_word}
 use Rattle.pgn_lexer.specs.Tokens.{Kind, Token, symbol, str, glyph, comment_open, word, comment_close, refused}
 use Rattle.pgn_lexer.specs.Spelling.{kind_of_single, Reading, closed, broken, reading, number_from, symbol_at, word_at, glyph_at, numbered_at, suffix_at, string_at}
-use Rattle.pgn_lexer.specs.TokensOf.{column, outside, in_escape, in_symbol, in_glyph, in_suffix, quotes, backslash, brace, brace_word, line, line_word, onto, tokens_from, tokens_of}
+use Rattle.pgn_lexer.specs.TokensOf.{column, outside, in_escape_line, in_symbol, in_glyph, in_suffix, quotes, backslash, brace, brace_word, line, line_word, onto, tokens_from, tokens_of}
 
 -- where the partial token began, and what was read of it
 pub record PartialToken : Type 0 where
@@ -60,7 +60,7 @@ tokens_to_come_in AfterEf place at text s = tokens_of (239 ∷ s)
 tokens_to_come_in AfterEfBb place at text s = tokens_of (239 ∷ 187 ∷ s)
 tokens_to_come_in LineStart place at text s = tokens_from place column s
 tokens_to_come_in Outside place at text s = tokens_from place outside s
-tokens_to_come_in Escape place at text s = tokens_from place in_escape s
+tokens_to_come_in EscapeLine place at text s = tokens_from place in_escape_line s
 tokens_to_come_in Symbol place at text s = onto at (symbol_at at (text ++ take_while continues_symbol s)) (tokens_from place in_symbol s)
 tokens_to_come_in Str place at text s = onto at (string_at (with_front text (reading at place (length text) false s))) (tokens_from place quotes s)
 tokens_to_come_in AfterBackslash place at text s = onto at (string_at (with_front text (reading at place (length text) true s))) (tokens_from place backslash s)
@@ -111,9 +111,9 @@ pub record IsSound (place : ℕ) (h : PartialToken) : Type 0 where
   pub placed : IsPlaced h.mode place h.at h.text
 
 -- no rejection was met
-abbrev pub IsGoing : Mode → Type 0
-IsGoing (Failed f) = ⊥
-IsGoing _ = Unit {0}
+abbrev pub HasNotFailed : Mode → Type 0
+HasNotFailed (Failed f) = ⊥
+HasNotFailed _ = Unit {0}
 
 -- the rejection that was met, in mode Failed
 abbrev pub fault_of_mode : Mode → ℕ → LexFault

@@ -11,22 +11,22 @@ use Rattle.pgn_lexer.specs.declared.partial_token.Reached.{Reached}
 use Rattle.pgn_lexer.specs.declared.partial_token.Reached.TheVariants as reached
 use Rattle.pgn_lexer.specs.Tokens.{Token, HasLength, EndsAt, is_run}
 use Rattle.pgn_lexer.specs.TokensOf.{Within, tokens_from}
-use Rattle.pgn_lexer.specs.PartialToken.{PartialToken, tokens_to_come, token_of, refusal, IsSound, IsGoing, pending, fault_met}
+use Rattle.pgn_lexer.specs.PartialToken.{PartialToken, tokens_to_come, token_of, refusal, IsSound, HasNotFailed, pending, fault_met}
 
 -- the whole piece was used, and no token ends in it
 pub record RunsOut (place : ℕ) (old : PartialToken) (piece : List ℕ) (new : PartialToken) (used : ℕ) : Type 0 where
   pub all : used ≡ length piece
-  pub fresh : IsGoing old.mode
+  pub fresh : HasNotFailed old.mode
   pub empty : length piece ≡ 0 → new ≡ old
   pub sound : IsSound (place + used) new
-  pub going : IsGoing new.mode
+  pub not_failed : HasNotFailed new.mode
   pub comes : (s : List ℕ) → tokens_to_come place old (piece ++ s) ≡ tokens_to_come (place + used) new s
 
 -- so many bytes of the piece were used, and no token ended in them
 pub record StoodAt (place : ℕ) (old : PartialToken) (piece : List ℕ) (used : ℕ) : Type 0 where
   pub held : PartialToken
   pub sound : IsSound (place + used) held
-  pub going : IsGoing held.mode
+  pub not_failed : HasNotFailed held.mode
   pub comes : (s : List ℕ) → tokens_to_come place old (take used piece ++ s) ≡ tokens_to_come (place + used) held s
 
 -- a token that is no run ends with the last byte used
@@ -53,9 +53,9 @@ pub record EndsBeforeByte (place : ℕ) (old : PartialToken) (piece bytes rest :
 pub record RunsToToken (place : ℕ) (old : PartialToken) (piece : List ℕ) (t : Token) (new : PartialToken) (used : ℕ) : Type 0 where
   pub within : used ≤ length piece
   pub some : 0 < length piece
-  pub fresh : IsGoing old.mode
+  pub fresh : HasNotFailed old.mode
   pub sound : IsSound (place + used) new
-  pub going : IsGoing new.mode
+  pub not_failed : HasNotFailed new.mode
   pub lengths : HasLength t.kind
   pub ends_at : EndsAt t.kind t.at (place + used)
   pub before : t.at < place + used
@@ -67,7 +67,7 @@ pub record RunsToFault (place : ℕ) (old : PartialToken) (piece : List ℕ) (f 
   pub sound : IsSound (place + used) new
   pub fails : new.mode ≡ Failed f
   pub stays : (g : LexFault) → old.mode ≡ Failed g → (used ≡ 0) × (f ≡ g) × (new ≡ old)
-  pub some : IsGoing old.mode → 0 < length piece
+  pub some : HasNotFailed old.mode → 0 < length piece
   pub comes : (s : List ℕ) → tokens_to_come place old (take used piece ++ s) ≡ refusal f ∷ []
 
 abbrev pub RunGives : ℕ → PartialToken → List ℕ → PartialToken → ℕ → Reached → Type 0
@@ -79,8 +79,8 @@ RunGives place old piece new used reached.Fault = RunsToFault place old piece (f
 pub record Ran (place : ℕ) (old : PartialToken) (piece : List ℕ) (h : PartialToken) (i : ℕ) : Type 0 where
   pub start : i ≡ 0 → h ≡ old
   pub sound : IsSound (place + i) h
-  pub going : IsGoing h.mode
-  pub fresh : IsGoing old.mode
+  pub not_failed : HasNotFailed h.mode
+  pub fresh : HasNotFailed old.mode
   pub comes : (s : List ℕ) → tokens_to_come place old (take i piece ++ s) ≡ tokens_to_come (place + i) h s
 
 -- wherever a run came to hold h after i bytes of the piece, so it ends

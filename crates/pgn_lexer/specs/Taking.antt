@@ -11,7 +11,7 @@ use Rattle.pgn_lexer.specs.declared.class.CommentClass.TheVariants as comments
 use Rattle.pgn_lexer.specs.declared.class.StringClass.{StringClass}
 use Rattle.pgn_lexer.specs.declared.class.StringClass.TheVariants as strings
 use Rattle.pgn_lexer.specs.declared.partial_token.Mode.{Mode}
-use Rattle.pgn_lexer.specs.declared.partial_token.Mode.TheVariants.{Start, AfterEf, AfterEfBb, LineStart, Outside, Escape, Symbol, Str, AfterBackslash, Dollar, Glyph, Suffix, Brace, BraceWord, Line, LineWord, Failed}
+use Rattle.pgn_lexer.specs.declared.partial_token.Mode.TheVariants.{Start, AfterEf, AfterEfBb, LineStart, Outside, EscapeLine, Symbol, Str, AfterBackslash, Dollar, Glyph, Suffix, Brace, BraceWord, Line, LineWord, Failed}
 use Rattle.pgn_lexer.specs.declared.partial_token.SuffixRun.{SuffixRun}
 use Rattle.pgn_lexer.specs.declared.partial_token.SuffixRun.TheVariants as runs
 use Rattle.pgn_lexer.specs.declared.partial_token.TokenForm.{TokenForm}
@@ -60,7 +60,7 @@ begin place h b (classes.Refused r) = fails h place r
 
 -- in the first column
 abbrev pub begin_line : ℕ → PartialToken → ℕ → Class → AfterByte
-begin_line place h b classes.Percent = into h Escape Used
+begin_line place h b classes.Percent = into h EscapeLine Used
 begin_line place h b c = begin place h b c
 
 -- at the first byte of the input: EF (239) can begin a byte order mark
@@ -75,8 +75,8 @@ after_ef h b = if b == 187 then into h AfterEfBb Used else fails h 0 StrayByte
 abbrev pub after_ef_bb : PartialToken → ℕ → AfterByte
 after_ef_bb h b = if b == 191 then into h LineStart Used else fails h 0 StrayByte
 
-abbrev pub escape : PartialToken → ℕ → AfterByte
-escape h b = if is_line_end b then into h LineStart Used else into h Escape Used
+abbrev pub escape_line : PartialToken → ℕ → AfterByte
+escape_line h b = if is_line_end b then into h LineStart Used else into h EscapeLine Used
 
 abbrev pub symbol : PartialToken → ℕ → AfterByte
 symbol h b =
@@ -158,7 +158,7 @@ after_byte_in AfterEf place h b = after_ef h b
 after_byte_in AfterEfBb place h b = after_ef_bb h b
 after_byte_in LineStart place h b = begin_line place h b (class b)
 after_byte_in Outside place h b = begin place h b (class b)
-after_byte_in Escape place h b = escape h b
+after_byte_in EscapeLine place h b = escape_line h b
 after_byte_in Symbol place h b = symbol h b
 after_byte_in Str place h b = string place h b (string_class b)
 after_byte_in AfterBackslash place h b = after_backslash place h b (string_class b)

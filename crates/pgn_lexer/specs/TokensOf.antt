@@ -15,7 +15,7 @@ use Rattle.pgn_lexer.specs.Spelling.{class, kind_of_single, comment_class, strin
 pub data Within : Type 0 where
   column : Within
   outside : Within
-  in_escape : Within
+  in_escape_line : Within
   in_symbol : Within
   in_glyph : Within
   in_suffix : Within
@@ -39,7 +39,7 @@ after_class _ = outside
 
 -- in the first column a percent sign begins an escape line (PGN 6)
 abbrev pub after_first : Class → Within
-after_first Percent = in_escape
+after_first Percent = in_escape_line
 after_first c = after_class c
 
 abbrev pub after_brace : CommentClass → Within
@@ -66,7 +66,7 @@ after_run false within c = after_class c
 abbrev pub next : Within → ℕ → Within
 next column b = after_first (class b)
 next outside b = after_class (class b)
-next in_escape b = if is_line_end b then column else in_escape
+next in_escape_line b = if is_line_end b then column else in_escape_line
 next in_symbol b = after_run (continues_symbol b) in_symbol (class b)
 next in_glyph b = after_run (is_digit b) in_glyph (class b)
 next in_suffix b = after_run (is_suffix b) in_suffix (class b)
@@ -123,7 +123,7 @@ begins_line at goes comments.Control b bs = stops at ControlByte
 abbrev pub begins : ℕ → Within → ℕ → List ℕ → Found
 begins at column b bs = begins_first at (class b) b bs
 begins at outside b bs = begins_class at (class b) b bs
-begins at in_escape b bs = nothing
+begins at in_escape_line b bs = nothing
 begins at in_symbol b bs = begins_after (continues_symbol b) at (class b) b bs
 begins at in_glyph b bs = begins_after (is_digit b) at (class b) b bs
 begins at in_suffix b bs = begins_after (is_suffix b) at (class b) b bs

@@ -53,7 +53,7 @@ impl Lexer {
     /// Returns a lexer that has read nothing.
     pub fn new() -> Lexer
         ensures stands { StandsAfter result [] None [] }
-        ensures going { fault_of result ≡ None }
+        ensures no_fault { fault_of result ≡ None }
     {
         Lexer {
             partial: PartialToken::new(),

@@ -36,7 +36,7 @@ pub(crate) enum Mode {
     /// Outside all tokens.
     Outside,
     /// After a percent sign in the first column.
-    Escape,
+    EscapeLine,
     Symbol,
     Str,
     /// In a string, after a backslash that is not in the buffer yet.

@@ -54,8 +54,8 @@ abbrev pub ListEndResult : Converter → Result Unit Stopped → Option (List �
 ListEndResult old result now after = (u : List ℕ) (before : Option (List ℕ)) → ListedSoFar u [] old before now → AfterListEnd u result before after
 
 -- what is counted of a piece and of the end, which read nothing more
-abbrev pub CountsSink : Result Unit Stopped → ℕ → ℕ → Type 0
-CountsSink result old new = CountsList result 0 0 old new
+abbrev pub CountsListSink : Result Unit Stopped → ℕ → ℕ → Type 0
+CountsListSink result old new = CountsList result 0 0 old new
 
 -- what was read of a source so far, and listed
 pub record SourceListedSoFar (left_old left_now : Option (List ℕ)) (c : Converter) (before now : Option (List ℕ)) : Type 0 where

@@ -18,7 +18,7 @@ use Rattle.pgn_game.specs.Pairs.{Pair, value_of}
 use Rattle.pgn_game.specs.TagSection.{exported}
 use Rattle.pgn_game.specs.Game.{Game}
 use Rattle.pgn_game.specs.Progress.{read}
-use Rattle.pgn_game.specs.Feeding.{AtHand, Converter, hand_of, profile_of}
+use Rattle.pgn_game.specs.Feeding.{Converter, FinishedGame, finished_game_of, profile_of}
 use Rattle.pgn_tool.specs.declared.list.Stopped.{Stopped}
 use Rattle.pgn_tool.specs.declared.list.Stopped.TheVariants.{Refused, Unwritten}
 
@@ -42,15 +42,15 @@ six_fields number white black result plies position =
     field number 9 ++ field white 9 ++ field black 9 ++ field result 9 ++ field plies 9 ++ field position 10
 
 -- the line of a game just finished; the name is `unfoldable`, so that goals show it as it is
-unfoldable pub finished_game_line : ℕ → Profile → AtHand → List ℕ
-finished_game_line number p hand =
-    six_fields (decimal number) (listed_value p hand.pairs (codes "White")) (listed_value p hand.pairs (codes "Black"))
-    (listed_value p hand.pairs (codes "Result")) (decimal hand.plies) (fen_text hand.position)
+unfoldable pub finished_game_line : ℕ → Profile → FinishedGame → List ℕ
+finished_game_line number p finished =
+    six_fields (decimal number) (listed_value p finished.pairs (codes "White")) (listed_value p finished.pairs (codes "Black"))
+    (listed_value p finished.pairs (codes "Result")) (decimal finished.plies) (fen_text finished.position)
 
 -- the line of a game: its number, White, Black, Result, how many moves it has outside variations,
 -- and the position after these
 abbrev pub game_line : ℕ → Game → List ℕ
-game_line number g = finished_game_line number list_profile (hand_of g)
+game_line number g = finished_game_line number list_profile (finished_game_of g)
 
 -- the lines of games, one after another, numbered from there
 abbrev pub lines_from : ℕ → List Game → List ℕ
@@ -66,8 +66,8 @@ abbrev pub list_text : List ℕ → List ℕ
 list_text s = lines_of (tokens_of s)
 
 -- the line of the game just finished, or nothing if there is none
-abbrev pub line_at_hand : Converter → List ℕ
-line_at_hand c = elim c.at_hand [ None ↦ [] | Some hand ↦ finished_game_line c.games c.reading.profile hand ]
+abbrev pub line_just_finished : Converter → List ℕ
+line_just_finished c = elim c.just_finished [ None ↦ [] | Some finished ↦ finished_game_line c.games c.reading.profile finished ]
 
 -- ---- how a list ends
 
@@ -105,15 +105,15 @@ ListResult left_old left_new (Ok done) before after = IfSome left_old (λ s. IsL
 ListResult left_old left_new (Err stopped) before after = ListStops left_old left_new before after stopped
 
 -- ReadFault is reported if the source counts one failure more, and WriteFault never
-abbrev pub CountsReason : Reason → ℕ → ℕ → Type 0
-CountsReason ReadFault old new = new ≡ one_more old
-CountsReason WriteFault old new = ⊥
-CountsReason _ old new = new ≡ old
+abbrev pub CountsReadFault : Reason → ℕ → ℕ → Type 0
+CountsReadFault ReadFault old new = new ≡ one_more old
+CountsReadFault WriteFault old new = ⊥
+CountsReadFault _ old new = new ≡ old
 
 -- the same of a list, which ends at a line if the sink counts one failure more; otherwise no count
 -- rises
 abbrev pub CountsStopped : Stopped → ℕ → ℕ → ℕ → ℕ → Type 0
-CountsStopped (Refused f) source_old source_new sink_old sink_new = CountsReason f.reason source_old source_new × (sink_new ≡ sink_old)
+CountsStopped (Refused f) source_old source_new sink_old sink_new = CountsReadFault f.reason source_old source_new × (sink_new ≡ sink_old)
 CountsStopped Unwritten source_old source_new sink_old sink_new = (source_new ≡ source_old) × (sink_new ≡ one_more sink_old)
 
 abbrev pub CountsList : Result Unit Stopped → ℕ → ℕ → ℕ → ℕ → Type 0

@@ -166,14 +166,14 @@ Ends (Ok t) source out err status = Concludes source out err status
 Ends (Err f) source out err status = Refuses f source out err status
 
 -- the line of a check, or if it cannot be written a prefix of it; and on a fault nothing
-abbrev pub Counts : Result Totals Fault → Device → Type 0
-Counts (Ok t) out = Tells out (counting_line t.games t.plies) × HasFront out (counting_line t.games t.plies)
-Counts (Err f) out = Keeps out.before out.after
+abbrev pub WritesCountingLine : Result Totals Fault → Device → Type 0
+WritesCountingLine (Ok t) out = Tells out (counting_line t.games t.plies) × HasFront out (counting_line t.games t.plies)
+WritesCountingLine (Err f) out = Keeps out.before out.after
 
 -- what is converted, and where to
 abbrev pub Works : Job → Result Totals Fault → Device → Device → Type 0
 Works (exporting mode) answer source out = Converts (profile_of 64 32 mode) source.before source.after answer out.before out.after
-Works checking answer source out = Converts (profile_of 64 32 Full) source.before source.after answer None None × Counts answer out
+Works checking answer source out = Converts (profile_of 64 32 Full) source.before source.after answer None None × WritesCountingLine answer out
 Works listing answer source out = ⊥
 
 -- A run that converts: a conversion with its result, and how it ends. For an export, standard

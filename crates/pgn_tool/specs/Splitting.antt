@@ -39,7 +39,7 @@ pub record FeedResult (old : Converter) (piece : List ℕ) (new : Converter) (an
   pub count : IfOk answer (λ fed. new.lexer.count ≡ old.lexer.count + used_of fed piece)
   pub short : OnOk answer (new.lexer.count ≤ 2 ^ 62)
   pub advances : IfOk answer (λ fed. Advances old.lexer new.lexer fed)
-  pub going : new.is_finished ≡ false
+  pub not_finished : new.is_finished ≡ false
   pub fault : KeepsFault new answer
 
 -- want of memory comes before the write fault that it causes

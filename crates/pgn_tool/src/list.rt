@@ -1,9 +1,9 @@
 //! Writes a line for each game.
 ghost use Rattle.std.specs.Prelude.{◌≡◌, ◌+◌, ◌^◌, ◌≤◌, [], length, false, None, OnOk, unwrap_or};
 ghost use Rattle.pgn_layout.specs.Device.{Counts, Writes};
-ghost use Rattle.pgn_tool.specs.Listing.{CountsList, ListResult, field, line_at_hand, six_fields};
-ghost use Rattle.pgn_tool.specs.ListState.{CountsSink, ListEndResult, ListPieceResult};
-ghost use Rattle.pgn_game.specs.Feeding.{value_at_hand};
+ghost use Rattle.pgn_tool.specs.Listing.{CountsList, ListResult, field, line_just_finished, six_fields};
+ghost use Rattle.pgn_tool.specs.ListState.{CountsListSink, ListEndResult, ListPieceResult};
+ghost use Rattle.pgn_game.specs.Feeding.{finished_game_value};
 
 use crate::stream::{LEVELS, READ_LENGTH, TAGS};
 use chess_text::write_fen;
@@ -42,16 +42,16 @@ type Lister = Converter<TAGS, LEVELS>;
 ///
 /// - `Stopped::Refused` at the first fault. The lines of the games finished before it were written.
 /// - `Stopped::Unwritten` if a line could not be written. A prefix of the lines was written.
-pub fn list_games<R: Source, O: Sink>(reader: &mut R, out: &mut O) -> Result<(), Stopped>
-    ensures lists { ListResult (R.left reader.old) (R.left reader.new) result (O.taken out.old)
+pub fn list_games<R: Source, O: Sink>(source: &mut R, out: &mut O) -> Result<(), Stopped>
+    ensures lists { ListResult (R.left source.old) (R.left source.new) result (O.taken out.old)
         (O.taken out.new) }
-    ensures counted { CountsList result (R.failures reader.old) (R.failures reader.new)
+    ensures counted { CountsList result (R.failures source.old) (R.failures source.new)
         (O.failures out.old) (O.failures out.new) }
 {
     let mut buffer = [0; READ_LENGTH];
     let mut converter = Lister::new(Mode::Full);
     loop {
-        match reader.read_some(&mut buffer) {
+        match source.read_some(&mut buffer) {
             Err(_) => {
                 return Err(Stopped::Refused(Fault {
                     at: converter.count(),
@@ -66,16 +66,16 @@ pub fn list_games<R: Source, O: Sink>(reader: &mut R, out: &mut O) -> Result<(),
 
 // Lists the games that are finished in the piece.
 fn list_piece<O: Sink>(converter: &mut Lister, piece: &[u8], out: &mut O) -> Result<(), Stopped>
-    requires going { converter.old.is_finished ≡ false }
+    requires not_finished { converter.old.is_finished ≡ false }
     requires no_fault { converter.old.fault ≡ None }
     ensures lists { ListPieceResult converter.old piece.now converter.new result (O.taken out.old)
         (O.taken out.new) }
     ensures count { OnOk result
         (converter.new.lexer.count ≡ converter.old.lexer.count + length piece.now) }
     ensures short { OnOk result (converter.new.lexer.count ≤ 2 ^ 62) }
-    ensures going { converter.new.is_finished ≡ false }
+    ensures not_finished { converter.new.is_finished ≡ false }
     ensures no_fault { OnOk result (converter.new.fault ≡ None) }
-    ensures counted { CountsSink result (O.failures out.old) (O.failures out.new) }
+    ensures counted { CountsListSink result (O.failures out.old) (O.failures out.new) }
 {
     let mut at = 0;
     loop {
@@ -92,10 +92,10 @@ fn list_piece<O: Sink>(converter: &mut Lister, piece: &[u8], out: &mut O) -> Res
 
 // Ends the input, and lists the game that this finishes.
 fn list_last<O: Sink>(converter: &mut Lister, out: &mut O) -> Result<(), Stopped>
-    requires going { converter.old.is_finished ≡ false }
+    requires not_finished { converter.old.is_finished ≡ false }
     requires no_fault { converter.old.fault ≡ None }
     ensures lists { ListEndResult converter.old result (O.taken out.old) (O.taken out.new) }
-    ensures counted { CountsSink result (O.failures out.old) (O.failures out.new) }
+    ensures counted { CountsListSink result (O.failures out.old) (O.failures out.new) }
 {
     if let Err(fault) = converter.finish(&mut Nowhere) {
         return Err(Stopped::Refused(fault));
@@ -109,7 +109,7 @@ fn list_last<O: Sink>(converter: &mut Lister, out: &mut O) -> Result<(), Stopped
 // Writes the line of the game just finished, or nothing if there is none.
 fn write_game<O: Sink>(converter: &Lister, out: &mut O) -> Result<(), WriteFault>
     ensures written { Writes (O.taken out.old) (O.taken out.new) result
-        (line_at_hand converter.now) }
+        (line_just_finished converter.now) }
     ensures failures { Counts result (O.failures out.old) (O.failures out.new) }
 {
     let Some(position) = converter.position() else {
@@ -131,7 +131,7 @@ fn write_game<O: Sink>(converter: &Lister, out: &mut O) -> Result<(), WriteFault
 
 // The value of a tag of the game just finished.
 fn value<'a>(converter: &'a Lister, name: &[u8]) -> &'a [u8]
-    ensures { result.now ≡ unwrap_or (value_at_hand converter.now name.now) [] }
+    ensures { result.now ≡ unwrap_or (finished_game_value converter.now name.now) [] }
 {
     converter.tag(name).unwrap_or(b"")
 }

@@ -61,7 +61,7 @@ pub fn split_to<R: Source, F: GameFiles, E: Sink>(reader: &mut R, files: &mut F,
 
 // Splits what the source gives, up to its end.
 fn split_source<R: Source, F: GameFiles>(
-    reader: &mut R,
+    source: &mut R,
     files: &mut F,
     file: &mut Option<F::Out>,
     count: &mut u64,
@@ -70,15 +70,15 @@ fn split_source<R: Source, F: GameFiles>(
     requires from { count.old ≡ 0 }
     ensures files { FilesAfter F.Out.taken F.Out.failures (F.log files.old) result
         (F.log files.new) file.new count.new }
-    ensures counted { CountsSplit result (R.failures reader.old) (R.failures reader.new) }
+    ensures counted { CountsSplit result (R.failures source.old) (R.failures source.new) }
     ensures splits { AfterClosingFile F.Out.taken F.Out.failures (F.log files.new) file.new
-        (λ after. SplitResult (R.left reader.old) (R.left reader.new) result (F.log files.old)
+        (λ after. SplitResult (R.left source.old) (R.left source.new) result (F.log files.old)
         after) }
 {
     let mut buffer = [0; READ_LENGTH];
     let mut converter = Splitter::new(Mode::Full);
     loop {
-        match reader.read_some(&mut buffer) {
+        match source.read_some(&mut buffer) {
             Err(_) => {
                 return Err(Unsplit::Refused(Fault {
                     at: converter.count(),
@@ -99,10 +99,10 @@ fn split_piece<F: GameFiles>(
     file: &mut Option<F::Out>,
     count: &mut u64,
 ) -> Result<(), Unsplit>
-    requires going { converter.old.is_finished ≡ false }
+    requires not_finished { converter.old.is_finished ≡ false }
     requires no_fault { converter.old.fault ≡ None }
     requires well { IsWell F.Out.taken F.Out.failures (F.log files.old) file.old }
-    ensures going { converter.new.is_finished ≡ false }
+    ensures not_finished { converter.new.is_finished ≡ false }
     ensures count { OnOk result
         (converter.new.lexer.count ≡ converter.old.lexer.count + length piece.now) }
     ensures short { OnOk result (converter.new.lexer.count ≤ 2 ^ 62) }
@@ -133,7 +133,7 @@ fn split_last<F: GameFiles>(
     file: &mut Option<F::Out>,
     count: u64,
 ) -> Result<(), Unsplit>
-    requires going { converter.old.is_finished ≡ false }
+    requires not_finished { converter.old.is_finished ≡ false }
     requires no_fault { converter.old.fault ≡ None }
     requires well { IsWell F.Out.taken F.Out.failures (F.log files.old) file.old }
     ensures counted { CountsSplit result 0 0 }
@@ -170,7 +170,7 @@ fn feed_game<F: GameFiles>(
     file: &mut Option<F::Out>,
     count: u64,
 ) -> Result<Fed, Unsplit>
-    requires going { converter.old.is_finished ≡ false }
+    requires not_finished { converter.old.is_finished ≡ false }
     requires no_fault { converter.old.fault ≡ None }
     requires well { IsWell F.Out.taken F.Out.failures (F.log files.old) file.old }
     ensures { GameFed F.Out.taken F.Out.failures count converter.old piece.now converter.new
@@ -190,7 +190,7 @@ fn finish_game<F: GameFiles>(
     file: &mut Option<F::Out>,
     count: u64,
 ) -> Result<bool, Unsplit>
-    requires going { converter.old.is_finished ≡ false }
+    requires not_finished { converter.old.is_finished ≡ false }
     requires no_fault { converter.old.fault ≡ None }
     requires well { IsWell F.Out.taken F.Out.failures (F.log files.old) file.old }
     ensures { GameEnded F.Out.taken F.Out.failures count converter.old converter.new
@@ -224,7 +224,7 @@ fn feed_sink<'a, K: Before, F: GameFiles>(
     file: &mut Option<F::Out>,
     answer: &mut Result<Fed, Fault>,
 ) -> Turn<'a, F>
-    requires going { converter.old.is_finished ≡ false }
+    requires not_finished { converter.old.is_finished ≡ false }
     requires no_fault { converter.old.fault ≡ None }
     requires name { turn.files.ghost_name ≡ K.name }
     requires number { turn.number ≡ K.number }
@@ -263,7 +263,7 @@ fn finish_sink<'a, K: Before, F: GameFiles>(
     file: &mut Option<F::Out>,
     answer: &mut Result<bool, Fault>,
 ) -> Turn<'a, F>
-    requires going { converter.old.is_finished ≡ false }
+    requires not_finished { converter.old.is_finished ≡ false }
     requires no_fault { converter.old.fault ≡ None }
     requires name { turn.files.ghost_name ≡ K.name }
     requires number { turn.number ≡ K.number }

@@ -69,12 +69,12 @@ pub fn export_mode(reduced: bool) -> Mode
 }
 
 // Writes the games in export format.
-fn export<R: Source, O: Sink, E: Sink>(mode: Mode, reader: &mut R, out: &mut O, err: &mut E) -> u8
-    ensures { Runs (exporting mode) (device R.left R.failures reader.old reader.new)
+fn export<R: Source, O: Sink, E: Sink>(mode: Mode, source: &mut R, out: &mut O, err: &mut E) -> u8
+    ensures { Runs (exporting mode) (device R.left R.failures source.old source.new)
         (device O.taken O.failures out.old out.new)
         (device E.taken E.failures err.old err.new) result }
 {
-    let answer = convert::<TAGS, LEVELS, R, O>(reader, out, mode);
+    let answer = convert::<TAGS, LEVELS, R, O>(source, out, mode);
     let flushed = out.flush();
     match answer {
         Ok(_) => conclude(flushed.is_ok(), err),
@@ -83,12 +83,12 @@ fn export<R: Source, O: Sink, E: Sink>(mode: Mode, reader: &mut R, out: &mut O, 
 }
 
 // Writes how many games and moves there are.
-fn check<R: Source, O: Sink, E: Sink>(reader: &mut R, out: &mut O, err: &mut E) -> u8
-    ensures { Runs checking (device R.left R.failures reader.old reader.new)
+fn check<R: Source, O: Sink, E: Sink>(source: &mut R, out: &mut O, err: &mut E) -> u8
+    ensures { Runs checking (device R.left R.failures source.old source.new)
         (device O.taken O.failures out.old out.new)
         (device E.taken E.failures err.old err.new) result }
 {
-    match convert::<TAGS, LEVELS, R, Nowhere>(reader, &mut Nowhere, Mode::Full) {
+    match convert::<TAGS, LEVELS, R, Nowhere>(source, &mut Nowhere, Mode::Full) {
         Ok(totals) => {
             let is_written = write_totals(totals, out);
             conclude(is_written, err)
@@ -101,12 +101,12 @@ fn check<R: Source, O: Sink, E: Sink>(reader: &mut R, out: &mut O, err: &mut E) 
 }
 
 // Writes a line for each game.
-fn list<R: Source, O: Sink, E: Sink>(reader: &mut R, out: &mut O, err: &mut E) -> u8
-    ensures { Runs listing (device R.left R.failures reader.old reader.new)
+fn list<R: Source, O: Sink, E: Sink>(source: &mut R, out: &mut O, err: &mut E) -> u8
+    ensures { Runs listing (device R.left R.failures source.old source.new)
         (device O.taken O.failures out.old out.new)
         (device E.taken E.failures err.old err.new) result }
 {
-    let answer = list_games(reader, out);
+    let answer = list_games(source, out);
     let flushed = out.flush();
     match answer {
         Ok(()) => conclude(flushed.is_ok(), err),

@@ -3,7 +3,7 @@ use Rattle.std.proofs.Common.{◌≡◌, ℕ, List, [], ◌++◌, refl}
 use Rattle.std.specs.Prelude.{codes}
 use Rattle.std.specs.Fmt.{digits}
 use Rattle.chess_rules.specs.Square.{squares}
-use Rattle.chess_text.specs.Reads.{agreeing}
+use Rattle.chess_text.specs.MoveOfForm.{agreeing}
 use Rattle.pgn_game.specs.declared.mode.Mode.TheVariants.{Full, Reduced}
 use Rattle.pgn_game.specs.declared.reason.Reason.TheVariants.{ResultDiffers, IllegalMove, UnexpectedEnd, Changed}
 use Rattle.pgn_game.specs.Profile.{Profile}

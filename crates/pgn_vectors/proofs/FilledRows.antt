@@ -4,7 +4,7 @@ use Rattle.std.proofs.Common.{◌≡◌, ℕ, List, [], ◌∷◌, ◌++◌, len
 use Rattle.std.specs.Prelude.{codes, replicate, None}
 use Rattle.std.specs.Fmt.{digits}
 use Rattle.chess_rules.specs.Square.{square, squares}
-use Rattle.chess_text.specs.Reads.{agreeing}
+use Rattle.chess_text.specs.MoveOfForm.{agreeing}
 use Rattle.pgn_lexer.specs.Tokens as tokens
 use Rattle.pgn_lexer.specs.TokensOf.{tokens_of}
 use Rattle.pgn_lexer.specs.declared.token.LexReason.TheVariants as lexical
@@ -16,7 +16,7 @@ use Rattle.pgn_game.specs.Progress.{Counted, Verdict, refused, totals, output, v
 use Rattle.pgn_game.specs.Chess.{first_position, position_of, move_of, text_of_move, play}
 use Rattle.pgn_game.specs.FaultTable.{refusal}
 use Rattle.pgn_game.specs.Filled.{exported_pairs, filled}
-use Rattle.pgn_game.specs.FixedPoint.{HasRoom, AreExportable, TextSpells, FixedPoint, IsExportable, ExportingTwice, FewPairsHaveRoom}
+use Rattle.pgn_game.specs.FixedPoint.{TagSectionFits, AreExportable, TextSpells, FixedPoint, IsExportable, ExportingTwice, FewPairsHaveRoom}
 use Rattle.pgn_game.specs.Game as games
 use Rattle.pgn_game.specs.Game.{Item, Game}
 use Rattle.pgn_game.specs.Pairs.{Pair}
@@ -217,7 +217,7 @@ nine_lines : length (exported_pairs Full (game (fen ∷ []) [] (codes "*"))) ≡
 unfolding roster
 nine_lines = refl
 
-no_room_for_nine : HasRoom eight_pairs (game (fen ∷ []) [] (codes "*")) → ⊥
+no_room_for_nine : TagSectionFits eight_pairs (game (fen ∷ []) [] (codes "*")) → ⊥
 no_room_for_nine h = let nine = nine_lines in absurd (omega arith)
 
 -- Games that have the same text: a default may be written out; in the reduced format the other
@@ -279,5 +279,5 @@ twice_by_law : ExportingTwice → output plain (output plain (codes "*")) ≡ he
 unfolding refusal roster
 twice_by_law law = (law plain (codes "*") read_well).0
 
-room_by_law : FewPairsHaveRoom → HasRoom eight_pairs (game [] [] (codes "*"))
+room_by_law : FewPairsHaveRoom → TagSectionFits eight_pairs (game [] [] (codes "*"))
 room_by_law law = law eight_pairs (game [] [] (codes "*")) (omega arith)

@@ -3,7 +3,7 @@ use Rattle.std.proofs.Common.{ℕ, [], ◌++◌, refl}
 use Rattle.std.specs.Prelude.{codes, replicate}
 use Rattle.std.specs.Fmt.{digits}
 use Rattle.chess_rules.specs.Square.{squares}
-use Rattle.chess_text.specs.Reads.{agreeing}
+use Rattle.chess_text.specs.MoveOfForm.{agreeing}
 use Rattle.pgn_lexer.specs.declared.token.LexReason.TheVariants as lexical
 use Rattle.pgn_game.specs.declared.mode.Mode.TheVariants.{Full}
 use Rattle.pgn_game.specs.declared.reason.Reason.TheVariants.{Lexical, BadFen, SetUpWithoutFen, TagInMovetext, NotAMove, IllegalMove, AmbiguousMove, MoveLimit, NoMoveBefore, TooDeep, UnmatchedClose, MarkerInVariation, ResultDiffers, UnexpectedEnd}

@@ -4,7 +4,7 @@ use Rattle.std.specs.Prelude.{codes}
 use Rattle.chess_rules.specs.declared.position.Parts.{Parts}
 use Rattle.chess_rules.specs.Legal.{is_check}
 use Rattle.chess_rules.specs.Square.{squares}
-use Rattle.chess_text.specs.Reads.{agreeing}
+use Rattle.chess_text.specs.MoveOfForm.{agreeing}
 use Rattle.chess_text.specs.San.{MarkPairs}
 use Rattle.pgn_lexer.specs.Tokens.{symbol}
 use Rattle.pgn_lexer.specs.TokensOf.{tokens_of}

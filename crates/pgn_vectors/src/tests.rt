@@ -3,7 +3,7 @@ mod bytes;
 mod counts;
 mod cuts;
 mod devices;
-mod hand;
+mod finished_games;
 mod limits;
 mod outlines;
 mod reads;

@@ -20,7 +20,7 @@ use Rattle.chess_rules.specs.Legal.{is_legal, every_promotion, has_legal_move}
 use Rattle.chess_rules.specs.Candidate.{sees}
 use Rattle.chess_rules.specs.Walk.{stepped, king_square, square_at}
 use Rattle.chess_rules.specs.Board.{cell_of}
-use Rattle.chess_rules.specs.Pairs.{origin_by, one_move, is_legal_pair, hits, is_near, king_step, is_left, if_left, left_on, any_on_ways, any_by_jumps, any_left, any_king_step, any_other, indexes, hits_on, hits_by, king_hits_at, any_left_at}
+use Rattle.chess_rules.specs.Pairs.{origin_by, one_move, is_legal_pair, is_legal_from, is_near, king_step, is_untried, if_untried, untried_on, any_on_ways, any_by_jumps, any_untried, any_king_step, any_other, indexes, is_legal_on, is_legal_by, king_step_is_legal_at, any_untried_at}
 use Rattle.chess_rules.proofs.squares.AllSquares.{split_or, or_first, or_second, first_true, second_true, both_true, same_tests, Passes, some_square, any_square, any_of_range, range_of_any}
 use Rattle.chess_rules.proofs.positions.OneKing.{king_stands, king_only_there, square_at-cell_of}
 use Rattle.chess_rules.proofs.moves.CellsAfterPut.{OnBoard}
@@ -58,7 +58,7 @@ moves_when p m h = by_squares (legal_after p m h)
         (any_square (λ t. some_promotion p m.from t) m.to to.file to.rank
         (any_promotion (λ promotion. is_legal p (record { from = m.from; to = m.to; promotion = promotion })) m.promotion h))
 
-moves_when_hit : (p : Parts) (t : Square) (o : Option Square) → hits p t o ≡ true → has_legal_move p ≡ true
+moves_when_hit : (p : Parts) (t : Square) (o : Option Square) → is_legal_from p t o ≡ true → has_legal_move p ≡ true
 unfolding is_legal_pair
 moves_when_hit p t None h = cc
 moves_when_hit p t (Some s) h = moves_when p (one_move p s t) h
@@ -66,25 +66,25 @@ moves_when_hit p t (Some s) h = moves_when p (one_move p s t) h
 moves_on_ways : (p : Parts) (near : Bool) (t : Square) → any_on_ways p near t ≡ true → has_legal_move p ≡ true
 unfolding any_on_ways
 moves_on_ways p near t h =
-    let (d, hit, _) = both_of_any (hits_on p near t) (λ d. true) DIRECTIONS h refl in
-    moves_when_hit p t (left_on p near t d) hit
+    let (d, hit, _) = both_of_any (is_legal_on p near t) (λ d. true) DIRECTIONS h refl in
+    moves_when_hit p t (untried_on p near t d) hit
 
 moves_by_jumps : (p : Parts) (t : Square) → any_by_jumps p t ≡ true → has_legal_move p ≡ true
 unfolding any_by_jumps
 moves_by_jumps p t h =
-    let (j, hit, _) = both_of_any (hits_by p t) (λ j. true) JUMPS h refl in
+    let (j, hit, _) = both_of_any (is_legal_by p t) (λ j. true) JUMPS h refl in
     moves_when_hit p t (origin_by p t j) hit
 
 moves_with_king : (p : Parts) → any_king_step p ≡ true → has_legal_move p ≡ true
 unfolding any_king_step indexes
 moves_with_king p h =
-    let (i, _, _, hit) = any_of_range (king_hits_at p) 0 64 h in
+    let (i, _, _, hit) = any_of_range (king_step_is_legal_at p) 0 64 h in
     moves_when_hit p (square_at i) (king_step p (square_at i)) hit
 
 moves_with_other : (p : Parts) → any_other p ≡ true → has_legal_move p ≡ true
 unfolding any_other indexes
 moves_with_other p h =
-    let (i, _, _, hit) = any_of_range (any_left_at p) 0 64 h in
+    let (i, _, _, hit) = any_of_range (any_untried_at p) 0 64 h in
     elim (split_or (any_on_ways p (is_near p (square_at i)) (square_at i)) (any_by_jumps p (square_at i)) hit) [
       | inl ways ↦ moves_on_ways p (is_near p (square_at i)) (square_at i) ways
       | inr jumps ↦ moves_by_jumps p (square_at i) jumps
@@ -98,8 +98,8 @@ at_index test t on h =
     let f : t.file < 8 = on.file in let r : t.rank < 8 = on.rank in
     range_of_any (λ i. test (square_at i)) 0 64 (cell_of t) (omega arith) (omega arith) (ap test (square_at-cell_of t on.file) ∙ h)
 
-hit_there : (p : Parts) (s t : Square) (o : Option Square) → o ≡ Some s → is_legal_pair p s t ≡ true → hits p t o ≡ true
-hit_there p s t o there h = ap (hits p t) there ∙ h
+hit_there : (p : Parts) (s t : Square) (o : Option Square) → o ≡ Some s → is_legal_pair p s t ≡ true → is_legal_from p t o ≡ true
+hit_there p s t o there h = ap (is_legal_from p t) there ∙ h
 
 -- the piece is one of some kind
 kind_there : (c : Colour) (cell : Option Piece) → has_colour c cell ≡ true → (k : Kind) × (has_piece c k cell ≡ true)
@@ -137,7 +137,7 @@ mover p q m l =
 king_hit : (p : Parts) (s t : Square) → Sound p → OnBoard s → OnBoard t → own p King s ≡ true → is_near p t ≡ true → is_legal_pair p s t ≡ true → any_king_step p ≡ true
 unfolding any_king_step
 king_hit p s t sound on_s on_t owns near h =
-    at_index (λ u. hits p u (king_step p u)) t on_t (hit_there p s t (king_step p t) (ap (λ v. if v then Some (king_square p.side p.board) else None) near ∙ ap Some (sym one)) h)
+    at_index (λ u. is_legal_from p u (king_step p u)) t on_t (hit_there p s t (king_step p t) (ap (λ v. if v then Some (king_square p.side p.board) else None) near ∙ ap Some (sym one)) h)
   where
     one : s ≡ king_square p.side p.board
     one = king_only_there p.side p.board s (king_square p.side p.board) sound.long (sound.kings_of p.side)
@@ -146,24 +146,24 @@ king_hit p s t sound on_s on_t owns near h =
 jump_hit : (p : Parts) (s t : Square) → OnBoard s → OnBoard t → own p Knight s ≡ true → is_jump s t ≡ true → is_legal_pair p s t ≡ true → any_other p ≡ true
 unfolding any_other any_by_jumps
 jump_hit p s t on_s on_t owns jumps h =
-    at_index (any_left p) t on_t
+    at_index (any_untried p) t on_t
     (or_second (any_on_ways p (is_near p t) t) _
-    (jump_there (hits_by p t) s t on_s.file on_s.rank jumps
+    (jump_there (is_legal_by p t) s t on_s.file on_s.rank jumps
     (λ j there. hit_there p s t (origin_by p t j) (if_own_there p Knight (stepped j.way t j.files j.ranks) s there owns) h)))
 
 way_hit : (p : Parts) (k : Kind) (s t : Square) → OnBoard s → OnBoard t → own p k s ≡ true → is_rider k ≡ true → sees k p s t ≡ true → (is_near p t && own p King s) ≡ false → is_legal_pair p s t ≡ true → any_other p ≡ true
 unfolding any_other any_on_ways
 way_hit p k s t on_s on_t owns rides seen far h =
-    at_index (any_left p) t on_t
+    at_index (any_untried p) t on_t
     (or_first _ (any_by_jumps p t)
-    (way_there (hits_on p (is_near p t) t) p.board s t on_s.file on_s.rank on_t.file on_t.rank
+    (way_there (is_legal_on p (is_near p t) t) p.board s t on_s.file on_s.rank on_t.file on_t.rank
     (sym (sees_by_way p k s t rides) ∙ seen) (occupied p k s owns)
-    (λ d there. hit_there p s t (left_on p (is_near p t) t d) (ap (if_left p (is_near p t)) there ∙ ap (λ v. if v then Some s else None) stays_left) h)))
+    (λ d there. hit_there p s t (untried_on p (is_near p t) t d) (ap (if_untried p (is_near p t)) there ∙ ap (λ v. if v then Some s else None) stays_left) h)))
   where
     no_knight : own p Knight s ≡ false
     no_knight = to_false (own p Knight s) (λ knight. cc (rides, ap is_rider (one_kind p.side p.side k Knight (at p.board s) owns knight)))
 
-    stays_left : is_left p (is_near p t) s ≡ true
+    stays_left : is_untried p (is_near p t) s ≡ true
     stays_left = both_true _ _ (both_true _ _ (colour_there p.side k (at p.board s) owns) (ap not no_knight)) (ap not far)
 
 hit_when : (p : Parts) (m : Move) → is_position p ≡ true → is_legal p m ≡ true → (any_king_step p || any_other p) ≡ true

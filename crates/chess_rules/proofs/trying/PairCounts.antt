@@ -18,7 +18,7 @@ use Rattle.chess_rules.specs.Board.{at, same_colour, same_kind, has_colour, has_
 use Rattle.chess_rules.specs.Step.{own}
 use Rattle.chess_rules.specs.Candidate.{sees, is_candidate, candidates, kinds, pair_count}
 use Rattle.chess_rules.specs.Walk.{first_on, king_square, square_at}
-use Rattle.chess_rules.specs.Pairs.{if_own, origin_on, origin_by, on_ways, by_jumps, tried, is_near, king_step, if_left, left_on, count_on_ways, count_by_jumps, count_left, count_king_steps, count_others, indexes}
+use Rattle.chess_rules.specs.Pairs.{if_own, origin_on, origin_by, on_ways, by_jumps, tried, is_near, king_step, if_untried, untried_on, count_on_ways, count_by_jumps, count_untried, count_king_steps, count_others, indexes}
 use Rattle.chess_rules.proofs.squares.AllSquares.{split_or, or_first, first_true, second_true, both_true, same_tests, Passes, some_square, any_square}
 use Rattle.chess_rules.proofs.positions.OneKing.{StandsAt, king_stands, king_only_there}
 use Rattle.chess_rules.proofs.positions.RulesOfPosition.{Sound}
@@ -103,7 +103,7 @@ one_at_most true Pawn s = omega arith
 
 way_found : (p : Parts) (near : Bool) (o : Option Square)
     → tried (if_own p King o) + tried (if_own p Queen o) + tried (if_own p Rook o) + tried (if_own p Bishop o) + tried (if_own p Pawn o)
-    ≡ tried (if_left p near o) + cond near (tried (if_own p King o)) 0
+    ≡ tried (if_untried p near o) + cond near (tried (if_own p King o)) 0
 way_found p true None = refl
 way_found p false None = refl
 way_found p near (Some s) = by_cell (at p.board s) near
@@ -160,9 +160,9 @@ five_kinds_left : (p : Parts) (near : Bool) (t : Square) → five_kinds p t ≡ 
 unfolding count_on_ways
 five_kinds_left p near t =
     sym (five_kinds_sum p t)
-    ∙ (sum_same (of_five p t) (λ d. tried (left_on p near t d) + cond near (on_way p t King d) 0) DIRECTIONS (λ d. way_found p near (first_on p.board d t))
-    ∙ (sum_both (λ d. tried (left_on p near t d)) (λ d. cond near (on_way p t King d) 0) DIRECTIONS
-    ∙ ap (λ n. sum_by (λ d. tried (left_on p near t d)) DIRECTIONS + n)
+    ∙ (sum_same (of_five p t) (λ d. tried (untried_on p near t d) + cond near (on_way p t King d) 0) DIRECTIONS (λ d. way_found p near (first_on p.board d t))
+    ∙ (sum_both (λ d. tried (untried_on p near t d)) (λ d. cond near (on_way p t King d) 0) DIRECTIONS
+    ∙ ap (λ n. sum_by (λ d. tried (untried_on p near t d)) DIRECTIONS + n)
     (sum_when near (on_way p t King) DIRECTIONS ∙ ap (λ n. cond near n 0) (sym (of_kind p King t)))))
 
 five_kinds_most : (p : Parts) (t : Square) → five_kinds p t ≤ 8
@@ -240,7 +240,7 @@ king_part p t sound on = by_near (is_near p t) refl
     by_near true near = sym (same_length p King t refl on) ∙ one_king_near p t sound near
     by_near false far = refl
 
-target_parts : (p : Parts) (t : Square) → Sound p → OnBoard t → of_target p t ≡ tried (king_step p t) + count_left p t
+target_parts : (p : Parts) (t : Square) → Sound p → OnBoard t → of_target p t ≡ tried (king_step p t) + count_untried p t
 target_parts p t sound on =
     let a : of_target p t ≡ five_kinds p t + length (by_jumps p t) = target_sum p t on in
     let b : five_kinds p t ≡ count_on_ways p (is_near p t) t + cond (is_near p t) (length (on_ways p King t)) 0 = five_kinds_left p (is_near p t) t in
@@ -265,9 +265,9 @@ pub pair_count_parts : (p : Parts) → Sound p → count_king_steps p + count_ot
 unfolding count_king_steps count_others indexes
 pair_count_parts p sound =
     sym (pair_count_is p
-    ∙ (sum_range_same (λ i. of_target p (square_at i)) (λ i. tried (king_step p (square_at i)) + count_left p (square_at i)) 0 64 64 (omega arith)
+    ∙ (sum_range_same (λ i. of_target p (square_at i)) (λ i. tried (king_step p (square_at i)) + count_untried p (square_at i)) 0 64 64 (omega arith)
     (λ i low. target_parts p (square_at i) sound (on_board_at i low))
-    ∙ sum_both (λ i. tried (king_step p (square_at i))) (λ i. count_left p (square_at i)) (range_with_len 0 64)))
+    ∙ sum_both (λ i. tried (king_step p (square_at i))) (λ i. count_untried p (square_at i)) (range_with_len 0 64)))
 
 pub pair_count_most : (p : Parts) → pair_count p ≤ 1024
 unfolding indexes

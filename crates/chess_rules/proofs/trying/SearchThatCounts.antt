@@ -7,7 +7,7 @@ use Rattle.std.proofs.lemmas.List.Sums.{sum_by-drop_more}
 use Rattle.std.proofs.lemmas.List.FromFn.{length-range_with_len, get_or-range_with_len}
 use Rattle.chess_rules.specs.declared.position.Parts.{Parts}
 use Rattle.chess_rules.specs.Square.{Square}
-use Rattle.chess_rules.specs.Pairs.{Counts, hits, tried, indexes}
+use Rattle.chess_rules.specs.Pairs.{Counts, is_legal_from, tried, indexes}
 
 pub counts_exactly : (found : Bool) (old new whole : ℕ) → (found ≡ true → 0 < whole) → new ≡ old + whole → Counts found old new whole
 counts_exactly found old new whole one h =
@@ -19,10 +19,10 @@ counts_exactly found old new whole one h =
     }
 
 -- what is hit was counted
-pub counts_try : (p : Parts) (t : Square) (o : Option Square) (hit : Bool) (old new : ℕ) → hit ≡ hits p t o → new ≡ old + tried o → Counts hit old new (tried o)
+pub counts_try : (p : Parts) (t : Square) (o : Option Square) (hit : Bool) (old new : ℕ) → hit ≡ is_legal_from p t o → new ≡ old + tried o → Counts hit old new (tried o)
 counts_try p t o hit old new tested h = counts_exactly hit old new (tried o) (λ passed. by_origin o (sym tested ∙ passed)) h
   where
-    by_origin : (x : Option Square) → hits p t x ≡ true → 0 < tried x
+    by_origin : (x : Option Square) → is_legal_from p t x ≡ true → 0 < tried x
     by_origin None g = cc
     by_origin (Some s) g = omega arith
 

@@ -17,8 +17,8 @@ use Rattle.chess_text.specs.declared.form.Form.{Form}
 use Rattle.chess_text.specs.declared.form.Form.TheVariants.{Castle, Man}
 use Rattle.chess_text.specs.declared.resolution.Played.{Played}
 use Rattle.chess_text.specs.declared.resolution.SanFault.TheVariants.{NoMove, Ambiguous}
-use Rattle.chess_text.specs.Reads.{hints_fit, same_promotion, is_castling, describes, agrees, with_next, played, castling_move, move_from, moves_to_try, agreeing, only}
-use Rattle.chess_text.specs.Laws.{ReadsTheOne, ReadsNone, ReadsTwo}
+use Rattle.chess_text.specs.MoveOfForm.{hints_fit, same_promotion, is_castling, describes, agrees, with_next, played, castling_move, move_from, moves_to_try, agreeing, only}
+use Rattle.chess_text.specs.Laws.{TheOneMoveIsRead, NoMoveIsRead, TwoMovesAreAmbiguous}
 use Rattle.chess_text.proofs.forms.CastlingMoves.{stepped, squares_same}
 use Rattle.chess_text.proofs.forms.CastlingForms.{castles_ends, played_some}
 use Rattle.chess_text.proofs.forms.OnlyElement.{here, later, element, none_in, in_map, of_map, in_found, found_in}
@@ -271,13 +271,13 @@ module _ (p : Parts) (f : Form) where
   two_from (y ∷ []) e m n differ a b = absurd (differ (alone y e m a ∙ sym (alone y e n b)))
   two_from (y ∷ z ∷ more) e m n differ a b = refl
 
-pub reads_the_one : ReadsTheOne
-reads_the_one p f x =
+pub the_one_move_is_read : TheOneMoveIsRead
+the_one_move_is_read p f x =
     (one_to p f x (agreeing p f) refl, λ (agreed, after, single). one_from p f x (agreeing p f) refl agreed after single)
 
-pub reads_none : ReadsNone
-reads_none p f = (none_to p f (agreeing p f) refl, none_from p f (agreeing p f) refl)
+pub no_move_is_read : NoMoveIsRead
+no_move_is_read p f = (none_to p f (agreeing p f) refl, none_from p f (agreeing p f) refl)
 
-pub reads_two : ReadsTwo
-reads_two p f =
+pub two_moves_are_ambiguous : TwoMovesAreAmbiguous
+two_moves_are_ambiguous p f =
     (two_to p f (agreeing p f) refl, λ (m, n, differ, a, b). two_from p f (agreeing p f) refl m n differ a b)

@@ -11,7 +11,7 @@ use Rattle.chess_rules.specs.Legal.{legal}
 use Rattle.chess_text.specs.declared.form.Form.TheVariants.{Castle}
 use Rattle.chess_text.specs.declared.resolution.Played.{Played}
 use Rattle.chess_text.specs.declared.resolution.SanFault.TheVariants.{NoMove}
-use Rattle.chess_text.specs.Reads.{is_castling, describes, with_next, played, castling_move, agreeing, only, reads}
+use Rattle.chess_text.specs.MoveOfForm.{is_castling, describes, with_next, played, castling_move, agreeing, only, move_of_form}
 use Rattle.chess_text.proofs.forms.CastlingMoves.{squares_same}
 
 -- where castling leads
@@ -46,7 +46,7 @@ described p true = second_alone (castles_short p (castling_move p.side true)) (c
         let to = ap (λ (s : Square). s.file) (castles_ends p (castling_move p.side true) (short_right p.side p.rights) short_wing h).1 in
         omega (arith, to)
 
-reads_one : (p : Parts) (long : Bool) → reads p (Castle long) ≡ only (cons_option (played (describes p (Castle long) (castling_move p.side long)) p (castling_move p.side long)) [])
+reads_one : (p : Parts) (long : Bool) → move_of_form p (Castle long) ≡ only (cons_option (played (describes p (Castle long) (castling_move p.side long)) p (castling_move p.side long)) [])
 unfolding agreeing
 reads_one p long = refl
 
@@ -62,19 +62,19 @@ pub played_not : (b : Bool) (p : Parts) (m : Move) → b ≡ false → played b 
 played_not b p m e = ap (λ (x : Bool). played x p m) e
 
 module _ (p : Parts) (long : Bool) (m : Move) (is : m ≡ castling_move p.side long) where
-  answer_of : (o : Option Played) → played (describes p (Castle long) (castling_move p.side long)) p (castling_move p.side long) ≡ o → only (cons_option o []) ≡ reads p (Castle long)
+  answer_of : (o : Option Played) → played (describes p (Castle long) (castling_move p.side long)) p (castling_move p.side long) ≡ o → only (cons_option o []) ≡ move_of_form p (Castle long)
   answer_of o h = ap (λ (x : Option Played). only (cons_option x [])) (sym h) ∙ sym (reads_one p long)
 
-  pub castling_illegal : legal p m ≡ None → Err NoMove ≡ reads p (Castle long)
+  pub castling_illegal : legal p m ≡ None → Err NoMove ≡ move_of_form p (Castle long)
   castling_illegal h =
       answer_of None (played_none _ p (castling_move p.side long) (subst (λ (n : Move). legal p n ≡ None) is h))
 
-  pub castling_found : (q : Parts) → legal p m ≡ Some q → is_castling p m ≡ true → Ok (record { mv = m; next = q }) ≡ reads p (Castle long)
+  pub castling_found : (q : Parts) → legal p m ≡ Some q → is_castling p m ≡ true → Ok (record { mv = m; next = q }) ≡ move_of_form p (Castle long)
   castling_found q h named =
       ap (λ (n : Move). Ok (record { mv = n; next = q })) is
       ∙ answer_of (Some (record { mv = castling_move p.side long; next = q }))
       (played_some _ p q (castling_move p.side long) (described p long ∙ subst (λ (n : Move). is_castling p n ≡ true) is named) (subst (λ (n : Move). legal p n ≡ Some q) is h))
 
-  pub castling_other : is_castling p m ≡ false → Err NoMove ≡ reads p (Castle long)
+  pub castling_other : is_castling p m ≡ false → Err NoMove ≡ move_of_form p (Castle long)
   castling_other named =
       answer_of None (played_not _ p (castling_move p.side long) (described p long ∙ subst (λ (n : Move). is_castling p n ≡ false) is named))

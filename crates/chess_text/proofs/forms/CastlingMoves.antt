@@ -14,7 +14,7 @@ use Rattle.chess_rules.specs.Board.{Board, at, has_colour, has_piece, same_colou
 use Rattle.chess_rules.specs.Attacks.{is_clear, attacks, cell_attacks, kind_attacks}
 use Rattle.chess_rules.specs.Step.{own, home, Wing, short_wing, long_wing, short_right, long_right, is_piece_step, is_pawn_way, is_pawn_step, promotion_fits, is_target, captured_pawn, is_en_passant, is_king_move, stand_ready, is_unattacked, castles, castles_short, castles_long, carried, en_passant_board, castled, is_on_board, after, board_after}
 use Rattle.chess_rules.specs.Legal.{legal, is_legal, if_safe}
-use Rattle.chess_text.specs.Reads.{is_castling}
+use Rattle.chess_text.specs.MoveOfForm.{is_castling}
 
 -- what is known of a legal move
 pub record Stepped (p : Parts) (m : Move) : Type 0 where

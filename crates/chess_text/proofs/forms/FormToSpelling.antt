@@ -13,7 +13,7 @@ use Rattle.chess_rules.specs.Square.{Square, square, on_board}
 use Rattle.chess_text.specs.declared.form.Form.{Form}
 use Rattle.chess_text.specs.declared.form.Form.TheVariants.{Castle, Man}
 use Rattle.chess_text.specs.Letter.{letter, kinds, file_letter, rank_digit, square_text}
-use Rattle.chess_text.specs.Form.{SpellsBare, Spells, is_among, letter_texts, hint_text, capture_texts, promotion_letter, promotions, promotion_texts, castle_texts, is_mark, below_eight, is_form, last_byte, front, front_if, before_marks, file_of, rank_of, promotion_of, promotion_at_end, before_sign, before_promotion, square_of, target_at_end, before_capture, before_target, rank_at_end, before_rank, file_at_end, before_file, kind_of_text, man_if, man_of, castle_of, castle_or, bare_form, form_of}
+use Rattle.chess_text.specs.Form.{SpellsBare, Spells, is_among, letter_texts, hint_text, capture_texts, promotion_letter, promotions, promotion_texts, castle_texts, is_mark, below_eight, is_form, last_byte, front, front_if, before_marks, file_of, rank_of, promotion_of, promotion_at_end, before_sign, before_promotion, square_of, target_at_end, before_capture, before_target, rank_at_end, before_rank, file_at_end, before_file, kind_of_text, piece_move_if, piece_move_of, castle_of, castle_or, bare_form, form_of}
 use Rattle.chess_text.proofs.forms.SpellingToForm.{snoc_again}
 
 same_some : {A : Type 0} (x y : A) → Some x ≡ Some y → x ≡ y
@@ -168,8 +168,8 @@ record Told (s : List ℕ) (f : Form) : Type 0 where
   good : is_form f ≡ true
 
 -- what stands before the target, and what the rest says
-man_spelled : (s : List ℕ) (f : Form) → man_of s ≡ Some f → Told s f
-man_spelled s f h =
+piece_move_spelled : (s : List ℕ) (f : Form) → piece_move_of s ≡ Some f → Told s f
+piece_move_spelled s f h =
     by_parts (kind_of_text (before_file (before_rank b))) (target_at_end d) refl refl h
   where
     d : List ℕ
@@ -179,7 +179,7 @@ man_spelled s f h =
     b = before_target d
 
     by_parts : (k : Option Kind) (to : Option Square) → kind_of_text (before_file (before_rank b)) ≡ k → target_at_end d ≡ to
-        → man_if k (file_at_end (before_rank b)) (rank_at_end b) to (promotion_at_end s) ≡ Some f → Told s f
+        → piece_move_if k (file_at_end (before_rank b)) (rank_at_end b) to (promotion_at_end s) ≡ Some f → Told s f
     by_parts k None e g h = absurd (cc)
     by_parts None (Some to) e g h = absurd (cc)
     by_parts (Some k) (Some to) e g h =
@@ -193,18 +193,18 @@ man_spelled s f h =
         let r_is : b ≡ (l ++ hint_text file_letter (file_at_end a)) ++ hint_text rank_digit (rank_at_end b) = r.0 ∙ ap (λ u. u ++ hint_text rank_digit (rank_at_end b)) i.0 in
         let x_is : front (front d) ≡ ((l ++ hint_text file_letter (file_at_end a)) ++ hint_text rank_digit (rank_at_end b)) ++ x.text = x.joined ∙ ap (λ u. u ++ x.text) r_is in
         let d_is : d ≡ (((l ++ hint_text file_letter (file_at_end a)) ++ hint_text rank_digit (rank_at_end b)) ++ x.text) ++ square_text to = t.0 ∙ ap (λ u. u ++ square_text to) x_is in
-        let man : Told s (Man k (file_at_end a) (rank_at_end b) to (promotion_at_end s)) =
+        let piece_move : Told s (Man k (file_at_end a) (rank_at_end b) to (promotion_at_end s)) =
         record {
           spelled = record { letters = l; capture = x.text; promoted = p.text; joined = p.joined ∙ ap (λ u. u ++ p.text) d_is; letters_fit = kind_spelled l k e; capture_fits = x.fits; promoted_fits = p.fits };
           good = ap₂ (λ v w. v && w) (ap₂ (λ v w. v && w) i.1 r.1) t.1;
         } in
-        subst (λ z. Told s z) (same_some (Man k (file_at_end a) (rank_at_end b) to (promotion_at_end s)) f h) man
+        subst (λ z. Told s z) (same_some (Man k (file_at_end a) (rank_at_end b) to (promotion_at_end s)) f h) piece_move
 
 bare_spelled : (s : List ℕ) (f : Form) → bare_form s ≡ Some f → Told s f
 bare_spelled s f h = by_castling (castle_of s) refl h
   where
-    by_castling : (o : Option Bool) → castle_of s ≡ o → castle_or o (man_of s) ≡ Some f → Told s f
-    by_castling None e g = man_spelled s f g
+    by_castling : (o : Option Bool) → castle_of s ≡ o → castle_or o (piece_move_of s) ≡ Some f → Told s f
+    by_castling None e g = piece_move_spelled s f g
     by_castling (Some long) e g =
         subst (λ z. Told s z) (same_some (Castle long) f g)
         (record { spelled = found (λ l. is_among s (castle_texts l)) (false ∷ true ∷ []) long e; good = refl })

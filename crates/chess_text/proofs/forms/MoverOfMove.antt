@@ -15,7 +15,7 @@ use Rattle.chess_rules.specs.Attacks.{attacks}
 use Rattle.chess_rules.specs.Step.{own, home, Wing, short_wing, long_wing, short_right, long_right, is_piece_step, is_pawn_way, is_pawn_step, promotion_fits, is_target, captured_pawn, is_en_passant, is_king_move, stand_ready, is_unattacked, castles, castles_short, castles_long}
 use Rattle.chess_rules.specs.Legal.{is_legal}
 use Rattle.chess_text.specs.Letter.{square_text}
-use Rattle.chess_text.specs.Reads.{is_castling}
+use Rattle.chess_text.specs.MoveOfForm.{is_castling}
 use Rattle.chess_text.specs.San.{is_capture, capture_text, castling_text, king_text, has_rivals}
 use Rattle.chess_text.proofs.forms.CastlingMoves.{stepped, squares_same, castling_goes_far}
 
@@ -47,8 +47,8 @@ mover_colour p m h =
     by_piece : is_piece_step p m ≡ true → has_colour p.side (at p.board m.from) ≡ true
     by_piece piece =
         let stands = (and_parts ((has_colour p.side (at p.board m.from) && not (own p Pawn m.from)) && is_none m.promotion) (attacks p.board m.from m.to && not (has_colour p.side (at p.board m.to))) piece).0 in
-        let man = (and_parts (has_colour p.side (at p.board m.from) && not (own p Pawn m.from)) (is_none m.promotion) stands).0 in
-        (and_parts (has_colour p.side (at p.board m.from)) (not (own p Pawn m.from)) man).0
+        let no_pawn = (and_parts (has_colour p.side (at p.board m.from) && not (own p Pawn m.from)) (is_none m.promotion) stands).0 in
+        (and_parts (has_colour p.side (at p.board m.from)) (not (own p Pawn m.from)) no_pawn).0
 
 -- it stands on the origin
 pub mover_stands : (p : Parts) (m : Move) → is_legal p m ≡ true → at p.board m.from ≡ None → ⊥
@@ -100,21 +100,21 @@ piece_takes p m k h apart =
 
 -- The kinds that have rivals.
 
-pub officer_no_pawn : (k : Kind) → has_rivals k ≡ true → same_kind k Pawn ≡ false
-officer_no_pawn King h = absurd (false≢true h)
-officer_no_pawn Queen h = refl
-officer_no_pawn Rook h = refl
-officer_no_pawn Bishop h = refl
-officer_no_pawn Knight h = refl
-officer_no_pawn Pawn h = absurd (false≢true h)
+pub pawn_has_no_rivals : (k : Kind) → has_rivals k ≡ true → same_kind k Pawn ≡ false
+pawn_has_no_rivals King h = absurd (false≢true h)
+pawn_has_no_rivals Queen h = refl
+pawn_has_no_rivals Rook h = refl
+pawn_has_no_rivals Bishop h = refl
+pawn_has_no_rivals Knight h = refl
+pawn_has_no_rivals Pawn h = absurd (false≢true h)
 
-pub officer : (k : Kind) → (k ≡ King → ⊥) → (k ≡ Pawn → ⊥) → has_rivals k ≡ true
-officer King h g = absurd (h refl)
-officer Queen h g = refl
-officer Rook h g = refl
-officer Bishop h g = refl
-officer Knight h g = refl
-officer Pawn h g = absurd (g refl)
+pub may_have_rivals : (k : Kind) → (k ≡ King → ⊥) → (k ≡ Pawn → ⊥) → has_rivals k ≡ true
+may_have_rivals King h g = absurd (h refl)
+may_have_rivals Queen h g = refl
+may_have_rivals Rook h g = refl
+may_have_rivals Bishop h g = refl
+may_have_rivals Knight h g = refl
+may_have_rivals Pawn h g = absurd (g refl)
 
 -- as the code asks
 pub something : (p : Parts) (m : Move) (cell : Option Piece) (b : Bool) → cell ≡ at p.board m.to → b ≡ is_some cell → b ≡ not (is_empty p.board m.to)

@@ -15,7 +15,7 @@ use Rattle.chess_rules.specs.Board.{Board, at, has_colour, has_piece, same_colou
 use Rattle.chess_rules.specs.Attacks.{attacks, cell_attacks, kind_attacks, is_ahead}
 use Rattle.chess_rules.specs.Step.{own, is_piece_step, is_advance, is_double_step, is_pawn_capture, is_pawn_way, is_pawn_step, promotion_fits, is_target, captured_pawn, crossed, pawn_rank, double_rank, is_en_passant}
 use Rattle.chess_rules.specs.Legal.{is_legal}
-use Rattle.chess_text.specs.Reads.{is_castling}
+use Rattle.chess_text.specs.MoveOfForm.{is_castling}
 use Rattle.chess_text.specs.San.{is_capture}
 use Rattle.chess_text.proofs.forms.CastlingMoves.{stepped, castling_goes_far}
 use Rattle.chess_text.proofs.forms.MoverOfMove.{other_kind}
@@ -70,8 +70,8 @@ pawn_way p m h pawn =
     no_piece : is_piece_step p m ≡ true → ⊥
     no_piece piece =
         let stands = (and_parts ((has_colour p.side (at p.board m.from) && not (own p Pawn m.from)) && is_none m.promotion) (attacks p.board m.from m.to && not (has_colour p.side (at p.board m.to))) piece).0 in
-        let man = (and_parts (has_colour p.side (at p.board m.from) && not (own p Pawn m.from)) (is_none m.promotion) stands).0 in
-        false≢true (sym (ap not pawn) ∙ (and_parts (has_colour p.side (at p.board m.from)) (not (own p Pawn m.from)) man).1)
+        let no_pawn = (and_parts (has_colour p.side (at p.board m.from) && not (own p Pawn m.from)) (is_none m.promotion) stands).0 in
+        false≢true (sym (ap not pawn) ∙ (and_parts (has_colour p.side (at p.board m.from)) (not (own p Pawn m.from)) no_pawn).1)
 
     no_castle : is_castling p m ≡ true → ⊥
     no_castle castling =

@@ -18,7 +18,7 @@ use Rattle.chess_rules.specs.Laws.{CandidatesComplete}
 use Rattle.chess_text.specs.declared.form.Form.{Form}
 use Rattle.chess_text.specs.declared.form.Form.TheVariants.{Man}
 use Rattle.chess_text.specs.declared.resolution.Played.{Played}
-use Rattle.chess_text.specs.Reads.{hints_fit, same_promotion, is_castling, describes, played, move_from, agreeing, only, reads, man_fits}
+use Rattle.chess_text.specs.MoveOfForm.{hints_fit, same_promotion, is_castling, describes, played, move_from, agreeing, only, move_of_form, piece_move_fits}
 use Rattle.chess_text.proofs.forms.CastlingForms.{played_none}
 use Rattle.chess_text.proofs.forms.OnlyElement.{filter_map-map, filter_map-filter, only_permuted}
 
@@ -44,12 +44,12 @@ rest_of true b true false e f g h = absurd (false≢true h)
 
 module _ (p : Parts) (k : Kind) (file rank : Option ℕ) (to : Square) (promotion : Option Promotion) where
   -- from a square with such a piece
-  pub describes_own : (s : Square) → own p k s ≡ true → describes p (Man k file rank to promotion) (move_from to promotion s) ≡ man_fits p file rank (move_from to promotion s)
+  pub describes_own : (s : Square) → own p k s ≡ true → describes p (Man k file rank to promotion) (move_from to promotion s) ≡ piece_move_fits p file rank (move_from to promotion s)
   describes_own s stands =
       rest_of (own p k s) (hints_fit file rank s) (same_square to to) (same_promotion promotion promotion) (not (is_castling p (move_from to promotion s)))
       stands (same_square-refl to) (same_promotion-refl promotion)
 
-  pub tried_own : (s : Square) → own p k s ≡ true → played (man_fits p file rank (move_from to promotion s)) p (move_from to promotion s) ≡ from_square p (Man k file rank to promotion) to promotion s
+  pub tried_own : (s : Square) → own p k s ≡ true → played (piece_move_fits p file rank (move_from to promotion s)) p (move_from to promotion s) ≡ from_square p (Man k file rank to promotion) to promotion s
   tried_own s stands = ap (λ (b : Bool). played b p (move_from to promotion s)) (sym (describes_own s stands))
 
   -- from no other square than a candidate
@@ -69,7 +69,7 @@ module _ (p : Parts) (k : Kind) (file rank : Option ℕ) (to : Square) (promotio
 
   -- what is found from the candidates, in any order, decides
   pub reads_candidates : CandidatesComplete → (xs : List Square) → IsPermutation (candidates p k to) xs
-      → only (filter_map (from_square p (Man k file rank to promotion) to promotion) xs) ≡ reads p (Man k file rank to promotion)
+      → only (filter_map (from_square p (Man k file rank to promotion) to promotion) xs) ≡ move_of_form p (Man k file rank to promotion)
   unfolding agreeing
   reads_candidates complete xs perm =
       only_permuted (from_square p (Man k file rank to promotion) to promotion) xs (candidates p k to) (IsPermutation-sym (candidates p k to) xs perm)
@@ -84,7 +84,7 @@ candidates_own p k t xs perm =
 
 -- what the code tries from the i-th of them
 pub tried_at : (p : Parts) (k : Kind) (file rank : Option ℕ) (to : Square) (promotion : Option Promotion) (xs : List Square) → IsPermutation (candidates p k to) xs
-    → (i : ℕ) (s : Square) (o : Option Played) → i < length xs → s ≡ get_or xs i s → o ≡ played (man_fits p file rank (move_from to promotion s)) p (move_from to promotion s)
+    → (i : ℕ) (s : Square) (o : Option Played) → i < length xs → s ≡ get_or xs i s → o ≡ played (piece_move_fits p file rank (move_from to promotion s)) p (move_from to promotion s)
     → o ≡ from_square p (Man k file rank to promotion) to promotion (get_or xs i s)
 tried_at p k file rank to promotion xs perm i s o low is tried =
     tried

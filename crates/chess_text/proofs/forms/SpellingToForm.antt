@@ -14,7 +14,7 @@ use Rattle.chess_rules.specs.Square.{Square, on_board}
 use Rattle.chess_text.specs.declared.form.Form.{Form}
 use Rattle.chess_text.specs.declared.form.Form.TheVariants.{Castle, Man}
 use Rattle.chess_text.specs.Letter.{file_letter, rank_digit, square_text}
-use Rattle.chess_text.specs.Form.{SpellsMan, SpellsBare, Spells, is_among, letter_texts, hint_text, capture_texts, promotion_letter, promotion_texts, castle_texts, is_mark, below_eight, is_form, last_byte, front, front_if, before_marks, file_of, rank_of, promotion_of, promotion_at_end, before_sign, before_promotion, square_of, target_at_end, before_capture, before_target, rank_at_end, before_rank, file_at_end, before_file, kind_of_text, man_if, man_before, man_at, man_of, castle_of, castle_or, bare_form, form_of}
+use Rattle.chess_text.specs.Form.{SpellsPieceMove, SpellsBare, Spells, is_among, letter_texts, hint_text, capture_texts, promotion_letter, promotion_texts, castle_texts, is_mark, below_eight, is_form, last_byte, front, front_if, before_marks, file_of, rank_of, promotion_of, promotion_at_end, before_sign, before_promotion, square_of, target_at_end, before_capture, before_target, rank_at_end, before_rank, file_at_end, before_file, kind_of_text, piece_move_if, piece_move_before, piece_move_at, piece_move_of, castle_of, castle_or, bare_form, form_of}
 use Rattle.chess_text.proofs.forms.BeforeMarks.{before_marks-append, before_marks-last}
 use Rattle.chess_text.proofs.positions.FieldsOfText.{first_of_two, second_of_two}
 
@@ -195,7 +195,7 @@ promotion_back become.Rook = refl
 promotion_back become.Bishop = refl
 promotion_back become.Knight = refl
 
--- the last byte of a man's text is no mark, and ends no castling
+-- the last byte of the text of a piece's move is no mark, and ends no castling
 record Ends (c : ℕ) : Type 0 where
   no_mark : is_mark c ≡ false
   no_letter : (c == 79) ≡ false
@@ -266,9 +266,9 @@ no_castle s h =
       ]),
     ) refl
 
-man_read : (s : List ℕ) (k : Kind) (file rank : Option ℕ) (to : Square) (promotion : Option Promotion)
-    → SpellsMan s k file rank to promotion → is_form (Man k file rank to promotion) ≡ true → BareRead s (Man k file rank to promotion)
-man_read s k file rank to promotion h g =
+piece_move_read : (s : List ℕ) (k : Kind) (file rank : Option ℕ) (to : Square) (promotion : Option Promotion)
+    → SpellsPieceMove s k file rank to promotion → is_form (Man k file rank to promotion) ≡ true → BareRead s (Man k file rank to promotion)
+piece_move_read s k file rank to promotion h g =
     let hints : (below_eight file && below_eight rank) ≡ true = first_of_two (below_eight file && below_eight rank) (on_board to) g in
     let here : on_board to ≡ true = second_of_two (below_eight file && below_eight rank) (on_board to) g in
     let l : List ℕ = h.letters in
@@ -286,14 +286,14 @@ man_read s k file rank to promotion h g =
     let before : before_target d ≡ b = ap (λ u. before_capture u) t.before ∙ x in
     let kind : kind_of_text (before_file (before_rank b)) ≡ Some k = ap (λ u. kind_of_text (before_file u)) r.before ∙ (ap (λ u. kind_of_text u) f.before ∙ letters.named) in
     let file_is : file_at_end (before_rank b) ≡ file = ap (λ u. file_at_end u) r.before ∙ f.told in
-    let man : man_of (d ++ h.promoted) ≡ Some (Man k file rank to promotion) =
-    ap₂ (λ u q. man_at u q) p.before p.told
-    ∙ (ap₂ (λ u o. man_before u o promotion) before t.told
-    ∙ (ap (λ o. man_if o (file_at_end (before_rank b)) (rank_at_end b) (Some to) promotion) kind
-    ∙ ap₂ (λ o q. man_if (Some k) o q (Some to) promotion) file_is r.told)) in
+    let piece_move : piece_move_of (d ++ h.promoted) ≡ Some (Man k file rank to promotion) =
+    ap₂ (λ u q. piece_move_at u q) p.before p.told
+    ∙ (ap₂ (λ u o. piece_move_before u o promotion) before t.told
+    ∙ (ap (λ o. piece_move_if o (file_at_end (before_rank b)) (rank_at_end b) (Some to) promotion) kind
+    ∙ ap₂ (λ o q. piece_move_if (Some k) o q (Some to) promotion) file_is r.told)) in
     let bare : BareRead (d ++ h.promoted) (Man k file rank to promotion) =
     record {
-      told = ap (λ o. castle_or o (man_of (d ++ h.promoted))) (no_castle (d ++ h.promoted) p.ends) ∙ man;
+      told = ap (λ o. castle_or o (piece_move_of (d ++ h.promoted))) (no_castle (d ++ h.promoted) p.ends) ∙ piece_move;
       whole = no_mark_end (d ++ h.promoted) p.ends.no_mark;
     } in
     subst (λ u. BareRead u (Man k file rank to promotion)) (sym h.joined) bare
@@ -312,7 +312,7 @@ castle_read s true h =
 
 bare_read : (s : List ℕ) (f : Form) → SpellsBare s f → is_form f ≡ true → BareRead s f
 bare_read s (Castle long) h g = castle_read s long h
-bare_read s (Man k file rank to promotion) h g = man_read s k file rank to promotion h g
+bare_read s (Man k file rank to promotion) h g = piece_move_read s k file rank to promotion h g
 
 pub form_read : (s : List ℕ) (f : Form) → Spells s f → is_form f ≡ true → form_of s ≡ Some f
 form_read s f h g =

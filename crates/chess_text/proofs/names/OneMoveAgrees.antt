@@ -20,14 +20,14 @@ use Rattle.chess_rules.specs.Step.{own, captured_pawn, crossed, pawn_rank, doubl
 use Rattle.chess_rules.specs.Legal.{is_legal}
 use Rattle.chess_rules.specs.Laws.{OneKing}
 use Rattle.chess_text.specs.declared.form.Form.TheVariants.{Man}
-use Rattle.chess_text.specs.Reads.{hints_fit, same_promotion, is_castling, describes, agrees}
+use Rattle.chess_text.specs.MoveOfForm.{hints_fit, same_promotion, is_castling, describes, agrees}
 use Rattle.chess_text.specs.San.{from_square, is_rival, rivals, is_capture, on_file, on_rank}
 use Rattle.chess_text.proofs.forms.CastlingMoves.{stepped, squares_same}
 use Rattle.chess_text.proofs.forms.CastlingForms.{castles_ends}
 use Rattle.chess_text.proofs.forms.AgreeingAreFound.{in_squares, any_contained, promotions_same, move_of}
 use Rattle.chess_text.proofs.forms.PawnWays.{PawnWay, takes, passes, advances, doubles, pawn_way, pawn_takes, gap_apart}
 use Rattle.chess_text.proofs.names.RivalsAreCandidates.{any-filter}
-use Rattle.chess_text.proofs.names.WrittenToForm.{file_by, rank_by, officer_form, king_form_by, pawn_form_by, written, unpromoted, itself}
+use Rattle.chess_text.proofs.names.WrittenToForm.{file_by, rank_by, disambiguated_form, king_form_by, pawn_form_by, written, unpromoted, itself}
 
 -- a move is its squares and its promotion
 same_move : (n m : Move) → n.from ≡ m.from → n.to ≡ m.to → n.promotion ≡ m.promotion → n ≡ m
@@ -99,8 +99,8 @@ told_away s t true true true fits apart a b c =
     let both = and_parts (s.file == t.file) (s.rank == t.rank) fits in
     false≢true (sym apart ∙ and_from (t.file == s.file) (t.rank == s.rank) (turn s.file t.file both.0) (turn s.rank t.rank both.1))
 
-officer_alone : (p : Parts) (k : Kind) (m n : Move) → is_legal p m ≡ true → is_legal p n ≡ true → own p k m.from ≡ true → same_kind k Pawn ≡ false → describes p (officer_form k p m) n ≡ true → n ≡ m
-officer_alone p k m n h g stands officer d = by_test (same_square n.from m.from) refl
+disambiguated_alone : (p : Parts) (k : Kind) (m n : Move) → is_legal p m ≡ true → is_legal p n ≡ true → own p k m.from ≡ true → same_kind k Pawn ≡ false → describes p (disambiguated_form k p m) n ≡ true → n ≡ m
+disambiguated_alone p k m n h g stands may_have_rivals d = by_test (same_square n.from m.from) refl
   where
     any : Bool
     any = list_any (λ r. true) (rivals p k m)
@@ -115,7 +115,7 @@ officer_alone p k m n h g stands officer d = by_test (same_square n.from m.from)
     s = said p k (file_by m.from any file rank) (rank_by m.from any file rank) m.to None n d
 
     named : n.promotion ≡ m.promotion
-    named = s.named ∙ sym (unpromoted p m k h stands officer)
+    named = s.named ∙ sym (unpromoted p m k h stands may_have_rivals)
 
     by_test : (b : Bool) → same_square n.from m.from ≡ b → n ≡ m
     by_test true e = same_move n m (squares_same n.from m.from e) s.there named
@@ -247,8 +247,8 @@ alone one p k m n position h stands a = by_kind k stands (and_parts (is_legal p 
   where
     by_kind : (k : Kind) → own p k m.from ≡ true → (is_legal p n ≡ true) × (describes p (written k p m) n ≡ true) → n ≡ m
     by_kind King s b = king_alone one p m n position h b.0 s b.1
-    by_kind Queen s b = officer_alone p Queen m n h b.0 s refl b.1
-    by_kind Rook s b = officer_alone p Rook m n h b.0 s refl b.1
-    by_kind Bishop s b = officer_alone p Bishop m n h b.0 s refl b.1
-    by_kind Knight s b = officer_alone p Knight m n h b.0 s refl b.1
+    by_kind Queen s b = disambiguated_alone p Queen m n h b.0 s refl b.1
+    by_kind Rook s b = disambiguated_alone p Rook m n h b.0 s refl b.1
+    by_kind Bishop s b = disambiguated_alone p Bishop m n h b.0 s refl b.1
+    by_kind Knight s b = disambiguated_alone p Knight m n h b.0 s refl b.1
     by_kind Pawn s b = pawn_alone p m n h b.0 s b.1

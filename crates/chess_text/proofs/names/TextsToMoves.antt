@@ -17,14 +17,14 @@ use Rattle.chess_text.specs.declared.form.Form.{Form}
 use Rattle.chess_text.specs.declared.form.Form.TheVariants.{Man}
 use Rattle.chess_text.specs.Letter.{letter, file_letter, rank_digit, square_text}
 use Rattle.chess_text.specs.Form.{Spells, is_form, below_eight, hint_text}
-use Rattle.chess_text.specs.Reads.{hints_fit, agrees, describes}
+use Rattle.chess_text.specs.MoveOfForm.{hints_fit, agrees, describes}
 use Rattle.chess_text.specs.San.{is_capture, capture_text, from_square, is_rival, rivals, on_file, on_rank, disambiguation_by, has_rivals, mark, san}
 use Rattle.chess_text.specs.Laws.{Names, SingleReading, disambiguations, text_with, ShorterIsAmbiguous}
 use Rattle.chess_text.proofs.forms.CastlingMoves.{stepped}
 use Rattle.chess_text.proofs.forms.SpellingToForm.{form_read}
 use Rattle.chess_text.proofs.forms.PieceForms.{same_square-refl}
 use Rattle.chess_text.proofs.names.RivalsAreCandidates.{any-filter}
-use Rattle.chess_text.proofs.names.WrittenToForm.{written, Moved, moved, san_spelled, good_form, written_agrees, capture_fits, own_letter, marks_alone, unpromoted, no_castling, man_described, itself}
+use Rattle.chess_text.proofs.names.WrittenToForm.{written, Moved, moved, san_spelled, good_form, written_agrees, capture_fits, own_letter, marks_alone, unpromoted, no_castling, piece_move_described, itself}
 use Rattle.chess_text.proofs.names.OneMoveAgrees.{turn, alone}
 
 same_some : {A : Type 0} (x y : A) → Some x ≡ Some y → x ≡ y
@@ -74,7 +74,7 @@ some_rival p k m test h = by_place (Any-from_list_any (λ s. (own p k s && is_ri
         record { on = s; stands = first.0; other = not_true (same_square s m.from) rival.0; goes = rival.1; passes = both.1 }
 
 -- the text with such hints names each move that fits them
-module _ (p : Parts) (k : Kind) (m : Move) (h : is_legal p m ≡ true) (stands : own p k m.from ≡ true) (officer : has_rivals k ≡ true)
+module _ (p : Parts) (k : Kind) (m : Move) (h : is_legal p m ≡ true) (stands : own p k m.from ≡ true) (may_have_rivals : has_rivals k ≡ true)
     (file rank : Option ℕ) (apart : List ℕ) (joined : (letter k ∷ []) ++ apart ≡ ((letter k ∷ []) ++ hint_text file_letter file) ++ hint_text rank_digit rank)
     (below : (below_eight file && below_eight rank) ≡ true) where
   spelled : Spells (text_with p k m apart) (Man k file rank m.to None)
@@ -88,7 +88,7 @@ module _ (p : Parts) (k : Kind) (m : Move) (h : is_legal p m ≡ true) (stands :
           capture = capture_text p m;
           promoted = [];
           joined = ap (λ (s : List ℕ). (s ++ capture_text p m) ++ square_text m.to) joined ∙ sym (append-nil _);
-          letters_fit = own_letter k officer;
+          letters_fit = own_letter k may_have_rivals;
           capture_fits = capture_fits (is_capture p m);
           promoted_fits = refl;
         };
@@ -104,7 +104,7 @@ module _ (p : Parts) (k : Kind) (m : Move) (h : is_legal p m ≡ true) (stands :
     spelled,
     good,
     and_from (is_legal p (from_square m s)) (describes p (Man k file rank m.to None) (from_square m s)) goes
-        (man_described p (from_square m s) k file rank None own_s hints (unpromoted p m k h stands (no_king k officer).1) (no_castling p (from_square m s) k own_s (no_king k officer).0)),
+        (piece_move_described p (from_square m s) k file rank None own_s hints (unpromoted p m k h stands (no_king k may_have_rivals).1) (no_castling p (from_square m s) k own_s (no_king k may_have_rivals).0)),
   )
 
   two_named : hints_fit file rank m.from ≡ true → Rival p k m (λ s. hints_fit file rank s)
@@ -140,7 +140,7 @@ passing : (p : Parts) (k : Kind) (m : Move) (test other_test : Square → Bool) 
 passing p k m test other_test h r = record { on = r.on; stands = r.stands; other = r.other; goes = r.goes; passes = h r.on r.passes }
 
 pub less : ShorterIsAmbiguous
-less p k m i j h stands officer low high told =
+less p k m i j h stands may_have_rivals low high told =
     by_step i low
     (flags m.from (list_any (λ r. true) (rivals p k m)) (on_file m.from (rivals p k m)) (on_rank m.from (rivals p k m)) j (ltb-true m.from.rank 8 begins.1) high told)
   where
@@ -150,14 +150,14 @@ less p k m i j h stands officer low high told =
     by_step : (i : ℕ) → i < j → Flags j (list_any (λ r. true) (rivals p k m)) (on_file m.from (rivals p k m)) (on_rank m.from (rivals p k m))
         → Names p (text_with p k m (slice_index_or (disambiguations m.from) i [])) m
         × ((n : Move) × (n ≢ m) × Names p (text_with p k m (slice_index_or (disambiguations m.from) i [])) n)
-    by_step zero low f = two_named p k m h stands officer None None [] refl refl refl (some_rival p k m (λ s. true) (f.any_is low))
+    by_step zero low f = two_named p k m h stands may_have_rivals None None [] refl refl refl (some_rival p k m (λ s. true) (f.any_is low))
     by_step (suc zero) low f =
-        two_named p k m h stands officer (Some m.from.file) None (file_letter m.from.file ∷ []) refl (and_from (nat_lt m.from.file 8) true begins.0 refl)
+        two_named p k m h stands may_have_rivals (Some m.from.file) None (file_letter m.from.file ∷ []) refl (and_from (nat_lt m.from.file 8) true begins.0 refl)
         (and_from (m.from.file == m.from.file) true (itself m.from.file) refl)
         (passing p k m (λ s. s.file == m.from.file) (λ s. hints_fit (Some m.from.file) None s) (λ s e. and_from (m.from.file == s.file) true (turn s.file m.from.file e) refl)
         (some_rival p k m (λ s. s.file == m.from.file) (f.file_is low)))
     by_step (suc (suc zero)) low f =
-        two_named p k m h stands officer None (Some m.from.rank) (rank_digit m.from.rank ∷ []) refl begins.1 (itself m.from.rank)
+        two_named p k m h stands may_have_rivals None (Some m.from.rank) (rank_digit m.from.rank ∷ []) refl begins.1 (itself m.from.rank)
         (passing p k m (λ s. s.rank == m.from.rank) (λ s. hints_fit None (Some m.from.rank) s) (λ s e. turn s.rank m.from.rank e)
         (some_rival p k m (λ s. s.rank == m.from.rank) (f.rank_is low)))
     by_step (suc (suc (suc i))) low f = absurd (omega (arith, low, high))

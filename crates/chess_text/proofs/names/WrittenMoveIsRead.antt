@@ -15,12 +15,12 @@ use Rattle.chess_rules.specs.Laws.{OneKing}
 use Rattle.chess_rules.specs.Legal.{legal, is_legal, is_mate, is_check}
 use Rattle.chess_rules.specs.Square.{Square, on_board}
 use Rattle.chess_rules.specs.Step.{castles_short, castles_long}
-use Rattle.chess_text.specs.Reads.{reads}
+use Rattle.chess_text.specs.MoveOfForm.{move_of_form}
 use Rattle.chess_text.specs.Field.{is_digit}
 use Rattle.chess_text.specs.Letter.{letter, file_letter, rank_digit, square_text}
-use Rattle.chess_text.specs.San.{disambiguation_by, disambiguation, rivals, on_file, on_rank, is_capture, capture_if, capture_text, pawn_capture, promotion_text, castling_text, king_text, officer_text, kind_text, piece_text, mark, san}
+use Rattle.chess_text.specs.San.{disambiguation_by, disambiguation, rivals, on_file, on_rank, is_capture, capture_if, capture_text, pawn_capture, promotion_text, castling_text, king_text, disambiguated_text, kind_text, piece_text, mark, san}
 use Rattle.chess_text.specs.WrittenMove.{is_letter, is_move_byte, begins_with_letter, is_marker, IsMoveSymbol, WrittenMoveIsSymbol, WrittenMoveIsRead}
-use Rattle.chess_text.proofs.forms.AgreeingAreFound.{reads_the_one}
+use Rattle.chess_text.proofs.forms.AgreeingAreFound.{the_one_move_is_read}
 use Rattle.chess_text.proofs.forms.CastlingMoves.{stepped}
 use Rattle.chess_text.proofs.forms.SpellingToForm.{form_read}
 use Rattle.chess_text.proofs.names.TextsToMoves.{single}
@@ -167,7 +167,7 @@ record Unmarked (s : List ℕ) : Type 0 where
 
 -- of a queen, a rook, a bishop or a knight
 piece_symbol : (k : Kind) (p : Parts) (m : Move) → IsOnBoard m.from → IsOnBoard m.to
-    → Unmarked (officer_text k p m)
+    → Unmarked (disambiguated_text k p m)
 piece_symbol k p m from to =
     let others = rivals p k m in
     let any : Bool = list_any (λ r. true) others in
@@ -315,6 +315,6 @@ written_move_is_read one p q m position next =
     let names = single one p m position legal_here in
     let form = names.0.0 in
     let read = form_read (san p m) form names.0.1 names.0.2 in
-    ap (option_map (reads p)) read
-    ∙ ap (λ r. Some r) ((reads_the_one p form (record { mv = m; next = q })).1
+    ap (option_map (move_of_form p)) read
+    ∙ ap (λ r. Some r) ((the_one_move_is_read p form (record { mv = m; next = q })).1
     (names.0.3, next, λ n agreed. names.1 n (form, names.0.1, names.0.2, agreed)))

@@ -19,8 +19,8 @@ use Rattle.chess_text.specs.declared.form.Form.{Form}
 use Rattle.chess_text.specs.declared.form.Form.TheVariants.{Castle, Man}
 use Rattle.chess_text.specs.Letter.{letter, file_letter, rank_digit, square_text}
 use Rattle.chess_text.specs.Form.{SpellsBare, Spells, is_among, letter_texts, hint_text, capture_texts, promotion_texts, is_mark, below_eight, is_form}
-use Rattle.chess_text.specs.Reads.{hints_fit, same_promotion, is_castling, describes, agrees}
-use Rattle.chess_text.specs.San.{is_capture, capture_if, capture_text, pawn_capture, promotion_text, castling_text, king_text, officer_text, kind_text, piece_text, mark, san, disambiguation_by, rivals, on_file, on_rank, has_rivals}
+use Rattle.chess_text.specs.MoveOfForm.{hints_fit, same_promotion, is_castling, describes, agrees}
+use Rattle.chess_text.specs.San.{is_capture, capture_if, capture_text, pawn_capture, promotion_text, castling_text, king_text, disambiguated_text, kind_text, piece_text, mark, san, disambiguation_by, rivals, on_file, on_rank, has_rivals}
 use Rattle.chess_text.proofs.forms.CastlingMoves.{stepped, castling_goes_far}
 use Rattle.chess_text.proofs.forms.CastlingForms.{castles_ends}
 use Rattle.chess_text.proofs.forms.PieceForms.{same_square-refl, same_promotion-refl}
@@ -33,9 +33,9 @@ file_by s any file rank = if not any then None else if not file then Some s.file
 abbrev pub rank_by : Square → Bool → Bool → Bool → Option ℕ
 rank_by s any file rank = if not any then None else if not file then None else Some s.rank
 
--- the form of an officer's move
-abbrev pub officer_form : Kind → Parts → Move → Form
-officer_form k p m =
+-- the form of a move of a queen, a rook, a bishop or a knight
+abbrev pub disambiguated_form : Kind → Parts → Move → Form
+disambiguated_form k p m =
     Man k (file_by m.from (list_any (λ r. true) (rivals p k m)) (on_file m.from (rivals p k m)) (on_rank m.from (rivals p k m)))
     (rank_by m.from (list_any (λ r. true) (rivals p k m)) (on_file m.from (rivals p k m)) (on_rank m.from (rivals p k m))) m.to None
 
@@ -48,7 +48,7 @@ pawn_form_by takes m = Man Pawn (if takes then Some m.from.file else None) None 
 abbrev pub written : Kind → Parts → Move → Form
 written King p m = king_form_by (castles_short p m) (castles_long p m) m
 written Pawn p m = pawn_form_by (is_capture p m) m
-written k p m = officer_form k p m
+written k p m = disambiguated_form k p m
 
 -- It is spelled.
 
@@ -71,8 +71,8 @@ own_letter Bishop h = refl
 own_letter Knight h = refl
 own_letter Pawn h = absurd (false≢true h)
 
-officer_spelled : (k : Kind) (p : Parts) (m : Move) → has_rivals k ≡ true → SpellsBare (officer_text k p m) (officer_form k p m)
-officer_spelled k p m h =
+disambiguated_spelled : (k : Kind) (p : Parts) (m : Move) → has_rivals k ≡ true → SpellsBare (disambiguated_text k p m) (disambiguated_form k p m)
+disambiguated_spelled k p m h =
     record {
       letters = letter k ∷ [];
       capture = capture_text p m;
@@ -108,10 +108,10 @@ pawn_spelled false m = record { letters = []; capture = []; promoted = promotion
 
 kind_spelled : (k : Kind) (p : Parts) (m : Move) → SpellsBare (kind_text k p m) (written k p m)
 kind_spelled King p m = king_spelled p m
-kind_spelled Queen p m = officer_spelled Queen p m refl
-kind_spelled Rook p m = officer_spelled Rook p m refl
-kind_spelled Bishop p m = officer_spelled Bishop p m refl
-kind_spelled Knight p m = officer_spelled Knight p m refl
+kind_spelled Queen p m = disambiguated_spelled Queen p m refl
+kind_spelled Rook p m = disambiguated_spelled Rook p m refl
+kind_spelled Bishop p m = disambiguated_spelled Bishop p m refl
+kind_spelled Knight p m = disambiguated_spelled Knight p m refl
 kind_spelled Pawn p m = pawn_spelled (is_capture p m) m
 
 pub marks_alone : (o : Option Parts) → list_all is_mark (mark o) ≡ true
@@ -163,8 +163,8 @@ pawn_good : (b : Bool) (m : Move) → on_board m.from ≡ true → on_board m.to
 pawn_good true m h g = and_from (nat_lt m.from.file 8 && true) (on_board m.to) (and_from (nat_lt m.from.file 8) true (and_parts (nat_lt m.from.file 8) (nat_lt m.from.rank 8) h).0 refl) g
 pawn_good false m h g = g
 
-officer_good : (k : Kind) (p : Parts) (m : Move) → on_board m.from ≡ true → on_board m.to ≡ true → is_form (officer_form k p m) ≡ true
-officer_good k p m h g =
+disambiguated_good : (k : Kind) (p : Parts) (m : Move) → on_board m.from ≡ true → on_board m.to ≡ true → is_form (disambiguated_form k p m) ≡ true
+disambiguated_good k p m h g =
     let any : Bool = list_any (λ r. true) (rivals p k m) in
     let file : Bool = on_file m.from (rivals p k m) in
     let rank : Bool = on_rank m.from (rivals p k m) in
@@ -175,10 +175,10 @@ good_form k p m h = by_kind k (and_parts (on_board m.from) (on_board m.to) (step
   where
     by_kind : (k : Kind) → (on_board m.from ≡ true) × (on_board m.to ≡ true) → is_form (written k p m) ≡ true
     by_kind King b = king_good (castles_short p m) (castles_long p m) m b.1
-    by_kind Queen b = officer_good Queen p m b.0 b.1
-    by_kind Rook b = officer_good Rook p m b.0 b.1
-    by_kind Bishop b = officer_good Bishop p m b.0 b.1
-    by_kind Knight b = officer_good Knight p m b.0 b.1
+    by_kind Queen b = disambiguated_good Queen p m b.0 b.1
+    by_kind Rook b = disambiguated_good Rook p m b.0 b.1
+    by_kind Bishop b = disambiguated_good Bishop p m b.0 b.1
+    by_kind Knight b = disambiguated_good Knight p m b.0 b.1
     by_kind Pawn b = pawn_good (is_capture p m) m b.0 b.1
 
 -- The move agrees with it.
@@ -221,9 +221,9 @@ unpromoted p m k h stands apart =
     by_piece piece =
         (and_parts (has_colour p.side (at p.board m.from) && not (own p Pawn m.from)) (is_none m.promotion) (and_parts ((has_colour p.side (at p.board m.from) && not (own p Pawn m.from)) && is_none m.promotion) (attacks p.board m.from m.to && not (has_colour p.side (at p.board m.to))) piece).0).1
 
-pub man_described : (p : Parts) (m : Move) (k : Kind) (file rank : Option ℕ) (promotion : Option Promotion) → own p k m.from ≡ true → hints_fit file rank m.from ≡ true → m.promotion ≡ promotion → is_castling p m ≡ false
+pub piece_move_described : (p : Parts) (m : Move) (k : Kind) (file rank : Option ℕ) (promotion : Option Promotion) → own p k m.from ≡ true → hints_fit file rank m.from ≡ true → m.promotion ≡ promotion → is_castling p m ≡ false
     → describes p (Man k file rank m.to promotion) m ≡ true
-man_described p m k file rank promotion stands hints becomes plain =
+piece_move_described p m k file rank promotion stands hints becomes plain =
     and_from (own p k m.from && hints_fit file rank m.from) ((same_square m.to m.to && same_promotion m.promotion promotion) && not (is_castling p m))
     (and_from (own p k m.from) (hints_fit file rank m.from) stands hints)
     (and_from (same_square m.to m.to && same_promotion m.promotion promotion) (not (is_castling p m))
@@ -245,26 +245,26 @@ king_described p m h stands = by_wing (castles_short p m) (castles_long p m) ref
     by_wing : (a b : Bool) → castles_short p m ≡ a → castles_long p m ≡ b → describes p (king_form_by a b m) m ≡ true
     by_wing true b e g = e
     by_wing false true e g = g
-    by_wing false false e g = man_described p m King None None None stands refl (unpromoted p m King h stands refl) (ap₂ (λ a b. a || b) e g)
+    by_wing false false e g = piece_move_described p m King None None None stands refl (unpromoted p m King h stands refl) (ap₂ (λ a b. a || b) e g)
 
 pawn_described : (p : Parts) (m : Move) (takes : Bool) → own p Pawn m.from ≡ true → describes p (pawn_form_by takes m) m ≡ true
-pawn_described p m true stands = man_described p m Pawn (Some m.from.file) None m.promotion stands (and_from (m.from.file == m.from.file) true (itself m.from.file) refl) refl (no_castling p m Pawn stands refl)
-pawn_described p m false stands = man_described p m Pawn None None m.promotion stands refl refl (no_castling p m Pawn stands refl)
+pawn_described p m true stands = piece_move_described p m Pawn (Some m.from.file) None m.promotion stands (and_from (m.from.file == m.from.file) true (itself m.from.file) refl) refl (no_castling p m Pawn stands refl)
+pawn_described p m false stands = piece_move_described p m Pawn None None m.promotion stands refl refl (no_castling p m Pawn stands refl)
 
-officer_described : (p : Parts) (m : Move) (k : Kind) → is_legal p m ≡ true → own p k m.from ≡ true → same_kind k Pawn ≡ false → same_kind King k ≡ false → describes p (officer_form k p m) m ≡ true
-officer_described p m k h stands a b =
+disambiguated_described : (p : Parts) (m : Move) (k : Kind) → is_legal p m ≡ true → own p k m.from ≡ true → same_kind k Pawn ≡ false → same_kind King k ≡ false → describes p (disambiguated_form k p m) m ≡ true
+disambiguated_described p m k h stands a b =
     let any : Bool = list_any (λ r. true) (rivals p k m) in
     let file : Bool = on_file m.from (rivals p k m) in
     let rank : Bool = on_rank m.from (rivals p k m) in
-    man_described p m k (file_by m.from any file rank) (rank_by m.from any file rank) None stands (own_hints m.from any file rank) (unpromoted p m k h stands a) (no_castling p m k stands b)
+    piece_move_described p m k (file_by m.from any file rank) (rank_by m.from any file rank) None stands (own_hints m.from any file rank) (unpromoted p m k h stands a) (no_castling p m k stands b)
 
 pub written_agrees : (k : Kind) (p : Parts) (m : Move) → is_legal p m ≡ true → own p k m.from ≡ true → agrees p (written k p m) m ≡ true
 written_agrees k p m h stands = and_from (is_legal p m) (describes p (written k p m) m) h (by_kind k stands)
   where
     by_kind : (k : Kind) → own p k m.from ≡ true → describes p (written k p m) m ≡ true
     by_kind King s = king_described p m h s
-    by_kind Queen s = officer_described p m Queen h s refl refl
-    by_kind Rook s = officer_described p m Rook h s refl refl
-    by_kind Bishop s = officer_described p m Bishop h s refl refl
-    by_kind Knight s = officer_described p m Knight h s refl refl
+    by_kind Queen s = disambiguated_described p m Queen h s refl refl
+    by_kind Rook s = disambiguated_described p m Rook h s refl refl
+    by_kind Bishop s = disambiguated_described p m Bishop h s refl refl
+    by_kind Knight s = disambiguated_described p m Knight h s refl refl
     by_kind Pawn s = pawn_described p m (is_capture p m) s

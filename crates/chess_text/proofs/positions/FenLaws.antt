@@ -15,7 +15,7 @@ use Rattle.chess_text.specs.declared.fen.FenFault.{FenFault}
 use Rattle.chess_text.specs.Placement.{placement_of}
 use Rattle.chess_text.specs.Field.{side_of, rights_of, target_of, is_target, number_of}
 use Rattle.chess_text.specs.Fen.{field, at_field, parts_or_fault, if_position}
-use Rattle.chess_text.specs.Laws.{ReadsFen, FenOnce, FaultIsLowest, CanonicalSpells, CanonicalFits, CanonicalIsShortest, FieldsAreSpellings}
+use Rattle.chess_text.specs.Laws.{ReadingIsSpelling, FenOnce, FaultIsLowest, CanonicalSpells, CanonicalFits, CanonicalIsShortest, FieldsAreSpellings}
 use Rattle.chess_text.proofs.positions.SixFieldsJoined.{length-fen_text}
 use Rattle.chess_text.proofs.positions.SpellingToReading.{spelled_is_read, board_read, side_read, rights_read, target_read, number_read}
 use Rattle.chess_text.proofs.positions.ReadingToSpelling.{read_is_spelled, board_spelled, side_spelled, rights_spelled, target_spelled, number_spelled, same_some}
@@ -23,8 +23,8 @@ use Rattle.chess_text.proofs.positions.FieldsOfText.{first_of_two, second_of_two
 use Rattle.chess_text.proofs.positions.CanonicalIsShortest.{shortest}
 use Rattle.chess_text.proofs.positions.CanonicalSpells.{canonical_spells, half_low, full_low}
 
-pub reads : ReadsFen
-reads s p = (spelled_is_read s p, read_is_spelled s p)
+pub reading_is_spelling : ReadingIsSpelling
+reading_is_spelling s p = (spelled_is_read s p, read_is_spelled s p)
 
 pub once : FenOnce
 once s p q f g = let same : Ok p ≡ Ok q = sym (spelled_is_read s p f) ∙ spelled_is_read s q g in cc

@@ -12,7 +12,7 @@ use Rattle.chess_text.specs.declared.resolution.Played.{Played}
 use Rattle.chess_text.specs.declared.resolution.SanFault.{SanFault}
 use Rattle.chess_text.specs.declared.resolution.SanFault.TheVariants.{NoMove, Ambiguous}
 use Rattle.chess_text.specs.Form.{form_of}
-use Rattle.chess_text.specs.Reads.{agreeing, reads}
+use Rattle.chess_text.specs.MoveOfForm.{agreeing, move_of_form}
 use Rattle.chess_text.specs.San.{san}
 use Rattle.chess_text.specs.WrittenMove.{begins_with_letter, IsMoveSymbol, WrittenMoveIsSymbol, WrittenMoveIsRead}
 use Rattle.chess_text.proofs.rows.TextLawRows.{knights, queens, rooks, promoting, kings, g1e2, c3e2, h4e1}
@@ -93,7 +93,7 @@ fails_unless_legal law =
 -- ---- read back
 
 abbrev as_read : Parts → List ℕ → Option (Result Played SanFault)
-as_read p s = option_map (reads p) (form_of s)
+as_read p s = option_map (move_of_form p) (form_of s)
 
 abbrev played : Move → Parts → Option (Result Played SanFault)
 played m q = Some (Ok (record { mv = m; next = q }))

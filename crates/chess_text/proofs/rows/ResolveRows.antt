@@ -12,7 +12,7 @@ use Rattle.chess_text.specs.declared.resolution.Played.{Played}
 use Rattle.chess_text.specs.declared.resolution.SanFault.{SanFault}
 use Rattle.chess_text.specs.declared.resolution.SanFault.TheVariants.{NoMove, Ambiguous}
 use Rattle.chess_text.specs.Fen.{read}
-use Rattle.chess_text.specs.Reads.{agreeing, reads, pair_count}
+use Rattle.chess_text.specs.MoveOfForm.{agreeing, form_pairs, move_of_form}
 
 -- the origin of what is read, the fault, or a text that is no position
 data Answer : Type 0 where
@@ -26,11 +26,11 @@ answer_of (Err f) = fault f
 
 answer : Result Parts FenFault → Form → Answer
 unfolding answer_of
-answer (Ok p) f = answer_of (reads p f)
+answer (Ok p) f = answer_of (move_of_form p f)
 answer (Err f) form = no_position
 
 count : Result Parts FenFault → Form → ℕ
-count (Ok p) f = pair_count p f
+count (Ok p) f = form_pairs p f
 count (Err e) f = 0
 
 abbrev queens : List ℕ

@@ -19,7 +19,7 @@ use Rattle.chess_text.specs.declared.form.Form.{Form}
 use Rattle.chess_text.specs.declared.form.Form.TheVariants.{Man}
 use Rattle.chess_text.specs.Fen.{Fen, parts_read, fen_text}
 use Rattle.chess_text.specs.Form.{Spells, form_of}
-use Rattle.chess_text.specs.Reads.{agrees}
+use Rattle.chess_text.specs.MoveOfForm.{agrees}
 use Rattle.chess_text.specs.San.{rivals, disambiguation, has_rivals, san}
 use Rattle.chess_text.specs.Laws.{CanonicalIsShortest, Names, SingleReading, ShorterIsAmbiguous, disambiguations, text_with}
 use Rattle.chess_text.proofs.forms.SpellingToForm.{form_read}
@@ -318,8 +318,8 @@ pawns = drawn (codes "3r4/2P1P2k/8/8/8/8/8/K7 w - - 0 1")
 abbrev c7d8 : Move
 c7d8 = becoming (codes "c7") (codes "d8") (Some become.Queen)
 
-pawn_is_no_officer : has_rivals Pawn ≡ false
-pawn_is_no_officer = refl
+no_rivals_of_pawns : has_rivals Pawn ≡ false
+no_rivals_of_pawns = refl
 
 pawn_is_legal : is_legal pawns c7d8 ≡ true
 unfolding squares

@@ -28,7 +28,7 @@ fn square(name: [u8; 2]) -> Square {
 }
 
 // A form of no castling, by the letters of what it tells; a dash for nothing.
-fn man(kind: Kind, hints: [u8; 2], to: [u8; 2], promotion: Option<Promotion>) -> Form {
+fn piece_move(kind: Kind, hints: [u8; 2], to: [u8; 2], promotion: Option<Promotion>) -> Form {
     let told = |byte: u8| (byte != b'-').then_some(line(byte));
     Form::Man {
         kind,
@@ -82,7 +82,7 @@ fn reads_moves_of_the_first_position(rt: HostRuntime) {
     names(
         &rt,
         FIRST,
-        man(Kind::Pawn, *b"--", *b"e4", None),
+        piece_move(Kind::Pawn, *b"--", *b"e4", None),
         *b"e2",
         after,
         3,
@@ -90,7 +90,7 @@ fn reads_moves_of_the_first_position(rt: HostRuntime) {
     fails(
         &rt,
         FIRST,
-        man(Kind::King, *b"--", *b"e2", None),
+        piece_move(Kind::King, *b"--", *b"e2", None),
         SanFault::NoMove,
         1,
         1,
@@ -98,7 +98,7 @@ fn reads_moves_of_the_first_position(rt: HostRuntime) {
     fails(
         &rt,
         FIRST,
-        man(Kind::Rook, *b"--", *b"e4", None),
+        piece_move(Kind::Rook, *b"--", *b"e4", None),
         SanFault::NoMove,
         0,
         0,
@@ -111,7 +111,7 @@ fn tells_queens_apart(rt: HostRuntime) {
     names(
         &rt,
         QUEENS,
-        man(Kind::Queen, *b"h4", *b"e1", None),
+        piece_move(Kind::Queen, *b"h4", *b"e1", None),
         *b"h4",
         after,
         3,
@@ -119,7 +119,7 @@ fn tells_queens_apart(rt: HostRuntime) {
     fails(
         &rt,
         QUEENS,
-        man(Kind::Queen, *b"--", *b"e1", None),
+        piece_move(Kind::Queen, *b"--", *b"e1", None),
         SanFault::Ambiguous,
         2,
         3,
@@ -127,7 +127,7 @@ fn tells_queens_apart(rt: HostRuntime) {
     fails(
         &rt,
         QUEENS,
-        man(Kind::Queen, *b"h-", *b"e1", None),
+        piece_move(Kind::Queen, *b"h-", *b"e1", None),
         SanFault::Ambiguous,
         2,
         3,
@@ -135,7 +135,7 @@ fn tells_queens_apart(rt: HostRuntime) {
     fails(
         &rt,
         QUEENS,
-        man(Kind::Queen, *b"-4", *b"e1", None),
+        piece_move(Kind::Queen, *b"-4", *b"e1", None),
         SanFault::Ambiguous,
         2,
         3,
@@ -143,7 +143,7 @@ fn tells_queens_apart(rt: HostRuntime) {
     fails(
         &rt,
         QUEENS,
-        man(Kind::Queen, *b"a4", *b"e1", None),
+        piece_move(Kind::Queen, *b"a4", *b"e1", None),
         SanFault::NoMove,
         3,
         3,
@@ -156,7 +156,7 @@ fn passes_over_a_pinned_rival(rt: HostRuntime) {
     names(
         &rt,
         PINNED,
-        man(Kind::Knight, *b"--", *b"e2", None),
+        piece_move(Kind::Knight, *b"--", *b"e2", None),
         *b"g1",
         after,
         2,
@@ -164,7 +164,7 @@ fn passes_over_a_pinned_rival(rt: HostRuntime) {
     fails(
         &rt,
         PINNED,
-        man(Kind::Knight, *b"c-", *b"e2", None),
+        piece_move(Kind::Knight, *b"c-", *b"e2", None),
         SanFault::NoMove,
         2,
         2,
@@ -219,7 +219,7 @@ fn reads_no_other_move_as_castling(rt: HostRuntime) {
     names(
         &rt,
         rook,
-        man(Kind::Rook, *b"--", *b"g1", None),
+        piece_move(Kind::Rook, *b"--", *b"g1", None),
         *b"e1",
         after,
         1,
@@ -232,7 +232,7 @@ fn reads_castling_as_no_move_of_the_king(rt: HostRuntime) {
     fails(
         &rt,
         ROOKS,
-        man(Kind::King, *b"--", *b"g1", None),
+        piece_move(Kind::King, *b"--", *b"g1", None),
         SanFault::NoMove,
         1,
         1,
@@ -240,7 +240,7 @@ fn reads_castling_as_no_move_of_the_king(rt: HostRuntime) {
     fails(
         &rt,
         ROOKS,
-        man(Kind::King, *b"e1", *b"c1", None),
+        piece_move(Kind::King, *b"e1", *b"c1", None),
         SanFault::NoMove,
         1,
         1,
@@ -248,7 +248,7 @@ fn reads_castling_as_no_move_of_the_king(rt: HostRuntime) {
     names(
         &rt,
         ROOKS,
-        man(Kind::King, *b"--", *b"f1", None),
+        piece_move(Kind::King, *b"--", *b"f1", None),
         *b"e1",
         after,
         1,
@@ -263,7 +263,7 @@ fn asks_for_the_promotion(rt: HostRuntime) {
     names(
         &rt,
         text,
-        man(Kind::Pawn, *b"--", *b"a8", queen),
+        piece_move(Kind::Pawn, *b"--", *b"a8", queen),
         *b"a7",
         after,
         1,
@@ -271,7 +271,7 @@ fn asks_for_the_promotion(rt: HostRuntime) {
     fails(
         &rt,
         text,
-        man(Kind::Pawn, *b"--", *b"a8", None),
+        piece_move(Kind::Pawn, *b"--", *b"a8", None),
         SanFault::NoMove,
         1,
         1,
@@ -279,7 +279,7 @@ fn asks_for_the_promotion(rt: HostRuntime) {
     fails(
         &rt,
         text,
-        man(Kind::King, *b"--", *b"a2", queen),
+        piece_move(Kind::King, *b"--", *b"a2", queen),
         SanFault::NoMove,
         1,
         1,
@@ -293,7 +293,7 @@ fn reads_en_passant(rt: HostRuntime) {
     names(
         &rt,
         text,
-        man(Kind::Pawn, *b"d-", *b"e3", None),
+        piece_move(Kind::Pawn, *b"d-", *b"e3", None),
         *b"d4",
         after,
         1,
@@ -302,7 +302,7 @@ fn reads_en_passant(rt: HostRuntime) {
     fails(
         &rt,
         rank,
-        man(Kind::Pawn, *b"e-", *b"d6", None),
+        piece_move(Kind::Pawn, *b"e-", *b"d6", None),
         SanFault::NoMove,
         1,
         1,

@@ -179,7 +179,7 @@ fn reads(rt: &impl Abort, text: &str, form: Form) {
     assert!(rt; read_form(text.as_bytes()) == Some(form), "{text}");
 }
 
-fn man(
+fn piece_move(
     kind: Kind,
     file: Option<u8>,
     rank: Option<u8>,
@@ -198,17 +198,17 @@ fn man(
 #[test]
 fn reads_forms(rt: HostRuntime) {
     let queen = Some(Promotion::Queen);
-    reads(&rt, "e4", man(Kind::Pawn, None, None, *b"e4", None));
-    reads(&rt, "Pe4", man(Kind::Pawn, None, None, *b"e4", None));
-    let knight = man(Kind::Knight, Some(6), Some(0), *b"f3", None);
+    reads(&rt, "e4", piece_move(Kind::Pawn, None, None, *b"e4", None));
+    reads(&rt, "Pe4", piece_move(Kind::Pawn, None, None, *b"e4", None));
+    let knight = piece_move(Kind::Knight, Some(6), Some(0), *b"f3", None);
     reads(&rt, "Ng1f3", knight);
-    let with_sign = man(Kind::Pawn, Some(4), None, *b"d8", queen);
+    let with_sign = piece_move(Kind::Pawn, Some(4), None, *b"d8", queen);
     reads(&rt, "exd8=Q+", with_sign);
-    let without = man(Kind::Pawn, Some(4), None, *b"d8", queen);
+    let without = piece_move(Kind::Pawn, Some(4), None, *b"d8", queen);
     reads(&rt, "ed8Q", without);
-    let rook = man(Kind::Rook, None, Some(0), *b"a3", None);
+    let rook = piece_move(Kind::Rook, None, Some(0), *b"a3", None);
     reads(&rt, "R1xa3##+", rook);
-    let pawn = man(Kind::Pawn, Some(4), Some(1), *b"e4", None);
+    let pawn = piece_move(Kind::Pawn, Some(4), Some(1), *b"e4", None);
     reads(&rt, "e2e4", pawn);
     reads(&rt, "0-0-0#", Form::Castle { long: true });
     reads(&rt, "O-O", Form::Castle { long: false });

@@ -5,7 +5,7 @@ abbrev pub invariant-loop-games : goal.invariant-loop-games
 invariant-loop-games g l =
     record {
       count : l.games.lexer.count ≤ 2 ^ 62;
-      going : l.games.is_finished ≡ false;
+      not_finished : l.games.is_finished ≡ false;
     }
 
 abbrev pub decreases-loop-games : goal.decreases-loop-games

@@ -7,7 +7,7 @@ invariant-loop-used g l =
     record {
       within : l.at ≤ length l.piece;
       count : l.games.lexer.count ≡ l.fn.games.lexer.count + l.at;
-      going : l.games.is_finished ≡ false;
+      not_finished : l.games.is_finished ≡ false;
     }
 
 abbrev pub decreases-loop-used : goal.decreases-loop-used

@@ -5,7 +5,7 @@ use Rattle.std.specs.Prelude.{codes}
 use Rattle.std.proofs.ByRecursion.{All-append, All-map}
 use Rattle.std.specs.List.{AllByRecursion}
 use Rattle.chess_rules.specs.Laws.{LeavesPosition}
-use Rattle.chess_text.specs.Laws.{ReadsTheOne, ReadsFen}
+use Rattle.chess_text.specs.Laws.{TheOneMoveIsRead, ReadingIsSpelling}
 use Rattle.chess_text.specs.WrittenMove.{WrittenMoveIsSymbol, WrittenMoveIsRead}
 use Rattle.pgn_layout.specs.Laws.{LinesOfKeepTokens}
 use Rattle.pgn_layout.specs.Lines.{lines_of, text_of as text_of_lines}
@@ -17,7 +17,7 @@ use Rattle.pgn_lexer.specs.TokensOf.{tokens_of}
 use Rattle.pgn_lexer.specs.Written.{written, AreEnded, IsReadable}
 use Rattle.pgn_game.specs.FaultTable.{marker_of}
 use Rattle.pgn_game.specs.Filled.{exported_pairs, filled}
-use Rattle.pgn_game.specs.FixedPoint.{HasRoom, AreExportable, TextSpells}
+use Rattle.pgn_game.specs.FixedPoint.{TagSectionFits, AreExportable, TextSpells}
 use Rattle.pgn_game.specs.Game.{Game}
 use Rattle.pgn_game.specs.Levels.{start_of, plies_of}
 use Rattle.pgn_game.specs.Pairs.{value_of}
@@ -62,7 +62,7 @@ section_pieces : (tags text : List Kind) (a b : List ℕ) → PiecesOf tags a �
 section_pieces tags text a b h k =
     with_feed (tags ++ text) ((a ++ 10 ∷ []) ++ b) (both_pieces tags text (a ++ 10 ∷ []) b (with_feed tags a h) k)
 
-module _ (one_read : ReadsTheOne) (leaves : LeavesPosition) (is_symbol : WrittenMoveIsSymbol) (is_read : WrittenMoveIsRead) (numbers : NumbersAreSymbols) (reads_fen : ReadsFen) (lines_keep : LinesOfKeepTokens) where
+module _ (one_read : TheOneMoveIsRead) (leaves : LeavesPosition) (is_symbol : WrittenMoveIsSymbol) (is_read : WrittenMoveIsRead) (numbers : NumbersAreSymbols) (reads_fen : ReadingIsSpelling) (lines_keep : LinesOfKeepTokens) where
   text_kept : (p : Profile) (g : Game) (h : SoundGame p g) → ExportedPairs p g → KeptText p.mode p (start_of g.pairs) h.text g.items
   text_kept p g h e =
       kept_text one_read leaves is_symbol is_read numbers p.mode p (start_of g.pairs) h.text g.items (start_is_position reads_fen p.mode g.pairs e.each) h.items h.sound_text
@@ -130,7 +130,7 @@ module _ (one_read : ReadsTheOne) (leaves : LeavesPosition) (is_symbol : Written
       let items = ap (λ first. tokens_out p.mode first (kept p.mode (start_of g.pairs) g.items)) (same_start p g e) ∙ k.again in
       cc (tags, items)
 
-  written_game : (p : Profile) (g : Game) → SoundGame p g → HasRoom p g → WrittenGame p g
+  written_game : (p : Profile) (g : Game) → SoundGame p g → TagSectionFits p g → WrittenGame p g
   written_game p g h room =
       let e = exported_of p g h room in
       let k = text_kept p g h e in
@@ -165,7 +165,7 @@ module _ (one_read : ReadsTheOne) (leaves : LeavesPosition) (is_symbol : Written
   }
 
   written_games : (p : Profile) (ks : List Kind) (gs : List Game) → SpellsGames p ks gs → AllByRecursion IsSoundKind ks → CommentsClose false ks
-      → AllByRecursion (HasRoom p) gs → WrittenGames p gs
+      → AllByRecursion (TagSectionFits p) gs → WrittenGames p gs
   written_games p _ _ (no_game ks are) sound closes room =
       record { kinds = []; spells = no_game [] refl; pieces = no_pieces; closes = tt; again = refl; plies = refl }
   written_games p _ _ (next_game ks ls g gs first rest) sound closes room =

@@ -7,7 +7,7 @@ use Rattle.chess_rules.specs.declared.position.Parts.{Parts}
 use Rattle.chess_rules.specs.Position.{is_position}
 use Rattle.chess_rules.specs.Square.{squares}
 use Rattle.chess_text.specs.declared.fen.FenFault.{FenFault}
-use Rattle.chess_text.specs.Laws.{ReadsFen}
+use Rattle.chess_text.specs.Laws.{ReadingIsSpelling}
 use Rattle.pgn_lexer.specs.Bytes.{starts_symbol, continues_symbol}
 use Rattle.pgn_lexer.specs.Lexes.{is_barred}
 use Rattle.pgn_lexer.specs.Sound.{begins_with, IsSymbol, IsData}
@@ -16,7 +16,7 @@ use Rattle.pgn_game.specs.declared.mode.Mode.TheVariants.{Full, Reduced}
 use Rattle.pgn_game.specs.Chess.{first_position, position_of}
 use Rattle.pgn_game.specs.FaultTable.{is_result, result_for}
 use Rattle.pgn_game.specs.Filled.{exported_pairs}
-use Rattle.pgn_game.specs.FixedPoint.{HasRoom}
+use Rattle.pgn_game.specs.FixedPoint.{TagSectionFits}
 use Rattle.pgn_game.specs.Game.{Game}
 use Rattle.pgn_game.specs.Levels.{start_of, start_by, position_or_first}
 use Rattle.pgn_game.specs.Pairs.{Pair, value_of}
@@ -95,7 +95,7 @@ first_is_position : IsTrue (is_position first_position)
 unfolding first_position squares
 first_is_position = refl
 
-module _ (reads_fen : ReadsFen) where
+module _ (reads_fen : ReadingIsSpelling) where
   fen_is_position : (text : List ℕ) (start : Parts) → position_of text ≡ Ok start → IsTrue (is_position start)
   unfolding position_of
   fen_is_position text start e = ((reads_fen text start).1 e).position
@@ -117,7 +117,7 @@ pub record ExportedPairs (p : Profile) (g : Game) : Type 0 where
   pub each : AllByRecursion (IsPair p.mode) g.pairs
   pub same : (n : List ℕ) → value_of (by_name (exported_pairs p.mode g)) n ≡ value_of (exported_pairs p.mode g) n
 
-pub exported_of : (p : Profile) (g : Game) → SoundGame p g → HasRoom p g → ExportedPairs p g
+pub exported_of : (p : Profile) (g : Game) → SoundGame p g → TagSectionFits p g → ExportedPairs p g
 exported_of p g h room =
     let order = subst InOrder (sym h.sorted) (by_name_order p h.given h.keeps) in
     let each = subst (AllByRecursion (IsPair p.mode)) (sym h.sorted) (all-all (IsPair p.mode) [] h.given tt h.keeps.each) in

@@ -12,7 +12,7 @@ use Rattle.chess_rules.specs.Board.{other}
 use Rattle.chess_rules.specs.Laws.{LeavesPosition}
 use Rattle.chess_rules.specs.Position.{is_position, position_fault, one_king, pawn_on_edge, target_fits}
 use Rattle.chess_text.specs.declared.resolution.Played.{Played}
-use Rattle.chess_text.specs.Laws.{ReadsTheOne}
+use Rattle.chess_text.specs.Laws.{TheOneMoveIsRead}
 use Rattle.chess_text.specs.WrittenMove.{is_letter, is_move_byte, begins_with_letter, IsMoveSymbol, WrittenMoveIsSymbol, WrittenMoveIsRead}
 use Rattle.pgn_lexer.specs.Bytes.{is_digit, starts_symbol, continues_symbol}
 use Rattle.pgn_lexer.specs.Laws.{NumbersAreSymbols}
@@ -89,7 +89,7 @@ as_symbol s h = let fits = h.fits in record { begins = begins s h.begins; bytes 
 no_score : (s : List ℕ) → IsMoveSymbol s → IsFalse (is_score s)
 no_score s h = (or_parts (is_score s) (bytes_eq s (codes "*")) h.no_marker).0
 
-module _ (one_read : ReadsTheOne) (leaves : LeavesPosition) (is_symbol : WrittenMoveIsSymbol) (is_read : WrittenMoveIsRead) (numbers : NumbersAreSymbols) where
+module _ (one_read : TheOneMoveIsRead) (leaves : LeavesPosition) (is_symbol : WrittenMoveIsSymbol) (is_read : WrittenMoveIsRead) (numbers : NumbersAreSymbols) where
   -- a move that is named leaves a position
   pub plays_on : (first : Parts) (trail : List Move) (s : List ℕ) (x : Played) → Names (replayed first trail) s x → ArePositions first trail → ArePositions first (x.mv ∷ trail)
   unfolding play

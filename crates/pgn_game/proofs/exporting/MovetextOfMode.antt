@@ -9,7 +9,7 @@ use Rattle.std.proofs.lemmas.List.Sums.{fold-append}
 use Rattle.chess_rules.specs.declared.position.Parts.{Parts}
 use Rattle.chess_rules.specs.Laws.{LeavesPosition}
 use Rattle.chess_rules.specs.Position.{is_position}
-use Rattle.chess_text.specs.Laws.{ReadsTheOne}
+use Rattle.chess_text.specs.Laws.{TheOneMoveIsRead}
 use Rattle.chess_text.specs.WrittenMove.{WrittenMoveIsSymbol, WrittenMoveIsRead}
 use Rattle.pgn_lexer.specs.Laws.{NumbersAreSymbols}
 use Rattle.pgn_lexer.specs.Sound.{IsSoundKind, CommentsClose}
@@ -150,7 +150,7 @@ pub record KeptText (mode : Mode) (p : Profile) (first : Parts) (ks : List Kind)
   pub again : tokens_out mode first (kept mode first items) ≡ tokens_out mode first items
   pub moves : main_moves (kept mode first items) ≡ main_moves items
 
-module _ (one_read : ReadsTheOne) (leaves : LeavesPosition) (is_symbol : WrittenMoveIsSymbol) (is_read : WrittenMoveIsRead) (numbers : NumbersAreSymbols) where
+module _ (one_read : TheOneMoveIsRead) (leaves : LeavesPosition) (is_symbol : WrittenMoveIsSymbol) (is_read : WrittenMoveIsRead) (numbers : NumbersAreSymbols) where
   pub kept_text : (mode : Mode) (p : Profile) (first : Parts) (ks : List Kind) (items : List Item) → IsTrue (is_position first)
       → SpellsText p first 0 (new_level []) ks items → AllByRecursion IsSoundKind ks → KeptText mode p first ks items
   kept_text Full p first ks items start text sound =

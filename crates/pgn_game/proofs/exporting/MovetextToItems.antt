@@ -6,7 +6,7 @@ use Rattle.std.specs.List.{AllByRecursion}
 use Rattle.std.proofs.lemmas.List.Sums.{fold-append}
 use Rattle.chess_rules.specs.declared.position.Parts.{Parts}
 use Rattle.chess_rules.specs.Laws.{LeavesPosition}
-use Rattle.chess_text.specs.Laws.{ReadsTheOne}
+use Rattle.chess_text.specs.Laws.{TheOneMoveIsRead}
 use Rattle.chess_text.specs.WrittenMove.{WrittenMoveIsSymbol, WrittenMoveIsRead}
 use Rattle.pgn_lexer.specs.Laws.{NumbersAreSymbols}
 use Rattle.pgn_lexer.specs.Sound.{IsSoundKind, CommentsClose}
@@ -172,7 +172,7 @@ tokens_of_variation p first deep l ks items more inner around b =
     (ap (tokens_from false) (placed_variation p first deep l ks items more inner around)
     ∙ tokens_from-append false (placed_from first at items) (close_at first end ∷ placed_from first (level_in l around) more))
 
-module _ (one_read : ReadsTheOne) (leaves : LeavesPosition) (is_symbol : WrittenMoveIsSymbol) (is_read : WrittenMoveIsRead) (numbers : NumbersAreSymbols) where
+module _ (one_read : TheOneMoveIsRead) (leaves : LeavesPosition) (is_symbol : WrittenMoveIsSymbol) (is_read : WrittenMoveIsRead) (numbers : NumbersAreSymbols) where
   -- A move, with its number.
   move_again : (p : Profile) (first : Parts) (deep : ℕ) (l : Level) (s : List ℕ) (x : Played) (ks : List Kind) (items : List Item) (ts : List (List ℕ)) (b : Bool)
       → Names (replayed first l.trail) s x → ArePositions first l.trail → Rewritten p first deep (level_after_move x.mv l.trail) ks items ts

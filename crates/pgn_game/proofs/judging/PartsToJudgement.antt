@@ -24,7 +24,7 @@ use Rattle.pgn_game.specs.FaultTable.{refusal, is_at, is_comment, is_left_bracke
 use Rattle.pgn_game.specs.Progress.{Next, next, in_text}
 use Rattle.pgn_game.specs.Movetext.{Movetext, HoldsItems, movetext_from}
 use Rattle.pgn_game.specs.Reading.{Reading, Agrees, HoldsPairs, HoldsText, has_move, is_outside_the_table}
-use Rattle.pgn_game.specs.Judging.{Fits, Marks, Judges, JudgesEntry, IsOpen, outcome_of, after, may_have_movetext, text_refusal}
+use Rattle.pgn_game.specs.Judging.{Fits, FinalIsMarker, Judges, JudgesEntry, IsOpen, outcome_of, after, may_have_movetext, text_refusal}
 use Rattle.pgn_game.specs.Handling.{begins_game}
 use Rattle.pgn_game.proofs.judging.RowsByStage.{drops_comments}
 use Rattle.pgn_game.proofs.judging.RefusalsByStage.{IsMovetext, comment_passes, judged_in_text, passes_between}
@@ -43,15 +43,15 @@ pub refused : (tags levels : ℕ) (old : Reading) (k : Kind) (reason : Reason) �
 refused tags levels old k reason inside why = record {
   judges = λ part agrees. says_refused _ (next part k) reason (why part agrees);
   fits = inside;
-  marks = tt;
+  final_is_marker = tt;
 }
 
-pub goes : (tags levels : ℕ) (old : Reading) (k : Kind) (j : Judged) → Fits tags levels old j → Marks k j
+pub goes : (tags levels : ℕ) (old : Reading) (k : Kind) (j : Judged) → Fits tags levels old j → FinalIsMarker k j
     → ((part : Part) → Agrees old part → (refusal old.profile part k ≡ None) × (next part k ≡ after j part)) → Judges tags levels old k (Ok j)
-goes tags levels old k j fits marks on = record {
+goes tags levels old k j fits final_is_marker on = record {
   judges = λ part agrees. says_goes _ (next part k) (after j part) (on part agrees).0 (on part agrees).1;
   fits = fits;
-  marks = marks;
+  final_is_marker = final_is_marker;
 }
 
 pub entry_refused : (tags levels : ℕ) (old : Reading) (k : Kind) (reason : Reason) → IsFalse (is_outside_the_table reason)
@@ -59,15 +59,15 @@ pub entry_refused : (tags levels : ℕ) (old : Reading) (k : Kind) (reason : Rea
 entry_refused tags levels old k reason inside why = record {
   judges = λ part is. says_refused _ (in_text part k) reason (why part is);
   fits = inside;
-  marks = tt;
+  final_is_marker = tt;
 }
 
-pub entry_goes : (tags levels : ℕ) (old : Reading) (k : Kind) (j : Judged) → Fits tags levels old j → Marks k j
+pub entry_goes : (tags levels : ℕ) (old : Reading) (k : Kind) (j : Judged) → Fits tags levels old j → FinalIsMarker k j
     → ((part : Part) → IsOpen old part → (text_refusal old.profile part k ≡ None) × (in_text part k ≡ after j part)) → JudgesEntry tags levels old k (Ok j)
-entry_goes tags levels old k j fits marks on = record {
+entry_goes tags levels old k j fits final_is_marker on = record {
   judges = λ part is. says_goes _ (in_text part k) (after j part) (on part is).0 (on part is).1;
   fits = fits;
-  marks = marks;
+  final_is_marker = final_is_marker;
 }
 
 -- The part is at the reader's stage, and what the reader holds of it there.
@@ -93,7 +93,7 @@ pub passed : (tags levels : ℕ) (old : Reading) (k : TokenKind) → old.stage �
 passed tags levels old k at is = record {
   judges = λ part agrees. passes_between old.profile part k (part_stage old part Between agrees at) (ap (λ (s : Stage). begins_game s (kind_of k)) (sym at) ∙ is);
   fits = tt;
-  marks = λ e. absurd (cc);
+  final_is_marker = λ e. absurd (cc);
 }
 
 -- a call that found a value found it in the list, and one that found none did not
@@ -150,7 +150,7 @@ entry_at tags levels old k r at bracket over free h = record {
       record { stage = subst (λ (s : Stage). IsTrue (may_have_movetext s)) agrees.stage at; bracket = bracket; over = over; set_up = free part agrees } in
       judged_in_text old.profile part k here ∙ h.judges part (open_agrees old part agrees at);
   fits = h.fits;
-  marks = h.marks;
+  final_is_marker = h.final_is_marker;
 }
 
 -- the test of SetUp is done where it was done after the pairs, and asks for nothing in movetext

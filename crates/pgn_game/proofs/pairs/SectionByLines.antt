@@ -5,7 +5,7 @@ use Rattle.std.proofs.lemmas.Bool.{false≢true, or_right}
 use Rattle.pgn_layout.specs.TagLine.{tag_line}
 use Rattle.pgn_game.specs.declared.mode.Mode.{Mode}
 use Rattle.pgn_game.specs.declared.mode.Mode.TheVariants.{Full, Reduced}
-use Rattle.pgn_game.specs.Holding.{place_of}
+use Rattle.pgn_game.specs.Holding.{index_of}
 use Rattle.pgn_game.specs.Pairs.{Pair, value_of, has_pair, comes_before, insert_pair}
 use Rattle.pgn_game.specs.TagSection.{roster, in_roster, roster_pairs, other_pairs, with_set_up, tag_lines, tag_section}
 use Rattle.pgn_game.specs.SectionLines.{text_by, roster_line, other_line}
@@ -70,8 +70,8 @@ abbrev placed : Bool → Pair → List Pair → List Pair
 placed b p ps = elim b [ true ↦ set_up ∷ p ∷ ps | false ↦ p ∷ insert_pair set_up ps ]
 
 set_up_here : (p : Pair) (ps : List Pair) (s b : Bool) → is_set_up p ≡ s → comes_before (codes "SetUp") p.name ≡ b
-    → lines_about (place_of (codes "SetUp") ps) ps ≡ tag_lines (other_pairs (insert_pair set_up (without_set_up ps)))
-    → lines_about (elim b [ true ↦ 0 | false ↦ 1 + place_of (codes "SetUp") ps ]) (p ∷ ps) ≡ tag_lines (other_pairs (insert_pair set_up (kept s p (without_set_up ps))))
+    → lines_about (index_of (codes "SetUp") ps) ps ≡ tag_lines (other_pairs (insert_pair set_up (without_set_up ps)))
+    → lines_about (elim b [ true ↦ 0 | false ↦ 1 + index_of (codes "SetUp") ps ]) (p ∷ ps) ≡ tag_lines (other_pairs (insert_pair set_up (kept s p (without_set_up ps))))
 set_up_here p ps true true is before rest =
     let same : comes_before (codes "SetUp") (codes "SetUp") ≡ true = subst (λ n. comes_before (codes "SetUp") n ≡ true) (bytes_eq-true p.name (codes "SetUp") is) before in
     absurd (false≢true same)
@@ -80,19 +80,19 @@ set_up_here p ps false true is before rest =
     ap (λ l. tag_line (codes "SetUp") (codes "1") ++ l) (beside_lines (p ∷ ps) ∙ ap (λ s. tag_lines (other_pairs (kept s p (without_set_up ps)))) is)
     ∙ ap tag_lines (sym here)
 set_up_here p ps true false is before rest =
-    lines_about-next (place_of (codes "SetUp") ps) p ps
-    ∙ ap (λ s. line_unless (in_roster p.name || s) p ++ lines_about (place_of (codes "SetUp") ps) ps) is
+    lines_about-next (index_of (codes "SetUp") ps) p ps
+    ∙ ap (λ s. line_unless (in_roster p.name || s) p ++ lines_about (index_of (codes "SetUp") ps) ps) is
     ∙ ap (λ l. line_unless (in_roster p.name || true) p ++ l) rest
     ∙ beside_line p (insert_pair set_up (without_set_up ps)) true
 set_up_here p ps false false is before rest =
     let here : other_pairs (insert_pair set_up (p ∷ without_set_up ps)) ≡ other_pairs (p ∷ insert_pair set_up (without_set_up ps)) = ap (λ b. other_pairs (placed b p (without_set_up ps))) before in
-    lines_about-next (place_of (codes "SetUp") ps) p ps
-    ∙ ap (λ s. line_unless (in_roster p.name || s) p ++ lines_about (place_of (codes "SetUp") ps) ps) is
+    lines_about-next (index_of (codes "SetUp") ps) p ps
+    ∙ ap (λ s. line_unless (in_roster p.name || s) p ++ lines_about (index_of (codes "SetUp") ps) ps) is
     ∙ ap (λ l. line_unless (in_roster p.name || false) p ++ l) rest
     ∙ beside_line p (insert_pair set_up (without_set_up ps)) false
     ∙ ap tag_lines (sym here)
 
-set_up_lines : (ps : List Pair) → lines_about (place_of (codes "SetUp") ps) ps ≡ tag_lines (other_pairs (insert_pair set_up (without_set_up ps)))
+set_up_lines : (ps : List Pair) → lines_about (index_of (codes "SetUp") ps) ps ≡ tag_lines (other_pairs (insert_pair set_up (without_set_up ps)))
 set_up_lines [] = refl
 set_up_lines (p ∷ ps) = set_up_here p ps (is_set_up p) (comes_before (codes "SetUp") p.name) refl refl (set_up_lines ps)
 
@@ -100,7 +100,7 @@ set_up_lines (p ∷ ps) = set_up_here p ps (is_set_up p) (comes_before (codes "S
 pub others_without_fen : (ps : List Pair) → has_pair ps (codes "FEN") ≡ false → text_by (other_line false) ps ≡ tag_lines (other_pairs (with_set_up ps))
 others_without_fen ps none = plain_lines ps ∙ ap (λ b. tag_lines (other_pairs (set_up_if b ps))) (sym none)
 
-pub others_with_fen : (ps : List Pair) → has_pair ps (codes "FEN") ≡ true → lines_about (place_of (codes "SetUp") ps) ps ≡ tag_lines (other_pairs (with_set_up ps))
+pub others_with_fen : (ps : List Pair) → has_pair ps (codes "FEN") ≡ true → lines_about (index_of (codes "SetUp") ps) ps ≡ tag_lines (other_pairs (with_set_up ps))
 others_with_fen ps some = set_up_lines ps ∙ ap (λ b. tag_lines (other_pairs (set_up_if b ps))) (sym some)
 
 pub reduced_section : (result : List ℕ) (ps : List Pair) → text_by (roster_line ps) (roster result) ++ 10 ∷ [] ≡ tag_section Reduced result ps

@@ -6,28 +6,28 @@ use Rattle.std.specs.Cmp.Lexicographic.{slice_partial_cmp}
 use Rattle.std.proofs.lemmas.Cmp.{same_from_slice_cmp_tested}
 use Rattle.std.proofs.lemmas.Bool.Decides.{nat_tests}
 use Rattle.pgn_game.specs.Pairs.{Pair, comes_before, insert_pair}
-use Rattle.pgn_game.specs.Holding.{TagPairs, place_of, last_name, but_last, pairs_seen}
+use Rattle.pgn_game.specs.Holding.{TagPairs, index_of, last_name, but_last, pairs_seen}
 
 pub is_comes_before : (xs ys : List ℕ) (r : Bool) → r ≡ is_some_and is_lt (slice_partial_cmp (λ x y. Some (nat_cmp x y)) xs ys) → r ≡ comes_before xs ys
 is_comes_before = same_from_slice_cmp_tested nat_cmp is_lt comes_before refl (λ _ _. refl) (λ _ _. refl) (λ x y xs ys o h. grind (arith, nat_tests))
 
 -- the pair goes to its place
-pub insert-place : (p : Pair) (qs : List Pair) → insert qs (place_of p.name qs) p ≡ insert_pair p qs
+pub insert-place : (p : Pair) (qs : List Pair) → insert qs (index_of p.name qs) p ≡ insert_pair p qs
 insert-place p [] = refl
 insert-place p (q ∷ qs) =
     elim (comes_before p.name q.name)
-    as (λ b. insert (q ∷ qs) (elim b [ true ↦ 0 | false ↦ 1 + place_of p.name qs ]) p ≡ elim b [ true ↦ p ∷ q ∷ qs | false ↦ q ∷ insert_pair p qs ]) [
+    as (λ b. insert (q ∷ qs) (elim b [ true ↦ 0 | false ↦ 1 + index_of p.name qs ]) p ≡ elim b [ true ↦ p ∷ q ∷ qs | false ↦ q ∷ insert_pair p qs ]) [
       | true ↦ refl
       | false ↦
-          let next : 1 + place_of p.name qs ≡ suc (place_of p.name qs) = omega arith in
+          let next : 1 + index_of p.name qs ≡ suc (index_of p.name qs) = omega arith in
           ap (λ n. insert (q ∷ qs) n p) next ∙ ap (λ l. q ∷ l) (insert-place p qs)
     ]
 
-pub place_of-le : (name : List ℕ) (qs : List Pair) → place_of name qs ≤ length qs
-place_of-le name [] = omega arith
-place_of-le name (q ∷ qs) =
-    let more = place_of-le name qs in
-    elim (comes_before name q.name) as (λ b. elim b [ true ↦ 0 | false ↦ 1 + place_of name qs ] ≤ length (q ∷ qs)) [ true ↦ omega arith | false ↦ omega arith ]
+pub index_of-le : (name : List ℕ) (qs : List Pair) → index_of name qs ≤ length qs
+index_of-le name [] = omega arith
+index_of-le name (q ∷ qs) =
+    let more = index_of-le name qs in
+    elim (comes_before name q.name) as (λ b. elim b [ true ↦ 0 | false ↦ 1 + index_of name qs ] ≤ length (q ∷ qs)) [ true ↦ omega arith | false ↦ omega arith ]
 
 pub last_name-snoc : (ps : List Pair) (p : Pair) → last_name (ps ++ p ∷ []) ≡ Some p.name
 last_name-snoc [] p = refl

@@ -1,5 +1,5 @@
 -- The levels of movetext as they are kept, the game's own first, and as contracts see them, the
--- level at hand first.
+-- current level first.
 use Rattle.std.proofs.Common.{◌≡◌, ℕ, zero, suc, ◌+◌, ◌-◌, ◌<◌, ◌≤◌, List, [], ◌∷◌, ◌++◌, length, take, drop, set, get_or, refl, sym, ap, ◌∙◌, arith, Option, None, Some}
 use Rattle.std.proofs.lemmas.List.{take-append-le, take_all}
 use Rattle.std.specs.Prelude.{IsSome, IfSome}
@@ -37,13 +37,13 @@ inside-depth : (ls : StoredLevels) (xs : List CodeLevel) → length (inside ls x
 inside-depth ls [] = omega arith
 inside-depth ls (x ∷ xs) = omega (arith, inside-depth (deeper ls x) xs)
 
--- how many levels are around the one at hand
+-- how many levels are around the current one
 pub depth-held : (xs : List CodeLevel) (ls : StoredLevels) → code_levels xs ≡ ls → 0 < length xs → length ls.around + 1 ≡ length xs
 depth-held [] ls e some = absurd (omega (arith, some))
 depth-held (x ∷ xs) ls e some =
     omega (arith, inside-depth (record { present = level_of x; around = [] }) xs, ap (λ (m : StoredLevels). length m.around) e)
 
--- the last one is at hand
+-- the last one is the current one
 pub last-held : (xs : List CodeLevel) (ls : StoredLevels) (n : ℕ) (d : CodeLevel) → code_levels xs ≡ ls → 0 < length xs → n ≡ length xs
     → level_of (get_or xs (n - 1) d) ≡ ls.present
 last-held [] ls n d e some all = absurd (omega (arith, some))
@@ -69,7 +69,7 @@ pub snoc-held : (xs : List CodeLevel) (ls : StoredLevels) (l : CodeLevel) → co
 snoc-held [] ls l e some = absurd (omega (arith, some))
 snoc-held (x ∷ xs) ls l e some = inside-snoc (record { present = level_of x; around = [] }) xs l ∙ ap (λ (m : StoredLevels). deeper m l) e
 
--- what a variation begins at: it is there, for the level at hand has a move
+-- what a variation begins at: it is there, for the current level has a move
 pub opens : (o : Option Parts) (start : Parts) (ls new : StoredLevels) → o ≡ Some start → new ≡ record { present = level_at start; around = ls.present ∷ ls.around }
     → IfSome o (λ p. new ≡ record { present = level_at p; around = ls.present ∷ ls.around })
 opens o start ls new e is = rw e is

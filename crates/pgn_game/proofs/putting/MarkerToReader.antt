@@ -9,7 +9,7 @@ use Rattle.pgn_layout.specs.declared.sink.WriteFault.{WriteFault}
 use Rattle.pgn_layout.specs.Device.{AppendsFront, one_more}
 use Rattle.pgn_layout.specs.Lines.{IsToken, lines_of, full_lines, last_line, text_of as text_of_lines}
 use Rattle.pgn_layout.specs.Layout.{Put, EndGame, text_at, line_at}
-use Rattle.pgn_game.specs.declared.accept.Accepted.TheVariants.{Finished}
+use Rattle.pgn_game.specs.declared.accepted.Accepted.TheVariants.{Finished}
 use Rattle.pgn_game.specs.declared.reason.Reason.TheVariants as reasons
 use Rattle.pgn_game.specs.declared.judged.Judged.TheVariants.{Entry as InText}
 use Rattle.pgn_game.specs.declared.judged.Entry.{Entry}

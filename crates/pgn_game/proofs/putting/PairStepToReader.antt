@@ -10,7 +10,7 @@ use Rattle.pgn_game.specs.declared.judged.Judged.{Judged}
 use Rattle.pgn_game.specs.declared.judged.Judged.TheVariants.{Value}
 use Rattle.pgn_game.specs.declared.stage.Stage.{Stage}
 use Rattle.pgn_game.specs.declared.stage.Stage.TheVariants.{Between, AfterLeftBracket, AfterName, AfterValue, AfterTags, InMovetext}
-use Rattle.pgn_game.specs.declared.accept.Accepted.TheVariants.{More}
+use Rattle.pgn_game.specs.declared.accepted.Accepted.TheVariants.{More}
 use Rattle.pgn_game.specs.Profile.{Profile, Missing, counts_as, takes_the_marker}
 use Rattle.pgn_game.specs.Pairs.{Pair, has_pair}
 use Rattle.pgn_game.specs.Game.{Item, Part}

@@ -10,8 +10,8 @@ use Rattle.chess_text.specs.declared.resolution.Played.{Played}
 use Rattle.chess_text.specs.declared.resolution.SanFault.{SanFault}
 use Rattle.chess_text.specs.declared.form.Form.{Form}
 use Rattle.chess_text.specs.Form.{form_of}
-use Rattle.chess_text.specs.Reads.{reads}
-use Rattle.chess_text.specs.Laws.{ReadsTheOne}
+use Rattle.chess_text.specs.MoveOfForm.{move_of_form}
+use Rattle.chess_text.specs.Laws.{TheOneMoveIsRead}
 use Rattle.pgn_lexer.specs.Tokens.{Kind, Token}
 use Rattle.pgn_lexer.specs.Tokens as tokens
 use Rattle.pgn_game.specs.declared.reason.Reason.{Reason}
@@ -92,14 +92,14 @@ more_items pairs items more h k =
     (placed_from start (levels_of items) more)
     ∙ and_from _ _ h k
 
-module _ (one_read : ReadsTheOne) where
+module _ (one_read : TheOneMoveIsRead) where
   -- what a text names is legal
   pub named_is_legal : (p : Parts) (s : List ℕ) (x : Played) → move_of p s ≡ Some (Ok x)
       → legal p x.mv ≡ Some x.next
   unfolding move_of
   named_is_legal p s x e = by_form (form_of s) e
     where
-      by_form : (o : Option Form) → option_map (reads p) o ≡ Some (Ok x)
+      by_form : (o : Option Form) → option_map (move_of_form p) o ≡ Some (Ok x)
           → legal p x.mv ≡ Some x.next
       by_form None e = absurd (cc)
       by_form (Some f) e = ((one_read p f x).0 (cc)).1

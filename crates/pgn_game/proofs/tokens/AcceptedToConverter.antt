@@ -14,8 +14,8 @@ use Rattle.pgn_lexer.specs.PartialToken.{refusal as refusal_token}
 use Rattle.pgn_lexer.specs.Scanned.{more, token, fault}
 use Rattle.pgn_lexer.specs.Standing.{Standing, coming, waiting}
 use Rattle.pgn_lexer.specs.Stands.{StandsAfter, Follows, AfterScan, first, still}
-use Rattle.pgn_game.specs.declared.accept.Accepted.{Accepted}
-use Rattle.pgn_game.specs.declared.accept.Accepted.TheVariants.{More, Finished}
+use Rattle.pgn_game.specs.declared.accepted.Accepted.{Accepted}
+use Rattle.pgn_game.specs.declared.accepted.Accepted.TheVariants.{More, Finished}
 use Rattle.pgn_game.specs.declared.reason.Reason.{Reason}
 use Rattle.pgn_game.specs.declared.reason.Reason.TheVariants.{Lexical}
 use Rattle.pgn_game.specs.declared.reason.Fault.{Fault}
@@ -27,7 +27,7 @@ use Rattle.pgn_game.specs.Due.{gain, Gains}
 use Rattle.pgn_game.specs.Levels.{plies_of}
 use Rattle.pgn_game.specs.Reading as reading
 use Rattle.pgn_game.specs.Reading.{Reading, Agrees, IsBehind, has_move, whole_plies, plies_next, Leads, Answers}
-use Rattle.pgn_game.specs.Feeding.{AtHand, hand_of, Converter, game_in_reader, game_in_reader_if, play_moves, has_played_move, HasRead, Stands, Stops, refused, unwritten, StopsWriting, AreNext, games_before, CountsAtStop}
+use Rattle.pgn_game.specs.Feeding.{FinishedGame, finished_game_of, Converter, game_in_reader, game_in_reader_if, play_moves, has_played_move, HasRead, Stands, Stops, refused, unwritten, StopsWriting, AreNext, games_before, ProbesAtStop}
 use Rattle.pgn_game.specs.Stepping.{SameGames, OneGame, AfterStep, outcome_at, finished_game, games_after, fault_of_step, StepAdvances}
 use Rattle.pgn_game.specs.MostTried.{MostTried, Raises, Tries, TriesUnwritten}
 use Rattle.pgn_game.proofs.tokens.PairsTriedForToken.{most_with, most_to_refused, part_probed, raises_none}
@@ -58,8 +58,8 @@ plies_more (going part) r h = refl
 plies_more (whole g) r h = absurd h
 
 -- what the reader still holds of the game that it is behind
-hand_behind : (r : Reading) (g : Game) → IsBehind r g → game_in_reader r ≡ hand_of g
-hand_behind r g h = cc (h.pairs, h.plies, h.position)
+finished_behind : (r : Reading) (g : Game) → IsBehind r g → game_in_reader r ≡ finished_game_of g
+finished_behind r g h = cc (h.pairs, h.plies, h.position)
 
 plies-snoc : (games : List Game) (g : Game) → sum (map plies_of (games ++ g ∷ [])) ≡ sum (map plies_of games) + plies_of g
 plies-snoc games g =
@@ -88,7 +88,7 @@ stepped l r games finished outcome =
       lexer = l;
       reading = r;
       games = games_after outcome games;
-      at_hand = game_in_reader_if (finished_game outcome) r;
+      just_finished = game_in_reader_if (finished_game outcome) r;
       is_finished = finished;
       fault = fault_of_step outcome;
     }
@@ -161,15 +161,15 @@ module _ (p : Profile) (old : Converter) (given : List Token) (t : Token) (l : S
         probed = in_either new (read p (given ++ t ∷ [])).progress agrees
             (λ moves. probed_before (in_games b (subst (λ games. IsTrue (play_moves games)) same moves)));
         tried = most_tried h tries;
-        at_hand = tt;
+        just_finished = tt;
       }
 
   -- the game is whole
   pub one_game : refusal old.reading.profile b.part t.kind ≡ None → Leads (next b.part t.kind) Finished new
-      → (g : Game) × OneGame p given (given ++ t ∷ []) g × (game_in_reader new ≡ hand_of g)
+      → (g : Game) × OneGame p given (given ++ t ∷ []) g × (game_in_reader new ≡ finished_game_of g)
   one_game h leads =
       let done = leads_finished (next b.part t.kind) b.games new leads in
-      (done.0, ap (λ (r : Read). r.progress.games) (reads h) ∙ done.1, hand_behind new done.0 done.3)
+      (done.0, ap (λ (r : Read). r.progress.games) (reads h) ∙ done.1, finished_behind new done.0 done.3)
 
   pub has_read_game : refusal old.reading.profile b.part t.kind ≡ None → Leads (next b.part t.kind) Finished new
       → whole_plies new ≡ whole_plies old.reading + plies_next (next b.part t.kind)
@@ -194,7 +194,7 @@ module _ (p : Profile) (old : Converter) (given : List Token) (t : Token) (l : S
               | inr here ↦ behind.probed here
             ]);
         tried = most_tried h tries;
-        at_hand = (b.games, g, one, hand_behind new g behind);
+        just_finished = (b.games, g, one, finished_behind new g behind);
       }
 
   -- the token is rejected
@@ -212,7 +212,7 @@ module _ (p : Profile) (old : Converter) (given : List Token) (t : Token) (l : S
       ap (λ (r : Read). r.progress.games) (read-refuses p given t us reason has_read.passes (subst (λ q. refusal q b.part t.kind ≡ Some reason) has_read.profile h))
 
   pub count_at_refused : (us : List Token) (a c : Option (List ℕ)) (reason : Reason) (h : refusal old.reading.profile b.part t.kind ≡ Some reason) (wrote : Appends a c [])
-      → Raises (Tries old.reading.profile b.part t.kind) old.reading.most_probes new.most_probes → CountsAtStop (stops_refused us a c reason h wrote) new.most_probes
+      → Raises (Tries old.reading.profile b.part t.kind) old.reading.most_probes new.most_probes → ProbesAtStop (stops_refused us a c reason h wrote) new.most_probes
   unfolding stops_refused
   count_at_refused us a c reason h wrote tries =
       let some = subst (λ q. refusal q b.part t.kind ≡ Some reason) has_read.profile h in
@@ -250,7 +250,7 @@ module _ (p : Profile) (old : Converter) (given : List Token) (t : Token) (l : S
   pub count_at_unwritten : (us : List Token) (a c : Option (List ℕ)) (h : refusal old.reading.profile b.part t.kind ≡ None)
       (wrote : (n : ℕ) × (n < length (gain old.reading.profile b.part t.kind)) × Appends a c (take n (gain old.reading.profile b.part t.kind)))
       → Raises (TriesUnwritten old.reading.profile b.part t.kind) old.reading.most_probes new.most_probes
-      → CountsAtStop (unwritten t.at (writing us a c h wrote)) new.most_probes
+      → ProbesAtStop (unwritten t.at (writing us a c h wrote)) new.most_probes
   unfolding writing
   count_at_unwritten us a c h (n, short, wrote) tries =
       record {
@@ -304,7 +304,7 @@ took p old u given piece used t l new finished a c (Ok Finished) stands scan end
         ends = subst (EndsAt t.kind t.at) (count ∙ ap (λ n. n + used) stands.lexer.count) ends;
         gains = gains_token p old given t l new finished stands.has_read profile probes a c h.free h.appended;
       },
-      (one.0, one.1, ap (λ (hand : AtHand). Some hand) one.2),
+      (one.0, one.1, ap (λ (finished : FinishedGame). Some finished) one.2),
     )
 took p old u given piece used t l new finished a c (Err why) stands scan ends count profile probes (reading.refused reason some wrote tries) =
     record {
@@ -336,7 +336,7 @@ took_none p old u given piece used l o some stands scan =
       scan.0,
       record {
         lexer = subst (λ b. StandsAfter l (u ++ piece) b given) (still_none (first piece) piece some) scan.1;
-        has_read = record { profile = h.profile; no_fault = h.no_fault; passes = h.passes; agrees = h.agrees; games = h.games; plies = h.plies; probed = h.probed; tried = h.tried; at_hand = h.at_hand };
+        has_read = record { profile = h.profile; no_fault = h.no_fault; passes = h.passes; agrees = h.agrees; games = h.games; plies = h.plies; probed = h.probed; tried = h.tried; just_finished = h.just_finished };
       },
       scan.2 some,
       gains_none p given o,
@@ -362,7 +362,7 @@ none_before_lexical p given f o passes =
 
 -- a rejection of the lexer tries no pair
 pub count_at_lexical : (p : Profile) (old : Converter) (given : List Token) (f : LexFault) (o : Option (List ℕ)) (has_read : HasRead p old given)
-    → CountsAtStop (stops_lexical p given f o has_read.passes) old.reading.most_probes
+    → ProbesAtStop (stops_lexical p given f o has_read.passes) old.reading.most_probes
 unfolding stops_lexical
 count_at_lexical p old given f o has_read =
     let b = (read p given).progress in
@@ -387,11 +387,11 @@ took_fault p old u given piece used f l new o some stands scan same =
         stops = stops_lexical p given f o stands.has_read.passes;
       };
       no_game = none_before_lexical p given f o stands.has_read.passes;
-      counts = subst (λ (r : Reading). CountsAtStop (stops_lexical p given f o stands.has_read.passes) r.most_probes) (sym same)
+      counts = subst (λ (r : Reading). ProbesAtStop (stops_lexical p given f o stands.has_read.passes) r.most_probes) (sym same)
           (count_at_lexical p old given f o stands.has_read);
     }
 
--- a game is at hand after a step where the step finished one
+-- a game is just finished after a step where the step finished one
 pub is_some_held : (b : Bool) (reading : Reading) → is_some (game_in_reader_if b reading) ≡ b
 is_some_held true reading = refl
 is_some_held false reading = refl

@@ -6,8 +6,8 @@ use Rattle.pgn_layout.specs.Device.{AppendsFront}
 use Rattle.pgn_lexer.specs.Tokens.{Kind}
 use Rattle.pgn_lexer.specs.Scanned.{kind_of}
 use Rattle.pgn_lexer.specs.declared.token.TokenKind.{TokenKind}
-use Rattle.pgn_game.specs.declared.accept.Accepted.{Accepted}
-use Rattle.pgn_game.specs.declared.accept.Accepted.TheVariants.{More, Finished}
+use Rattle.pgn_game.specs.declared.accepted.Accepted.{Accepted}
+use Rattle.pgn_game.specs.declared.accepted.Accepted.TheVariants.{More, Finished}
 use Rattle.pgn_game.specs.declared.judged.Judged.{Judged}
 use Rattle.pgn_game.specs.declared.reason.Reason.{Reason}
 use Rattle.pgn_game.specs.declared.stage.Stage.{Stage}
@@ -21,7 +21,7 @@ use Rattle.pgn_game.specs.Due.{text_next}
 use Rattle.pgn_game.specs.MostTried.{Raises, Tries, TriesUnwritten}
 use Rattle.pgn_game.specs.Reading as reading
 use Rattle.pgn_game.specs.Reading.{Reading, Agrees, Answers, IsStopped, CountsStop, is_outside_the_table, Stays, FinishesAtMarker, Leads, HoldsText, plies_behind, plies_next, whole_plies}
-use Rattle.pgn_game.specs.Judging.{Counts, Marks, may_have_movetext, judged, outcome_of}
+use Rattle.pgn_game.specs.Judging.{OnlyProbesRise, FinalIsMarker, may_have_movetext, judged, outcome_of}
 use Rattle.pgn_game.specs.Putting.{Device}
 use Rattle.pgn_game.specs.Handling.{GoesTo, FinishesFinal, begins_game, at_game_start, ready_for_token}
 use Rattle.pgn_game.proofs.judging.RefusalsByStage.{begins_alike}
@@ -138,7 +138,7 @@ answers_by old counted new part to k there (Err reason) d profile plies same say
     tried)
 
 -- so once its move was sought and the pairs that were tried are counted
-pub meets_counted : (old ready counted : Reading) (part : Part) (k : TokenKind) → Agrees old part → ready ≡ ready_for_token old (kind_of k) → Counts ready counted
+pub meets_counted : (old ready counted : Reading) (part : Part) (k : TokenKind) → Agrees old part → ready ≡ ready_for_token old (kind_of k) → OnlyProbesRise ready counted
     → Meets old counted part (kind_of k)
 meets_counted old ready counted part k agrees is counts =
     let m : Meets old ready part (kind_of k) = subst (λ (x : Reading). Meets old x part (kind_of k)) (sym is) (meets old part k agrees) in
@@ -157,7 +157,7 @@ meets_counted old ready counted part k agrees is counts =
 
 -- A token that means something is put.
 pub accepted : (old ready counted new : Reading) (part : Part) (k : TokenKind) (after_it : Part → Next) (r : Result Accepted Reason) (d : Device) → Agrees old part
-    → ready ≡ ready_for_token old (kind_of k) → Counts ready counted → ((q : Part) → Agrees counted q → judged counted.profile q (kind_of k) ≡ Ok (after_it q))
+    → ready ≡ ready_for_token old (kind_of k) → OnlyProbesRise ready counted → ((q : Part) → Agrees counted q → judged counted.profile q (kind_of k) ≡ Ok (after_it q))
     → ((q : Part) → Agrees counted q → GoesTo counted q (after_it q) new r d)
     → PutRaises old.profile part (kind_of k) r old.most_probes new.most_probes → Answers old part (kind_of k) new r d.before d.after
 accepted old ready counted new part k after_it r d agrees is counts judges goes tried =
@@ -171,7 +171,7 @@ pub counts_refused : (reason : Reason) (n : ℕ) → IsFalse (is_outside_the_tab
 counts_refused reason n h = subst (λ b. CountsStop b reason n n) (sym h) refl
 
 -- One that means nothing is rejected.
-pub refused : (old ready counted : Reading) (part : Part) (k : TokenKind) (reason : Reason) → Agrees old part → ready ≡ ready_for_token old (kind_of k) → Counts ready counted
+pub refused : (old ready counted : Reading) (part : Part) (k : TokenKind) (reason : Reason) → Agrees old part → ready ≡ ready_for_token old (kind_of k) → OnlyProbesRise ready counted
     → ((q : Part) → Agrees counted q → judged counted.profile q (kind_of k) ≡ Err reason) → refusal old.profile part (kind_of k) ≡ Some reason
 refused old ready counted part k reason agrees is counts judges =
     let m = meets_counted old ready counted part k agrees is counts in
@@ -201,7 +201,7 @@ keeps_ready old k = by_test (begins_game old.stage k) refl
     by_test true is = record { profile = refl; probes = omega arith; plies = omega arith; ready = refl; stays = λ at. absurd (cc) }
     by_test false is = record { profile = refl; probes = omega arith; plies = refl; ready = is; stays = λ at. refl }
 
-pub keeps_found : (old ready found : Reading) (k : Kind) → ready ≡ ready_for_token old k → Counts ready found → KeepsFound old found k
+pub keeps_found : (old ready found : Reading) (k : Kind) → ready ≡ ready_for_token old k → OnlyProbesRise ready found → KeepsFound old found k
 keeps_found old ready found k is counts =
     let m : KeepsFound old ready k = subst (λ (x : Reading). KeepsFound old x k) (sym is) (keeps_ready old k) in
     record {
@@ -222,7 +222,7 @@ stays_found old found new k (Ok Finished) keeps stays = tt
 stays_found old found new k (Err reason) keeps stays = tt
 
 -- what finishes a game is a marker
-pub finishes_at_marker : (k : Kind) (j : Judged) (new : Reading) (r : Result Accepted Reason) → Marks k j → FinishesFinal j new r → FinishesAtMarker k new r
-finishes_at_marker k j new (Ok More) marks finishes = tt
-finishes_at_marker k j new (Ok Finished) marks finishes = (marks finishes.0, finishes.1)
-finishes_at_marker k j new (Err reason) marks finishes = tt
+pub finishes_at_marker : (k : Kind) (j : Judged) (new : Reading) (r : Result Accepted Reason) → FinalIsMarker k j → FinishesFinal j new r → FinishesAtMarker k new r
+finishes_at_marker k j new (Ok More) final_is_marker finishes = tt
+finishes_at_marker k j new (Ok Finished) final_is_marker finishes = (final_is_marker finishes.0, finishes.1)
+finishes_at_marker k j new (Err reason) final_is_marker finishes = tt

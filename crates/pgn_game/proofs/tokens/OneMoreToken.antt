@@ -14,7 +14,7 @@ use Rattle.pgn_game.specs.Text.{game_text, text_of, torn, torn_for}
 use Rattle.pgn_game.specs.Progress.{Next, going, whole, next, Progress, progress_with, progress_after, no_progress, Read, read_from, read, written, due}
 use Rattle.pgn_game.specs.Due.{text_next, gain, Gains}
 use Rattle.pgn_game.specs.Laws.{IsPrefix, DueGrows}
-use Rattle.pgn_game.specs.Feeding.{Stops, refused, unwritten, StopsWriting, games_before, CountsAtStop}
+use Rattle.pgn_game.specs.Feeding.{Stops, refused, unwritten, StopsWriting, games_before, ProbesAtStop}
 use Rattle.pgn_game.proofs.tokens.NextGrows.{next_is}
 
 abbrev read_as : Progress → Option Fault → Read
@@ -141,7 +141,7 @@ games_still p x y tokens f a b c first (unwritten at writing) = refl
 
 -- and the count there stays as it is
 pub counts_still : (p : Profile) (x y tokens : List Token) (f : Fault) (a b c : Option (List ℕ)) (first : Gains p x y a b) (stops : Stops p y tokens b c f) (most : ℕ)
-    → CountsAtStop stops most → CountsAtStop (stops_more p x y tokens f a b c first stops) most
+    → ProbesAtStop stops most → ProbesAtStop (stops_more p x y tokens f a b c first stops) most
 unfolding stops_more writing_more
 counts_still p x y tokens f a b c first (refused g fault gains) most h = record { tried = h.tried; probed = h.probed }
 counts_still p x y tokens f a b c first (unwritten at writing) most h = record { tried = h.tried; probed = h.probed }

@@ -9,8 +9,8 @@ use Rattle.pgn_lexer.specs.Tokens.{Kind, Token}
 use Rattle.pgn_lexer.specs.Scanned.{kind_of}
 use Rattle.pgn_lexer.specs.declared.token.LexReason.{LexReason}
 use Rattle.pgn_lexer.specs.declared.token.TokenKind.{TokenKind}
-use Rattle.pgn_game.specs.declared.accept.Accepted.{Accepted}
-use Rattle.pgn_game.specs.declared.accept.Accepted.TheVariants.{More}
+use Rattle.pgn_game.specs.declared.accepted.Accepted.{Accepted}
+use Rattle.pgn_game.specs.declared.accepted.Accepted.TheVariants.{More}
 use Rattle.pgn_game.specs.declared.judged.Judged.{Judged}
 use Rattle.pgn_game.specs.declared.judged.Judged.TheVariants.{Entry as InText}
 use Rattle.pgn_game.specs.declared.judged.Entry.TheVariants.{Number, Item as Put, Marker}
@@ -27,7 +27,7 @@ use Rattle.pgn_game.specs.Progress.{Next, going, whole, next, Progress, no_progr
 use Rattle.pgn_game.specs.MostTried.{CostsIf, CostsToFind, is_written, CostsToWrite, added, CostsToAdd, CostsUnlessRefused, Tries, TriesUnwritten, MostFrom, MostTried, Raises}
 use Rattle.pgn_game.specs.MostTried as tried
 use Rattle.pgn_game.specs.Reading.{Reading, Agrees, has_move}
-use Rattle.pgn_game.specs.Judging.{Counts, Fits, IsOpen, Seeks, after, may_have_movetext, model_item, judged}
+use Rattle.pgn_game.specs.Judging.{OnlyProbesRise, Fits, IsOpen, Seeks, after, may_have_movetext, model_item, judged}
 use Rattle.pgn_game.specs.Putting.{Device, TriesItem, writes}
 use Rattle.pgn_game.specs.Handling.{GoesTo, TriesJudged, UnwrittenPairs, begins_game, ready_for_token}
 use Rattle.pgn_game.specs.Handling as handling
@@ -221,7 +221,7 @@ module _ (tags levels : ℕ) (old counted : Reading) (part : Part) (k : Kind) (m
 
 -- What the reader counts for a token that means something, once it is put.
 module _ (tags levels : ℕ) (old ready counted : Reading) (part : Part) (k : TokenKind) (n : ℕ) (agrees : Agrees old part)
-    (is : ready ≡ ready_for_token old (kind_of k)) (counts : Counts ready counted) (no_game : begins_game counted.stage (kind_of k) ≡ false)
+    (is : ready ≡ ready_for_token old (kind_of k)) (counts : OnlyProbesRise ready counted) (no_game : begins_game counted.stage (kind_of k) ≡ false)
     (seeks : Seeks counted (kind_of k) n) (first : counted.most_probes ≡ max ready.most_probes n) where
   abbrev met : Meets old counted part (kind_of k)
   met = meets_counted old ready counted part k agrees is counts

@@ -10,8 +10,8 @@ use Rattle.pgn_lexer.specs.Standing.{Standing, coming, waiting}
 use Rattle.pgn_lexer.specs.Stands.{HasLeft, IsNext, FinishGivesToken, Follows}
 use Rattle.pgn_game.specs.declared.stage.Stage.{Stage}
 use Rattle.pgn_game.specs.declared.stage.Stage.TheVariants.{Between, AfterLeftBracket, AfterName, AfterValue, AfterTags, InMovetext}
-use Rattle.pgn_game.specs.declared.accept.Accepted.{Accepted}
-use Rattle.pgn_game.specs.declared.accept.Accepted.TheVariants.{More, Finished}
+use Rattle.pgn_game.specs.declared.accepted.Accepted.{Accepted}
+use Rattle.pgn_game.specs.declared.accepted.Accepted.TheVariants.{More, Finished}
 use Rattle.pgn_game.specs.declared.reason.Reason.{Reason}
 use Rattle.pgn_game.specs.declared.reason.Reason.TheVariants.{Lexical, ExpectedName, BadTagName, DuplicateTag, TooManyTags, ExpectedValue, BadResult, BadFen, TagLineTooLong, ExpectedBracket, SetUpWithoutFen, ReducedFen, TagInMovetext, NotAMove, IllegalMove, AmbiguousMove, MoveLimit, NoMoveBefore, TooDeep, UnmatchedClose, MarkerInVariation, ResultDiffers, UnexpectedEnd, ReadFault, WriteFault, InputTooLong, Changed}
 use Rattle.pgn_game.specs.declared.reason.Fault.{Fault}
@@ -23,8 +23,8 @@ use Rattle.pgn_game.specs.Progress.{next, progress_with, Progress, Read, read}
 use Rattle.pgn_game.specs.Due.{Gains}
 use Rattle.pgn_game.specs.Reading as reading
 use Rattle.pgn_game.specs.Reading.{Reading, Answers, Stays, FinishesAtMarker, CountsStop, CountsWrites, is_outside_the_table}
-use Rattle.pgn_game.specs.Feeding.{Converter, IsSound, game_in_reader, game_in_reader_if, IsLast, HasRead, Stands, unwritten, Finishes, FinishesToFault, CountsAtStop, CountsFault, CountsReason}
-use Rattle.pgn_game.specs.Stepping.{SameGames, FaultAtEnd, AfterStepAtEnd, StepAtEndAdvances, AtEndSoFar, StaysBetween, outcome_at, is_ended, games_after, ended_if, fault_of_step}
+use Rattle.pgn_game.specs.Feeding.{Converter, IsSound, game_in_reader, game_in_reader_if, IsLast, HasRead, Stands, unwritten, Finishes, FinishesToFault, ProbesAtStop, CountsFault, CountsReason}
+use Rattle.pgn_game.specs.Stepping.{SameGames, FaultAtEnd, AfterStepAtEnd, StepAtEndAdvances, AtEndSoFar, StaysBetween, outcome_at, is_ended, games_after, none_at_end, fault_of_step}
 use Rattle.pgn_game.proofs.tokens.OneMoreToken.{gains_none, gains_more, stops_more, games_still, counts_still, read-passes}
 use Rattle.pgn_game.proofs.tokens.AcceptedToConverter.{stepped, gains_token, same_games, has_read_more, one_game, has_read_game, stops_refused, writing, stops_lexical, none_before_refused, none_before_unwritten, none_before_lexical, count_at_refused, count_at_unwritten, count_at_lexical}
 
@@ -131,19 +131,19 @@ end_passes p b k e none =
     (between_after b.part.stage b.part.pairs b.part.name b.part.items b.games
     (end_at p b.part.stage b.part.pairs b.part.name b.part.items (subst (λ j. refusal p b.part j ≡ None) k_is none)))
 
--- the game at hand is let go
-pub let_go : (p : Profile) (c : Converter) (given : List Token) → HasRead p c given → HasRead p (record c { at_hand = None }) given
-let_go p c given h = record { profile = h.profile; no_fault = h.no_fault; passes = h.passes; agrees = h.agrees; games = h.games; plies = h.plies; probed = h.probed; tried = h.tried; at_hand = tt }
+-- the game just finished is let go
+pub let_go : (p : Profile) (c : Converter) (given : List Token) → HasRead p c given → HasRead p (record c { just_finished = None }) given
+let_go p c given h = record { profile = h.profile; no_fault = h.no_fault; passes = h.passes; agrees = h.agrees; games = h.games; plies = h.plies; probed = h.probed; tried = h.tried; just_finished = tt }
 
 -- a converter after a step behind the last piece
 abbrev pub closed : Standing → Reading → ℕ → Bool → Result (Option Accepted) Fault → Converter
-closed l r games finished outcome = record (stepped l r games finished outcome) { at_hand = None }
+closed l r games finished outcome = record (stepped l r games finished outcome) { just_finished = None }
 
 pub closes : (p : Profile) (old : Converter) (u : List ℕ) (given : List Token) (t : Token) (l : Standing) (new : Reading) (finished : Bool) (a c : Option (List ℕ))
     (e : Bool) (r : Result Accepted Reason) → is_end t.kind ≡ e → HasRead p old given → Left u given e l t → new.profile ≡ old.reading.profile → old.reading.most_probes ≤ new.most_probes
     → Answers old.reading (read p given).progress.part t.kind new r a c
     → Stays old.reading new r → FinishesAtMarker t.kind new r
-    → AfterStepAtEnd p u given old (closed l new old.games finished (outcome_at t.at r)) (ended_if e (outcome_at t.at r)) a c
+    → AfterStepAtEnd p u given old (closed l new old.games finished (outcome_at t.at r)) (none_at_end e (outcome_at t.at r)) a c
 closes p old u given t l new finished a c true (Ok More) is_e has_read left profile probes h stays at_marker =
     let more = has_read_more p old given t l new finished has_read profile probes h.free h.leads h.plies h.tried in
     let passes = subst (λ q. refusal q (read p given).progress.part t.kind ≡ None) has_read.profile h.free in (
@@ -206,18 +206,18 @@ closes_fault p old new u given f o has_read whole same =
     (record {
       stops = stops_lexical p given f o has_read.passes;
       no_game = none_before_lexical p given f o has_read.passes;
-      counts = subst (λ (r : Reading). CountsAtStop (stops_lexical p given f o has_read.passes) r.most_probes) (sym same) (count_at_lexical p old given f o has_read);
+      counts = subst (λ (r : Reading). ProbesAtStop (stops_lexical p given f o has_read.passes) r.most_probes) (sym same) (count_at_lexical p old given f o has_read);
     })
 
 -- the end has neither a fault of its own nor a failure
-pub fault_of_closed : (e : Bool) (outcome : Result (Option Accepted) Fault) → fault_of_step outcome ≡ fault_of_step (ended_if e outcome)
+pub fault_of_closed : (e : Bool) (outcome : Result (Option Accepted) Fault) → fault_of_step outcome ≡ fault_of_step (none_at_end e outcome)
 fault_of_closed true (Ok o) = refl
 fault_of_closed false (Ok o) = refl
 fault_of_closed e (Err f) = refl
 
 -- a token that finishes no game is counted as none, and the end is no marker
 pub games_of_closed : (k : Kind) (after : Reading) (at : ℕ) (e : Bool) (r : Result Accepted Reason) (games : ℕ) → is_end k ≡ e → FinishesAtMarker k after r
-    → games_after (outcome_at at r) games ≡ games_after (ended_if e (outcome_at at r)) games
+    → games_after (outcome_at at r) games ≡ games_after (none_at_end e (outcome_at at r)) games
 games_of_closed k after at true (Ok More) games is_e marker = refl
 games_of_closed k after at false (Ok More) games is_e marker = refl
 games_of_closed k after at true (Ok Finished) games is_e marker = absurd (differ (sym is_e ∙ marker_or_end k marker.0))
@@ -277,7 +277,7 @@ pub counts_token : (at : ℕ) (r : Result Accepted Reason) (old new : ℕ) → C
 counts_token at (Ok accepted) old new h = h
 counts_token at (Err reason) old new h = counts_reason reason old new h
 
-pub counts_closed : (e : Bool) (outcome : Result (Option Accepted) Fault) (old new : ℕ) → CountsFault outcome old new → CountsFault (ended_if e outcome) old new
+pub counts_closed : (e : Bool) (outcome : Result (Option Accepted) Fault) (old new : ℕ) → CountsFault outcome old new → CountsFault (none_at_end e outcome) old new
 counts_closed true (Ok o) old new h = h
 counts_closed false (Ok o) old new h = h
 counts_closed e (Err f) old new h = h
@@ -288,7 +288,7 @@ pub sound_behind : (old new : Standing) (before after : Reading) (games at : ℕ
     → FinishesAtMarker k after r → old.count ≤ 2 ^ 62 → games + waiting old ≤ 2 * old.count + 2
     → before.earlier_plies + before.text.plies + waiting old ≤ 2 * old.count + 2
     → after.earlier_plies + after.text.plies ≤ before.earlier_plies + before.text.plies + 1
-    → IsSound new after (games_after (outcome_at at r) games) false (is_ended (ended_if e (outcome_at at r))) (fault_of_step (outcome_at at r))
+    → IsSound new after (games_after (outcome_at at r) games) false (is_ended (none_at_end e (outcome_at at r))) (fault_of_step (outcome_at at r))
 sound_behind old new before after games at k true (Ok More) is_e near marker count few plies more =
     let still = ap waiting near in
     let place = ap (λ (l : Standing). l.count) near in
@@ -333,13 +333,13 @@ sound_behind old new before after games at k e (Err reason) is_e near marker cou
       no_fault = λ is. absurd (cc);
     }
 
-pub not_at_hand : (b : Bool) (r : Reading) → game_in_reader_if b r ≡ None → b ≡ false
-not_at_hand true r h = absurd (cc)
-not_at_hand false r h = refl
+pub not_just_finished : (b : Bool) (r : Reading) → game_in_reader_if b r ≡ None → b ≡ false
+not_just_finished true r h = absurd (cc)
+not_just_finished false r h = refl
 
 -- before the first step behind the last piece
 pub closed_none : (p : Profile) (old : Converter) (u : List ℕ) (b : Option ℕ) (given : List Token) (o : Option (List ℕ)) → Stands p old u b given
-    → AtEndSoFar p u given (record old { at_hand = None }) false o o
+    → AtEndSoFar p u given (record old { just_finished = None }) false o o
 closed_none p old u b given o stands =
     record {
       tokens = given;
@@ -395,16 +395,16 @@ module _ (p : Profile) (u : List ℕ) (given : List Token) (now new : Converter)
       }
 
   pub closed_end : (flag : Bool) → AfterStepAtEnd p u so.tokens now new (Ok None) c d → (new.reading.stage ≡ Between → flag ≡ finished_game)
-      → Finishes p u given (record { lexer = new.lexer; reading = new.reading; games = new.games; at_hand = game_in_reader_if flag new.reading; is_finished = new.is_finished; fault = new.fault }) finished_game a d
+      → Finishes p u given (record { lexer = new.lexer; reading = new.reading; games = new.games; just_finished = game_in_reader_if flag new.reading; is_finished = new.is_finished; fault = new.fault }) finished_game a d
   closed_end flag (t, took, stays) e =
       let h = took.has_read in
       let same_flag = e took.between in
       let held = hands (so.tokens ++ t ∷ []) flag (λ h. held_still _ took.same stays (subst IsTrue same_flag h) took.between) in
       record {
-        has_read = subst (HasRead p _) (sym took.whole) (record { profile = h.profile; no_fault = h.no_fault; passes = h.passes; agrees = h.agrees; games = h.games; plies = h.plies; probed = h.probed; tried = h.tried; at_hand = held });
+        has_read = subst (HasRead p _) (sym took.whole) (record { profile = h.profile; no_fault = h.no_fault; passes = h.passes; agrees = h.agrees; games = h.games; plies = h.plies; probed = h.probed; tried = h.tried; just_finished = held });
         game = subst (λ ts. IsTrue finished_game ↔ (length (read p given).progress.games < length (read p ts).progress.games)) (sym took.whole) (same_length _ took.same);
-        at_hand = λ is. (game_in_reader new.reading, ap (λ b. game_in_reader_if b new.reading) (same_flag ∙ is));
-        none_at_hand = λ is. ap (λ b. game_in_reader_if b new.reading) (same_flag ∙ is);
+        just_finished = λ is. (game_in_reader new.reading, ap (λ b. game_in_reader_if b new.reading) (same_flag ∙ is));
+        none_just_finished = λ is. ap (λ b. game_in_reader_if b new.reading) (same_flag ∙ is);
         gains = subst (λ ts. Gains p given ts a d) (sym took.whole) (gains_more p given so.tokens _ a c d so.gains took.gains);
       }
     where
@@ -434,7 +434,7 @@ sound_behind_fault lexer reading games is_finished f =
 
 -- behind the last piece a token was waiting, unless it is the end
 pub closes_sooner : (old new : Standing) (after : Reading) (at : ℕ) (k : Kind) (e : Bool) (r : Result Accepted Reason) → is_end k ≡ e → Nearer e old new
-    → FinishesAtMarker k after r → StepAtEndAdvances old new (ended_if e (outcome_at at r))
+    → FinishesAtMarker k after r → StepAtEndAdvances old new (none_at_end e (outcome_at at r))
 closes_sooner old new after at k true (Ok More) is_e near marker = tt
 closes_sooner old new after at k false (Ok More) is_e near marker = near.0
 closes_sooner old new after at k true (Ok Finished) is_e near marker = absurd (differ (sym is_e ∙ marker_or_end k marker.0))
@@ -444,7 +444,7 @@ closes_sooner old new after at k true (Ok Finished) is_e near marker = absurd (d
 closes_sooner old new after at k false (Ok Finished) is_e near marker = near.0
 closes_sooner old new after at k e (Err reason) is_e near marker = tt
 
--- while no game is at hand a converter owes no more
+-- while no game is just finished a converter owes no more
 pub sound_at_none : (lexer : Standing) (reading : Reading) (games : ℕ) (has_finished_game is_finished : Bool) (fault : Option Fault) → IsSound lexer reading games has_finished_game is_finished fault
     → IsSound lexer reading games false is_finished fault
 sound_at_none lexer reading games has_finished_game is_finished fault sound =

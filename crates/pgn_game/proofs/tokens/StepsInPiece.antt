@@ -10,19 +10,19 @@ use Rattle.pgn_lexer.specs.Stands.{Follows, IsDecided, first, still}
 use Rattle.pgn_game.specs.declared.reason.Reason.{Reason}
 use Rattle.pgn_game.specs.declared.reason.Reason.TheVariants.{InputTooLong}
 use Rattle.pgn_game.specs.declared.reason.Fault.{Fault}
-use Rattle.pgn_game.specs.declared.accept.Accepted.TheVariants.{More, Finished}
+use Rattle.pgn_game.specs.declared.accepted.Accepted.TheVariants.{More, Finished}
 use Rattle.pgn_game.specs.Profile.{Profile}
 use Rattle.pgn_game.specs.Reading.{Reading}
-use Rattle.pgn_game.specs.Feeding.{AtHand, Converter, Stands, AreNext, FedAll, FedGame, FedToFault, StopsIn, too_long, CountsReason}
+use Rattle.pgn_game.specs.Feeding.{FinishedGame, Converter, Stands, AreNext, FedAll, FedGame, FedToFault, StopsIn, too_long, CountsReason}
 use Rattle.pgn_game.specs.Stepping.{AfterStep, next_at, SoFar}
 use Rattle.pgn_game.proofs.tokens.OneMoreToken.{gains_none, gains_more, stops_more, games_still, counts_still}
 use Rattle.pgn_game.proofs.tokens.AcceptedToConverter.{still_none-none}
 
--- the game at hand is let go
-pub lets_go : (p : Profile) (old : Converter) (u : List ℕ) (b : Option ℕ) (given : List Token) → Stands p old u b given → Stands p (record old { at_hand = None }) u b given
+-- the game just finished is let go
+pub lets_go : (p : Profile) (old : Converter) (u : List ℕ) (b : Option ℕ) (given : List Token) → Stands p old u b given → Stands p (record old { just_finished = None }) u b given
 lets_go p old u b given stands =
     let h = stands.has_read in
-    record { lexer = stands.lexer; has_read = record { profile = h.profile; no_fault = h.no_fault; passes = h.passes; agrees = h.agrees; games = h.games; plies = h.plies; probed = h.probed; tried = h.tried; at_hand = tt } }
+    record { lexer = stands.lexer; has_read = record { profile = h.profile; no_fault = h.no_fault; passes = h.passes; agrees = h.agrees; games = h.games; plies = h.plies; probed = h.probed; tried = h.tried; just_finished = tt } }
 
 -- what follows the first byte of the piece follows the byte known
 follows_from : (b : Option ℕ) (x : ℕ) (xs s : List ℕ) → Follows b (x ∷ xs) → Follows (Some x) s → Follows b s
@@ -75,10 +75,10 @@ decided_behind u piece ts h =
     let here = subst (λ xs. IsDecided (u ++ xs) (drop (length piece) piece) ts) (take_all (length piece) piece (le_refl (length piece))) h in
     decided_at_end (u ++ piece) ts (subst (λ xs. IsDecided (u ++ piece) xs ts) (drop_of_length-le piece (le_refl (length piece))) here)
 
--- the piece is used whole, and no token is in hand
+-- the piece is used whole, and no token ends in it
 pub fed_behind : (p : Profile) (u : List ℕ) (b : Option ℕ) (given : List Token) (piece : List ℕ) (at : ℕ) (now : Converter) (a c : Option (List ℕ)) → SoFar p u b given piece at now a c
-    → at ≡ length piece → now.at_hand ≡ None → FedAll p u b given piece now a c
-fed_behind p u b given piece at now a c so end hand =
+    → at ≡ length piece → now.just_finished ≡ None → FedAll p u b given piece now a c
+fed_behind p u b given piece at now a c so end finished =
     let stands = subst (λ n. Stands p now (u ++ take n piece) (next_at b piece n) so.tokens) end so.stands in
     record {
       tokens = so.tokens;
@@ -87,7 +87,7 @@ fed_behind p u b given piece at now a c so end hand =
       decided = λ some. decided_behind u piece so.tokens (subst (λ n. IsDecided (u ++ take n piece) (drop n piece) so.tokens) end (so.decided (omega (arith, some, end))));
       empty = so.empty;
       no_game = so.no_game;
-      none_at_hand = hand;
+      none_just_finished = finished;
       gains = so.gains;
     }
 
@@ -126,15 +126,15 @@ module _ (p : Profile) (u : List ℕ) (b : Option ℕ) (given : List Token) (pie
       }
 
   -- no token more
-  pub fed_all : (new : Converter) (used : ℕ) → AfterStep p (u ++ take at piece) so.tokens (drop at piece) new used (Ok None) c d → new.at_hand ≡ None → FedAll p u b given piece new a d
-  fed_all new used (all, stands, is_decided, gains) hand =
+  pub fed_all : (new : Converter) (used : ℕ) → AfterStep p (u ++ take at piece) so.tokens (drop at piece) new used (Ok None) c d → new.just_finished ≡ None → FedAll p u b given piece new a d
+  fed_all new used (all, stands, is_decided, gains) finished =
       record {
         tokens = so.tokens;
         stands = subst (λ n. Stands p new (u ++ piece) n so.tokens) (sym (still_some b piece some)) (subst (λ xs. Stands p new xs None so.tokens) (whole_piece u piece at) stands);
         decided = λ h. is_decided ∙ ap decided (whole_piece u piece at);
         empty = so.empty;
         no_game = so.no_game;
-        none_at_hand = hand;
+        none_just_finished = finished;
         gains = gains_more p given so.tokens so.tokens a c d so.gains gains;
       }
     where
@@ -145,7 +145,7 @@ module _ (p : Profile) (u : List ℕ) (b : Option ℕ) (given : List Token) (pie
   -- a marker
   pub fed_game : (new : Converter) (used : ℕ) → length u + length piece ≤ 2 ^ 62
       → AfterStep p (u ++ take at piece) so.tokens (drop at piece) new used (Ok (Some Finished)) c d → FedGame p u given piece (at + used) new a d
-  fed_game new used short (t, took, (g, one, hand)) =
+  fed_game new used short (t, took, (g, one, finished)) =
       let place : length (u ++ take at piece) + used ≡ length u + (at + used) =
       omega (arith, length-append u (take at piece), length-take-le at piece (omega arith)) in
       record {
@@ -159,7 +159,7 @@ module _ (p : Profile) (u : List ℕ) (b : Option ℕ) (given : List Token) (pie
         ends = subst (EndsAt t.kind t.at) place took.ends;
         no_game = so.no_game;
         one_game = one ∙ ap (λ games. games ++ g ∷ []) so.no_game;
-        at_hand = hand;
+        just_finished = finished;
         gains = gains_more p given so.tokens (so.tokens ++ t ∷ []) a c d so.gains took.gains;
       }
 
@@ -242,7 +242,7 @@ module _ (p : Profile) (u : List ℕ) (b : Option ℕ) (given : List Token) (pie
         ends = fed.ends;
         no_game = fed.no_game;
         one_game = fed.one_game;
-        at_hand = fed.at_hand;
+        just_finished = fed.just_finished;
         gains = fed.gains;
       }
 
@@ -284,7 +284,7 @@ module _ (p : Profile) (u : List ℕ) (b : Option ℕ) (given : List Token) (pie
 pub counts_step : (r : Reason) (x y z : ℕ) → y ≡ x → CountsReason r y z → CountsReason r x z
 counts_step r x y z same h = subst (λ n. CountsReason r n z) same h
 
--- no game at hand
-pub none_at_hand : (o : Option AtHand) → is_some o ≡ false → o ≡ None
-none_at_hand None h = refl
-none_at_hand (Some hand) h = absurd (cc)
+-- no game is just finished
+pub none_just_finished : (o : Option FinishedGame) → is_some o ≡ false → o ≡ None
+none_just_finished None h = refl
+none_just_finished (Some finished) h = absurd (cc)

@@ -13,7 +13,7 @@ use Rattle.pgn_lexer.specs.PartialToken.{refusal as refusal_token}
 use Rattle.pgn_lexer.specs.Scanned.{more, token, fault}
 use Rattle.pgn_lexer.specs.Standing.{Standing, coming, waiting}
 use Rattle.pgn_lexer.specs.Stands.{AfterScan, FinishGivesToken, Follows, HasLeft, IsNext, StandsAfter, first, still}
-use Rattle.pgn_game.specs.declared.accept.Accepted.TheVariants.{More as Continues, Finished}
+use Rattle.pgn_game.specs.declared.accepted.Accepted.TheVariants.{More as Continues, Finished}
 use Rattle.pgn_game.specs.declared.checked.Mark.{Mark as CodeMark}
 use Rattle.pgn_game.specs.declared.checked.Taken.{Taken}
 use Rattle.pgn_game.specs.declared.checked.Taken.TheVariants.{More, Game as GameEnd, End}
@@ -225,7 +225,7 @@ agrees_back q r part (text, is) agrees = agrees_under r.profile (reading_under q
 read_alike : (q : Profile) (s : Pass) (l : Standing) (unused : List ℕ) (given : List Token) → HasRead q (as_converter q s) given
     → HasRead q (as_converter q (record s { lexer = l; unused = unused })) given
 read_alike q s l unused given h =
-    record { profile = h.profile; no_fault = h.no_fault; passes = h.passes; agrees = h.agrees; games = h.games; plies = h.plies; probed = h.probed; tried = h.tried; at_hand = h.at_hand }
+    record { profile = h.profile; no_fault = h.no_fault; passes = h.passes; agrees = h.agrees; games = h.games; plies = h.plies; probed = h.probed; tried = h.tried; just_finished = h.just_finished }
 
 waits_at_end : (e : Bool) (l : Standing) (unused : List ℕ) (given : List Token) (u : List ℕ) (left_old : Option (List ℕ)) → e ≡ true → StandsIn e l unused given u left_old
     → HasLeft l u given × (unused ≡ []) × IfSome left_old (λ s. s ≡ u)

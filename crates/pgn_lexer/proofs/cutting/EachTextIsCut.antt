@@ -238,13 +238,13 @@ module _ (n at : ℕ) (on : Further n) where
   from_outside first b bs short classes.LineEnd says = let more = on (rules.outside (is_line_end b)) (at + 1) bs short in (_, rules.space first at b bs more.0 (or_left (is_line_end b) (is_blank b) says) more.1)
   from_outside first b bs short classes.Space says = let more = on (rules.outside (is_line_end b)) (at + 1) bs short in (_, rules.space first at b bs more.0 (or_right (is_line_end b) (is_blank b) says.1) more.1)
   from_outside false b bs short classes.Percent says = subst (λ b. Cut (rules.outside false) at (b ∷ bs)) (sym (eqb-true b 37 says)) (_, rules.stray_percent at bs)
-  from_outside true b bs short classes.Percent says = subst (λ b. Cut (rules.outside true) at (b ∷ bs)) (sym (eqb-true b 37 says)) (escape (split (λ b. not (is_line_end b)) bs))
+  from_outside true b bs short classes.Percent says = subst (λ b. Cut (rules.outside true) at (b ∷ bs)) (sym (eqb-true b 37 says)) (escape_line (split (λ b. not (is_line_end b)) bs))
     where
-      escape : Split (λ b. not (is_line_end b)) bs → Cut (rules.outside true) at (37 ∷ bs)
-      escape h =
+      escape_line : Split (λ b. not (is_line_end b)) bs → Cut (rules.outside true) at (37 ∷ bs)
+      escape_line h =
           let less : length h.rest ≤ length bs = h.shorter in
           let more = on (rules.outside false) (at + 1 + length h.run) h.rest (omega arith) in
-          cut_as _ at (37 ∷ bs) (37 ∷ (h.run ++ h.rest)) (ap (λ l. 37 ∷ l) h.cut) (_, rules.escape at h.run h.rest more.0 (h.all, h.stop) more.1)
+          cut_as _ at (37 ∷ bs) (37 ∷ (h.run ++ h.rest)) (ap (λ l. 37 ∷ l) h.cut) (_, rules.escape_line at h.run h.rest more.0 (h.all, h.stop) more.1)
   from_outside first b bs short classes.SymbolStart says = a_symbol first b bs says short (split continues_symbol bs)
   from_outside first b bs short classes.Quote says = subst (λ b. Cut (rules.outside first) at (b ∷ bs)) (sym (eqb-true b 34 says)) (a_string first bs short (has_data (length bs) 0 bs (omega arith) (omega arith)))
   from_outside first b bs short classes.Dollar says = subst (λ b. Cut (rules.outside first) at (b ∷ bs)) (sym (eqb-true b 36 says)) (a_glyph first bs short (split is_digit bs))

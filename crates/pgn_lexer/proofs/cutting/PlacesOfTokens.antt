@@ -155,7 +155,7 @@ line_from at goes comments.Control b bs = omega arith
 begins_from : (at : ℕ) (within : Within) (b : ℕ) (bs : List ℕ) → FoundFrom at (begins at within b bs)
 begins_from at tokens.column b bs = first_from at (class b) b bs
 begins_from at tokens.outside b bs = class_from at (class b) b bs
-begins_from at tokens.in_escape b bs = tt
+begins_from at tokens.in_escape_line b bs = tt
 begins_from at tokens.in_symbol b bs = after_from at (continues_symbol b) (class b) b bs
 begins_from at tokens.in_glyph b bs = after_from at (is_digit b) (class b) b bs
 begins_from at tokens.in_suffix b bs = after_from at (is_suffix b) (class b) b bs
@@ -182,7 +182,7 @@ onto_from at (stops place r) ts from all = (from, tt)
 end_from : (at : ℕ) (within : Within) → AllFrom at (at_end at within)
 end_from at tokens.column = (omega arith, tt)
 end_from at tokens.outside = (omega arith, tt)
-end_from at tokens.in_escape = (omega arith, tt)
+end_from at tokens.in_escape_line = (omega arith, tt)
 end_from at tokens.in_symbol = (omega arith, tt)
 end_from at tokens.in_glyph = (omega arith, tt)
 end_from at tokens.in_suffix = (omega arith, tt)
@@ -221,7 +221,7 @@ onto_rises at (stops place r) ts from all rises = tt
 end_rises : (at : ℕ) (within : Within) → RisesTo (at_end at within)
 end_rises at tokens.column = tt
 end_rises at tokens.outside = tt
-end_rises at tokens.in_escape = tt
+end_rises at tokens.in_escape_line = tt
 end_rises at tokens.in_symbol = tt
 end_rises at tokens.in_glyph = tt
 end_rises at tokens.in_suffix = tt

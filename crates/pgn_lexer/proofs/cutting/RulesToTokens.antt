@@ -121,18 +121,18 @@ suffix_cut first at b run s e all stop =
     ∙ ap (onto at (suffix_at at (b ∷ run))) (skips places.in_suffix places.outside is_suffix suffix_goes suffix_stops (at + 1) run s all stop)
 
 -- an escape line
-escape_goes : (at b : ℕ) (s : List ℕ) → not (is_line_end b) ≡ true → tokens_from at places.in_escape (b ∷ s) ≡ tokens_from (at + 1) places.in_escape s
-escape_goes at b s e = ap (λ c. tokens_from (at + 1) (if c then places.column else places.in_escape) s) (not_true (is_line_end b) e)
+escape_line_goes : (at b : ℕ) (s : List ℕ) → not (is_line_end b) ≡ true → tokens_from at places.in_escape_line (b ∷ s) ≡ tokens_from (at + 1) places.in_escape_line s
+escape_line_goes at b s e = ap (λ c. tokens_from (at + 1) (if c then places.column else places.in_escape_line) s) (not_true (is_line_end b) e)
 
-escape_stops : (at : ℕ) (s : List ℕ) → StopsAt (λ b. not (is_line_end b)) s → tokens_from at places.in_escape s ≡ tokens_from at places.outside s
-escape_stops at [] stop = refl
-escape_stops at (b ∷ s) stop =
+escape_line_stops : (at : ℕ) (s : List ℕ) → StopsAt (λ b. not (is_line_end b)) s → tokens_from at places.in_escape_line s ≡ tokens_from at places.outside s
+escape_line_stops at [] stop = refl
+escape_line_stops at (b ∷ s) stop =
     let e : is_line_end b ≡ true = not_false (is_line_end b) stop in
-    ap (λ c. tokens_from (at + 1) (if c then places.column else places.in_escape) s) e ∙ sym (from_class false at b s classes.LineEnd (line_end_class b e) (λ e. cc))
+    ap (λ c. tokens_from (at + 1) (if c then places.column else places.in_escape_line) s) e ∙ sym (from_class false at b s classes.LineEnd (line_end_class b e) (λ e. cc))
 
-pub escape_cut : (at : ℕ) (run s : List ℕ) → list_all (λ b. not (is_line_end b)) run ≡ true → StopsAt (λ b. not (is_line_end b)) s
+pub escape_line_cut : (at : ℕ) (run s : List ℕ) → list_all (λ b. not (is_line_end b)) run ≡ true → StopsAt (λ b. not (is_line_end b)) s
     → tokens_from at places.column (37 ∷ (run ++ s)) ≡ tokens_from (at + 1 + length run) places.outside s
-escape_cut at run s all stop = skips places.in_escape places.outside (λ b. not (is_line_end b)) escape_goes escape_stops (at + 1) run s all stop
+escape_line_cut at run s all stop = skips places.in_escape_line places.outside (λ b. not (is_line_end b)) escape_line_goes escape_line_stops (at + 1) run s all stop
 
 -- in a comment
 abbrev pub word_within : Bool → Within
@@ -292,7 +292,7 @@ pub cuts_is : (w : Where) (at : ℕ) (s : List ℕ) (ts : List Token) → Cuts w
 cuts_is _ _ _ _ (rules.ends true at) = refl
 cuts_is _ _ _ _ (rules.ends false at) = refl
 cuts_is _ _ _ _ (rules.space first at b s ts e more) = cuts_is _ _ _ _ more ∙ sym (space_skips first at b s e)
-cuts_is _ _ _ _ (rules.escape at run s ts long more) = cuts_is _ _ _ _ more ∙ sym (escape_cut at run s long.0 long.1)
+cuts_is _ _ _ _ (rules.escape_line at run s ts long more) = cuts_is _ _ _ _ more ∙ sym (escape_line_cut at run s long.0 long.1)
 cuts_is _ _ _ _ (rules.stray_percent at s) = refl
 cuts_is _ _ _ _ (rules.token first at run s k ts spelled more) = ap (λ ts. record { at = at; kind = k } ∷ ts) (cuts_is _ _ _ _ more) ∙ sym (spells_is first at run s k spelled)
 cuts_is _ _ _ _ (rules.refuses first at n s r bad) = sym (refuses_is first at s n r bad)

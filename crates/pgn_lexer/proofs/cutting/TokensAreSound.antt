@@ -101,7 +101,7 @@ cut_sound : (w : Where) (at : ℕ) (s : List ℕ) (ts : List Token) → Cuts w a
     → SoundFrom (is_inside w) ts
 cut_sound _ _ _ _ (rules.ends first at) = record { texts = (tt, tt); comments = tt }
 cut_sound _ _ _ _ (rules.space first at b s ts e more) = cut_sound _ _ _ _ more
-cut_sound _ _ _ _ (rules.escape at run s ts long more) = cut_sound _ _ _ _ more
+cut_sound _ _ _ _ (rules.escape_line at run s ts long more) = cut_sound _ _ _ _ more
 cut_sound _ _ _ _ (rules.stray_percent at s) = record { texts = (tt, tt); comments = tt }
 cut_sound _ _ _ _ (rules.token first at run s k ts spelled more) =
     let rest = cut_sound _ _ _ _ more in

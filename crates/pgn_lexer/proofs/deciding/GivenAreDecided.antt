@@ -9,7 +9,7 @@ use Rattle.pgn_lexer.specs.Tokens.{Kind, Token, symbol, str, glyph, word, commen
 use Rattle.pgn_lexer.specs.Spelling.{gives, stops, symbol_at, word_at, numbered_at}
 use Rattle.pgn_lexer.specs.TokensOf.{onto, tokens_of}
 use Rattle.pgn_lexer.specs.Decided.{common, decided}
-use Rattle.pgn_lexer.specs.PartialToken.{PartialToken, IsSound, IsGoing, tokens_to_come, tokens_to_come_in}
+use Rattle.pgn_lexer.specs.PartialToken.{PartialToken, IsSound, HasNotFailed, tokens_to_come, tokens_to_come_in}
 use Rattle.pgn_lexer.proofs.deciding.CommonTokens.{common-append, common-refl, head, common_heads, no_head}
 use Rattle.pgn_lexer.proofs.stepping.ByteInSymbol.{symbol_fits}
 use Rattle.pgn_lexer.proofs.stepping.ByteInComment.{word_fits}
@@ -92,43 +92,43 @@ glyph_differs at n is js t small false e f =
     cc
 
 -- at the next token two of the six ends differ
-differ : (m : Mode) (place at : ℕ) (text : List ℕ) (t : Token) → length text ≤ 255 → IsGoing m → IsSound place (record { mode = m; at = at; text = text })
+differ : (m : Mode) (place at : ℕ) (text : List ℕ) (t : Token) → length text ≤ 255 → HasNotFailed m → IsSound place (record { mode = m; at = at; text = text })
     → head (tokens_to_come_in m place at text []) ≡ Some t → head (tokens_to_come_in m place at text (49 ∷ [])) ≡ Some t → head (tokens_to_come_in m place at text (33 ∷ [])) ≡ Some t
     → head (tokens_to_come_in m place at text (34 ∷ 34 ∷ [])) ≡ Some t → head (tokens_to_come_in m place at text (191 ∷ [])) ≡ Some t → head (tokens_to_come_in m place at text (187 ∷ 191 ∷ [])) ≡ Some t → ⊥
-differ modes.Start place at text t fits going sound none one mark quotes bf bbbf =
+differ modes.Start place at text t fits not_failed sound none one mark quotes bf bbbf =
     let same = one_kind 0 0 end (symbol (49 ∷ [])) t none one in cc
-differ modes.AfterEf place at text t fits going sound none one mark quotes bf bbbf = let same = one_place 0 3 _ _ t none bbbf in absurd (omega arith)
-differ modes.AfterEfBb place at text t fits going sound none one mark quotes bf bbbf = let same = one_place 0 3 _ _ t none bf in absurd (omega arith)
-differ modes.LineStart place at text t fits going sound none one mark quotes bf bbbf =
+differ modes.AfterEf place at text t fits not_failed sound none one mark quotes bf bbbf = let same = one_place 0 3 _ _ t none bbbf in absurd (omega arith)
+differ modes.AfterEfBb place at text t fits not_failed sound none one mark quotes bf bbbf = let same = one_place 0 3 _ _ t none bf in absurd (omega arith)
+differ modes.LineStart place at text t fits not_failed sound none one mark quotes bf bbbf =
     let same = one_kind place place end (symbol (49 ∷ [])) t none one in cc
-differ modes.Outside place at text t fits going sound none one mark quotes bf bbbf =
+differ modes.Outside place at text t fits not_failed sound none one mark quotes bf bbbf =
     let same = one_kind place place end (symbol (49 ∷ [])) t none one in cc
-differ modes.Escape place at text t fits going sound none one mark quotes bf bbbf = let same = one_place place (place + 1) end end t none one in absurd (omega arith)
-differ modes.Symbol place at text t fits going sound none one mark quotes bf bbbf =
+differ modes.EscapeLine place at text t fits not_failed sound none one mark quotes bf bbbf = let same = one_place place (place + 1) end end t none one in absurd (omega arith)
+differ modes.Symbol place at text t fits not_failed sound none one mark quotes bf bbbf =
     symbol_differs at text _ _ t fits (nat_le (length (text ++ 49 ∷ [])) 255) none one
-differ modes.Str place at text t fits going sound none one mark quotes bf bbbf =
+differ modes.Str place at text t fits not_failed sound none one mark quotes bf bbbf =
     let same = one_kind at at _ (str (text ++ [])) t none quotes in cc
-differ modes.AfterBackslash place at text t fits going sound none one mark quotes bf bbbf =
+differ modes.AfterBackslash place at text t fits not_failed sound none one mark quotes bf bbbf =
     let same = one_kind at at _ (str (text ++ 34 ∷ [])) t none quotes in cc
-differ modes.Dollar place at text t fits going sound none one mark quotes bf bbbf =
+differ modes.Dollar place at text t fits not_failed sound none one mark quotes bf bbbf =
     let same = one_kind at at _ (glyph 1) t none one in cc
-differ (modes.Glyph n) place at text t fits going sound none one mark quotes bf bbbf =
+differ (modes.Glyph n) place at text t fits not_failed sound none one mark quotes bf bbbf =
     glyph_differs at n _ _ t sound.room.1 (nat_le (10 * n + 1) 255) none one
-differ (modes.Suffix runs.Good) place at text t fits going sound none one mark quotes bf bbbf = let same = one_kind at at (glyph 1) (glyph 3) t none mark in cc
-differ (modes.Suffix runs.Poor) place at text t fits going sound none one mark quotes bf bbbf = let same = one_kind at at (glyph 2) (glyph 6) t none mark in cc
-differ (modes.Suffix runs.VeryGood) place at text t fits going sound none one mark quotes bf bbbf = let same = one_kind at at (glyph 3) _ t none mark in cc
-differ (modes.Suffix runs.VeryPoor) place at text t fits going sound none one mark quotes bf bbbf = let same = one_kind at at (glyph 4) _ t none mark in cc
-differ (modes.Suffix runs.Speculative) place at text t fits going sound none one mark quotes bf bbbf = let same = one_kind at at (glyph 5) _ t none mark in cc
-differ (modes.Suffix runs.Questionable) place at text t fits going sound none one mark quotes bf bbbf = let same = one_kind at at (glyph 6) _ t none mark in cc
-differ modes.Brace place at text t fits going sound none one mark quotes bf bbbf =
+differ (modes.Suffix runs.Good) place at text t fits not_failed sound none one mark quotes bf bbbf = let same = one_kind at at (glyph 1) (glyph 3) t none mark in cc
+differ (modes.Suffix runs.Poor) place at text t fits not_failed sound none one mark quotes bf bbbf = let same = one_kind at at (glyph 2) (glyph 6) t none mark in cc
+differ (modes.Suffix runs.VeryGood) place at text t fits not_failed sound none one mark quotes bf bbbf = let same = one_kind at at (glyph 3) _ t none mark in cc
+differ (modes.Suffix runs.VeryPoor) place at text t fits not_failed sound none one mark quotes bf bbbf = let same = one_kind at at (glyph 4) _ t none mark in cc
+differ (modes.Suffix runs.Speculative) place at text t fits not_failed sound none one mark quotes bf bbbf = let same = one_kind at at (glyph 5) _ t none mark in cc
+differ (modes.Suffix runs.Questionable) place at text t fits not_failed sound none one mark quotes bf bbbf = let same = one_kind at at (glyph 6) _ t none mark in cc
+differ modes.Brace place at text t fits not_failed sound none one mark quotes bf bbbf =
     let same = one_kind place place _ (word (49 ∷ [])) t none one in cc
-differ modes.BraceWord place at text t fits going sound none one mark quotes bf bbbf =
+differ modes.BraceWord place at text t fits not_failed sound none one mark quotes bf bbbf =
     word_differs at text _ _ t sound.room.1.1 (nat_le (length (text ++ 49 ∷ [])) 79) none one
-differ modes.Line place at text t fits going sound none one mark quotes bf bbbf =
+differ modes.Line place at text t fits not_failed sound none one mark quotes bf bbbf =
     let same = one_kind place place comment_close (word (49 ∷ [])) t none one in cc
-differ modes.LineWord place at text t fits going sound none one mark quotes bf bbbf =
+differ modes.LineWord place at text t fits not_failed sound none one mark quotes bf bbbf =
     word_differs at text _ _ t sound.room.1.1 (nat_le (length (text ++ 49 ∷ [])) 79) none one
-differ (modes.Failed f) place at text t fits going sound none one mark quotes bf bbbf = absurd going
+differ (modes.Failed f) place at text t fits not_failed sound none one mark quotes bf bbbf = absurd not_failed
 
 -- what all six lists begin with
 abbrev pub common_of : List Token → List Token → List Token → List Token → List Token → List Token → List Token
@@ -169,16 +169,16 @@ decided_is given u comes tokens =
     ∙ common_of-append given (comes []) (comes (49 ∷ [])) (comes (33 ∷ [])) (comes (34 ∷ 34 ∷ [])) (comes (191 ∷ [])) (comes (187 ∷ 191 ∷ []))
 
 -- what a lexer that goes on gives next is not decided yet
-pub going_none : (place : ℕ) (h : PartialToken) → IsSound place h → IsGoing h.mode
+pub going_none : (place : ℕ) (h : PartialToken) → IsSound place h → HasNotFailed h.mode
     → common_of (tokens_to_come place h []) (tokens_to_come place h (49 ∷ [])) (tokens_to_come place h (33 ∷ [])) (tokens_to_come place h (34 ∷ 34 ∷ [])) (tokens_to_come place h (191 ∷ [])) (tokens_to_come place h (187 ∷ 191 ∷ [])) ≡ []
-going_none place h sound going = common_of-none _ _ _ _ _ _ (λ t. differ h.mode place h.at h.text t sound.room.0 going sound)
+going_none place h sound not_failed = common_of-none _ _ _ _ _ _ (λ t. differ h.mode place h.at h.text t sound.room.0 not_failed sound)
 
 -- of a lexer that goes on, nothing more is decided
-pub going_decides : (place : ℕ) (h : PartialToken) (u : List ℕ) (given : List Token) → IsSound place h → IsGoing h.mode
+pub going_decides : (place : ℕ) (h : PartialToken) (u : List ℕ) (given : List Token) → IsSound place h → HasNotFailed h.mode
     → ((s : List ℕ) → tokens_of (u ++ s) ≡ given ++ tokens_to_come place h s) → given ≡ decided u
-going_decides place h u given sound going tokens =
+going_decides place h u given sound not_failed tokens =
     sym (decided_is given u (tokens_to_come place h) tokens
-    ∙ ap (λ l. given ++ l) (going_none place h sound going)
+    ∙ ap (λ l. given ++ l) (going_none place h sound not_failed)
     ∙ append-nil given)
 
 -- and where the same comes whatever follows, all of it is decided

@@ -9,7 +9,7 @@ use Rattle.pgn_lexer.specs.declared.partial_token.Step.TheVariants.{Used, Ends, 
 use Rattle.pgn_lexer.specs.Tokens.{Token}
 use Rattle.pgn_lexer.specs.TokensOf.{tokens_of}
 use Rattle.pgn_lexer.specs.Decided.{decided, known}
-use Rattle.pgn_lexer.specs.PartialToken.{PartialToken, tokens_to_come, token_of, refusal, IsSound, IsGoing, pending_in, pending}
+use Rattle.pgn_lexer.specs.PartialToken.{PartialToken, tokens_to_come, token_of, refusal, IsSound, HasNotFailed, pending_in, pending}
 use Rattle.pgn_lexer.specs.Taking.{after_byte}
 use Rattle.pgn_lexer.specs.Laws.{IsPrefix, DecidedIsPrefix, KnownIsPrefix}
 use Rattle.pgn_lexer.proofs.stepping.StepGives.{StepGives, front_of}
@@ -29,7 +29,7 @@ few modes.AfterEf = omega arith
 few modes.AfterEfBb = omega arith
 few modes.LineStart = omega arith
 few modes.Outside = omega arith
-few modes.Escape = omega arith
+few modes.EscapeLine = omega arith
 few modes.Symbol = omega arith
 few modes.Str = omega arith
 few modes.AfterBackslash = omega arith
@@ -50,24 +50,24 @@ same_tokens : (tokens rest : List ℕ → List Token) → ((s : List ℕ) → to
 same_tokens tokens rest same h = record { given = h.given; later = h.later; comes = λ s. same s ∙ h.comes s; none = h.none }
 
 -- by the bytes left, and the tokens that wait
-settles : (n : ℕ) (u : List ℕ) (place : ℕ) (h : PartialToken) → 3 * length u + pending h ≤ n → IsSound place h → IsGoing h.mode → Settles (λ s. tokens_to_come place h (u ++ s))
-settles n [] place h enough sound going = record { given = []; later = tokens_to_come place h; comes = λ s. refl; none = going_none place h sound going }
-settles zero (b ∷ u) place h enough sound going = absurd (omega arith)
-settles (suc n) (b ∷ u) place h enough sound going =
+settles : (n : ℕ) (u : List ℕ) (place : ℕ) (h : PartialToken) → 3 * length u + pending h ≤ n → IsSound place h → HasNotFailed h.mode → Settles (λ s. tokens_to_come place h (u ++ s))
+settles n [] place h enough sound not_failed = record { given = []; later = tokens_to_come place h; comes = λ s. refl; none = going_none place h sound not_failed }
+settles zero (b ∷ u) place h enough sound not_failed = absurd (omega arith)
+settles (suc n) (b ∷ u) place h enough sound not_failed =
     by_step (after_byte place h b).held (after_byte place h b).step (step_gives place h b sound)
-    (λ new fewer sound going. settles n u (place + 1) new fewer sound going) (λ new fewer sound going. settles n (b ∷ u) place new fewer sound going)
+    (λ new fewer sound not_failed. settles n u (place + 1) new fewer sound not_failed) (λ new fewer sound not_failed. settles n (b ∷ u) place new fewer sound not_failed)
   where
     by_step : (new : PartialToken) (step : Step) → StepGives (front_of place h b) new step
-        → ((new : PartialToken) → 3 * length u + pending new ≤ n → IsSound (place + 1) new → IsGoing new.mode → Settles (λ s. tokens_to_come (place + 1) new (u ++ s)))
-        → ((new : PartialToken) → 3 * length (b ∷ u) + pending new ≤ n → IsSound place new → IsGoing new.mode → Settles (λ s. tokens_to_come place new ((b ∷ u) ++ s)))
+        → ((new : PartialToken) → 3 * length u + pending new ≤ n → IsSound (place + 1) new → HasNotFailed new.mode → Settles (λ s. tokens_to_come (place + 1) new (u ++ s)))
+        → ((new : PartialToken) → 3 * length (b ∷ u) + pending new ≤ n → IsSound place new → HasNotFailed new.mode → Settles (λ s. tokens_to_come place new ((b ∷ u) ++ s)))
         → Settles (λ s. tokens_to_come place h ((b ∷ u) ++ s))
     by_step new Used g on again =
-        same_tokens _ _ (λ s. g.comes (u ++ s)) (on new (omega (arith, few new.mode)) g.sound g.going)
+        same_tokens _ _ (λ s. g.comes (u ++ s)) (on new (omega (arith, few new.mode)) g.sound g.not_failed)
     by_step new (Ends form) g on again =
-        after_token _ _ (token_of form new) (λ s. g.comes (u ++ s)) (on new (omega (arith, few new.mode)) g.sound g.going)
+        after_token _ _ (token_of form new) (λ s. g.comes (u ++ s)) (on new (omega (arith, few new.mode)) g.sound g.not_failed)
     by_step new (EndsBefore form) g on again =
         let less : pending new < pending h = g.less in
-        after_token _ _ (token_of form new) (λ s. g.comes (u ++ s)) (again new (omega arith) g.sound g.going)
+        after_token _ _ (token_of form new) (λ s. g.comes (u ++ s)) (again new (omega arith) g.sound g.not_failed)
     by_step new (Fault f) g on again =
         record { given = refusal f ∷ []; later = λ s. []; comes = λ s. g.comes (u ++ s); none = refl }
 

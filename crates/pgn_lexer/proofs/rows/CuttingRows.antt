@@ -138,7 +138,7 @@ word_of_80 law h = absurd (omega (arith, ap length (one_way law _ _ _ long_word 
 line_comment : Lexes (codes ";a\n%\n*") (t 0 comment_open ∷ t 1 (word (codes "a")) ∷ t 2 comment_close ∷ t 5 asterisk ∷ ending 6)
 line_comment =
     rules.unmarked _ _ refl (rules.opens_line true 0 _ _ (rules.word false 1 97 [] (codes "\n%\n*") _ refl (refl, refl) (omega arith)
-    (rules.closes_line 2 10 _ _ refl (rules.escape 3 [] (codes "\n*") _ (refl, refl)
+    (rules.closes_line 2 10 _ _ refl (rules.escape_line 3 [] (codes "\n*") _ (refl, refl)
     (rules.space false 4 10 _ _ refl (rules.token true 5 (codes "*") [] _ _ (rules.single 42 [] _ rules.asterisk) (rules.ends false 6)))))))
 
 percent_after_line_comment : LexesOnce →
@@ -158,13 +158,13 @@ brace_in_line = rules.unmarked _ _ refl (rules.opens_line true 0 _ _ (rules.brac
 -- ---- escape lines (PGN 6) and the byte order mark
 
 -- An escape line begins in the first column alone.
-escape : Lexes (codes "%*\n*") (t 3 asterisk ∷ ending 4)
-escape =
-    rules.unmarked _ _ refl (rules.escape 0 (codes "*") (codes "\n*") _ (refl, refl)
+escape_line : Lexes (codes "%*\n*") (t 3 asterisk ∷ ending 4)
+escape_line =
+    rules.unmarked _ _ refl (rules.escape_line 0 (codes "*") (codes "\n*") _ (refl, refl)
     (rules.space false 2 10 _ _ refl (rules.token true 3 (codes "*") [] _ _ (rules.single 42 [] _ rules.asterisk) (rules.ends false 4))))
 
 escape_of_one_byte : LexesOnce → Lexes (codes "%*\n*") (t 1 asterisk ∷ t 3 asterisk ∷ ending 4) → ⊥
-escape_of_one_byte law h = absurd (omega (arith, ap length (one_way law _ _ _ escape h)))
+escape_of_one_byte law h = absurd (omega (arith, ap length (one_way law _ _ _ escape_line h)))
 
 late_percent : Lexes (codes " %") (t 1 (refused StrayByte) ∷ [])
 late_percent = rules.unmarked _ _ refl (rules.space true 0 32 _ _ refl (rules.stray_percent 1 []))

@@ -11,11 +11,11 @@ use Rattle.pgn_lexer.specs.Bytes.{is_line_end, is_digit, continues_symbol, is_su
 use Rattle.pgn_lexer.specs.Tokens.{HasLength, symbol, glyph, word, end}
 use Rattle.pgn_lexer.specs.Spelling.{class, comment_class, string_class, symbol_at, word_at, suffix_at}
 use Rattle.pgn_lexer.specs.TokensOf.{in_glyph, onto, tokens_from}
-use Rattle.pgn_lexer.specs.PartialToken.{PartialToken, IsSound, IsGoing, tokens_to_come, kind_in, token_of, refusal, pending, spelling, fault_met}
+use Rattle.pgn_lexer.specs.PartialToken.{PartialToken, IsSound, HasNotFailed, tokens_to_come, kind_in, token_of, refusal, pending, spelling, fault_met}
 use Rattle.pgn_lexer.specs.Taking.{after_byte, after_byte_in, after_end, after_end_in, AfterEnd, IsAfterEnd, glyph_of}
 use Rattle.pgn_lexer.proofs.stepping.StepGives.{Gives, front_of}
 use Rattle.pgn_lexer.proofs.stepping.RunOfBytes.{run_closes}
-use Rattle.pgn_lexer.proofs.stepping.FirstBytes.{start_gives, after_ef_gives, after_ef_bb_gives, escape_gives}
+use Rattle.pgn_lexer.proofs.stepping.FirstBytes.{start_gives, after_ef_gives, after_ef_bb_gives, escape_line_gives}
 use Rattle.pgn_lexer.proofs.stepping.ByteOutside.{begin_gives, begin_line_gives}
 use Rattle.pgn_lexer.proofs.stepping.ByteInSymbol.{symbol_gives, symbol_fits}
 use Rattle.pgn_lexer.proofs.stepping.ByteInString.{string_gives, escaped_gives}
@@ -35,7 +35,7 @@ step_in modes.AfterEfBb place at b text fits sound =
     subst (λ p. Gives (front_of p (holds modes.AfterEfBb at text) b) (after_byte_in modes.AfterEfBb p (holds modes.AfterEfBb at text) b)) (sym sound.placed) (after_ef_bb_gives at b text fits (b == 191) refl)
 step_in modes.LineStart place at b text fits sound = begin_line_gives (class b) place b (holds modes.LineStart at text) _ _ fits
 step_in modes.Outside place at b text fits sound = begin_gives (class b) place b (holds modes.Outside at text) _ _ fits
-step_in modes.Escape place at b text fits sound = escape_gives place at b text fits (is_line_end b) refl
+step_in modes.EscapeLine place at b text fits sound = escape_line_gives place at b text fits (is_line_end b) refl
 step_in modes.Symbol place at b text fits sound = symbol_gives place at b text fits sound.room.1 sound.placed (continues_symbol b) refl (nat_lt (length text) 255) refl
 step_in modes.Str place at b text fits sound = string_gives place at b text fits sound.placed (string_class b) refl
 step_in modes.AfterBackslash place at b text fits sound = escaped_gives place at b text sound.room.1 sound.placed (string_class b) refl
@@ -56,8 +56,8 @@ step_gives place h b sound = step_in h.mode place h.at b h.text sound.room.0 sou
 -- what the end of the text gives
 pub record ClosesToken (place : ℕ) (h : PartialToken) (form : TokenForm) (new : PartialToken) : Type 0 where
   pub sound : IsSound place new
-  pub fresh : IsGoing h.mode
-  pub going : IsGoing new.mode
+  pub fresh : HasNotFailed h.mode
+  pub not_failed : HasNotFailed new.mode
   pub lengths : HasLength (kind_in form new.text)
   pub less : pending new < pending h
   pub comes : tokens_to_come place h [] ≡ token_of form new ∷ tokens_to_come place new []
@@ -69,7 +69,7 @@ pub record ClosesFault (place : ℕ) (h : PartialToken) (fault : LexFault) (new 
   pub comes : tokens_to_come place h [] ≡ refusal fault ∷ []
 
 pub record ClosesEnd (place : ℕ) (h new : PartialToken) : Type 0 where
-  pub going : IsGoing h.mode
+  pub not_failed : HasNotFailed h.mode
   pub same : new ≡ h
   pub comes : tokens_to_come place h [] ≡ record { at = place; kind = end } ∷ []
 
@@ -83,27 +83,27 @@ ClosedGives place h t = CloseGives place h t.held t.result
 
 close_in : (m : Mode) (place at : ℕ) (text : List ℕ) → length text ≤ 255 → IsSound place (holds m at text) → ClosedGives place (holds m at text) (after_end_in m place (holds m at text))
 close_in modes.Start place at text fits sound =
-    subst (λ p. ClosedGives p (holds modes.Start at text) (after_end_in modes.Start p (holds modes.Start at text))) (sym sound.placed) (record { going = tt; same = refl; comes = refl })
+    subst (λ p. ClosedGives p (holds modes.Start at text) (after_end_in modes.Start p (holds modes.Start at text))) (sym sound.placed) (record { not_failed = tt; same = refl; comes = refl })
 close_in modes.AfterEf place at text fits sound = record { sound = record { room = (fits, tt); placed = tt }; fails = refl; stays = λ g e. absurd (cc); comes = refl }
 close_in modes.AfterEfBb place at text fits sound = record { sound = record { room = (fits, tt); placed = tt }; fails = refl; stays = λ g e. absurd (cc); comes = refl }
-close_in modes.LineStart place at text fits sound = record { going = tt; same = refl; comes = refl }
-close_in modes.Outside place at text fits sound = record { going = tt; same = refl; comes = refl }
-close_in modes.Escape place at text fits sound = record { going = tt; same = refl; comes = refl }
+close_in modes.LineStart place at text fits sound = record { not_failed = tt; same = refl; comes = refl }
+close_in modes.Outside place at text fits sound = record { not_failed = tt; same = refl; comes = refl }
+close_in modes.EscapeLine place at text fits sound = record { not_failed = tt; same = refl; comes = refl }
 close_in modes.Symbol place at text fits sound =
-    record { sound = record { room = (fits, tt); placed = tt }; fresh = tt; going = tt; lengths = (sound.room.1, fits); less = omega arith; comes = run_closes (symbol_at at) at text _ (symbol text) (symbol_fits at text fits) }
+    record { sound = record { room = (fits, tt); placed = tt }; fresh = tt; not_failed = tt; lengths = (sound.room.1, fits); less = omega arith; comes = run_closes (symbol_at at) at text _ (symbol text) (symbol_fits at text fits) }
 close_in modes.Str place at text fits sound = record { sound = record { room = (fits, tt); placed = tt }; fails = refl; stays = λ g e. absurd (cc); comes = refl }
 close_in modes.AfterBackslash place at text fits sound = record { sound = record { room = (fits, tt); placed = tt }; fails = refl; stays = λ g e. absurd (cc); comes = refl }
 close_in modes.Dollar place at text fits sound = record { sound = record { room = (fits, tt); placed = tt }; fails = refl; stays = λ g e. absurd (cc); comes = refl }
 close_in (modes.Glyph n) place at text fits sound =
-    record { sound = record { room = (fits, tt); placed = tt }; fresh = tt; going = tt; lengths = sound.room.1; less = omega arith; comes = ap (λ f. onto at f (tokens_from place in_glyph [])) (number_fits at n sound.room.1) }
+    record { sound = record { room = (fits, tt); placed = tt }; fresh = tt; not_failed = tt; lengths = sound.room.1; less = omega arith; comes = ap (λ f. onto at f (tokens_from place in_glyph [])) (number_fits at n sound.room.1) }
 close_in (modes.Suffix run) place at text fits sound =
-    record { sound = record { room = (fits, tt); placed = tt }; fresh = tt; going = tt; lengths = small_suffix place at 0 text fits sound.placed run; less = omega arith; comes = run_closes (suffix_at at) at (spelling run) _ (glyph (glyph_of run)) (spelled place at 0 text fits sound.placed run) }
+    record { sound = record { room = (fits, tt); placed = tt }; fresh = tt; not_failed = tt; lengths = small_suffix place at 0 text fits sound.placed run; less = omega arith; comes = run_closes (suffix_at at) at (spelling run) _ (glyph (glyph_of run)) (spelled place at 0 text fits sound.placed run) }
 close_in modes.Brace place at text fits sound = record { sound = record { room = (fits, tt); placed = tt }; fails = refl; stays = λ g e. absurd (cc); comes = refl }
 close_in modes.BraceWord place at text fits sound =
-    record { sound = record { room = (fits, tt); placed = tt }; fresh = tt; going = tt; lengths = (sound.room.1.0, sound.room.1.1); less = omega arith; comes = run_closes (word_at at) at text _ (word text) (word_fits at text sound.room.1.1) }
-close_in modes.Line place at text fits sound = record { sound = record { room = (fits, tt); placed = tt }; fresh = tt; going = tt; lengths = tt; less = omega arith; comes = refl }
+    record { sound = record { room = (fits, tt); placed = tt }; fresh = tt; not_failed = tt; lengths = (sound.room.1.0, sound.room.1.1); less = omega arith; comes = run_closes (word_at at) at text _ (word text) (word_fits at text sound.room.1.1) }
+close_in modes.Line place at text fits sound = record { sound = record { room = (fits, tt); placed = tt }; fresh = tt; not_failed = tt; lengths = tt; less = omega arith; comes = refl }
 close_in modes.LineWord place at text fits sound =
-    record { sound = record { room = (fits, tt); placed = tt }; fresh = tt; going = tt; lengths = (sound.room.1.0, sound.room.1.1); less = omega arith; comes = run_closes (word_at at) at text _ (word text) (word_fits at text sound.room.1.1) }
+    record { sound = record { room = (fits, tt); placed = tt }; fresh = tt; not_failed = tt; lengths = (sound.room.1.0, sound.room.1.1); less = omega arith; comes = run_closes (word_at at) at text _ (word text) (word_fits at text sound.room.1.1) }
 close_in (modes.Failed f) place at text fits sound = record { sound = record { room = (fits, tt); placed = tt }; fails = refl; stays = λ g e. (cc, refl); comes = refl }
 
 pub close_gives : (place : ℕ) (h : PartialToken) → IsSound place h → ClosedGives place h (after_end place h)

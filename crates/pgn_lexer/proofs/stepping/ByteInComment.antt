@@ -43,12 +43,12 @@ abbrev from_brace : ℕ → ℕ → List Token → ℕ → CommentClass → Fron
 from_brace place b ended waits c = record { place = place; byte = b; front = λ s. onto place (begins_brace place false c b s) (tokens_from (place + 1) (after_brace c) s); ended = ended; waits = waits }
 
 brace_class : (c : CommentClass) (place b : ℕ) (h : PartialToken) (ended : List Token) (waits : ℕ) → length h.text ≤ 255 → Gives (from_brace place b ended waits c) (taking.brace place h b c)
-brace_class comments.LineEnd place b h ended waits fits = record { sound = record { room = (fits, tt); placed = tt }; going = tt; comes = λ s. refl }
-brace_class comments.Space place b h ended waits fits = record { sound = record { room = (fits, tt); placed = tt }; going = tt; comes = λ s. refl }
+brace_class comments.LineEnd place b h ended waits fits = record { sound = record { room = (fits, tt); placed = tt }; not_failed = tt; comes = λ s. refl }
+brace_class comments.Space place b h ended waits fits = record { sound = record { room = (fits, tt); placed = tt }; not_failed = tt; comes = λ s. refl }
 brace_class comments.CloseBrace place b h ended waits fits =
-    record { sound = record { room = (fits, tt); placed = tt }; going = tt; before = omega arith; lengths = tt; ends_at = refl; closed = refl; few = omega arith; comes = λ s. refl }
+    record { sound = record { room = (fits, tt); placed = tt }; not_failed = tt; before = omega arith; lengths = tt; ends_at = refl; closed = refl; few = omega arith; comes = λ s. refl }
 brace_class comments.WordByte place b h ended waits fits =
-    record { sound = record { room = (omega arith, (omega arith, omega arith)); placed = omega arith }; going = tt; comes = λ s. refl }
+    record { sound = record { room = (omega arith, (omega arith, omega arith)); placed = omega arith }; not_failed = tt; comes = λ s. refl }
 brace_class comments.Control place b h ended waits fits = record { sound = record { room = (fits, tt); placed = tt }; fails = refl; comes = λ s. refl }
 
 pub brace_gives : (place b : ℕ) (h : PartialToken) (ended : List Token) (waits : ℕ) → length h.text ≤ 255
@@ -61,11 +61,11 @@ from_line place b ended waits c = record { place = place; byte = b; front = λ s
 
 line_class : (c : CommentClass) (place b : ℕ) (h : PartialToken) (ended : List Token) (waits : ℕ) → length h.text ≤ 255 → Gives (from_line place b ended waits c) (taking.line place h b c)
 line_class comments.LineEnd place b h ended waits fits =
-    record { sound = record { room = (fits, tt); placed = tt }; going = tt; before = omega arith; lengths = tt; ends_at = refl; closed = refl; few = omega arith; comes = λ s. refl }
-line_class comments.Space place b h ended waits fits = record { sound = record { room = (fits, tt); placed = tt }; going = tt; comes = λ s. refl }
+    record { sound = record { room = (fits, tt); placed = tt }; not_failed = tt; before = omega arith; lengths = tt; ends_at = refl; closed = refl; few = omega arith; comes = λ s. refl }
+line_class comments.Space place b h ended waits fits = record { sound = record { room = (fits, tt); placed = tt }; not_failed = tt; comes = λ s. refl }
 line_class comments.CloseBrace place b h ended waits fits = record { sound = record { room = (fits, tt); placed = tt }; fails = refl; comes = λ s. refl }
 line_class comments.WordByte place b h ended waits fits =
-    record { sound = record { room = (omega arith, (omega arith, omega arith)); placed = omega arith }; going = tt; comes = λ s. refl }
+    record { sound = record { room = (omega arith, (omega arith, omega arith)); placed = omega arith }; not_failed = tt; comes = λ s. refl }
 line_class comments.Control place b h ended waits fits = record { sound = record { room = (fits, tt); placed = tt }; fails = refl; comes = λ s. refl }
 
 pub line_gives : (place b : ℕ) (h : PartialToken) (ended : List Token) (waits : ℕ) → length h.text ≤ 255
@@ -103,7 +103,7 @@ module _ (place at b : ℕ) (text : List ℕ) (some : 0 < length text) (fits : l
       let short : length text < 79 = ltb-true _ _ room in
       record {
         sound = record { room = (omega (arith, length-append text (b ∷ [])), (omega (arith, length-append text (b ∷ [])), omega (arith, length-append text (b ∷ [])))); placed = omega (arith, length-append text (b ∷ [])) };
-        going = tt;
+        not_failed = tt;
         comes = λ s. run_grows (word_at at) continues_word at b text s _ _ w (ap (brace_tokens place true b s) e);
       }
   brace_letter e w false full =
@@ -122,7 +122,7 @@ module _ (place at b : ℕ) (text : List ℕ) (some : 0 < length text) (fits : l
       let short : length text < 79 = ltb-true _ _ room in
       record {
         sound = record { room = (omega (arith, length-append text (b ∷ [])), (omega (arith, length-append text (b ∷ [])), omega (arith, length-append text (b ∷ [])))); placed = omega (arith, length-append text (b ∷ [])) };
-        going = tt;
+        not_failed = tt;
         comes = λ s. run_grows (word_at at) continues_word at b text s _ _ w (ap (line_tokens place true b s) e);
       }
   line_letter e w false full =
@@ -141,7 +141,7 @@ module _ (place at b : ℕ) (text : List ℕ) (some : 0 < length text) (fits : l
   brace_word_ends other =
       record {
         sound = record { room = (omega arith, tt); placed = tt };
-        going = tt;
+        not_failed = tt;
         before = omega arith;
         lengths = (some, fits);
         ends_at = began;
@@ -160,7 +160,7 @@ module _ (place at b : ℕ) (text : List ℕ) (some : 0 < length text) (fits : l
   line_word_ends other =
       record {
         sound = record { room = (omega arith, tt); placed = tt };
-        going = tt;
+        not_failed = tt;
         before = omega arith;
         lengths = (some, fits);
         ends_at = began;

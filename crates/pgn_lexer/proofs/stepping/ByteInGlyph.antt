@@ -44,7 +44,7 @@ pub glyph_gives : (place at b n : ℕ) (text : List ℕ) → length text ≤ 255
 glyph_gives place at b n text fits small began true e true low =
     record {
       sound = record { room = (fits, leb-true _ _ low); placed = omega arith };
-      going = tt;
+      not_failed = tt;
       comes = λ s. run_grows (λ run. numbered_at at (number_from n run)) is_digit at b [] s _ _ e (glyph_goes place b s e);
     }
 glyph_gives place at b n text fits small began true e false high =
@@ -58,7 +58,7 @@ glyph_gives place at b n text fits small began true e false high =
 glyph_gives place at b n text fits small began false e d _ =
     record {
       sound = record { room = (fits, tt); placed = tt };
-      going = tt;
+      not_failed = tt;
       before = began;
       lengths = small;
       ends_at = began;
@@ -78,7 +78,7 @@ dollar_gives place at b text fits began true e =
     let first : 10 * 0 + (b - 48) ≡ b - 48 = omega arith in
     record {
       sound = record { room = (fits, omega (arith, digit_small b e)); placed = omega arith };
-      going = tt;
+      not_failed = tt;
       comes = λ s. ap (λ run. onto at (glyph_at at run) (tokens_from place in_glyph (b ∷ s))) (take_while-true is_digit b s e)
           ∙ ap (λ n. onto at (numbered_at at (number_from n (take_while is_digit s))) (tokens_from place in_glyph (b ∷ s))) first
           ∙ ap (onto at (numbered_at at (number_from (b - 48) (take_while is_digit s)))) (glyph_goes place b s e);
@@ -111,7 +111,7 @@ module _ (place at b : ℕ) (text : List ℕ) (fits : length text ≤ 255) (bega
   more run next e second =
       record {
         sound = record { room = (fits, tt); placed = omega arith };
-        going = tt;
+        not_failed = tt;
         comes = λ s. ap (λ rest. onto at (suffix_at at (spelling run ++ rest)) (tokens_from place in_suffix (b ∷ s))) (take_while-true is_suffix b s e)
             ∙ ap (λ f. onto at f (tokens_from place in_suffix (b ∷ s))) (second (take_while is_suffix s))
             ∙ ap (onto at (suffix_at at (spelling next ++ take_while is_suffix s))) (suffix_goes place b s e);
@@ -161,7 +161,7 @@ module _ (place at b : ℕ) (text : List ℕ) (fits : length text ≤ 255) (bega
   suffix_gives run false e =
       record {
         sound = record { room = (fits, tt); placed = tt };
-        going = tt;
+        not_failed = tt;
         before = began;
         lengths = small_suffix run;
         ends_at = began;

@@ -60,7 +60,7 @@ module _ (place at b : ℕ) (text : List ℕ) (fits : length text ≤ 255) (bega
   plain_backslash true room e =
       record {
         sound = record { room = (fits, ltb-true _ _ room); placed = omega arith };
-        going = tt;
+        not_failed = tt;
         comes = λ s. by_class strings.Backslash s e
             ∙ ap (λ d. string_tokens place at text s (elim d [ true ↦ reading at (place + 1) (length text) true s | false ↦ broken at StringTooLong ]) strings.Backslash) room;
       }
@@ -86,7 +86,7 @@ module _ (place at b : ℕ) (text : List ℕ) (fits : length text ≤ 255) (bega
       let short : length text < 255 = ltb-true _ _ room in
       record {
         sound = record { room = (omega (arith, length-append text (b ∷ [])), tt); placed = omega arith };
-        going = tt;
+        not_failed = tt;
         comes = λ s. by_class strings.Plain s e
             ∙ ap (λ d. string_tokens place at text s (elim d [ true ↦ datum b (reading at (place + 1) (length text + 1) false s) | false ↦ broken at StringTooLong ]) strings.Plain) room
             ∙ datum_comes s;
@@ -105,7 +105,7 @@ module _ (place at b : ℕ) (text : List ℕ) (fits : length text ≤ 255) (bega
   string_gives strings.Quote e =
       record {
         sound = record { room = (fits, tt); placed = tt };
-        going = tt;
+        not_failed = tt;
         before = omega arith;
         lengths = fits;
         ends_at = omega arith;
@@ -130,7 +130,7 @@ module _ (place at b : ℕ) (text : List ℕ) (short : length text < 255) (began
   taken_back c same =
       record {
         sound = record { room = (omega (arith, length-append text (b ∷ [])), tt); placed = omega arith };
-        going = tt;
+        not_failed = tt;
         comes = λ s. same s ∙ datum_comes place at b text (omega arith) began s;
       }
 
@@ -142,7 +142,7 @@ module _ (place at b : ℕ) (text : List ℕ) (short : length text < 255) (began
       let longer : length ((text ++ 92 ∷ []) ++ b ∷ []) ≡ length text + 2 = omega (arith, length-append (text ++ 92 ∷ []) (b ∷ []), length-append text (92 ∷ [])) in
       record {
         sound = record { room = (omega arith, tt); placed = omega arith };
-        going = tt;
+        not_failed = tt;
         comes = λ s. by_escaped strings.Plain s e
             ∙ ap (λ d. escaped_tokens place at text s (elim d [ true ↦ datum 92 (datum b (reading at (place + 1) (length text + 2) false s)) | false ↦ broken at StringTooLong ])) room
             ∙ ap (λ r. onto at (string_at r) (tokens_from (place + 1) quotes s))

@@ -28,7 +28,7 @@ symbol_gives place at b text fits some began true e true room =
     let short : length text < 255 = ltb-true _ _ room in
     record {
       sound = record { room = (omega (arith, length-append text (b ∷ [])), omega (arith, length-append text (b ∷ []))); placed = omega (arith, length-append text (b ∷ [])) };
-      going = tt;
+      not_failed = tt;
       comes = λ s. run_grows (symbol_at at) continues_symbol at b text s _ _ e (symbol_goes place b s e);
     }
 symbol_gives place at b text fits some began true e false full =
@@ -42,7 +42,7 @@ symbol_gives place at b text fits some began true e false full =
 symbol_gives place at b text fits some began false e d _ =
     record {
       sound = record { room = (fits, tt); placed = tt };
-      going = tt;
+      not_failed = tt;
       before = omega arith;
       lengths = (some, fits);
       ends_at = began;

@@ -56,29 +56,29 @@ abbrev pub from_class : ℕ → ℕ → List Token → ℕ → Class → Front
 from_class place b ended waits c = record { place = place; byte = b; front = λ s. onto place (begins_class place c b s) (tokens_from (place + 1) (after_class c) s); ended = ended; waits = waits }
 
 pub begin_gives : (c : Class) (place b : ℕ) (h : PartialToken) (ended : List Token) (waits : ℕ) → length h.text ≤ 255 → Gives (from_class place b ended waits c) (begin place h b c)
-begin_gives classes.LineEnd place b h ended waits fits = record { sound = record { room = (fits, tt); placed = tt }; going = tt; comes = λ s. refl }
-begin_gives classes.Space place b h ended waits fits = record { sound = record { room = (fits, tt); placed = tt }; going = tt; comes = λ s. refl }
+begin_gives classes.LineEnd place b h ended waits fits = record { sound = record { room = (fits, tt); placed = tt }; not_failed = tt; comes = λ s. refl }
+begin_gives classes.Space place b h ended waits fits = record { sound = record { room = (fits, tt); placed = tt }; not_failed = tt; comes = λ s. refl }
 begin_gives classes.Percent place b h ended waits fits = record { sound = record { room = (fits, tt); placed = tt }; fails = refl; comes = λ s. refl }
-begin_gives classes.SymbolStart place b h ended waits fits = record { sound = record { room = (omega arith, omega arith); placed = omega arith }; going = tt; comes = λ s. refl }
+begin_gives classes.SymbolStart place b h ended waits fits = record { sound = record { room = (omega arith, omega arith); placed = omega arith }; not_failed = tt; comes = λ s. refl }
 begin_gives classes.Quote place b h ended waits fits =
     record {
       sound = record { room = (omega arith, tt); placed = omega arith };
-      going = tt;
+      not_failed = tt;
       comes = λ s. ap (λ r. onto place (string_at r) (tokens_from (place + 1) quotes s)) (sym (with_front-nil (reading place (place + 1) 0 false s)));
     }
-begin_gives classes.Dollar place b h ended waits fits = record { sound = record { room = (fits, tt); placed = omega arith }; going = tt; comes = λ s. refl }
+begin_gives classes.Dollar place b h ended waits fits = record { sound = record { room = (fits, tt); placed = omega arith }; not_failed = tt; comes = λ s. refl }
 begin_gives classes.Suffix place b h ended waits fits =
     record {
       sound = record { room = (fits, tt); placed = omega arith };
-      going = tt;
+      not_failed = tt;
       comes = λ s. ap (λ f. onto place f (tokens_from (place + 1) in_suffix s)) (suffix_first place b (take_while is_suffix s) (b == 33) refl);
     }
 begin_gives classes.OpenBrace place b h ended waits fits =
-    record { sound = record { room = (fits, tt); placed = tt }; going = tt; before = omega arith; lengths = tt; ends_at = refl; closed = refl; few = omega arith; comes = λ s. refl }
+    record { sound = record { room = (fits, tt); placed = tt }; not_failed = tt; before = omega arith; lengths = tt; ends_at = refl; closed = refl; few = omega arith; comes = λ s. refl }
 begin_gives classes.Semicolon place b h ended waits fits =
-    record { sound = record { room = (fits, tt); placed = tt }; going = tt; before = omega arith; lengths = tt; ends_at = refl; closed = refl; few = omega arith; comes = λ s. refl }
+    record { sound = record { room = (fits, tt); placed = tt }; not_failed = tt; before = omega arith; lengths = tt; ends_at = refl; closed = refl; few = omega arith; comes = λ s. refl }
 begin_gives (classes.Alone k) place b h ended waits fits =
-    record { sound = record { room = (fits, tt); placed = tt }; going = tt; before = omega arith; lengths = single_length k; ends_at = single_end k place; closed = single_closed k; few = omega arith; comes = λ s. refl }
+    record { sound = record { room = (fits, tt); placed = tt }; not_failed = tt; before = omega arith; lengths = single_length k; ends_at = single_end k place; closed = single_closed k; few = omega arith; comes = λ s. refl }
 begin_gives (classes.Refused r) place b h ended waits fits = record { sound = record { room = (fits, tt); placed = tt }; fails = refl; comes = λ s. refl }
 
 -- in the first column
@@ -86,5 +86,5 @@ abbrev pub from_first : ℕ → ℕ → List Token → ℕ → Class → Front
 from_first place b ended waits c = record { place = place; byte = b; front = λ s. onto place (begins_first place c b s) (tokens_from (place + 1) (after_first c) s); ended = ended; waits = waits }
 
 pub begin_line_gives : (c : Class) (place b : ℕ) (h : PartialToken) (ended : List Token) (waits : ℕ) → length h.text ≤ 255 → Gives (from_first place b ended waits c) (begin_line place h b c)
-begin_line_gives classes.Percent place b h ended waits fits = record { sound = record { room = (fits, tt); placed = tt }; going = tt; comes = λ s. refl }
+begin_line_gives classes.Percent place b h ended waits fits = record { sound = record { room = (fits, tt); placed = tt }; not_failed = tt; comes = λ s. refl }
 begin_line_gives c place b h ended waits fits = begin_gives c place b h ended waits fits

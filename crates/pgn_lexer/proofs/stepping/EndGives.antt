@@ -11,7 +11,7 @@ use Rattle.pgn_lexer.specs.Scanned.{Scanned, token, fault}
 use Rattle.pgn_lexer.specs.Standing.{Standing, coming, waiting, fault_in_mode}
 use Rattle.pgn_lexer.specs.Stands.{FinishGivesToken, IsNext, HasLeft, Finishes}
 use Rattle.pgn_lexer.proofs.stepping.ByteGives.{ClosesToken, ClosesFault, ClosesEnd}
-use Rattle.pgn_lexer.proofs.stepping.StandsAfterCalls.{going_fault, failed_mode, same_parts}
+use Rattle.pgn_lexer.proofs.stepping.StandsAfterCalls.{not_failed_fault, failed_mode, same_parts}
 
 -- a token of a form is no end
 gives_form : (form : TokenForm) (text : List ℕ) (old new : Standing) (t : Token) → coming old [] ≡ t ∷ coming new [] → waiting new < waiting old → new.count ≡ old.count
@@ -56,8 +56,8 @@ module _ (count : ℕ) (old new : PartialToken) where
         closes = (h.comes, ap (λ held. record { count = count; held = held }) h.same);
         lengths = tt;
         left = λ u given left. left ∙ ap (λ l. given ++ l) h.comes;
-        refused = ap (λ (held : PartialToken). fault_in_mode held.mode) h.same ∙ going_fault old.mode h.going;
-        stays = λ f failed. absurd (let none : fault_in_mode old.mode ≡ None = going_fault old.mode h.going in cc);
+        refused = ap (λ (held : PartialToken). fault_in_mode held.mode) h.same ∙ not_failed_fault old.mode h.not_failed;
+        stays = λ f failed. absurd (let none : fault_in_mode old.mode ≡ None = not_failed_fault old.mode h.not_failed in cc);
       }
 
   pub finishes_token : (form : TokenForm) (t : Token) → t.at ≡ new.at → t.kind ≡ kind_in form new.text → ClosesToken count old form new → Finishes before after (token t)
@@ -67,8 +67,8 @@ module _ (count : ℕ) (old new : PartialToken) where
         closes = gives_form form new.text before after (token_of form new) h.comes h.less refl;
         lengths = h.lengths;
         left = λ u given left. next_form form new.text u given after (token_of form new) (left ∙ ap (λ l. given ++ l) h.comes ∙ sym (append_assoc given (token_of form new ∷ []) (tokens_to_come count new [])));
-        refused = going_fault new.mode h.going;
-        stays = λ f failed. absurd (let none : fault_in_mode old.mode ≡ None = going_fault old.mode h.fresh in cc);
+        refused = not_failed_fault new.mode h.not_failed;
+        stays = λ f failed. absurd (let none : fault_in_mode old.mode ≡ None = not_failed_fault old.mode h.fresh in cc);
       })
 
   pub finishes_fault : (f : LexFault) → ClosesFault count old f new → Finishes before after (fault f)

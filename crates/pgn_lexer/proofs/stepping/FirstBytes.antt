@@ -9,7 +9,7 @@ use Rattle.pgn_lexer.specs.declared.partial_token.Step.TheVariants.{Used, Ends, 
 use Rattle.pgn_lexer.specs.Bytes.{is_line_end}
 use Rattle.pgn_lexer.specs.Tokens.{Token}
 use Rattle.pgn_lexer.specs.Spelling.{class}
-use Rattle.pgn_lexer.specs.TokensOf.{column, in_escape, tokens_from, tokens_of, has_mark}
+use Rattle.pgn_lexer.specs.TokensOf.{column, in_escape_line, tokens_from, tokens_of, has_mark}
 use Rattle.pgn_lexer.specs.PartialToken.{PartialToken}
 use Rattle.pgn_lexer.specs.Taking.{into, fails, begin_line}
 use Rattle.pgn_lexer.proofs.stepping.StepGives.{Front, Gives, StepGives, front_of}
@@ -18,10 +18,10 @@ use Rattle.pgn_lexer.proofs.stepping.ByteOutside.{begin_line_gives}
 -- a step gives the same of the same tokens
 same_front : (f : Front) (front : List ℕ → List Token) → ((s : List ℕ) → front s ≡ f.front s) → (new : PartialToken) (step : Step) → StepGives f new step
     → StepGives (record { place = f.place; byte = f.byte; front = front; ended = f.ended; waits = f.waits }) new step
-same_front f front same new Used g = record { sound = g.sound; going = g.going; comes = λ s. same s ∙ g.comes s }
-same_front f front same new (Ends form) g = record { sound = g.sound; going = g.going; before = g.before; lengths = g.lengths; ends_at = g.ends_at; closed = g.closed; few = g.few; comes = λ s. same s ∙ g.comes s }
+same_front f front same new Used g = record { sound = g.sound; not_failed = g.not_failed; comes = λ s. same s ∙ g.comes s }
+same_front f front same new (Ends form) g = record { sound = g.sound; not_failed = g.not_failed; before = g.before; lengths = g.lengths; ends_at = g.ends_at; closed = g.closed; few = g.few; comes = λ s. same s ∙ g.comes s }
 same_front f front same new (EndsBefore form) g =
-    record { sound = g.sound; going = g.going; before = g.before; lengths = g.lengths; ends_at = g.ends_at; runs = g.runs; few = g.few; less = g.less; within = g.within; settled = g.settled; comes = λ s. same s ∙ g.comes s; at_end = g.at_end }
+    record { sound = g.sound; not_failed = g.not_failed; before = g.before; lengths = g.lengths; ends_at = g.ends_at; runs = g.runs; few = g.few; less = g.less; within = g.within; settled = g.settled; comes = λ s. same s ∙ g.comes s; at_end = g.at_end }
 same_front f front same new (Fault fault) g = record { sound = g.sound; fails = g.fails; comes = λ s. same s ∙ g.comes s }
 
 -- a text with no mark
@@ -41,7 +41,7 @@ pub start_gives : (at b : ℕ) (text : List ℕ) → length text ≤ 255 → (c 
     → let h : PartialToken = record { mode = modes.Start; at = at; text = text } in
     Gives (front_of 0 h b) (if c then into h modes.AfterEf Used else begin_line 0 h b (class b))
 start_gives at b text fits true e =
-    record { sound = record { room = (fits, tt); placed = refl }; going = tt; comes = λ s. ap (λ x. tokens_of (x ∷ s)) (eqb-true b 239 e) }
+    record { sound = record { room = (fits, tt); placed = refl }; not_failed = tt; comes = λ s. ap (λ x. tokens_of (x ∷ s)) (eqb-true b 239 e) }
 start_gives at b text fits false e =
     let h : PartialToken = record { mode = modes.Start; at = at; text = text } in
     same_front _ _ (λ s. unmarked (b ∷ s) (other_first b s e)) _ _ (begin_line_gives (class b) 0 b h (tokens_of []) 0 fits)
@@ -50,7 +50,7 @@ pub after_ef_gives : (at b : ℕ) (text : List ℕ) → length text ≤ 255 → 
     → let h : PartialToken = record { mode = modes.AfterEf; at = at; text = text } in
     Gives (front_of 1 h b) (if c then into h modes.AfterEfBb Used else fails h 0 StrayByte)
 after_ef_gives at b text fits true e =
-    record { sound = record { room = (fits, tt); placed = refl }; going = tt; comes = λ s. ap (λ x. tokens_of (239 ∷ x ∷ s)) (eqb-true b 187 e) }
+    record { sound = record { room = (fits, tt); placed = refl }; not_failed = tt; comes = λ s. ap (λ x. tokens_of (239 ∷ x ∷ s)) (eqb-true b 187 e) }
 after_ef_gives at b text fits false e =
     record { sound = record { room = (fits, tt); placed = tt }; fails = refl; comes = λ s. unmarked (239 ∷ b ∷ s) (other_second b s e) }
 
@@ -58,14 +58,14 @@ pub after_ef_bb_gives : (at b : ℕ) (text : List ℕ) → length text ≤ 255 �
     → let h : PartialToken = record { mode = modes.AfterEfBb; at = at; text = text } in
     Gives (front_of 2 h b) (if c then into h modes.LineStart Used else fails h 0 StrayByte)
 after_ef_bb_gives at b text fits true e =
-    record { sound = record { room = (fits, tt); placed = tt }; going = tt; comes = λ s. ap (λ x. tokens_of (239 ∷ 187 ∷ x ∷ s)) (eqb-true b 191 e) }
+    record { sound = record { room = (fits, tt); placed = tt }; not_failed = tt; comes = λ s. ap (λ x. tokens_of (239 ∷ 187 ∷ x ∷ s)) (eqb-true b 191 e) }
 after_ef_bb_gives at b text fits false e =
     record { sound = record { room = (fits, tt); placed = tt }; fails = refl; comes = λ s. unmarked (239 ∷ 187 ∷ b ∷ s) e }
 
-pub escape_gives : (place at b : ℕ) (text : List ℕ) → length text ≤ 255 → (c : Bool) → is_line_end b ≡ c
-    → let h : PartialToken = record { mode = modes.Escape; at = at; text = text } in
-    Gives (front_of place h b) (if c then into h modes.LineStart Used else into h modes.Escape Used)
-escape_gives place at b text fits true e =
-    record { sound = record { room = (fits, tt); placed = tt }; going = tt; comes = λ s. ap (λ c. tokens_from (place + 1) (if c then column else in_escape) s) e }
-escape_gives place at b text fits false e =
-    record { sound = record { room = (fits, tt); placed = tt }; going = tt; comes = λ s. ap (λ c. tokens_from (place + 1) (if c then column else in_escape) s) e }
+pub escape_line_gives : (place at b : ℕ) (text : List ℕ) → length text ≤ 255 → (c : Bool) → is_line_end b ≡ c
+    → let h : PartialToken = record { mode = modes.EscapeLine; at = at; text = text } in
+    Gives (front_of place h b) (if c then into h modes.LineStart Used else into h modes.EscapeLine Used)
+escape_line_gives place at b text fits true e =
+    record { sound = record { room = (fits, tt); placed = tt }; not_failed = tt; comes = λ s. ap (λ c. tokens_from (place + 1) (if c then column else in_escape_line) s) e }
+escape_line_gives place at b text fits false e =
+    record { sound = record { room = (fits, tt); placed = tt }; not_failed = tt; comes = λ s. ap (λ c. tokens_from (place + 1) (if c then column else in_escape_line) s) e }

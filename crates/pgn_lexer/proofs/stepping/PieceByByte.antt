@@ -20,7 +20,7 @@ use Rattle.pgn_lexer.specs.declared.partial_token.TokenForm.{TokenForm}
 use Rattle.pgn_lexer.specs.declared.partial_token.Step.{Step}
 use Rattle.pgn_lexer.specs.declared.partial_token.Step.TheVariants.{Used, Ends, EndsBefore, Fault}
 use Rattle.pgn_lexer.specs.Tokens.{EndsAt}
-use Rattle.pgn_lexer.specs.PartialToken.{PartialToken, tokens_to_come, kind_in, token_of, IsSound, IsGoing, pending, fault_of_mode, fault_met}
+use Rattle.pgn_lexer.specs.PartialToken.{PartialToken, tokens_to_come, kind_in, token_of, IsSound, HasNotFailed, pending, fault_of_mode, fault_met}
 use Rattle.pgn_lexer.specs.Taking.{begin, begin_line, brace, brace_word, string, fails, grown, into, symbol, after_byte, after_byte_in, IsAfterByte}
 use Rattle.pgn_lexer.specs.Running.{IsOutside, Ran, RunsOn, StoodAt, RunGives, RunsToToken, RunsToFault, used_after, reached_after}
 use Rattle.pgn_lexer.specs.declared.partial_token.Reached.TheVariants as reached
@@ -34,14 +34,14 @@ takes_gives place h b new answer sound t =
     (subst (λ step. StepGives (front_of place h b) (after_byte place h b).held step) (sym t.step) (step_gives place h b sound))
 
 -- a run that used nothing yet
-pub ran_none : (place : ℕ) (h : PartialToken) (piece : List ℕ) → IsSound place h → IsGoing h.mode → Ran place h piece h 0
-ran_none place h piece sound going =
+pub ran_none : (place : ℕ) (h : PartialToken) (piece : List ℕ) → IsSound place h → HasNotFailed h.mode → Ran place h piece h 0
+ran_none place h piece sound not_failed =
     let same : place ≡ place + 0 = omega arith in
     record {
       start = λ _. refl;
       sound = subst (λ p. IsSound p h) same sound;
-      going = going;
-      fresh = going;
+      not_failed = not_failed;
+      fresh = not_failed;
       comes = λ s. ap (λ p. tokens_to_come p h s) same;
     }
 
@@ -55,12 +55,12 @@ ran_all place piece i h new used all goes old ran =
       fresh = r.fresh;
       empty = λ none. r.start (all ∙ none);
       sound = r.sound;
-      going = r.going;
+      not_failed = r.not_failed;
       comes = λ s. ap (λ l. tokens_to_come place old (l ++ s)) (sym (take_all used piece (omega (arith, all)))) ∙ r.comes s;
     }
 
-going_on : (m : Mode) (f : LexFault) → IsGoing m → m ≡ Failed f → ⊥
-going_on m f going e = subst (λ m. IsGoing m) e going
+going_on : (m : Mode) (f : LexFault) → HasNotFailed m → m ≡ Failed f → ⊥
+going_on m f not_failed e = subst (λ m. HasNotFailed m) e not_failed
 
 module _ (place : ℕ) (old : PartialToken) (piece : List ℕ) (h : PartialToken) (i b : ℕ) (here : i < length piece) (at_b : get_or piece i 0 ≡ b) (ran : Ran place old piece h i) where
   -- with the byte
@@ -74,7 +74,7 @@ module _ (place : ℕ) (old : PartialToken) (piece : List ℕ) (h : PartialToken
   next_place = omega arith
 
   standing : StoodAt place old piece i
-  standing = record { held = h; sound = ran.sound; going = ran.going; comes = ran.comes }
+  standing = record { held = h; sound = ran.sound; not_failed = ran.not_failed; comes = ran.comes }
 
   pub ran_uses : (new : PartialToken) → IsAfterByte (after_byte (place + i) h b) new Used → Ran place old piece new (i + 1)
   ran_uses new t =
@@ -82,7 +82,7 @@ module _ (place : ℕ) (old : PartialToken) (piece : List ℕ) (h : PartialToken
       record {
         start = λ none. absurd (omega arith);
         sound = subst (λ p. IsSound p new) next_place g.sound;
-        going = g.going;
+        not_failed = g.not_failed;
         fresh = ran.fresh;
         comes = λ s. longer s ∙ g.comes s ∙ ap (λ p. tokens_to_come p new s) next_place;
       }
@@ -96,7 +96,7 @@ module _ (place : ℕ) (old : PartialToken) (piece : List ℕ) (h : PartialToken
         some = omega arith;
         fresh = ran.fresh;
         sound = subst (λ p. IsSound p new) next_place g.sound;
-        going = g.going;
+        not_failed = g.not_failed;
         lengths = g.lengths;
         ends_at = subst (EndsAt (kind_in form new.text) new.at) next_place g.ends_at;
         before = subst (λ p. new.at < p) next_place g.before;
@@ -119,7 +119,7 @@ module _ (place : ℕ) (old : PartialToken) (piece : List ℕ) (h : PartialToken
         some = omega arith;
         fresh = ran.fresh;
         sound = g.sound;
-        going = g.going;
+        not_failed = g.not_failed;
         lengths = g.lengths;
         ends_at = g.ends_at;
         before = g.before;
@@ -184,16 +184,16 @@ unfolding after_byte
 takes_outside place b h new answer c outside e same t = subst (λ x. IsAfterByte x new answer) (sym (taken_outside h.mode place h.at b h.text c outside e same)) t
 
 -- no rejection was met, in any other mode
-pub unless_failed : (m : Mode) → ((f : LexFault) → m ≡ Failed f → ⊥) → IsGoing m
+pub unless_failed : (m : Mode) → ((f : LexFault) → m ≡ Failed f → ⊥) → HasNotFailed m
 unless_failed (Failed f) other = other f refl
 unless_failed _ other = tt
 
-pub in_mode : (m n : Mode) → IsGoing n → m ≡ n → IsGoing m
-in_mode m n going e = subst (λ m. IsGoing m) (sym e) going
+pub in_mode : (m n : Mode) → HasNotFailed n → m ≡ n → HasNotFailed m
+in_mode m n not_failed e = subst (λ m. HasNotFailed m) (sym e) not_failed
 
-pub between_tokens : (m : Mode) → (m ≡ LineStart) ⊎ (m ≡ Outside) → IsGoing m
-between_tokens m (inl e) = subst (λ m. IsGoing m) (sym e) tt
-between_tokens m (inr e) = subst (λ m. IsGoing m) (sym e) tt
+pub between_tokens : (m : Mode) → (m ≡ LineStart) ⊎ (m ≡ Outside) → HasNotFailed m
+between_tokens m (inl e) = subst (λ m. HasNotFailed m) (sym e) tt
+between_tokens m (inr e) = subst (λ m. HasNotFailed m) (sym e) tt
 
 -- a byte in a string
 taken_string : (place b : ℕ) (h : PartialToken) (c : StringClass) → h.mode ≡ Str → string_class b ≡ c → after_byte place h b ≡ string place h b c

@@ -9,7 +9,7 @@ use Rattle.pgn_lexer.specs.Tokens.{Token, is_run}
 use Rattle.pgn_lexer.specs.TokensOf.{tokens_of}
 use Rattle.pgn_lexer.specs.Decided.{decided, known}
 use Rattle.pgn_lexer.specs.declared.partial_token.TokenForm.{TokenForm}
-use Rattle.pgn_lexer.specs.PartialToken.{PartialToken, tokens_to_come, token_of, kind_in, refusal, IsGoing}
+use Rattle.pgn_lexer.specs.PartialToken.{PartialToken, tokens_to_come, token_of, kind_in, refusal, HasNotFailed}
 use Rattle.pgn_lexer.specs.Running.{RunsOut, StoodAt, EndsWithByte, EndsBeforeByte, RunsToToken, RunsToFault}
 use Rattle.pgn_lexer.specs.Scanned.{Scanned, more, token, fault}
 use Rattle.pgn_lexer.specs.Standing.{Standing, fault_in_mode, fault_of}
@@ -50,24 +50,24 @@ cut : (used : ℕ) (piece s : List ℕ) → piece ++ s ≡ take used piece ++ (d
 cut used piece s = ap (λ l. l ++ s) (sym (take-append-drop used piece)) ∙ append_assoc (take used piece) (drop used piece) s
 
 -- no rejection was met
-pub going_fault : (m : Mode) → IsGoing m → fault_in_mode m ≡ None
-going_fault modes.Start going = refl
-going_fault modes.AfterEf going = refl
-going_fault modes.AfterEfBb going = refl
-going_fault modes.LineStart going = refl
-going_fault modes.Outside going = refl
-going_fault modes.Escape going = refl
-going_fault modes.Symbol going = refl
-going_fault modes.Str going = refl
-going_fault modes.AfterBackslash going = refl
-going_fault modes.Dollar going = refl
-going_fault (modes.Glyph n) going = refl
-going_fault (modes.Suffix run) going = refl
-going_fault modes.Brace going = refl
-going_fault modes.BraceWord going = refl
-going_fault modes.Line going = refl
-going_fault modes.LineWord going = refl
-going_fault (modes.Failed f) going = absurd going
+pub not_failed_fault : (m : Mode) → HasNotFailed m → fault_in_mode m ≡ None
+not_failed_fault modes.Start not_failed = refl
+not_failed_fault modes.AfterEf not_failed = refl
+not_failed_fault modes.AfterEfBb not_failed = refl
+not_failed_fault modes.LineStart not_failed = refl
+not_failed_fault modes.Outside not_failed = refl
+not_failed_fault modes.EscapeLine not_failed = refl
+not_failed_fault modes.Symbol not_failed = refl
+not_failed_fault modes.Str not_failed = refl
+not_failed_fault modes.AfterBackslash not_failed = refl
+not_failed_fault modes.Dollar not_failed = refl
+not_failed_fault (modes.Glyph n) not_failed = refl
+not_failed_fault (modes.Suffix run) not_failed = refl
+not_failed_fault modes.Brace not_failed = refl
+not_failed_fault modes.BraceWord not_failed = refl
+not_failed_fault modes.Line not_failed = refl
+not_failed_fault modes.LineWord not_failed = refl
+not_failed_fault (modes.Failed f) not_failed = absurd not_failed
 
 pub failed_mode : (m : Mode) (f : LexFault) → fault_in_mode m ≡ Some f → m ≡ modes.Failed f
 failed_mode (modes.Failed g) f e = cc
@@ -76,7 +76,7 @@ failed_mode modes.AfterEf f e = cc
 failed_mode modes.AfterEfBb f e = cc
 failed_mode modes.LineStart f e = cc
 failed_mode modes.Outside f e = cc
-failed_mode modes.Escape f e = cc
+failed_mode modes.EscapeLine f e = cc
 failed_mode modes.Symbol f e = cc
 failed_mode modes.Str f e = cc
 failed_mode modes.AfterBackslash f e = cc
@@ -89,24 +89,24 @@ failed_mode modes.Line f e = cc
 failed_mode modes.LineWord f e = cc
 
 -- a mode is failed, or not
-going_or_failed : (m : Mode) → IsGoing m ⊎ ((f : LexFault) × (m ≡ modes.Failed f))
-going_or_failed (modes.Failed f) = inr (f, refl)
-going_or_failed modes.Start = inl tt
-going_or_failed modes.AfterEf = inl tt
-going_or_failed modes.AfterEfBb = inl tt
-going_or_failed modes.LineStart = inl tt
-going_or_failed modes.Outside = inl tt
-going_or_failed modes.Escape = inl tt
-going_or_failed modes.Symbol = inl tt
-going_or_failed modes.Str = inl tt
-going_or_failed modes.AfterBackslash = inl tt
-going_or_failed modes.Dollar = inl tt
-going_or_failed (modes.Glyph n) = inl tt
-going_or_failed (modes.Suffix run) = inl tt
-going_or_failed modes.Brace = inl tt
-going_or_failed modes.BraceWord = inl tt
-going_or_failed modes.Line = inl tt
-going_or_failed modes.LineWord = inl tt
+failed_or_not : (m : Mode) → HasNotFailed m ⊎ ((f : LexFault) × (m ≡ modes.Failed f))
+failed_or_not (modes.Failed f) = inr (f, refl)
+failed_or_not modes.Start = inl tt
+failed_or_not modes.AfterEf = inl tt
+failed_or_not modes.AfterEfBb = inl tt
+failed_or_not modes.LineStart = inl tt
+failed_or_not modes.Outside = inl tt
+failed_or_not modes.EscapeLine = inl tt
+failed_or_not modes.Symbol = inl tt
+failed_or_not modes.Str = inl tt
+failed_or_not modes.AfterBackslash = inl tt
+failed_or_not modes.Dollar = inl tt
+failed_or_not (modes.Glyph n) = inl tt
+failed_or_not (modes.Suffix run) = inl tt
+failed_or_not modes.Brace = inl tt
+failed_or_not modes.BraceWord = inl tt
+failed_or_not modes.Line = inl tt
+failed_or_not modes.LineWord = inl tt
 
 -- tokens before a place are before a later one
 before_more : (m n : ℕ) (ts : List Token) → m ≤ n → AllByRecursion (λ t. t.at < m) ts → AllByRecursion (λ t. t.at < n) ts
@@ -143,7 +143,7 @@ module _ (count : ℕ) (old new : PartialToken) (piece : List ℕ) (used : ℕ) 
         reads = (h.all, h.comes);
         lengths = tt;
         ends = tt;
-        refused = going_fault new.mode h.going;
+        refused = not_failed_fault new.mode h.not_failed;
         empty = λ none. (same none, inl refl);
         stays = λ f failed. absurd (stuck f failed);
         carries = λ u b given stands starts.
@@ -153,7 +153,7 @@ module _ (count : ℕ) (old new : PartialToken) (piece : List ℕ) (used : ℕ) 
               before = before_more (length u) (length (u ++ piece)) given (omega (arith, length-append u piece)) stands.before;
               tokens = λ s goes. ap tokens_of (append_assoc u piece s) ∙ stands.tokens (piece ++ s) (follows_piece b piece s starts goes) ∙ ap (λ l. given ++ l) (h.comes s);
             } in
-            (h.all, after, λ some. going_decides (count + used) new (u ++ piece) given h.sound h.going (λ s. after.tokens s (follows_none _ s (still_none b piece some))));
+            (h.all, after, λ some. going_decides (count + used) new (u ++ piece) given h.sound h.not_failed (λ s. after.tokens s (follows_none _ s (still_none b piece some))));
       }
     where
       same : length piece ≡ 0 → to_standing ≡ from_standing
@@ -162,7 +162,7 @@ module _ (count : ℕ) (old new : PartialToken) (piece : List ℕ) (used : ℕ) 
           ap (λ n. record { count = n; held = new }) here ∙ ap (λ held. record { count = count; held = held }) (h.empty none)
 
       stuck : (f : LexFault) → fault_of from_standing ≡ Some f → ⊥
-      stuck f failed = let none : fault_of from_standing ≡ None = going_fault old.mode h.fresh in cc
+      stuck f failed = let none : fault_of from_standing ≡ None = not_failed_fault old.mode h.fresh in cc
 
   pub scans_fault : (f : LexFault) → RunsToFault count old piece f new used → Scans from_standing piece to_standing used (fault f)
   scans_fault f h =
@@ -173,7 +173,7 @@ module _ (count : ℕ) (old new : PartialToken) (piece : List ℕ) (used : ℕ) 
         lengths = tt;
         ends = tt;
         refused = ap fault_in_mode h.fails;
-        empty = λ none. nothing none (going_or_failed old.mode);
+        empty = λ none. nothing none (failed_or_not old.mode);
         stays = λ g failed. stuck g (h.stays g (failed_mode old.mode g failed));
         carries = λ u b given stands starts. (
           λ s goes. comes u b given stands s (follows_piece b piece s starts goes),
@@ -194,9 +194,9 @@ module _ (count : ℕ) (old new : PartialToken) (piece : List ℕ) (used : ℕ) 
           let here : count + used ≡ count = omega (arith, same.0) in
           (same.0, ap fault same.1, ap (λ n. record { count = n; held = new }) here ∙ ap (λ held. record { count = count; held = held }) same.2)
 
-      nothing : length piece ≡ 0 → IsGoing old.mode ⊎ ((g : LexFault) × (old.mode ≡ modes.Failed g))
+      nothing : length piece ≡ 0 → HasNotFailed old.mode ⊎ ((g : LexFault) × (old.mode ≡ modes.Failed g))
           → (to_standing ≡ from_standing) × ((fault f ≡ more) ⊎ ((g : LexFault) × (fault_of from_standing ≡ Some g)))
-      nothing none (inl going) = let some : 0 < length piece = h.some going in absurd (omega arith)
+      nothing none (inl not_failed) = let some : 0 < length piece = h.some not_failed in absurd (omega arith)
       nothing none (inr failed) = ((stuck failed.0 (h.stays failed.0 failed.1)).2, inr (failed.0, ap fault_in_mode failed.1))
 
 abbrev ahead : ℕ → PartialToken → Standing
@@ -235,7 +235,7 @@ module _ (count : ℕ) (old new : PartialToken) (piece : List ℕ) (used : ℕ) 
     -- where no token had ended, no more was decided
     stood_decides : (i : ℕ) → 0 < i → StoodAt count old piece i → given ≡ decided (u ++ take i piece)
     stood_decides i some e =
-        going_decides (count + i) e.held (u ++ take i piece) given e.sound e.going
+        going_decides (count + i) e.held (u ++ take i piece) given e.sound e.not_failed
         (λ s. ap tokens_of (append_assoc u (take i piece) s) ∙ stands.tokens (take i piece ++ s) (follows_taken b piece s i h.some some starts) ∙ ap (λ l. given ++ l) (e.comes s))
 
     no_sooner_closed : (k : Bool) → k ≡ false → (last : ℕ) → used ≡ last + 1 → StoodAt count old piece last → EndsNoSooner k u piece used given
@@ -256,7 +256,7 @@ module _ (count : ℕ) (old new : PartialToken) (piece : List ℕ) (used : ℕ) 
         let tokens : (s : List ℕ) → tokens_of (u' ++ s) ≡ (given ++ t ∷ []) ++ tokens_to_come (count + used) new s =
         λ s. with_token s (follows_taken b piece s used h.some e.some starts) (e.comes s) in (
           record { count = long; before = before'; tokens = λ s goes. tokens s },
-          inl (going_decides (count + used) new u' (given ++ t ∷ []) h.sound h.going tokens),
+          inl (going_decides (count + used) new u' (given ++ t ∷ []) h.sound h.not_failed tokens),
           no_sooner_closed (is_run t.kind) e.closed e.last e.is_last e.stood,
         )
 
@@ -290,7 +290,7 @@ module _ (count : ℕ) (old new : PartialToken) (piece : List ℕ) (used : ℕ) 
     carries_token (inr e) = ahead_of_byte e
 
   no_fault : (f : LexFault) → fault_of (ahead count old) ≡ Some f → ⊥
-  no_fault f failed = let none : fault_of (ahead count old) ≡ None = going_fault old.mode h.fresh in cc
+  no_fault f failed = let none : fault_of (ahead count old) ≡ None = not_failed_fault old.mode h.fresh in cc
 
   pub scans_token : Scans (ahead count old) piece (behind count new used) used (token t)
   scans_token =
@@ -300,7 +300,7 @@ module _ (count : ℕ) (old new : PartialToken) (piece : List ℕ) (used : ℕ) 
         reads = reads_token h.ends;
         lengths = h.lengths;
         ends = h.ends_at;
-        refused = going_fault new.mode h.going;
+        refused = not_failed_fault new.mode h.not_failed;
         empty = λ none. let some : 0 < length piece = h.some in absurd (omega arith);
         stays = λ f failed. absurd (no_fault f failed);
         carries = λ u b given stands starts. carries_token u b given stands starts h.ends;

@@ -7,7 +7,7 @@ use Rattle.pgn_lexer.specs.declared.partial_token.Step.{Step}
 use Rattle.pgn_lexer.specs.declared.partial_token.Step.TheVariants.{Used, Ends, EndsBefore, Fault}
 use Rattle.pgn_lexer.specs.Tokens.{Token, HasLength, EndsAt, is_run}
 use Rattle.pgn_lexer.specs.TokensOf.{Within, tokens_from}
-use Rattle.pgn_lexer.specs.PartialToken.{PartialToken, tokens_to_come, kind_in, token_of, refusal, IsSound, IsGoing, pending}
+use Rattle.pgn_lexer.specs.PartialToken.{PartialToken, tokens_to_come, kind_in, token_of, refusal, IsSound, HasNotFailed, pending}
 use Rattle.pgn_lexer.specs.Taking.{AfterByte}
 
 -- What comes from a byte b at the place: `front s` where s follows b, and `ended` where the text
@@ -22,13 +22,13 @@ pub record Front : Type 0 where
 -- the byte is used, and no token ends
 pub record Uses (f : Front) (new : PartialToken) : Type 0 where
   pub sound : IsSound (f.place + 1) new
-  pub going : IsGoing new.mode
+  pub not_failed : HasNotFailed new.mode
   pub comes : (s : List ℕ) → f.front s ≡ tokens_to_come (f.place + 1) new s
 
 -- a token ends with the byte
 pub record EndsIn (f : Front) (form : TokenForm) (new : PartialToken) : Type 0 where
   pub sound : IsSound (f.place + 1) new
-  pub going : IsGoing new.mode
+  pub not_failed : HasNotFailed new.mode
   pub before : new.at < f.place + 1
   pub lengths : HasLength (kind_in form new.text)
   pub ends_at : EndsAt (kind_in form new.text) new.at (f.place + 1)
@@ -39,7 +39,7 @@ pub record EndsIn (f : Front) (form : TokenForm) (new : PartialToken) : Type 0 w
 -- a token ends before the byte
 pub record EndsAhead (f : Front) (form : TokenForm) (new : PartialToken) : Type 0 where
   pub sound : IsSound f.place new
-  pub going : IsGoing new.mode
+  pub not_failed : HasNotFailed new.mode
   pub before : new.at < f.place
   pub lengths : HasLength (kind_in form new.text)
   pub ends_at : EndsAt (kind_in form new.text) new.at f.place

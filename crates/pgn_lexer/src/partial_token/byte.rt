@@ -26,7 +26,7 @@ impl PartialToken {
             Mode::AfterEfBb => self.after_ef_bb(byte),
             Mode::LineStart => self.begin_line(byte, place),
             Mode::Outside => self.begin(class_of(byte), byte, place),
-            Mode::Escape => self.escape(byte),
+            Mode::EscapeLine => self.escape_line(byte),
             Mode::Symbol => self.symbol(byte),
             Mode::Str => self.string(byte, place),
             Mode::AfterBackslash => self.after_backslash(byte, place),
@@ -86,7 +86,7 @@ impl PartialToken {
     {
         match class_of(byte) {
             Class::Percent => {
-                self.mode = Mode::Escape;
+                self.mode = Mode::EscapeLine;
                 Step::Used
             }
             class => self.begin(class, byte, place),
@@ -119,9 +119,9 @@ impl PartialToken {
         }
     }
 
-    fn escape(&mut self, byte: u8) -> Step
-        requires { self.old.mode ≡ Mode.Escape }
-        ensures { IsAfterByte (taking.escape self.old byte) self.new result }
+    fn escape_line(&mut self, byte: u8) -> Step
+        requires { self.old.mode ≡ Mode.EscapeLine }
+        ensures { IsAfterByte (taking.escape_line self.old byte) self.new result }
     {
         if is_line_end(byte) {
             self.mode = Mode::LineStart;

@@ -16,7 +16,7 @@ impl PartialToken {
         ensures { IsAfterEnd (taking.after_end place self.old) self.new result }
     {
         match self.mode {
-            Mode::Start | Mode::LineStart | Mode::Outside | Mode::Escape => Reached::End,
+            Mode::Start | Mode::LineStart | Mode::Outside | Mode::EscapeLine => Reached::End,
             Mode::AfterEf | Mode::AfterEfBb => self.fail_at_end(0, LexReason::StrayByte),
             Mode::Symbol => self.give(Mode::Outside, TokenForm::Symbol),
             Mode::Str | Mode::AfterBackslash => self.fail_at_end(

@@ -17,8 +17,8 @@ use Rattle.pgn_game.specs.declared.reason.Fault.{Fault}
 use Rattle.pgn_game.specs.Game.{Game}
 use Rattle.pgn_game.specs.Progress.{Read, no_progress, read}
 use Rattle.pgn_game.specs.Feeding as feeding
-use Rattle.pgn_game.specs.Feeding.{AtHand, Converter, FedAll, FedGame, FedToFault, Finishes, IsLast, Stands, StopsIn, hand_of}
-use Rattle.pgn_tool.specs.Listing.{CutsLine, IsListed, ListResult, ListsNoMore, ListStops, game_line, finished_game_line, line_at_hand, lines_from, lines_of, list_profile, list_text, too_long, unread, unwritten}
+use Rattle.pgn_game.specs.Feeding.{Converter, FedAll, FedGame, FedToFault, FinishedGame, Finishes, IsLast, Stands, StopsIn, finished_game_of}
+use Rattle.pgn_tool.specs.Listing.{CutsLine, IsListed, ListResult, ListsNoMore, ListStops, game_line, finished_game_line, line_just_finished, lines_from, lines_of, list_profile, list_text, too_long, unread, unwritten}
 use Rattle.pgn_tool.specs.ListState.{AfterListEnd, AfterListedPiece, ListedSoFar, ListsToFault, SourceListedSoFar}
 use Rattle.pgn_tool.specs.Listing as listing
 use Rattle.pgn_tool.specs.declared.list.Stopped.{Stopped}
@@ -37,14 +37,14 @@ lines_two n (g ∷ gs) hs =
 lines_one_more : (gs : List Game) (g : Game) → lines_from 1 (gs ++ g ∷ []) ≡ lines_from 1 gs ++ game_line (1 + length gs) g
 lines_one_more gs g = lines_two 1 gs (g ∷ []) ∙ ap (λ l. lines_from 1 gs ++ l) (append-nil (game_line (1 + length gs) g))
 
--- the line of the last game is the one at hand
-hand_is : (o : Option AtHand) (number other : ℕ) (p : Profile) (g : Game) → o ≡ Some (hand_of g) → number ≡ other → p ≡ list_profile
-    → elim o [ None ↦ [] | Some hand ↦ finished_game_line number p hand ] ≡ game_line other g
-hand_is o number other p g is same listed =
-    ap (λ o. elim o [ None ↦ [] | Some hand ↦ finished_game_line number p hand ]) is ∙ ap (λ n. finished_game_line n p (hand_of g)) same ∙ ap (λ q. finished_game_line other q (hand_of g)) listed
+-- the line of the last game is that of the game just finished
+finished_line_is : (o : Option FinishedGame) (number other : ℕ) (p : Profile) (g : Game) → o ≡ Some (finished_game_of g) → number ≡ other → p ≡ list_profile
+    → elim o [ None ↦ [] | Some finished ↦ finished_game_line number p finished ] ≡ game_line other g
+finished_line_is o number other p g is same listed =
+    ap (λ o. elim o [ None ↦ [] | Some finished ↦ finished_game_line number p finished ]) is ∙ ap (λ n. finished_game_line n p (finished_game_of g)) same ∙ ap (λ q. finished_game_line other q (finished_game_of g)) listed
 
-no_hand : (c : Converter) → c.at_hand ≡ None → line_at_hand c ≡ []
-no_hand c is = ap (λ (o : Option AtHand). elim o [ None ↦ [] | Some hand ↦ finished_game_line c.games c.reading.profile hand ]) is
+no_finished_line : (c : Converter) → c.just_finished ≡ None → line_just_finished c ≡ []
+no_finished_line c is = ap (λ (o : Option FinishedGame). elim o [ None ↦ [] | Some finished ↦ finished_game_line c.games c.reading.profile finished ]) is
 
 -- ---- a piece
 
@@ -86,21 +86,21 @@ piece_begins u piece c a b so =
     })
 
 module _ (u rest : List ℕ) (old new : Converter) (a b : Option (List ℕ)) (so : ListedSoFar u rest old a b) where
-  -- a game is at hand, whose line comes next
+  -- a game is just finished, and its line comes next
   module _ (used : ℕ) (fed : FedGame list_profile u so.tokens rest used new None None) where
     tokens_now : List Token
     tokens_now = fed.tokens ++ fed.marker ∷ []
 
-    next_line : lines_of tokens_now ≡ lines_of so.tokens ++ line_at_hand new
+    next_line : lines_of tokens_now ≡ lines_of so.tokens ++ line_just_finished new
     unfolding tokens_now
     next_line =
         let games = (read list_profile so.tokens).progress.games in
         let has = fed.stands.has_read in
         let number : new.games ≡ 1 + length games = has.games ∙ ap (length {A = Game}) fed.one_game ∙ length-append games (fed.game ∷ []) ∙ omega arith in
         ap (lines_from 1) fed.one_game ∙ lines_one_more games fed.game
-        ∙ ap (λ l. lines_of so.tokens ++ l) (sym (hand_is new.at_hand new.games (1 + length games) new.reading.profile fed.game fed.at_hand number has.profile))
+        ∙ ap (λ l. lines_of so.tokens ++ l) (sym (finished_line_is new.just_finished new.games (1 + length games) new.reading.profile fed.game fed.just_finished number has.profile))
 
-    pub game_listed : (c : Option (List ℕ)) → Appends b c (line_at_hand new) → ListedSoFar (u ++ take used rest) (drop used rest) new a c
+    pub game_listed : (c : Option (List ℕ)) → Appends b c (line_just_finished new) → ListedSoFar (u ++ take used rest) (drop used rest) new a c
     unfolding tokens_now
     game_listed c wrote =
         record {
@@ -111,7 +111,7 @@ module _ (u rest : List ℕ) (old new : Converter) (a b : Option (List ℕ)) (so
           written = subst (Appends a c) (sym next_line) (Appends-trans a b c _ _ so.written wrote);
         }
 
-    pub game_on : (c : Option (List ℕ)) (v piece : List ℕ) (at : ℕ) → u ≡ v ++ take at piece → rest ≡ drop at piece → Appends b c (line_at_hand new)
+    pub game_on : (c : Option (List ℕ)) (v piece : List ℕ) (at : ℕ) → u ≡ v ++ take at piece → rest ≡ drop at piece → Appends b c (line_just_finished new)
         → ListedSoFar (v ++ take (at + used) piece) (drop (at + used) piece) new a c
     game_on c v piece at is_u is_rest wrote =
         let texts : u ++ take used rest ≡ v ++ take (at + used) piece = ap₂ (λ x y. x ++ take used y) is_u is_rest ∙ further v piece at used in
@@ -120,7 +120,7 @@ module _ (u rest : List ℕ) (old new : Converter) (a b : Option (List ℕ)) (so
         (subst (λ xs. ListedSoFar (u ++ take used rest) xs new a c) rests (game_listed c wrote))
 
     -- the line could not be written
-    pub game_cut : (c : Option (List ℕ)) → AppendsFront b c (line_at_hand new) → CutsLine (u ++ rest) a c
+    pub game_cut : (c : Option (List ℕ)) → AppendsFront b c (line_just_finished new) → CutsLine (u ++ rest) a c
     unfolding tokens_now
     game_cut c (n, short, front) =
         let behind = drop used rest in
@@ -130,13 +130,13 @@ module _ (u rest : List ℕ) (old new : Converter) (a b : Option (List ℕ)) (so
         let games = (read list_profile tokens_now).progress.games in
         let more = lines_from (1 + length games) grown.0 in
         let all : list_text (u ++ rest) ≡ lines_of tokens_now ++ more = ap lines_of tokens ∙ ap (lines_from 1) grown.1 ∙ lines_two 1 games grown.0 in
-        let known : list_text (u ++ rest) ≡ (lines_of so.tokens ++ line_at_hand new) ++ more = all ∙ ap (λ l. l ++ more) next_line in
-        let first_part = length-append (lines_of so.tokens) (line_at_hand new) in
-        let second_part = length-append (lines_of so.tokens ++ line_at_hand new) more in
-        let cut : take (length (lines_of so.tokens) + n) (list_text (u ++ rest)) ≡ lines_of so.tokens ++ take n (line_at_hand new) =
+        let known : list_text (u ++ rest) ≡ (lines_of so.tokens ++ line_just_finished new) ++ more = all ∙ ap (λ l. l ++ more) next_line in
+        let first_part = length-append (lines_of so.tokens) (line_just_finished new) in
+        let second_part = length-append (lines_of so.tokens ++ line_just_finished new) more in
+        let cut : take (length (lines_of so.tokens) + n) (list_text (u ++ rest)) ≡ lines_of so.tokens ++ take n (line_just_finished new) =
         ap (take (length (lines_of so.tokens) + n)) known
-        ∙ take-append-le (length (lines_of so.tokens) + n) (lines_of so.tokens ++ line_at_hand new) more (omega (arith, short, first_part))
-        ∙ take-append-add (lines_of so.tokens) (line_at_hand new) n in
+        ∙ take-append-le (length (lines_of so.tokens) + n) (lines_of so.tokens ++ line_just_finished new) more (omega (arith, short, first_part))
+        ∙ take-append-add (lines_of so.tokens) (line_just_finished new) n in
         record {
           count = length (lines_of so.tokens) + n;
           short = omega (arith, short, first_part, second_part, ap (length {A = ℕ}) known);
@@ -225,43 +225,43 @@ module _ (u : List ℕ) (old new : Converter) (a b : Option (List ℕ)) (so : Li
       subst (AddsOne (read list_profile so.tokens).progress.games) (sym reads)
       (last_games list_profile (read list_profile so.tokens).progress (coming old.lexer []) (left_over old.lexer))
 
-  -- at most one game was finished with the end, and it is at hand
-  last_line : (is_game : Bool) → Finishes list_profile u so.tokens new is_game None None → list_text u ≡ lines_of so.tokens ++ line_at_hand new
+  -- at most one game was finished with the end, and it is the game just finished
+  last_line : (is_game : Bool) → Finishes list_profile u so.tokens new is_game None None → list_text u ≡ lines_of so.tokens ++ line_just_finished new
   unfolding games
   last_line is_game fed = by_games is_game refl adds
     where
-      by_games : (flag : Bool) → is_game ≡ flag → AddsOne games (read list_profile (tokens_of u)) → list_text u ≡ lines_of so.tokens ++ line_at_hand new
+      by_games : (flag : Bool) → is_game ≡ flag → AddsOne games (read list_profile (tokens_of u)) → list_text u ≡ lines_of so.tokens ++ line_just_finished new
       by_games false is (inl same) =
-          ap (lines_from 1) same ∙ sym (append-nil (lines_of so.tokens)) ∙ ap (λ l. lines_of so.tokens ++ l) (sym (no_hand new (fed.none_at_hand is)))
+          ap (lines_from 1) same ∙ sym (append-nil (lines_of so.tokens)) ∙ ap (λ l. lines_of so.tokens ++ l) (sym (no_finished_line new (fed.none_just_finished is)))
       by_games false is (inr (passes, (g, more))) =
           absurd (not_true (subst (λ b. IsTrue b) is (fed.game.1 (omega (arith, ap (length {A = Game}) more, length-append games (g ∷ []))))))
       by_games true is (inl same) =
           let longer = fed.game.0 (subst (λ b. IsTrue b) (sym is) (cc)) in
           absurd (omega (arith, longer, ap (length {A = Game}) same))
       by_games true is (inr (passes, (g, more))) =
-          let hand = fed.at_hand is in
-          let last = subst (λ o. IsLast o (read list_profile (tokens_of u)).progress.games) hand.1 fed.has_read.at_hand in
+          let finished = fed.just_finished is in
+          let last = subst (λ o. IsLast o (read list_profile (tokens_of u)).progress.games) finished.1 fed.has_read.just_finished in
           let same : last.1 ≡ g = last_is last.0 games last.1 g (sym last.2 ∙ more) in
-          let at_hand : new.at_hand ≡ Some (hand_of g) = hand.1 ∙ ap (λ h. Some h) (last.3 ∙ ap hand_of same) in
+          let just_finished : new.just_finished ≡ Some (finished_game_of g) = finished.1 ∙ ap (λ h. Some h) (last.3 ∙ ap finished_game_of same) in
           let number : new.games ≡ 1 + length games = fed.has_read.games ∙ ap (length {A = Game}) more ∙ length-append games (g ∷ []) ∙ omega arith in
           ap (lines_from 1) more ∙ lines_one_more games g
           ∙ ap (λ l. lines_of so.tokens ++ l)
-          (sym (hand_is new.at_hand new.games (1 + length games) new.reading.profile g at_hand number fed.has_read.profile))
+          (sym (finished_line_is new.just_finished new.games (1 + length games) new.reading.profile g just_finished number fed.has_read.profile))
 
-  pub last_listed : (is_game : Bool) (c : Option (List ℕ)) → Finishes list_profile u so.tokens new is_game None None → Appends b c (line_at_hand new) → IsListed u None a c
+  pub last_listed : (is_game : Bool) (c : Option (List ℕ)) → Finishes list_profile u so.tokens new is_game None None → Appends b c (line_just_finished new) → IsListed u None a c
   last_listed is_game c fed wrote =
       record {
         fault = fed.has_read.passes;
         written = subst (Appends a c) (sym (last_line is_game fed)) (Appends-trans a b c _ _ so.written wrote);
       }
 
-  pub last_cut : (is_game : Bool) (c : Option (List ℕ)) → Finishes list_profile u so.tokens new is_game None None → AppendsFront b c (line_at_hand new) → CutsLine u a c
+  pub last_cut : (is_game : Bool) (c : Option (List ℕ)) → Finishes list_profile u so.tokens new is_game None None → AppendsFront b c (line_just_finished new) → CutsLine u a c
   last_cut is_game c fed (n, short, front) =
       let known = last_line is_game fed in
       record {
         count = length (lines_of so.tokens) + n;
-        short = omega (arith, short, length-append (lines_of so.tokens) (line_at_hand new), ap (length {A = ℕ}) known);
-        front = subst (Appends a c) (sym (ap (take (length (lines_of so.tokens) + n)) known ∙ take-append-add (lines_of so.tokens) (line_at_hand new) n))
+        short = omega (arith, short, length-append (lines_of so.tokens) (line_just_finished new), ap (length {A = ℕ}) known);
+        front = subst (Appends a c) (sym (ap (take (length (lines_of so.tokens) + n)) known ∙ take-append-add (lines_of so.tokens) (line_just_finished new) n))
             (Appends-trans a b c _ _ so.written front);
       }
 

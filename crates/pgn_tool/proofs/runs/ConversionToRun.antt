@@ -19,7 +19,7 @@ use Rattle.pgn_game.specs.Converting.{Converts, CountsDevices, Fails, IsConverte
 use Rattle.pgn_tool.specs.declared.list.Stopped.{Stopped}
 use Rattle.pgn_tool.specs.declared.list.Stopped.TheVariants as stopped
 use Rattle.pgn_tool.specs.Listing as lists
-use Rattle.pgn_tool.specs.Listing.{CountsReason, ListResult, ListStops, list_profile}
+use Rattle.pgn_tool.specs.Listing.{CountsReadFault, ListResult, ListStops, list_profile}
 use Rattle.pgn_tool.specs.Running.{Answers, Blames, Concludes, Device, Ends, EndsList, HasFailed, IsCalm, IsSmooth, IsStill, IsUntouched, Job, Runs, Tells, TellsVerdict, Works, checking, counting_of, exporting, line, listing, status_of}
 
 -- ---- devices
@@ -214,7 +214,7 @@ lists_on None left_new a b c (Ok x) listed keeps = tt
 lists_on (Some s) left_new a b c (Ok x) listed keeps = record { fault = listed.fault; written = keeps_on a b c _ listed.written keeps }
 lists_on left_old left_new a b c (Err stopped) listed keeps = stops_on left_old left_new a b c stopped listed keeps
 
-pub list_blames : (reason : Reason) (source out : Device) → CountsReason reason source.failures source.failures_after → Blames reason source out
+pub list_blames : (reason : Reason) (source out : Device) → CountsReadFault reason source.failures source.failures_after → Blames reason source out
 list_blames ReadFault source out counts = omega (arith, counts)
 list_blames WriteFault source out counts = absurd counts
 list_blames _ source out counts = tt

@@ -1,4 +1,4 @@
--- Texts that are written in parts, and the line of the game at hand.
+-- Texts that are written in parts, and the line of the game just finished.
 use Rattle.std.proofs.Common.{◌≡◌, ℕ, ◌+◌, List, [], ◌++◌, length, Option, None, Some, Result, Ok, Err, ap, subst, sym, codes, decimal, unwrap_or, length-append, ◌∙◌, arith}
 use Rattle.std.specs.Prelude.{option_map}
 use Rattle.std.specs.Io.KnownBytes.{Appends}
@@ -11,8 +11,8 @@ use Rattle.pgn_layout.specs.Device.{AppendsFront, Writes}
 use Rattle.pgn_game.specs.Profile.{Profile, known_result}
 use Rattle.pgn_game.specs.Pairs.{value_of}
 use Rattle.pgn_game.specs.TagSection.{exported}
-use Rattle.pgn_game.specs.Feeding.{AtHand, Converter, plies_at_hand, position_at_hand, value_at_hand}
-use Rattle.pgn_tool.specs.Listing.{finished_game_line, line_at_hand, six_fields, listed_value}
+use Rattle.pgn_game.specs.Feeding.{Converter, FinishedGame, finished_game_plies, finished_game_position, finished_game_value}
+use Rattle.pgn_tool.specs.Listing.{finished_game_line, line_just_finished, six_fields, listed_value}
 
 -- a part that is written, and a front of the rest
 pub front_after : (a b c : Option (List ℕ)) (xs ys : List ℕ) → Appends a b xs → AppendsFront b c ys → AppendsFront a c (xs ++ ys)
@@ -34,23 +34,23 @@ pub writes_after : {A E : Type 0} → (r : Result A E) (a b c : Option (List ℕ
 writes_after (Ok x) a b c xs ys first more = Appends-trans a b c _ _ first more
 writes_after (Err e) a b c xs ys first more = front_after a b c xs ys first more
 
--- the line of the game at hand by what a converter tells
-line_told : (o : Option AtHand) (number : ℕ) (by : Profile) (p : Parts) → Some p ≡ option_map (λ hand. hand.position) o
-    → elim o [ None ↦ [] | Some hand ↦ finished_game_line number by hand ]
-    ≡ six_fields (decimal number) (unwrap_or (elim o [ None ↦ None | Some hand ↦ value_of (exported by.mode (known_result by.missing_result) hand.pairs) (codes "White") ]) [])
-    (unwrap_or (elim o [ None ↦ None | Some hand ↦ value_of (exported by.mode (known_result by.missing_result) hand.pairs) (codes "Black") ]) [])
-    (unwrap_or (elim o [ None ↦ None | Some hand ↦ value_of (exported by.mode (known_result by.missing_result) hand.pairs) (codes "Result") ]) [])
-    (decimal (elim o [ None ↦ 0 | Some hand ↦ hand.plies ])) (fen_text p)
+-- the line of the game just finished, by the answers of a converter
+line_told : (o : Option FinishedGame) (number : ℕ) (by : Profile) (p : Parts) → Some p ≡ option_map (λ finished. finished.position) o
+    → elim o [ None ↦ [] | Some finished ↦ finished_game_line number by finished ]
+    ≡ six_fields (decimal number) (unwrap_or (elim o [ None ↦ None | Some finished ↦ value_of (exported by.mode (known_result by.missing_result) finished.pairs) (codes "White") ]) [])
+    (unwrap_or (elim o [ None ↦ None | Some finished ↦ value_of (exported by.mode (known_result by.missing_result) finished.pairs) (codes "Black") ]) [])
+    (unwrap_or (elim o [ None ↦ None | Some finished ↦ value_of (exported by.mode (known_result by.missing_result) finished.pairs) (codes "Result") ]) [])
+    (decimal (elim o [ None ↦ 0 | Some finished ↦ finished.plies ])) (fen_text p)
 unfolding finished_game_line
 line_told None number by p e = absurd (cc)
-line_told (Some hand) number by p e =
-    ap (λ q. six_fields (decimal number) (listed_value by hand.pairs (codes "White")) (listed_value by hand.pairs (codes "Black"))
-    (listed_value by hand.pairs (codes "Result")) (decimal hand.plies) (fen_text q)) (ap (λ o. unwrap_or o p) (sym e))
+line_told (Some finished) number by p e =
+    ap (λ q. six_fields (decimal number) (listed_value by finished.pairs (codes "White")) (listed_value by finished.pairs (codes "Black"))
+    (listed_value by finished.pairs (codes "Result")) (decimal finished.plies) (fen_text q)) (ap (λ o. unwrap_or o p) (sym e))
 
-pub line_at_hand-told : (k : Converter) (p : Parts) → Some p ≡ position_at_hand k
-    → line_at_hand k ≡ six_fields (decimal k.games) (unwrap_or (value_at_hand k (codes "White")) []) (unwrap_or (value_at_hand k (codes "Black")) [])
-    (unwrap_or (value_at_hand k (codes "Result")) []) (decimal (plies_at_hand k)) (fen_text p)
-line_at_hand-told k p e = line_told k.at_hand k.games k.reading.profile p e
+pub line_just_finished-told : (k : Converter) (p : Parts) → Some p ≡ finished_game_position k
+    → line_just_finished k ≡ six_fields (decimal k.games) (unwrap_or (finished_game_value k (codes "White")) []) (unwrap_or (finished_game_value k (codes "Black")) [])
+    (unwrap_or (finished_game_value k (codes "Result")) []) (decimal (finished_game_plies k)) (fen_text p)
+line_just_finished-told k p e = line_told k.just_finished k.games k.reading.profile p e
 
 -- a line by other spellings of its fields
 pub six_as : (a b c d e f k l m n o p : List ℕ) → a ≡ k → b ≡ l → c ≡ m → d ≡ n → e ≡ o → f ≡ p → six_fields a b c d e f ≡ six_fields k l m n o p

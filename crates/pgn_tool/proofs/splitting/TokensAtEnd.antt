@@ -13,13 +13,13 @@ use Rattle.pgn_lexer.specs.PartialToken.{tokens_to_come_in}
 use Rattle.pgn_lexer.specs.Standing.{Standing, coming}
 use Rattle.pgn_tool.proofs.runs.TokensInTwoParts.{AreLast, AreQuiet, close, end, one, quiet, refused, word}
 
--- a token in hand, and then the end
+-- a token that is waiting, and then the end
 before_end : (at place : ℕ) (found : Found) → AreLast (onto at found (record { at = place; kind = tokens.end } ∷ []))
 before_end at place nothing = quiet _ (end, tt)
 before_end at place (gives k) = one (record { at = at; kind = k }) place
 before_end at place (stops behind reason) = quiet _ (refused reason, tt)
 
--- a word in hand
+-- a word that is waiting
 word_quiet : (at : ℕ) (fits : Bool) (text : List ℕ) (ts : List Token) → AreQuiet ts
     → AreQuiet (onto at (if fits then gives (tokens.word text) else stops at WordTooLong) ts)
 word_quiet at true text ts q = (word text, q)
@@ -31,7 +31,7 @@ left_in modes.AfterEf place at text = quiet _ (refused _, tt)
 left_in modes.AfterEfBb place at text = quiet _ (refused _, tt)
 left_in modes.LineStart place at text = quiet _ (end, tt)
 left_in modes.Outside place at text = quiet _ (end, tt)
-left_in modes.Escape place at text = quiet _ (end, tt)
+left_in modes.EscapeLine place at text = quiet _ (end, tt)
 left_in modes.Symbol place at text = before_end at place _
 left_in modes.Str place at text = quiet _ (refused _, tt)
 left_in modes.AfterBackslash place at text = quiet _ (refused _, tt)

@@ -12,4 +12,4 @@ unfolding adjacent_mask mask word
 returns c =
     places (λ s. is_adjacent s c.args.target) _
     (table_at adjacent_mask _ 64 c.index.result refl c.index.ensures.below
-    ∙ ap (λ t. mask (λ s. is_adjacent s t)) (ap square_at c.index.ensures.value ∙ square_at-cell_of c.args.target c.lies_on_board.ensures.file))
+    ∙ ap (λ t. mask (λ s. is_adjacent s t)) (ap square_at c.index.ensures.value ∙ square_at-cell_of c.args.target c.recall_invariant.ensures.file))

@@ -12,4 +12,4 @@ unfolding diagonal_mask mask word
 returns c =
     places (λ s. on_diagonal s c.args.target) _
     (table_at diagonal_mask _ 64 c.index.result refl c.index.ensures.below
-    ∙ ap (λ t. mask (λ s. on_diagonal s t)) (ap square_at c.index.ensures.value ∙ square_at-cell_of c.args.target c.lies_on_board.ensures.file))
+    ∙ ap (λ t. mask (λ s. on_diagonal s t)) (ap square_at c.index.ensures.value ∙ square_at-cell_of c.args.target c.recall_invariant.ensures.file))

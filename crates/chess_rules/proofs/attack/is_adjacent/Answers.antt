@@ -8,4 +8,4 @@ pub returns : goal.returns
 returns c =
     c.has.ensures
     ∙ (ap (has c.adjacent.result) c.index.ensures.value
-    ∙ at_square c.adjacent.result (λ s. is_adjacent s c.args.to) c.args.from c.adjacent.ensures c.lies_on_board.ensures.file c.lies_on_board.ensures.rank)
+    ∙ at_square c.adjacent.result (λ s. is_adjacent s c.args.to) c.args.from c.adjacent.ensures c.recall_invariant.ensures.file c.recall_invariant.ensures.rank)

@@ -8,4 +8,4 @@ pub returns : goal.returns
 returns c =
     c.is_attacked.ensures
     ∙ (ap₂ (λ d k. is_attacked c.args.board.now d k) c.other.ensures c.requires.there
-    ∙ sym (king_attacked_there c.args.colour c.args.board.now c.has_all_cells.ensures (equal_from _ 1 c.requires.one)))
+    ∙ sym (king_attacked_there c.args.colour c.args.board.now c.recall_invariant.ensures (equal_from _ 1 c.requires.one)))

@@ -12,4 +12,4 @@ unfolding line_mask mask word
 returns c =
     places (λ s. in_line s c.args.target) _
     (table_at line_mask _ 64 c.index.result refl c.index.ensures.below
-    ∙ ap (λ t. mask (λ s. in_line s t)) (ap square_at c.index.ensures.value ∙ square_at-cell_of c.args.target c.lies_on_board.ensures.file))
+    ∙ ap (λ t. mask (λ s. in_line s t)) (ap square_at c.index.ensures.value ∙ square_at-cell_of c.args.target c.recall_invariant.ensures.file))

@@ -13,11 +13,11 @@ unfolding white_pawn_mask mask word
 returns-in-White c =
     places (λ s. reaches Pawn c.args.by s c.args.target) _
     (table_at white_pawn_mask _ 64 c.index.result refl c.index.ensures.below
-    ∙ ap₂ (λ (d : Colour) t. mask (λ s. reaches Pawn d s t)) (sym c.in-White.is) (ap square_at c.index.ensures.value ∙ square_at-cell_of c.args.target c.lies_on_board.ensures.file))
+    ∙ ap₂ (λ (d : Colour) t. mask (λ s. reaches Pawn d s t)) (sym c.in-White.is) (ap square_at c.index.ensures.value ∙ square_at-cell_of c.args.target c.recall_invariant.ensures.file))
 
 pub returns-in-Black : goal.returns-in-Black
 unfolding black_pawn_mask mask word
 returns-in-Black c =
     places (λ s. reaches Pawn c.args.by s c.args.target) _
     (table_at black_pawn_mask _ 64 c.index-in-Black.result refl c.index-in-Black.ensures.below
-    ∙ ap₂ (λ (d : Colour) t. mask (λ s. reaches Pawn d s t)) (sym c.in-Black.is) (ap square_at c.index-in-Black.ensures.value ∙ square_at-cell_of c.args.target c.lies_on_board.ensures.file))
+    ∙ ap₂ (λ (d : Colour) t. mask (λ s. reaches Pawn d s t)) (sym c.in-Black.is) (ap square_at c.index-in-Black.ensures.value ∙ square_at-cell_of c.args.target c.recall_invariant.ensures.file))

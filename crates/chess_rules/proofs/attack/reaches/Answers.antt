@@ -8,4 +8,4 @@ pub returns : goal.returns
 returns c =
     c.has.ensures
     ∙ (ap (has c.reaching.result) c.index.ensures.value
-    ∙ at_square c.reaching.result (λ s. reaches c.args.kind c.args.colour s c.args.to) c.args.from c.reaching.ensures c.lies_on_board.ensures.file c.lies_on_board.ensures.rank)
+    ∙ at_square c.reaching.result (λ s. reaches c.args.kind c.args.colour s c.args.to) c.args.from c.reaching.ensures c.recall_invariant.ensures.file c.recall_invariant.ensures.rank)

@@ -10,4 +10,4 @@ returns c =
     c.has.ensures
     ∙ (ap (has (bit_or c.lines.result c.diagonals.result)) c.index.ensures.value
     ∙ at_square _ (λ s. in_line s c.args.to || on_diagonal s c.args.to) c.args.from
-    (places_or _ _ _ _ c.lines.ensures c.diagonals.ensures) c.lies_on_board.ensures.file c.lies_on_board.ensures.rank)
+    (places_or _ _ _ _ c.lines.ensures c.diagonals.ensures) c.recall_invariant.ensures.file c.recall_invariant.ensures.rank)

@@ -10,7 +10,7 @@ use Rattle.chess_rules.specs.Words.{members, Places}
 use Rattle.chess_rules.proofs.trying.CandidatesFoundOnce.{apart_there, candidates_apart, rides_unless}
 use Rattle.chess_rules.proofs.trying.SetsToCandidates.{few_there, knights_are, own_places, riders_are}
 use Rattle.chess_rules.proofs.candidates.origins.Goals as goal
-use Rattle.chess_rules.proofs.candidates.origins.Goals.{After-knights_to, After-first_hits}
+use Rattle.chess_rules.proofs.candidates.origins.Goals.{After-knights_to, After-first_pieces}
 
 knights : (c : After-knights_to) → members (bit_and c.pieces-own.result c.knights_to.result) ≡ candidates c.args.position.now c.args.kind c.args.target
 knights c =
@@ -21,23 +21,23 @@ knights c =
     c.knights_to.ensures
     ∙ ap (λ (k : Kind). candidates p k c.args.target) (sym c.in-Knight.is)
 
-riders : (c : After-first_hits) → members (bit_and c.pieces-own.result c.first_hits.result) ≡ candidates c.args.position.now c.args.kind c.args.target
+riders : (c : After-first_pieces) → members (bit_and c.pieces-own.result c.first_pieces.result) ≡ candidates c.args.position.now c.args.kind c.args.target
 riders c =
     let p = c.args.position.now in
-    riders_are p c.args.kind c.args.target c.board-in_default.result.now c.pieces-own.result c.first_hits.result
-    (rides_unless c.args.kind c.in_default.not-Knight) c.lies_on_board.ensures.file c.lies_on_board.ensures.rank c.board-in_default.ensures
+    riders_are p c.args.kind c.args.target c.board-in_default.result.now c.pieces-own.result c.first_pieces.result
+    (rides_unless c.args.kind c.in_default.not-Knight) c.recall_invariant.ensures.file c.recall_invariant.ensures.rank c.board-in_default.ensures
     (own_places p c.args.kind c.side.result c.board.result.now c.pieces-own.result c.side.ensures c.board.ensures c.pieces-own.ensures)
-    c.first_hits.ensures
+    c.first_pieces.ensures
 
 pub squares_of-requires : goal.squares_of-requires
 squares_of-requires c =
     few_there c.args.position.now c.args.kind c.args.target (members (bit_and c.pieces-own.result c.knights_to.result))
-    c.lies_on_board.ensures.file c.lies_on_board.ensures.rank (knights c)
+    c.recall_invariant.ensures.file c.recall_invariant.ensures.rank (knights c)
 
 pub squares_of-requires-in_default : goal.squares_of-requires-in_default
 squares_of-requires-in_default c =
-    few_there c.args.position.now c.args.kind c.args.target (members (bit_and c.pieces-own.result c.first_hits.result))
-    c.lies_on_board.ensures.file c.lies_on_board.ensures.rank (riders c)
+    few_there c.args.position.now c.args.kind c.args.target (members (bit_and c.pieces-own.result c.first_pieces.result))
+    c.recall_invariant.ensures.file c.recall_invariant.ensures.rank (riders c)
 
 same_list : (xs ys : List Square) → ys ≡ xs → IsPermutation xs ys
 same_list xs ys e = subst (λ (zs : List Square). IsPermutation xs zs) (sym e) (IsPermutation-refl xs)

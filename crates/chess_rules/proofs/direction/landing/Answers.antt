@@ -6,8 +6,8 @@ use Rattle.chess_rules.proofs.direction.landing.Goals as goal
 
 pub returns : goal.returns
 returns c =
-    let file = c.lies_on_board.ensures.file in
-    let rank = c.lies_on_board.ensures.rank in
+    let file = c.recall_invariant.ensures.file in
+    let rank = c.recall_invariant.ensures.rank in
     let jump = jump_numbered c.args.jump in
     let place : 8 * c.index.result + c.args.jump ≡ 8 * cell_of c.args.from + c.args.jump = ap (λ n. 8 * n + c.args.jump) c.index.ensures.value in
     c.at_place.ensures

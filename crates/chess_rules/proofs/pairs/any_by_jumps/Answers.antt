@@ -5,42 +5,42 @@ use Rattle.chess_rules.specs.Pairs.{any_by_jumps, count_by_jumps}
 use Rattle.chess_rules.proofs.trying.SearchThatCounts.{counts_try, stands_fits, stands_more, stands_hit, stands_end}
 use Rattle.chess_rules.proofs.pairs.any_by_jumps.Goals as goal
 
-pub hits-requires : goal.hits-requires
+pub is_legal_from-requires : goal.is_legal_from-requires
 unfolding count_by_jumps
-hits-requires c =
+is_legal_from-requires c =
     subst (λ o. c.loop-jump.probes + spec.tried o < 2 ^ 32) (sym c.origin_by-origin.ensures)
-    (stands_fits (spec.hits_by c.args.position.now c.args.target) (spec.tried_by c.args.position.now c.args.target) JUMPS c.loop-jump.jump c.args.probes.now c.loop-jump.probes (2 ^ 32) _ _ c.loop-jump.invariant (omega arith) refl c.requires)
+    (stands_fits (spec.is_legal_by c.args.position.now c.args.target) (spec.tried_by c.args.position.now c.args.target) JUMPS c.loop-jump.jump c.args.probes.now c.loop-jump.probes (2 ^ 32) _ _ c.loop-jump.invariant (omega arith) refl c.requires)
 
-pub returns-then-hits-clause-found : goal.returns-then-hits-clause-found
+pub returns-then-is_legal_from-clause-found : goal.returns-then-is_legal_from-clause-found
 unfolding any_by_jumps
-returns-then-hits-clause-found c =
-    (stands_hit (spec.hits_by c.args.position.now c.args.target) (spec.tried_by c.args.position.now c.args.target) JUMPS c.loop-jump.jump c.args.probes.now c.loop-jump.probes c.hits.new.probes _ _ c.hits.result
+returns-then-is_legal_from-clause-found c =
+    (stands_hit (spec.is_legal_by c.args.position.now c.args.target) (spec.tried_by c.args.position.now c.args.target) JUMPS c.loop-jump.jump c.args.probes.now c.loop-jump.probes c.is_legal_from.new.probes _ _ c.is_legal_from.result
     c.loop-jump.invariant (omega arith) refl
-    (c.hits.ensures.found ∙ ap (spec.hits c.args.position.now c.args.target) c.origin_by-origin.ensures)
-    c.if-hits.true (counts_try _ _ _ _ _ _ (c.hits.ensures.found ∙ ap (spec.hits c.args.position.now c.args.target) c.origin_by-origin.ensures)
-    (c.hits.ensures.count ∙ ap (λ o. c.loop-jump.probes + spec.tried o) c.origin_by-origin.ensures))).0
+    (c.is_legal_from.ensures.found ∙ ap (spec.is_legal_from c.args.position.now c.args.target) c.origin_by-origin.ensures)
+    c.if-is_legal_from.true (counts_try _ _ _ _ _ _ (c.is_legal_from.ensures.found ∙ ap (spec.is_legal_from c.args.position.now c.args.target) c.origin_by-origin.ensures)
+    (c.is_legal_from.ensures.count ∙ ap (λ o. c.loop-jump.probes + spec.tried o) c.origin_by-origin.ensures))).0
 
-pub returns-then-hits-clause-count : goal.returns-then-hits-clause-count
+pub returns-then-is_legal_from-clause-count : goal.returns-then-is_legal_from-clause-count
 unfolding count_by_jumps
-returns-then-hits-clause-count c =
-    (stands_hit (spec.hits_by c.args.position.now c.args.target) (spec.tried_by c.args.position.now c.args.target) JUMPS c.loop-jump.jump c.args.probes.now c.loop-jump.probes c.hits.new.probes _ _ c.hits.result
+returns-then-is_legal_from-clause-count c =
+    (stands_hit (spec.is_legal_by c.args.position.now c.args.target) (spec.tried_by c.args.position.now c.args.target) JUMPS c.loop-jump.jump c.args.probes.now c.loop-jump.probes c.is_legal_from.new.probes _ _ c.is_legal_from.result
     c.loop-jump.invariant (omega arith) refl
-    (c.hits.ensures.found ∙ ap (spec.hits c.args.position.now c.args.target) c.origin_by-origin.ensures)
-    c.if-hits.true (counts_try _ _ _ _ _ _ (c.hits.ensures.found ∙ ap (spec.hits c.args.position.now c.args.target) c.origin_by-origin.ensures)
-    (c.hits.ensures.count ∙ ap (λ o. c.loop-jump.probes + spec.tried o) c.origin_by-origin.ensures))).1
+    (c.is_legal_from.ensures.found ∙ ap (spec.is_legal_from c.args.position.now c.args.target) c.origin_by-origin.ensures)
+    c.if-is_legal_from.true (counts_try _ _ _ _ _ _ (c.is_legal_from.ensures.found ∙ ap (spec.is_legal_from c.args.position.now c.args.target) c.origin_by-origin.ensures)
+    (c.is_legal_from.ensures.count ∙ ap (λ o. c.loop-jump.probes + spec.tried o) c.origin_by-origin.ensures))).1
 
 pub loop-jump-preserved : goal.loop-jump-preserved
 loop-jump-preserved c =
-    stands_more (spec.hits_by c.args.position.now c.args.target) (spec.tried_by c.args.position.now c.args.target) JUMPS c.loop-jump.jump c.args.probes.now c.loop-jump.probes c.hits.new.probes _ _ c.hits.result
+    stands_more (spec.is_legal_by c.args.position.now c.args.target) (spec.tried_by c.args.position.now c.args.target) JUMPS c.loop-jump.jump c.args.probes.now c.loop-jump.probes c.is_legal_from.new.probes _ _ c.is_legal_from.result
     c.loop-jump.invariant (omega arith) refl
-    (c.hits.ensures.found ∙ ap (spec.hits c.args.position.now c.args.target) c.origin_by-origin.ensures)
-    c.if-hits.false (counts_try _ _ _ _ _ _ (c.hits.ensures.found ∙ ap (spec.hits c.args.position.now c.args.target) c.origin_by-origin.ensures)
-    (c.hits.ensures.count ∙ ap (λ o. c.loop-jump.probes + spec.tried o) c.origin_by-origin.ensures))
+    (c.is_legal_from.ensures.found ∙ ap (spec.is_legal_from c.args.position.now c.args.target) c.origin_by-origin.ensures)
+    c.if-is_legal_from.false (counts_try _ _ _ _ _ _ (c.is_legal_from.ensures.found ∙ ap (spec.is_legal_from c.args.position.now c.args.target) c.origin_by-origin.ensures)
+    (c.is_legal_from.ensures.count ∙ ap (λ o. c.loop-jump.probes + spec.tried o) c.origin_by-origin.ensures))
 
 pub returns-clause-found : goal.returns-clause-found
 unfolding any_by_jumps
-returns-clause-found c = (stands_end (spec.hits_by c.args.position.now c.args.target) (spec.tried_by c.args.position.now c.args.target) JUMPS c.loop-jump.jump c.args.probes.now c.loop-jump.probes c.loop-jump.invariant (omega arith)).0
+returns-clause-found c = (stands_end (spec.is_legal_by c.args.position.now c.args.target) (spec.tried_by c.args.position.now c.args.target) JUMPS c.loop-jump.jump c.args.probes.now c.loop-jump.probes c.loop-jump.invariant (omega arith)).0
 
 pub returns-clause-count : goal.returns-clause-count
 unfolding count_by_jumps
-returns-clause-count c = (stands_end (spec.hits_by c.args.position.now c.args.target) (spec.tried_by c.args.position.now c.args.target) JUMPS c.loop-jump.jump c.args.probes.now c.loop-jump.probes c.loop-jump.invariant (omega arith)).1
+returns-clause-count c = (stands_end (spec.is_legal_by c.args.position.now c.args.target) (spec.tried_by c.args.position.now c.args.target) JUMPS c.loop-jump.jump c.args.probes.now c.loop-jump.probes c.loop-jump.invariant (omega arith)).1

@@ -1,6 +1,6 @@
 use Rattle.std.proofs.Common.{sym, ◌∙◌, ap}
 use Rattle.chess_rules.specs.declared.piece.Colour.{Colour}
-use Rattle.chess_text.specs.Reads.{castling_move}
+use Rattle.chess_text.specs.MoveOfForm.{castling_move}
 use Rattle.chess_text.proofs.forms.CastlingForms.{castling_illegal, castling_found, castling_other}
 use Rattle.chess_text.proofs.resolution.resolve_castling.Goals as goal
 

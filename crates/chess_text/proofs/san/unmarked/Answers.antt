@@ -1,6 +1,6 @@
 use Rattle.std.proofs.Common.{◌≡◌, true, sym, ◌∙◌, subst}
 use Rattle.chess_rules.specs.Step.{own}
-use Rattle.chess_text.proofs.forms.MoverOfMove.{mover, mover_stands, officer}
+use Rattle.chess_text.proofs.forms.MoverOfMove.{may_have_rivals, mover, mover_stands}
 use Rattle.chess_text.proofs.san.unmarked.Goals as goal
 
 pub king_text-requires-clause-king : goal.king_text-requires-clause-king
@@ -18,10 +18,10 @@ pawn_text-requires-clause-pawn c =
 pub returns-in_default-clause-some : goal.returns-in_default-clause-some
 returns-in_default-clause-some c = absurd (mover_stands c.args.position.now c.args.mv.now c.requires.legal (sym c.at.ensures ∙ c.in_default.is))
 
-pub officer_text-requires : goal.officer_text-requires
-officer_text-requires c =
+pub disambiguated_text-requires : goal.disambiguated_text-requires
+disambiguated_text-requires c =
     record {
       own = mover c.args.position.now c.args.mv.now c.in-Some.piece c.requires.legal (sym c.at.ensures ∙ c.in-Some.is);
-      officer = officer c.in-Some.piece.kind (λ e. c.in_default-kind.not-King e) (λ e. c.in_default-kind.not-Pawn e);
+      may_have_rivals = may_have_rivals c.in-Some.piece.kind (λ e. c.in_default-kind.not-King e) (λ e. c.in_default-kind.not-Pawn e);
       room = c.requires.room;
     }

@@ -11,7 +11,7 @@ loop-converter-init g c =
     record {
       count = omega (arith, c.new-converter.ensures.stands.lexer.count);
       room = refl;
-      going = c.new-converter.ensures.going;
+      not_finished = c.new-converter.ensures.not_finished;
       fault = c.new-converter.ensures.stands.has_read.no_fault;
       source = refl;
       sink = refl;
@@ -27,7 +27,7 @@ returns-in-Err-clause-counted g c =
     (c.in-Err.ensures.failures ∙ ap one_more c.loop-converter.invariant.source, c.loop-converter.invariant.sink)
 
 pub end-requires : goal.end-requires
-end-requires g c = (c.requires.memory, (c.loop-converter.invariant.going, c.loop-converter.invariant.fault))
+end-requires g c = (c.requires.memory, (c.loop-converter.invariant.not_finished, c.loop-converter.invariant.fault))
 
 pub returns-in-Ok-eq0-clause-converts : goal.returns-in-Ok-eq0-clause-converts
 returns-in-Ok-eq0-clause-converts g c =
@@ -45,7 +45,7 @@ returns-in-Ok-eq0-clause-short g c =
 pub returns-in-Ok-eq0-clause-counted : goal.returns-in-Ok-eq0-clause-counted
 returns-in-Ok-eq0-clause-counted g c =
     counts_end c.end.result _ _ _ _ (c.in-Ok-eq0.ensures.failures ∙ c.loop-converter.invariant.source)
-    (subst (λ n. CountsFault c.end.result n (g.W.Sink.failures c.end.new.writer)) c.loop-converter.invariant.sink c.end.ensures.counted)
+    (subst (λ n. CountsFault c.end.result n (g.W.Sink.failures c.end.new.out)) c.loop-converter.invariant.sink c.end.ensures.counted)
 
 pub loop-converter-smaller : goal.loop-converter-smaller
 loop-converter-smaller g c =
@@ -59,7 +59,7 @@ loop-converter-preserved g c =
     record {
       count = c.in_ok-feed_all-in-Ok.ensures.short;
       room = omega (arith, c.loop-converter.invariant.room, c.read_some.auto.buffer);
-      going = c.feed_all.ensures.going;
+      not_finished = c.feed_all.ensures.not_finished;
       fault = c.in_ok-feed_all-in-Ok.ensures.fault;
       source = c.in-Ok.ensures.failures ∙ c.loop-converter.invariant.source;
       sink = c.in_ok-feed_all-in-Ok.ensures.counted ∙ c.loop-converter.invariant.sink;
@@ -86,7 +86,7 @@ pub new-converter-requires : goal.new-converter-requires
 new-converter-requires g c = (c.requires.memory, c.requires.levels)
 
 pub feed_all-requires : goal.feed_all-requires
-feed_all-requires g c = (c.requires.memory, (c.loop-converter.invariant.going, c.loop-converter.invariant.fault))
+feed_all-requires g c = (c.requires.memory, (c.loop-converter.invariant.not_finished, c.loop-converter.invariant.fault))
 
 pub count-requires : goal.count-requires
 count-requires g c = c.requires.memory

@@ -8,7 +8,7 @@ invariant-loop-converter g l =
     record {
       count : l.converter.lexer.count ≤ 2 ^ 62;
       room : length l.buffer ≡ 4096;
-      going : l.converter.is_finished ≡ false;
+      not_finished : l.converter.is_finished ≡ false;
       fault : l.converter.fault ≡ None;
       source : g.R.Source.failures l.reader ≡ g.R.Source.failures l.fn.reader;
       sink : g.W.Sink.failures l.writer ≡ g.W.Sink.failures l.fn.writer;

@@ -17,7 +17,7 @@ pub new-converter-requires : goal.new-converter-requires
 new-converter-requires g c = (c.requires.memory, c.requires.levels)
 
 pub feed_all-requires : goal.feed_all-requires
-feed_all-requires g c = (c.requires.memory, (c.new-converter.ensures.going, c.new-converter.ensures.stands.has_read.no_fault))
+feed_all-requires g c = (c.requires.memory, (c.new-converter.ensures.not_finished, c.new-converter.ensures.stands.has_read.no_fault))
 
 pub end-requires : goal.end-requires
-end-requires g c = (c.requires.memory, (c.feed_all.ensures.going, c.in_ok-feed_all.ensures.fault))
+end-requires g c = (c.requires.memory, (c.feed_all.ensures.not_finished, c.in_ok-feed_all.ensures.fault))

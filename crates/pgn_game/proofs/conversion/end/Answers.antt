@@ -13,7 +13,7 @@ returns-clause-ends g c p u given stands =
     ended p u given c.finish.new.self _ (record { games = c.games.result; plies = c.whole_plies.result; most_probes = c.most_probes.result }) _ _ (c.in_ok-finish.ensures.ends p u _ given stands) c.games.ensures c.whole_plies.ensures c.most_probes.ensures.value c.most_probes.ensures.bound
 
 pub finish-requires : goal.finish-requires
-finish-requires g c = (search fits_alike, c.requires.going)
+finish-requires g c = (search fits_alike, c.requires.not_finished)
 
 pub games-requires : goal.games-requires
 games-requires g c = search fits_alike

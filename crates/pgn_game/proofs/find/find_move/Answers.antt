@@ -5,7 +5,7 @@ use Rattle.chess_text.specs.declared.form.Form.{Form}
 use Rattle.chess_text.specs.declared.resolution.Played.{Played}
 use Rattle.chess_text.specs.declared.resolution.SanFault.{SanFault}
 use Rattle.chess_text.specs.Form.{form_of}
-use Rattle.chess_text.specs.Reads.{reads}
+use Rattle.chess_text.specs.MoveOfForm.{move_of_form}
 use Rattle.pgn_game.specs.declared.reason.Reason.{Reason}
 use Rattle.pgn_game.specs.declared.reason.Reason.TheVariants.{MoveLimit}
 use Rattle.pgn_game.specs.Chess.{move_of}
@@ -16,11 +16,11 @@ use Rattle.pgn_game.proofs.find.find_move.Goals as goal
 
 no_form : (p : Parts) (s : List ℕ) → None ≡ form_of s → move_of p s ≡ None
 unfolding move_of
-no_form p s e = ap (option_map (reads p)) (sym e)
+no_form p s e = ap (option_map (move_of_form p)) (sym e)
 
-of_form : (p : Parts) (s : List ℕ) (f : Form) (r : Result Played SanFault) → Some f ≡ form_of s → r ≡ reads p f → move_of p s ≡ Some r
+of_form : (p : Parts) (s : List ℕ) (f : Form) (r : Result Played SanFault) → Some f ≡ form_of s → r ≡ move_of_form p f → move_of p s ≡ Some r
 unfolding move_of
-of_form p s f r e h = ap (option_map (reads p)) (sym e) ∙ ap Some (sym h)
+of_form p s f r e h = ap (option_map (move_of_form p)) (sym e) ∙ ap Some (sym h)
 
 limited : (p : Parts) (played : Played) (b : Bool) → is_at_limit p ≡ b
     → (let r : Result Played Reason = elim b [ true ↦ Err MoveLimit | false ↦ Ok played ] in r) ≡ found_in p (Some (Ok played))
@@ -53,7 +53,7 @@ returns-else-is_at_limit-clause-legal c =
 
 -- what resolving a form costs
 of_answer : (p : Parts) (s : List ℕ) (f : Form) (r : Result Played SanFault) (n : ℕ)
-    → Some f ≡ form_of s → r ≡ reads p f → CostsAnswer p f r n → Costs p s n
+    → Some f ≡ form_of s → r ≡ move_of_form p f → CostsAnswer p f r n → Costs p s n
 unfolding Costs
 of_answer p s f r n e h costs =
     subst (λ (x : Option Form). CostsForm p x n) e

@@ -3,7 +3,7 @@ use Rattle.std.specs.Prelude.{codes}
 use Rattle.std.proofs.lemmas.Result.{err_from_is_err_and}
 use Rattle.std.proofs.KnownBytes.{Appends-trans}
 use Rattle.pgn_layout.specs.TagLine.{tag_line}
-use Rattle.pgn_game.specs.Holding.{place_of}
+use Rattle.pgn_game.specs.Holding.{index_of}
 use Rattle.pgn_game.specs.Pairs.{Pair, has_pair}
 use Rattle.pgn_game.specs.SectionLines.{text_by, other_line}
 use Rattle.pgn_game.specs.TagSection.{other_pairs, tag_lines, with_set_up}
@@ -12,13 +12,13 @@ use Rattle.pgn_game.proofs.pairs.SectionByLines.{others_without_fen, others_with
 use Rattle.pgn_game.proofs.section.write_others.Goals as goal
 
 -- the pairs on both sides of SetUp's place
-both_sides : (held pairs before after : List Pair) (n : ℕ) → pairs ≡ held → n ≡ place_of (codes "SetUp") pairs → before ≡ take n pairs → after ≡ drop n pairs
+both_sides : (held pairs before after : List Pair) (n : ℕ) → pairs ≡ held → n ≡ index_of (codes "SetUp") pairs → before ≡ take n pairs → after ≡ drop n pairs
     → has_pair held (codes "FEN") ≡ true
     → (text_by (other_line true) before ++ tag_line (codes "SetUp") (codes "1")) ++ text_by (other_line true) after ≡ tag_lines (other_pairs (with_set_up held))
 both_sides held pairs before after n is place front back some =
     ap (λ ps. (text_by (other_line true) ps ++ tag_line (codes "SetUp") (codes "1")) ++ text_by (other_line true) after) front
     ∙ ap (λ ps. (text_by (other_line true) (take n pairs) ++ tag_line (codes "SetUp") (codes "1")) ++ text_by (other_line true) ps) back
-    ∙ ap (λ k. lines_about k pairs) place ∙ ap (λ ps. lines_about (place_of (codes "SetUp") ps) ps) is ∙ others_with_fen held some
+    ∙ ap (λ k. lines_about k pairs) place ∙ ap (λ ps. lines_about (index_of (codes "SetUp") ps) ps) is ∙ others_with_fen held some
 
 pub returns-then-not-has_fen-clause-text : goal.returns-then-not-has_fen-clause-text
 returns-then-not-has_fen-clause-text g c =
@@ -27,24 +27,24 @@ returns-then-not-has_fen-clause-text g c =
     rw (← others_without_fen held none) c.write_pairs.ensures.text
 
 pub split_at-requires : goal.split_at-requires
-split_at-requires g c = c.place_of.ensures.within
+split_at-requires g c = c.index_of.ensures.within
 
 pub returns-in_err-write_pairs-clause-text : goal.returns-in_err-write_pairs-clause-text
 returns-in_err-write_pairs-clause-text g c =
     let p = err_from_is_err_and c.from_residual.result c.from_residual.ensures.1 in
     let some : has_pair c.args.pairs.now (codes "FEN") ≡ true = sym c.has_fen.ensures ∙ c.if-not-has_fen.false in
-    rw (p.1, ← both_sides c.args.pairs.now _ _ _ _ refl c.place_of.ensures.place c.split_at.ensures.front c.split_at.ensures.back some)
+    rw (p.1, ← both_sides c.args.pairs.now _ _ _ _ refl c.index_of.ensures.index c.split_at.ensures.front c.split_at.ensures.back some)
     (front_of_more _ _ _ _ (front_of_more _ _ _ _ c.in_err-write_pairs.ensures.text))
 
 pub returns-in_err-write_tag-clause-text : goal.returns-in_err-write_tag-clause-text
 returns-in_err-write_tag-clause-text g c =
     let p = err_from_is_err_and c.from_residual-in_err-write_tag.result c.from_residual-in_err-write_tag.ensures.1 in
     let some : has_pair c.args.pairs.now (codes "FEN") ≡ true = sym c.has_fen.ensures ∙ c.if-not-has_fen.false in
-    rw (p.1, ← both_sides c.args.pairs.now _ _ _ _ refl c.place_of.ensures.place c.split_at.ensures.front c.split_at.ensures.back some)
+    rw (p.1, ← both_sides c.args.pairs.now _ _ _ _ refl c.index_of.ensures.index c.split_at.ensures.front c.split_at.ensures.back some)
     (front_of_more _ _ _ _ (front_after _ _ _ _ _ c.in_ok-write_pairs.ensures.text c.in_err-write_tag.ensures.text))
 
 pub returns-clause-text : goal.returns-clause-text
 returns-clause-text g c =
     let some : has_pair c.args.pairs.now (codes "FEN") ≡ true = sym c.has_fen.ensures ∙ c.if-not-has_fen.false in
-    rw (← both_sides c.args.pairs.now _ _ _ _ refl c.place_of.ensures.place c.split_at.ensures.front c.split_at.ensures.back some)
+    rw (← both_sides c.args.pairs.now _ _ _ _ refl c.index_of.ensures.index c.split_at.ensures.front c.split_at.ensures.back some)
     (Writes-append _ _ _ _ _ _ (Appends-trans _ _ _ _ _ c.in_ok-write_pairs.ensures.text c.in_ok-write_tag.ensures.text) c.write_pairs-3.ensures.text)

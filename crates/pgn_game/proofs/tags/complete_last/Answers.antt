@@ -2,7 +2,7 @@ use Rattle.std.proofs.Common.{◌≡◌, ℕ, ◌+◌, ◌≤◌, List, length, 
 use Rattle.std.specs.Prelude.{insert, IsSomeAnd}
 use Rattle.pgn_layout.specs.TagLine.{escaped}
 use Rattle.pgn_game.specs.Pairs.{Pair}
-use Rattle.pgn_game.specs.Holding.{place_of, last_name}
+use Rattle.pgn_game.specs.Holding.{index_of, last_name}
 use Rattle.pgn_game.proofs.pairs.SortedPairs.{insert-place, last_name-snoc, finished-last}
 use Rattle.pgn_game.proofs.tags.complete_last.Goals as goal
 
@@ -16,8 +16,8 @@ returns-in-Some-clause-pairs c =
     let front = c.in-Some.front.now in
     let p = c.in-Some.last.now in
     let pair : Pair = record { name = p.name; value = c.args.value.now } in
-    let place : c.place_of-place.result ≡ place_of pair.name front =
-    c.place_of-place.ensures.place ∙ ap (λ (n : List ℕ). place_of n front) (c.name.ensures.name ∙ ap (λ (q : Pair). q.name) c.set_value.ensures) in
+    let place : c.index_of-index.result ≡ index_of pair.name front =
+    c.index_of-index.ensures.index ∙ ap (λ (n : List ℕ). index_of n front) (c.name.ensures.name ∙ ap (λ (q : Pair). q.name) c.set_value.ensures) in
     finished-last front p c.args.value.now c.args.pairs.now c.move_last.new.pairs c.in-Some.ensures.cases.0
-    (c.move_last.ensures.pairs front c.set_value.new.self refl ∙ ap (insert front c.place_of-place.result) c.set_value.ensures
+    (c.move_last.ensures.pairs front c.set_value.new.self refl ∙ ap (insert front c.index_of-index.result) c.set_value.ensures
     ∙ ap (λ (n : ℕ). insert front n pair) place ∙ insert-place pair front)

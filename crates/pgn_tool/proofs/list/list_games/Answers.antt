@@ -29,7 +29,7 @@ loop-converter-preserved g c =
     record {
       count = listed.short;
       room = omega (arith, c.loop-converter.invariant.room, c.read_some.auto.buffer);
-      going = c.list_piece.ensures.going;
+      not_finished = c.list_piece.ensures.not_finished;
       fault = listed.no_fault;
       source = c.in-Ok.ensures.failures ∙ c.loop-converter.invariant.source;
       sink = listed.counted.1 ∙ c.loop-converter.invariant.sink;

@@ -7,11 +7,11 @@ invariant-loop-converter g l =
     record {
       count : l.converter.lexer.count ≤ 2 ^ 62;
       room : length l.buffer ≡ 4096;
-      going : l.converter.is_finished ≡ false;
+      not_finished : l.converter.is_finished ≡ false;
       fault : l.converter.fault ≡ None;
-      source : g.R.Source.failures l.reader ≡ g.R.Source.failures l.fn.reader;
+      source : g.R.Source.failures l.source ≡ g.R.Source.failures l.fn.source;
       sink : g.O.Sink.failures l.out ≡ g.O.Sink.failures l.fn.out;
-      read : SourceListedSoFar (g.R.Source.left l.fn.reader) (g.R.Source.left l.reader) l.converter (g.O.Sink.taken l.fn.out) (g.O.Sink.taken l.out);
+      read : SourceListedSoFar (g.R.Source.left l.fn.source) (g.R.Source.left l.source) l.converter (g.O.Sink.taken l.fn.out) (g.O.Sink.taken l.out);
     }
 
 abbrev pub decreases-loop-converter : goal.decreases-loop-converter

@@ -11,7 +11,7 @@ loop-used-init g c =
       within = omega arith;
       count = omega arith;
       fault = c.requires.no_fault;
-      going = c.requires.going;
+      not_finished = c.requires.not_finished;
       counted = refl;
       lists = λ u before so. piece_begins u c.args.piece.now _ before _ so;
     }
@@ -52,7 +52,7 @@ loop-used-preserved g c =
       within = omega (arith, used, length-drop c.loop-used.at c.args.piece.now, c.loop-used.invariant.within);
       count = omega (arith, count, c.loop-used.invariant.count);
       fault = c.in-Ok-Game.ensures.fault;
-      going = c.feed.ensures.going;
+      not_finished = c.feed.ensures.not_finished;
       counted = c.in_default.ensures.failures ∙ c.loop-used.invariant.counted;
       lists = λ u before so.
           let now = c.loop-used.invariant.lists u before so in

@@ -9,7 +9,7 @@ invariant-loop-used g l =
       within : l.at ≤ length l.piece;
       count : l.converter.lexer.count ≡ l.fn.converter.lexer.count + l.at;
       fault : l.converter.fault ≡ None;
-      going : l.converter.is_finished ≡ false;
+      not_finished : l.converter.is_finished ≡ false;
       counted : g.O.Sink.failures l.out ≡ g.O.Sink.failures l.fn.out;
       lists : ListFrontResult l.fn.converter l.piece l.at l.converter (g.O.Sink.taken l.fn.out) (g.O.Sink.taken l.out);
     }

@@ -14,7 +14,7 @@ loop-used-init g c =
       within = omega arith;
       count = omega arith;
       fault = c.requires.no_fault;
-      going = c.requires.going;
+      not_finished = c.requires.not_finished;
       so = λ before first. first;
       splits = λ u before so. piece_begins g.F.Out.Sink.taken u c.args.piece.now c.args.converter.now before _ _ _ so;
       well = c.requires.well;
@@ -68,7 +68,7 @@ loop-used-preserved g c =
       within = omega (arith, used, length-drop c.loop-used.at c.args.piece.now, c.loop-used.invariant.within);
       count = omega (arith, count, c.loop-used.invariant.count);
       fault = rw answer at call.fed.fault;
-      going = call.fed.going;
+      not_finished = call.fed.not_finished;
       so = λ before first.
           let now = fed_well _ _ before _ _ _ _ _ _ (c.loop-used.invariant.so before first) call.refusal call.answer _ _ call.turned call.counted call.settles is in
           closed_on _ _ before _ _ _ _ _ _ now.0 now.1 c.close.ensures.log c.close.ensures.shut c.close.ensures.count;

@@ -12,7 +12,7 @@ invariant-loop-used g l =
       within : l.at ≤ length l.piece;
       count : l.converter.lexer.count ≡ l.fn.converter.lexer.count + l.at;
       fault : l.converter.fault ≡ None;
-      going : l.converter.is_finished ≡ false;
+      not_finished : l.converter.is_finished ≡ false;
       so : (before : Option (List FileStep)) → FilesSoFar before (g.F.GameFiles.log l.fn.files) l.fn.file l.fn.count
           → FilesSoFar before (g.F.GameFiles.log l.files) l.file l.count;
       splits : SplitFrontResult g.F.Out.Sink.taken l.fn.converter l.piece l.at l.converter

@@ -37,7 +37,7 @@ loop-converter-preserved g c =
     record {
       count = split.short;
       room = omega (arith, c.loop-converter.invariant.room, c.read_some.auto.buffer);
-      going = c.split_piece.ensures.going;
+      not_finished = c.split_piece.ensures.not_finished;
       fault = split.no_fault;
       source = c.in-Ok.ensures.failures ∙ c.loop-converter.invariant.source;
       so = files.0;

@@ -8,11 +8,11 @@ invariant-loop-converter g l =
     record {
       count : l.converter.lexer.count ≤ 2 ^ 62;
       room : length l.buffer ≡ 4096;
-      going : l.converter.is_finished ≡ false;
+      not_finished : l.converter.is_finished ≡ false;
       fault : l.converter.fault ≡ None;
-      source : g.R.Source.failures l.reader ≡ g.R.Source.failures l.fn.reader;
+      source : g.R.Source.failures l.source ≡ g.R.Source.failures l.fn.source;
       so : FilesSoFar (g.F.GameFiles.log l.fn.files) (g.F.GameFiles.log l.files) l.file l.count;
-      read : SourceSplitSoFar g.F.Out.Sink.taken (g.R.Source.left l.fn.reader) (g.R.Source.left l.reader) l.converter
+      read : SourceSplitSoFar g.F.Out.Sink.taken (g.R.Source.left l.fn.source) (g.R.Source.left l.source) l.converter
           (g.F.GameFiles.log l.fn.files) (g.F.GameFiles.log l.files) l.file l.count;
       well : IsWell g.F.Out.Sink.taken g.F.Out.Sink.failures (g.F.GameFiles.log l.files) l.file;
     }

@@ -11,7 +11,7 @@ returns-in-Ok g c =
     let counted = c.in-Ok.ensures.counted in
     record {
       answer = Ok tt;
-      lists = lists_on _ (g.R.Source.left c.list_games-answer.new.reader) _ _ _ (Ok tt) c.in-Ok.ensures.lists c.flush-flushed.ensures.bytes;
+      lists = lists_on _ (g.R.Source.left c.list_games-answer.new.source) _ _ _ (Ok tt) c.in-Ok.ensures.lists c.flush-flushed.ensures.bytes;
       ends =
           concludes_as c.is_ok.result _ _ _ _ counted.0
           (λ well. flush_still c.flush-flushed.result _ _ _ counted.1 c.flush-flushed.ensures.failures (sym c.is_ok.ensures.value ∙ well))
@@ -24,9 +24,9 @@ returns-in-Ok g c =
 pub returns-in-Err-Refused : goal.returns-in-Err-Refused
 returns-in-Err-Refused g c =
     let is : c.list_games-answer.result ≡ Err (Refused c.in-Err-Refused.fault) = c.in-Err-Refused.is ∙ ap (λ s. Err s) (rw c.in-Err-Refused.is at c.in-Err-Refused.field-0-is) in
-    let listed = subst (λ (r : Result Unit Stopped). ListResult (g.R.Source.left c.args.reader.now) (g.R.Source.left c.list_games-answer.new.reader) r
+    let listed = subst (λ (r : Result Unit Stopped). ListResult (g.R.Source.left c.args.source.now) (g.R.Source.left c.list_games-answer.new.source) r
     (g.O.Sink.taken c.args.out.now) (g.O.Sink.taken c.list_games-answer.new.out)) is c.list_games-answer.ensures.lists in
-    let counted = subst (λ (r : Result Unit Stopped). CountsList r (g.R.Source.failures c.args.reader.now) (g.R.Source.failures c.list_games-answer.new.reader)
+    let counted = subst (λ (r : Result Unit Stopped). CountsList r (g.R.Source.failures c.args.source.now) (g.R.Source.failures c.list_games-answer.new.source)
     (g.O.Sink.failures c.args.out.now) (g.O.Sink.failures c.list_games-answer.new.out)) is c.list_games-answer.ensures.counted in
     record {
       answer = Err (Refused c.in-Err-Refused.fault);
@@ -41,9 +41,9 @@ returns-in-Err-Refused g c =
 pub returns-in-Err-Unwritten : goal.returns-in-Err-Unwritten
 returns-in-Err-Unwritten g c =
     let is : c.list_games-answer.result ≡ Err Unwritten = c.in-Err-Unwritten.is ∙ ap (λ s. Err s) (rw c.in-Err-Unwritten.is at c.in-Err-Unwritten.field-0-is) in
-    let listed = subst (λ (r : Result Unit Stopped). ListResult (g.R.Source.left c.args.reader.now) (g.R.Source.left c.list_games-answer.new.reader) r
+    let listed = subst (λ (r : Result Unit Stopped). ListResult (g.R.Source.left c.args.source.now) (g.R.Source.left c.list_games-answer.new.source) r
     (g.O.Sink.taken c.args.out.now) (g.O.Sink.taken c.list_games-answer.new.out)) is c.list_games-answer.ensures.lists in
-    let counted = subst (λ (r : Result Unit Stopped). CountsList r (g.R.Source.failures c.args.reader.now) (g.R.Source.failures c.list_games-answer.new.reader)
+    let counted = subst (λ (r : Result Unit Stopped). CountsList r (g.R.Source.failures c.args.source.now) (g.R.Source.failures c.list_games-answer.new.source)
     (g.O.Sink.failures c.args.out.now) (g.O.Sink.failures c.list_games-answer.new.out)) is c.list_games-answer.ensures.counted in
     record {
       answer = Err Unwritten;

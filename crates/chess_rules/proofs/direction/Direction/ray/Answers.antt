@@ -9,8 +9,8 @@ use Rattle.chess_rules.proofs.direction.Direction.ray.Goals as goal
 pub returns : goal.returns
 unfolding ray_mask mask word
 returns c =
-    let file = c.lies_on_board.ensures.file in
-    let rank = c.lies_on_board.ensures.rank in
+    let file = c.recall_invariant.ensures.file in
+    let rank = c.recall_invariant.ensures.rank in
     let place : 64 * c.number.result + c.index.result ≡ 64 * direction_number c.args.self + cell_of c.args.from =
     ap₂ (λ m n. 64 * m + n) c.number.ensures.value c.index.ensures.value in
     places (lies_on c.args.self c.args.from) _

@@ -27,7 +27,7 @@ returns-clause-given g c left =
         plies = ap whole_plies is;
         probed = λ moves. absurd (cc);
         tried = subst (MostTried q []) (sym (ap (λ (r : Reading). r.most_probes) is)) (none no_progress);
-        at_hand = tt;
+        just_finished = tt;
       };
       profile = (codes "*", ap (λ (r : Reading). r.profile) is);
     }

@@ -2,7 +2,7 @@ use Rattle.std.proofs.Common.{◌≡◌, ℕ, ◌≤◌, ◌-◌, ◌^◌, None,
 use Rattle.std.proofs.lemmas.Result.{err_from_is_err_and}
 use Rattle.pgn_game.specs.Feeding.{Converter, at_token}
 use Rattle.pgn_game.proofs.ReaderFitsInMemory.{fits_alike}
-use Rattle.pgn_game.proofs.tokens.StepsAtEnd.{none_kept, not_at_hand, sound_behind_fault}
+use Rattle.pgn_game.proofs.tokens.StepsAtEnd.{none_kept, not_just_finished, sound_behind_fault}
 use Rattle.pgn_game.proofs.tokens.StepsInPiece.{follows_front, front_all, front_game, front_fault, front_too_long, limit_left, front_used}
 use Rattle.pgn_game.proofs.converter.Converter.feed.Goals as goal
 
@@ -21,7 +21,7 @@ returns-in_err-used g c =
       count = tt;
       short = tt;
       advances = tt;
-      going = c.feed_front.ensures.going;
+      not_finished = c.feed_front.ensures.not_finished;
       fault = fed.fault;
       games = fed.games;
       probes = c.feed_front.ensures.probes;
@@ -54,7 +54,7 @@ returns-in-Game g c =
         ap (λ (s : Converter). s.lexer.count) c.self.view_is,
       );
       advances = rw c.in-Game.is at fed.advances;
-      going = c.feed_front.ensures.going;
+      not_finished = c.feed_front.ensures.not_finished;
       fault = fed.fault;
       games = tt;
       probes = c.feed_front.ensures.probes;
@@ -86,11 +86,11 @@ returns-then-front-piece g c =
       count = tt;
       short = tt;
       advances = tt;
-      going = ap (λ (s : Converter). s.is_finished) c.self-2.view_is ∙ c.feed_front.ensures.going;
+      not_finished = ap (λ (s : Converter). s.is_finished) c.self-2.view_is ∙ c.feed_front.ensures.not_finished;
       fault = c.too_long.ensures.kept;
       games = (
         ap (λ (s : Converter). s.games) c.self-2.view_is ∙ kept.0,
-        ap (λ (s : Converter). s.at_hand) c.self-2.view_is ∙ kept.1,
+        ap (λ (s : Converter). s.just_finished) c.self-2.view_is ∙ kept.1,
       );
       probes = omega (
         arith,
@@ -128,7 +128,7 @@ returns-else-front-piece g c =
         ap (λ (s : Converter). s.lexer.count) c.self.view_is,
       );
       advances = tt;
-      going = c.feed_front.ensures.going;
+      not_finished = c.feed_front.ensures.not_finished;
       fault = fed.fault;
       games = rw c.in-All.is at fed.games;
       probes = c.feed_front.ensures.probes;
@@ -145,7 +145,7 @@ feed_front-requires g c =
     let front = ap (length {A = ℕ}) c.within_limit-front.ensures in (
       search fits_alike,
       (
-        c.requires.going,
+        c.requires.not_finished,
         (
           ap (λ (s : Converter). s.fault) (sym c.self.view_is) ∙ c.in_default.is,
           omega (
@@ -163,5 +163,5 @@ feed_front-requires g c =
 pub invariant_of-self : goal.invariant_of-self
 invariant_of-self g c =
     let kept = rw c.in-All.is at c.in_ok-used.ensures.games in
-    let flag = not_at_hand _ _ (ap (λ (s : Converter). s.at_hand) c.self-2.view_is ∙ kept.1) in
+    let flag = not_just_finished _ _ (ap (λ (s : Converter). s.just_finished) c.self-2.view_is ∙ kept.1) in
     rw (c.too_long.ensures.kept, flag) (sound_behind_fault c.self-2.inside.lexer c.self-2.inside.reader c.self-2.inside.games c.self-2.inside.is_finished c.too_long.result)

@@ -12,7 +12,7 @@ loop-used-init g c =
       within = omega arith;
       count = omega arith;
       fault = c.requires.no_fault;
-      going = c.requires.going;
+      not_finished = c.requires.not_finished;
       counted = refl;
       feeds = λ p u given stands is_decided. all_none p _ u given c.args.piece.now _ stands is_decided;
     }
@@ -42,7 +42,7 @@ loop-used-preserved g c =
       within = omega (arith, used, length-drop c.loop-used.at c.args.piece.now, c.loop-used.invariant.within);
       count = omega (arith, count, c.loop-used.invariant.count);
       fault = c.in_ok-feed.ensures.fault;
-      going = c.feed.ensures.going;
+      not_finished = c.feed.ensures.not_finished;
       counted = c.in_ok-feed.ensures.counted c.loop-used.invariant.fault ∙ c.loop-used.invariant.counted;
       feeds = λ p u given stands is_decided.
           let so = c.loop-used.invariant.feeds p u given stands is_decided in
@@ -51,7 +51,7 @@ loop-used-preserved g c =
     }
 
 pub feed-requires : goal.feed-requires
-feed-requires g c = (search fits_alike, c.loop-used.invariant.going)
+feed-requires g c = (search fits_alike, c.loop-used.invariant.not_finished)
 
 pub loop-used-smaller : goal.loop-used-smaller
 loop-used-smaller g c =
@@ -70,8 +70,8 @@ returns-in-All-clause-counted g c = c.in_ok-feed.ensures.counted c.loop-used.inv
 pub returns-in-All-clause-fault : goal.returns-in-All-clause-fault
 returns-in-All-clause-fault g c = c.in_ok-feed.ensures.fault
 
-pub returns-in-All-clause-going : goal.returns-in-All-clause-going
-returns-in-All-clause-going g c = c.feed.ensures.going
+pub returns-in-All-clause-not_finished : goal.returns-in-All-clause-not_finished
+returns-in-All-clause-not_finished g c = c.feed.ensures.not_finished
 
 pub returns-in-All-clause-short : goal.returns-in-All-clause-short
 returns-in-All-clause-short g c = c.in_ok-feed.ensures.short
@@ -86,8 +86,8 @@ returns-in_err-feed-clause-short g c =
     let e = err_from_is_err_and c.from_residual.result c.from_residual.ensures.1 in
     rw e.1 tt
 
-pub returns-in_err-feed-clause-going : goal.returns-in_err-feed-clause-going
-returns-in_err-feed-clause-going g c = c.feed.ensures.going
+pub returns-in_err-feed-clause-not_finished : goal.returns-in_err-feed-clause-not_finished
+returns-in_err-feed-clause-not_finished g c = c.feed.ensures.not_finished
 
 pub returns-in_err-feed-clause-fault : goal.returns-in_err-feed-clause-fault
 returns-in_err-feed-clause-fault g c =

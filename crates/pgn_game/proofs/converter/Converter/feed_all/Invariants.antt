@@ -9,7 +9,7 @@ invariant-loop-used g l =
       within : l.at ≤ length l.piece;
       count : l.self.lexer.count ≡ l.fn.self.lexer.count + l.at;
       fault : l.self.fault ≡ None;
-      going : l.self.is_finished ≡ false;
+      not_finished : l.self.is_finished ≡ false;
       counted : g.W.Sink.failures l.out ≡ g.W.Sink.failures l.fn.out;
       feeds : FeedsAllSoFar l.fn.self l.piece l.at l.self (g.W.Sink.taken l.fn.out) (g.W.Sink.taken l.out);
     }

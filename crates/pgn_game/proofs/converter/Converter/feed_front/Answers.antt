@@ -1,13 +1,13 @@
 use Rattle.std.proofs.Common.{◌≡◌, ℕ, ◌+◌, ◌-◌, length, take, drop, arith, refl, sym, ap, subst, ◌∙◌, length-drop, le_refl}
 use Rattle.std.specs.Prelude.{Ok, None, Some}
-use Rattle.pgn_game.specs.declared.accept.Accepted.TheVariants.{More, Finished}
+use Rattle.pgn_game.specs.declared.accepted.Accepted.TheVariants.{More, Finished}
 use Rattle.std.proofs.Math.Nat.{add_assoc}
 use Rattle.std.proofs.lemmas.List.{take_rest}
 use Rattle.pgn_lexer.specs.Standing.{waiting}
 use Rattle.pgn_game.specs.Feeding.{Converter, Stands}
 use Rattle.pgn_game.proofs.ReaderFitsInMemory.{fits_alike}
 use Rattle.pgn_game.proofs.tokens.StepsAtEnd.{sound_at_none}
-use Rattle.pgn_game.proofs.tokens.StepsInPiece.{lets_go, so_far_none, fed_behind, stands_here, so_far_more, fed_all, fed_game, fed_fault, counts_step, none_at_hand}
+use Rattle.pgn_game.proofs.tokens.StepsInPiece.{lets_go, so_far_none, fed_behind, stands_here, so_far_more, fed_all, fed_game, fed_fault, counts_step, none_just_finished}
 use Rattle.pgn_game.proofs.converter.Converter.feed_front.Goals as goal
 
 pub loop-at-init : goal.loop-at-init
@@ -18,8 +18,8 @@ loop-at-init g c =
       goes = omega (arith, ap (λ (s : Converter). waiting s.lexer) c.self.view_is);
       fault = ap (λ (s : Converter). s.fault) c.self.view_is ∙ c.requires.no_fault;
       games = ap (λ (s : Converter). s.games) c.self.view_is;
-      hand = refl;
-      going = ap (λ (s : Converter). s.is_finished) c.self.view_is ∙ c.requires.going;
+      none_just_finished = refl;
+      not_finished = ap (λ (s : Converter). s.is_finished) c.self.view_is ∙ c.requires.not_finished;
       probes = omega (arith, ap (λ (s : Converter). s.reading.most_probes) c.self.view_is);
       counted = refl;
       feeds = λ p u b given stands follows.
@@ -35,7 +35,7 @@ step-step-requires g c =
         c.loop-at.invariant.fault,
         (
           omega (arith, rest, c.loop-at.invariant.count, c.requires.short, c.loop-at-test.true),
-          (omega (arith, rest, c.loop-at-test.true), c.loop-at.invariant.hand),
+          (omega (arith, rest, c.loop-at-test.true), c.loop-at.invariant.none_just_finished),
         ),
       ),
     )
@@ -49,7 +49,7 @@ returns-in-Ok-None g c =
     let after = rw (is, take_rest) at step.after in
     let advances = rw (is, take_rest) at step.advances in
     let counted = rw is at step.counted in
-    let none = none_at_hand _ (rw is at step.hand) in
+    let none = none_just_finished _ (rw is at step.just_finished) in
     record {
       used = le_refl _;
       feeds = λ p u b given stands follows.
@@ -58,7 +58,7 @@ returns-in-Ok-None g c =
           (after p _ _ (stands_here p u b given c.args.piece.now c.loop-at.at _ _ _ here c.loop-at-test.true)) none;
       count = omega (arith, advances, step.count, so.count, length-drop c.loop-at.at c.args.piece.now, c.loop-at-test.true);
       advances = tt;
-      going = step.going ∙ so.going;
+      not_finished = step.finished ∙ so.not_finished;
       fault = rw is at step.fault;
       games = (rw is at step.games ∙ so.games, none);
       probes = omega (arith, step.probes, so.probes);
@@ -90,8 +90,8 @@ loop-at-preserved g c =
       goes = omega (arith, advances, c.loop-at.invariant.goes);
       fault = fault;
       games = rw is at c.step-step.ensures.games ∙ c.loop-at.invariant.games;
-      hand = none_at_hand _ (rw is at c.step-step.ensures.hand);
-      going = c.step-step.ensures.going ∙ c.loop-at.invariant.going;
+      none_just_finished = none_just_finished _ (rw is at c.step-step.ensures.just_finished);
+      not_finished = c.step-step.ensures.finished ∙ c.loop-at.invariant.not_finished;
       probes = omega (arith, c.step-step.ensures.probes, c.loop-at.invariant.probes);
       counted = counted ∙ c.loop-at.invariant.counted;
       feeds = λ p u b given stands follows.
@@ -121,7 +121,7 @@ returns-in-Ok-Some-Finished g c =
       count = step.count ∙ ap (λ n. n + c.step-step.result.used) so.count
           ∙ add_assoc c.args.self.now.lexer.count c.loop-at.at c.step-step.result.used;
       advances = omega (arith, advances, so.goes);
-      going = step.going ∙ so.going;
+      not_finished = step.finished ∙ so.not_finished;
       fault = rw is at step.fault;
       games = tt;
       probes = omega (arith, step.probes, so.probes);
@@ -143,9 +143,9 @@ returns-in-Err g c =
           (after p _ _ (stands_here p u b given c.args.piece.now c.loop-at.at _ _ _ here c.loop-at-test.true));
       count = tt;
       advances = tt;
-      going = step.going ∙ so.going;
+      not_finished = step.finished ∙ so.not_finished;
       fault = rw c.in-Err.is at step.fault;
-      games = (rw c.in-Err.is at step.games ∙ so.games, none_at_hand _ (rw c.in-Err.is at step.hand));
+      games = (rw c.in-Err.is at step.games ∙ so.games, none_just_finished _ (rw c.in-Err.is at step.just_finished));
       probes = omega (arith, step.probes, so.probes);
       counted = counts_step c.in-Err.fault.reason _ _ _ so.counted counted;
     }
@@ -157,12 +157,12 @@ returns g c =
       used = le_refl _;
       feeds = λ p u b given stands follows.
           fed_behind p u b given c.args.piece.now c.loop-at.at _ _ _ (so.feeds p u b given stands follows)
-          (omega (arith, so.within, c.loop-at-test.false)) so.hand;
+          (omega (arith, so.within, c.loop-at-test.false)) so.none_just_finished;
       count = omega (arith, so.count, so.within, c.loop-at-test.false);
       advances = tt;
-      going = so.going;
+      not_finished = so.not_finished;
       fault = so.fault;
-      games = (so.games, so.hand);
+      games = (so.games, so.none_just_finished);
       probes = so.probes;
       counted = so.counted;
     }

@@ -11,8 +11,8 @@ invariant-loop-at g l =
       goes : waiting l.self.lexer ≤ 2 * l.at + waiting l.fn.self.lexer;
       fault : l.self.fault ≡ None;
       games : l.self.games ≡ l.fn.self.games;
-      hand : l.self.at_hand ≡ None;
-      going : l.self.is_finished ≡ false;
+      none_just_finished : l.self.just_finished ≡ None;
+      not_finished : l.self.is_finished ≡ false;
       probes : l.fn.self.reading.most_probes ≤ l.self.reading.most_probes;
       counted : g.W.Sink.failures l.out ≡ g.W.Sink.failures l.fn.out;
       feeds : FeedsSoFar l.fn.self l.piece l.at l.self (g.W.Sink.taken l.fn.out) (g.W.Sink.taken l.out);

@@ -12,15 +12,15 @@ pub loop-finished_game-init : goal.loop-finished_game-init
 loop-finished_game-init g c =
     record {
       fault = c.in_default.is;
-      hand = refl;
-      going = ap (λ (s : Converter). s.is_finished) c.self.view_is ∙ c.requires.going;
+      none_just_finished = refl;
+      not_finished = ap (λ (s : Converter). s.is_finished) c.self.view_is ∙ c.requires.not_finished;
       probes = omega (arith, ap (λ (s : Converter). s.reading.most_probes) c.self.view_is);
       counted = refl;
       closes = λ p u b given stands. closed_none p _ u b given _ (subst (λ (s : Converter). Stands p s u b given) (sym c.self.view_is) stands);
     }
 
 pub step_at_end-requires : goal.step_at_end-requires
-step_at_end-requires g c = (search rules, (c.loop-finished_game.invariant.fault, (c.loop-finished_game.invariant.going, c.loop-finished_game.invariant.hand)))
+step_at_end-requires g c = (search rules, (c.loop-finished_game.invariant.fault, (c.loop-finished_game.invariant.not_finished, c.loop-finished_game.invariant.none_just_finished)))
 
 pub loop-finished_game-smaller-in-Ok-Some-More : goal.loop-finished_game-smaller-in-Ok-Some-More
 loop-finished_game-smaller-in-Ok-Some-More g c = rw (c.in-Ok-Some-More.is ∙ ap Ok (c.in-Ok-Some-More.field-0-is ∙ ap Some c.in-Ok-Some-More.field-0-0-is)) at c.step_at_end.ensures.advances
@@ -32,8 +32,8 @@ loop-finished_game-preserved-in-Ok-Some-More g c =
     let counted = rw is at c.step_at_end.ensures.counted in
     record {
       fault = rw is at c.step_at_end.ensures.fault;
-      hand = c.step_at_end.ensures.hand;
-      going = rw is at c.step_at_end.ensures.finished;
+      none_just_finished = c.step_at_end.ensures.none_just_finished;
+      not_finished = rw is at c.step_at_end.ensures.finished;
       probes = omega (arith, c.step_at_end.ensures.probes, c.loop-finished_game.invariant.probes);
       counted = counted ∙ c.loop-finished_game.invariant.counted;
       closes = λ p u b given stands.
@@ -51,8 +51,8 @@ loop-finished_game-preserved g c =
     let counted = rw is at c.step_at_end.ensures.counted in
     record {
       fault = rw is at c.step_at_end.ensures.fault;
-      hand = c.step_at_end.ensures.hand;
-      going = rw is at c.step_at_end.ensures.finished;
+      none_just_finished = c.step_at_end.ensures.none_just_finished;
+      not_finished = rw is at c.step_at_end.ensures.finished;
       probes = omega (arith, c.step_at_end.ensures.probes, c.loop-finished_game.invariant.probes);
       counted = counted ∙ c.loop-finished_game.invariant.counted;
       closes = λ p u b given stands.
@@ -112,8 +112,8 @@ returns-in-Ok-None-clause-finished g c =
     let finished = rw (c.in-Ok-None.is ∙ ap Ok c.in-Ok-None.field-0-is) at c.step_at_end.ensures.finished in
     ap (λ (s : Converter). s.is_finished) c.self-in-loop-finished_game.view_is ∙ finished
 
-pub returns-in-Ok-None-clause-hand : goal.returns-in-Ok-None-clause-hand
-returns-in-Ok-None-clause-hand g c = tt
+pub returns-in-Ok-None-clause-none_just_finished : goal.returns-in-Ok-None-clause-none_just_finished
+returns-in-Ok-None-clause-none_just_finished g c = tt
 
 pub returns-in-Ok-None-clause-again : goal.returns-in-Ok-None-clause-again
 returns-in-Ok-None-clause-again g c = λ f is. absurd (none_kept _ f (ap (λ (s : Converter). s.fault) (sym c.self.view_is) ∙ c.in_default.is) is)
@@ -121,8 +121,8 @@ returns-in-Ok-None-clause-again g c = λ f is. absurd (none_kept _ f (ap (λ (s 
 pub returns-in-Err-clause-fault : goal.returns-in-Err-clause-fault
 returns-in-Err-clause-fault g c = rw c.in-Err.is at c.step_at_end.ensures.fault
 
-pub returns-in-Err-clause-hand : goal.returns-in-Err-clause-hand
-returns-in-Err-clause-hand g c = c.step_at_end.ensures.hand
+pub returns-in-Err-clause-none_just_finished : goal.returns-in-Err-clause-none_just_finished
+returns-in-Err-clause-none_just_finished g c = c.step_at_end.ensures.none_just_finished
 
 pub returns-in-Err-clause-again : goal.returns-in-Err-clause-again
 returns-in-Err-clause-again g c = λ f is. absurd (none_kept _ f (ap (λ (s : Converter). s.fault) (sym c.self.view_is) ∙ c.in_default.is) is)
@@ -131,7 +131,7 @@ pub returns-in-Some-clause-fault : goal.returns-in-Some-clause-fault
 returns-in-Some-clause-fault g c = ap (λ (s : Converter). s.fault) (sym c.self.view_is) ∙ c.in-Some.is
 
 pub returns-in-Some-clause-finished : goal.returns-in-Some-clause-finished
-returns-in-Some-clause-finished g c = c.requires.going
+returns-in-Some-clause-finished g c = c.requires.not_finished
 
 pub returns-in-Some-clause-counted : goal.returns-in-Some-clause-counted
 returns-in-Some-clause-counted g c = λ none. absurd (none_kept _ c.in-Some.fault none (ap (λ (s : Converter). s.fault) (sym c.self.view_is) ∙ c.in-Some.is))

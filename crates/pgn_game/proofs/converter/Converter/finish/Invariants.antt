@@ -7,8 +7,8 @@ abbrev pub invariant-loop-finished_game : goal.invariant-loop-finished_game
 invariant-loop-finished_game g l =
     record {
       fault : l.self.fault ≡ None;
-      hand : l.self.at_hand ≡ None;
-      going : l.self.is_finished ≡ false;
+      none_just_finished : l.self.just_finished ≡ None;
+      not_finished : l.self.is_finished ≡ false;
       probes : l.fn.self.reading.most_probes ≤ l.self.reading.most_probes;
       counted : g.W.Sink.failures l.out ≡ g.W.Sink.failures l.fn.out;
       closes : FinishesSoFar l.fn.self l.self l.finished_game (g.W.Sink.taken l.fn.out) (g.W.Sink.taken l.out);

@@ -20,6 +20,6 @@ returns-clause-stands g c =
         plies = ap whole_plies is;
         probed = λ moves. absurd (cc);
         tried = subst (MostTried (profile_of g.row.T (g.row.L - 1) c.args.mode) []) (sym (ap (λ (r : Reading). r.most_probes) is)) (none no_progress);
-        at_hand = tt;
+        just_finished = tt;
       };
     }

@@ -1,5 +1,5 @@
 use Rattle.std.proofs.Common.{Bool, None, Some, sym, ap, ◌∙◌}
-use Rattle.pgn_game.specs.Feeding.{game_in_reader_if, plies_at_hand}
+use Rattle.pgn_game.specs.Feeding.{game_in_reader_if, finished_game_plies}
 use Rattle.pgn_game.proofs.ReaderFitsInMemory.{fits_reader}
 use Rattle.pgn_game.proofs.converter.Converter.plies.Goals as goal
 
@@ -9,10 +9,10 @@ plies-requires g c = search fits_reader
 pub returns-then-self : goal.returns-then-self
 returns-then-self g c =
     c.plies.ensures
-    ∙ ap (λ (b : Bool). elim (game_in_reader_if b c.self.inside.reader) [ None ↦ 0 | Some hand ↦ hand.plies ]) (sym c.if-self.true)
-    ∙ ap plies_at_hand c.self.view_is
+    ∙ ap (λ (b : Bool). elim (game_in_reader_if b c.self.inside.reader) [ None ↦ 0 | Some finished ↦ finished.plies ]) (sym c.if-self.true)
+    ∙ ap finished_game_plies c.self.view_is
 
 pub returns : goal.returns
 returns g c =
-    ap (λ (b : Bool). elim (game_in_reader_if b c.self.inside.reader) [ None ↦ 0 | Some hand ↦ hand.plies ]) (sym c.if-self.false)
-    ∙ ap plies_at_hand c.self.view_is
+    ap (λ (b : Bool). elim (game_in_reader_if b c.self.inside.reader) [ None ↦ 0 | Some finished ↦ finished.plies ]) (sym c.if-self.false)
+    ∙ ap finished_game_plies c.self.view_is

@@ -39,7 +39,7 @@ pub returns-in-NeedMore-clause-count : goal.returns-in-NeedMore-clause-count
 returns-in-NeedMore-clause-count g c = c.next-scan.follows.holds-at-none.count ∙ ap (λ (s : Converter). s.lexer.count + c.next-scan.result.used) c.self.view_is
 
 pub returns-in-NeedMore-clause-fault : goal.returns-in-NeedMore-clause-fault
-returns-in-NeedMore-clause-fault g c = ap (λ (s : Converter). s.fault) c.self.view_is ∙ c.requires.going
+returns-in-NeedMore-clause-fault g c = ap (λ (s : Converter). s.fault) c.self.view_is ∙ c.requires.no_fault
 
 pub returns-in-NeedMore-clause-games : goal.returns-in-NeedMore-clause-games
 returns-in-NeedMore-clause-games g c = ap (λ (s : Converter). s.games) c.self.view_is
@@ -47,11 +47,11 @@ returns-in-NeedMore-clause-games g c = ap (λ (s : Converter). s.games) c.self.v
 pub returns-in-NeedMore-clause-probes : goal.returns-in-NeedMore-clause-probes
 returns-in-NeedMore-clause-probes g c = omega (arith, ap (λ (s : Converter). s.reading.most_probes) c.self.view_is)
 
-pub returns-in-NeedMore-clause-hand : goal.returns-in-NeedMore-clause-hand
-returns-in-NeedMore-clause-hand g c = ap is_some (ap (λ (s : Converter). s.at_hand) c.self.view_is ∙ c.requires.hand)
+pub returns-in-NeedMore-clause-just_finished : goal.returns-in-NeedMore-clause-just_finished
+returns-in-NeedMore-clause-just_finished g c = ap is_some (ap (λ (s : Converter). s.just_finished) c.self.view_is ∙ c.requires.none_just_finished)
 
-pub returns-in-NeedMore-clause-going : goal.returns-in-NeedMore-clause-going
-returns-in-NeedMore-clause-going g c = ap (λ (s : Converter). s.is_finished) c.self.view_is
+pub returns-in-NeedMore-clause-finished : goal.returns-in-NeedMore-clause-finished
+returns-in-NeedMore-clause-finished g c = ap (λ (s : Converter). s.is_finished) c.self.view_is
 
 pub returns-in-NeedMore-clause-counted : goal.returns-in-NeedMore-clause-counted
 returns-in-NeedMore-clause-counted g c = refl
@@ -68,8 +68,8 @@ returns-in-Token-clause-games g c = c.settle-outcome.ensures.games ∙ ap (λ (s
 pub returns-in-Token-clause-probes : goal.returns-in-Token-clause-probes
 returns-in-Token-clause-probes g c = omega (arith, ap (λ (s : Converter). s.reading.most_probes) c.self.view_is, c.accept-accepted.ensures.probes)
 
-pub returns-in-Token-clause-going : goal.returns-in-Token-clause-going
-returns-in-Token-clause-going g c = ap (λ (s : Converter). s.is_finished) c.self.view_is
+pub returns-in-Token-clause-finished : goal.returns-in-Token-clause-finished
+returns-in-Token-clause-finished g c = ap (λ (s : Converter). s.is_finished) c.self.view_is
 
 pub returns-in-Token-clause-counted : goal.returns-in-Token-clause-counted
 returns-in-Token-clause-counted g c =
@@ -81,8 +81,8 @@ returns-in-Fault-clause-count g c = c.next-scan.follows.holds-at-none.count ∙ 
 pub returns-in-Fault-clause-probes : goal.returns-in-Fault-clause-probes
 returns-in-Fault-clause-probes g c = omega (arith, ap (λ (s : Converter). s.reading.most_probes) c.self.view_is)
 
-pub returns-in-Fault-clause-going : goal.returns-in-Fault-clause-going
-returns-in-Fault-clause-going g c = ap (λ (s : Converter). s.is_finished) c.self.view_is
+pub returns-in-Fault-clause-finished : goal.returns-in-Fault-clause-finished
+returns-in-Fault-clause-finished g c = ap (λ (s : Converter). s.is_finished) c.self.view_is
 
 pub returns-in-Fault-clause-fault : goal.returns-in-Fault-clause-fault
 returns-in-Fault-clause-fault g c = rw c.fail.ensures.outcome c.fail.ensures.kept
@@ -90,24 +90,24 @@ returns-in-Fault-clause-fault g c = rw c.fail.ensures.outcome c.fail.ensures.kep
 pub returns-in-Fault-clause-games : goal.returns-in-Fault-clause-games
 returns-in-Fault-clause-games g c = rw c.fail.ensures.outcome (ap (λ (s : Converter). s.games) c.self.view_is)
 
-pub settle-outcome-requires-clause-going : goal.settle-outcome-requires-clause-going
-settle-outcome-requires-clause-going g c = ap (λ (s : Converter). s.fault) c.self.view_is ∙ c.requires.going
+pub settle-outcome-requires-clause-no_fault : goal.settle-outcome-requires-clause-no_fault
+settle-outcome-requires-clause-no_fault g c = ap (λ (s : Converter). s.fault) c.self.view_is ∙ c.requires.no_fault
 
 pub next-scan-requires : goal.next-scan-requires
 next-scan-requires g c = omega (arith, ap (λ (s : Converter). s.lexer.count) c.self.view_is, c.requires.short)
 
 pub accept-accepted-requires : goal.accept-accepted-requires
 accept-accepted-requires g c =
-    let none = ap (λ (s : Converter). s.fault) c.self.view_is ∙ c.requires.going in
+    let none = ap (λ (s : Converter). s.fault) c.self.view_is ∙ c.requires.no_fault in
     (search fits_reader, (omega (arith, c.self.invariant.few_plies none, c.self.invariant.count none), rw c.in-Token.is at c.next-scan.follows.holds-at-none.lengths))
 
 pub settle-outcome-requires-clause-few : goal.settle-outcome-requires-clause-few
 settle-outcome-requires-clause-few g c =
-    let none = ap (λ (s : Converter). s.fault) c.self.view_is ∙ c.requires.going in
+    let none = ap (λ (s : Converter). s.fault) c.self.view_is ∙ c.requires.no_fault in
     omega (arith, c.self.invariant.few none, c.self.invariant.count none)
 
-pub returns-in-Fault-clause-hand : goal.returns-in-Fault-clause-hand
-returns-in-Fault-clause-hand g c = rw c.fail.ensures.outcome (ap is_some (ap (λ (s : Converter). s.at_hand) c.self.view_is ∙ c.requires.hand))
+pub returns-in-Fault-clause-just_finished : goal.returns-in-Fault-clause-just_finished
+returns-in-Fault-clause-just_finished g c = rw c.fail.ensures.outcome (ap is_some (ap (λ (s : Converter). s.just_finished) c.self.view_is ∙ c.requires.none_just_finished))
 
 pub returns-in-Fault-clause-advances : goal.returns-in-Fault-clause-advances
 returns-in-Fault-clause-advances g c = rw c.fail.ensures.outcome tt
@@ -136,5 +136,5 @@ returns-in-Token-clause-advances g c =
     (advances_token c.args.self.now.lexer c.args.piece.now c.next-scan.follows.lender-at-none _ c.in-Token.token.at c.accept-accepted.result
     (subst (λ (s : Converter). waiting c.next-scan.follows.lender-at-none < 2 * c.next-scan.result.used + waiting s.lexer) c.self.view_is sooner))
 
-pub returns-in-Token-clause-hand : goal.returns-in-Token-clause-hand
-returns-in-Token-clause-hand g c = rw c.finished_game-self-inside.ensures (is_some_held (is_of_game c.settle-outcome.result) c.accept-accepted.new.self)
+pub returns-in-Token-clause-just_finished : goal.returns-in-Token-clause-just_finished
+returns-in-Token-clause-just_finished g c = rw c.finished_game-self-inside.ensures (is_some_held (is_of_game c.settle-outcome.result) c.accept-accepted.new.self)

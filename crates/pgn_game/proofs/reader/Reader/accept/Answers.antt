@@ -39,7 +39,7 @@ returns-in-Ok g c =
           c.carry_out.ensures.tried c.carry_out.ensures.most);
       profile = puts.keeps.profile ∙ keeps.profile;
       stays = stays_found c.args.self.now c.find-found.new.self c.carry_out.new.self (kind_of c.args.kind) c.carry_out.result keeps puts.stays;
-      finished = finishes_at_marker (kind_of c.args.kind) c.in-Ok.judged c.carry_out.new.self c.carry_out.result c.in-Ok.ensures.marks puts.finished;
+      finished = finishes_at_marker (kind_of c.args.kind) c.in-Ok.judged c.carry_out.new.self c.carry_out.result c.in-Ok.ensures.final_is_marker puts.finished;
       counted = puts.counted;
       plies = omega (arith, puts.keeps.plies, keeps.plies);
       probes = omega (arith, puts.keeps.probes, keeps.probes);

@@ -1,5 +1,5 @@
 use Rattle.chess_rules.proofs.squares.WordsToCells.{long_there}
-use Rattle.chess_rules.proofs.board.Board.has_all_cells.Goals as goal
+use Rattle.chess_rules.proofs.board.Board.recall_invariant.Goals as goal
 
 pub returns : goal.returns
 returns c = long_there c.self.inside c.args.self.now c.self.view_is

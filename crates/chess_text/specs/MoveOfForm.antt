@@ -70,7 +70,7 @@ abbrev pub move_from : Square → Option Promotion → Square → Move
 move_from to promotion s = record { from = s; to = to; promotion = promotion }
 
 -- Where a form's moves are looked for: the one castling, or the moves from every square. The laws
--- on `reads` speak of all moves, so no other agrees.
+-- on `move_of_form` speak of all moves, so no other agrees.
 abbrev pub moves_to_try : Parts → Form → List Move
 moves_to_try p (Castle long) = castling_move p.side long ∷ []
 moves_to_try p (Man k file rank to promotion) = map (move_from to promotion) squares
@@ -86,14 +86,14 @@ only (x ∷ []) = Ok x
 only (x ∷ y ∷ more) = Err Ambiguous
 
 -- the one move that agrees, or the fault
-abbrev pub reads : Parts → Form → Result Played SanFault
-reads p f = only (agreeing p f)
+abbrev pub move_of_form : Parts → Form → Result Played SanFault
+move_of_form p f = only (agreeing p f)
 
 -- How many pairs are tried to find it; if two moves agree, at most so many.
-abbrev pub pair_count : Parts → Form → ℕ
-pair_count p (Castle long) = 1
-pair_count p (Man k file rank to promotion) = length (candidates p k to)
+abbrev pub form_pairs : Parts → Form → ℕ
+form_pairs p (Castle long) = 1
+form_pairs p (Man k file rank to promotion) = length (candidates p k to)
 
 -- what a form of no castling says beside the kind, the target and the promotion
-abbrev pub man_fits : Parts → Option ℕ → Option ℕ → Move → Bool
-man_fits p file rank m = hints_fit file rank m.from && not (is_castling p m)
+abbrev pub piece_move_fits : Parts → Option ℕ → Option ℕ → Move → Bool
+piece_move_fits p file rank m = hints_fit file rank m.from && not (is_castling p m)

@@ -3,7 +3,7 @@ use Rattle.std.specs.List.{filter_map}
 use Rattle.std.specs.Option.{option_to_list}
 use Rattle.chess_text.specs.declared.form.Form.TheVariants.{Man}
 use Rattle.chess_text.proofs.forms.PieceForms.{from_square}
-use Rattle.chess_text.proofs.resolution.resolve_man.Given as goal
+use Rattle.chess_text.proofs.resolution.resolve_piece_move.Given as goal
 
 -- what the origins so far gave, and how many pairs were tried
 abbrev pub invariant-loop-origin : goal.invariant-loop-origin

@@ -1,0 +1,6 @@
+use Rattle.std.proofs.Common.{◌≡◌, ◌+◌, drop}
+use Rattle.pgn_game.specs.Holding.{index_of}
+use Rattle.pgn_game.proofs.tags.index_of.Given as goal
+
+abbrev pub invariant-loop-i : goal.invariant-loop-i
+invariant-loop-i l = index_of l.name l.pairs ≡ l.i + index_of l.name (drop l.i l.pairs)
