@@ -1,8 +1,8 @@
 -- **Definition**: what a conversion does whose input is read twice, from two sources.
--- Letters: p is the profile, s the text of `first`, r the text of `second`, t the totals, f a fault.
--- u are the bytes that a source has given so far. `before` and `after` are the bytes that the sink
--- has taken, before the call and after it; `first_old` and `first_new` are those that `first` has
--- left, and so for `second`.
+-- Letters: p is the profile, s the text of `first`, r the text of `second`, t the totals, f a
+-- fault. u are the bytes that a source has given so far. `before` and `after` are the bytes that
+-- the sink has taken, before the call and after it; `first_old` and `first_new` are those that
+-- `first` has left, and so for `second`.
 use Rattle.std.specs.Prelude.{◌≡◌, ℕ, ◌^◌, ◌<◌, ◌≤◌, ◌⊎◌, max, IsTrue, List, [], ◌∷◌, ◌++◌, length, take, Option, None, Some, Result, Ok, Err, IfSome}
 use Rattle.std.specs.Io.KnownBytes.{Appends, Consumes}
 use Rattle.pgn_layout.specs.Device.{one_more}

@@ -37,8 +37,8 @@ use std::marker::Model;
 /// # Errors
 ///
 /// - The first fault of `first`. Every game before it is written, and nothing of its own game.
-/// - `Reason::Changed` if the next game of `second` has a fault, ends sooner, or has another marker,
-///   or the same one at another place: at the first token that shows this.
+/// - `Reason::Changed` if the next game of `second` has a fault, ends sooner, or has another
+///   marker, or the same one at another place: at the first token that shows this.
 /// - `Reason::ReadFault` if a read failed, at the number of bytes read from that source.
 /// - `Reason::WriteFault` if a write failed, at the first token with text missing.
 /// - `Reason::InputTooLong` if `first` has a byte at place 2^62.

@@ -1,7 +1,8 @@
 //! Games of Portable Game Notation, from bytes to bytes.
 //!
 //! [`convert`] reads games from a [`Source`] and writes their export format to a [`Sink`]. A
-//! [`Converter`] does it in pieces of any length. No call allocates.
+//! [`Converter`] does it in pieces of any length. [`convert_checked`] reads its input twice, so
+//! that a missing Result takes the marker. No call allocates.
 #![tactic(auto)]
 
 mod accepted;

@@ -1,5 +1,6 @@
 //! The conformance tests: each vector in each way to convert it, and what no table says.
 mod bytes;
+mod checked;
 mod counts;
 mod cuts;
 mod devices;

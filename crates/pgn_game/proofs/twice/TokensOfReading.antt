@@ -188,13 +188,16 @@ module _ (q : Profile) (left_old left_now : Option (List ℕ)) (told : Option Co
   pub taken : (r : Result Taken Fault) → AfterToken q part told t old.reading new.reading r a c → IfOk r (λ x. new.games ≡ games_with x old.games)
       → AfterTake q left_old left_now told given new r a c
   taken (Ok More) took games =
-      inr (t, record {
-        has_given = has_given (more_goes _ t took.leads) (read_more More took games took.accepted);
-        free = took.free;
-        same = took.same;
-        leads = took.leads;
-        appended = took.appended;
-      })
+      inr (
+        t,
+        record {
+          has_given = has_given (more_goes _ t took.leads) (read_more More took games took.accepted);
+          free = took.free;
+          same = took.same;
+          leads = took.leads;
+          appended = took.appended;
+        },
+      )
   taken (Ok (GameEnd m)) took games = (
     t,
     record {

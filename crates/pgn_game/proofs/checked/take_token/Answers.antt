@@ -14,8 +14,8 @@ pub returns-then-marks_differ-clause-takes : goal.returns-then-marks_differ-clau
 returns-then-marks_differ-clause-takes g c q part takes counts agrees = (
   counts,
   rw c.differs.ensures
-  (fails_marks q part c.args.told c.args.at (kind_of c.args.kind) c.of-marker.result c.args.reader.now (with_marker c.of-marker.result c.args.reader.now) c.args.reader.now None None takes counts agrees
-  c.of-marker.ensures refl _ (sym c.marks_differ.ensures ∙ c.if-marks_differ.true)),
+      (fails_marks q part c.args.told c.args.at (kind_of c.args.kind) c.of-marker.result c.args.reader.now (with_marker c.of-marker.result c.args.reader.now) c.args.reader.now None None takes counts agrees
+      c.of-marker.ensures refl _ (sym c.marks_differ.ensures ∙ c.if-marks_differ.true)),
 )
 
 pub returns-in-Err-clause-takes : goal.returns-in-Err-clause-takes
