@@ -179,7 +179,7 @@ def fits(program, task, kib, times):
     quiet = {"stdin": subprocess.DEVNULL, "stdout": subprocess.DEVNULL, "stderr": subprocess.DEVNULL}
     for file in times * files:
         try:
-            ran = subprocess.run([program, task, file], cwd=ROOT, env={}, check=False, **quiet,
+            ran = subprocess.run([program, *task.split(), file], cwd=ROOT, env={}, check=False, **quiet,
                                  preexec_fn=lambda: limit_stack(kib))
         except OSError:
             return False
@@ -235,6 +235,19 @@ def split_calls(program, small, large, games):
     if None in spent["export"]:
         return None
     return {task: (b - a) / games for task, (a, b) in spent.items()}
+
+
+def checked_figures(program, file, small, large, games, rounds):
+    """The least wall time and the instructions of a game, of export and of export --checked."""
+    figures = {}
+    for task in ("export", "export --checked"):
+        words = [program, *task.split()]
+        spent = difference(callgrind([*words, small]), callgrind([*words, large]), games)
+        figures[task] = {"wall": 1e9, "instructions": spent["Ir"]}
+    for _ in range(rounds):
+        for task, it in figures.items():
+            it["wall"] = min(it["wall"], call([program, *task.split(), file]))
+    return figures
 
 
 def program_name(program):

@@ -15,6 +15,9 @@ GOALS = (
     ("least stack", "export", 128),
     ("least stack", "check", 128),
     ("least stack", "list", 128),
+    ("least stack", "export --checked", 192),
+    ("--checked to export", "plain", 2.2),
+    ("--checked to export", "annotated", 2.2),
 )
 # how a goal and what was measured are shown
 FORMS = {
@@ -22,6 +25,7 @@ FORMS = {
     "instructions": ("%.2f", "%.3f"),
     "memory": ("%d MiB", "%.1f MiB"),
     "least stack": ("%d KiB", "%d KiB"),
+    "--checked to export": ("%.1f", "%.2f"),
 }
 # A load of more than this beyond the measurement's own is other work.
 QUIET = 0.5
@@ -56,6 +60,8 @@ def measured_goals(result):
         found["wall time", it["name"]] = ratio(it, "wall")
         found["instructions", it["name"]] = ratio(it, "instructions")
         found["memory", it["name"]] = it["converters"]["pgn_tool"]["memory"]
+        walls = {task: figures["wall"] for task, figures in it["checked"].items()}
+        found["--checked to export", it["name"]] = walls["export --checked"] / walls["export"]
     return [(what, of, goal, found[what, of]) for what, of, goal in GOALS if (what, of) in found]
 
 
@@ -143,13 +149,20 @@ def split(archive):
             *table(["", "games/s", "system calls a game"], rows)]
 
 
+def checked(archive):
+    rows = [[task, "%d" % (archive["games"] / it["wall"]), format(round(it["instructions"]), ",")]
+            for task, it in archive["checked"].items()]
+    return ["`export --checked` beside `export`, output to nowhere:", "",
+            *table(["", "games/s", "instructions a game"], rows)]
+
+
 def report(result):
     """All tables, as bench/README.md has them."""
     lines = machine(result) + goals(result)
     for it in result["archives"]:
         lines += ["### %s: %s games, %.1f MB"
                   % (it["name"].capitalize(), format(it["games"], ","), it["bytes"] / 1e6), ""]
-        lines += converters(it) + parts(it) + split(it) + sizes(it)
+        lines += converters(it) + parts(it) + split(it) + checked(it) + sizes(it)
     if result["stack"]:
         rows = [[task, kib] for task, kib in result["stack"].items()]
         lines += ["### Least stack", "", *table(["task", "KiB"], rows)]
@@ -174,8 +187,10 @@ def summary(result):
 
 def least_stack(result):
     """The sentence of the manual."""
-    return ["The least that was measured is %d KiB, with an empty environment;"
-            % max(result["stack"].values()),
+    twice = result["stack"]["export --checked"]
+    once = max(kib for task, kib in result["stack"].items() if task != "export --checked")
+    return ["The least that was measured is %d KiB, and %d KiB with --checked," % (once, twice),
+            "with an empty environment;",
             "the arguments and the environment are part of it."]
 
 

@@ -88,6 +88,8 @@ def archive(name, wall):
                            "pgn-extract": converter(1, 4, 1000, 60)},
             "parts": {"lexer": 50, "find": 150}, "inlined": {"lexer": ["Lexer::next"]},
             "split": {"wall": {"export": 0.5, "split": 4}, "calls": {"export": 0.25, "split": 20}},
+            "checked": {"export": {"wall": 0.5, "instructions": 200},
+                        "export --checked": {"wall": 1, "instructions": 390}},
             "sizes": [{"bytes": 1_000_000, "wall": 0.05, "instructions": 2_000_000, "memory": 1.5}]}
 
 
@@ -96,7 +98,7 @@ RESULT = {
     "machine": {"processors": 8, "model": "a processor", "debian": "99.1",
                 "versions": {"pgn-extract": "1.2-3", "valgrind": "4.5"}},
     "archives": [archive("plain", 0.15), archive("annotated", 0.25)],
-    "stack": {"export": 128, "check": 124, "list": 132},
+    "stack": {"export": 128, "export --checked": 180, "check": 124, "list": 132},
 }
 
 
@@ -168,6 +170,8 @@ class Tables(unittest.TestCase):
         self.assertIn("| instructions | plain | 0.19 | 0.200 | NOT MET |\n", text)
         self.assertIn("| instructions | annotated | 0.22 | 0.200 | met |\n", text)
         self.assertIn("| least stack | export | 128 KiB | 128 KiB | met |\n", text)
+        self.assertIn("| least stack | export --checked | 192 KiB | 180 KiB | met |\n", text)
+        self.assertIn("| --checked to export | plain | 2.2 | 2.00 | met |\n", text)
         missed = re.findall(r"^- (.*)$", text, re.M)
         self.assertEqual(missed, ["wall time, annotated: 0.250 instead of 0.20",
                                   "instructions, plain: 0.200 instead of 0.19",
@@ -190,6 +194,7 @@ class Tables(unittest.TestCase):
                      "| pgn_tool | 0.15 | 13333 | 20.0 | 1.5 | 200 | 30 |",
                      "| lexer, without `Lexer::next` | 50 | 25.0 % |",
                      "| split | 500 | 20.00 |",
+                     "| export --checked | 2000 | 390 |",
                      "| 1.0 | 0.05 | 50.0 | 2.0 | 1.5 |",
                      "| list | 132 |"):
             self.assertIn(line, lines)
@@ -218,7 +223,8 @@ class Tables(unittest.TestCase):
         self.assertIn("| plain, 2,000 games, 3.0 MB | 13,300 | 0.15 | 0.20 | 1.5 MiB |", lines)
 
     def test_the_sentence_of_the_manual(self):
-        self.assertIn("132 KiB", tables.least_stack(RESULT)[0])
+        line = tables.least_stack(RESULT)[0]
+        self.assertEqual(line, "The least that was measured is 132 KiB, and 180 KiB with --checked,")
 
 
 class Records(unittest.TestCase):
