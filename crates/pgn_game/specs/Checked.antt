@@ -1,6 +1,6 @@
--- **Definition**: what an input gives that is read twice. No call does this yet.
--- It is read from `first` and from `second`. The games of `second` are written, each once `first`
--- has read it to its marker. A missing Result takes the marker.
+-- **Definition**: what an input gives that is read twice, as `convert_checked` reads it.
+-- It is read from `first` and from `second`. The games of `second` are written, each after `first`
+-- has read a game to that marker. A missing Result takes the marker.
 -- Letters: p is the profile, b the progress, t a token, ts are tokens, s is a text, m a mark and ms
 -- are marks, f is a fault, u are bytes.
 use Rattle.std.specs.Prelude.{ℕ, ◌==◌, Bool, true, false, ◌||◌, ◌&&◌, not, bytes_eq, is_some, List, [], ◌∷◌, ◌++◌, Option, None, Some}
@@ -24,7 +24,7 @@ pub record Mark : Type 0 where
   pub text : List ℕ
   pub at : ℕ
 
--- where a token leads: a whole game ends with a mark
+-- the mark of a token at this place: one, if it finishes a game
 abbrev pub mark_at : ℕ → Next → List Mark
 mark_at at (going part) = []
 mark_at at (whole g) = record { text = g.marker; at = at } ∷ []
@@ -41,13 +41,13 @@ marks_from p b (t ∷ ts) =
 abbrev pub marks : Profile → List Token → List Mark
 marks p ts = marks_from p no_progress ts
 
--- a token that leads where `first` has not gone on to the mark m: it is the end, or it finishes a
--- game by another marker, or by the same one at another place
+-- a token that shows that `second` is not at the mark m: it is the end, or it finishes a game by
+-- another marker, or by the same one at another place
 abbrev pub is_other : Mark → Next → Token → Bool
 is_other m (going part) t = is_end t.kind
 is_other m (whole g) t = not (bytes_eq g.marker m.text && (t.at == m.at))
 
--- a token of `second` at which the inputs are seen to differ: such a one, or one that is rejected
+-- a token of `second` at which the inputs are seen to differ: it shows this, or it is rejected
 abbrev pub is_changed : Profile → Mark → Part → Token → Bool
 is_changed p m part t = is_some (refusal p part t.kind) || is_other m (next part t.kind) t
 

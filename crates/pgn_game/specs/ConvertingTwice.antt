@@ -24,8 +24,8 @@ use Rattle.pgn_game.specs.Checked.{Mark, marks, Followed, followed, written_by, 
 abbrev pub AreConverted : Profile → List ℕ → List ℕ → Verdict → Option (List ℕ) → Option (List ℕ) → Type 0
 AreConverted p s r v before after = (checked_verdict p s r ≡ v) × Appends before after (checked_output p s r)
 
--- The most pairs tried for one move, in either reading: at most 1,040, and at least one if any move
--- of a game that is written was played.
+-- Bounds of the most pairs tried for one move, in either reading: at most 1,040, and at least one
+-- if a game that is written has a move.
 pub record CountsBoth (p : Profile) (s r : List ℕ) (n : ℕ) : Type 0 where
   pub most : n ≤ 1040
   pub some : IsTrue (play_moves (followed p (tokens_of s) (tokens_of r)).progress.games) → 0 < n
@@ -35,8 +35,8 @@ pub record AreTotalled (p : Profile) (s r : List ℕ) (t : Totals) (before after
   pub converted : AreConverted p s r (verdict_in t) before after
   pub probes : CountsBoth p s r t.most_probes
 
--- `second` was read after these tokens of `first`, up to the last mark, without a difference, and
--- the games up to there are written.
+-- `second` was read against the marks of these tokens of `first`, up to the last one, without a
+-- difference, and the games up to there are written.
 pub record IsFollowed (p : Profile) (ts us : List Token) (before after : Option (List ℕ)) : Type 0 where
   pub fault : (followed p ts us).fault ≡ None
   pub ahead : (followed p ts us).ahead ≡ []
@@ -68,8 +68,8 @@ pub record StopsFollowing (p : Profile) (ts us : List Token) (at : ℕ) (before 
   pub appended : Appends before after (take count (written_by p (followed p ts (front ++ token ∷ []))))
 
 -- How a conversion fails: by the texts' own verdict, a fault of `first` or the first difference;
--- because a read of either failed, or a write; or since the byte at place 2^62 came, which in
--- `second` is a difference, as `first` has gone on behind it.
+-- because a read of either failed, or a write; or since the byte at place 2^62 came. In `second`
+-- that is a difference, since `first` has finished this game before its own place 2^62.
 pub data FailsTwice (p : Profile) (first_old first_new second_old second_new before after : Option (List ℕ)) : Fault → Type 0 where
   refused : (f : Fault) → IfSome first_old (λ s. IfSome second_old (λ r. AreConverted p s r (is_refused f) before after))
       → FailsTwice p first_old first_new second_old second_new before after f

@@ -89,7 +89,7 @@ changed_reason _ = Changed
 abbrev pub as_changed : Fault → Fault
 as_changed f = record { at = f.at; reason = changed_reason f.reason }
 
--- what a text of the reader counts as, while the other reading has told a mark
+-- while the other reading has told a mark, a missing Result counts as its marker
 abbrev pub IsTold : Option CodeMark → Reading → Type 0
 IsTold None r = Unit {0}
 IsTold (Some m) r = r.profile.missing_result ≡ counts_as (marker_text m.marker)

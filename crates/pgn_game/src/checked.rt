@@ -31,19 +31,22 @@ use std::marker::Model;
 /// Result takes the game's marker (PGN 8.1.1.7).
 ///
 /// Each game is read from `first` to its marker, then read again from `second` and written. So
-/// nothing is written of a game that is rejected. Both sources have to give the same bytes. Only
-/// the markers are compared, and their places. When `first` ends, the rest of `second` is not read.
+/// nothing is written of a game that `first` rejects. Both sources are meant to give the same
+/// bytes. Only each marker and its place are compared. When `first` has ended, `second` is not
+/// asked again, and what it gave behind the last game is not looked at.
 ///
 /// # Errors
 ///
 /// - The first fault of `first`. Every game before it is written, and nothing of its own game.
-/// - `Reason::Changed` if the next game of `second` has a fault, ends sooner, or has another
-///   marker, or the same one at another place: at the first token that shows this.
+/// - `Reason::Changed` if the next game of `second` has a fault, if `second` ends in it, or if it
+///   has another marker, or the same one at another place: at the first token that shows this, or
+///   at a byte at place 2^62.
 /// - `Reason::ReadFault` if a read failed, at the number of bytes read from that source.
 /// - `Reason::WriteFault` if a write failed, at the first token with text missing.
 /// - `Reason::InputTooLong` if `first` has a byte at place 2^62.
 ///
-/// After the last three, and after `Changed`, the text of the current game may be torn.
+/// After `Changed` and after a failed read of `second`, the complete lines of the current game may
+/// stand behind the finished ones. A failed write can cut the text anywhere.
 ///
 /// # Examples
 ///
@@ -330,7 +333,8 @@ impl<const T: usize, const L: usize> Pass<T, L> {
 
 // Takes a token, of which a missing Result takes the marker.
 //
-// A token that shows a difference from the mark does not go to the reader, or is the end.
+// Another marker than the one that was told does not go to the reader. The end does, and is a
+// difference then.
 fn take_token<const T: usize, const L: usize, W: Sink>(
     kind: TokenKind<'_>,
     at: u64,

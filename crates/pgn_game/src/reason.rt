@@ -65,7 +65,7 @@ pub enum Reason {
     WriteFault,
     /// 52: a byte at place 2^62.
     InputTooLong,
-    /// 53: the second reading of an input differs from the first; no call reports it today.
+    /// 53: the second reading of an input differs from the first. `convert_checked` reports it.
     Changed,
 }
 
