@@ -1,6 +1,7 @@
 //! Converts an input that is read twice, so that a missing Result takes the marker.
 ghost use Rattle.std.specs.Prelude.{◌≡◌, ◌-◌, ◌+◌, ◌≤◌, ◌<◌, ◌^◌, length, max, false, [], ℕ, List};
 ghost use Rattle.std.specs.Prelude.{Option, OnOk, IfOk, IfSome, IsTrue};
+ghost use Rattle.pgn_layout.specs.Device.{device};
 ghost use Rattle.pgn_lexer.specs.Scanned.{kind_of};
 ghost use Rattle.pgn_lexer.specs.Tokens.{HasLength};
 ghost use Rattle.pgn_game.specs.declared.reason.Reason.TheVariants.{Changed};
@@ -68,12 +69,13 @@ pub fn convert_checked<const T: usize, const L: usize, Q: Source, R: Source, W: 
 ) -> Result<Totals, Fault>
     requires levels { 1 ≤ L }
     requires memory { HoldsTwice T.row L.row }
-    ensures converts { ConvertsTwice (checked_profile T (L - 1) mode) (Q.left first.old)
-        (Q.left first.new) (R.left second.old) (R.left second.new) result
-        (W.taken writer.old) (W.taken writer.new) }
-    ensures counted { CountsTwice result (Q.failures first.old) (Q.failures first.new)
-        (R.failures second.old) (R.failures second.new)
-        (W.failures writer.old) (W.failures writer.new) }
+    ensures converts { ConvertsTwice (checked_profile T (L - 1) mode)
+        (device Q.left Q.failures first.old first.new)
+        (device R.left R.failures second.old second.new)
+        (device W.taken W.failures writer.old writer.new) result }
+    ensures counted { CountsTwice (device Q.left Q.failures first.old first.new)
+        (device R.left R.failures second.old second.new)
+        (device W.taken W.failures writer.old writer.new) result }
 {
     let mut ahead = Pass::<T, L>::new(mode);
     let mut behind = Pass::<T, L>::new(mode);

@@ -1,4 +1,5 @@
 -- **Definition**: what a call does to the bytes of a device, and to its count of failures.
+-- A device is a source of bytes, or a sink.
 use Rattle.std.specs.Prelude.{◌≡◌, ℕ, ◌+◌, ◌-◌, ◌^◌, ◌<◌, min, List, length, take, Option, Result, MatchResult}
 use Rattle.std.specs.Io.KnownBytes.{Appends}
 
@@ -17,3 +18,23 @@ AppendsFront old new text = (n : ℕ) × (n < length text) × Appends old new (t
 -- the whole text was appended, or if the call failed a prefix of it and not all
 abbrev pub Writes : {A E : Type 0} → Option (List ℕ) → Option (List ℕ) → Result A E → List ℕ → Type 0
 Writes old new r text = MatchResult r (λ _. Appends old new text) (λ _. AppendsFront old new text)
+
+-- A device before a call and after it: the bytes that a source has left or a sink has taken, if it
+-- reports them, and how often it has failed.
+pub record Device : Type 0 where
+  pub before : Option (List ℕ)
+  pub after : Option (List ℕ)
+  pub failures : ℕ
+  pub failures_after : ℕ
+
+-- the device that goes from one state to another
+abbrev pub device : {S : Type 0} → (S → Option (List ℕ)) → (S → ℕ) → S → S → Device
+device bytes failures old new = record { before = bytes old; after = bytes new; failures = failures old; failures_after = failures new }
+
+-- the count of failures stayed
+abbrev pub IsStill : Device → Type 0
+IsStill d = d.failures_after ≡ d.failures
+
+-- the device counts one failure more
+abbrev pub FailsOnce : Device → Type 0
+FailsOnce d = d.failures_after ≡ one_more d.failures

@@ -2,9 +2,10 @@
 -- The real machine reports nothing here. What is said of machines that report holds for the program
 -- all the same: it is generic, so it does the same on each.
 use Rattle.std.specs.Prelude.{◌≡◌, ℕ, Bool, true, List, Option, Result, Ok, Err}
+use Rattle.pgn_layout.specs.Device.{Device, device}
 use Rattle.pgn_tool.specs.declared.machine.SystemFault.{SystemFault}
 use Rattle.pgn_tool.specs.Files.{FileStep}
-use Rattle.pgn_tool.specs.Running.{Device, IsUntouched, device}
+use Rattle.pgn_tool.specs.Running.{IsUntouched}
 
 -- ---- files to read
 

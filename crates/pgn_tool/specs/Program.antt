@@ -1,6 +1,7 @@
 -- **Definition**: what a run of the program does to the devices of a machine, by its words.
 use Rattle.std.specs.Prelude.{◌≡◌, ℕ, ◌≤◌, Bool, true, false, List, [], ◌∷◌, map, codes, Option, None, Some, Result, Ok, Err, String, Vec, string_bytes}
 use Rattle.std.specs.Global.{Global}
+use Rattle.pgn_layout.specs.Device.{Device}
 use Rattle.pgn_game.specs.declared.reason.Reason.TheVariants.{ReadFault}
 use Rattle.pgn_game.specs.declared.mode.Mode.{Mode}
 use Rattle.pgn_game.specs.Reason.{line_of}
@@ -13,7 +14,7 @@ use Rattle.pgn_tool.specs.Files.{FileStep, added, entered}
 use Rattle.pgn_tool.specs.Machine.{Holding, Machine, Opens, Reading, holds, missing}
 use Rattle.pgn_tool.specs.Refusing.{AnswersFault}
 use Rattle.pgn_tool.specs.Requests.{AnswersBy, file_of, refusals, request_in, request_of}
-use Rattle.pgn_tool.specs.Running.{Answers, Device, IsSmooth, IsUntouched, Job, Runs, Tells, job_of, line, mode_for}
+use Rattle.pgn_tool.specs.Running.{Answers, IsSmooth, IsUntouched, Job, Runs, Tells, job_of, line, mode_for}
 use Rattle.pgn_tool.specs.RunningTwice.{AnswersSame, AnswersTwice, RunsTwice}
 use Rattle.pgn_tool.specs.Splitting.{RunsSplit}
 

@@ -1,7 +1,8 @@
 -- **Definition**: what is reported if no task is run.
 use Rattle.std.specs.Prelude.{◌≡◌, ℕ, ◌≤◌, List, codes, string_bytes}
 use Rattle.std.specs.Io.KnownBytes.{Appends}
-use Rattle.pgn_tool.specs.Running.{Device, HasFailed, IsStill, IsUntouched, Tells, line}
+use Rattle.pgn_layout.specs.Device.{Device, IsStill}
+use Rattle.pgn_tool.specs.Running.{HasFailed, IsUntouched, Tells, line}
 use Rattle.pgn_tool.specs.declared.arguments.ParseFault.{ParseFault}
 use Rattle.pgn_tool.specs.declared.arguments.ParseFault.TheVariants.{Help, Bad, NoMemory}
 

@@ -1,7 +1,7 @@
 -- **Definition**: what a run of a task does to its devices, and the status that it ends with.
 use Rattle.std.specs.Prelude.{◌≡◌, ℕ, ◌-◌, ◌^◌, ◌<◌, ◌≤◌, Bool, true, false, List, [], ◌∷◌, ◌++◌, length, take, codes, decimal, Option, None, Some, Result, Ok, Err}
 use Rattle.std.specs.Io.KnownBytes.{Appends, Keeps}
-use Rattle.pgn_layout.specs.Device.{one_more}
+use Rattle.pgn_layout.specs.Device.{Device, IsStill, one_more}
 use Rattle.pgn_game.specs.declared.mode.Mode.{Mode}
 use Rattle.pgn_game.specs.declared.mode.Mode.TheVariants.{Full, Reduced}
 use Rattle.pgn_game.specs.declared.reason.Reason.{Reason}
@@ -82,22 +82,6 @@ status_of (refused f) = 1
 status_of (totals c) = 0
 
 -- ---- devices
-
--- A device at the beginning and the end of a run: the bytes that a source has left or a sink has
--- taken, if it reports them, and how often it has failed.
-pub record Device : Type 0 where
-  pub before : Option (List ℕ)
-  pub after : Option (List ℕ)
-  pub failures : ℕ
-  pub failures_after : ℕ
-
--- the device that goes from one state to another
-abbrev pub device : {S : Type 0} → (S → Option (List ℕ)) → (S → ℕ) → S → S → Device
-device bytes failures old new = record { before = bytes old; after = bytes new; failures = failures old; failures_after = failures new }
-
--- the count of failures stayed
-abbrev pub IsStill : Device → Type 0
-IsStill d = d.failures_after ≡ d.failures
 
 -- the count rose, or was at its maximum
 abbrev pub HasFailed : Device → Type 0

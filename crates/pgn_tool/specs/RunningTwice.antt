@@ -2,6 +2,7 @@
 -- Letters: s is the text of the first source, r that of the second.
 use Rattle.std.specs.Prelude.{◌≡◌, ℕ, ◌⊎◌, Bool, true, false, List, Result, Ok, Err}
 use Rattle.std.specs.Io.KnownBytes.{Appends}
+use Rattle.pgn_layout.specs.Device.{Device, IsStill}
 use Rattle.pgn_game.specs.declared.mode.Mode.{Mode}
 use Rattle.pgn_game.specs.declared.mode.Mode.TheVariants.{Full}
 use Rattle.pgn_game.specs.declared.reason.Reason.{Reason}
@@ -15,7 +16,7 @@ use Rattle.pgn_game.specs.Checked.{checked_output, checked_profile, checked_verd
 use Rattle.pgn_game.specs.ConvertingTwice.{ConvertsTwice}
 use Rattle.pgn_tool.specs.declared.arguments.Task.{Task}
 use Rattle.pgn_tool.specs.declared.arguments.Task.TheVariants.{Checked}
-use Rattle.pgn_tool.specs.Running.{Concludes, Device, HasFailed, IsStill, Tells, TellsVerdict, line, mode_for, status_of}
+use Rattle.pgn_tool.specs.Running.{Concludes, HasFailed, Tells, TellsVerdict, line, mode_for, status_of}
 
 -- ---- what is asked for
 
@@ -69,5 +70,5 @@ EndsTwice (Err f) first second out err status = RefusesTwice f first second out 
 -- how the run ends.
 pub record RunsTwice (mode : Mode) (first second out err : Device) (status : ℕ) : Type 0 where
   pub answer : Result Totals Fault
-  pub works : ConvertsTwice (profile_twice mode) first.before first.after second.before second.after answer out.before out.after
+  pub works : ConvertsTwice (profile_twice mode) first second out answer
   pub ends : EndsTwice answer first second out err status

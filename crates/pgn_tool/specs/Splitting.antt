@@ -1,6 +1,6 @@
 -- **Definition**: the files that a split makes, and what one call of the converter does to them.
 use Rattle.std.specs.Prelude.{◌≡◌, ℕ, ◌+◌, ◌^◌, ◌<◌, ◌≤◌, Bool, true, false, List, [], ◌∷◌, ◌++◌, length, codes, Option, None, Some, Result, Ok, Err, IfOk, OnOk, is_some}
-use Rattle.pgn_layout.specs.Device.{one_more}
+use Rattle.pgn_layout.specs.Device.{Device, one_more}
 use Rattle.pgn_game.specs.declared.reason.Reason.{Reason}
 use Rattle.pgn_game.specs.declared.reason.Reason.TheVariants.{ReadFault, WriteFault}
 use Rattle.pgn_game.specs.declared.reason.Fault.{Fault}
@@ -11,7 +11,7 @@ use Rattle.pgn_tool.specs.declared.files.CreateFault.{CreateFault}
 use Rattle.pgn_tool.specs.declared.files.CreateFault.TheVariants as creating
 use Rattle.pgn_tool.specs.declared.split.Unsplit.{Unsplit}
 use Rattle.pgn_tool.specs.declared.split.Unsplit.TheVariants.{Refused, NoMemory}
-use Rattle.pgn_tool.specs.Running.{Device, IsUntouched, Tells, line}
+use Rattle.pgn_tool.specs.Running.{IsUntouched, Tells, line}
 use Rattle.pgn_tool.specs.SplitGames.{SplitResult}
 use Rattle.pgn_tool.specs.Files.{FileStep, added, closed, failures_in, has_text, made, number_after, opening_steps, refused, steps, open_text, whole_files, without_memory}
 

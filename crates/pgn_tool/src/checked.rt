@@ -1,6 +1,7 @@
 //! Carries out `export --checked`, which reads its file twice.
 ghost use Rattle.std.specs.Prelude.{◌≡◌, ◌≤◌, ℕ, List, true};
-ghost use Rattle.pgn_tool.specs.Running.{IsSmooth, device, mode_for};
+ghost use Rattle.pgn_layout.specs.Device.{device};
+ghost use Rattle.pgn_tool.specs.Running.{IsSmooth, mode_for};
 ghost use Rattle.pgn_tool.specs.RunningTwice.{AnswersSame, AnswersTwice, RunsTwice, checked_mode, is_checked};
 
 use crate::arguments::Task;

@@ -1,6 +1,7 @@
 //! The replies if no task is run.
 ghost use Rattle.std.specs.Prelude.{◌≡◌, codes};
-ghost use Rattle.pgn_tool.specs.Running.{Tells, device, line};
+ghost use Rattle.pgn_layout.specs.Device.{device};
+ghost use Rattle.pgn_tool.specs.Running.{Tells, line};
 ghost use Rattle.pgn_tool.specs.Refusing.{AnswersFault, Shows};
 
 use crate::arguments::ParseFault;

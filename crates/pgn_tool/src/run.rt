@@ -1,8 +1,9 @@
 //! A run of the program, on whatever machine.
 ghost use Rattle.std.specs.Prelude.{◌≡◌, ℕ, ◌≤◌, false, true, List, Some};
+ghost use Rattle.pgn_layout.specs.Device.{device};
 ghost use Rattle.pgn_tool.specs.Machine.{machine, missing, reading};
 ghost use Rattle.pgn_tool.specs.Requests.{file_of, request_of};
-ghost use Rattle.pgn_tool.specs.Running.{device, is_for_stream, job_of};
+ghost use Rattle.pgn_tool.specs.Running.{is_for_stream, job_of};
 ghost use Rattle.pgn_tool.specs.RunningTwice.{checked_mode, is_checked};
 ghost use Rattle.pgn_tool.specs.Program.{Carries, EndsUnopened, IsMissing, Ran, RunsAgain, RunsBoth};
 ghost use Rattle.pgn_tool.specs.Program.{RunsOpened, RunsStream, RunsToOutput, StartsFrom, makes_files};

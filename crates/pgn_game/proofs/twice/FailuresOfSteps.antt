@@ -1,7 +1,7 @@
 -- Which device counts a failure in a step, of the reasons one by one.
 use Rattle.std.proofs.Common.{◌≡◌, ℕ, Option, None, Some, List, [], Result, Ok, Err, refl, sym, ap, subst, ◌∙◌, inl, inr, arith}
 use Rattle.std.proofs.KnownBytes.{Appends-nil}
-use Rattle.pgn_layout.specs.Device.{one_more}
+use Rattle.pgn_layout.specs.Device.{Device, IsStill, one_more}
 use Rattle.pgn_lexer.specs.Tokens.{Token}
 use Rattle.pgn_game.specs.declared.checked.Mark.{Mark as CodeMark}
 use Rattle.pgn_game.specs.declared.checked.Taken.{Taken}
@@ -63,9 +63,16 @@ pub step_of_take : (q : Profile) (left_old left : Option (List ℕ)) (told : Opt
 step_of_take q left_old left told given new (Ok x) a c h = h
 step_of_take q left_old left told given new (Err f) a c h = inl h
 
+-- a failed read is counted
+pub read_fails : (r : Reason) (s t : ℕ) → CountsReading r s t → r ≡ ReadFault → t ≡ one_more s
+read_fails r s t h is = subst (λ x. CountsReading x s t) is h
+
+pub source_fails : (r : Reason) (s t o n : ℕ) → CountsDevices r s t o n → r ≡ ReadFault → t ≡ one_more s
+source_fails r s t o n h is = (subst (λ x. CountsDevices x s t o n) is h).0
+
 -- all three devices, where the second reading stops
-pub second_counts : (r : Reason) (first_old first_new second_old s t sink_old o n : ℕ) → first_new ≡ first_old → s ≡ second_old → o ≡ sink_old → CountsDevices r s t o n
-    → CountsThree r first_old first_new second_old t sink_old n
-second_counts ReadFault first_old first_new second_old s t sink_old o n first second sink h = (inr (first, h.0 ∙ ap one_more second), h.1 ∙ sink)
-second_counts WriteFault first_old first_new second_old s t sink_old o n first second sink h = (first, h.0 ∙ second, h.1 ∙ ap one_more sink)
-second_counts _ first_old first_new second_old s t sink_old o n first second sink h = (first, h.0 ∙ second, h.1 ∙ sink)
+pub second_counts : (r : Reason) (first second sink : Device) (s o : ℕ) → IsStill first → s ≡ second.failures → o ≡ sink.failures
+    → CountsDevices r s second.failures_after o sink.failures_after → CountsThree r first second sink
+second_counts ReadFault first second sink s o still here there h = (inr (still, h.0 ∙ ap one_more here), h.1 ∙ there)
+second_counts WriteFault first second sink s o still here there h = (still, h.0 ∙ here, h.1 ∙ ap one_more there)
+second_counts _ first second sink s o still here there h = (still, h.0 ∙ here, h.1 ∙ there)

@@ -6,11 +6,12 @@ use Rattle.std.proofs.KnownBytes.{Appends-nil, Appends-trans}
 use Rattle.std.proofs.lemmas.Option.{IfSome_then}
 use Rattle.std.proofs.lemmas.Slice.Eq.{bytes_eq-Decides}
 use Rattle.std.specs.Io.KnownBytes.{Appends, Consumes}
+use Rattle.pgn_layout.specs.Device.{Device, FailsOnce}
 use Rattle.pgn_lexer.specs.Tokens.{Token}
 use Rattle.pgn_lexer.specs.TokensOf.{tokens_of}
 use Rattle.pgn_lexer.specs.Decided.{decided}
 use Rattle.pgn_lexer.specs.Standing.{Standing, coming}
-use Rattle.pgn_game.specs.declared.reason.Reason.TheVariants.{Changed}
+use Rattle.pgn_game.specs.declared.reason.Reason.TheVariants.{Changed, ReadFault}
 use Rattle.pgn_game.specs.declared.reason.Fault.{Fault}
 use Rattle.pgn_game.specs.declared.conversion.Totals.{Totals}
 use Rattle.pgn_game.specs.declared.checked.Mark.{Mark as CodeMark}
@@ -23,9 +24,10 @@ use Rattle.pgn_game.specs.Due.{text_next, gain}
 use Rattle.pgn_game.specs.Reading.{whole_plies}
 use Rattle.pgn_game.specs.Feeding.{play_moves}
 use Rattle.pgn_game.specs.Converting.{verdict_in}
+use Rattle.pgn_game.specs.MostTried.{MostTried}
 use Rattle.pgn_game.specs.Checked.{Mark, marks_from, is_other, is_changed, marks_after, Followed, follow, followed, with_mark, torn_before, written_by, earlier_fault}
-use Rattle.pgn_game.specs.ConvertingTwice.{AreConverted, AreTotalled, IsFollowed, EndsFirst, EndsSecond, StopsFollowing, FailsTwice, ConvertsTwice}
-use Rattle.pgn_game.specs.Pass.{Pass, model_mark, StandsIn, HasGiven, ReadFails, HasMarked, HasFollowed, ReadsMark, ReadsToEnd, StopsAt, ReadsToFault, torn_after, WritesToMark, StopsWithin, WritesToFault, as_changed, BothSoFar}
+use Rattle.pgn_game.specs.ConvertingTwice.{AreConverted, AreTotalled, BeginsWith, Decides, HasTaken, IsFollowed, EndsFirst, EndsSecond, StopsFollowing, FailsTwice, ConvertsTwice}
+use Rattle.pgn_game.specs.Pass.{Pass, model_mark, StandsIn, HasGiven, ReadFails, HasMarked, HasFollowed, ReadsMark, ReadsToEnd, StopsAt, ReadsToFault, torn_after, WritesToMark, StopsWithin, WritesToFault, changed_reason, as_changed, BothSoFar}
 use Rattle.pgn_game.proofs.EqualReadings.{after_marks, marks_test, after_change, change_test, no_mark}
 use Rattle.pgn_game.proofs.tokens.NextGrows.{next_is}
 use Rattle.pgn_game.proofs.tokens.OneMoreToken.{read-refuses, text_of-snoc}
@@ -41,7 +43,7 @@ both_known o n A B P first second goes =
 
 -- the tokens of the text begin with these
 abbrev Begins : List Token → List ℕ → Type 0
-Begins given s = (ts : List Token) × (tokens_of s ≡ given ++ ts)
+Begins given s = BeginsWith given (tokens_of s)
 
 begins : (has_ended : Bool) (l : Standing) (unused u : List ℕ) (given : List Token) (o n : Option (List ℕ)) → Consumes o n (u ++ unused) → StandsIn has_ended l unused given u o
     → IfSome o (Begins given)
@@ -50,6 +52,19 @@ begins false l unused u given o n consumed (stands, is_decided) =
     (λ rest. (coming l (unused ++ rest), ap tokens_of (append_assoc u unused rest) ∙ stands.tokens (unused ++ rest) (follows_first unused rest)))
 begins true l unused u given o n consumed (left, none, all) =
     IfSome_then o {P = λ s. s ≡ u} {Q = Begins given} all (λ s is. (coming l [], ap tokens_of is ∙ left))
+
+-- the bytes of a source that were read decide the tokens that the reading has given
+decides : (has_ended : Bool) (l : Standing) (unused u : List ℕ) (given : List Token) (d : Device) → Consumes d.before d.after (u ++ unused) → StandsIn has_ended l unused given u d.before
+    → Decides d given
+decides false l unused u given d consumed (stands, is_decided) =
+    Decides.so_far (u ++ unused) consumed
+    (λ rest. (coming l (unused ++ rest), ap tokens_of (append_assoc u unused rest) ∙ stands.tokens (unused ++ rest) (follows_first unused rest)))
+decides true l unused u given d consumed (left, none, all) =
+    let is : u ++ unused ≡ u = ap (λ (l : List ℕ). u ++ l) none ∙ append-nil u in
+    Decides.at_end u (subst (Consumes d.before d.after) is consumed) all (coming l [], left)
+
+given_decides : (q : Profile) (d : Device) (s : Pass) (given : List Token) → HasGiven q d.before d.after s given → Decides d given
+given_decides q d s given h = decides s.has_ended s.lexer s.unused h.bytes given d h.consumed h.stands
 
 pub given_first : (q : Profile) (left_old left_now : Option (List ℕ)) (s : Pass) (given : List Token) → HasGiven q left_old left_now s given
     → IfSome left_old (λ r. (ts : List Token) × (tokens_of r ≡ given ++ ts))
@@ -119,6 +134,8 @@ module _ (q : Profile) (first_old first_now second_old second_now : Option (List
             (Appends-trans before mid after _ _ so.written writes.appended);
       }
 
+module _ (q : Profile) (first second sink : Device) (first_now : Option (List ℕ)) (a b : Pass)
+    (so : BothSoFar q first.before first_now second.before second.after a b sink.before sink.after) where
   abbrev at_mark : Followed
   at_mark = record { progress = (read q so.second_tokens).progress; ahead = []; fault = None }
 
@@ -128,82 +145,94 @@ module _ (q : Profile) (first_old first_now second_old second_now : Option (List
       ap (λ (l : List Token). followed q l us) first ∙ ap (followed q (ts ++ vs)) second ∙ both_read q ts so.second_tokens vs ws so.marks [] marked so.followed
       ∙ ap (λ (ms : List Mark). follow q ms (read q so.second_tokens).progress ws) none ∙ no_mark q (read q so.second_tokens).progress ws
 
-  written : Appends before mid (written_by q at_mark)
-  written = subst (Appends before mid) (sym (append-nil (text_of q (read q so.second_tokens).progress.games))) so.written
+  written : HasTaken sink (written_by q at_mark)
+  written = subst (HasTaken sink) (sym (append-nil (text_of q (read q so.second_tokens).progress.games))) so.written
 
-  second_begins : IfSome second_old (Begins so.second_tokens)
-  second_begins = given_first q second_old second_now b so.second_tokens so.second_given
+  second_begins : IfSome second.before (Begins so.second_tokens)
+  second_begins = given_first q second.before second.after b so.second_tokens so.second_given
 
   converted : (s r : List ℕ) (o : Option Fault) → followed q (tokens_of s) (tokens_of r) ≡ at_mark → (read q (tokens_of s)).fault ≡ o
-      → AreConverted q s r (verdict_of (record { progress = (read q so.second_tokens).progress; fault = o })) before mid
+      → AreConverted q s r (verdict_of (record { progress = (read q so.second_tokens).progress; fault = o })) sink
   converted s r o is fault = (
     ap (λ (f : Followed). verdict_of (record { progress = f.progress; fault = earlier_fault f.fault (read q (tokens_of s)).fault })) is
         ∙ ap (λ (x : Option Fault). verdict_of (record { progress = (read q so.second_tokens).progress; fault = x })) fault,
-    subst (λ (f : Followed). Appends before mid (written_by q f)) (sym is) written,
+    subst (λ (f : Followed). HasTaken sink (written_by q f)) (sym is) written,
   )
 
-  pub both_end : (first_new : Option (List ℕ)) (new_a : Pass) (t : Totals) → ReadsToEnd q first_old so.marks new_a → t.games ≡ b.games → t.plies ≡ whole_plies b.reading
+  pub both_end : (new_a : Pass) (t : Totals) → ReadsToEnd q first.before so.marks new_a → t.games ≡ b.games → t.plies ≡ whole_plies b.reading
       → t.most_probes ≡ max new_a.reading.most_probes b.reading.most_probes → new_a.reading.most_probes ≤ 1040 → b.reading.most_probes ≤ 1040
-      → ConvertsTwice q first_old first_new second_old second_now (Ok t) before mid
-  both_end first_new new_a t end games plies probes first_bound second_bound =
+      → ConvertsTwice q first second sink (Ok t)
+  both_end new_a t end games plies probes first_bound second_bound =
       let h = so.second_given.has_read in
       let c : Progress = (read q so.second_tokens).progress in
       let same : totals (record { games = length c.games; plies = sum (map plies_of c.games) }) ≡ verdict_in t =
       ap (λ n. totals (record { games = n; plies = sum (map plies_of c.games) })) (sym (games ∙ h.games)) ∙ ap (λ n. totals (record { games = t.games; plies = n })) (sym (plies ∙ h.plies)) in
-      both_known first_old second_old (λ s. tokens_of s ≡ end.tokens) (Begins so.second_tokens) (λ s r. AreTotalled q s r t before mid) end.whole second_begins
+      both_known first.before second.before (λ s. tokens_of s ≡ end.tokens) (Begins so.second_tokens) (λ s r. AreTotalled q s r t sink) end.whole second_begins
       (λ s r x y.
       let is = last_mark (tokens_of s) (tokens_of r) end.tokens [] y.0 (x ∙ sym (append-nil end.tokens)) y.1 end.marked refl in
       record {
-        converted = subst (λ v. AreConverted q s r v before mid) same (converted s r None is (ap (λ (ts : List Token). (read q ts).fault) x ∙ end.has_read.passes));
+        converted = subst (λ v. AreConverted q s r v sink) same (converted s r None is (ap (λ (ts : List Token). (read q ts).fault) x ∙ end.has_read.passes));
         probes = record {
           most = omega (arith, probes, first_bound, second_bound);
           some = λ moves.
               let some : 0 < b.reading.most_probes = h.probed (in_games c (subst (λ (f : Followed). IsTrue (play_moves f.progress.games)) is moves)) in
               omega (arith, probes, some);
+          tried = record {
+            front = so.second_tokens;
+            rest = y.0;
+            cut = y.1;
+            passes = h.passes;
+            same = sym (ap (λ (f : Followed). f.progress) is);
+            most_of_first = new_a.reading.most_probes;
+            most_of_second = b.reading.most_probes;
+            first_tried = subst (λ (ts : List Token). MostTried q ts new_a.reading.most_probes) (sym x) end.has_read.tried;
+            second_tried = h.tried;
+            greater = probes;
+          };
         };
       })
 
   -- `first` gives no token more
-  ends_first : (tokens : List Token) (u : List ℕ) → (read q tokens).fault ≡ None → HasMarked q tokens so.marks → tokens ≡ decided u → EndsFirst q u second_old before mid
+  ends_first : (tokens : List Token) (u : List ℕ) → (read q tokens).fault ≡ None → HasMarked q tokens so.marks → tokens ≡ decided u → EndsFirst q u second sink
   ends_first tokens u passes marked is_decided =
       record {
         passes = subst (λ (ts : List Token). (read q ts).fault ≡ None) is_decided passes;
-        followed = IfSome_then second_old {P = Begins so.second_tokens} {Q = λ r. IsFollowed q (decided u) (tokens_of r) before mid} second_begins
+        followed = IfSome_then second.before {P = Begins so.second_tokens} {Q = λ r. IsFollowed q (decided u) (tokens_of r) sink} second_begins
             (λ r y.
             let is = last_mark (decided u) (tokens_of r) tokens [] y.0 (sym is_decided ∙ sym (append-nil tokens)) y.1 marked refl in
             record {
               fault = ap (λ (f : Followed). f.fault) is;
               ahead = ap (λ (f : Followed). f.ahead) is;
-              appended = subst (λ (f : Followed). Appends before mid (written_by q f)) (sym is) written;
+              appended = subst (λ (f : Followed). HasTaken sink (written_by q f)) (sym is) written;
             });
       }
 
-  first_unread : {f : Fault} (first_new : Option (List ℕ)) (tokens : List Token) → (read q tokens).fault ≡ None → HasMarked q tokens so.marks → ReadFails first_old first_new tokens f
-      → FailsTwice q first_old first_new second_old second_now before mid f
-  first_unread first_new tokens passes marked (ReadFails.unread u consumed is_decided) =
-      FailsTwice.first_unread u consumed (ends_first tokens u passes marked is_decided)
-  first_unread first_new tokens passes marked (ReadFails.too_long u rest consumed place some is_decided) =
+  first_unread : {f : Fault} (tokens : List Token) → (read q tokens).fault ≡ None → HasMarked q tokens so.marks → (f.reason ≡ ReadFault → FailsOnce first) → ReadFails first.before first.after tokens f
+      → FailsTwice q first second sink f
+  first_unread tokens passes marked counts (ReadFails.unread u consumed is_decided) =
+      FailsTwice.first_unread u consumed (counts refl) (ends_first tokens u passes marked is_decided)
+  first_unread tokens passes marked counts (ReadFails.too_long u rest consumed place some is_decided) =
       FailsTwice.first_too_long u rest consumed place some (ends_first tokens u passes marked is_decided)
 
-  first_at : {f : Fault} (first_new : Option (List ℕ)) (tokens : List Token) → (read q tokens).fault ≡ None → HasMarked q tokens so.marks → StopsAt q first_old first_new tokens f
-      → FailsTwice q first_old first_new second_old second_now before mid f
-  first_at first_new tokens passes marked (StopsAt.unread f fails) = first_unread first_new tokens passes marked fails
-  first_at first_new tokens passes marked (StopsAt.refused t reason comes rejected) =
+  first_at : {f : Fault} (tokens : List Token) → (read q tokens).fault ≡ None → HasMarked q tokens so.marks → (f.reason ≡ ReadFault → FailsOnce first) → StopsAt q first.before first.after tokens f
+      → FailsTwice q first second sink f
+  first_at tokens passes marked counts (StopsAt.unread f fails) = first_unread tokens passes marked counts fails
+  first_at tokens passes marked counts (StopsAt.refused t reason comes rejected) =
       let f : Fault = record { at = t.at; reason = reason } in
       let c : Progress = (read q tokens).progress in
       FailsTwice.refused f
-      (both_known first_old second_old (λ s. (ts : List Token) × (tokens_of s ≡ tokens ++ t ∷ ts)) (Begins so.second_tokens) (λ s r. AreConverted q s r (is_refused f) before mid) comes second_begins
+      (both_known first.before second.before (λ s. (ts : List Token) × (tokens_of s ≡ tokens ++ t ∷ ts)) (Begins so.second_tokens) (λ s r. AreConverted q s r (is_refused f) sink) comes second_begins
       (λ s r x y.
       let none : marks_from q c (t ∷ x.0) ≡ [] = marks_test q c t x.0 ∙ ap (after_marks q c t x.0) rejected in
       let is = last_mark (tokens_of s) (tokens_of r) tokens (t ∷ x.0) y.0 x.1 y.1 marked none in
       converted s r (Some f) is (ap (λ (ts : List Token). (read q ts).fault) x.1 ∙ ap (λ (r : Read). r.fault) (read-refuses q tokens t x.0 reason passes rejected))))
 
-  pub first_stops : (first_new : Option (List ℕ)) (f : Fault) → ReadsToFault q first_old first_new so.marks f → FailsTwice q first_old first_new second_old second_now before mid f
-  first_stops first_new f fails = first_at first_new fails.tokens fails.passes fails.marked fails.stops
+  pub first_stops : (f : Fault) → (f.reason ≡ ReadFault → FailsOnce first) → ReadsToFault q first.before first.after so.marks f → FailsTwice q first second sink f
+  first_stops f counts fails = first_at fails.tokens fails.passes fails.marked counts fails.stops
 
-module _ (q : Profile) (first_old first_now second_old second_now : Option (List ℕ)) (a b : Pass) (before mid : Option (List ℕ))
-    (so : BothSoFar q first_old first_now second_old second_now a b before mid) (m : CodeMark) (new_a : Pass) (first_new second_new after : Option (List ℕ))
-    (reads : ReadsMark q first_old first_new so.marks m new_a) (tokens : List Token) (two : HasFollowed q (so.marks ++ model_mark m ∷ []) tokens (model_mark m ∷ []))
+module _ (q : Profile) (first second sink : Device) (first_now second_now mid : Option (List ℕ)) (a b : Pass)
+    (so : BothSoFar q first.before first_now second.before second_now a b sink.before mid) (m : CodeMark) (new_a : Pass)
+    (reads : ReadsMark q first.before first.after so.marks m new_a) (tokens : List Token) (two : HasFollowed q (so.marks ++ model_mark m ∷ []) tokens (model_mark m ∷ []))
     (same_games : (read q tokens).progress.games ≡ (read q so.second_tokens).progress.games) where
   abbrev mark : Mark
   mark = model_mark m
@@ -218,8 +247,11 @@ module _ (q : Profile) (first_old first_now second_old second_now : Option (List
   abbrev behind : List Token → List Mark
   behind vs = marks_from q (read q reads.tokens).progress vs
 
-  first_begins : IfSome first_old (Begins reads.tokens)
-  first_begins = given_first q first_old first_new new_a reads.tokens reads.has_given
+  first_begins : IfSome first.before (Begins reads.tokens)
+  first_begins = given_first q first.before first.after new_a reads.tokens reads.has_given
+
+  first_decides : Decides first reads.tokens
+  first_decides = given_decides q first new_a reads.tokens reads.has_given
 
   goes : (xs us vs ws : List Token) → xs ≡ reads.tokens ++ vs → us ≡ tokens ++ ws → followed q xs us ≡ follow q (mark ∷ behind vs) c ws
   goes xs us vs ws first second =
@@ -227,45 +259,49 @@ module _ (q : Profile) (first_old first_now second_old second_now : Option (List
       ∙ both_read q reads.tokens tokens vs ws (so.marks ++ mark ∷ []) (mark ∷ []) reads.marked two
 
   -- what is written of this game stands behind the games
-  all_written : (text : List ℕ) → Appends mid after text → Appends before after (text_of q c.games ++ text)
+  all_written : (text : List ℕ) → Appends mid sink.after text → HasTaken sink (text_of q c.games ++ text)
   all_written text wrote =
-      subst (λ (games : List Game). Appends before after (text_of q games ++ text)) (sym same_games) (Appends-trans before mid after _ _ so.written wrote)
+      subst (λ (games : List Game). HasTaken sink (text_of q games ++ text)) (sym same_games) (Appends-trans sink.before mid sink.after _ _ so.written wrote)
 
   -- `second` gives no token more
-  ends_second : (u : List ℕ) → tokens ≡ decided u → Appends mid after (torn_after q m tokens) → IfSome first_old (λ s. EndsSecond q s u before after)
+  ends_second : (u : List ℕ) → tokens ≡ decided u → Appends mid sink.after (torn_after q m tokens) → EndsSecond q first u sink
   ends_second u is_decided wrote =
-      IfSome_then first_old {P = Begins reads.tokens} {Q = λ s. EndsSecond q s u before after} first_begins
-      (λ s x.
-      let is = goes (tokens_of s) (decided u) x.0 [] x.1 (sym is_decided ∙ sym (append-nil tokens)) in
+      let is = goes reads.tokens (decided u) [] [] (sym (append-nil reads.tokens)) (sym is_decided ∙ sym (append-nil tokens)) in
       record {
+        tokens = reads.tokens;
+        decided_by = first_decides;
         fault = ap (λ (f : Followed). f.fault) is;
-        ahead = (mark, behind x.0, ap (λ (f : Followed). f.ahead) is);
-        appended = subst (λ (f : Followed). Appends before after (written_by q f)) (sym is) (all_written _ wrote);
-      })
+        ahead = (mark, [], ap (λ (f : Followed). f.ahead) is);
+        appended = subst (λ (f : Followed). HasTaken sink (written_by q f)) (sym is) (all_written _ wrote);
+      }
 
-  second_unread : {f : Fault} → ReadFails second_old second_new tokens f → Appends mid after (torn_after q m tokens)
-      → FailsTwice q first_old first_new second_old second_new before after (as_changed f)
-  second_unread (ReadFails.unread u consumed is_decided) wrote = FailsTwice.second_unread u consumed (ends_second u is_decided wrote)
-  second_unread (ReadFails.too_long u rest consumed place some is_decided) wrote =
+  second_unread : {f : Fault} → ReadFails second.before second.after tokens f → (changed_reason f.reason ≡ ReadFault → FailsOnce second) → Appends mid sink.after (torn_after q m tokens)
+      → FailsTwice q first second sink (as_changed f)
+  second_unread (ReadFails.unread u consumed is_decided) counts wrote = FailsTwice.second_unread u consumed (counts refl) (ends_second u is_decided wrote)
+  second_unread (ReadFails.too_long u rest consumed place some is_decided) counts wrote =
       FailsTwice.second_too_long u rest consumed place some (ends_second u is_decided wrote)
 
   -- a write failed at a token
   stops_at : q.missing_result ≡ takes_the_marker → (t : Token) → is_changed q mark c.part t ≡ false → (n : ℕ) → n < length (gain under c.part t.kind)
-      → Appends mid after (torn under c.part ++ take n (gain under c.part t.kind)) → (s r : List ℕ) → Begins reads.tokens s → (us : List Token) × (tokens_of r ≡ tokens ++ t ∷ us)
-      → StopsFollowing q (tokens_of s) (tokens_of r) t.at before after
-  stops_at takes t same n short wrote s r x y =
+      → Appends mid sink.after (torn under c.part ++ take n (gain under c.part t.kind)) → (r : List ℕ) → (us : List Token) × (tokens_of r ≡ tokens ++ t ∷ us)
+      → StopsFollowing q first (tokens_of r) t.at sink
+  stops_at takes t same n short wrote r y =
       let games : List ℕ = text_of q c.games in
       let before_it : List ℕ = torn under c.part in
       let more : List ℕ = gain under c.part t.kind in
-      let at_front : followed q (tokens_of s) tokens ≡ record { progress = c; ahead = mark ∷ behind x.0; fault = None } = goes (tokens_of s) tokens x.0 [] x.1 (sym (append-nil tokens)) in
-      let at_token : followed q (tokens_of s) (tokens ++ t ∷ []) ≡ record { progress = progress_after c t; ahead = marks_after (next c.part t.kind) mark (behind x.0); fault = None } =
-      goes (tokens_of s) (tokens ++ t ∷ []) x.0 (t ∷ []) x.1 refl ∙ change_test q mark (behind x.0) c t [] ∙ ap (after_change q mark (behind x.0) c t []) same in
-      let text : written_by q (followed q (tokens_of s) (tokens ++ t ∷ [])) ≡ (games ++ before_it) ++ more =
-      ap (written_by q) at_token ∙ written_at_token q mark (behind x.0) c.games t (next c.part t.kind) takes (not_changed q mark c.part t same).1
+      let marks : List Mark = marks_after (next c.part t.kind) mark [] in
+      let none : reads.tokens ≡ reads.tokens ++ [] = sym (append-nil reads.tokens) in
+      let at_front : followed q reads.tokens tokens ≡ record { progress = c; ahead = mark ∷ []; fault = None } = goes reads.tokens tokens [] [] none (sym (append-nil tokens)) in
+      let at_token : followed q reads.tokens (tokens ++ t ∷ []) ≡ record { progress = progress_after c t; ahead = marks; fault = None } =
+      goes reads.tokens (tokens ++ t ∷ []) [] (t ∷ []) none refl ∙ change_test q mark [] c t [] ∙ ap (after_change q mark [] c t []) same in
+      let text : written_by q (followed q reads.tokens (tokens ++ t ∷ [])) ≡ (games ++ before_it) ++ more =
+      ap (written_by q) at_token ∙ written_at_token q mark [] c.games t (next c.part t.kind) takes (not_changed q mark c.part t same).1
       ∙ ap (λ (l : List ℕ). games ++ l) (next_is under c.part t.kind) ∙ sym (append_assoc games before_it more) in
       let front : games ++ (before_it ++ take n more) ≡ take (length (games ++ before_it) + n) ((games ++ before_it) ++ more) =
       sym (append_assoc games before_it (take n more)) ∙ sym (take-append-add (games ++ before_it) more n) in
       record {
+        tokens = reads.tokens;
+        decided_by = first_decides;
         front = tokens;
         token = t;
         rest = y.0;
@@ -275,30 +311,30 @@ module _ (q : Profile) (first_old first_now second_old second_now : Option (List
         count = length (games ++ before_it) + n;
         least = subst (λ (f : Followed). length (written_by q f) ≤ length (games ++ before_it) + n) (sym at_front) (at_least (games ++ before_it) n);
         short = subst (λ (l : List ℕ). length (games ++ before_it) + n < length l) (sym text) (not_all (games ++ before_it) more n short);
-        appended = subst (λ (l : List ℕ). Appends before after (take (length (games ++ before_it) + n) l)) (sym text) (subst (Appends before after) front (all_written _ wrote));
+        appended = subst (λ (l : List ℕ). HasTaken sink (take (length (games ++ before_it) + n) l)) (sym text) (subst (HasTaken sink) front (all_written _ wrote));
       }
 
-  second_at : {f : Fault} → q.missing_result ≡ takes_the_marker → StopsWithin q second_old second_new m tokens mid after f
-      → FailsTwice q first_old first_new second_old second_new before after f
-  second_at takes (StopsWithin.unread f fails wrote) = second_unread fails wrote
-  second_at takes (StopsWithin.unwritten t comes same n short wrote) =
+  second_at : {f : Fault} → q.missing_result ≡ takes_the_marker → (f.reason ≡ ReadFault → FailsOnce second) → StopsWithin q second.before second.after m tokens mid sink.after f
+      → FailsTwice q first second sink f
+  second_at takes counts (StopsWithin.unread f fails wrote) = second_unread fails counts wrote
+  second_at takes counts (StopsWithin.unwritten t comes same n short wrote) =
       FailsTwice.unwritten t.at
-      (both_known first_old second_old (Begins reads.tokens) (λ r. (us : List Token) × (tokens_of r ≡ tokens ++ t ∷ us))
-      (λ s r. StopsFollowing q (tokens_of s) (tokens_of r) t.at before after) first_begins comes (stops_at takes t same n short wrote))
-  second_at takes (StopsWithin.differs t comes changed wrote) =
+      (IfSome_then second.before {P = λ r. (us : List Token) × (tokens_of r ≡ tokens ++ t ∷ us)} {Q = λ r. StopsFollowing q first (tokens_of r) t.at sink} comes
+      (stops_at takes t same n short wrote))
+  second_at takes counts (StopsWithin.differs t comes changed wrote) =
       let f : Fault = record { at = t.at; reason = Changed } in
       FailsTwice.refused f
-      (both_known first_old second_old (Begins reads.tokens) (λ r. (us : List Token) × (tokens_of r ≡ tokens ++ t ∷ us)) (λ s r. AreConverted q s r (is_refused f) before after) first_begins comes
+      (both_known first.before second.before (Begins reads.tokens) (λ r. (us : List Token) × (tokens_of r ≡ tokens ++ t ∷ us)) (λ s r. AreConverted q s r (is_refused f) sink) first_begins comes
       (λ s r x y.
       let is : followed q (tokens_of s) (tokens_of r) ≡ record { progress = c; ahead = mark ∷ behind x.0; fault = Some f } =
       goes (tokens_of s) (tokens_of r) x.0 (t ∷ y.0) x.1 y.1 ∙ change_test q mark (behind x.0) c t y.0 ∙ ap (after_change q mark (behind x.0) c t y.0) changed in (
         ap (λ (z : Followed). verdict_of (record { progress = z.progress; fault = earlier_fault z.fault (read q (tokens_of s)).fault })) is,
-        subst (λ (z : Followed). Appends before after (written_by q z)) (sym is) (all_written _ wrote),
+        subst (λ (z : Followed). HasTaken sink (written_by q z)) (sym is) (all_written _ wrote),
       )))
 
-pub second_stops : (q : Profile) (first_old first_now second_old second_now : Option (List ℕ)) (a b : Pass) (before mid : Option (List ℕ))
-    (so : BothSoFar q first_old first_now second_old second_now a b before mid) (m : CodeMark) (new_a : Pass) (first_new second_new after : Option (List ℕ)) (f : Fault)
-    → q.missing_result ≡ takes_the_marker → ReadsMark q first_old first_new so.marks m new_a
-    → WritesToFault q second_old second_new (so.marks ++ model_mark m ∷ []) m so.second_tokens f mid after → FailsTwice q first_old first_new second_old second_new before after f
-second_stops q first_old first_now second_old second_now a b before mid so m new_a first_new second_new after f takes reads fails =
-    second_at q first_old first_now second_old second_now a b before mid so m new_a first_new second_new after reads fails.tokens fails.followed fails.no_game takes fails.stops
+pub second_stops : (q : Profile) (first second sink : Device) (first_now second_now mid : Option (List ℕ)) (a b : Pass)
+    (so : BothSoFar q first.before first_now second.before second_now a b sink.before mid) (m : CodeMark) (new_a : Pass) (f : Fault)
+    → q.missing_result ≡ takes_the_marker → ReadsMark q first.before first.after so.marks m new_a → (f.reason ≡ ReadFault → FailsOnce second)
+    → WritesToFault q second.before second.after (so.marks ++ model_mark m ∷ []) m so.second_tokens f mid sink.after → FailsTwice q first second sink f
+second_stops q first second sink first_now second_now mid a b so m new_a f takes reads counts fails =
+    second_at q first second sink first_now second_now mid a b so m new_a reads fails.tokens fails.followed fails.no_game takes counts fails.stops

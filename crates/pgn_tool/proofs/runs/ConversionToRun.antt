@@ -4,7 +4,7 @@ use Rattle.std.proofs.lemmas.Bool.{false≢true}
 use Rattle.std.proofs.Math.Seq.{take-length}
 use Rattle.std.specs.Prelude.{Result, Ok, Err, is_ok, map, sum, codes, if◌then◌else◌}
 use Rattle.std.specs.Io.KnownBytes.{Appends, Consumes, Keeps}
-use Rattle.pgn_layout.specs.Device.{Counts, Writes, one_more}
+use Rattle.pgn_layout.specs.Device.{Counts, Device, IsStill, Writes, one_more}
 use Rattle.pgn_game.specs.declared.mode.Mode.TheVariants.{Full}
 use Rattle.pgn_game.specs.declared.reason.Reason.{Reason}
 use Rattle.pgn_game.specs.declared.reason.Reason.TheVariants.{ReadFault, WriteFault}
@@ -20,7 +20,7 @@ use Rattle.pgn_tool.specs.declared.list.Stopped.{Stopped}
 use Rattle.pgn_tool.specs.declared.list.Stopped.TheVariants as stopped
 use Rattle.pgn_tool.specs.Listing as lists
 use Rattle.pgn_tool.specs.Listing.{CountsReadFault, ListResult, ListStops, list_profile}
-use Rattle.pgn_tool.specs.Running.{Answers, Blames, Concludes, Device, Ends, EndsList, HasFailed, IsCalm, IsSmooth, IsStill, IsUntouched, Job, Runs, Tells, TellsVerdict, Works, checking, counting_of, exporting, line, listing, status_of}
+use Rattle.pgn_tool.specs.Running.{Answers, Blames, Concludes, Ends, EndsList, HasFailed, IsCalm, IsSmooth, IsUntouched, Job, Runs, Tells, TellsVerdict, Works, checking, counting_of, exporting, line, listing, status_of}
 
 -- ---- devices
 

@@ -2,6 +2,7 @@
 use Rattle.std.proofs.Common.{◌≡◌, ◌∙◌, ℕ, Bool, true≢false, false, List, [], Option, None, Some, Result, Ok, Err, refl, sym, ap, subst, map}
 use Rattle.std.specs.Prelude.{String, Vec, string_bytes}
 use Rattle.std.specs.Global.{Global}
+use Rattle.pgn_layout.specs.Device.{Device}
 use Rattle.pgn_game.specs.declared.mode.Mode.{Mode}
 use Rattle.pgn_tool.specs.declared.arguments.Task.{Task}
 use Rattle.pgn_tool.specs.declared.arguments.Task.TheVariants.{Export, Checked, Check, List as ListGames, Split}
@@ -11,7 +12,7 @@ use Rattle.pgn_tool.specs.Machine.{Holding, IsOpened, Machine, Opens, Reading, h
 use Rattle.pgn_tool.specs.Program.{Carries, EndsUnopened, IsIdle, IsMissing, Ran, RunsAgain, RunsOpened, RunsToOutput, RunsWords, StartsFrom, by_fault, by_task, file_source, makes_files, opened, source_of, unopened, unopened_again}
 use Rattle.pgn_tool.specs.Refusing.{AnswersFault}
 use Rattle.pgn_tool.specs.Requests.{AnswersBy, file_of, refusals, request_in, request_of}
-use Rattle.pgn_tool.specs.Running.{Device, IsUntouched, mode_for}
+use Rattle.pgn_tool.specs.Running.{IsUntouched, mode_for}
 use Rattle.pgn_tool.specs.RunningTwice.{checked_mode}
 use Rattle.pgn_tool.specs.Files.{FileStep}
 

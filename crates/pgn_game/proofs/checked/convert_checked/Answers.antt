@@ -1,8 +1,9 @@
 use Rattle.std.proofs.Common.{◌-◌, ◌++◌, ◌∷◌, [], max, refl, sym, ap, subst, ◌∙◌, arith}
 use Rattle.std.proofs.lemmas.Result.{err_from_is_err_and}
+use Rattle.pgn_layout.specs.Device.{device, one_more}
 use Rattle.pgn_game.specs.Checked.{checked_profile}
 use Rattle.pgn_game.specs.Pass.{Pass, model_mark}
-use Rattle.pgn_game.proofs.twice.FailuresOfSteps.{second_counts}
+use Rattle.pgn_game.proofs.twice.FailuresOfSteps.{read_fails, second_counts, source_fails}
 use Rattle.pgn_game.proofs.twice.MarksInTurn.{followed_mark}
 use Rattle.pgn_game.proofs.twice.ReadingsToConversion.{both_end, both_more, both_none, first_stops, second_stops}
 use Rattle.pgn_game.proofs.checked.convert_checked.Goals as goal
@@ -21,20 +22,26 @@ loop-mark-init g c =
 pub returns-in_err-mark-clause-converts : goal.returns-in_err-mark-clause-converts
 returns-in_err-mark-clause-converts g c =
     let q = checked_profile g.row.T (g.row.L - 1) c.args.mode in
-    let so = c.loop-mark.invariant.both in
+    let so = c.loop-mark.invariant in
+    let x = so.both in
+    let f = c.in_err-mark.field-0.0 in
     let e = err_from_is_err_and c.from_residual.result c.from_residual.ensures.1 in
     rw (e.1, e.2)
-    (first_stops q _ _ _ _ c.loop-mark.ahead c.loop-mark.behind _ _ so (g.Q.Source.left c.read_game.new.source) c.in_err-mark.field-0.0
-    (c.in_err-mark.ensures.reads q _ so.first_tokens so.marks refl so.first_given so.marked))
+    (first_stops q (device g.Q.Source.left g.Q.Source.failures c.args.first.now c.read_game.new.source)
+    (device g.R.Source.left g.R.Source.failures c.args.second.now c.loop-mark.second) (device g.W.Sink.taken g.W.Sink.failures c.args.writer.now c.loop-mark.writer) _
+    c.loop-mark.ahead c.loop-mark.behind x f (λ is. read_fails f.reason _ _ c.in_err-mark.ensures.counted is ∙ ap one_more so.first)
+    (c.in_err-mark.ensures.reads q _ x.first_tokens x.marks refl x.first_given x.marked))
 
 pub returns-in_default-clause-converts : goal.returns-in_default-clause-converts
 returns-in_default-clause-converts g c =
     let q = checked_profile g.row.T (g.row.L - 1) c.args.mode in
-    let so = c.loop-mark.invariant.both in
+    let x = c.loop-mark.invariant.both in
     let reads = rw c.in_default.is at c.in_ok-mark.ensures.reads in
     let tried = c.most_probes.ensures.value ∙ ap (λ (s : Pass). s.reading.most_probes) c.ahead.view_is in
-    both_end q _ _ _ _ c.loop-mark.ahead c.loop-mark.behind _ _ so (g.Q.Source.left c.read_game.new.source) c.read_game.new.self c.totals.result
-    (reads q _ so.first_tokens so.marks refl so.first_given so.marked) c.totals.ensures.games c.totals.ensures.plies
+    both_end q (device g.Q.Source.left g.Q.Source.failures c.args.first.now c.read_game.new.source)
+    (device g.R.Source.left g.R.Source.failures c.args.second.now c.loop-mark.second) (device g.W.Sink.taken g.W.Sink.failures c.args.writer.now c.loop-mark.writer) _
+    c.loop-mark.ahead c.loop-mark.behind x c.read_game.new.self c.totals.result
+    (reads q _ x.first_tokens x.marks refl x.first_given x.marked) c.totals.ensures.games c.totals.ensures.plies
     (c.totals.ensures.probes ∙ ap (λ n. max n c.loop-mark.behind.reading.most_probes) tried) (omega (arith, tried, c.most_probes.ensures.bound))
     (omega (arith, c.totals.ensures.probes, c.totals.ensures.bound))
 
@@ -63,14 +70,18 @@ loop-mark-preserved g c =
 pub returns-in_err-write_game-clause-converts : goal.returns-in_err-write_game-clause-converts
 returns-in_err-write_game-clause-converts g c =
     let q = checked_profile g.row.T (g.row.L - 1) c.args.mode in
-    let x = c.loop-mark.invariant.both in
+    let so = c.loop-mark.invariant in
+    let x = so.both in
     let mark = model_mark c.in-Some.mark in
+    let f = c.in_err-write_game.field-0.0 in
     let reads = rw c.in-Some.is at c.in_ok-mark.ensures.reads in
     let first = reads q _ x.first_tokens x.marks refl x.first_given x.marked in
     let e = err_from_is_err_and c.from_residual-in_err-write_game.result c.from_residual-in_err-write_game.ensures.1 in
     rw (e.1, e.2)
-    (second_stops q _ _ _ _ c.loop-mark.ahead c.loop-mark.behind _ _ x c.in-Some.mark c.read_game.new.self (g.Q.Source.left c.read_game.new.source) (g.R.Source.left c.write_game.new.source)
-    (g.W.Sink.taken c.write_game.new.out) c.in_err-write_game.field-0.0 refl first
+    (second_stops q (device g.Q.Source.left g.Q.Source.failures c.args.first.now c.read_game.new.source)
+    (device g.R.Source.left g.R.Source.failures c.args.second.now c.write_game.new.source) (device g.W.Sink.taken g.W.Sink.failures c.args.writer.now c.write_game.new.out) _ _ _
+    c.loop-mark.ahead c.loop-mark.behind x c.in-Some.mark c.read_game.new.self f refl first
+    (λ is. source_fails f.reason _ _ _ _ c.in_err-write_game.ensures.counted is ∙ ap one_more so.second)
     (c.in_err-write_game.ensures.writes q _ x.second_tokens (x.marks ++ mark ∷ []) refl x.second_given x.between (followed_mark q x.marks mark x.second_tokens x.followed)))
 
 pub returns-in_err-write_game-clause-counted : goal.returns-in_err-write_game-clause-counted
@@ -78,4 +89,6 @@ returns-in_err-write_game-clause-counted g c =
     let so = c.loop-mark.invariant in
     let e = err_from_is_err_and c.from_residual-in_err-write_game.result c.from_residual-in_err-write_game.ensures.1 in
     rw (e.1, e.2)
-    (second_counts c.in_err-write_game.field-0.0.reason _ _ _ _ _ _ _ _ (c.in_ok-mark.ensures.counted ∙ so.first) so.second so.sink c.in_err-write_game.ensures.counted)
+    (second_counts c.in_err-write_game.field-0.0.reason (device g.Q.Source.left g.Q.Source.failures c.args.first.now c.read_game.new.source)
+    (device g.R.Source.left g.R.Source.failures c.args.second.now c.write_game.new.source) (device g.W.Sink.taken g.W.Sink.failures c.args.writer.now c.write_game.new.out) _ _
+    (c.in_ok-mark.ensures.counted ∙ so.first) so.second so.sink c.in_err-write_game.ensures.counted)

@@ -1,5 +1,7 @@
-use Rattle.std.proofs.Common.{◌∙◌, ap, sym}
+use Rattle.std.proofs.Common.{◌∙◌, ap, refl, sym}
 use Rattle.std.specs.Prelude.{Err, Ok}
+use Rattle.pgn_layout.specs.Device.{device}
+use Rattle.pgn_tool.specs.RunningTwice.{profile_twice}
 use Rattle.pgn_tool.proofs.runs.ConversionToRun.{concludes_as, flush_failed, flush_still}
 use Rattle.pgn_tool.proofs.runs.ConversionTwiceToRun.{blames_twice_of, converts_twice_on}
 use Rattle.pgn_tool.proofs.checked.export_twice.Goals as goal
@@ -7,11 +9,13 @@ use Rattle.pgn_tool.proofs.checked.export_twice.Goals as goal
 pub returns-in-Ok : goal.returns-in-Ok
 returns-in-Ok g c =
     let counted = c.in-Ok.ensures.counted in
+    let first = device g.Q.Source.left g.Q.Source.failures c.args.first.now c.convert_checked-answer.new.first in
+    let second = device g.R.Source.left g.R.Source.failures c.args.second.now c.convert_checked-answer.new.second in
+    let converted = device g.O.Sink.taken g.O.Sink.failures c.args.out.now c.convert_checked-answer.new.writer in
+    let out = device g.O.Sink.taken g.O.Sink.failures c.args.out.now c.flush-flushed.new.self in
     record {
       answer = Ok c.in-Ok.field-0;
-      works =
-          converts_twice_on _ _ (g.Q.Source.left c.convert_checked-answer.new.first) _ (g.R.Source.left c.convert_checked-answer.new.second) _ _ _
-          (Ok c.in-Ok.field-0) c.in-Ok.ensures.converts c.flush-flushed.ensures.bytes;
+      works = converts_twice_on (profile_twice c.args.mode) first second converted out refl c.flush-flushed.ensures.bytes (Ok c.in-Ok.field-0) c.in-Ok.ensures.converts;
       ends = (
         concludes_as c.is_ok.result _ _ _ _ counted.0
             (λ well. flush_still c.flush-flushed.result _ _ _ counted.2 c.flush-flushed.ensures.failures (sym c.is_ok.ensures.value ∙ well))
@@ -24,12 +28,17 @@ returns-in-Ok g c =
     }
 
 pub returns-in-Err : goal.returns-in-Err
-returns-in-Err g c = record {
-  answer = Err c.in-Err.fault;
-  works = converts_twice_on _ _ _ _ _ _ _ _ (Err c.in-Err.fault) c.in-Err.ensures.converts c.flush-flushed.ensures.bytes;
-  ends = record {
-    ends = c.refuse.ensures.status;
-    told = c.refuse.ensures.told;
-    blames = blames_twice_of c.in-Err.fault.reason c.flush-flushed.result _ _ _ _ c.in-Err.ensures.counted c.flush-flushed.ensures.failures;
-  };
-}
+returns-in-Err g c =
+    let first = device g.Q.Source.left g.Q.Source.failures c.args.first.now c.convert_checked-answer.new.first in
+    let second = device g.R.Source.left g.R.Source.failures c.args.second.now c.convert_checked-answer.new.second in
+    let converted = device g.O.Sink.taken g.O.Sink.failures c.args.out.now c.convert_checked-answer.new.writer in
+    let out = device g.O.Sink.taken g.O.Sink.failures c.args.out.now c.flush-flushed.new.self in
+    record {
+      answer = Err c.in-Err.fault;
+      works = converts_twice_on (profile_twice c.args.mode) first second converted out refl c.flush-flushed.ensures.bytes (Err c.in-Err.fault) c.in-Err.ensures.converts;
+      ends = record {
+        ends = c.refuse.ensures.status;
+        told = c.refuse.ensures.told;
+        blames = blames_twice_of c.in-Err.fault.reason c.flush-flushed.result first second converted out refl c.in-Err.ensures.counted c.flush-flushed.ensures.failures;
+      };
+    }

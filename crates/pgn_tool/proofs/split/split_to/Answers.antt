@@ -1,8 +1,8 @@
 use Rattle.std.proofs.Common.{◌≡◌, ◌∙◌, ap, refl, subst, sym}
 use Rattle.std.specs.Prelude.{Result, Err}
+use Rattle.pgn_layout.specs.Device.{device}
 use Rattle.pgn_tool.specs.declared.split.Unsplit.{Unsplit}
 use Rattle.pgn_tool.specs.declared.split.Unsplit.TheVariants.{NoMemory, Refused}
-use Rattle.pgn_tool.specs.Running.{device}
 use Rattle.pgn_tool.specs.Splitting.{EndsSplit}
 use Rattle.pgn_tool.proofs.splitting.FilesAfterCall.{split_ends}
 use Rattle.pgn_tool.proofs.split.split_to.Goals as goal
