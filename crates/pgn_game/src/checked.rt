@@ -224,6 +224,7 @@ impl<const T: usize, const L: usize> Pass<T, L> {
     // Takes the next token, or reads the bytes that it needs.
     //
     // `told` is the mark that the game has to end with, if the other reading has told it.
+    #[inline(always)]
     fn step<R: Source, W: Sink>(
         &mut self,
         source: &mut R,
@@ -249,6 +250,7 @@ impl<const T: usize, const L: usize> Pass<T, L> {
     }
 
     // Takes the next token in the buffer, if there is one.
+    #[inline(always)]
     fn take_in_buffer<W: Sink>(&mut self, told: Option<Mark>, out: &mut W) -> Result<Taken, Fault>
         requires going { IsGoing self.old }
         requires told { IsTold told self.old.reading }
@@ -276,6 +278,7 @@ impl<const T: usize, const L: usize> Pass<T, L> {
     }
 
     // Takes the next of the tokens that are left where the source has ended.
+    #[inline(never)]
     fn take_at_end<W: Sink>(&mut self, told: Option<Mark>, out: &mut W) -> Result<Taken, Fault>
         requires going { IsGoing self.old }
         requires told { IsTold told self.old.reading }
@@ -300,6 +303,7 @@ impl<const T: usize, const L: usize> Pass<T, L> {
     }
 
     // Reads bytes into the buffer, whose bytes are used. The source has ended if it gives none.
+    #[inline(never)]
     fn fill<R: Source>(&mut self, source: &mut R) -> Result<(), Fault>
         requires going { IsGoing self.old }
         requires empty { (self.old.has_ended ≡ false) × (self.old.unused ≡ []) }
@@ -337,6 +341,7 @@ impl<const T: usize, const L: usize> Pass<T, L> {
 //
 // Another marker than the one that was told does not go to the reader. The end does, and is a
 // difference then.
+#[inline(always)]
 fn take_token<const T: usize, const L: usize, W: Sink>(
     kind: TokenKind<'_>,
     at: u64,
@@ -390,6 +395,7 @@ fn differs(at: u64) -> Fault
 }
 
 // Whether a marker at this place shows a difference from the mark that was told.
+#[inline(always)]
 fn marks_differ(told: Option<Mark>, marker: Option<Marker>, at: u64) -> bool
     ensures { result ≡ do_marks_differ told marker at }
 {

@@ -24,6 +24,7 @@ pub enum Marker {
 
 impl Marker {
     /// Returns the marker that a token is, if it is one.
+    #[inline(always)]
     pub fn of(kind: TokenKind<'_>) -> Option<Marker>
         ensures { option_map marker_text result ≡ marker_of (kind_of kind.entry) }
     {

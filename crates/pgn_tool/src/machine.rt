@@ -39,7 +39,7 @@ pub trait Input: Source {
     ghost use Rattle.std.specs.Prelude.{ℕ, Bool, List};
     ghost use Rattle.pgn_tool.specs.declared.machine.SystemFault.{SystemFault};
     ghost use Rattle.pgn_tool.specs.Machine.{Holding, Opens};
-    ghost use Rattle.pgn_tool.specs.Running.{device};
+    ghost use Rattle.pgn_layout.specs.Device.{device};
 
     // What there is under each name.
     ghost holding: { Self → List ℕ → Holding };
