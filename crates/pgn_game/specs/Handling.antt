@@ -1,7 +1,7 @@
 -- **Bookkeeping**: what putting a judged token does to the reader and to its sink.
 use Rattle.std.specs.Prelude.{◌≡◌, ℕ, ◌+◌, ◌≤◌, Bool, true, false, ◌||◌, not, IsTrue, List, [], length, drop, None, Result, Ok, Err, OnOk}
 use Rattle.std.specs.Io.KnownBytes.{Appends}
-use Rattle.pgn_layout.specs.Device.{AppendsFront, Counts, Writes}
+use Rattle.pgn_layout.specs.Device.{AppendsFront, Counts, Device, Writes}
 use Rattle.pgn_lexer.specs.Tokens.{Kind}
 use Rattle.pgn_game.specs.declared.mode.Mode.{Mode}
 use Rattle.pgn_game.specs.declared.stage.Stage.{Stage}
@@ -23,7 +23,7 @@ use Rattle.pgn_game.specs.FaultTable.{is_comment, is_end}
 use Rattle.pgn_game.specs.Progress.{Next}
 use Rattle.pgn_game.specs.Due.{text_next}
 use Rattle.pgn_game.specs.Movetext.{movetext_from}
-use Rattle.pgn_game.specs.Putting.{Device, TriesItem}
+use Rattle.pgn_game.specs.Putting.{TriesItem}
 use Rattle.pgn_game.specs.Reading.{Reading, Agrees, Leads, Stays, CountsWrites, plies_next, whole_plies}
 use Rattle.pgn_game.specs.Judging.{after, is_final, model_item}
 

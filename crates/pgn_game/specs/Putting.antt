@@ -2,7 +2,7 @@
 use Rattle.std.specs.Prelude.{◌≡◌, ℕ, ◌+◌, ◌≤◌, Bool, true, false, ◌&&◌, List, [], ◌∷◌, ◌++◌, ◌==◌, map, length, drop, Some, Option, IfSome, Result, MatchResult, OnOk, All}
 use Rattle.std.specs.Io.KnownBytes.{Appends}
 use Rattle.chess_rules.specs.declared.position.Parts.{Parts}
-use Rattle.pgn_layout.specs.Device.{AppendsFront, Counts, Writes}
+use Rattle.pgn_layout.specs.Device.{AppendsFront, Counts, Device, Writes}
 use Rattle.pgn_layout.specs.Lines.{IsToken}
 use Rattle.pgn_layout.specs.Layout.{Put, laid_from}
 use Rattle.pgn_game.specs.declared.judged.Item.{Item as CodeItem}
@@ -15,24 +15,6 @@ use Rattle.pgn_game.specs.Text.{is_move, number_before, tokens_at, full_text}
 use Rattle.pgn_game.specs.Movetext.{Movetext, StoredLevels, HoldsItems, IsBackIn, level_at}
 use Rattle.pgn_game.specs.MostTried.{CostsToWrite}
 use Rattle.pgn_game.specs.Judging.{model_item}
-
--- A sink before and after a call: the bytes that it has taken, if it says so, and its count of
--- failures.
-pub record Device : Type 0 where
-  pub before : Option (List ℕ)
-  pub after : Option (List ℕ)
-  pub failures : ℕ
-  pub failures_after : ℕ
-
--- the device that goes from one state of a sink to another
-abbrev pub device : {S : Type 0} → (S → Option (List ℕ)) → (S → ℕ) → S → S → Device
-device taken failures old new =
-    record {
-      before = taken old;
-      after = taken new;
-      failures = failures old;
-      failures_after = failures new;
-    }
 
 -- tokens are put in turn: what goes out, and the line that is held then
 pub record PutsTokens {A E : Type 0} (tokens : List (List ℕ)) (line new_line : List ℕ)

@@ -2,6 +2,7 @@
 ghost use Rattle.std.specs.Prelude.{◌≡◌, ◌+◌, ◌-◌, ◌≤◌, ◌<◌, ◌^◌, ◌&&◌, [], false, not};
 ghost use Rattle.std.specs.Prelude.{Some, IsTrue, ◌↔◌, bytes_eq, codes, max};
 ghost use Rattle.std.specs.Option.{option_copied};
+ghost use Rattle.pgn_layout.specs.Device.{device};
 ghost use Rattle.pgn_lexer.specs.declared.token.TokenKind.{TokenKind};
 ghost use Rattle.pgn_lexer.specs.Tokens.{HasLength, left_paren, right_paren, symbol};
 ghost use Rattle.pgn_lexer.specs.Scanned.{kind_of};
@@ -19,7 +20,6 @@ ghost use Rattle.pgn_game.specs.Movetext.{movetext_from};
 ghost use Rattle.pgn_game.specs.Reading.{Accepts, Stays, FinishesAtMarker, CountsWrites};
 ghost use Rattle.pgn_game.specs.Judging.{Finds, Fits, Judges, JudgesEntry, OnlyProbesRise, Seeks, may_have_movetext};
 ghost use Rattle.pgn_game.specs.Judging.{fen_position as position_in_fen};
-ghost use Rattle.pgn_game.specs.Putting.{device};
 ghost use Rattle.pgn_game.specs.Handling.{BeginsText, PutResult, TriesJudged, begins_game, ready_for_token};
 ghost use Rattle.pgn_game.specs.FaultTable.{is_result as is_any_result, is_reduced};
 ghost use Rattle.pgn_game.specs.FaultTable.{lacks_fen as set_up_lacks_fen, marker_of};

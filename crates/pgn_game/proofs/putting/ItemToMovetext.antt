@@ -12,7 +12,7 @@ use Rattle.chess_rules.specs.declared.position.Parts.{Parts}
 use Rattle.chess_rules.specs.Legal.{legal}
 use Rattle.chess_text.specs.San.{san, MarkPairs, disambiguation_pairs}
 use Rattle.pgn_layout.specs.declared.sink.WriteFault.{WriteFault}
-use Rattle.pgn_layout.specs.Device.{AppendsFront, Counts, Writes}
+use Rattle.pgn_layout.specs.Device.{AppendsFront, Counts, Device, Writes}
 use Rattle.pgn_layout.specs.Lines.{IsToken, lines_of, full_lines, last_line, text_of as text_of_lines}
 use Rattle.pgn_layout.specs.Layout.{Put, laid_from, text_put, line_put}
 use Rattle.pgn_game.specs.declared.judged.Item.{Item as CodeItem}
@@ -25,7 +25,7 @@ use Rattle.pgn_game.specs.Levels.{Level as ModelLevel, Levels as ModelLevels, le
 use Rattle.pgn_game.specs.Text.{Placed, is_move, tokens_at, tokens_from, tokens_out, full_text}
 use Rattle.pgn_game.specs.Movetext.{StoredLevels, Movetext, level_at, IsBackIn, before_last, stored_level, stored_levels, ends_in_move, HoldsItems}
 use Rattle.pgn_game.specs.Judging.{ItemFits, model_item}
-use Rattle.pgn_game.specs.Putting.{Device, PutsTokens, GoesOn, LeadsLevels, writes, tokens_if, after_move_if, plies_in, item_text, Adds}
+use Rattle.pgn_game.specs.Putting.{PutsTokens, GoesOn, LeadsLevels, writes, tokens_if, after_move_if, plies_in, item_text, Adds}
 use Rattle.pgn_game.proofs.putting.WritesInTurn.{front_of_more, Writes-append}
 use Rattle.pgn_game.proofs.putting.ItemsAppended.{written_from_start, written_behind, written_more, tokens_behind, tokens_more, full_lines_put, last_line_put}
 

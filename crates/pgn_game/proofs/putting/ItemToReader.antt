@@ -8,7 +8,7 @@ use Rattle.std.proofs.KnownBytes.{Appends-trans}
 use Rattle.std.specs.Io.KnownBytes.{Appends}
 use Rattle.chess_rules.specs.declared.position.Parts.{Parts}
 use Rattle.pgn_layout.specs.declared.sink.WriteFault.{WriteFault}
-use Rattle.pgn_layout.specs.Device.{AppendsFront, one_more}
+use Rattle.pgn_layout.specs.Device.{AppendsFront, Device, one_more}
 use Rattle.pgn_game.specs.declared.judged.Item.{Item as CodeItem}
 use Rattle.pgn_game.specs.declared.judged.Item.TheVariants as code
 use Rattle.pgn_game.specs.declared.judged.Judged.{Judged}
@@ -30,7 +30,7 @@ use Rattle.pgn_game.specs.Progress.{going}
 use Rattle.pgn_game.specs.Movetext.{HoldsItems}
 use Rattle.pgn_game.specs.Reading.{Reading, Agrees, HoldsPairs, HoldsText, has_move, plies_behind, whole_plies}
 use Rattle.pgn_game.specs.Judging.{IsOpen, IsProbed, after, may_have_movetext, model_item, with_items}
-use Rattle.pgn_game.specs.Putting.{Device, Adds}
+use Rattle.pgn_game.specs.Putting.{Adds}
 use Rattle.pgn_game.specs.Handling.{BeginsText, Goes, Keeps, PutResult, gain_to, section_due, section_due_of}
 use Rattle.pgn_game.proofs.putting.WritesInTurn.{front_after}
 use Rattle.pgn_game.proofs.putting.ItemToMovetext.{from_to}

@@ -6,7 +6,7 @@ use Rattle.std.proofs.KnownBytes.{Appends-trans}
 use Rattle.std.specs.Io.KnownBytes.{Appends}
 use Rattle.chess_rules.specs.declared.position.Move.{Move}
 use Rattle.pgn_layout.specs.declared.sink.WriteFault.{WriteFault}
-use Rattle.pgn_layout.specs.Device.{AppendsFront, one_more}
+use Rattle.pgn_layout.specs.Device.{AppendsFront, Device, one_more}
 use Rattle.pgn_layout.specs.Lines.{IsToken, lines_of, full_lines, last_line, text_of as text_of_lines}
 use Rattle.pgn_layout.specs.Layout.{Put, EndGame, text_at, line_at}
 use Rattle.pgn_game.specs.declared.accepted.Accepted.TheVariants.{Finished}
@@ -28,7 +28,6 @@ use Rattle.pgn_game.specs.Progress.{whole}
 use Rattle.pgn_game.specs.Movetext.{StoredLevel}
 use Rattle.pgn_game.specs.Reading.{Reading, IsBehind, plies_behind}
 use Rattle.pgn_game.specs.Judging.{EntryFits, IsOpen, after_entry, game_of, may_have_movetext, model_item}
-use Rattle.pgn_game.specs.Putting.{Device}
 use Rattle.pgn_game.specs.Handling.{BeginsText, PutResult, gain_to, section_due, section_due_of}
 use Rattle.pgn_game.proofs.putting.WritesInTurn.{front_of_more, front_after}
 use Rattle.pgn_game.proofs.putting.ItemToMovetext.{from_to}

@@ -2,7 +2,7 @@
 use Rattle.std.proofs.Common.{◌≡◌, ℕ, ◌+◌, ◌<◌, ◌≤◌, Bool, true, false, ◌||◌, not, List, length, drop, Option, None, Some, refl, sym, ap, subst, ◌∙◌, arith}
 use Rattle.std.specs.Prelude.{IsTrue, IsFalse, Result, Ok, Err}
 use Rattle.std.specs.Io.KnownBytes.{Appends}
-use Rattle.pgn_layout.specs.Device.{AppendsFront}
+use Rattle.pgn_layout.specs.Device.{AppendsFront, Device}
 use Rattle.pgn_lexer.specs.Tokens.{Kind}
 use Rattle.pgn_lexer.specs.Scanned.{kind_of}
 use Rattle.pgn_lexer.specs.declared.token.TokenKind.{TokenKind}
@@ -22,7 +22,6 @@ use Rattle.pgn_game.specs.MostTried.{Raises, Tries, TriesUnwritten}
 use Rattle.pgn_game.specs.Reading as reading
 use Rattle.pgn_game.specs.Reading.{Reading, Agrees, Answers, IsStopped, CountsStop, is_outside_the_table, Stays, FinishesAtMarker, Leads, HoldsText, plies_behind, plies_next, whole_plies}
 use Rattle.pgn_game.specs.Judging.{OnlyProbesRise, FinalIsMarker, may_have_movetext, judged, outcome_of}
-use Rattle.pgn_game.specs.Putting.{Device}
 use Rattle.pgn_game.specs.Handling.{GoesTo, FinishesFinal, begins_game, at_game_start, ready_for_token}
 use Rattle.pgn_game.proofs.judging.RefusalsByStage.{begins_alike}
 use Rattle.pgn_game.proofs.judging.PartsToJudgement.{held_at, text_at, part_stage}

@@ -4,6 +4,7 @@ use Rattle.std.specs.Prelude.{IsTrue, ◌==◌}
 use Rattle.std.proofs.Math.Nat.{le-max_right}
 use Rattle.std.proofs.Math.Seq.{drop-append_seam, drop-length}
 use Rattle.chess_rules.specs.declared.position.Parts.{Parts}
+use Rattle.pgn_layout.specs.Device.{Device}
 use Rattle.pgn_lexer.specs.Tokens as tokens
 use Rattle.pgn_lexer.specs.Tokens.{Kind, Token}
 use Rattle.pgn_lexer.specs.Scanned.{kind_of}
@@ -28,7 +29,7 @@ use Rattle.pgn_game.specs.MostTried.{CostsIf, CostsToFind, is_written, CostsToWr
 use Rattle.pgn_game.specs.MostTried as tried
 use Rattle.pgn_game.specs.Reading.{Reading, Agrees, has_move}
 use Rattle.pgn_game.specs.Judging.{OnlyProbesRise, Fits, IsOpen, Seeks, after, may_have_movetext, model_item, judged}
-use Rattle.pgn_game.specs.Putting.{Device, TriesItem, writes}
+use Rattle.pgn_game.specs.Putting.{TriesItem, writes}
 use Rattle.pgn_game.specs.Handling.{GoesTo, TriesJudged, UnwrittenPairs, begins_game, ready_for_token}
 use Rattle.pgn_game.specs.Handling as handling
 use Rattle.pgn_game.proofs.tokens.JudgedToAccepted.{Meets, PutRaises, meets_counted, ready_probes, said_ok}
