@@ -1,5 +1,6 @@
 mod AllOfJoined
 mod EqualReadings
+mod InterruptedReadings
 mod ReaderFitsInMemory
 mod ReasonToDevice
 mod exporting

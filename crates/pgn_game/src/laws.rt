@@ -12,7 +12,8 @@ use chess_text::laws::{
 };
 use pgn_layout::laws::lines_keep_tokens;
 use pgn_lexer::laws::{
-    numbers_are_symbols, tokens_are_sound, tokens_rise, written_tokens_are_read_back,
+    decided_is_prefix, numbers_are_symbols, tokens_are_sound, tokens_rise,
+    written_tokens_are_read_back,
 };
 
 /// Output only grows: that for some tokens is a prefix of that for these and more.
@@ -35,6 +36,18 @@ pub fn unique_reading()
 pub fn equal_readings()
     ensures { equal.EqualReadings }
 {
+    tokens_rise();
+}
+
+/// If a read or a write fails, or an input is too long, a prefix of the output is written.
+///
+/// The input is the same at both readings, and a missing Result takes the marker. If `first` stops,
+/// what is written is what one reading has written by then. If `second` stops, at least that is
+/// written.
+pub fn interrupted_readings()
+    ensures { equal.InterruptedReadings }
+{
+    decided_is_prefix();
     tokens_rise();
 }
 

@@ -1,17 +1,19 @@
 -- Worked rows of inputs that are read twice.
-use Rattle.std.proofs.Common.{◌≡◌, ℕ, List, [], ◌++◌, refl}
-use Rattle.std.specs.Prelude.{codes}
+use Rattle.std.proofs.Common.{◌≡◌, ℕ, List, [], ◌++◌, None, refl}
+use Rattle.std.specs.Prelude.{codes, replicate, take}
 use Rattle.std.specs.Fmt.{digits}
 use Rattle.chess_rules.specs.Square.{squares}
 use Rattle.chess_text.specs.MoveOfForm.{agreeing}
+use Rattle.pgn_lexer.specs.TokensOf.{tokens_of}
+use Rattle.pgn_lexer.specs.Decided.{decided}
 use Rattle.pgn_game.specs.declared.mode.Mode.TheVariants.{Full, Reduced}
 use Rattle.pgn_game.specs.declared.reason.Reason.TheVariants.{ResultDiffers, IllegalMove, UnexpectedEnd, Changed}
 use Rattle.pgn_game.specs.Profile.{Profile}
 use Rattle.pgn_game.specs.Chess.{move_of, play, text_of_move, position_of, first_position}
 use Rattle.pgn_game.specs.FaultTable.{refusal}
 use Rattle.pgn_game.specs.TagSection.{roster}
-use Rattle.pgn_game.specs.Progress.{Verdict, totals}
-use Rattle.pgn_game.specs.Checked.{checked_profile, checked_verdict, checked_output}
+use Rattle.pgn_game.specs.Progress.{Verdict, totals, due, output}
+use Rattle.pgn_game.specs.Checked.{checked_profile, followed, written_by, checked_verdict, checked_output}
 use Rattle.pgn_vectors.proofs.WorkedRows.{counted, fault, head, unknown}
 
 abbrev twice : Profile
@@ -93,3 +95,57 @@ second_differs_before = (refl, refl)
 reduced_twice : Gives_of twice_reduced (codes "[White \"A\"] [ECO \"A00\"] 1-0") (codes "[ECO \"A01\"] 1-0") (fault 12 Changed) []
 unfolding refusal roster
 reduced_twice = (refl, refl)
+
+-- Two readings of one text, u ++ x. `first` gives the bytes u alone: all marks are read, and this
+-- text is written, as one reading has written it by then.
+abbrev FirstStops : List ℕ → List ℕ → List ℕ → Type 0
+FirstStops u x text =
+    let f = followed twice (decided u) (tokens_of (u ++ x)) in
+    (f.fault ≡ None) × (f.ahead ≡ []) × (written_by twice f ≡ text) × (due twice (decided u) ≡ text)
+
+-- `second` gives u alone: one reading has written `before` by then, and two write `torn` of the
+-- current game behind it. The whole output goes on with `after`.
+abbrev SecondStops : List ℕ → List ℕ → List ℕ → List ℕ → List ℕ → Type 0
+SecondStops u x before torn after =
+    let f = followed twice (tokens_of (u ++ x)) (decided u) in
+    (f.fault ≡ None) × (due twice (decided u) ≡ before) × (written_by twice f ≡ before ++ torn) × (output twice (u ++ x) ≡ before ++ torn ++ after)
+
+first_stops_in_a_marker : FirstStops (codes "1-0 0-") (codes "1 *") (head_of (codes "1-0") ++ codes "1-0\n\n")
+unfolding refusal roster
+first_stops_in_a_marker = (refl, refl, refl, refl)
+
+first_stops_in_a_game : FirstStops (codes "* e4 e") (codes "5 *") (head ++ codes "*\n\n")
+unfolding refusal roster move_of play text_of_move position_of first_position squares agreeing digits
+first_stops_in_a_game = (refl, refl, refl, refl)
+
+-- `first` is rejected at a token that `second` does not read
+first_stops_behind_a_fault : FirstStops (codes "* ] ") (codes "*") (head ++ codes "*\n\n")
+unfolding refusal roster
+first_stops_behind_a_fault = (refl, refl, refl, refl)
+
+second_stops_between_games : SecondStops (codes "1-0 ") (codes "0-1") (head_of (codes "1-0") ++ codes "1-0\n\n") [] (head_of (codes "0-1") ++ codes "0-1\n\n")
+unfolding refusal roster
+second_stops_between_games = (refl, refl, refl, refl)
+
+-- the current game is torn with the marker that `first` has for it
+second_stops_in_a_game : SecondStops (codes "* e4 e") (codes "5 1-0") (head ++ codes "*\n\n") (head_of (codes "1-0")) (codes "1. e4 e5 1-0\n\n")
+unfolding refusal roster move_of play text_of_move position_of first_position squares agreeing digits
+second_stops_in_a_game = (refl, refl, refl, refl)
+
+-- with a full line of movetext
+abbrev long : List ℕ
+long = replicate 79 97
+
+second_stops_behind_a_line : SecondStops (codes "1 {" ++ long ++ codes " b ") (codes "c} 0-1") [] (head_of (codes "0-1") ++ codes "{\n" ++ long ++ codes "\n") (codes "b c } 0-1\n\n")
+unfolding refusal roster
+second_stops_behind_a_line = (refl, refl, refl, refl)
+
+-- `first` is rejected in the game in which `second` stops, which is not written then
+second_stops_in_a_game_at_fault : SecondStops (codes "* e4 e") (codes "5 ]") (head ++ codes "*\n\n") [] []
+unfolding refusal roster move_of play text_of_move position_of first_position squares agreeing digits
+second_stops_in_a_game_at_fault = (refl, refl, refl, refl)
+
+-- at its first move, the tag section of a game is written
+written_at_a_move : written_by twice (followed twice (tokens_of (codes "e4 1-0")) (take 1 (tokens_of (codes "e4 1-0")))) ≡ head_of (codes "1-0")
+unfolding refusal roster move_of play text_of_move position_of first_position squares agreeing digits
+written_at_a_move = refl

@@ -160,13 +160,13 @@ stops_from p b (t ∷ ts) us f e = by_test (refusal p b.part t.kind) refl (stops
         let here : read_from p b (t ∷ ts) ≡ read_from p (progress_after b t) ts = goes_on p b t ts is in
         goes_on p b t (ts ++ us) is ∙ further (ap (λ (r : Read). r.fault) (sym here) ∙ e) ∙ sym here
 
-also : (xs ys zs : List ℕ) → IsPrefix xs ys → IsPrefix ys zs → IsPrefix xs zs
+pub also : (xs ys zs : List ℕ) → IsPrefix xs ys → IsPrefix ys zs → IsPrefix xs zs
 also xs ys zs h k = (h.0 ++ k.0, k.1 ∙ ap (λ l. l ++ k.0) h.1 ∙ append_assoc xs h.0 k.0)
 
 same_text : (xs : List ℕ) → IsPrefix xs xs
 same_text xs = ([], sym (append-nil xs))
 
-grows_from : (p : Profile) (b : Progress) (us : List Token) → IsPrefix (written p b) (written p (read_from p b us).progress)
+pub grows_from : (p : Profile) (b : Progress) (us : List Token) → IsPrefix (written p b) (written p (read_from p b us).progress)
 grows_from p b [] = same_text (written p b)
 grows_from p b (t ∷ ts) = by_test (refusal p b.part t.kind) refl (grows_from p (progress_after b t) ts)
   where

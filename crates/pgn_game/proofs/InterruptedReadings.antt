@@ -1,0 +1,197 @@
+-- Two readings of one text, of which one stops early or a write fails: what is written is a prefix.
+use Rattle.std.proofs.Common.{◌≡◌, ℕ, List, [], ◌∷◌, ◌++◌, take, drop, ◌⊎◌, inl, inr, Option, None, Some, refl, sym, ap, subst, ◌∙◌, append_assoc, append-nil}
+use Rattle.std.proofs.lemmas.List.{take-append-drop}
+use Rattle.pgn_lexer.specs.Tokens.{Token}
+use Rattle.pgn_lexer.specs.TokensOf.{tokens_of}
+use Rattle.pgn_lexer.specs.Decided.{decided}
+use Rattle.pgn_lexer.specs.Laws.{DecidedIsPrefix, TokensRise}
+use Rattle.pgn_game.specs.declared.reason.Reason.{Reason}
+use Rattle.pgn_game.specs.Profile.{Profile, Missing, takes_the_marker}
+use Rattle.pgn_game.specs.Game.{Game}
+use Rattle.pgn_game.specs.FaultTable.{refusal}
+use Rattle.pgn_game.specs.Text.{game_text, text_of, torn, torn_for}
+use Rattle.pgn_game.specs.Progress.{Next, going, whole, next, Progress, no_progress, progress_with, progress_after, Read, read, read_from, written, due}
+use Rattle.pgn_game.specs.Due.{text_next}
+use Rattle.pgn_game.specs.Laws.{IsPrefix}
+use Rattle.pgn_game.specs.Checked.{Mark, mark_at, marks_from, Followed, follow, followed, with_mark, written_by}
+use Rattle.pgn_game.specs.EqualReadings.{AreWritten, AreWrittenWithin, InterruptedReadings}
+use Rattle.pgn_game.proofs.tokens.OneMoreToken.{after_test, read_from-test, goes_on, also, grows_from, due_grows, text_of-snoc}
+use Rattle.pgn_game.proofs.tokens.NextGrows.{next_grows}
+use Rattle.pgn_game.proofs.EqualReadings.{Ends, ends, rest_ends, after_marks, marks_test, SeesGames, same_token, rejected_token, follows_same, written_same}
+use Rattle.pgn_game.proofs.twice.MarkerCounts.{same_game_text}
+
+-- a prefix of what comes behind a text, with that text
+behind : (xs ys zs : List ℕ) → IsPrefix ys zs → IsPrefix (xs ++ ys) (xs ++ zs)
+behind xs ys zs h = (h.0, ap (λ (l : List ℕ). xs ++ l) h.1 ∙ sym (append_assoc xs ys h.0))
+
+front_of : (n : ℕ) (xs ys : List ℕ) → IsPrefix xs ys → IsPrefix (take n xs) ys
+front_of n xs ys h = also (take n xs) xs ys (drop n xs, sym (take-append-drop n xs)) h
+
+front_ends : (us more : List Token) → Ends (us ++ more) → Ends us
+front_ends [] more last = tt
+front_ends (t ∷ []) more last = tt
+front_ends (t ∷ u ∷ us) more last = (last.0, front_ends (u ∷ us) more last.1)
+
+-- of two prefixes of one list, one begins with the other
+longer : (xs ys vs ws : List Token) → xs ++ vs ≡ ys ++ ws → ((more : List Token) × (ys ≡ xs ++ more)) ⊎ ((more : List Token) × (xs ≡ ys ++ more))
+longer [] ys vs ws same = inl (ys, refl)
+longer (x ∷ xs) [] vs ws same = inr (x ∷ xs, refl)
+longer (x ∷ xs) (y ∷ ys) vs ws same =
+    elim (longer xs ys vs ws cc) [
+      | inl h ↦ inl (h.0, cc (h.1, same))
+      | inr h ↦ inr (h.0, cc (h.1, same))
+    ]
+
+module _ (p : Profile) (takes : p.missing_result ≡ takes_the_marker) where
+  -- where a missing Result takes the marker, only whole games are written in one reading
+  whole_games : (b : Progress) → written p b ≡ text_of p b.games
+  whole_games b = ap (λ (m : Missing). text_of p b.games ++ torn_for m p.mode b.part) takes ∙ append-nil (text_of p b.games)
+
+  games_grow : (b : Progress) (ts : List Token) → IsPrefix (text_of p b.games) (written p (read_from p b ts).progress)
+  games_grow b ts = subst (λ (l : List ℕ). IsPrefix l (written p (read_from p b ts).progress)) (whole_games b) (grows_from p b ts)
+
+  -- The text of the current game under the mark ahead is a prefix of the text of that game.
+  abbrev Ahead : Progress → Mark → Read → Type 0
+  Ahead b m r = IsPrefix (text_of p b.games ++ torn (with_mark p m) b.part) (written p r.progress)
+
+  torn_at_mark : (b : Progress) (t : Token) (ts : List Token) (m : Mark) (ms : List Mark) (n : Next) → next b.part t.kind ≡ n
+      → mark_at t.at n ++ marks_from p (progress_with b.games n) ts ≡ m ∷ ms
+      → (marks_from p (progress_with b.games n) ts ≡ m ∷ ms → Ahead (progress_with b.games n) m (read_from p (progress_with b.games n) ts))
+      → Ahead b m (read_from p (progress_with b.games n) ts)
+  torn_at_mark b t ts m ms (going part) leads is further =
+      also _ _ _ (behind (text_of p b.games) _ _ (subst (λ (n : Next). IsPrefix (torn (with_mark p m) b.part) (text_next (with_mark p m) n)) leads (next_grows (with_mark p m) b.part t.kind)))
+      (further is)
+  torn_at_mark b t ts m ms (whole g) leads is further =
+      let c : Progress = progress_with b.games (whole g) in
+      let same : m ≡ record { text = g.marker; at = t.at } = cc in
+      let grown : IsPrefix (torn (with_mark p m) b.part) (game_text (with_mark p m) g) =
+      subst (λ (n : Next). IsPrefix (torn (with_mark p m) b.part) (text_next (with_mark p m) n)) leads (next_grows (with_mark p m) b.part t.kind) in
+      let text : game_text (with_mark p m) g ≡ game_text p g = ap (λ (x : Mark). game_text (with_mark p x) g) same ∙ same_game_text p g takes in
+      also _ _ _ (behind (text_of p b.games) _ _ (subst (IsPrefix (torn (with_mark p m) b.part)) text grown))
+      (subst (λ (l : List ℕ). IsPrefix l (written p (read_from p c ts).progress)) (text_of-snoc p b.games g) (games_grow c ts))
+
+  torn_ahead : (b : Progress) (ts : List Token) (m : Mark) (ms : List Mark) → marks_from p b ts ≡ m ∷ ms → Ahead b m (read_from p b ts)
+  torn_ahead b [] m ms is = absurd (cc)
+  torn_ahead b (t ∷ ts) m ms is = by_refusal (refusal p b.part t.kind) refl (torn_ahead (progress_after b t) ts m ms)
+    where
+      by_refusal : (o : Option Reason) → refusal p b.part t.kind ≡ o
+          → (marks_from p (progress_after b t) ts ≡ m ∷ ms → Ahead (progress_after b t) m (read_from p (progress_after b t) ts)) → Ahead b m (read_from p b (t ∷ ts))
+      by_refusal (Some reason) rejects further =
+          let none : marks_from p b (t ∷ ts) ≡ [] = marks_test p b t ts ∙ ap (after_marks p b t ts) rejects in
+          absurd (cc)
+      by_refusal None free further =
+          subst (Ahead b m) (sym (goes_on p b t ts free))
+          (torn_at_mark b t ts m ms (next b.part t.kind) refl (sym (marks_test p b t ts ∙ ap (after_marks p b t ts) free) ∙ is) further)
+
+  -- What is written of one text where `second` stops behind a front of its tokens: `low` is what one
+  -- reading has written by then, and `high` what it writes in all.
+  record Within (low high : Progress) (f : Followed) : Type 0 where
+    fault : f.fault ≡ None
+    least : IsPrefix (text_of p low.games) (written_by p f)
+    most : IsPrefix (written_by p f) (written p high)
+
+  sees_within : (low high : Progress) → SeesGames (Within low high)
+  sees_within low high b c alike so =
+      let text : text_of p c.games ++ [] ≡ text_of p b.games ++ [] = ap (λ (games : List Game). text_of p games ++ []) alike in
+      record {
+        fault = refl;
+        least = subst (IsPrefix (text_of p low.games)) text so.least;
+        most = subst (λ (l : List ℕ). IsPrefix l (written p high)) text so.most;
+      }
+
+  none_written : (b high : Progress) → IsPrefix (text_of p b.games) (written p high) → Within b high (record { progress = b; ahead = []; fault = None })
+  none_written b high grown =
+      record { fault = refl; least = ([], refl); most = subst (λ (l : List ℕ). IsPrefix l (written p high)) (sym (append-nil (text_of p b.games))) grown }
+
+  waits : (b : Progress) (more : List Token) (ms : List Mark) → marks_from p b more ≡ ms → Within b (read_from p b more).progress (record { progress = b; ahead = ms; fault = None })
+  waits b more [] is = none_written b (read_from p b more).progress (games_grow b more)
+  waits b more (m ∷ ms) is = record { fault = refl; least = (_, refl); most = torn_ahead b more m ms is }
+
+  abbrev ForToken : Progress → Token → List Token → List Token → Read → Read → Type 0
+  ForToken b t us more low high = Within low.progress high.progress (follow p (marks_from p b (t ∷ us ++ more)) b (t ∷ us))
+
+  -- The first reading has the tokens of the second, and more.
+  follows_within : (b : Progress) (us more : List Token) → Ends (us ++ more)
+      → Within (read_from p b us).progress (read_from p b (us ++ more)).progress (follow p (marks_from p b (us ++ more)) b us)
+  follows_within b [] more last = waits b more (marks_from p b more) refl
+  follows_within b (t ∷ us) more last = by_refusal (refusal p b.part t.kind) refl (follows_within (progress_after b t) us more (rest_ends t (us ++ more) last))
+    where
+      by_refusal : (o : Option Reason) → refusal p b.part t.kind ≡ o
+          → Within (read_from p (progress_after b t) us).progress (read_from p (progress_after b t) (us ++ more)).progress
+          (follow p (marks_from p (progress_after b t) (us ++ more)) (progress_after b t) us)
+          → ForToken b t us more (read_from p b (t ∷ us)) (read_from p b (t ∷ us ++ more))
+      by_refusal (Some reason) is so =
+          let stops : (vs : List Token) → read_from p b (t ∷ vs) ≡ after_test p b t vs (Some reason) = λ vs. read_from-test p b t vs ∙ ap (after_test p b t vs) is in
+          subst (λ (r : Read). ForToken b t us more r (read_from p b (t ∷ us ++ more))) (sym (stops us))
+          (subst (ForToken b t us more (after_test p b t us (Some reason))) (sym (stops (us ++ more)))
+          (subst (Within b b) (sym (rejected_token p b t (us ++ more) us reason is)) (none_written b b (games_grow b []))))
+      by_refusal None is so =
+          subst (λ (r : Read). ForToken b t us more r (read_from p b (t ∷ us ++ more))) (sym (goes_on p b t us is))
+          (subst (ForToken b t us more (read_from p (progress_after b t) us)) (sym (goes_on p b t (us ++ more) is))
+          (same_token (Within (read_from p (progress_after b t) us).progress (read_from p (progress_after b t) (us ++ more)).progress) (sees_within _ _) p b t (us ++ more) us last is so))
+
+  -- `first` stops behind the tokens us
+  pub first_stops : (us more : List Token) → Ends (us ++ more) → AreWritten p (followed p us (us ++ more)) (due p us)
+  first_stops us more last =
+      let so = follows_same p no_progress us more (front_ends us more last) in
+      record { fault = so.fault; ahead = so.ahead; written = written_same p (followed p us (us ++ more)) (read p us).progress takes so }
+
+  -- `second` stops there
+  pub second_stops : (us more : List Token) → Ends (us ++ more) → AreWrittenWithin p (followed p (us ++ more) us) (due p us) (due p (us ++ more))
+  second_stops us more last =
+      let so = follows_within no_progress us more last in
+      record {
+        fault = so.fault;
+        least = subst (λ (l : List ℕ). IsPrefix l (written_by p (followed p (us ++ more) us))) (sym (whole_games (read p us).progress)) so.least;
+        most = so.most;
+      }
+
+  -- The same where `first` has given the tokens ts, of which a mark is ahead.
+  pub before_mark : (us more ts rest : List Token) (m : Mark) (ms : List Mark) → Ends (us ++ more) → us ++ more ≡ ts ++ rest → (followed p ts us).ahead ≡ m ∷ ms
+      → AreWrittenWithin p (followed p ts us) (due p us) (due p (us ++ more))
+  before_mark us more ts rest m ms last same ahead = by_length (longer ts us rest more (sym same))
+    where
+      by_length : ((z : List Token) × (us ≡ ts ++ z)) ⊎ ((z : List Token) × (ts ≡ us ++ z)) → AreWrittenWithin p (followed p ts us) (due p us) (due p (us ++ more))
+      by_length (inl h) =
+          let none : (followed p ts us).ahead ≡ [] =
+          ap (λ (l : List Token). (followed p ts l).ahead) h.1 ∙ (first_stops ts h.0 (subst Ends h.1 (front_ends us more last))).ahead in
+          absurd (cc (none, ahead))
+      by_length (inr h) =
+          let so = second_stops us h.0 (subst Ends h.1 (front_ends ts rest (subst Ends same last))) in
+          let within = subst (λ (l : List Token). AreWrittenWithin p (followed p l us) (due p us) (due p l)) (sym h.1) so in
+          record {
+            fault = within.fault;
+            least = within.least;
+            most = also _ _ _ within.most (subst (λ (l : List Token). IsPrefix (due p ts) (due p l)) (sym same) (due_grows p ts rest));
+          }
+
+  -- Whatever both have given of one text, a prefix of its output is written.
+  pub written_in_front : (ts rest us more : List Token) → Ends (ts ++ rest) → ts ++ rest ≡ us ++ more → IsPrefix (written_by p (followed p ts us)) (due p (ts ++ rest))
+  written_in_front ts rest us more last same = by_length (longer ts us rest more same)
+    where
+      by_length : ((z : List Token) × (us ≡ ts ++ z)) ⊎ ((z : List Token) × (ts ≡ us ++ z)) → IsPrefix (written_by p (followed p ts us)) (due p (ts ++ rest))
+      by_length (inl h) =
+          let so = first_stops ts h.0 (subst Ends h.1 (front_ends us more (subst Ends same last))) in
+          let is : written_by p (followed p ts us) ≡ due p ts = ap (λ (l : List Token). written_by p (followed p ts l)) h.1 ∙ so.written in
+          subst (λ (l : List ℕ). IsPrefix l (due p (ts ++ rest))) (sym is) (due_grows p ts rest)
+      by_length (inr h) =
+          let so = second_stops us h.0 (subst Ends h.1 (front_ends ts rest last)) in
+          also _ _ _ (subst (λ (l : List Token). IsPrefix (written_by p (followed p l us)) (due p l)) (sym h.1) so.most) (due_grows p ts rest)
+
+pub interrupted_readings : DecidedIsPrefix → TokensRise → InterruptedReadings
+interrupted_readings decides rise =
+    record {
+      first_stops = λ p u x takes.
+          let h = decides u x in
+          subst (λ (ts : List Token). AreWritten p (followed p (decided u) ts) (due p (decided u))) (sym h.1)
+          (first_stops p takes (decided u) h.0 (subst Ends h.1 (ends (tokens_of (u ++ x)) (rise (u ++ x)))));
+      second_stops = λ p u x ts rest m ms takes cut ahead.
+          let h = decides u x in
+          subst (λ (all : List Token). AreWrittenWithin p (followed p ts (decided u)) (due p (decided u)) (due p all)) (sym h.1)
+          (before_mark p takes (decided u) h.0 ts rest m ms (subst Ends h.1 (ends (tokens_of (u ++ x)) (rise (u ++ x)))) (sym h.1 ∙ cut) ahead);
+      write_fails = λ p s ts rest front after token count takes cut at.
+          let us = front ++ token ∷ [] in
+          let here : ts ++ rest ≡ us ++ after = sym cut ∙ at ∙ sym (append_assoc front (token ∷ []) after) in
+          let so = written_in_front p takes ts rest us after (subst Ends cut (ends (tokens_of s) (rise s))) here in
+          front_of count _ _ (subst (λ (all : List Token). IsPrefix (written_by p (followed p ts us)) (due p all)) (sym cut) so);
+    }
