@@ -1,6 +1,6 @@
 -- **Definition**: what a run does that reads its file twice, and the status that it ends with.
 -- Letters: s is the text of the first source, r that of the second.
-use Rattle.std.specs.Prelude.{◌≡◌, ℕ, ◌⊎◌, Bool, true, false, List, Result, Ok, Err}
+use Rattle.std.specs.Prelude.{◌≡◌, ℕ, ◌⊎◌, Bool, true, false, List, Some, Result, Ok, Err}
 use Rattle.std.specs.Io.KnownBytes.{Appends}
 use Rattle.pgn_layout.specs.Device.{Device, IsStill}
 use Rattle.pgn_game.specs.declared.mode.Mode.{Mode}
@@ -16,7 +16,7 @@ use Rattle.pgn_game.specs.Checked.{checked_output, checked_profile, checked_verd
 use Rattle.pgn_game.specs.ConvertingTwice.{ConvertsTwice}
 use Rattle.pgn_tool.specs.declared.arguments.Task.{Task}
 use Rattle.pgn_tool.specs.declared.arguments.Task.TheVariants.{Checked}
-use Rattle.pgn_tool.specs.Running.{Concludes, HasFailed, Tells, TellsVerdict, line, mode_for, status_of}
+use Rattle.pgn_tool.specs.Running.{Concludes, HasFailed, HasFront, Tells, TellsVerdict, line, mode_for, status_of}
 
 -- ---- what is asked for
 
@@ -72,3 +72,11 @@ pub record RunsTwice (mode : Mode) (first second out err : Device) (status : ℕ
   pub answer : Result Totals Fault
   pub works : ConvertsTwice (profile_twice mode) first second out answer
   pub ends : EndsTwice answer first second out err status
+
+-- the source gives the text s, up to a failure
+abbrev pub Gives : List ℕ → Device → Type 0
+Gives s source = source.before ≡ Some s
+
+-- Where both sources give the text s: a prefix of the output of one reading is written.
+abbrev pub WritesFront : Mode → List ℕ → Device → Type 0
+WritesFront mode s out = HasFront out (output (profile_twice mode) s)

@@ -2,12 +2,14 @@
 ghost use Rattle.std.specs.Prelude.{◌≡◌, ◌≤◌, ℕ, List, true};
 ghost use Rattle.pgn_layout.specs.Device.{device};
 ghost use Rattle.pgn_tool.specs.Running.{IsSmooth, mode_for};
-ghost use Rattle.pgn_tool.specs.RunningTwice.{AnswersSame, AnswersTwice, RunsTwice, checked_mode, is_checked};
+ghost use Rattle.pgn_tool.specs.RunningTwice.{AnswersSame, AnswersTwice, Gives, RunsTwice, WritesFront};
+ghost use Rattle.pgn_tool.specs.RunningTwice.{checked_mode, is_checked};
 
 use crate::arguments::Task;
 use crate::stream::{LEVELS, TAGS, conclude, export_mode, refuse};
-use pgn_game::laws::equal_readings;
+use pgn_game::laws::{due_grows, equal_readings, interrupted_readings};
 use pgn_game::{Mode, Sink, Source, convert_checked};
+use pgn_lexer::laws::decided_is_prefix;
 
 /// Carries out `export --checked` on what two sources give, and returns the exit status.
 ///
@@ -49,6 +51,12 @@ pub fn run_checked<Q: Source, R: Source, O: Sink, E: Sink>(
         → AnswersSame (checked_mode task.now) s (device O.taken O.failures out.old out.new)
         (device E.taken E.failures err.old err.new) result }
 
+    // If both give the same text, a prefix of its output is written, whichever device fails.
+    ensures front { (s : List ℕ)
+        → Gives s (device Q.left Q.failures first.old first.new)
+        → Gives s (device R.left R.failures second.old second.new)
+        → WritesFront (checked_mode task.now) s (device O.taken O.failures out.old out.new) }
+
     // If a device fails, the status is 1.
     ensures status { result ≤ 1 }
     ensures first_kept { result ≡ 0 → Q.failures first.new ≡ Q.failures first.old }
@@ -62,7 +70,10 @@ pub fn run_checked<Q: Source, R: Source, O: Sink, E: Sink>(
         (device O.taken O.failures out.old out.new)
         (device E.taken E.failures err.old err.new) result }
 {
+    decided_is_prefix();
+    due_grows();
     equal_readings();
+    interrupted_readings();
     let Task::Checked { reduced, .. } = task else {
         unreachable!()
     };

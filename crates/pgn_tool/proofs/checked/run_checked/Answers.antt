@@ -1,5 +1,6 @@
 use Rattle.std.proofs.Common.{◌∙◌, ap, sym}
 use Rattle.pgn_tool.specs.RunningTwice.{checked_mode}
+use Rattle.pgn_tool.proofs.runs.ConversionTwiceToFront.{twice_front}
 use Rattle.pgn_tool.proofs.runs.ConversionTwiceToRun.{same_answers, twice_answers, twice_as, twice_status, twice_still}
 use Rattle.pgn_tool.proofs.checked.run_checked.Goals as goal
 
@@ -13,6 +14,10 @@ returns-clause-answers g c = λ s r one other. twice_answers _ s r _ _ _ _ _ one
 pub returns-clause-same : goal.returns-clause-same
 returns-clause-same g c =
     λ s one other. same_answers _ s _ _ _ c.equal_readings.ensures (twice_answers _ s s _ _ _ _ _ one other (returns-clause-runs g c))
+
+pub returns-clause-front : goal.returns-clause-front
+returns-clause-front g c =
+    λ s one other. twice_front c.decided_is_prefix.ensures c.due_grows.ensures c.equal_readings.ensures c.interrupted_readings.ensures _ s _ _ _ _ _ one other (returns-clause-runs g c)
 
 pub returns-clause-status : goal.returns-clause-status
 returns-clause-status g c = twice_status c.export_mode.result _ _ _ _ _ c.export_twice.ensures

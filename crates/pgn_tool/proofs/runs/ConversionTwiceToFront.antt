@@ -1,0 +1,102 @@
+-- A run that reads the same text twice has written a prefix of its output, whichever device fails.
+use Rattle.std.proofs.Common.{◌≡◌, ◌∙◌, ℕ, List, ◌++◌, length, take, Option, Some, IfSome, None, [], ap, append_assoc, append-nil, refl, subst, sym}
+use Rattle.std.proofs.Math.Seq.{take-append_seam}
+use Rattle.std.specs.Prelude.{Result, Ok, Err}
+use Rattle.std.specs.Io.KnownBytes.{Appends, Consumes}
+use Rattle.pgn_layout.specs.Device.{Device}
+use Rattle.pgn_lexer.specs.Tokens.{Token}
+use Rattle.pgn_lexer.specs.TokensOf.{tokens_of}
+use Rattle.pgn_lexer.specs.Decided.{decided}
+use Rattle.pgn_lexer.specs.Laws.{DecidedIsPrefix}
+use Rattle.pgn_game.specs.declared.mode.Mode.{Mode}
+use Rattle.pgn_game.specs.declared.reason.Fault.{Fault}
+use Rattle.pgn_game.specs.declared.conversion.Totals.{Totals}
+use Rattle.pgn_game.specs.Profile.{Profile, takes_the_marker}
+use Rattle.pgn_game.specs.Progress.{Verdict, due, output, refused as is_refused}
+use Rattle.pgn_game.specs.Laws.{DueGrows, IsPrefix}
+use Rattle.pgn_game.specs.Checked.{checked_output, followed, written_by}
+use Rattle.pgn_game.specs.ConvertingTwice.{AreConverted, AreTotalled, BeginsWith, ConvertsTwice, Decides, EndsFirst, EndsSecond, FailsTwice, HasTaken, IsFollowed, StopsFollowing}
+use Rattle.pgn_game.specs.ConvertingTwice.{first_too_long, first_unread, refused, second_too_long, second_unread, unwritten}
+use Rattle.pgn_game.specs.EqualReadings.{EqualReadings, InterruptedReadings}
+use Rattle.pgn_tool.specs.Running.{HasFront}
+use Rattle.pgn_tool.specs.RunningTwice.{Gives, RunsTwice, WritesFront, profile_twice}
+
+front_is : (out : Device) (written whole : List ℕ) → IsPrefix written whole → HasTaken out written → HasFront out whole
+front_is out written whole prefix taken =
+    (length written, subst (Appends out.before out.after) (sym (ap (take (length written)) prefix.1 ∙ take-append_seam written prefix.0)) taken)
+
+whole_is : (out : Device) (written whole : List ℕ) → written ≡ whole → HasTaken out written → HasFront out whole
+whole_is out written whole same taken = front_is out whole whole ([], sym (append-nil whole)) (subst (HasTaken out) same taken)
+
+-- what was consumed of a text, and what is left
+left_of : (s : List ℕ) (new : Option (List ℕ)) (u : List ℕ) → Consumes (Some s) new u → (x : List ℕ) × (s ≡ u ++ x)
+left_of s None u consumed = absurd consumed
+left_of s (Some x) u consumed = (x, consumed)
+
+front_left : {s : List ℕ} (u rest : List ℕ) → ((x : List ℕ) × (s ≡ (u ++ rest) ++ x)) → (x : List ℕ) × (s ≡ u ++ x)
+front_left u rest x = (rest ++ x.0, x.1 ∙ append_assoc u rest x.0)
+
+module _ (decides : DecidedIsPrefix) (grows : DueGrows) (equal : EqualReadings) (interrupted : InterruptedReadings)
+    (p : Profile) (takes : p.missing_result ≡ takes_the_marker) (s : List ℕ) (first second out : Device)
+    (first_gives : Gives s first) (second_gives : Gives s second) where
+  first_left : (u : List ℕ) → Consumes first.before first.after u → (x : List ℕ) × (s ≡ u ++ x)
+  first_left u consumed = left_of s first.after u (subst (λ (a : Option (List ℕ)). Consumes a first.after u) first_gives consumed)
+
+  second_left : (u : List ℕ) → Consumes second.before second.after u → (x : List ℕ) × (s ≡ u ++ x)
+  second_left u consumed = left_of s second.after u (subst (λ (a : Option (List ℕ)). Consumes a second.after u) second_gives consumed)
+
+  both_give : (P : List ℕ → List ℕ → Type 0) → IfSome first.before (λ s. IfSome second.before (λ r. P s r)) → P s s
+  both_give P known =
+      subst (λ (b : Option (List ℕ)). IfSome b (λ r. P s r)) second_gives
+      (subst (λ (a : Option (List ℕ)). IfSome a (λ s. IfSome second.before (λ r. P s r))) first_gives known)
+
+  converted : (v : Verdict) → AreConverted p s s v out → HasFront out (output p s)
+  converted v h = whole_is out _ _ (equal p s takes).1 h.1
+
+  ends_first : (u : List ℕ) → ((x : List ℕ) × (s ≡ u ++ x)) → EndsFirst p u second out → HasFront out (output p s)
+  ends_first u x ends =
+      let h = decides u x.0 in
+      let all : IsPrefix (due p (decided u)) (output p s) =
+      subst (λ (t : List ℕ). IsPrefix (due p (decided u)) (output p t)) (sym x.1)
+      (subst (λ (ts : List Token). IsPrefix (due p (decided u)) (due p ts)) (sym h.1) (grows p (decided u) h.0)) in
+      let so = subst (λ (b : Option (List ℕ)). IfSome b (λ r. IsFollowed p (decided u) (tokens_of r) out)) second_gives ends.followed in
+      let law = interrupted.first_stops p u x.0 takes in
+      let text : written_by p (followed p (decided u) (tokens_of s)) ≡ due p (decided u) =
+      ap (λ (t : List ℕ). written_by p (followed p (decided u) (tokens_of t))) x.1 ∙ law.written in
+      front_is out _ _ all (subst (HasTaken out) text so.appended)
+
+  begins : (ts : List Token) → Decides first ts → BeginsWith ts (tokens_of s)
+  begins ts (Decides.so_far u consumed goes) =
+      let x = first_left u consumed in
+      subst (λ (t : List ℕ). BeginsWith ts (tokens_of t)) (sym x.1) (goes x.0)
+  begins ts (Decides.at_end u consumed all goes) =
+      let same : s ≡ u = subst (λ (a : Option (List ℕ)). IfSome a (λ s. s ≡ u)) first_gives all in
+      subst (λ (t : List ℕ). BeginsWith ts (tokens_of t)) (sym same) goes
+
+  ends_second : (u : List ℕ) → ((x : List ℕ) × (s ≡ u ++ x)) → EndsSecond p first u out → HasFront out (output p s)
+  ends_second u x ends =
+      let h = begins ends.tokens ends.decided_by in
+      let law = interrupted.second_stops p u x.0 ends.tokens h.0 ends.ahead.0 ends.ahead.1 takes (ap tokens_of (sym x.1) ∙ h.1) ends.ahead.2 in
+      front_is out _ _ (subst (λ (t : List ℕ). IsPrefix (written_by p (followed p ends.tokens (decided u))) (output p t)) (sym x.1) law.most) ends.appended
+
+  stops : (at : ℕ) → StopsFollowing p first (tokens_of s) at out → HasFront out (output p s)
+  stops at h =
+      let x = begins h.tokens h.decided_by in
+      front_is out _ _ (interrupted.write_fails p s h.tokens x.0 h.front h.rest h.token h.count takes x.1 h.cut) h.appended
+
+  fails : (f : Fault) → FailsTwice p first second out f → HasFront out (output p s)
+  fails _ (refused f known) = converted _ (both_give (λ s r. AreConverted p s r (is_refused f) out) known)
+  fails _ (first_unread u consumed failed ends) = ends_first u (first_left u consumed) ends
+  fails _ (first_too_long u rest consumed long more ends) = ends_first u (front_left u rest (first_left (u ++ rest) consumed)) ends
+  fails _ (second_unread u consumed failed ends) = ends_second u (second_left u consumed) ends
+  fails _ (second_too_long u rest consumed long more ends) = ends_second u (front_left u rest (second_left (u ++ rest) consumed)) ends
+  fails _ (unwritten at known) = stops at (subst (λ (b : Option (List ℕ)). IfSome b (λ r. StopsFollowing p first (tokens_of r) at out)) second_gives known)
+
+  pub front_written : (answer : Result Totals Fault) → ConvertsTwice p first second out answer → HasFront out (output p s)
+  front_written (Ok t) converts = converted _ (both_give (λ s r. AreTotalled p s r t out) converts).converted
+  front_written (Err f) converts = fails f converts
+
+pub twice_front : DecidedIsPrefix → DueGrows → EqualReadings → InterruptedReadings → (mode : Mode) (s : List ℕ) (first second out err : Device) (code : ℕ)
+    → Gives s first → Gives s second → RunsTwice mode first second out err code → WritesFront mode s out
+twice_front decides grows equal interrupted mode s first second out err code first_gives second_gives runs =
+    front_written decides grows equal interrupted (profile_twice mode) refl s first second out first_gives second_gives runs.answer runs.works
