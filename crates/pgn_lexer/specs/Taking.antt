@@ -1,7 +1,7 @@
--- **Bookkeeping**: what one byte does to what a lexer holds.
--- Letters: h is what is held, b the byte, `place` its place. Bytes are numbers: 33 is `!`, 48 is
--- `0`, 92 is a backslash, and 239 187 191 is the byte order mark EF BB BF.
-use Rattle.std.specs.Prelude.{◌≡◌, ℕ, ◌+◌, ◌-◌, ◌*◌, List, [], ◌∷◌, ◌++◌, length, nat_lt, nat_le, ◌==◌, if◌then◌else◌}
+-- **Bookkeeping**: what one byte, or the end of the text, does to what a lexer holds.
+-- Letters: h is what is held, b the byte, `place` its place. Bytes are numbers: 10 is a line
+-- feed, 33 is `!`, 48 is `0`, 92 is a backslash, and 239 187 191 is the byte order mark EF BB BF.
+use Rattle.std.specs.Prelude.{◌≡◌, Bool, true, false, ℕ, ◌+◌, ◌-◌, ◌*◌, List, [], ◌∷◌, ◌++◌, length, nat_lt, nat_le, ◌==◌, if◌then◌else◌}
 use Rattle.pgn_lexer.specs.declared.token.LexReason.{LexReason}
 use Rattle.pgn_lexer.specs.declared.token.LexReason.TheVariants.{StrayByte, ControlByte, SymbolTooLong, StringTooLong, WordTooLong, LoneDollar, GlyphRange, BadSuffix, BraceInLineComment, UnclosedString, UnclosedComment}
 use Rattle.pgn_lexer.specs.declared.class.Class.{Class}
@@ -14,35 +14,48 @@ use Rattle.pgn_lexer.specs.declared.partial_token.Mode.{Mode}
 use Rattle.pgn_lexer.specs.declared.partial_token.Mode.TheVariants.{Start, AfterEf, AfterEfBb, LineStart, Outside, EscapeLine, Symbol, Str, AfterBackslash, Dollar, Glyph, Suffix, Brace, BraceWord, Line, LineWord, Failed}
 use Rattle.pgn_lexer.specs.declared.partial_token.SuffixRun.{SuffixRun}
 use Rattle.pgn_lexer.specs.declared.partial_token.SuffixRun.TheVariants as runs
-use Rattle.pgn_lexer.specs.declared.partial_token.TokenForm.{TokenForm}
 use Rattle.pgn_lexer.specs.declared.partial_token.TokenForm.TheVariants as forms
 use Rattle.pgn_lexer.specs.declared.partial_token.Step.{Step}
 use Rattle.pgn_lexer.specs.declared.partial_token.Step.TheVariants.{Used, Ends, EndsBefore, Fault}
 use Rattle.pgn_lexer.specs.declared.partial_token.Reached.{Reached}
-use Rattle.pgn_lexer.specs.declared.partial_token.Reached.TheVariants as reached
 use Rattle.pgn_lexer.specs.Bytes.{is_line_end, is_digit, continues_symbol, is_suffix}
 use Rattle.pgn_lexer.specs.Spelling.{class, comment_class, string_class}
 use Rattle.pgn_lexer.specs.PartialToken.{PartialToken}
+use Rattle.pgn_lexer.specs.Running.{reached_after}
 
+-- what is held then, and what the byte results in
 pub record AfterByte : Type 0 where
   pub held : PartialToken
   pub step : Step
 
--- the mode alone changes
-abbrev pub into : PartialToken → Mode → Step → AfterByte
-into h mode step = record { held = record { mode = mode; at = h.at; text = h.text }; step = step }
+-- a call left and returned just that
+pub record IsAfterByte (t : AfterByte) (new : PartialToken) (answer : Step) : Type 0 where
+  pub held : new ≡ t.held
+  pub step : answer ≡ t.step
+
+pub record IsAfterEnd (t : AfterByte) (new : PartialToken) (answer : Reached) : Type 0 where
+  pub held : new ≡ t.held
+  pub reached : answer ≡ reached_after t.step
 
 -- the mode, the place and the text are set
 abbrev pub set_at : Mode → ℕ → List ℕ → Step → AfterByte
 set_at mode place text step = record { held = record { mode = mode; at = place; text = text }; step = step }
 
+-- the mode alone changes
+abbrev pub into : PartialToken → Mode → Step → AfterByte
+into h mode step = set_at mode h.at h.text step
+
 -- one byte more of the token
 abbrev pub grown : PartialToken → Mode → ℕ → AfterByte
-grown h mode b = record { held = record { mode = mode; at = h.at; text = h.text ++ b ∷ [] }; step = Used }
+grown h mode b = set_at mode h.at (h.text ++ b ∷ []) Used
 
 -- the lexer rejects the text at this place, for good
 abbrev pub fails : PartialToken → ℕ → LexReason → AfterByte
 fails h at reason = set_at (Failed (record { at = at; reason = reason })) at h.text (Fault (record { at = at; reason = reason }))
+
+-- that, if the token has fewer bytes than the most that it may have
+abbrev pub if_room : ℕ → LexReason → PartialToken → AfterByte → AfterByte
+if_room most reason h after = if nat_lt (length h.text) most then after else fails h h.at reason
 
 -- outside strings and comments
 abbrev pub begin : ℕ → PartialToken → ℕ → Class → AfterByte
@@ -58,30 +71,24 @@ begin place h b classes.Semicolon = set_at Line place h.text (Ends forms.Comment
 begin place h b (classes.Alone s) = set_at Outside place h.text (Ends (forms.Single s))
 begin place h b (classes.Refused r) = fails h place r
 
--- in the first column
+-- in the first column a percent sign begins an escape line
 abbrev pub begin_line : ℕ → PartialToken → ℕ → Class → AfterByte
 begin_line place h b classes.Percent = into h EscapeLine Used
 begin_line place h b c = begin place h b c
 
--- at the first byte of the input: EF (239) can begin a byte order mark
-abbrev pub start : ℕ → PartialToken → ℕ → AfterByte
-start place h b = if b == 239 then into h AfterEf Used else begin_line place h b (class b)
-
--- only BB (187) may follow it
-abbrev pub after_ef : PartialToken → ℕ → AfterByte
-after_ef h b = if b == 187 then into h AfterEfBb Used else fails h 0 StrayByte
-
--- and then only BF (191); the byte after the mark is in the first column
-abbrev pub after_ef_bb : PartialToken → ℕ → AfterByte
-after_ef_bb h b = if b == 191 then into h LineStart Used else fails h 0 StrayByte
-
 abbrev pub escape_line : PartialToken → ℕ → AfterByte
 escape_line h b = if is_line_end b then into h LineStart Used else into h EscapeLine Used
 
+-- the text begins in the first column, or with a byte order mark
+abbrev pub start : ℕ → PartialToken → ℕ → AfterByte
+start place h b = if b == 239 then into h AfterEf Used else begin_line place h b (class b)
+
+-- the mark goes on with one byte only, into this mode
+abbrev pub mark : ℕ → Mode → PartialToken → ℕ → AfterByte
+mark wanted mode h b = if b == wanted then into h mode Used else fails h 0 StrayByte
+
 abbrev pub symbol : PartialToken → ℕ → AfterByte
-symbol h b =
-    if continues_symbol b then (if nat_lt (length h.text) 255 then grown h Symbol b else fails h h.at SymbolTooLong)
-    else into h Outside (EndsBefore forms.Symbol)
+symbol h b = if continues_symbol b then if_room 255 SymbolTooLong h (grown h Symbol b) else into h Outside (EndsBefore forms.Symbol)
 
 -- the first digit of a NAG; a digit is its byte less 48, the byte of `0`
 abbrev pub dollar : PartialToken → ℕ → AfterByte
@@ -110,110 +117,70 @@ second_suffix h _ b = fails h h.at BadSuffix
 abbrev pub suffix : PartialToken → SuffixRun → ℕ → AfterByte
 suffix h run b = if is_suffix b then second_suffix h run b else into h Outside (EndsBefore (forms.Glyph (glyph_of run)))
 
-abbrev pub string : ℕ → PartialToken → ℕ → StringClass → AfterByte
-string place h b strings.Quote = into h Outside (Ends forms.Str)
-string place h b strings.LineEnd = fails h h.at UnclosedString
-string place h b strings.Control = fails h place ControlByte
-string place h b strings.Backslash = if nat_lt (length h.text) 255 then into h AfterBackslash Used else fails h h.at StringTooLong
-string place h b strings.Plain = if nat_lt (length h.text) 255 then grown h Str b else fails h h.at StringTooLong
+-- In a string; `escaped` says that a backslash (92) is just before. That is a datum itself, unless
+-- it escapes the byte.
+abbrev pub string : Bool → ℕ → PartialToken → ℕ → StringClass → AfterByte
+string escaped place h b strings.LineEnd = fails h h.at UnclosedString
+string escaped place h b strings.Control = fails h place ControlByte
+string false place h b strings.Quote = into h Outside (Ends forms.Str)
+string false place h b strings.Backslash = if_room 255 StringTooLong h (into h AfterBackslash Used)
+string false place h b strings.Plain = if_room 255 StringTooLong h (grown h Str b)
+string true place h b strings.Plain = if_room 254 StringTooLong h (grown (grown h Str 92).held Str b)
+string true place h b _ = grown h Str b
 
--- the byte after a backslash; before another byte the backslash (92) is itself
-abbrev pub after_backslash : ℕ → PartialToken → ℕ → StringClass → AfterByte
-after_backslash place h b strings.Quote = grown h Str b
-after_backslash place h b strings.LineEnd = fails h h.at UnclosedString
-after_backslash place h b strings.Control = fails h place ControlByte
-after_backslash place h b strings.Backslash = grown h Str b
-after_backslash place h b strings.Plain =
-    if nat_lt (length h.text) 254 then record { held = record { mode = Str; at = h.at; text = (h.text ++ 92 ∷ []) ++ b ∷ [] }; step = Used }
-    else fails h h.at StringTooLong
-
-abbrev pub word : PartialToken → Mode → ℕ → AfterByte
-word h mode b = if nat_lt (length h.text) 79 then grown h mode b else fails h h.at WordTooLong
+-- between the words of a comment, in the mode `between`; the mode in a word is `inside`
+abbrev pub between_words : Mode → Mode → ℕ → PartialToken → ℕ → CommentClass → AfterByte
+between_words between inside place h b comments.WordByte = set_at inside place (b ∷ []) Used
+between_words between inside place h b comments.Control = fails h place ControlByte
+between_words between inside place h b _ = set_at between place h.text Used
 
 abbrev pub brace : ℕ → PartialToken → ℕ → CommentClass → AfterByte
-brace place h b comments.LineEnd = set_at Brace place h.text Used
-brace place h b comments.Space = set_at Brace place h.text Used
 brace place h b comments.CloseBrace = set_at Outside place h.text (Ends forms.CommentClose)
-brace place h b comments.WordByte = set_at BraceWord place (b ∷ []) Used
-brace place h b comments.Control = fails h place ControlByte
-
-abbrev pub brace_word : PartialToken → ℕ → CommentClass → AfterByte
-brace_word h b comments.WordByte = word h BraceWord b
-brace_word h b _ = into h Brace (EndsBefore forms.Word)
+brace place h b c = between_words Brace BraceWord place h b c
 
 abbrev pub line : ℕ → PartialToken → ℕ → CommentClass → AfterByte
 line place h b comments.LineEnd = set_at LineStart place h.text (Ends forms.CommentClose)
-line place h b comments.Space = set_at Line place h.text Used
 line place h b comments.CloseBrace = fails h place BraceInLineComment
-line place h b comments.WordByte = set_at LineWord place (b ∷ []) Used
-line place h b comments.Control = fails h place ControlByte
+line place h b c = between_words Line LineWord place h b c
 
-abbrev pub line_word : PartialToken → ℕ → CommentClass → AfterByte
-line_word h b comments.WordByte = word h LineWord b
-line_word h b _ = into h Line (EndsBefore forms.Word)
+-- in a word of either comment
+abbrev pub word : Mode → PartialToken → ℕ → CommentClass → AfterByte
+word between h b comments.WordByte = if_room 79 WordTooLong h (grown h h.mode b)
+word between h b _ = into h between (EndsBefore forms.Word)
 
 abbrev pub after_byte_in : Mode → ℕ → PartialToken → ℕ → AfterByte
 after_byte_in Start place h b = start place h b
-after_byte_in AfterEf place h b = after_ef h b
-after_byte_in AfterEfBb place h b = after_ef_bb h b
+after_byte_in AfterEf place h b = mark 187 AfterEfBb h b
+after_byte_in AfterEfBb place h b = mark 191 LineStart h b
 after_byte_in LineStart place h b = begin_line place h b (class b)
 after_byte_in Outside place h b = begin place h b (class b)
 after_byte_in EscapeLine place h b = escape_line h b
 after_byte_in Symbol place h b = symbol h b
-after_byte_in Str place h b = string place h b (string_class b)
-after_byte_in AfterBackslash place h b = after_backslash place h b (string_class b)
+after_byte_in Str place h b = string false place h b (string_class b)
+after_byte_in AfterBackslash place h b = string true place h b (string_class b)
 after_byte_in Dollar place h b = dollar h b
 after_byte_in (Glyph n) place h b = glyph h n b
 after_byte_in (Suffix run) place h b = suffix h run b
 after_byte_in Brace place h b = brace place h b (comment_class b)
-after_byte_in BraceWord place h b = brace_word h b (comment_class b)
+after_byte_in BraceWord place h b = word Brace h b (comment_class b)
 after_byte_in Line place h b = line place h b (comment_class b)
-after_byte_in LineWord place h b = line_word h b (comment_class b)
+after_byte_in LineWord place h b = word Line h b (comment_class b)
 after_byte_in (Failed f) place h b = record { held = h; step = Fault f }
 
 -- the byte b at the place
 unfoldable pub after_byte : ℕ → PartialToken → ℕ → AfterByte
 after_byte place h b = after_byte_in h.mode place h b
 
--- the end of the text
+-- The end of the text ends a token as a line feed does, changes nothing between tokens, and rejects
+-- a comment in braces.
+abbrev pub after_end_in : Mode → ℕ → PartialToken → AfterByte
+after_end_in Start place h = record { held = h; step = Used }
+after_end_in LineStart place h = record { held = h; step = Used }
+after_end_in Outside place h = record { held = h; step = Used }
+after_end_in EscapeLine place h = record { held = h; step = Used }
+after_end_in Brace place h = fails h place UnclosedComment
+after_end_in Line place h = set_at Outside place h.text (EndsBefore forms.CommentClose)
+after_end_in mode place h = after_byte_in mode place h 10
 
-pub record AfterEnd : Type 0 where
-  pub held : PartialToken
-  pub result : Reached
-
-abbrev pub gives : PartialToken → Mode → ℕ → TokenForm → AfterEnd
-gives h mode at form = record { held = record { mode = mode; at = at; text = h.text }; result = reached.Token form }
-
-abbrev pub stops : PartialToken → ℕ → LexReason → AfterEnd
-stops h at reason = record { held = record { mode = Failed (record { at = at; reason = reason }); at = at; text = h.text }; result = reached.Fault }
-
-abbrev pub ends : PartialToken → AfterEnd
-ends h = record { held = h; result = reached.End }
-
-abbrev pub after_end_in : Mode → ℕ → PartialToken → AfterEnd
-after_end_in AfterEf place h = stops h 0 StrayByte
-after_end_in AfterEfBb place h = stops h 0 StrayByte
-after_end_in Symbol place h = gives h Outside h.at forms.Symbol
-after_end_in Str place h = stops h h.at UnclosedString
-after_end_in AfterBackslash place h = stops h h.at UnclosedString
-after_end_in Dollar place h = stops h h.at LoneDollar
-after_end_in (Glyph n) place h = gives h Outside h.at (forms.Glyph n)
-after_end_in (Suffix run) place h = gives h Outside h.at (forms.Glyph (glyph_of run))
-after_end_in Brace place h = stops h place UnclosedComment
-after_end_in BraceWord place h = gives h Brace h.at forms.Word
-after_end_in Line place h = gives h Outside place forms.CommentClose
-after_end_in LineWord place h = gives h Line h.at forms.Word
-after_end_in (Failed f) place h = record { held = h; result = reached.Fault }
-after_end_in _ place h = ends h
-
-unfoldable pub after_end : ℕ → PartialToken → AfterEnd
+unfoldable pub after_end : ℕ → PartialToken → AfterByte
 after_end place h = after_end_in h.mode place h
-
--- what was to be taken, was
-pub record IsAfterByte (t : AfterByte) (new : PartialToken) (answer : Step) : Type 0 where
-  pub held : new ≡ t.held
-  pub step : answer ≡ t.step
-
-pub record IsAfterEnd (t : AfterEnd) (new : PartialToken) (answer : Reached) : Type 0 where
-  pub held : new ≡ t.held
-  pub result : answer ≡ t.result

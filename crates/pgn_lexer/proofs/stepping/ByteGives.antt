@@ -12,7 +12,8 @@ use Rattle.pgn_lexer.specs.Tokens.{HasLength, symbol, glyph, word, end}
 use Rattle.pgn_lexer.specs.Spelling.{class, comment_class, string_class, symbol_at, word_at, suffix_at}
 use Rattle.pgn_lexer.specs.TokensOf.{in_glyph, onto, tokens_from}
 use Rattle.pgn_lexer.specs.PartialToken.{PartialToken, IsSound, HasNotFailed, tokens_to_come, kind_in, token_of, refusal, pending, spelling, fault_met}
-use Rattle.pgn_lexer.specs.Taking.{after_byte, after_byte_in, after_end, after_end_in, AfterEnd, IsAfterEnd, glyph_of}
+use Rattle.pgn_lexer.specs.Taking.{after_byte, after_byte_in, after_end, after_end_in, AfterByte, IsAfterEnd, glyph_of}
+use Rattle.pgn_lexer.specs.Running.{reached_after}
 use Rattle.pgn_lexer.proofs.stepping.StepGives.{Gives, front_of}
 use Rattle.pgn_lexer.proofs.stepping.RunOfBytes.{run_closes}
 use Rattle.pgn_lexer.proofs.stepping.FirstBytes.{start_gives, after_ef_gives, after_ef_bb_gives, escape_line_gives}
@@ -78,8 +79,8 @@ CloseGives place h new reached.End = ClosesEnd place h new
 CloseGives place h new (reached.Token form) = ClosesToken place h form new
 CloseGives place h new reached.Fault = ClosesFault place h (fault_met new) new
 
-abbrev pub ClosedGives : ℕ → PartialToken → AfterEnd → Type 0
-ClosedGives place h t = CloseGives place h t.held t.result
+abbrev pub ClosedGives : ℕ → PartialToken → AfterByte → Type 0
+ClosedGives place h t = CloseGives place h t.held (reached_after t.step)
 
 close_in : (m : Mode) (place at : ℕ) (text : List ℕ) → length text ≤ 255 → IsSound place (holds m at text) → ClosedGives place (holds m at text) (after_end_in m place (holds m at text))
 close_in modes.Start place at text fits sound =
@@ -113,4 +114,4 @@ close_gives place h sound = close_in h.mode place h.at h.text sound.room.0 sound
 -- what a call that met the end of the text gives
 pub closes_gives : (place : ℕ) (h new : PartialToken) (answer : Reached) → IsSound place h → IsAfterEnd (after_end place h) new answer → CloseGives place h new answer
 closes_gives place h new answer sound t =
-    subst (λ n. CloseGives place h n answer) (sym t.held) (subst (λ (end : Reached). CloseGives place h (after_end place h).held end) (sym t.result) (close_gives place h sound))
+    subst (λ n. CloseGives place h n answer) (sym t.held) (subst (λ (end : Reached). CloseGives place h (after_end place h).held end) (sym t.reached) (close_gives place h sound))

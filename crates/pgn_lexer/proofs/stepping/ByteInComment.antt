@@ -175,7 +175,7 @@ module _ (place at b : ℕ) (text : List ℕ) (some : 0 < length text) (fits : l
 
   pub brace_word_gives : (c : CommentClass) → comment_class b ≡ c
       → let h : PartialToken = record { mode = modes.BraceWord; at = at; text = text } in
-      Gives (front_of place h b) (taking.brace_word h b c)
+      Gives (front_of place h b) (taking.word modes.Brace h b c)
   brace_word_gives comments.WordByte e = brace_letter e (word_class b ∙ ap is_word_class e) (nat_lt (length text) 79) refl
   brace_word_gives comments.LineEnd e = brace_word_ends (ap is_word_class e)
   brace_word_gives comments.Space e = brace_word_ends (ap is_word_class e)
@@ -184,7 +184,7 @@ module _ (place at b : ℕ) (text : List ℕ) (some : 0 < length text) (fits : l
 
   pub line_word_gives : (c : CommentClass) → comment_class b ≡ c
       → let h : PartialToken = record { mode = modes.LineWord; at = at; text = text } in
-      Gives (front_of place h b) (taking.line_word h b c)
+      Gives (front_of place h b) (taking.word modes.Line h b c)
   line_word_gives comments.WordByte e = line_letter e (word_class b ∙ ap is_word_class e) (nat_lt (length text) 79) refl
   line_word_gives comments.LineEnd e = line_word_ends (ap is_word_class e)
   line_word_gives comments.Space e = line_word_ends (ap is_word_class e)

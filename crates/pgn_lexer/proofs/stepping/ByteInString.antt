@@ -101,7 +101,7 @@ module _ (place at b : ℕ) (text : List ℕ) (fits : length text ≤ 255) (bega
 
   pub string_gives : (c : StringClass) → string_class b ≡ c
       → let h : PartialToken = record { mode = modes.Str; at = at; text = text } in
-      Gives (front_of place h b) (taking.string place h b c)
+      Gives (front_of place h b) (taking.string false place h b c)
   string_gives strings.Quote e =
       record {
         sound = record { room = (fits, tt); placed = tt };
@@ -159,7 +159,7 @@ module _ (place at b : ℕ) (text : List ℕ) (short : length text < 255) (began
 
   pub escaped_gives : (c : StringClass) → string_class b ≡ c
       → let h : PartialToken = record { mode = modes.AfterBackslash; at = at; text = text } in
-      Gives (front_of place h b) (taking.after_backslash place h b c)
+      Gives (front_of place h b) (taking.string true place h b c)
   escaped_gives strings.Quote e = taken_back strings.Quote (λ s. by_escaped strings.Quote s e)
   escaped_gives strings.LineEnd e = record { sound = record { room = (omega arith, tt); placed = tt }; fails = refl; comes = λ s. by_escaped strings.LineEnd s e }
   escaped_gives strings.Control e = record { sound = record { room = (omega arith, tt); placed = tt }; fails = refl; comes = λ s. by_escaped strings.Control s e }

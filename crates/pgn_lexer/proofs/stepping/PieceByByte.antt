@@ -21,7 +21,7 @@ use Rattle.pgn_lexer.specs.declared.partial_token.Step.{Step}
 use Rattle.pgn_lexer.specs.declared.partial_token.Step.TheVariants.{Used, Ends, EndsBefore, Fault}
 use Rattle.pgn_lexer.specs.Tokens.{EndsAt}
 use Rattle.pgn_lexer.specs.PartialToken.{PartialToken, tokens_to_come, kind_in, token_of, IsSound, HasNotFailed, pending, fault_of_mode, fault_met}
-use Rattle.pgn_lexer.specs.Taking.{begin, begin_line, brace, brace_word, string, fails, grown, into, symbol, after_byte, after_byte_in, IsAfterByte}
+use Rattle.pgn_lexer.specs.Taking.{begin, begin_line, brace, word, string, fails, grown, into, symbol, after_byte, after_byte_in, IsAfterByte}
 use Rattle.pgn_lexer.specs.Running.{IsOutside, Ran, RunsOn, StoodAt, RunGives, RunsToToken, RunsToFault, used_after, reached_after}
 use Rattle.pgn_lexer.specs.declared.partial_token.Reached.TheVariants as reached
 use Rattle.pgn_lexer.proofs.stepping.StepGives.{StepGives, Uses, EndsIn, EndsAhead, Fails, front_of}
@@ -196,9 +196,9 @@ between_tokens m (inl e) = subst (λ m. HasNotFailed m) (sym e) tt
 between_tokens m (inr e) = subst (λ m. HasNotFailed m) (sym e) tt
 
 -- a byte in a string
-taken_string : (place b : ℕ) (h : PartialToken) (c : StringClass) → h.mode ≡ Str → string_class b ≡ c → after_byte place h b ≡ string place h b c
+taken_string : (place b : ℕ) (h : PartialToken) (c : StringClass) → h.mode ≡ Str → string_class b ≡ c → after_byte place h b ≡ string false place h b c
 unfolding after_byte
-taken_string place b h c e same = ap (λ m. after_byte_in m place h b) e ∙ ap (string place h b) same
+taken_string place b h c e same = ap (λ m. after_byte_in m place h b) e ∙ ap (string false place h b) same
 
 pub takes_plain : (place b : ℕ) (h new : PartialToken) → h.mode ≡ Str → string_class b ≡ strings.Plain → length h.text < 255 → new ≡ record { mode = h.mode; at = h.at; text = h.text ++ b ∷ [] }
     → IsAfterByte (after_byte place h b) new Used
@@ -222,20 +222,20 @@ takes_gap place b h new c e same (inl gap) goes = takes_brace place b h new Used
 takes_gap place b h new c e same (inr gap) goes = takes_brace place b h new Used comments.Space e (same ∙ gap) (record { held = goes; step = refl })
 
 -- and in a word of it
-pub takes_word : (place b : ℕ) (h new : PartialToken) (answer : Step) → h.mode ≡ BraceWord → IsAfterByte (brace_word h b (comment_class b)) new answer → IsAfterByte (after_byte place h b) new answer
+pub takes_word : (place b : ℕ) (h new : PartialToken) (answer : Step) → h.mode ≡ BraceWord → IsAfterByte (word Brace h b (comment_class b)) new answer → IsAfterByte (after_byte place h b) new answer
 unfolding after_byte
 takes_word place b h new answer e t = subst (λ m. IsAfterByte (after_byte_in m place h b) new answer) (sym e) t
 
-word_goes_on : (h new : PartialToken) (b : ℕ) (d : Bool) → IsAfterByte (if d then grown h BraceWord b else fails h h.at WordTooLong) new Used → new.mode ≡ BraceWord
+word_goes_on : (h new : PartialToken) (b : ℕ) (d : Bool) → IsAfterByte (if d then grown h h.mode b else fails h h.at WordTooLong) new Used → new.mode ≡ h.mode
 word_goes_on h new b true t = ap (λ (h : PartialToken). h.mode) t.held
 word_goes_on h new b false t = let e : Used ≡ Fault (record { at = h.at; reason = WordTooLong }) = t.step in absurd (cc)
 
-still_in : (h new : PartialToken) (b : ℕ) (c : CommentClass) → IsAfterByte (brace_word h b c) new Used → new.mode ≡ BraceWord
-still_in h new b comments.WordByte t = word_goes_on h new b (nat_lt (length h.text) 79) t
-still_in h new b comments.LineEnd t = let e : Used ≡ EndsBefore forms.Word = t.step in absurd (cc)
-still_in h new b comments.Space t = let e : Used ≡ EndsBefore forms.Word = t.step in absurd (cc)
-still_in h new b comments.CloseBrace t = let e : Used ≡ EndsBefore forms.Word = t.step in absurd (cc)
-still_in h new b comments.Control t = let e : Used ≡ EndsBefore forms.Word = t.step in absurd (cc)
+still_in : (m : Mode) (h new : PartialToken) (b : ℕ) (c : CommentClass) → IsAfterByte (word m h b c) new Used → new.mode ≡ h.mode
+still_in m h new b comments.WordByte t = word_goes_on h new b (nat_lt (length h.text) 79) t
+still_in m h new b comments.LineEnd t = let e : Used ≡ EndsBefore forms.Word = t.step in absurd (cc)
+still_in m h new b comments.Space t = let e : Used ≡ EndsBefore forms.Word = t.step in absurd (cc)
+still_in m h new b comments.CloseBrace t = let e : Used ≡ EndsBefore forms.Word = t.step in absurd (cc)
+still_in m h new b comments.Control t = let e : Used ≡ EndsBefore forms.Word = t.step in absurd (cc)
 
-pub still_word : (h new : PartialToken) (b : ℕ) → IsAfterByte (brace_word h b (comment_class b)) new Used → new.mode ≡ BraceWord
-still_word h new b t = still_in h new b (comment_class b) t
+pub still_word : (m : Mode) (h new : PartialToken) (b : ℕ) → IsAfterByte (word m h b (comment_class b)) new Used → new.mode ≡ h.mode
+still_word m h new b t = still_in m h new b (comment_class b) t

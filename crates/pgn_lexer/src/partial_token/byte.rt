@@ -1,6 +1,6 @@
 //! What one byte does to the current token, mode by mode.
 
-ghost use Rattle.std.specs.Prelude.{◌≡◌, ◌+◌, [], ◌∷◌};
+ghost use Rattle.std.specs.Prelude.{◌≡◌, true, false, [], ◌∷◌};
 ghost use Rattle.pgn_lexer.specs.Taking as taking;
 
 use crate::class::{
@@ -22,8 +22,8 @@ impl PartialToken {
     {
         match self.mode {
             Mode::Start => self.start(byte, place),
-            Mode::AfterEf => self.after_ef(byte),
-            Mode::AfterEfBb => self.after_ef_bb(byte),
+            Mode::AfterEf => self.mark(0xBB, Mode::AfterEfBb, byte),
+            Mode::AfterEfBb => self.mark(0xBF, Mode::LineStart, byte),
             Mode::LineStart => self.begin_line(byte, place),
             Mode::Outside => self.begin(class_of(byte), byte, place),
             Mode::EscapeLine => self.escape_line(byte),
@@ -34,9 +34,9 @@ impl PartialToken {
             Mode::Glyph(number) => self.glyph(number, byte),
             Mode::Suffix(run) => self.suffix(run, byte),
             Mode::Brace => self.brace(byte, place),
-            Mode::BraceWord => self.brace_word(byte),
+            Mode::BraceWord => self.word(Mode::Brace, byte),
             Mode::Line => self.line(byte, place),
-            Mode::LineWord => self.line_word(byte),
+            Mode::LineWord => self.word(Mode::Line, byte),
             Mode::Failed(fault) => Step::Fault(fault),
         }
     }
@@ -60,24 +60,15 @@ impl PartialToken {
         self.begin_line(byte, place)
     }
 
-    fn after_ef(&mut self, byte: u8) -> Step
-        ensures { IsAfterByte (taking.after_ef self.old byte) self.new result }
+    /// One byte more of a byte order mark.
+    fn mark(&mut self, wanted: u8, mode: Mode, byte: u8) -> Step
+        requires { HasMore mode self.old.text }
+        ensures { IsAfterByte (taking.mark wanted mode self.old byte) self.new result }
     {
-        if byte == 0xBB {
-            self.mode = Mode::AfterEfBb;
-            return Step::Used;
+        if byte != wanted {
+            return self.fail(0, LexReason::StrayByte);
         }
-        self.fail(0, LexReason::StrayByte)
-    }
-
-    fn after_ef_bb(&mut self, byte: u8) -> Step
-        ensures { IsAfterByte (taking.after_ef_bb self.old byte) self.new result }
-    {
-        if byte == 0xBF {
-            self.mode = Mode::LineStart;
-            return Step::Used;
-        }
-        self.fail(0, LexReason::StrayByte)
+        self.go(mode)
     }
 
     fn begin_line(&mut self, byte: u8, place: u64) -> Step
@@ -199,7 +190,7 @@ impl PartialToken {
 
     fn string(&mut self, byte: u8, place: u64) -> Step
         requires { self.old.mode ≡ Mode.Str }
-        ensures { IsAfterByte (taking.string place self.old byte (spelling.string_class byte))
+        ensures { IsAfterByte (taking.string false place self.old byte (spelling.string_class byte))
             self.new result }
     {
         match string_class_of(byte) {
@@ -228,7 +219,7 @@ impl PartialToken {
 
     fn after_backslash(&mut self, byte: u8, place: u64) -> Step
         requires { self.old.mode ≡ Mode.AfterBackslash }
-        ensures { IsAfterByte (taking.after_backslash place self.old byte
+        ensures { IsAfterByte (taking.string true place self.old byte
             (spelling.string_class byte)) self.new result }
     {
         match string_class_of(byte) {
@@ -264,20 +255,6 @@ impl PartialToken {
         }
     }
 
-    pub(crate) fn brace_word(&mut self, byte: u8) -> Step
-        requires { self.old.mode ≡ Mode.BraceWord }
-        ensures { IsAfterByte (taking.brace_word self.old byte (spelling.comment_class byte))
-            self.new result }
-    {
-        match comment_class_of(byte) {
-            CommentClass::WordByte => self.word(byte),
-            _ => {
-                self.mode = Mode::Brace;
-                Step::EndsBefore(TokenForm::Word)
-            }
-        }
-    }
-
     fn line(&mut self, byte: u8, place: u64) -> Step
         ensures { IsAfterByte (taking.line place self.old byte (spelling.comment_class byte))
             self.new result }
@@ -292,29 +269,25 @@ impl PartialToken {
         }
     }
 
-    fn line_word(&mut self, byte: u8) -> Step
-        requires { self.old.mode ≡ Mode.LineWord }
-        ensures { IsAfterByte (taking.line_word self.old byte (spelling.comment_class byte))
+    /// One byte more of a word, or its end. `between` is the mode between the words.
+    pub(crate) fn word(&mut self, between: Mode, byte: u8) -> Step
+        requires { HasMore between self.old.text }
+        ensures { IsAfterByte (taking.word between self.old byte (spelling.comment_class byte))
             self.new result }
     {
         match comment_class_of(byte) {
-            CommentClass::WordByte => self.word(byte),
+            CommentClass::WordByte => {
+                if self.buffer.len() >= 79 {
+                    return self.fail(self.at, LexReason::WordTooLong);
+                }
+                self.buffer.push(byte);
+                Step::Used
+            }
             _ => {
-                self.mode = Mode::Line;
+                self.mode = between;
                 Step::EndsBefore(TokenForm::Word)
             }
         }
-    }
-
-    /// One byte more of a word.
-    fn word(&mut self, byte: u8) -> Step
-        ensures { IsAfterByte (taking.word self.old self.old.mode byte) self.new result }
-    {
-        if self.buffer.len() >= 79 {
-            return self.fail(self.at, LexReason::WordTooLong);
-        }
-        self.buffer.push(byte);
-        Step::Used
     }
 
     pub(crate) fn pass(&mut self, mode: Mode, place: u64)

@@ -1,6 +1,7 @@
 //! What the end of the text does to the current token.
 
 ghost use Rattle.pgn_lexer.specs.Taking as taking;
+ghost use Rattle.pgn_lexer.specs.declared.partial_token.Step.TheVariants.{EndsBefore};
 
 use crate::partial_token::{Mode, PartialToken, Reached, TokenForm, glyph_of};
 use crate::token::{LexFault, LexReason};
@@ -38,7 +39,7 @@ impl PartialToken {
     }
 
     fn fail_at_end(&mut self, at: u64, reason: LexReason) -> Reached
-        ensures { IsAfterEnd (taking.stops self.old at reason) self.new result }
+        ensures { IsAfterEnd (taking.fails self.old at reason) self.new result }
     {
         let fault = LexFault { at, reason };
         self.at = at;
@@ -48,7 +49,7 @@ impl PartialToken {
 
     fn give(&mut self, mode: Mode, form: TokenForm) -> Reached
         requires { HasMore mode self.old.text }
-        ensures { IsAfterEnd (taking.gives self.old mode self.old.at form) self.new result }
+        ensures { IsAfterEnd (taking.into self.old mode (EndsBefore form)) self.new result }
     {
         self.mode = mode;
         Reached::Token(form)

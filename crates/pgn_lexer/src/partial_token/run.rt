@@ -149,7 +149,7 @@ impl PartialToken {
     {
         let mut used = from;
         while used < piece.len() {
-            match self.brace_word(piece[used]) {
+            match self.word(Mode::Brace, piece[used]) {
                 Step::Used => used += 1,
                 step => return ended(step, used),
             }
