@@ -12,9 +12,9 @@ use Rattle.pgn_game.specs.declared.reason.Fault.{Fault}
 use Rattle.pgn_game.specs.declared.conversion.Totals.{Totals}
 use Rattle.pgn_game.specs.Profile.{Profile}
 use Rattle.pgn_game.specs.Progress.{due, output}
-use Rattle.pgn_game.specs.Feeding.{StopsWriting}
+use Rattle.pgn_game.specs.ConverterCalls.{StopsWriting}
 use Rattle.pgn_game.specs.Laws.{DueGrows, IsPrefix}
-use Rattle.pgn_game.specs.Converting.{ConvertsSlice, FailsOn, refused, unwritten, too_long, CountsSink, CountsWriting}
+use Rattle.pgn_game.specs.Conversion.{ConvertsSlice, FailsOn, refused, unwritten, too_long, CountsSink, CountsWriting}
 use Rattle.pgn_c.specs.Results.{IsFilled, profile_in, result_of, status_of}
 
 -- ---- what is written is a front of the export text

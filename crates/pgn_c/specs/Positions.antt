@@ -7,7 +7,7 @@ use Rattle.chess_text.specs.Fen.{fen_text}
 use Rattle.chess_text.specs.San.{san}
 use Rattle.pgn_game.specs.declared.reason.Reason.{Reason}
 use Rattle.pgn_game.specs.Chess.{move_of}
-use Rattle.pgn_game.specs.Finding.{found_in}
+use Rattle.pgn_game.specs.FoundMove.{found_in}
 use Rattle.pgn_game.specs.Reason.{number_of}
 use Rattle.pgn_c.specs.declared.fen.PgnText.{PgnText}
 use Rattle.pgn_c.specs.declared.san.PgnMove.{PgnMove}

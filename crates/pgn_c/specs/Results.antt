@@ -9,8 +9,8 @@ use Rattle.pgn_game.specs.declared.conversion.Totals.{Totals}
 use Rattle.pgn_game.specs.Profile.{Profile}
 use Rattle.pgn_game.specs.Reason.{number_of, line_of}
 use Rattle.pgn_game.specs.Progress.{output}
-use Rattle.pgn_game.specs.Feeding.{profile_of}
-use Rattle.pgn_game.specs.Converting.{ConvertsSlice}
+use Rattle.pgn_game.specs.ConverterCalls.{profile_of}
+use Rattle.pgn_game.specs.Conversion.{ConvertsSlice}
 use Rattle.pgn_game.specs.Laws.{IsPrefix}
 use Rattle.pgn_c.specs.declared.pgn_result.PgnResult.{PgnResult}
 

@@ -13,11 +13,11 @@ use Rattle.pgn_game.specs.Text.{game_text, text_of, torn, torn_for}
 use Rattle.pgn_game.specs.Progress.{Next, going, whole, next, Progress, no_progress, progress_with, progress_after, Read, read, read_from, written, due}
 use Rattle.pgn_game.specs.Due.{text_next}
 use Rattle.pgn_game.specs.Laws.{IsPrefix}
-use Rattle.pgn_game.specs.Checked.{Mark, mark_at, marks_from, Followed, follow, followed, with_mark, written_by}
+use Rattle.pgn_game.specs.Checked.{Mark, mark_at, marks_from, Comparison, compared_from, compared, with_mark, written_by}
 use Rattle.pgn_game.specs.EqualReadings.{AreWritten, AreWrittenWithin, InterruptedReadings}
 use Rattle.pgn_game.proofs.tokens.OneMoreToken.{after_test, read_from-test, goes_on, also, grows_from, due_grows, text_of-snoc}
 use Rattle.pgn_game.proofs.tokens.NextGrows.{next_grows}
-use Rattle.pgn_game.proofs.EqualReadings.{Ends, ends, rest_ends, after_marks, marks_test, SeesGames, same_token, rejected_token, follows_same, written_same}
+use Rattle.pgn_game.proofs.EqualReadings.{Ends, ends, rest_ends, after_marks, marks_test, SeesGames, same_token, rejected_token, compared_same, written_same}
 use Rattle.pgn_game.proofs.twice.MarkerCounts.{same_game_text}
 
 -- a prefix of what comes behind a text, with that text
@@ -83,9 +83,9 @@ module _ (p : Profile) (takes : p.missing_result ≡ takes_the_marker) where
           subst (Ahead b m) (sym (goes_on p b t ts free))
           (torn_at_mark b t ts m ms (next b.part t.kind) refl (sym (marks_test p b t ts ∙ ap (after_marks p b t ts) free) ∙ is) further)
 
-  -- What is written of one text where `second` stops behind a front of its tokens: `low` is what one
-  -- reading has written by then, and `high` what it writes in all.
-  record Within (low high : Progress) (f : Followed) : Type 0 where
+  -- What is written of one text where `second` stops behind a front of its tokens: `low` is what
+  -- one reading has written by then, and `high` what it writes in all.
+  record Within (low high : Progress) (f : Comparison) : Type 0 where
     fault : f.fault ≡ None
     least : IsPrefix (text_of p low.games) (written_by p f)
     most : IsPrefix (written_by p f) (written p high)
@@ -99,26 +99,26 @@ module _ (p : Profile) (takes : p.missing_result ≡ takes_the_marker) where
         most = subst (λ (l : List ℕ). IsPrefix l (written p high)) text so.most;
       }
 
-  none_written : (b high : Progress) → IsPrefix (text_of p b.games) (written p high) → Within b high (record { progress = b; ahead = []; fault = None })
+  none_written : (b high : Progress) → IsPrefix (text_of p b.games) (written p high) → Within b high (record { progress = b; marks_left = []; fault = None })
   none_written b high grown =
       record { fault = refl; least = ([], refl); most = subst (λ (l : List ℕ). IsPrefix l (written p high)) (sym (append-nil (text_of p b.games))) grown }
 
-  waits : (b : Progress) (more : List Token) (ms : List Mark) → marks_from p b more ≡ ms → Within b (read_from p b more).progress (record { progress = b; ahead = ms; fault = None })
+  waits : (b : Progress) (more : List Token) (ms : List Mark) → marks_from p b more ≡ ms → Within b (read_from p b more).progress (record { progress = b; marks_left = ms; fault = None })
   waits b more [] is = none_written b (read_from p b more).progress (games_grow b more)
   waits b more (m ∷ ms) is = record { fault = refl; least = (_, refl); most = torn_ahead b more m ms is }
 
   abbrev ForToken : Progress → Token → List Token → List Token → Read → Read → Type 0
-  ForToken b t us more low high = Within low.progress high.progress (follow p (marks_from p b (t ∷ us ++ more)) b (t ∷ us))
+  ForToken b t us more low high = Within low.progress high.progress (compared_from p (marks_from p b (t ∷ us ++ more)) b (t ∷ us))
 
   -- The first reading has the tokens of the second, and more.
-  follows_within : (b : Progress) (us more : List Token) → Ends (us ++ more)
-      → Within (read_from p b us).progress (read_from p b (us ++ more)).progress (follow p (marks_from p b (us ++ more)) b us)
-  follows_within b [] more last = waits b more (marks_from p b more) refl
-  follows_within b (t ∷ us) more last = by_refusal (refusal p b.part t.kind) refl (follows_within (progress_after b t) us more (rest_ends t (us ++ more) last))
+  compared_within : (b : Progress) (us more : List Token) → Ends (us ++ more)
+      → Within (read_from p b us).progress (read_from p b (us ++ more)).progress (compared_from p (marks_from p b (us ++ more)) b us)
+  compared_within b [] more last = waits b more (marks_from p b more) refl
+  compared_within b (t ∷ us) more last = by_refusal (refusal p b.part t.kind) refl (compared_within (progress_after b t) us more (rest_ends t (us ++ more) last))
     where
       by_refusal : (o : Option Reason) → refusal p b.part t.kind ≡ o
           → Within (read_from p (progress_after b t) us).progress (read_from p (progress_after b t) (us ++ more)).progress
-          (follow p (marks_from p (progress_after b t) (us ++ more)) (progress_after b t) us)
+          (compared_from p (marks_from p (progress_after b t) (us ++ more)) (progress_after b t) us)
           → ForToken b t us more (read_from p b (t ∷ us)) (read_from p b (t ∷ us ++ more))
       by_refusal (Some reason) is so =
           let stops : (vs : List Token) → read_from p b (t ∷ vs) ≡ after_test p b t vs (Some reason) = λ vs. read_from-test p b t vs ∙ ap (after_test p b t vs) is in
@@ -131,34 +131,34 @@ module _ (p : Profile) (takes : p.missing_result ≡ takes_the_marker) where
           (same_token (Within (read_from p (progress_after b t) us).progress (read_from p (progress_after b t) (us ++ more)).progress) (sees_within _ _) p b t (us ++ more) us last is so))
 
   -- `first` stops behind the tokens us
-  pub first_stops : (us more : List Token) → Ends (us ++ more) → AreWritten p (followed p us (us ++ more)) (due p us)
+  pub first_stops : (us more : List Token) → Ends (us ++ more) → AreWritten p (compared p us (us ++ more)) (due p us)
   first_stops us more last =
-      let so = follows_same p no_progress us more (front_ends us more last) in
-      record { fault = so.fault; ahead = so.ahead; written = written_same p (followed p us (us ++ more)) (read p us).progress takes so }
+      let so = compared_same p no_progress us more (front_ends us more last) in
+      record { fault = so.fault; marks_left = so.marks_left; written = written_same p (compared p us (us ++ more)) (read p us).progress takes so }
 
   -- `second` stops there
-  pub second_stops : (us more : List Token) → Ends (us ++ more) → AreWrittenWithin p (followed p (us ++ more) us) (due p us) (due p (us ++ more))
+  pub second_stops : (us more : List Token) → Ends (us ++ more) → AreWrittenWithin p (compared p (us ++ more) us) (due p us) (due p (us ++ more))
   second_stops us more last =
-      let so = follows_within no_progress us more last in
+      let so = compared_within no_progress us more last in
       record {
         fault = so.fault;
-        least = subst (λ (l : List ℕ). IsPrefix l (written_by p (followed p (us ++ more) us))) (sym (whole_games (read p us).progress)) so.least;
+        least = subst (λ (l : List ℕ). IsPrefix l (written_by p (compared p (us ++ more) us))) (sym (whole_games (read p us).progress)) so.least;
         most = so.most;
       }
 
   -- The same where `first` has given the tokens ts, of which a mark is ahead.
-  pub before_mark : (us more ts rest : List Token) (m : Mark) (ms : List Mark) → Ends (us ++ more) → us ++ more ≡ ts ++ rest → (followed p ts us).ahead ≡ m ∷ ms
-      → AreWrittenWithin p (followed p ts us) (due p us) (due p (us ++ more))
+  pub before_mark : (us more ts rest : List Token) (m : Mark) (ms : List Mark) → Ends (us ++ more) → us ++ more ≡ ts ++ rest → (compared p ts us).marks_left ≡ m ∷ ms
+      → AreWrittenWithin p (compared p ts us) (due p us) (due p (us ++ more))
   before_mark us more ts rest m ms last same ahead = by_length (longer ts us rest more (sym same))
     where
-      by_length : ((z : List Token) × (us ≡ ts ++ z)) ⊎ ((z : List Token) × (ts ≡ us ++ z)) → AreWrittenWithin p (followed p ts us) (due p us) (due p (us ++ more))
+      by_length : ((z : List Token) × (us ≡ ts ++ z)) ⊎ ((z : List Token) × (ts ≡ us ++ z)) → AreWrittenWithin p (compared p ts us) (due p us) (due p (us ++ more))
       by_length (inl h) =
-          let none : (followed p ts us).ahead ≡ [] =
-          ap (λ (l : List Token). (followed p ts l).ahead) h.1 ∙ (first_stops ts h.0 (subst Ends h.1 (front_ends us more last))).ahead in
+          let none : (compared p ts us).marks_left ≡ [] =
+          ap (λ (l : List Token). (compared p ts l).marks_left) h.1 ∙ (first_stops ts h.0 (subst Ends h.1 (front_ends us more last))).marks_left in
           absurd (cc (none, ahead))
       by_length (inr h) =
           let so = second_stops us h.0 (subst Ends h.1 (front_ends ts rest (subst Ends same last))) in
-          let within = subst (λ (l : List Token). AreWrittenWithin p (followed p l us) (due p us) (due p l)) (sym h.1) so in
+          let within = subst (λ (l : List Token). AreWrittenWithin p (compared p l us) (due p us) (due p l)) (sym h.1) so in
           record {
             fault = within.fault;
             least = within.least;
@@ -166,32 +166,32 @@ module _ (p : Profile) (takes : p.missing_result ≡ takes_the_marker) where
           }
 
   -- Whatever both have given of one text, a prefix of its output is written.
-  pub written_in_front : (ts rest us more : List Token) → Ends (ts ++ rest) → ts ++ rest ≡ us ++ more → IsPrefix (written_by p (followed p ts us)) (due p (ts ++ rest))
+  pub written_in_front : (ts rest us more : List Token) → Ends (ts ++ rest) → ts ++ rest ≡ us ++ more → IsPrefix (written_by p (compared p ts us)) (due p (ts ++ rest))
   written_in_front ts rest us more last same = by_length (longer ts us rest more same)
     where
-      by_length : ((z : List Token) × (us ≡ ts ++ z)) ⊎ ((z : List Token) × (ts ≡ us ++ z)) → IsPrefix (written_by p (followed p ts us)) (due p (ts ++ rest))
+      by_length : ((z : List Token) × (us ≡ ts ++ z)) ⊎ ((z : List Token) × (ts ≡ us ++ z)) → IsPrefix (written_by p (compared p ts us)) (due p (ts ++ rest))
       by_length (inl h) =
           let so = first_stops ts h.0 (subst Ends h.1 (front_ends us more (subst Ends same last))) in
-          let is : written_by p (followed p ts us) ≡ due p ts = ap (λ (l : List Token). written_by p (followed p ts l)) h.1 ∙ so.written in
+          let is : written_by p (compared p ts us) ≡ due p ts = ap (λ (l : List Token). written_by p (compared p ts l)) h.1 ∙ so.written in
           subst (λ (l : List ℕ). IsPrefix l (due p (ts ++ rest))) (sym is) (due_grows p ts rest)
       by_length (inr h) =
           let so = second_stops us h.0 (subst Ends h.1 (front_ends ts rest last)) in
-          also _ _ _ (subst (λ (l : List Token). IsPrefix (written_by p (followed p l us)) (due p l)) (sym h.1) so.most) (due_grows p ts rest)
+          also _ _ _ (subst (λ (l : List Token). IsPrefix (written_by p (compared p l us)) (due p l)) (sym h.1) so.most) (due_grows p ts rest)
 
 pub interrupted_readings : DecidedIsPrefix → TokensRise → InterruptedReadings
 interrupted_readings decides rise =
     record {
       first_stops = λ p u x takes.
           let h = decides u x in
-          subst (λ (ts : List Token). AreWritten p (followed p (decided u) ts) (due p (decided u))) (sym h.1)
+          subst (λ (ts : List Token). AreWritten p (compared p (decided u) ts) (due p (decided u))) (sym h.1)
           (first_stops p takes (decided u) h.0 (subst Ends h.1 (ends (tokens_of (u ++ x)) (rise (u ++ x)))));
       second_stops = λ p u x ts rest m ms takes cut ahead.
           let h = decides u x in
-          subst (λ (all : List Token). AreWrittenWithin p (followed p ts (decided u)) (due p (decided u)) (due p all)) (sym h.1)
+          subst (λ (all : List Token). AreWrittenWithin p (compared p ts (decided u)) (due p (decided u)) (due p all)) (sym h.1)
           (before_mark p takes (decided u) h.0 ts rest m ms (subst Ends h.1 (ends (tokens_of (u ++ x)) (rise (u ++ x)))) (sym h.1 ∙ cut) ahead);
       write_fails = λ p s ts rest front after token count takes cut at.
           let us = front ++ token ∷ [] in
           let here : ts ++ rest ≡ us ++ after = sym cut ∙ at ∙ sym (append_assoc front (token ∷ []) after) in
           let so = written_in_front p takes ts rest us after (subst Ends cut (ends (tokens_of s) (rise s))) here in
-          front_of count _ _ (subst (λ (all : List Token). IsPrefix (written_by p (followed p ts us)) (due p all)) (sym cut) so);
+          front_of count _ _ (subst (λ (all : List Token). IsPrefix (written_by p (compared p ts us)) (due p all)) (sym cut) so);
     }

@@ -4,8 +4,8 @@ use Rattle.pgn_game.specs.declared.reason.Reason.{Reason}
 use Rattle.pgn_game.specs.declared.reason.Reason.TheVariants.{Lexical, ExpectedName, BadTagName, DuplicateTag, TooManyTags, ExpectedValue, BadResult, BadFen, TagLineTooLong, ExpectedBracket, SetUpWithoutFen, ReducedFen, TagInMovetext, NotAMove, IllegalMove, AmbiguousMove, MoveLimit, NoMoveBefore, TooDeep, UnmatchedClose, MarkerInVariation, ResultDiffers, UnexpectedEnd, ReadFault, WriteFault, InputTooLong, Changed}
 use Rattle.pgn_game.specs.declared.reason.Fault.{Fault}
 use Rattle.pgn_game.specs.declared.conversion.Totals.{Totals}
-use Rattle.pgn_game.specs.Feeding.{CountsReason, CountsFault}
-use Rattle.pgn_game.specs.Converting.{CountsDevices, CountsResult, CountsWriting, CountsSink}
+use Rattle.pgn_game.specs.ConverterCalls.{CountsReason, CountsFault}
+use Rattle.pgn_game.specs.Conversion.{CountsDevices, CountsResult, CountsWriting, CountsSink}
 
 -- a fault of the converter
 pub devices_of : (r : Reason) (s t o n : ℕ) → t ≡ s → CountsReason r o n → CountsDevices r s t o n

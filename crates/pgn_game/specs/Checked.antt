@@ -53,9 +53,9 @@ is_changed p m part t = is_some (refusal p part t.kind) || is_other m (next part
 
 -- How far `second` is read: its progress, the marks of `first` that it has not read yet, and the
 -- fault of a token at which the inputs differ.
-pub record Followed : Type 0 where
+pub record Comparison : Type 0 where
   pub progress : Progress
-  pub ahead : List Mark
+  pub marks_left : List Mark
   pub fault : Option Fault
 
 -- the marks that are left after a token
@@ -65,18 +65,18 @@ marks_after (whole g) m ms = ms
 
 -- The tokens of `second` are read up to the last mark, or up to the first token at which the inputs
 -- differ.
-abbrev pub follow : Profile → List Mark → Progress → List Token → Followed
-follow p ms b [] = record { progress = b; ahead = ms; fault = None }
-follow p [] b (t ∷ ts) = record { progress = b; ahead = []; fault = None }
-follow p (m ∷ ms) b (t ∷ ts) =
+abbrev pub compared_from : Profile → List Mark → Progress → List Token → Comparison
+compared_from p ms b [] = record { progress = b; marks_left = ms; fault = None }
+compared_from p [] b (t ∷ ts) = record { progress = b; marks_left = []; fault = None }
+compared_from p (m ∷ ms) b (t ∷ ts) =
     elim (is_changed p m b.part t) [
-      | true ↦ record { progress = b; ahead = m ∷ ms; fault = Some (record { at = t.at; reason = Changed }) }
-      | false ↦ follow p (marks_after (next b.part t.kind) m ms) (progress_after b t) ts
+      | true ↦ record { progress = b; marks_left = m ∷ ms; fault = Some (record { at = t.at; reason = Changed }) }
+      | false ↦ compared_from p (marks_after (next b.part t.kind) m ms) (progress_after b t) ts
     ]
 
 -- the tokens of `second`, after these of `first`
-abbrev pub followed : Profile → List Token → List Token → Followed
-followed p ts us = follow p (marks p ts) no_progress us
+abbrev pub compared : Profile → List Token → List Token → Comparison
+compared p ts us = compared_from p (marks p ts) no_progress us
 
 -- the same profile, where a missing Result counts as this mark
 abbrev pub with_mark : Profile → Mark → Profile
@@ -89,8 +89,8 @@ torn_before p [] part = []
 torn_before p (m ∷ ms) part = torn (with_mark p m) part
 
 -- what is written by then
-abbrev pub written_by : Profile → Followed → List ℕ
-written_by p f = text_of p f.progress.games ++ torn_before p f.ahead f.progress.part
+abbrev pub written_by : Profile → Comparison → List ℕ
+written_by p f = text_of p f.progress.games ++ torn_before p f.marks_left f.progress.part
 
 -- the fault of `second` comes before that of `first`, which is read no further then
 abbrev pub earlier_fault : Option Fault → Option Fault → Option Fault
@@ -100,9 +100,9 @@ earlier_fault None other = other
 -- the verdict on two texts: a fault, or the numbers of the games that are written
 abbrev pub checked_verdict : Profile → List ℕ → List ℕ → Verdict
 checked_verdict p s r =
-    let f = followed p (tokens_of s) (tokens_of r) in
+    let f = compared p (tokens_of s) (tokens_of r) in
     verdict_of (record { progress = f.progress; fault = earlier_fault f.fault (read p (tokens_of s)).fault })
 
 -- and their output
 abbrev pub checked_output : Profile → List ℕ → List ℕ → List ℕ
-checked_output p s r = written_by p (followed p (tokens_of s) (tokens_of r))
+checked_output p s r = written_by p (compared p (tokens_of s) (tokens_of r))

@@ -7,7 +7,7 @@ use Rattle.pgn_lexer.specs.TokensOf.{tokens_of}
 use Rattle.pgn_lexer.specs.Decided.{decided}
 use Rattle.pgn_game.specs.Profile.{Profile, takes_the_marker}
 use Rattle.pgn_game.specs.Progress.{due, output, verdict}
-use Rattle.pgn_game.specs.Checked.{Mark, Followed, followed, written_by, checked_output, checked_verdict}
+use Rattle.pgn_game.specs.Checked.{Mark, Comparison, compared, written_by, checked_output, checked_verdict}
 use Rattle.pgn_game.specs.Laws.{IsPrefix}
 
 -- Where both readings give the same text, its verdict and its output are those of one reading.
@@ -16,13 +16,13 @@ EqualReadings = (p : Profile) (s : List ℕ) → p.missing_result ≡ takes_the_
     → (checked_verdict p s s ≡ verdict p s) × (checked_output p s s ≡ output p s)
 
 -- Nothing shows a difference, all marks are read, and what is written is this text.
-pub record AreWritten (p : Profile) (f : Followed) (text : List ℕ) : Type 0 where
+pub record AreWritten (p : Profile) (f : Comparison) (text : List ℕ) : Type 0 where
   pub fault : f.fault ≡ None
-  pub ahead : f.ahead ≡ []
+  pub marks_left : f.marks_left ≡ []
   pub written : written_by p f ≡ text
 
 -- Nothing shows a difference. What is written begins with `front`, and `whole` begins with it.
-pub record AreWrittenWithin (p : Profile) (f : Followed) (front whole : List ℕ) : Type 0 where
+pub record AreWrittenWithin (p : Profile) (f : Comparison) (front whole : List ℕ) : Type 0 where
   pub fault : f.fault ≡ None
   pub least : IsPrefix front (written_by p f)
   pub most : IsPrefix (written_by p f) whole
@@ -30,15 +30,15 @@ pub record AreWrittenWithin (p : Profile) (f : Followed) (front whole : List ℕ
 -- Where the readings give the same text, but one is read no further or a write fails. ts are the
 -- tokens that `first` has given by then.
 -- - If `first` gives u alone, what is written is what one reading has written after u.
--- - If `second` gives u alone, and so stops before a mark, at least that is written, and a prefix of
---   the output of the text.
+-- - If `second` gives u alone, and so stops before a mark, at least that is written, and a prefix
+--   of the output of the text.
 -- - If a write fails at a token of `second`, a prefix of the output of the text is written.
 pub record InterruptedReadings : Type 0 where
   pub first_stops : (p : Profile) (u x : List ℕ) → p.missing_result ≡ takes_the_marker
-      → AreWritten p (followed p (decided u) (tokens_of (u ++ x))) (due p (decided u))
+      → AreWritten p (compared p (decided u) (tokens_of (u ++ x))) (due p (decided u))
   pub second_stops : (p : Profile) (u x : List ℕ) (ts rest : List Token) (m : Mark) (ms : List Mark) → p.missing_result ≡ takes_the_marker
-      → tokens_of (u ++ x) ≡ ts ++ rest → (followed p ts (decided u)).ahead ≡ m ∷ ms
-      → AreWrittenWithin p (followed p ts (decided u)) (due p (decided u)) (output p (u ++ x))
+      → tokens_of (u ++ x) ≡ ts ++ rest → (compared p ts (decided u)).marks_left ≡ m ∷ ms
+      → AreWrittenWithin p (compared p ts (decided u)) (due p (decided u)) (output p (u ++ x))
   pub write_fails : (p : Profile) (s : List ℕ) (ts rest front after : List Token) (token : Token) (count : ℕ) → p.missing_result ≡ takes_the_marker
       → tokens_of s ≡ ts ++ rest → tokens_of s ≡ front ++ token ∷ after
-      → IsPrefix (take count (written_by p (followed p ts (front ++ token ∷ [])))) (output p s)
+      → IsPrefix (take count (written_by p (compared p ts (front ++ token ∷ [])))) (output p s)

@@ -15,7 +15,7 @@ use Rattle.pgn_game.specs.Levels.{plies_of}
 use Rattle.pgn_game.specs.Text.{text_of}
 use Rattle.pgn_game.specs.Progress.{Counted, read, output, verdict, totals}
 use Rattle.pgn_game.specs.Spells.{Spells}
-use Rattle.pgn_game.specs.Converting.{Converts, ConvertsSlice}
+use Rattle.pgn_game.specs.Conversion.{Converts, ConvertsSlice}
 use Rattle.pgn_game.specs.Filled.{exported_pairs, filled}
 
 -- The tag section that is written has no more lines than a game may have pairs.

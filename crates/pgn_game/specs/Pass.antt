@@ -27,16 +27,16 @@ use Rattle.pgn_game.specs.FaultTable.{refusal, is_end}
 use Rattle.pgn_game.specs.Progress.{Next, going, whole, next, no_progress, read}
 use Rattle.pgn_game.specs.Text.{game_text, text_of, torn}
 use Rattle.pgn_game.specs.Due.{gain}
-use Rattle.pgn_game.specs.Converting.{CountsDevices}
-use Rattle.pgn_game.specs.Reading.{Reading, Agrees, IsAccepted}
-use Rattle.pgn_game.specs.Feeding.{Converter, IsSound, HasRead}
-use Rattle.pgn_game.specs.Checked.{Mark, marks, marks_from, is_other, is_changed, follow}
+use Rattle.pgn_game.specs.Conversion.{CountsDevices}
+use Rattle.pgn_game.specs.ReaderState.{ReaderState, Agrees, IsAccepted}
+use Rattle.pgn_game.specs.ConverterCalls.{Converter, IsSound, HasRead}
+use Rattle.pgn_game.specs.Checked.{Mark, marks, marks_from, is_other, is_changed, compared_from}
 
 -- the lexer, the reader, how many games were finished, the bytes that were read and not used, and
 -- whether the source has ended
 pub record Pass : Type 0 where
   pub lexer : Standing
-  pub reading : Reading
+  pub reading : ReaderState
   pub games : ℕ
   pub unused : List ℕ
   pub has_ended : Bool
@@ -54,7 +54,7 @@ IsCounting q p = (text : List ℕ) × (p ≡ counting q text)
 
 -- A reading as a converter of the profile q would see it: a missing Result takes the marker, though
 -- the reader has a text for it, which is the marker's when the marker comes.
-abbrev pub reading_under : Profile → Reading → Reading
+abbrev pub reading_under : Profile → ReaderState → ReaderState
 reading_under q r = record r { profile = q }
 
 abbrev pub as_converter : Profile → Pass → Converter
@@ -90,7 +90,7 @@ abbrev pub as_changed : Fault → Fault
 as_changed f = record { at = f.at; reason = changed_reason f.reason }
 
 -- while the other reading has told a mark, a missing Result counts as its marker
-abbrev pub IsTold : Option CodeMark → Reading → Type 0
+abbrev pub IsTold : Option CodeMark → ReaderState → Type 0
 IsTold None r = Unit {0}
 IsTold (Some m) r = r.profile.missing_result ≡ counts_as (marker_text m.marker)
 
@@ -121,7 +121,7 @@ marks_differ _ _ at = false
 
 -- What a token does to a reader that agrees with a part. It is taken: it is not rejected, and shows
 -- no difference; what it adds was appended.
-pub record TakesToken (q : Profile) (part : Part) (told : Option CodeMark) (t : Token) (old new : Reading) (taken : Taken) (before after : Option (List ℕ)) : Type 0 where
+pub record TakesToken (q : Profile) (part : Part) (told : Option CodeMark) (t : Token) (old new : ReaderState) (taken : Taken) (before after : Option (List ℕ)) : Type 0 where
   pub free : refusal q part t.kind ≡ None
   pub same : rejects told q part t ≡ false
   pub leads : LeadsTo (next part t.kind) t taken
@@ -129,7 +129,7 @@ pub record TakesToken (q : Profile) (part : Part) (told : Option CodeMark) (t : 
   pub appended : Appends before after (gain new.profile part t.kind)
 
 -- It is not taken: it is rejected; or it shows a difference; or a write failed.
-pub data TokenFails (q : Profile) (part : Part) (told : Option CodeMark) (t : Token) (new : Reading) (before after : Option (List ℕ)) : Fault → Type 0 where
+pub data TokenFails (q : Profile) (part : Part) (told : Option CodeMark) (t : Token) (new : ReaderState) (before after : Option (List ℕ)) : Fault → Type 0 where
   refused : (reason : Reason) → refusal q part t.kind ≡ Some reason → Appends before after []
       → TokenFails q part told t new before after (record { at = t.at; reason = reason })
   other : rejects told q part t ≡ true → is_some told ≡ true → Appends before after []
@@ -137,12 +137,12 @@ pub data TokenFails (q : Profile) (part : Part) (told : Option CodeMark) (t : To
   unwritten : rejects told q part t ≡ false → AppendsFront before after (gain new.profile part t.kind)
       → TokenFails q part told t new before after (record { at = t.at; reason = WriteFault })
 
-abbrev pub AfterToken : Profile → Part → Option CodeMark → Token → Reading → Reading → Result Taken Fault → Option (List ℕ) → Option (List ℕ) → Type 0
+abbrev pub AfterToken : Profile → Part → Option CodeMark → Token → ReaderState → ReaderState → Result Taken Fault → Option (List ℕ) → Option (List ℕ) → Type 0
 AfterToken q part told t old new (Ok taken) before after = TakesToken q part told t old new taken before after
 AfterToken q part told t old new (Err f) before after = TokenFails q part told t new before after f
 
 -- so for each profile whose missing Result takes the marker
-abbrev pub TakesKind : Option CodeMark → Kind → ℕ → Reading → Reading → Result Taken Fault → Option (List ℕ) → Option (List ℕ) → Type 0
+abbrev pub TakesKind : Option CodeMark → Kind → ℕ → ReaderState → ReaderState → Result Taken Fault → Option (List ℕ) → Option (List ℕ) → Type 0
 TakesKind told k at old new result before after =
     (q : Profile) (part : Part) → q.missing_result ≡ takes_the_marker → IsCounting q old.profile → Agrees old part
     → IsCounting q new.profile × AfterToken q part told (record { at = at; kind = k }) old new result before after
@@ -158,7 +158,7 @@ GoesBehind k End = Unit {0}
 GoesBehind k _ = is_end k ≡ false
 
 -- what a token that is taken leaves, for the next one
-pub record LeavesReader (told : Option CodeMark) (old new : Reading) (games_old games_new : ℕ) (taken : Taken) : Type 0 where
+pub record LeavesReader (told : Option CodeMark) (old new : ReaderState) (games_old games_new : ℕ) (taken : Taken) : Type 0 where
   pub under : IsTold told new
   pub plies : new.earlier_plies + new.text.plies ≤ old.earlier_plies + old.text.plies + 1
   pub games : games_new ≡ games_with taken games_old
@@ -189,7 +189,7 @@ abbrev pub ComesNext : Option (List ℕ) → List Token → Token → Type 0
 ComesNext left_old given t = IfSome left_old (λ s. (ts : List Token) × (tokens_of s ≡ given ++ t ∷ ts))
 
 -- or it has not taken the next one
-pub record TakeFails (q : Profile) (left_old : Option (List ℕ)) (told : Option CodeMark) (given : List Token) (new : Reading) (f : Fault)
+pub record TakeFails (q : Profile) (left_old : Option (List ℕ)) (told : Option CodeMark) (given : List Token) (new : ReaderState) (f : Fault)
     (before after : Option (List ℕ)) : Type 0 where
   pub token : Token
   pub comes : ComesNext left_old given token
@@ -353,9 +353,9 @@ GoesOn old new _ = Unit {0}
 
 -- The tokens show no difference from the marks ms, of which these are left, whatever comes behind
 -- both.
-abbrev pub HasFollowed : Profile → List Mark → List Token → List Mark → Type 0
-HasFollowed q ms given left =
-    (ns : List Mark) (ts : List Token) → follow q (ms ++ ns) no_progress (given ++ ts) ≡ follow q (left ++ ns) (read q given).progress ts
+abbrev pub HasMatched : Profile → List Mark → List Token → List Mark → Type 0
+HasMatched q ms given left =
+    (ns : List Mark) (ts : List Token) → compared_from q (ms ++ ns) no_progress (given ++ ts) ≡ compared_from q (left ++ ns) (read q given).progress ts
 
 -- what is written of the game that ends with the mark m, when these tokens were taken
 abbrev pub torn_after : Profile → CodeMark → List Token → List ℕ
@@ -367,7 +367,7 @@ pub record WritesToMark (q : Profile) (left_old left_new : Option (List ℕ)) (m
   pub game : Game
   pub has_given : HasGiven q left_old left_new new tokens
   pub goes_on : IsGoing new
-  pub followed : HasFollowed q ms tokens []
+  pub matched : HasMatched q ms tokens []
   pub between : part_after q tokens ≡ no_part
   pub one_game : (read q tokens).progress.games ≡ (read q given).progress.games ++ game ∷ []
   pub appended : Appends before after (game_text q game)
@@ -386,7 +386,7 @@ pub data StopsWithin (q : Profile) (left_old left_new : Option (List ℕ)) (m : 
 pub record WritesToFault (q : Profile) (left_old left_new : Option (List ℕ)) (ms : List Mark) (m : CodeMark) (given : List Token) (f : Fault) (before after : Option (List ℕ)) : Type 0 where
   pub tokens : List Token
   pub passes : (read q tokens).fault ≡ None
-  pub followed : HasFollowed q ms tokens (model_mark m ∷ [])
+  pub matched : HasMatched q ms tokens (model_mark m ∷ [])
   pub no_game : (read q tokens).progress.games ≡ (read q given).progress.games
   pub stops : StopsWithin q left_old left_new m tokens before after f
 
@@ -397,21 +397,21 @@ AfterWrite q left_old left_new ms m given new (Err f) before after = WritesToFau
 abbrev pub WritesGame : Option (List ℕ) → Option (List ℕ) → Pass → CodeMark → Pass → Result Unit Fault → Option (List ℕ) → Option (List ℕ) → Type 0
 WritesGame left_before left_after old m new result before after =
     (q : Profile) (left_old : Option (List ℕ)) (given : List Token) (ms : List Mark) → q.missing_result ≡ takes_the_marker
-    → HasGiven q left_old left_before old given → part_after q given ≡ no_part → HasFollowed q ms given (model_mark m ∷ [])
+    → HasGiven q left_old left_before old given → part_after q given ≡ no_part → HasMatched q ms given (model_mark m ∷ [])
     → AfterWrite q left_old left_after ms m given new result before after
 
 -- what was written of the game so far
 pub record WritesSoFar (q : Profile) (left_old left_now : Option (List ℕ)) (ms : List Mark) (m : CodeMark) (given : List Token) (now : Pass) (before after : Option (List ℕ)) : Type 0 where
   pub tokens : List Token
   pub has_given : HasGiven q left_old left_now now tokens
-  pub followed : HasFollowed q ms tokens (model_mark m ∷ [])
+  pub matched : HasMatched q ms tokens (model_mark m ∷ [])
   pub no_game : (read q tokens).progress.games ≡ (read q given).progress.games
   pub appended : Appends before after (torn_after q m tokens)
 
 abbrev pub WritesGameSoFar : Option (List ℕ) → Option (List ℕ) → Pass → CodeMark → Pass → Option (List ℕ) → Option (List ℕ) → Type 0
 WritesGameSoFar left_before left_now old m now before after =
     (q : Profile) (left_old : Option (List ℕ)) (given : List Token) (ms : List Mark) → q.missing_result ≡ takes_the_marker
-    → HasGiven q left_old left_before old given → part_after q given ≡ no_part → HasFollowed q ms given (model_mark m ∷ [])
+    → HasGiven q left_old left_before old given → part_after q given ≡ no_part → HasMatched q ms given (model_mark m ∷ [])
     → WritesSoFar q left_old left_now ms m given now before after
 
 -- Both readings, game by game.
@@ -425,6 +425,6 @@ pub record BothSoFar (q : Profile) (first_old first_now second_old second_now : 
   pub first_given : HasGiven q first_old first_now first first_tokens
   pub second_given : HasGiven q second_old second_now second second_tokens
   pub marked : HasMarked q first_tokens marks
-  pub followed : HasFollowed q marks second_tokens []
+  pub matched : HasMatched q marks second_tokens []
   pub between : part_after q second_tokens ≡ no_part
   pub written : Appends before after (text_of q (read q second_tokens).progress.games)

@@ -6,13 +6,13 @@ ghost use Rattle.pgn_lexer.specs.Scanned.{kind_of};
 ghost use Rattle.pgn_lexer.specs.Tokens.{HasLength};
 ghost use Rattle.pgn_game.specs.declared.reason.Reason.TheVariants.{Changed};
 ghost use Rattle.pgn_game.specs.Checked.{checked_profile};
-ghost use Rattle.pgn_game.specs.ConvertingTwice.{ConvertsTwice, CountsTwice};
+ghost use Rattle.pgn_game.specs.CheckedConversion.{ConvertsTwice, CountsTwice};
 ghost use Rattle.pgn_game.specs.Pass.{CountsRead, CountsStep, CountsTaken, Fills, GoesBehind};
 ghost use Rattle.pgn_game.specs.Pass.{GoesOn, HasGiven};
 ghost use Rattle.pgn_game.specs.Pass.{IsGoing, IsTold, Keeps, LeavesReader, ReadsGame, Steps, Takes};
 ghost use Rattle.pgn_game.specs.Pass.{TakesKind, WritesGame, as_changed};
 ghost use Rattle.pgn_game.specs.Pass.{marks_differ as do_marks_differ};
-ghost use Rattle.pgn_game.specs.Reading.{whole_plies};
+ghost use Rattle.pgn_game.specs.ReaderState.{whole_plies};
 ghost use Rattle.pgn_game.specs.Size.{HoldsTwice};
 
 use crate::conversion::Totals;

@@ -2,9 +2,9 @@
 ghost use Rattle.std.specs.Prelude.{◌≡◌, ◌-◌, ◌≤◌, ◌^◌, length, false, None, ℕ, List, OnOk, IfSome};
 ghost use Rattle.pgn_lexer.specs.Tokens.{Token};
 ghost use Rattle.pgn_game.specs.Profile.{Profile};
-ghost use Rattle.pgn_game.specs.Feeding.{Stands, CountsFault, profile_of};
+ghost use Rattle.pgn_game.specs.ConverterCalls.{Stands, CountsFault, profile_of};
 ghost use Rattle.pgn_game.specs.Size.{Holds};
-ghost use Rattle.pgn_game.specs.Converting.{Converts, ConvertsSlice, AfterEnd, CountsResult, CountsSink};
+ghost use Rattle.pgn_game.specs.Conversion.{Converts, ConvertsSlice, AfterEnd, CountsResult, CountsSink};
 
 use crate::converter::Converter;
 use crate::mode::Mode;

@@ -6,15 +6,15 @@ ghost use Rattle.pgn_lexer.specs.Tokens.{Token};
 ghost use Rattle.pgn_lexer.specs.Stands.{first, HasLeft};
 ghost use Rattle.pgn_game.specs.declared.reason.Reason.TheVariants.{InputTooLong, Lexical};
 ghost use Rattle.pgn_game.specs.Profile.{Profile};
-ghost use Rattle.pgn_game.specs.Stepping.{FeedsFront, AfterStep, AfterStepAtEnd};
-ghost use Rattle.pgn_game.specs.Stepping.{StepAdvances, StepAtEndAdvances, outcome_at, games_after};
-ghost use Rattle.pgn_game.specs.Stepping.{fault_of_step};
-ghost use Rattle.pgn_game.specs.Stepping as stepping;
-ghost use Rattle.pgn_game.specs.Feeding.{HasRead, Stands, Feeds, KeepsGames, FeedsAll, Ends};
-ghost use Rattle.pgn_game.specs.Feeding.{Again, KeepsFault, CountsFault, Advances, profile_of};
-ghost use Rattle.pgn_game.specs.Feeding.{used_of, finished_game_value};
-ghost use Rattle.pgn_game.specs.Feeding.{finished_game_plies, finished_game_position};
-ghost use Rattle.pgn_game.specs.Reading.{whole_plies};
+ghost use Rattle.pgn_game.specs.ConverterSteps.{FeedsFront, AfterStep, AfterStepAtEnd};
+ghost use Rattle.pgn_game.specs.ConverterSteps.{StepAdvances, StepAtEndAdvances, outcome_at, games_after};
+ghost use Rattle.pgn_game.specs.ConverterSteps.{fault_of_step};
+ghost use Rattle.pgn_game.specs.ConverterSteps as steps;
+ghost use Rattle.pgn_game.specs.ConverterCalls.{HasRead, Stands, Feeds, KeepsGames, FeedsAll, Ends};
+ghost use Rattle.pgn_game.specs.ConverterCalls.{Again, KeepsFault, CountsFault, Advances, profile_of};
+ghost use Rattle.pgn_game.specs.ConverterCalls.{used_of, finished_game_value};
+ghost use Rattle.pgn_game.specs.ConverterCalls.{finished_game_plies, finished_game_position};
+ghost use Rattle.pgn_game.specs.ReaderState.{whole_plies};
 
 use crate::accepted::Accepted;
 use crate::mode::Mode;
@@ -77,8 +77,8 @@ pub struct Converter<const T: usize, const L: usize> {
 }
 
 impl<const T: usize, const L: usize> Model for Converter<T, L> {
-    ghost use Rattle.pgn_game.specs.Feeding.{Converter as Seen};
-    ghost use Rattle.pgn_game.specs.Feeding.{game_in_reader_if, IsSound};
+    ghost use Rattle.pgn_game.specs.ConverterCalls.{Converter as Seen};
+    ghost use Rattle.pgn_game.specs.ConverterCalls.{game_in_reader_if, IsSound};
 
     ghost Value = { Seen };
 
@@ -348,7 +348,7 @@ impl<const T: usize, const L: usize> Converter<T, L> {
         ensures games { self.new.games ≡ games_after result.outcome self.old.games }
         ensures probes { self.old.reading.most_probes ≤ self.new.reading.most_probes }
         ensures just_finished { is_some self.new.just_finished
-            ≡ stepping.finished_game result.outcome }
+            ≡ steps.finished_game result.outcome }
         ensures finished { self.new.is_finished ≡ self.old.is_finished }
         ensures counted { CountsFault result.outcome (W.failures out.old) (W.failures out.new) }
     {
@@ -387,7 +387,7 @@ impl<const T: usize, const L: usize> Converter<T, L> {
         ensures games { self.new.games ≡ games_after result self.old.games }
         ensures probes { self.old.reading.most_probes ≤ self.new.reading.most_probes }
         ensures none_just_finished { self.new.just_finished ≡ None }
-        ensures finished { self.new.is_finished ≡ stepping.is_ended result }
+        ensures finished { self.new.is_finished ≡ steps.is_ended result }
         ensures counted { CountsFault result (W.failures out.old) (W.failures out.new) }
     {
         match self.lexer.finish() {
@@ -475,7 +475,7 @@ pub fn lexical(fault: LexFault) -> Fault
 
 // Whether the step finished a game.
 fn finished_game(outcome: Result<Option<Accepted>, Fault>) -> bool
-    ensures { result ≡ stepping.finished_game outcome }
+    ensures { result ≡ steps.finished_game outcome }
 {
     match outcome {
         Ok(Some(Accepted::Finished)) => true,
@@ -485,7 +485,7 @@ fn finished_game(outcome: Result<Option<Accepted>, Fault>) -> bool
 
 // Whether the step read the end of the input.
 fn is_ended(outcome: Result<Option<Accepted>, Fault>) -> bool
-    ensures { result ≡ stepping.is_ended outcome }
+    ensures { result ≡ steps.is_ended outcome }
 {
     match outcome {
         Ok(None) => true,
@@ -498,7 +498,7 @@ fn none_at_end(
     is_end: bool,
     outcome: Result<Option<Accepted>, Fault>,
 ) -> Result<Option<Accepted>, Fault>
-    ensures { result ≡ stepping.none_at_end is_end outcome }
+    ensures { result ≡ steps.none_at_end is_end outcome }
 {
     match outcome {
         Ok(_) => {

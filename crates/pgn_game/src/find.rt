@@ -3,7 +3,7 @@ ghost use Rattle.std.specs.Prelude.{◌≡◌, ◌<◌, ◌≤◌, Some, IfOk, O
 ghost use Rattle.chess_rules.specs.Legal.{legal};
 ghost use Rattle.pgn_game.specs.Chess.{move_of};
 ghost use Rattle.pgn_game.specs.FaultTable.{is_at_limit as at_limit};
-ghost use Rattle.pgn_game.specs.Finding.{found_in};
+ghost use Rattle.pgn_game.specs.FoundMove.{found_in};
 ghost use Rattle.pgn_game.specs.Tried.{Costs};
 
 use crate::reason::Reason;

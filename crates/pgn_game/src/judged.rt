@@ -1,7 +1,7 @@
 //! What an accepted token means.
 ghost use Rattle.std.specs.Prelude.{◌≡◌};
 ghost use Rattle.pgn_game.specs.Text.{is_move as is_of_move};
-ghost use Rattle.pgn_game.specs.Judging.{model_item};
+ghost use Rattle.pgn_game.specs.Judgement.{model_item};
 
 use chess_text::Played;
 

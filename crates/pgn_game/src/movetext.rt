@@ -4,10 +4,10 @@ ghost use Rattle.pgn_layout.specs.Device.{device};
 ghost use Rattle.pgn_game.specs.Chess.{first_position};
 ghost use Rattle.pgn_game.specs.Game as games;
 ghost use Rattle.pgn_game.specs.Movetext.{movetext_from, movetext_after_fen};
-ghost use Rattle.pgn_game.specs.Judging.{IsLegal, ItemFits, model_item};
+ghost use Rattle.pgn_game.specs.Judgement.{IsLegal, ItemFits, model_item};
 ghost use Rattle.pgn_game.specs.MostTried.{CostsToWrite};
-ghost use Rattle.pgn_game.specs.Putting.{Adds, GoesOn, PutsTokens, Rises, TriesItem, WritesItem};
-ghost use Rattle.pgn_game.specs.Putting.{number_due, tokens_due, writes};
+ghost use Rattle.pgn_game.specs.ItemResult.{Adds, GoesOn, PutsTokens, Rises, TriesItem, WritesItem};
+ghost use Rattle.pgn_game.specs.ItemResult.{number_due, tokens_due, writes};
 
 use crate::judged::Item;
 use crate::levels::Levels;

@@ -19,7 +19,7 @@ impl Model for TagPair {
     ghost use Rattle.std.specs.Prelude.{◌+◌, ◌≤◌, length, take, drop};
     ghost use Rattle.pgn_layout.specs.TagLine.{escaped};
     ghost use Rattle.pgn_game.specs.Pairs.{Pair};
-    ghost use Rattle.pgn_game.specs.Holding.{FitsOnLine};
+    ghost use Rattle.pgn_game.specs.StoredPairs.{FitsOnLine};
 
     ghost Value = { Pair };
 

@@ -17,10 +17,10 @@ ghost use Rattle.pgn_game.specs.declared.judged.Judged.TheVariants.{Entry as InT
 ghost use Rattle.pgn_game.specs.Profile.{counts_as, known_result};
 ghost use Rattle.pgn_game.specs.Markers.{marker_text};
 ghost use Rattle.pgn_game.specs.Movetext.{movetext_from};
-ghost use Rattle.pgn_game.specs.Reading.{Accepts, Stays, FinishesAtMarker, CountsWrites};
-ghost use Rattle.pgn_game.specs.Judging.{Finds, Fits, Judges, JudgesEntry, OnlyProbesRise, Seeks, may_have_movetext};
-ghost use Rattle.pgn_game.specs.Judging.{fen_position as position_in_fen};
-ghost use Rattle.pgn_game.specs.Handling.{BeginsText, PutResult, TriesJudged, begins_game, ready_for_token};
+ghost use Rattle.pgn_game.specs.ReaderState.{Accepts, Stays, FinishesAtMarker, CountsWrites};
+ghost use Rattle.pgn_game.specs.Judgement.{Finds, Fits, Judges, JudgesEntry, OnlyProbesRise, Seeks, may_have_movetext};
+ghost use Rattle.pgn_game.specs.Judgement.{fen_position as position_in_fen};
+ghost use Rattle.pgn_game.specs.PutResult.{BeginsText, PutResult, TriesJudged, begins_game, ready_for_token};
 ghost use Rattle.pgn_game.specs.FaultTable.{is_result as is_any_result, is_reduced};
 ghost use Rattle.pgn_game.specs.FaultTable.{lacks_fen as set_up_lacks_fen, marker_of};
 
@@ -60,9 +60,9 @@ impl<const T: usize, const L: usize> Model for Reader<T, L> {
     ghost use Rattle.std.specs.Prelude.{◌-◌, ◌≤◌};
     ghost use Rattle.pgn_game.specs.Profile.{counts_as};
     ghost use Rattle.pgn_game.specs.Markers.{marker_text};
-    ghost use Rattle.pgn_game.specs.Reading.{Reading, AreSound};
+    ghost use Rattle.pgn_game.specs.ReaderState.{ReaderState, AreSound};
 
-    ghost Value = { Reading };
+    ghost Value = { ReaderState };
 
     ghost view = { λ r. record {
       profile = record {

@@ -2,8 +2,8 @@
 ghost use Rattle.std.specs.Prelude.{◌≡◌, ◌+◌, ◌<◌, ◌≤◌, ◌↔◌, [], ◌∷◌, ◌++◌, List, IsTrue, IfSome, IsSome, IsSomeAnd, Some, None, insert, length};
 ghost use Rattle.pgn_layout.specs.TagLine.{escaped};
 ghost use Rattle.pgn_game.specs.Pairs.{Pair, value_of, comes_before, insert_pair};
-ghost use Rattle.pgn_game.specs.Holding as spec;
-ghost use Rattle.pgn_game.specs.Holding.{last_name, but_last};
+ghost use Rattle.pgn_game.specs.StoredPairs as spec;
+ghost use Rattle.pgn_game.specs.StoredPairs.{last_name, but_last};
 ghost use Rattle.std.specs.Option.{option_copied};
 
 use crate::pair::TagPair;
@@ -18,8 +18,8 @@ pub struct TagPairs<const T: usize> {
 }
 
 impl<const T: usize> Model for TagPairs<T> {
-    ghost use Rattle.pgn_game.specs.Holding.{TagPairs as Seen};
-    ghost use Rattle.pgn_game.specs.Holding.{pairs_seen, FitsPairStore};
+    ghost use Rattle.pgn_game.specs.StoredPairs.{TagPairs as Seen};
+    ghost use Rattle.pgn_game.specs.StoredPairs.{pairs_seen, FitsPairStore};
 
     ghost Value = { Seen };
 

@@ -4,13 +4,13 @@ pub mod Decided
 pub mod PartialToken
 pub mod Laws
 pub mod Lexes
-pub mod Running
+pub mod RunResult
 pub mod Scanned
 pub mod Sound
 pub mod Spelling
 pub mod Standing
 pub mod Stands
-pub mod Taking
+pub mod ByteResult
 pub mod Tokens
 pub mod TokensOf
 pub mod Written

@@ -1,7 +1,7 @@
 //! The current token: its place, its mode, and what was read of it.
 
 ghost use Rattle.std.specs.Prelude.{◌≡◌, []};
-ghost use Rattle.pgn_lexer.specs.Taking as taking;
+ghost use Rattle.pgn_lexer.specs.ByteResult as after;
 
 mod byte;
 mod end;
@@ -163,7 +163,7 @@ impl PartialToken {
 
 /// The NAG of a suffix (PGN 8.2.3.8, 10).
 pub(crate) fn glyph_of(run: SuffixRun) -> u8
-    ensures { result ≡ taking.glyph_of run }
+    ensures { result ≡ after.glyph_of run }
 {
     match run {
         SuffixRun::Good => 1,

@@ -2,7 +2,7 @@
 pub mod CallToLines
 pub mod ConversionToRun
 pub mod ConversionTwiceToFront
-pub mod ConversionTwiceToRun
+pub mod CheckedConversionToRun
 pub mod FileToRun
 pub mod PartsOfText
 pub mod TokensInTwoParts

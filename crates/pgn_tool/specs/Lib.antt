@@ -1,14 +1,14 @@
 -- **Bookkeeping**: the list of this crate's files of definitions.
 pub mod CommandLine
 pub mod Requests
-pub mod Listing
+pub mod ListLines
 pub mod ListState
-pub mod Running
-pub mod RunningTwice
-pub mod Refusing
+pub mod TaskRun
+pub mod CheckedRun
+pub mod Replies
 pub mod FileName
 pub mod Files
-pub mod Splitting
+pub mod SplitFiles
 pub mod Machine
 pub mod Program
 pub mod SplitGames

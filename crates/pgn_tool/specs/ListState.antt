@@ -7,10 +7,10 @@ use Rattle.pgn_lexer.specs.Decided.{decided}
 use Rattle.pgn_lexer.specs.Stands.{IsDecided, first}
 use Rattle.pgn_game.specs.declared.reason.Fault.{Fault}
 use Rattle.pgn_game.specs.Progress.{read}
-use Rattle.pgn_game.specs.Feeding.{Converter, Stands, StopsIn}
+use Rattle.pgn_game.specs.ConverterCalls.{Converter, Stands, StopsIn}
 use Rattle.pgn_tool.specs.declared.list.Stopped.{Stopped}
 use Rattle.pgn_tool.specs.declared.list.Stopped.TheVariants.{Refused, Unwritten}
-use Rattle.pgn_tool.specs.Listing.{CountsList, CutsLine, IsListed, ListsNoMore, lines_of, list_profile}
+use Rattle.pgn_tool.specs.ListLines.{CountsList, CutsLine, IsListed, ListsNoMore, lines_of, list_profile}
 
 -- The converter stands after the bytes u, before the bytes of `rest`, and from `before` on the
 -- lines of the games so far were written.

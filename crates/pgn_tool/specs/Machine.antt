@@ -5,7 +5,7 @@ use Rattle.std.specs.Prelude.{◌≡◌, ℕ, Bool, true, List, Option, Result, 
 use Rattle.pgn_layout.specs.Device.{Device, device}
 use Rattle.pgn_tool.specs.declared.machine.SystemFault.{SystemFault}
 use Rattle.pgn_tool.specs.Files.{FileStep}
-use Rattle.pgn_tool.specs.Running.{IsUntouched}
+use Rattle.pgn_tool.specs.TaskRun.{IsUntouched}
 
 -- ---- files to read
 

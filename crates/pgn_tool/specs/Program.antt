@@ -12,11 +12,11 @@ use Rattle.pgn_tool.specs.declared.machine.SystemFault.{SystemFault}
 use Rattle.pgn_tool.specs.declared.machine.SystemFault.TheVariants.{Refused, NoMemory}
 use Rattle.pgn_tool.specs.Files.{FileStep, added, entered}
 use Rattle.pgn_tool.specs.Machine.{Holding, Machine, Opens, Reading, holds, missing}
-use Rattle.pgn_tool.specs.Refusing.{AnswersFault}
+use Rattle.pgn_tool.specs.Replies.{AnswersFault}
 use Rattle.pgn_tool.specs.Requests.{AnswersBy, file_of, refusals, request_in, request_of}
-use Rattle.pgn_tool.specs.Running.{Answers, IsSmooth, IsUntouched, Job, Runs, Tells, job_of, line, mode_for}
-use Rattle.pgn_tool.specs.RunningTwice.{AnswersSame, AnswersTwice, RunsTwice}
-use Rattle.pgn_tool.specs.Splitting.{RunsSplit}
+use Rattle.pgn_tool.specs.TaskRun.{Answers, IsSmooth, IsUntouched, Job, Runs, Tells, job_of, line, mode_for}
+use Rattle.pgn_tool.specs.CheckedRun.{AnswersSame, AnswersTwice, RunsTwice}
+use Rattle.pgn_tool.specs.SplitFiles.{RunsSplit}
 
 -- ---- what is read
 

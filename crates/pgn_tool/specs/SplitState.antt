@@ -7,10 +7,10 @@ use Rattle.pgn_lexer.specs.Decided.{decided}
 use Rattle.pgn_lexer.specs.Stands.{IsDecided, first}
 use Rattle.pgn_game.specs.declared.reason.Fault.{Fault}
 use Rattle.pgn_game.specs.Progress.{read}
-use Rattle.pgn_game.specs.Feeding.{Converter, Stands, StopsIn}
+use Rattle.pgn_game.specs.ConverterCalls.{Converter, Stands, StopsIn}
 use Rattle.pgn_tool.specs.declared.split.Unsplit.{Unsplit}
 use Rattle.pgn_tool.specs.declared.split.Unsplit.TheVariants.{Refused}
-use Rattle.pgn_tool.specs.Listing.{list_profile}
+use Rattle.pgn_tool.specs.ListLines.{list_profile}
 use Rattle.pgn_tool.specs.Files.{FileStep, added, closing_steps, number_after, opening_steps, open_text, whole_files}
 use Rattle.pgn_tool.specs.SplitGames.{CutsFile, IsSplit, IsSplitWhole, Logs, SplitsNoMore, files_of, texts_in, torn_text}
 

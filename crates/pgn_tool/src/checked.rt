@@ -1,9 +1,9 @@
 //! Carries out `export --checked`, which reads its file twice.
 ghost use Rattle.std.specs.Prelude.{◌≡◌, ◌≤◌, ℕ, List, true};
 ghost use Rattle.pgn_layout.specs.Device.{device};
-ghost use Rattle.pgn_tool.specs.Running.{IsSmooth, mode_for};
-ghost use Rattle.pgn_tool.specs.RunningTwice.{AnswersSame, AnswersTwice, Gives, RunsTwice, WritesFront};
-ghost use Rattle.pgn_tool.specs.RunningTwice.{checked_mode, is_checked};
+ghost use Rattle.pgn_tool.specs.TaskRun.{IsSmooth, mode_for};
+ghost use Rattle.pgn_tool.specs.CheckedRun.{AnswersSame, AnswersTwice, Gives, RunsTwice, WritesFront};
+ghost use Rattle.pgn_tool.specs.CheckedRun.{checked_mode, is_checked};
 
 use crate::arguments::Task;
 use crate::stream::{LEVELS, TAGS, conclude, export_mode, refuse};

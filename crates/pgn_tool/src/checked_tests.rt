@@ -1,6 +1,6 @@
 //! Runs of `export --checked` on two sources, with devices that fail.
 ghost use Rattle.std.specs.Prelude.{◌≡◌, true};
-ghost use Rattle.pgn_tool.specs.RunningTwice.{is_checked};
+ghost use Rattle.pgn_tool.specs.CheckedRun.{is_checked};
 
 use crate::arguments::Task;
 use crate::checked::run_checked;

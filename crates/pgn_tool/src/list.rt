@@ -1,9 +1,9 @@
 //! Writes a line for each game.
 ghost use Rattle.std.specs.Prelude.{◌≡◌, ◌+◌, ◌^◌, ◌≤◌, [], length, false, None, OnOk, unwrap_or};
 ghost use Rattle.pgn_layout.specs.Device.{Counts, Writes};
-ghost use Rattle.pgn_tool.specs.Listing.{CountsList, ListResult, field, line_just_finished, six_fields};
+ghost use Rattle.pgn_tool.specs.ListLines.{CountsList, ListResult, field, line_just_finished, six_fields};
 ghost use Rattle.pgn_tool.specs.ListState.{CountsListSink, ListEndResult, ListPieceResult};
-ghost use Rattle.pgn_game.specs.Feeding.{finished_game_value};
+ghost use Rattle.pgn_game.specs.ConverterCalls.{finished_game_value};
 
 use crate::stream::{LEVELS, READ_LENGTH, TAGS};
 use chess_text::write_fen;

@@ -1,8 +1,8 @@
 //! The replies if no task is run.
 ghost use Rattle.std.specs.Prelude.{◌≡◌, codes};
 ghost use Rattle.pgn_layout.specs.Device.{device};
-ghost use Rattle.pgn_tool.specs.Running.{Tells, line};
-ghost use Rattle.pgn_tool.specs.Refusing.{AnswersFault, Shows};
+ghost use Rattle.pgn_tool.specs.TaskRun.{Tells, line};
+ghost use Rattle.pgn_tool.specs.Replies.{AnswersFault, Shows};
 
 use crate::arguments::ParseFault;
 use crate::stream::{conclude, tell};

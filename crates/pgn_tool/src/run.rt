@@ -3,8 +3,8 @@ ghost use Rattle.std.specs.Prelude.{◌≡◌, ℕ, ◌≤◌, false, true, List
 ghost use Rattle.pgn_layout.specs.Device.{device};
 ghost use Rattle.pgn_tool.specs.Machine.{machine, missing, reading};
 ghost use Rattle.pgn_tool.specs.Requests.{file_of, request_of};
-ghost use Rattle.pgn_tool.specs.Running.{is_for_stream, job_of};
-ghost use Rattle.pgn_tool.specs.RunningTwice.{checked_mode, is_checked};
+ghost use Rattle.pgn_tool.specs.TaskRun.{is_for_stream, job_of};
+ghost use Rattle.pgn_tool.specs.CheckedRun.{checked_mode, is_checked};
 ghost use Rattle.pgn_tool.specs.Program.{Carries, EndsUnopened, IsMissing, Ran, RunsAgain, RunsBoth};
 ghost use Rattle.pgn_tool.specs.Program.{RunsOpened, RunsStream, RunsToOutput, StartsFrom, makes_files};
 

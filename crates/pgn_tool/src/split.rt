@@ -1,11 +1,11 @@
 //! Writes each game to a file of its own.
 ghost use Rattle.std.specs.Prelude.{◌≡◌, ◌+◌, ◌^◌, ◌≤◌, false, None, List, Option, OnOk, is_some, length, if◌then◌else◌};
 ghost use Rattle.pgn_layout.specs.Device.{device, one_more};
-ghost use Rattle.pgn_game.specs.Feeding.{CountsFault, Ends, Feeds};
+ghost use Rattle.pgn_game.specs.ConverterCalls.{CountsFault, Ends, Feeds};
 ghost use Rattle.pgn_tool.specs.Files.{FileStep, added, closing_steps, open_text};
 ghost use Rattle.pgn_tool.specs.SplitGames.{SplitResult};
 ghost use Rattle.pgn_tool.specs.SplitState.{AfterClosingFile, SplitEndResult, SplitPieceResult};
-ghost use Rattle.pgn_tool.specs.Splitting.{CountsSplit, FeedResult, FilesAfter, FilesSoFar, GameEnded, GameFed, IsWell, RunsSplit, TurnResult, settled};
+ghost use Rattle.pgn_tool.specs.SplitFiles.{CountsSplit, FeedResult, FilesAfter, FilesSoFar, GameEnded, GameFed, IsWell, RunsSplit, TurnResult, settled};
 
 use crate::files::{CreateFault, GameFiles};
 use crate::game_sink::{Before, GameSink, Turn};

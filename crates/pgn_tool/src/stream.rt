@@ -3,7 +3,7 @@ ghost use Rattle.std.specs.Prelude.{◌≡◌, ℕ, ◌+◌, ◌≤◌, List, �
 ghost use Rattle.std.specs.Io.KnownBytes.{Appends};
 ghost use Rattle.pgn_layout.specs.Device.{device};
 ghost use Rattle.pgn_game.specs.Reason.{line_of};
-ghost use Rattle.pgn_tool.specs.Running.{Answers, HasFailed, HasFront, IsSmooth, Runs, Tells, checking, counting_line, exporting, is_for_stream, job_of, line, listing, mode_for};
+ghost use Rattle.pgn_tool.specs.TaskRun.{Answers, HasFailed, HasFront, IsSmooth, Runs, Tells, checking, counting_line, exporting, is_for_stream, job_of, line, listing, mode_for};
 
 use crate::arguments::Task;
 use crate::list::{Stopped, list_games};

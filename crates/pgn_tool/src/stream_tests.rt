@@ -1,6 +1,6 @@
 //! Runs of the tasks, with devices that fail.
 ghost use Rattle.std.specs.Prelude.{◌≡◌, true};
-ghost use Rattle.pgn_tool.specs.Running.{is_for_stream};
+ghost use Rattle.pgn_tool.specs.TaskRun.{is_for_stream};
 
 use crate::arguments::Task;
 use crate::devices::{Page, Reader, Trouble, memory, whole};

@@ -13,7 +13,7 @@ use Rattle.pgn_game.specs.Chess.{move_of, play, text_of_move, position_of, first
 use Rattle.pgn_game.specs.FaultTable.{refusal}
 use Rattle.pgn_game.specs.TagSection.{roster}
 use Rattle.pgn_game.specs.Progress.{Verdict, totals, due, output}
-use Rattle.pgn_game.specs.Checked.{checked_profile, followed, written_by, checked_verdict, checked_output}
+use Rattle.pgn_game.specs.Checked.{checked_profile, compared, written_by, checked_verdict, checked_output}
 use Rattle.pgn_vectors.proofs.WorkedRows.{counted, fault, head, unknown}
 
 abbrev twice : Profile
@@ -100,14 +100,14 @@ reduced_twice = (refl, refl)
 -- text is written, as one reading has written it by then.
 abbrev FirstStops : List ℕ → List ℕ → List ℕ → Type 0
 FirstStops u x text =
-    let f = followed twice (decided u) (tokens_of (u ++ x)) in
-    (f.fault ≡ None) × (f.ahead ≡ []) × (written_by twice f ≡ text) × (due twice (decided u) ≡ text)
+    let f = compared twice (decided u) (tokens_of (u ++ x)) in
+    (f.fault ≡ None) × (f.marks_left ≡ []) × (written_by twice f ≡ text) × (due twice (decided u) ≡ text)
 
 -- `second` gives u alone: one reading has written `before` by then, and two write `torn` of the
 -- current game behind it. The whole output goes on with `after`.
 abbrev SecondStops : List ℕ → List ℕ → List ℕ → List ℕ → List ℕ → Type 0
 SecondStops u x before torn after =
-    let f = followed twice (tokens_of (u ++ x)) (decided u) in
+    let f = compared twice (tokens_of (u ++ x)) (decided u) in
     (f.fault ≡ None) × (due twice (decided u) ≡ before) × (written_by twice f ≡ before ++ torn) × (output twice (u ++ x) ≡ before ++ torn ++ after)
 
 first_stops_in_a_marker : FirstStops (codes "1-0 0-") (codes "1 *") (head_of (codes "1-0") ++ codes "1-0\n\n")
@@ -146,6 +146,6 @@ unfolding refusal roster move_of play text_of_move position_of first_position sq
 second_stops_in_a_game_at_fault = (refl, refl, refl, refl)
 
 -- at its first move, the tag section of a game is written
-written_at_a_move : written_by twice (followed twice (tokens_of (codes "e4 1-0")) (take 1 (tokens_of (codes "e4 1-0")))) ≡ head_of (codes "1-0")
+written_at_a_move : written_by twice (compared twice (tokens_of (codes "e4 1-0")) (take 1 (tokens_of (codes "e4 1-0")))) ≡ head_of (codes "1-0")
 unfolding refusal roster move_of play text_of_move position_of first_position squares agreeing digits
 written_at_a_move = refl

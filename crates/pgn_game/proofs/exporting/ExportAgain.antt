@@ -13,8 +13,8 @@ use Rattle.pgn_game.specs.declared.reason.Fault.{Fault}
 use Rattle.pgn_game.specs.declared.stage.Stage.TheVariants.{Between}
 use Rattle.pgn_game.specs.declared.conversion.Totals.{Totals}
 use Rattle.pgn_game.specs.Progress.{Progress, progress_after, Read, read_from, read, output, verdict, Counted, refused as is_refused, totals}
-use Rattle.pgn_game.specs.Converting.{FailsOn, Fails}
-use Rattle.pgn_game.specs.Converting as converting
+use Rattle.pgn_game.specs.Conversion.{FailsOn, Fails}
+use Rattle.pgn_game.specs.Conversion as conversion
 use Rattle.pgn_game.specs.FaultTable.{refusal, is_end}
 use Rattle.pgn_game.specs.Filled.{filled}
 use Rattle.pgn_game.specs.FixedPoint.{AreExportable, TextSpells, SameText, counted, IsWrittenAgain, SliceIsKept, SourceIsKept, FixedPoint, ExportIsKept, ExportIsKeptOfSource, games_in, IsExportable, ExportingTwice, SameOutput, FewPairsHaveRoom}
@@ -77,16 +77,16 @@ same_totals t gs e =
     (sym (ap (λ (c : Counted). c.games) counts), sym (ap (λ (c : Counted). c.plies) counts))
 
 written_again : (p : Profile) (s : List ℕ) (gs : List Game) (t : Totals) (before after : Option (List ℕ)) → output p s ≡ text_of p gs → verdict p s ≡ totals (counted gs)
-    → converting.IsTotalled p s t before after → IsWrittenAgain p gs t before after
+    → conversion.IsTotalled p s t before after → IsWrittenAgain p gs t before after
 written_again p s gs t before after out ver h =
     let numbers = same_totals t gs (sym ver ∙ h.converted.0) in
     (numbers.0, numbers.1, subst (Appends before after) out h.converted.1)
 
 slice_fails : (p : Profile) (s : List ℕ) (gs : List Game) (f : Fault) (before after : Option (List ℕ)) → verdict p s ≡ totals (counted gs) → length s ≤ 2 ^ 62
     → FailsOn p s before after f → SliceIsKept p gs (Err f) before after
-slice_fails p s gs _ before after ver short (converting.FailsOn.refused f h) = absurd (no_fault p s gs f ver h.0)
-slice_fails p s gs _ before after ver short (converting.FailsOn.unwritten at stops) = refl
-slice_fails p s gs _ before after ver short (converting.FailsOn.too_long u rest e long some none) =
+slice_fails p s gs _ before after ver short (conversion.FailsOn.refused f h) = absurd (no_fault p s gs f ver h.0)
+slice_fails p s gs _ before after ver short (conversion.FailsOn.unwritten at stops) = refl
+slice_fails p s gs _ before after ver short (conversion.FailsOn.too_long u rest e long some none) =
     absurd (let sum = ap length e in omega (arith, length-append u rest))
 
 some_text : (o : Option (List ℕ)) (s : List ℕ) (P : List ℕ → Type 0) → o ≡ Some s → IfSome o P → P s
@@ -101,11 +101,11 @@ consumed_fits o n s u e h = by_rest n (let Q : Option (List ℕ) → Type 0 = λ
 
 source_fails : (p : Profile) (s : List ℕ) (gs : List Game) (f : Fault) (left_old left_new before after : Option (List ℕ)) → verdict p s ≡ totals (counted gs) → length s ≤ 2 ^ 62
     → left_old ≡ Some s → Fails p left_old left_new before after f → SourceIsKept p gs (Err f) before after
-source_fails p s gs _ left_old left_new before after ver short left (converting.Fails.refused f h) =
-    absurd (no_fault p s gs f ver (some_text left_old s (λ x. converting.IsConverted p x (is_refused f) before after) left h).0)
-source_fails p s gs _ left_old left_new before after ver short left (converting.Fails.unread u consumed none) = inl refl
-source_fails p s gs _ left_old left_new before after ver short left (converting.Fails.unwritten u at consumed stops) = inr refl
-source_fails p s gs _ left_old left_new before after ver short left (converting.Fails.too_long u rest consumed long some none) =
+source_fails p s gs _ left_old left_new before after ver short left (conversion.Fails.refused f h) =
+    absurd (no_fault p s gs f ver (some_text left_old s (λ x. conversion.IsConverted p x (is_refused f) before after) left h).0)
+source_fails p s gs _ left_old left_new before after ver short left (conversion.Fails.unread u consumed none) = inl refl
+source_fails p s gs _ left_old left_new before after ver short left (conversion.Fails.unwritten u at consumed stops) = inr refl
+source_fails p s gs _ left_old left_new before after ver short left (conversion.Fails.too_long u rest consumed long some none) =
     absurd (let fits = consumed_fits left_old left_new s (u ++ rest) left consumed in omega (arith, length-append u rest))
 
 -- The laws.
@@ -143,7 +143,7 @@ pub source_is_kept : FixedPoint → ExportIsKeptOfSource
 source_is_kept fixed p gs (Ok t) left_old left_new before after h short left done =
     let f = fixed p gs h in
     written_again p (text_of p gs) gs t before after f.0 f.1
-    (some_text left_old (text_of p gs) (λ s. converting.IsTotalled p s t before after) left done)
+    (some_text left_old (text_of p gs) (λ s. conversion.IsTotalled p s t before after) left done)
 source_is_kept fixed p gs (Err f) left_old left_new before after h short left fails =
     source_fails p (text_of p gs) gs f left_old left_new before after (fixed p gs h).1 short left fails
 

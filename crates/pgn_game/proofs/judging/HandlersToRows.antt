@@ -5,9 +5,9 @@ use Rattle.pgn_lexer.specs.declared.token.TokenKind.{TokenKind}
 use Rattle.pgn_lexer.specs.declared.token.TokenKind.TheVariants as variants
 use Rattle.pgn_game.specs.declared.stage.Stage.TheVariants.{AfterTags}
 use Rattle.pgn_game.specs.Game.{Part}
-use Rattle.pgn_game.specs.Holding.{TagPairs}
+use Rattle.pgn_game.specs.StoredPairs.{TagPairs}
 use Rattle.pgn_game.specs.FaultTable.{is_left_bracket, is_end, lacks_fen}
-use Rattle.pgn_game.specs.Reading.{Reading, Agrees}
+use Rattle.pgn_game.specs.ReaderState.{ReaderState, Agrees}
 use Rattle.pgn_game.proofs.judging.PartsToJudgement.{held_at}
 
 -- a token that is no `[`, and one that is not the end
@@ -20,5 +20,5 @@ no_end variants.End other = absurd (other refl)
 no_end _ other = refl
 
 -- the pairs held are those of the part, so SetUp asks for the same
-pub lacks_of : (old : Reading) (part : Part) (lacks : Bool) → Agrees old part → old.stage ≡ AfterTags → lacks_fen old.tags.held ≡ lacks → lacks_fen part.pairs ≡ lacks
+pub lacks_of : (old : ReaderState) (part : Part) (lacks : Bool) → Agrees old part → old.stage ≡ AfterTags → lacks_fen old.tags.held ≡ lacks → lacks_fen part.pairs ≡ lacks
 lacks_of old part lacks agrees at is = ap (λ (t : TagPairs). lacks_fen t.held) (sym (held_at old part AfterTags agrees at)) ∙ is

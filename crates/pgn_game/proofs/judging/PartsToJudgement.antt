@@ -17,15 +17,15 @@ use Rattle.pgn_game.specs.declared.reason.Reason.{Reason}
 use Rattle.pgn_game.specs.declared.stage.Stage.{Stage}
 use Rattle.pgn_game.specs.declared.stage.Stage.TheVariants.{AfterTags, InMovetext, Between}
 use Rattle.pgn_game.specs.Pairs.{Pair, value_of, has_pair}
-use Rattle.pgn_game.specs.Holding.{TagPairs}
+use Rattle.pgn_game.specs.StoredPairs.{TagPairs}
 use Rattle.pgn_game.specs.Game.{Item, Part}
 use Rattle.pgn_game.specs.Levels.{start_of}
 use Rattle.pgn_game.specs.FaultTable.{refusal, is_at, is_comment, is_left_bracket, is_end, lacks_fen, stage_number}
 use Rattle.pgn_game.specs.Progress.{Next, next, in_text}
 use Rattle.pgn_game.specs.Movetext.{Movetext, HoldsItems, movetext_from}
-use Rattle.pgn_game.specs.Reading.{Reading, Agrees, HoldsPairs, HoldsText, has_move, is_outside_the_table}
-use Rattle.pgn_game.specs.Judging.{Fits, FinalIsMarker, Judges, JudgesEntry, IsOpen, outcome_of, after, may_have_movetext, text_refusal}
-use Rattle.pgn_game.specs.Handling.{begins_game}
+use Rattle.pgn_game.specs.ReaderState.{ReaderState, Agrees, HoldsPairs, HoldsText, has_move, is_outside_the_table}
+use Rattle.pgn_game.specs.Judgement.{Fits, FinalIsMarker, Judges, JudgesEntry, IsOpen, outcome_of, after, may_have_movetext, text_refusal}
+use Rattle.pgn_game.specs.PutResult.{begins_game}
 use Rattle.pgn_game.proofs.judging.RowsByStage.{drops_comments}
 use Rattle.pgn_game.proofs.judging.RefusalsByStage.{IsMovetext, comment_passes, judged_in_text, passes_between}
 
@@ -38,7 +38,7 @@ says_goes o to there e h = ap (λ (x : Option Reason). outcome_of x to) e ∙ ap
 
 -- Tokens for which no pair was tried.
 
-pub refused : (tags levels : ℕ) (old : Reading) (k : Kind) (reason : Reason) → IsFalse (is_outside_the_table reason)
+pub refused : (tags levels : ℕ) (old : ReaderState) (k : Kind) (reason : Reason) → IsFalse (is_outside_the_table reason)
     → ((part : Part) → Agrees old part → refusal old.profile part k ≡ Some reason) → Judges tags levels old k (Err reason)
 refused tags levels old k reason inside why = record {
   judges = λ part agrees. says_refused _ (next part k) reason (why part agrees);
@@ -46,7 +46,7 @@ refused tags levels old k reason inside why = record {
   final_is_marker = tt;
 }
 
-pub goes : (tags levels : ℕ) (old : Reading) (k : Kind) (j : Judged) → Fits tags levels old j → FinalIsMarker k j
+pub goes : (tags levels : ℕ) (old : ReaderState) (k : Kind) (j : Judged) → Fits tags levels old j → FinalIsMarker k j
     → ((part : Part) → Agrees old part → (refusal old.profile part k ≡ None) × (next part k ≡ after j part)) → Judges tags levels old k (Ok j)
 goes tags levels old k j fits final_is_marker on = record {
   judges = λ part agrees. says_goes _ (next part k) (after j part) (on part agrees).0 (on part agrees).1;
@@ -54,7 +54,7 @@ goes tags levels old k j fits final_is_marker on = record {
   final_is_marker = final_is_marker;
 }
 
-pub entry_refused : (tags levels : ℕ) (old : Reading) (k : Kind) (reason : Reason) → IsFalse (is_outside_the_table reason)
+pub entry_refused : (tags levels : ℕ) (old : ReaderState) (k : Kind) (reason : Reason) → IsFalse (is_outside_the_table reason)
     → ((part : Part) → IsOpen old part → text_refusal old.profile part k ≡ Some reason) → JudgesEntry tags levels old k (Err reason)
 entry_refused tags levels old k reason inside why = record {
   judges = λ part is. says_refused _ (in_text part k) reason (why part is);
@@ -62,7 +62,7 @@ entry_refused tags levels old k reason inside why = record {
   final_is_marker = tt;
 }
 
-pub entry_goes : (tags levels : ℕ) (old : Reading) (k : Kind) (j : Judged) → Fits tags levels old j → FinalIsMarker k j
+pub entry_goes : (tags levels : ℕ) (old : ReaderState) (k : Kind) (j : Judged) → Fits tags levels old j → FinalIsMarker k j
     → ((part : Part) → IsOpen old part → (text_refusal old.profile part k ≡ None) × (in_text part k ≡ after j part)) → JudgesEntry tags levels old k (Ok j)
 entry_goes tags levels old k j fits final_is_marker on = record {
   judges = λ part is. says_goes _ (in_text part k) (after j part) (on part is).0 (on part is).1;
@@ -71,24 +71,24 @@ entry_goes tags levels old k j fits final_is_marker on = record {
 }
 
 -- The part is at the reader's stage, and what the reader holds of it there.
-pub part_stage : (old : Reading) (part : Part) (stage : Stage) → Agrees old part → old.stage ≡ stage → part.stage ≡ stage
+pub part_stage : (old : ReaderState) (part : Part) (stage : Stage) → Agrees old part → old.stage ≡ stage → part.stage ≡ stage
 part_stage old part stage agrees at = sym agrees.stage ∙ at
 
-pub held_at : (old : Reading) (part : Part) (stage : Stage) → Agrees old part → old.stage ≡ stage → HoldsPairs stage old.tags part
+pub held_at : (old : ReaderState) (part : Part) (stage : Stage) → Agrees old part → old.stage ≡ stage → HoldsPairs stage old.tags part
 held_at old part stage agrees at = subst (λ (s : Stage). HoldsPairs s old.tags part) at agrees.pairs
 
-pub text_at : (old : Reading) (part : Part) (stage : Stage) → Agrees old part → old.stage ≡ stage → HoldsText stage old part
+pub text_at : (old : ReaderState) (part : Part) (stage : Stage) → Agrees old part → old.stage ≡ stage → HoldsText stage old part
 text_at old part stage agrees at = subst (λ (s : Stage). HoldsText s old part) at agrees.text
 
 -- a comment in a pair
-pub comment : (tags levels : ℕ) (old : Reading) (k : TokenKind) (stage : Stage) → old.stage ≡ stage → IsTrue (drops_comments stage) → true ≡ is_comment (kind_of k)
+pub comment : (tags levels : ℕ) (old : ReaderState) (k : TokenKind) (stage : Stage) → old.stage ≡ stage → IsTrue (drops_comments stage) → true ≡ is_comment (kind_of k)
     → Judges tags levels old (kind_of k) (Ok Skipped)
 comment tags levels old k stage at drops is =
     goes tags levels old (kind_of k) Skipped tt (λ e. absurd (cc))
     (λ part agrees. comment_passes old.profile part k stage (sym at ∙ agrees.stage) drops is)
 
 -- a token between games that begins none
-pub passed : (tags levels : ℕ) (old : Reading) (k : TokenKind) → old.stage ≡ Between → begins_game old.stage (kind_of k) ≡ false
+pub passed : (tags levels : ℕ) (old : ReaderState) (k : TokenKind) → old.stage ≡ Between → begins_game old.stage (kind_of k) ≡ false
     → Judges tags levels old (kind_of k) (Ok Skipped)
 passed tags levels old k at is = record {
   judges = λ part agrees. passes_between old.profile part k (part_stage old part Between agrees at) (ap (λ (s : Stage). begins_game s (kind_of k)) (sym at) ∙ is);
@@ -116,7 +116,7 @@ held_none : (mode : Mode) (start : Parts) (items : List Item) (text : Movetext) 
 held_none mode start items text line none begins_game empty = rw (none, begins_game, empty) (nothing_held mode start)
 
 -- Where movetext can begin or goes on, it is open.
-open_at : (old : Reading) (part : Part) (stage : Stage) → Agrees old part → old.stage ≡ stage → IsTrue (may_have_movetext stage) → IsOpen old part
+open_at : (old : ReaderState) (part : Part) (stage : Stage) → Agrees old part → old.stage ≡ stage → IsTrue (may_have_movetext stage) → IsOpen old part
 open_at old part AfterTags agrees at is =
     let text = text_at old part AfterTags agrees at in
     record {
@@ -137,11 +137,11 @@ open_at old part InMovetext agrees at is =
     }
 open_at old part _ agrees at is = absurd (cc)
 
-pub open_agrees : (old : Reading) (part : Part) → Agrees old part → IsTrue (may_have_movetext old.stage) → IsOpen old part
+pub open_agrees : (old : ReaderState) (part : Part) → Agrees old part → IsTrue (may_have_movetext old.stage) → IsOpen old part
 open_agrees old part agrees is = open_at old part old.stage agrees refl is
 
 -- a token of movetext is judged by the table of movetext
-pub entry_at : (tags levels : ℕ) (old : Reading) (k : TokenKind) (r : Result Judged Reason) → IsTrue (may_have_movetext old.stage) → is_left_bracket (kind_of k) ≡ false
+pub entry_at : (tags levels : ℕ) (old : ReaderState) (k : TokenKind) (r : Result Judged Reason) → IsTrue (may_have_movetext old.stage) → is_left_bracket (kind_of k) ≡ false
     → is_end (kind_of k) ≡ false → ((part : Part) → Agrees old part → (is_at AfterTags part && lacks_fen part.pairs) ≡ false)
     → JudgesEntry tags levels old (kind_of k) r → Judges tags levels old (kind_of k) r
 entry_at tags levels old k r at bracket over free h = record {
@@ -157,6 +157,6 @@ entry_at tags levels old k r at bracket over free h = record {
 pub free_after_tags : (part : Part) → lacks_fen part.pairs ≡ false → (is_at AfterTags part && lacks_fen part.pairs) ≡ false
 free_after_tags part lacks = and_right (is_at AfterTags part) (lacks_fen part.pairs) lacks
 
-pub free_in_movetext : (old : Reading) → old.stage ≡ InMovetext → (part : Part) → Agrees old part → (is_at AfterTags part && lacks_fen part.pairs) ≡ false
+pub free_in_movetext : (old : ReaderState) → old.stage ≡ InMovetext → (part : Part) → Agrees old part → (is_at AfterTags part && lacks_fen part.pairs) ≡ false
 free_in_movetext old at part agrees =
     ap (λ (s : Stage). (stage_number AfterTags == stage_number s) && lacks_fen part.pairs) (part_stage old part InMovetext agrees at)

@@ -15,8 +15,8 @@ use Rattle.pgn_game.specs.Pairs.{insert_pair}
 use Rattle.pgn_game.specs.Game.{Part, no_part}
 use Rattle.pgn_game.specs.FaultTable.{refusal, is_at, is_comment, is_left_bracket, is_end, lacks_fen}
 use Rattle.pgn_game.specs.Progress.{going, next, at_stage, in_text}
-use Rattle.pgn_game.specs.Judging.{may_have_movetext, judged, outcome_of, or_else, text_refusal}
-use Rattle.pgn_game.specs.Handling.{begins_game}
+use Rattle.pgn_game.specs.Judgement.{may_have_movetext, judged, outcome_of, or_else, text_refusal}
+use Rattle.pgn_game.specs.PutResult.{begins_game}
 use Rattle.pgn_game.proofs.judging.RowsByStage.{naming, name_rows, valuing, value_rows, after_tags, comment_free, comment_stays, drops_comments, is_textual, leads_after_tags}
 
 -- what holds of a part at a stage holds of each that is there

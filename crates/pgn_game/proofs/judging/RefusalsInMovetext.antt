@@ -21,12 +21,12 @@ use Rattle.pgn_game.specs.Game as games
 use Rattle.pgn_game.specs.Game.{Part}
 use Rattle.pgn_game.specs.Levels.{Level as ModelLevel, depth, start_of, replayed, without_last}
 use Rattle.pgn_game.specs.FaultTable.{marker_of, is_number, is_score, is_at_limit, levels_of_part, position_in, result_for}
-use Rattle.pgn_game.specs.Finding.{found_in}
+use Rattle.pgn_game.specs.FoundMove.{found_in}
 use Rattle.pgn_game.specs.Progress.{Next, going, whole, in_text, move_item, items_of}
 use Rattle.pgn_game.specs.Movetext.{StoredLevels, before_last, stored_level}
-use Rattle.pgn_game.specs.Reading.{Reading}
+use Rattle.pgn_game.specs.ReaderState.{ReaderState}
 use Rattle.pgn_game.specs.declared.stage.Stage.{Stage}
-use Rattle.pgn_game.specs.Judging.{IsOpen, found_of, may_have_movetext, game_of, or_else, text_refusal, with_items}
+use Rattle.pgn_game.specs.Judgement.{IsOpen, found_of, may_have_movetext, game_of, or_else, text_refusal, with_items}
 use Rattle.pgn_game.proofs.judging.RowsByStage.{symbol_rows}
 use Rattle.pgn_game.proofs.judging.RefusalsByStage.{hit, pass}
 
@@ -36,16 +36,16 @@ some_before : (start : Parts) (l : ModelLevel) → is_some (before_last start l)
 some_before start l =
     elim l.has_own_move as (λ b. is_some {T = Parts} (elim b [ true ↦ Some (replayed start (without_last l.trail)) | false ↦ None ]) ≡ b) [ true ↦ refl | false ↦ refl ]
 
-pub holds_is : (old : Reading) (part : Part) → IsOpen old part → is_some old.text.levels.present.before ≡ (levels_of_part part).present.has_own_move
+pub holds_is : (old : ReaderState) (part : Part) → IsOpen old part → is_some old.text.levels.present.before ≡ (levels_of_part part).present.has_own_move
 holds_is old part is =
     ap (λ (ls : StoredLevels). is_some ls.present.before) is.held.levels ∙ some_before (start_of part.pairs) (levels_of_part part).present
 
-pub depth_is : (old : Reading) (part : Part) → IsOpen old part → length old.text.levels.around ≡ depth (levels_of_part part)
+pub depth_is : (old : ReaderState) (part : Part) → IsOpen old part → length old.text.levels.around ≡ depth (levels_of_part part)
 depth_is old part is =
     ap (λ (ls : StoredLevels). length ls.around) is.held.levels
     ∙ length-map (levels_of_part part).around (stored_level (start_of part.pairs))
 
-pub position_is : (old : Reading) (part : Part) → IsOpen old part → old.text.levels.present.present ≡ position_in part
+pub position_is : (old : ReaderState) (part : Part) → IsOpen old part → old.text.levels.present.present ≡ position_in part
 position_is old part is = ap (λ (ls : StoredLevels). ls.present.present) is.held.levels
 
 -- Symbols.
@@ -116,16 +116,16 @@ found_free p (Some (Err NoMove)) played e = absurd (cc)
 found_free p (Some (Err Ambiguous)) played e = absurd (cc)
 
 -- what was found at the reader's position was found at the part's
-found_at : (old : Reading) (part : Part) (s : List ℕ) (here : Parts) (r : Result Played Reason) → IsOpen old part → here ≡ old.text.levels.present.present → r ≡ found_in here (move_of here s)
+found_at : (old : ReaderState) (part : Part) (s : List ℕ) (here : Parts) (r : Result Played Reason) → IsOpen old part → here ≡ old.text.levels.present.present → r ≡ found_in here (move_of here s)
     → found_in (position_in part) (move_of (position_in part) s) ≡ r
 found_at old part s here r is same found = sym (found ∙ ap (λ (p : Parts). found_in p (move_of p s)) (same ∙ position_is old part is))
 
-pub move_free : (old : Reading) (part : Part) (s : List ℕ) (here : Parts) (played : Played) → is_number s ≡ false → is_score s ≡ false → IsOpen old part → here ≡ old.text.levels.present.present
+pub move_free : (old : ReaderState) (part : Part) (s : List ℕ) (here : Parts) (played : Played) → is_number s ≡ false → is_score s ≡ false → IsOpen old part → here ≡ old.text.levels.present.present
     → Ok played ≡ found_in here (move_of here s) → text_refusal old.profile part (symbol s) ≡ None
 move_free old part s here played number score is same found =
     move_refusal old.profile part s number score ∙ (found_free (position_in part) (move_of (position_in part) s) played (found_at old part s here (Ok played) is same found)).0
 
-pub move_leads : (old : Reading) (part : Part) (s : List ℕ) (here : Parts) (played : Played) → is_number s ≡ false → is_score s ≡ false → IsOpen old part → here ≡ old.text.levels.present.present
+pub move_leads : (old : ReaderState) (part : Part) (s : List ℕ) (here : Parts) (played : Played) → is_number s ≡ false → is_score s ≡ false → IsOpen old part → here ≡ old.text.levels.present.present
     → Ok played ≡ found_in here (move_of here s) → in_text part (symbol s) ≡ going (with_items part (games.move played.mv ∷ []))
 move_leads old part s here played number score is same found =
     symbol_leads part s false false number score
@@ -171,17 +171,17 @@ marker_tested p part missing marker inside other within known test =
     ap (λ (b : Bool). or_else b MarkerInVariation (or_else (other_if p.missing_result part.pairs (Some marker) && (depth (levels_of_part part) == 0)) ResultDiffers None)) within
     ∙ ap (λ (b : Bool). or_else inside MarkerInVariation (or_else (b && (depth (levels_of_part part) == 0)) ResultDiffers None)) (other_is p part.pairs missing marker known ∙ test)
 
-pub marker_inside : (old : Reading) (k : TokenKind) (marker : List ℕ) (part : Part) → marker_of (kind_of k) ≡ Some marker → nat_le 1 (depth (levels_of_part part)) ≡ true
+pub marker_inside : (old : ReaderState) (k : TokenKind) (marker : List ℕ) (part : Part) → marker_of (kind_of k) ≡ Some marker → nat_le 1 (depth (levels_of_part part)) ≡ true
     → text_refusal old.profile part (kind_of k) ≡ Some MarkerInVariation
 marker_inside old k marker part is within = marker_refusal old.profile part k marker is ∙ hit _ MarkerInVariation _ within
 
-pub marker_differs : (old : Reading) (k : TokenKind) (missing marker : List ℕ) (part : Part) → marker_of (kind_of k) ≡ Some marker → depth (levels_of_part part) ≡ 0
+pub marker_differs : (old : ReaderState) (k : TokenKind) (missing marker : List ℕ) (part : Part) → marker_of (kind_of k) ≡ Some marker → depth (levels_of_part part) ≡ 0
     → old.profile.missing_result ≡ counts_as missing → differs missing (value_of part.pairs (codes "Result")) marker ≡ true → text_refusal old.profile part (kind_of k) ≡ Some ResultDiffers
 marker_differs old k missing marker part is none known test =
     marker_refusal old.profile part k marker is ∙ marker_tested old.profile part missing marker false true (ap (λ n. nat_le 1 n) none) known test
     ∙ ap (λ n. or_else (n == 0) ResultDiffers None) none
 
-pub marker_free : (old : Reading) (k : TokenKind) (missing marker : List ℕ) (part : Part) → marker_of (kind_of k) ≡ Some marker → depth (levels_of_part part) ≡ 0
+pub marker_free : (old : ReaderState) (k : TokenKind) (missing marker : List ℕ) (part : Part) → marker_of (kind_of k) ≡ Some marker → depth (levels_of_part part) ≡ 0
     → old.profile.missing_result ≡ counts_as missing → differs missing (value_of part.pairs (codes "Result")) marker ≡ false → text_refusal old.profile part (kind_of k) ≡ None
 marker_free old k missing marker part is none known test =
     marker_refusal old.profile part k marker is ∙ marker_tested old.profile part missing marker false false (ap (λ n. nat_le 1 n) none) known test

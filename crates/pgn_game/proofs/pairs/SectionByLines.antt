@@ -5,7 +5,7 @@ use Rattle.std.proofs.lemmas.Bool.{false≢true, or_right}
 use Rattle.pgn_layout.specs.TagLine.{tag_line}
 use Rattle.pgn_game.specs.declared.mode.Mode.{Mode}
 use Rattle.pgn_game.specs.declared.mode.Mode.TheVariants.{Full, Reduced}
-use Rattle.pgn_game.specs.Holding.{index_of}
+use Rattle.pgn_game.specs.StoredPairs.{index_of}
 use Rattle.pgn_game.specs.Pairs.{Pair, value_of, has_pair, comes_before, insert_pair}
 use Rattle.pgn_game.specs.TagSection.{roster, in_roster, roster_pairs, other_pairs, with_set_up, tag_lines, tag_section}
 use Rattle.pgn_game.specs.SectionLines.{text_by, roster_line, other_line}

@@ -6,7 +6,7 @@ use Rattle.std.specs.Cmp.Lexicographic.{slice_partial_cmp}
 use Rattle.std.proofs.lemmas.Cmp.{same_from_slice_cmp_tested}
 use Rattle.std.proofs.lemmas.Bool.Decides.{nat_tests}
 use Rattle.pgn_game.specs.Pairs.{Pair, comes_before, insert_pair}
-use Rattle.pgn_game.specs.Holding.{TagPairs, index_of, last_name, but_last, pairs_seen}
+use Rattle.pgn_game.specs.StoredPairs.{TagPairs, index_of, last_name, but_last, pairs_seen}
 
 pub is_comes_before : (xs ys : List ℕ) (r : Bool) → r ≡ is_some_and is_lt (slice_partial_cmp (λ x y. Some (nat_cmp x y)) xs ys) → r ≡ comes_before xs ys
 is_comes_before = same_from_slice_cmp_tested nat_cmp is_lt comes_before refl (λ _ _. refl) (λ _ _. refl) (λ x y xs ys o h. grind (arith, nat_tests))

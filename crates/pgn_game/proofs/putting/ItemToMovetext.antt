@@ -24,8 +24,8 @@ use Rattle.pgn_game.specs.Game.{Item, move, open_variation, close_variation}
 use Rattle.pgn_game.specs.Levels.{Level as ModelLevel, Levels as ModelLevels, levels_after, levels_of, first_level, depth, here, outermost, main_moves}
 use Rattle.pgn_game.specs.Text.{Placed, is_move, tokens_at, tokens_from, tokens_out, full_text}
 use Rattle.pgn_game.specs.Movetext.{StoredLevels, Movetext, level_at, IsBackIn, before_last, stored_level, stored_levels, ends_in_move, HoldsItems}
-use Rattle.pgn_game.specs.Judging.{ItemFits, model_item}
-use Rattle.pgn_game.specs.Putting.{PutsTokens, GoesOn, LeadsLevels, writes, tokens_if, after_move_if, plies_in, item_text, Adds}
+use Rattle.pgn_game.specs.Judgement.{ItemFits, model_item}
+use Rattle.pgn_game.specs.ItemResult.{PutsTokens, GoesOn, LeadsLevels, writes, tokens_if, after_move_if, plies_in, item_text, Adds}
 use Rattle.pgn_game.proofs.putting.WritesInTurn.{front_of_more, Writes-append}
 use Rattle.pgn_game.proofs.putting.ItemsAppended.{written_from_start, written_behind, written_more, tokens_behind, tokens_more, full_lines_put, last_line_put}
 

@@ -28,10 +28,10 @@ use Rattle.pgn_game.specs.TagSection.{tag_section}
 use Rattle.pgn_game.specs.Text.{is_move, full_text, torn_at, torn_for}
 use Rattle.pgn_game.specs.Progress.{going}
 use Rattle.pgn_game.specs.Movetext.{HoldsItems}
-use Rattle.pgn_game.specs.Reading.{Reading, Agrees, HoldsPairs, HoldsText, has_move, plies_behind, whole_plies}
-use Rattle.pgn_game.specs.Judging.{IsOpen, IsProbed, after, may_have_movetext, model_item, with_items}
-use Rattle.pgn_game.specs.Putting.{Adds}
-use Rattle.pgn_game.specs.Handling.{BeginsText, Goes, Keeps, PutResult, gain_to, section_due, section_due_of}
+use Rattle.pgn_game.specs.ReaderState.{ReaderState, Agrees, HoldsPairs, HoldsText, has_move, plies_behind, whole_plies}
+use Rattle.pgn_game.specs.Judgement.{IsOpen, IsProbed, after, may_have_movetext, model_item, with_items}
+use Rattle.pgn_game.specs.ItemResult.{Adds}
+use Rattle.pgn_game.specs.PutResult.{BeginsText, Goes, Keeps, PutResult, gain_to, section_due, section_due_of}
 use Rattle.pgn_game.proofs.putting.WritesInTurn.{front_after}
 use Rattle.pgn_game.proofs.putting.ItemToMovetext.{from_to}
 use Rattle.pgn_game.proofs.judging.PartsToJudgement.{open_agrees}
@@ -67,11 +67,11 @@ gain_at mode result InMovetext ps name items more at fresh =
     ap (λ n. drop n (section ++ new)) (length-append section old) ∙ drop-append-add section new (length old)
 
 -- the stage of a part is the reader's
-pub open_stage : (old : Reading) (part : Part) → IsOpen old part → IsTrue (may_have_movetext old.stage) → IsTrue (may_have_movetext part.stage)
+pub open_stage : (old : ReaderState) (part : Part) → IsOpen old part → IsTrue (may_have_movetext old.stage) → IsTrue (may_have_movetext part.stage)
 open_stage old part is at = subst (λ (s : Stage). IsTrue (may_have_movetext s)) is.stage at
 
 -- what is due of the section is the part's
-pub section_is : (old : Reading) (part : Part) → IsOpen old part
+pub section_is : (old : ReaderState) (part : Part) → IsOpen old part
     → section_due_of old ≡ section_due part.stage old.profile.mode (known_result old.profile.missing_result) part.pairs
 section_is old part is =
     let result = known_result old.profile.missing_result in
@@ -79,7 +79,7 @@ section_is old part is =
     ∙ ap (λ (ps : List Pair). section_due part.stage old.profile.mode result ps) (ap (λ t. t.held) is.pairs)
 
 -- What items add: the tag section, where movetext begins, and what they add to the full lines.
-pub gain_is : (old : Reading) (part : Part) (more : List Item) → old.profile.missing_result ≡ counts_as (known_result old.profile.missing_result) → IsTrue (may_have_movetext old.stage) → IsOpen old part
+pub gain_is : (old : ReaderState) (part : Part) (more : List Item) → old.profile.missing_result ≡ counts_as (known_result old.profile.missing_result) → IsTrue (may_have_movetext old.stage) → IsOpen old part
     → section_due_of old ++ lines_gain old.profile.mode part.pairs part.items more ≡ gain_to old.profile part (going (with_items part more))
 gain_is old part more known at is =
     let p = old.profile in
@@ -88,12 +88,12 @@ gain_is old part more known at is =
     ∙ gain_at p.mode (known_result p.missing_result) part.stage part.pairs part.name part.items more (open_stage old part is at) (λ e. is.fresh (is.stage ∙ e)))
 
 -- The section was written: so it is said of the reader as its fields make it.
-pub begins_as : (old begun held : Reading) (d : Device) → held ≡ begun → BeginsText {A = Unit {0}} {E = WriteFault} old begun (Ok tt) d
+pub begins_as : (old begun held : ReaderState) (d : Device) → held ≡ begun → BeginsText {A = Unit {0}} {E = WriteFault} old begun (Ok tt) d
     → BeginsText {A = Unit {0}} {E = WriteFault} old held (Ok tt) d
-begins_as old begun held d same begins = subst (λ (r : Reading). BeginsText {A = Unit {0}} {E = WriteFault} old r (Ok tt) d) (sym same) begins
+begins_as old begun held d same begins = subst (λ (r : ReaderState). BeginsText {A = Unit {0}} {E = WriteFault} old r (Ok tt) d) (sym same) begins
 
 -- no move was played outside the games before
-pub plies_before : (old : Reading) → IsTrue (may_have_movetext old.stage) → whole_plies old ≡ old.earlier_plies
+pub plies_before : (old : ReaderState) → IsTrue (may_have_movetext old.stage) → whole_plies old ≡ old.earlier_plies
 plies_before old at = by_stage old.stage at
   where
     by_stage : (stage : Stage) → IsTrue (may_have_movetext stage) → plies_behind stage old.earlier_plies old.text.plies ≡ old.earlier_plies
@@ -105,18 +105,18 @@ plies_before old at = by_stage old.stage at
     by_stage InMovetext at = refl
 
 -- a put that failed, and one after which the game goes on
-pub unwritten : (old new : Reading) (j : Judged) (d : Device) → Keeps old new → d.failures_after ≡ one_more d.failures
+pub unwritten : (old new : ReaderState) (j : Judged) (d : Device) → Keeps old new → d.failures_after ≡ one_more d.failures
     → ((part : Part) → Agrees old part → AppendsFront d.before d.after (gain_to old.profile part (after j part))) → PutResult old j new (Err reasons.WriteFault) d
 unwritten old new j d keeps counted front =
     record { goes = λ part agrees. (refl, front part agrees); keeps = keeps; stays = tt; finished = tt; counted = (refl, counted) }
 
-pub more_comes : (old new : Reading) (j : Judged) (d : Device) → Keeps old new → (new.stage ≡ Between → new ≡ old)
+pub more_comes : (old new : ReaderState) (j : Judged) (d : Device) → Keeps old new → (new.stage ≡ Between → new ≡ old)
     → d.failures_after ≡ d.failures → ((part : Part) → Agrees old part → Goes old part (after j part) new More d) → PutResult old j new (Ok More) d
 more_comes old new j d keeps stays counted on =
     record { goes = on; keeps = keeps; stays = stays; finished = tt; counted = counted }
 
 -- a reader in movetext agrees with the part that it holds
-agrees_in_text : (r : Reading) (part : Part) → r.stage ≡ InMovetext → part.stage ≡ InMovetext → r.tags ≡ record { held = part.pairs; pending_name = None }
+agrees_in_text : (r : ReaderState) (part : Part) → r.stage ≡ InMovetext → part.stage ≡ InMovetext → r.tags ≡ record { held = part.pairs; pending_name = None }
     → HoldsItems r.profile.mode (start_of part.pairs) part.items r.text r.line → (IsTrue (has_move part.items) → 0 < r.most_probes) → Agrees r part
 agrees_in_text r part stage same tags held probed =
     record {
@@ -130,7 +130,7 @@ not_between stage at e = let h : InMovetext ≡ Between = sym at ∙ e in absurd
 
 -- The reader after the section and an item: its movetext and its line have changed, and nothing
 -- else but the count of probes.
-pub record IsAfterItem (begun new : Reading) : Type 0 where
+pub record IsAfterItem (begun new : ReaderState) : Type 0 where
   pub profile : new.profile ≡ begun.profile
   pub stage : new.stage ≡ begun.stage
   pub tags : new.tags ≡ begun.tags
@@ -138,28 +138,28 @@ pub record IsAfterItem (begun new : Reading) : Type 0 where
   pub probes : begun.most_probes ≤ new.most_probes
 
 -- the section was written, and then items or none
-goes_with : (old begun new : Reading) (part : Part) (more : List Item) (d : Device) → IsTrue (may_have_movetext old.stage) → IsOpen old part
+goes_with : (old begun new : ReaderState) (part : Part) (more : List Item) (d : Device) → IsTrue (may_have_movetext old.stage) → IsOpen old part
     → begun ≡ record old { stage = InMovetext } → IsAfterItem begun new → HoldsItems old.profile.mode (start_of part.pairs) (part.items ++ more) new.text new.line
     → (IsTrue (has_move (part.items ++ more)) → 0 < new.most_probes) → Appends d.before d.after (gain_to old.profile part (going (with_items part more)))
     → Goes old part (going (with_items part more)) new More d
 goes_with old begun new part more d at is begins next held probed appended =
-    let stage : new.stage ≡ InMovetext = next.stage ∙ ap (λ (r : Reading). r.stage) begins in
+    let stage : new.stage ≡ InMovetext = next.stage ∙ ap (λ (r : ReaderState). r.stage) begins in
     record {
-      leads = agrees_in_text new (with_items part more) stage refl (next.tags ∙ ap (λ (r : Reading). r.tags) begins ∙ is.pairs)
+      leads = agrees_in_text new (with_items part more) stage refl (next.tags ∙ ap (λ (r : ReaderState). r.tags) begins ∙ is.pairs)
           (subst (λ (p : Profile). HoldsItems p.mode (start_of part.pairs) (part.items ++ more) new.text new.line)
-          (sym (next.profile ∙ ap (λ (r : Reading). r.profile) begins)) held) probed;
+          (sym (next.profile ∙ ap (λ (r : ReaderState). r.profile) begins)) held) probed;
       plies = ap (λ (s : Stage). plies_behind s new.earlier_plies new.text.plies) stage
-          ∙ omega (arith, next.earlier, ap (λ (r : Reading). r.earlier_plies) begins, plies_before old at);
+          ∙ omega (arith, next.earlier, ap (λ (r : ReaderState). r.earlier_plies) begins, plies_before old at);
       appended = appended;
     }
 
 -- A number was put, or a period: the section alone was written.
-pub puts_number : (old new : Reading) (d : Device) → IsTrue (may_have_movetext old.stage)
+pub puts_number : (old new : ReaderState) (d : Device) → IsTrue (may_have_movetext old.stage)
     → BeginsText {A = Unit} {E = WriteFault} old new (Ok tt) d → PutResult old (InText Number) new (Ok More) d
 puts_number old new d at begins =
     more_comes old new (InText Number) d
     (record { profile = begins.profile; plies = omega (arith, begins.earlier, begins.plies); probes = omega (arith, begins.probes) })
-    (not_between new.stage (ap (λ (r : Reading). r.stage) begins.begun)) begins.counted
+    (not_between new.stage (ap (λ (r : ReaderState). r.stage) begins.begun)) begins.counted
     (λ part agrees.
     let is = open_agrees old part agrees at in
     let ps = part.pairs in
@@ -168,13 +168,13 @@ puts_number old new d at begins =
     ap (λ (is : List Item). drop (length (full_text old.profile.mode (start_of ps) items)) (full_text old.profile.mode (start_of ps) is)) (append-nil items)
     ∙ drop-length (full_text old.profile.mode (start_of ps) items) in
     goes_with old new new part [] d at is begins.begun (record { profile = refl; stage = refl; tags = refl; earlier = refl; probes = omega arith })
-    (subst (λ (r : Reading). HoldsItems old.profile.mode (start_of ps) (items ++ []) r.text r.line) (sym begins.begun)
+    (subst (λ (r : ReaderState). HoldsItems old.profile.mode (start_of ps) (items ++ []) r.text r.line) (sym begins.begun)
     (subst (λ (l : List Item). HoldsItems old.profile.mode (start_of ps) l old.text old.line) (sym (append-nil items)) is.held))
     (λ has. subst (λ (n : ℕ). 0 < n) (sym begins.probes) (is.probed (subst (λ (l : List Item). IsTrue (has_move l)) (append-nil items) has)))
     (subst (Appends d.before d.after) (sym (append-nil _) ∙ ap (λ l. section_due_of old ++ l) (sym nothing) ∙ gain_is old part [] begins.known at is) begins.text))
 
 -- where a move was played, some pair was tried
-probed_with : (old : Reading) (part : Part) (i : CodeItem) (most : ℕ) → IsProbed (Put i) old.most_probes → old.most_probes ≤ most
+probed_with : (old : ReaderState) (part : Part) (i : CodeItem) (most : ℕ) → IsProbed (Put i) old.most_probes → old.most_probes ≤ most
     → (IsTrue (has_move part.items) → 0 < old.most_probes) → IsTrue (has_move (part.items ++ model_item i ∷ [])) → 0 < most
 probed_with old part i most put rises before has = by_kind i put refl
   where
@@ -197,12 +197,12 @@ probed_with old part i most put rises before has = by_kind i put refl
     by_kind code.Close put is = earlier (ap (λ (k : CodeItem). list_any is_move (model_item k ∷ [])) is)
 
 -- the movetext that was held is held where its section is written
-begun_held : (old begun : Reading) (part : Part) → IsOpen old part → begun ≡ record old { stage = InMovetext }
+begun_held : (old begun : ReaderState) (part : Part) → IsOpen old part → begun ≡ record old { stage = InMovetext }
     → HoldsItems begun.profile.mode (start_of part.pairs) part.items begun.text begun.line
-begun_held old begun part is begins = subst (λ (r : Reading). HoldsItems r.profile.mode (start_of part.pairs) part.items r.text r.line) (sym begins) is.held
+begun_held old begun part is begins = subst (λ (r : ReaderState). HoldsItems r.profile.mode (start_of part.pairs) part.items r.text r.line) (sym begins) is.held
 
 -- The section was written, and then the item put.
-pub puts_item : (old begun new : Reading) (i : CodeItem) (a b c : Option (List ℕ)) (n m k : ℕ) → IsTrue (may_have_movetext old.stage)
+pub puts_item : (old begun new : ReaderState) (i : CodeItem) (a b c : Option (List ℕ)) (n m k : ℕ) → IsTrue (may_have_movetext old.stage)
     → IsProbed (Put i) old.most_probes → BeginsText {A = Unit} {E = WriteFault} old begun (Ok tt) (from_to a b n m) → IsAfterItem begun new
     → Adds {A = Unit} {E = WriteFault} begun.profile.mode (model_item i) begun.text begun.line new.text new.line (Ok tt) (from_to b c m k)
     → PutResult old (InText (Put i)) new (Ok More) (from_to a c n k)
@@ -210,7 +210,7 @@ puts_item old begun new i a b c n m k at put begins next adds =
     let most : old.most_probes ≤ new.most_probes = omega (arith, next.probes, begins.probes) in
     more_comes old new (InText (Put i)) (from_to a c n k)
     (record { profile = next.profile ∙ begins.profile; plies = omega (arith, next.earlier, begins.earlier, begins.plies, adds.plies); probes = most })
-    (not_between new.stage (next.stage ∙ ap (λ (r : Reading). r.stage) begins.begun)) (adds.counted ∙ begins.counted)
+    (not_between new.stage (next.stage ∙ ap (λ (r : ReaderState). r.stage) begins.begun)) (adds.counted ∙ begins.counted)
     (λ part agrees.
     let is = open_agrees old part agrees at in
     let added = adds.adds (start_of part.pairs) part.items (begun_held old begun part is begins.begun) in
@@ -220,7 +220,7 @@ puts_item old begun new i a b c n m k at put begins next adds =
     (subst (Appends a c) (ap (λ (p : Profile). section_due_of old ++ lines_gain p.mode part.pairs part.items (model_item i ∷ [])) begins.profile
     ∙ gain_is old part (model_item i ∷ []) begins.known at is) (Appends-trans a b c _ _ begins.text added.1)))
 
-pub fails_item : (old begun new : Reading) (i : CodeItem) (f : WriteFault) (a b c : Option (List ℕ)) (n m k : ℕ) → IsTrue (may_have_movetext old.stage)
+pub fails_item : (old begun new : ReaderState) (i : CodeItem) (f : WriteFault) (a b c : Option (List ℕ)) (n m k : ℕ) → IsTrue (may_have_movetext old.stage)
     → BeginsText {A = Unit} {E = WriteFault} old begun (Ok tt) (from_to a b n m) → IsAfterItem begun new
     → Adds {A = Unit} begun.profile.mode (model_item i) begun.text begun.line new.text new.line (Err f) (from_to b c m k)
     → PutResult old (InText (Put i)) new (Err reasons.WriteFault) (from_to a c n k)

@@ -26,9 +26,9 @@ use Rattle.pgn_game.specs.FaultTable.{levels_of_part, result_for}
 use Rattle.pgn_game.specs.Text.{tokens_out, full_text, torn_at, torn_for}
 use Rattle.pgn_game.specs.Progress.{whole}
 use Rattle.pgn_game.specs.Movetext.{StoredLevel}
-use Rattle.pgn_game.specs.Reading.{Reading, IsBehind, plies_behind}
-use Rattle.pgn_game.specs.Judging.{EntryFits, IsOpen, after_entry, game_of, may_have_movetext, model_item}
-use Rattle.pgn_game.specs.Handling.{BeginsText, PutResult, gain_to, section_due, section_due_of}
+use Rattle.pgn_game.specs.ReaderState.{ReaderState, IsBehind, plies_behind}
+use Rattle.pgn_game.specs.Judgement.{EntryFits, IsOpen, after_entry, game_of, may_have_movetext, model_item}
+use Rattle.pgn_game.specs.PutResult.{BeginsText, PutResult, gain_to, section_due, section_due_of}
 use Rattle.pgn_game.proofs.putting.WritesInTurn.{front_of_more, front_after}
 use Rattle.pgn_game.proofs.putting.ItemToMovetext.{from_to}
 use Rattle.pgn_game.proofs.putting.ItemsAppended.{game_ends}
@@ -81,7 +81,7 @@ gain_of p part marker known at fresh each token =
     ∙ append_assoc (text_of_lines (full_lines (lines_of ts))) (text_at (last_line (lines_of ts)) (Put marker)) (text_at (line_at (last_line (lines_of ts)) (Put marker)) EndGame))
 
 -- what is due for a marker, of a reader that holds the part
-due_is : (old : Reading) (part : Part) (marker : List ℕ) → old.profile.missing_result ≡ counts_as (known_result old.profile.missing_result) → IsTrue (may_have_movetext old.stage) → IsToken marker → IsOpen old part
+due_is : (old : ReaderState) (part : Part) (marker : List ℕ) → old.profile.missing_result ≡ counts_as (known_result old.profile.missing_result) → IsTrue (may_have_movetext old.stage) → IsToken marker → IsOpen old part
     → section_due_of old ++ ending old.line marker ≡ gain_to old.profile part (whole (game_of part marker))
 due_is old part marker known at token is =
     ap (λ (l : List ℕ). l ++ ending old.line marker) (section_is old part is)
@@ -93,16 +93,16 @@ at_depth_0 : (ls : ModelLevels) (around : List ModelLevel) → ls.around ≡ aro
 at_depth_0 ls [] e n = ap (λ (l : List ModelLevel). (outermost ls.present l).trail) e
 at_depth_0 ls (l ∷ around) e n = absurd (omega (arith, n))
 
-last_is : (old : Reading) (part : Part) → old.text.levels.around ≡ [] → IsOpen old part → (marker : List ℕ) → old.text.levels.present.present ≡ last_position (game_of part marker)
+last_is : (old : ReaderState) (part : Part) → old.text.levels.around ≡ [] → IsOpen old part → (marker : List ℕ) → old.text.levels.present.present ≡ last_position (game_of part marker)
 last_is old part outside is marker =
     let none : depth (levels_of_part part) ≡ 0 = sym (depth_is old part is) ∙ ap (length {A = StoredLevel}) outside in
     position_is old part is
     ∙ ap (λ (ms : List Move). replayed (start_of part.pairs) ms) (sym (at_depth_0 (levels_of_part part) (levels_of_part part).around refl none))
 
-abbrev finished_reader : Reading → Reading
+abbrev finished_reader : ReaderState → ReaderState
 finished_reader r = record r { stage = Between; line = [] }
 
-behind : (old : Reading) (part : Part) (marker : List ℕ) → old.text.levels.around ≡ [] → IsOpen old part → IsBehind (finished_reader old) (game_of part marker)
+behind : (old : ReaderState) (part : Part) (marker : List ℕ) → old.text.levels.around ≡ [] → IsOpen old part → IsBehind (finished_reader old) (game_of part marker)
 behind old part marker outside is =
     record {
       agrees = record { stage = refl; pairs = refl; text = refl };
@@ -113,19 +113,19 @@ behind old part marker outside is =
     }
 
 -- what a token of movetext adds behind the section
-abbrev rest_of : Reading → Part → Entry → List ℕ
+abbrev rest_of : ReaderState → Part → Entry → List ℕ
 rest_of old part Number = lines_gain old.profile.mode part.pairs part.items []
 rest_of old part (PutItem i) = lines_gain old.profile.mode part.pairs part.items (model_item i ∷ [])
 rest_of old part (Marker marker) = ending old.line marker.now
 
-entry_gain : (levels : ℕ) (old : Reading) (part : Part) (e : Entry) → EntryFits levels old.text e → old.profile.missing_result ≡ counts_as (known_result old.profile.missing_result) → IsTrue (may_have_movetext old.stage)
+entry_gain : (levels : ℕ) (old : ReaderState) (part : Part) (e : Entry) → EntryFits levels old.text e → old.profile.missing_result ≡ counts_as (known_result old.profile.missing_result) → IsTrue (may_have_movetext old.stage)
     → IsOpen old part → section_due_of old ++ rest_of old part e ≡ gain_to old.profile part (after_entry e part)
 entry_gain levels old part Number fits known at is = gain_is old part [] known at is
 entry_gain levels old part (PutItem i) fits known at is = gain_is old part (model_item i ∷ []) known at is
 entry_gain levels old part (Marker marker) fits known at is = due_is old part marker.now known at fits.0 is
 
 -- The section could not be written.
-pub puts_unbegun : (levels : ℕ) (old new : Reading) (e : Entry) (f : WriteFault) (d : Device) → IsTrue (may_have_movetext old.stage) → EntryFits levels old.text e
+pub puts_unbegun : (levels : ℕ) (old new : ReaderState) (e : Entry) (f : WriteFault) (d : Device) → IsTrue (may_have_movetext old.stage) → EntryFits levels old.text e
     → BeginsText {A = Unit} old new (Err f) d → PutResult old (InText e) new (Err reasons.WriteFault) d
 puts_unbegun levels old new e f d at fits begins =
     unwritten old new (InText e) d (record { profile = begins.profile; plies = omega (arith, begins.earlier, begins.plies); probes = omega (arith, begins.probes) })
@@ -134,55 +134,55 @@ puts_unbegun levels old new e f d at fits begins =
     subst (AppendsFront d.before d.after) (entry_gain levels old part e fits begins.known at is) (front_of_more d.before d.after _ (rest_of old part e) begins.text))
 
 -- How the game ends, once its section is written.
-pub record EndsText (old begun : Reading) (marker : List ℕ) (a b : Option (List ℕ)) (n m : ℕ) : Type 0 where
+pub record EndsText (old begun : ReaderState) (marker : List ℕ) (a b : Option (List ℕ)) (n m : ℕ) : Type 0 where
   pub begins : BeginsText {A = Unit} {E = WriteFault} old begun (Ok tt) (from_to a b n m)
   pub outside : old.text.levels.around ≡ []
   pub token : IsToken marker
   pub at : IsTrue (may_have_movetext old.stage)
 
-abbrev of_line : (old begun : Reading) → begun ≡ record old { stage = InMovetext } → begun.line ≡ old.line
-of_line old begun e = ap (λ (r : Reading). r.line) e
+abbrev of_line : (old begun : ReaderState) → begun ≡ record old { stage = InMovetext } → begun.line ≡ old.line
+of_line old begun e = ap (λ (r : ReaderState). r.line) e
 
-pub ends_well : (old begun new : Reading) (marker : Bor (List ℕ)) (a b d c : Option (List ℕ)) (n m k : ℕ) → EndsText old begun marker.now a b n m
+pub ends_well : (old begun new : ReaderState) (marker : Bor (List ℕ)) (a b d c : Option (List ℕ)) (n m k : ℕ) → EndsText old begun marker.now a b n m
     → Appends b d (text_at begun.line (Put marker.now)) → Appends d c (text_at (line_at begun.line (Put marker.now)) EndGame)
     → new ≡ record begun { stage = Between; line = new.line } → new.line ≡ [] → k ≡ m
     → PutResult old (InText (Marker marker)) new (Ok Finished) (from_to a c n k)
 ends_well old begun new marker a b d c n m k ends put last rest empty counted =
     let same : new ≡ finished_reader old = rest ∙ ap (λ (l : List ℕ). record begun { stage = Between; line = l }) empty ∙ ap finished_reader ends.begins.begun in
-    let earlier : new.earlier_plies ≡ old.earlier_plies = ap (λ (r : Reading). r.earlier_plies) same in
-    let plies : new.text.plies ≡ old.text.plies = ap (λ (r : Reading). r.text.plies) same in
+    let earlier : new.earlier_plies ≡ old.earlier_plies = ap (λ (r : ReaderState). r.earlier_plies) same in
+    let plies : new.text.plies ≡ old.text.plies = ap (λ (r : ReaderState). r.text.plies) same in
     record {
       goes = λ part agrees.
           let is = open_agrees old part agrees ends.at in
           record {
-            leads = subst (λ (r : Reading). IsBehind r (game_of part marker.now)) (sym same) (behind old part marker.now ends.outside is);
-            plies = ap (λ (s : Stage). plies_behind s new.earlier_plies new.text.plies) (ap (λ (r : Reading). r.stage) same)
+            leads = subst (λ (r : ReaderState). IsBehind r (game_of part marker.now)) (sym same) (behind old part marker.now ends.outside is);
+            plies = ap (λ (s : Stage). plies_behind s new.earlier_plies new.text.plies) (ap (λ (r : ReaderState). r.stage) same)
                 ∙ omega (arith, earlier, plies, is.held.plies, plies_before old ends.at);
             appended = subst (Appends a c) (ap (λ (l : List ℕ). section_due_of old ++ ending l marker.now) (of_line old begun ends.begins.begun)
                 ∙ due_is old part marker.now ends.begins.known ends.at ends.token is)
                 (Appends-trans a b c _ _ ends.begins.text (Appends-trans b d c _ _ put last));
           };
       keeps = record {
-        profile = ap (λ (r : Reading). r.profile) same;
+        profile = ap (λ (r : ReaderState). r.profile) same;
         plies = omega (arith, earlier, plies);
-        probes = omega (arith, ap (λ (r : Reading). r.most_probes) same);
+        probes = omega (arith, ap (λ (r : ReaderState). r.most_probes) same);
       };
       stays = tt;
-      finished = (refl, ap (λ (r : Reading). r.stage) same);
+      finished = (refl, ap (λ (r : ReaderState). r.stage) same);
       counted = counted ∙ ends.begins.counted;
     }
 
 -- a write failed behind the section
-pub ends_ill : (old begun new : Reading) (marker : Bor (List ℕ)) (a b c : Option (List ℕ)) (n m k : ℕ) → EndsText old begun marker.now a b n m
+pub ends_ill : (old begun new : ReaderState) (marker : Bor (List ℕ)) (a b c : Option (List ℕ)) (n m k : ℕ) → EndsText old begun marker.now a b n m
     → AppendsFront b c (ending begun.line marker.now) → new ≡ record begun { line = new.line } → k ≡ one_more m
     → PutResult old (InText (Marker marker)) new (Err reasons.WriteFault) (from_to a c n k)
 ends_ill old begun new marker a b c n m k ends front rest counted =
     let begins = ends.begins in
     unwritten old new (InText (Marker marker)) (from_to a c n k)
     (record {
-      profile = ap (λ (r : Reading). r.profile) rest ∙ begins.profile;
-      plies = omega (arith, ap (λ (r : Reading). r.earlier_plies) rest, ap (λ (r : Reading). r.text.plies) rest, begins.earlier, begins.plies);
-      probes = omega (arith, ap (λ (r : Reading). r.most_probes) rest, begins.probes);
+      profile = ap (λ (r : ReaderState). r.profile) rest ∙ begins.profile;
+      plies = omega (arith, ap (λ (r : ReaderState). r.earlier_plies) rest, ap (λ (r : ReaderState). r.text.plies) rest, begins.earlier, begins.plies);
+      probes = omega (arith, ap (λ (r : ReaderState). r.most_probes) rest, begins.probes);
     })
     (counted ∙ ap one_more begins.counted) (λ part agrees.
     let is = open_agrees old part agrees ends.at in

@@ -15,13 +15,13 @@ use Rattle.pgn_game.specs.Profile.{Profile, Missing, counts_as, takes_the_marker
 use Rattle.pgn_game.specs.Pairs.{Pair, has_pair}
 use Rattle.pgn_game.specs.Game.{Item, Part}
 use Rattle.pgn_game.specs.Levels.{start_of}
-use Rattle.pgn_game.specs.Holding.{TagPairs}
+use Rattle.pgn_game.specs.StoredPairs.{TagPairs}
 use Rattle.pgn_game.specs.Text.{torn, torn_for}
 use Rattle.pgn_game.specs.Progress.{Next, going}
 use Rattle.pgn_game.specs.Movetext.{Movetext, movetext_from, movetext_after_fen}
-use Rattle.pgn_game.specs.Reading.{Reading, Agrees, plies_behind}
-use Rattle.pgn_game.specs.Judging.{Fits, ValueFits, after, fen_position}
-use Rattle.pgn_game.specs.Handling.{Goes, PutResult, gain_to}
+use Rattle.pgn_game.specs.ReaderState.{ReaderState, Agrees, plies_behind}
+use Rattle.pgn_game.specs.Judgement.{Fits, ValueFits, after, fen_position}
+use Rattle.pgn_game.specs.PutResult.{Goes, PutResult, gain_to}
 use Rattle.pgn_game.proofs.putting.ItemToMovetext.{from_to}
 use Rattle.pgn_game.proofs.judging.PartsToJudgement.{begun_name, held_at, text_at}
 use Rattle.pgn_game.proofs.putting.ItemToReader.{more_comes}
@@ -51,20 +51,20 @@ adds_nothing p part to o none =
 
 -- A step goes from a stage in which the game has begun to another one, and to a part that the
 -- reader then agrees with.
-pub record IsStep (old new : Reading) (part : Part) (next : Next) : Type 0 where
+pub record IsStep (old new : ReaderState) (part : Part) (next : Next) : Type 0 where
   pub to : Part
   pub leads : going to ≡ next
   pub agrees : Agrees new to
 
 -- The reader has new pairs, and perhaps a new first position.
-steps : (old new : Reading) (j : Judged) (from stage : Stage) (tags : TagPairs) (start : Option Parts) (o : Option (List ℕ)) (n : ℕ)
+steps : (old new : ReaderState) (j : Judged) (from stage : Stage) (tags : TagPairs) (start : Option Parts) (o : Option (List ℕ)) (n : ℕ)
     → new ≡ record old { stage = stage; tags = tags; text = movetext_after_fen start old.text }
     → old.stage ≡ from → (from ≡ Between → ⊥) → (stage ≡ Between → ⊥) → (stage ≡ InMovetext → ⊥)
     → ((part : Part) → Agrees old part → IsStep old (record old { stage = stage; tags = tags; text = movetext_after_fen start old.text }) part (after j part))
     → PutResult old j new (Ok More) (from_to o o n n)
 steps old new j from stage tags start o n is at begun goes before each =
-    let then : Reading = record old { stage = stage; tags = tags; text = movetext_after_fen start old.text } in
-    subst (λ (r : Reading). PutResult old j r (Ok More) (from_to o o n n)) (sym is)
+    let then : ReaderState = record old { stage = stage; tags = tags; text = movetext_after_fen start old.text } in
+    subst (λ (r : ReaderState). PutResult old j r (Ok More) (from_to o o n n)) (sym is)
     (more_comes old then j (from_to o o n n) (record { profile = refl; plies = omega (arith, few start); probes = le_refl old.most_probes }) (λ e. absurd (goes e)) refl (λ part agrees.
     let h = each part agrees in
     subst (λ (x : Next). Goes old part x then More (from_to o o n n)) h.leads
@@ -95,7 +95,7 @@ begins_with name value ps (Some start) text new told is = ap movetext_from (sym 
 abbrev pub completed : List ℕ → List ℕ → List Pair → TagPairs
 completed name value ps = record { held = with_pair name value ps; pending_name = None }
 
-pub puts_value : (tags levels : ℕ) (old new : Reading) (value : Bor (List ℕ)) (name : List ℕ) (start : Option Parts) (held : TagPairs) (o : Option (List ℕ)) (n : ℕ)
+pub puts_value : (tags levels : ℕ) (old new : ReaderState) (value : Bor (List ℕ)) (name : List ℕ) (start : Option Parts) (held : TagPairs) (o : Option (List ℕ)) (n : ℕ)
     → Fits tags levels old (Value value) → IfSome old.tags.pending_name (λ m. held ≡ completed m value.now old.tags.held)
     → old.tags.pending_name ≡ Some name → start ≡ result_unwrap_or (fen_position name value.now) None
     → new ≡ record old { stage = AfterValue; tags = held; text = movetext_after_fen start old.text } → PutResult old (Value value) new (Ok More) (from_to o o n n)

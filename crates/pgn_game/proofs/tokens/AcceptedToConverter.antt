@@ -25,10 +25,10 @@ use Rattle.pgn_game.specs.FaultTable.{refusal}
 use Rattle.pgn_game.specs.Progress.{Next, going, whole, next, Progress, progress_with, progress_after, Read, read}
 use Rattle.pgn_game.specs.Due.{gain, Gains}
 use Rattle.pgn_game.specs.Levels.{plies_of}
-use Rattle.pgn_game.specs.Reading as reading
-use Rattle.pgn_game.specs.Reading.{Reading, Agrees, IsBehind, has_move, whole_plies, plies_next, Leads, Answers}
-use Rattle.pgn_game.specs.Feeding.{FinishedGame, finished_game_of, Converter, game_in_reader, game_in_reader_if, play_moves, has_played_move, HasRead, Stands, Stops, refused, unwritten, StopsWriting, AreNext, games_before, ProbesAtStop}
-use Rattle.pgn_game.specs.Stepping.{SameGames, OneGame, AfterStep, outcome_at, finished_game, games_after, fault_of_step, StepAdvances}
+use Rattle.pgn_game.specs.ReaderState as reader_state
+use Rattle.pgn_game.specs.ReaderState.{ReaderState, Agrees, IsBehind, has_move, whole_plies, plies_next, Leads, Answers}
+use Rattle.pgn_game.specs.ConverterCalls.{FinishedGame, finished_game_of, Converter, game_in_reader, game_in_reader_if, play_moves, has_played_move, HasRead, Stands, Stops, refused, unwritten, StopsWriting, AreNext, games_before, ProbesAtStop}
+use Rattle.pgn_game.specs.ConverterSteps.{SameGames, OneGame, AfterStep, outcome_at, finished_game, games_after, fault_of_step, StepAdvances}
 use Rattle.pgn_game.specs.MostTried.{MostTried, Raises, Tries, TriesUnwritten}
 use Rattle.pgn_game.proofs.tokens.PairsTriedForToken.{most_with, most_to_refused, part_probed, raises_none}
 use Rattle.pgn_game.proofs.tokens.OneMoreToken.{read-passes, read-refuses, due-passes, due-refuses, gains_none, gains_nothing}
@@ -43,22 +43,22 @@ follows_own [] = tt
 follows_own (x ∷ xs) = refl
 
 -- what a token leads to, with the games before
-leads_more : (nx : Next) (games : List Game) (r : Reading) → Leads nx More r → ((progress_with games nx).games ≡ games) × Agrees r (progress_with games nx).part
+leads_more : (nx : Next) (games : List Game) (r : ReaderState) → Leads nx More r → ((progress_with games nx).games ≡ games) × Agrees r (progress_with games nx).part
 leads_more (going part) games r h = (refl, h)
 leads_more (whole g) games r h = absurd h
 
-leads_finished : (nx : Next) (games : List Game) (r : Reading) → Leads nx Finished r
+leads_finished : (nx : Next) (games : List Game) (r : ReaderState) → Leads nx Finished r
     → (g : Game) × ((progress_with games nx).games ≡ games ++ g ∷ []) × Agrees r (progress_with games nx).part × IsBehind r g × (plies_next nx ≡ plies_of g)
 leads_finished (going part) games r h = absurd h
 leads_finished (whole g) games r h = (g, refl, h.agrees, h, refl)
 
 -- a token that finishes no game counts no move
-plies_more : (nx : Next) (r : Reading) → Leads nx More r → plies_next nx ≡ 0
+plies_more : (nx : Next) (r : ReaderState) → Leads nx More r → plies_next nx ≡ 0
 plies_more (going part) r h = refl
 plies_more (whole g) r h = absurd h
 
 -- what the reader still holds of the game that it is behind
-finished_behind : (r : Reading) (g : Game) → IsBehind r g → game_in_reader r ≡ finished_game_of g
+finished_behind : (r : ReaderState) (g : Game) → IsBehind r g → game_in_reader r ≡ finished_game_of g
 finished_behind r g h = cc (h.pairs, h.plies, h.position)
 
 plies-snoc : (games : List Game) (g : Game) → sum (map plies_of (games ++ g ∷ [])) ≡ sum (map plies_of games) + plies_of g
@@ -82,7 +82,7 @@ length-snoc : (games : List Game) (g : Game) → length (games ++ g ∷ []) ≡ 
 length-snoc games g = length-append games (g ∷ [])
 
 -- a converter after a step
-abbrev pub stepped : Standing → Reading → ℕ → Bool → Result (Option Accepted) Fault → Converter
+abbrev pub stepped : Standing → ReaderState → ℕ → Bool → Result (Option Accepted) Fault → Converter
 stepped l r games finished outcome =
     record {
       lexer = l;
@@ -102,14 +102,14 @@ in_games b h = or_left (play_moves b.games) (has_move b.part.items) h
     or_left false y h = absurd (cc)
 
 -- some pair was tried where a move was played in a game, or in the part
-in_either : (r : Reading) (b : Progress) → Agrees r b.part → (IsTrue (play_moves b.games) → 0 < r.most_probes) → IsTrue (has_played_move b) → 0 < r.most_probes
+in_either : (r : ReaderState) (b : Progress) → Agrees r b.part → (IsTrue (play_moves b.games) → 0 < r.most_probes) → IsTrue (has_played_move b) → 0 < r.most_probes
 in_either r b agrees before moves = by_or (play_moves b.games) (has_move b.part.items) before (part_probed r b.part agrees) moves
   where
     by_or : (x y : Bool) → (IsTrue x → 0 < r.most_probes) → (IsTrue y → 0 < r.most_probes) → IsTrue (x || y) → 0 < r.most_probes
     by_or true y left right h = left refl
     by_or false y left right h = right h
 
-module _ (p : Profile) (old : Converter) (given : List Token) (t : Token) (l : Standing) (new : Reading) (finished : Bool) (has_read : HasRead p old given) (profile : new.profile ≡ old.reading.profile) (probes : old.reading.most_probes ≤ new.most_probes) where
+module _ (p : Profile) (old : Converter) (given : List Token) (t : Token) (l : Standing) (new : ReaderState) (finished : Bool) (has_read : HasRead p old given) (profile : new.profile ≡ old.reading.profile) (probes : old.reading.most_probes ≤ new.most_probes) where
   abbrev b : Progress
   b = (read p given).progress
 
@@ -280,7 +280,7 @@ still_none-none [] = refl
 still_none-none (x ∷ xs) = refl
 
 -- What the reader answers to a token of the piece.
-pub took : (p : Profile) (old : Converter) (u : List ℕ) (given : List Token) (piece : List ℕ) (used : ℕ) (t : Token) (l : Standing) (new : Reading) (finished : Bool)
+pub took : (p : Profile) (old : Converter) (u : List ℕ) (given : List Token) (piece : List ℕ) (used : ℕ) (t : Token) (l : Standing) (new : ReaderState) (finished : Bool)
     (a c : Option (List ℕ)) (r : Result Accepted Reason) → Stands p old u (first piece) given → AfterScan u (first piece) given piece l used (token t)
     → EndsAt t.kind t.at l.count → l.count ≡ old.lexer.count + used → new.profile ≡ old.reading.profile → old.reading.most_probes ≤ new.most_probes
     → Answers old.reading (read p given).progress.part t.kind new r a c
@@ -306,7 +306,7 @@ took p old u given piece used t l new finished a c (Ok Finished) stands scan end
       },
       (one.0, one.1, ap (λ (finished : FinishedGame). Some finished) one.2),
     )
-took p old u given piece used t l new finished a c (Err why) stands scan ends count profile probes (reading.refused reason some wrote tries) =
+took p old u given piece used t l new finished a c (Err why) stands scan ends count profile probes (reader_state.refused reason some wrote tries) =
     record {
       fed = record {
         tokens = given ++ t ∷ [];
@@ -316,7 +316,7 @@ took p old u given piece used t l new finished a c (Err why) stands scan ends co
       no_game = none_before_refused p old given t l new finished stands.has_read profile probes [] a c reason some wrote;
       counts = count_at_refused p old given t l new finished stands.has_read profile probes [] a c reason some wrote tries;
     }
-took p old u given piece used t l new finished a c (Err why) stands scan ends count profile probes (reading.unwritten none wrote tries) =
+took p old u given piece used t l new finished a c (Err why) stands scan ends count profile probes (reader_state.unwritten none wrote tries) =
     record {
       fed = record {
         tokens = given ++ t ∷ [];
@@ -387,12 +387,12 @@ took_fault p old u given piece used f l new o some stands scan same =
         stops = stops_lexical p given f o stands.has_read.passes;
       };
       no_game = none_before_lexical p given f o stands.has_read.passes;
-      counts = subst (λ (r : Reading). ProbesAtStop (stops_lexical p given f o stands.has_read.passes) r.most_probes) (sym same)
+      counts = subst (λ (r : ReaderState). ProbesAtStop (stops_lexical p given f o stands.has_read.passes) r.most_probes) (sym same)
           (count_at_lexical p old given f o stands.has_read);
     }
 
 -- a game is just finished after a step where the step finished one
-pub is_some_held : (b : Bool) (reading : Reading) → is_some (game_in_reader_if b reading) ≡ b
+pub is_some_held : (b : Bool) (reading : ReaderState) → is_some (game_in_reader_if b reading) ≡ b
 is_some_held true reading = refl
 is_some_held false reading = refl
 

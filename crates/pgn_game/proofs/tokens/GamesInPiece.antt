@@ -6,8 +6,8 @@ use Rattle.pgn_lexer.specs.Decided.{decided}
 use Rattle.pgn_lexer.specs.Stands.{IsDecided, first, still}
 use Rattle.pgn_game.specs.declared.reason.Fault.{Fault}
 use Rattle.pgn_game.specs.Profile.{Profile}
-use Rattle.pgn_game.specs.Feeding.{Converter, Stands, AreNext, FedAll, FedGame, FedToFault, FedFault, FedWhole, ReadsUpTo, StopsIn, at_token, too_long}
-use Rattle.pgn_game.specs.Stepping.{AllSoFar}
+use Rattle.pgn_game.specs.ConverterCalls.{Converter, Stands, AreNext, FedAll, FedGame, FedToFault, FedFault, FedWhole, ReadsUpTo, StopsIn, at_token, too_long}
+use Rattle.pgn_game.specs.ConverterSteps.{AllSoFar}
 use Rattle.pgn_game.proofs.tokens.OneMoreToken.{gains_none, gains_more, stops_more}
 use Rattle.pgn_game.proofs.tokens.AcceptedToConverter.{still_none-none}
 use Rattle.pgn_game.proofs.tokens.StepsInPiece.{further, whole_piece, decided_at_end, stands_before_any}

@@ -14,7 +14,7 @@ use Rattle.pgn_game.specs.Text.{game_text, text_of, torn, torn_for}
 use Rattle.pgn_game.specs.Progress.{Next, going, whole, next, Progress, progress_with, progress_after, no_progress, Read, read_from, read, written, due}
 use Rattle.pgn_game.specs.Due.{text_next, gain, Gains}
 use Rattle.pgn_game.specs.Laws.{IsPrefix, DueGrows}
-use Rattle.pgn_game.specs.Feeding.{Stops, refused, unwritten, StopsWriting, games_before, ProbesAtStop}
+use Rattle.pgn_game.specs.ConverterCalls.{Stops, refused, unwritten, StopsWriting, games_before, ProbesAtStop}
 use Rattle.pgn_game.proofs.tokens.NextGrows.{next_is}
 
 abbrev read_as : Progress → Option Fault → Read

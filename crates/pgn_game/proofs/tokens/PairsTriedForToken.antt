@@ -27,11 +27,11 @@ use Rattle.pgn_game.specs.FaultTable.{refusal, is_number, is_outside_tag_pairs, 
 use Rattle.pgn_game.specs.Progress.{Next, going, whole, next, Progress, no_progress, progress_after, Read, read_from, read}
 use Rattle.pgn_game.specs.MostTried.{CostsIf, CostsToFind, is_written, CostsToWrite, added, CostsToAdd, CostsUnlessRefused, Tries, TriesUnwritten, MostFrom, MostTried, Raises}
 use Rattle.pgn_game.specs.MostTried as tried
-use Rattle.pgn_game.specs.Reading.{Reading, Agrees, has_move}
-use Rattle.pgn_game.specs.Judging.{OnlyProbesRise, Fits, IsOpen, Seeks, after, may_have_movetext, model_item, judged}
-use Rattle.pgn_game.specs.Putting.{TriesItem, writes}
-use Rattle.pgn_game.specs.Handling.{GoesTo, TriesJudged, UnwrittenPairs, begins_game, ready_for_token}
-use Rattle.pgn_game.specs.Handling as handling
+use Rattle.pgn_game.specs.ReaderState.{ReaderState, Agrees, has_move}
+use Rattle.pgn_game.specs.Judgement.{OnlyProbesRise, Fits, IsOpen, Seeks, after, may_have_movetext, model_item, judged}
+use Rattle.pgn_game.specs.ItemResult.{TriesItem, writes}
+use Rattle.pgn_game.specs.PutResult.{GoesTo, TriesJudged, UnwrittenPairs, begins_game, ready_for_token}
+use Rattle.pgn_game.specs.PutResult as put_result
 use Rattle.pgn_game.proofs.tokens.JudgedToAccepted.{Meets, PutRaises, meets_counted, ready_probes, said_ok}
 use Rattle.pgn_game.proofs.tokens.OneMoreToken.{first_passes, goes_on}
 use Rattle.pgn_game.proofs.judging.RefusalsInMovetext.{depth_is, position_is}
@@ -100,7 +100,7 @@ raises_none p part r why most is =
     }
 
 -- some pair was tried if a move is in the part
-pub part_probed : (r : Reading) (part : Part) → Agrees r part → IsTrue (has_move part.items) → 0 < r.most_probes
+pub part_probed : (r : ReaderState) (part : Part) → Agrees r part → IsTrue (has_move part.items) → 0 < r.most_probes
 part_probed r part agrees = by_stage r.stage refl
   where
     no_item : part.items ≡ [] → IsTrue (has_move part.items) → 0 < r.most_probes
@@ -122,7 +122,7 @@ found_there true rest place held s n same h = subst (λ (p : Parts). CostsIf res
 found_there false rest place held s n same h = h
 
 -- What a token meets, with what is counted for it.
-module _ (old counted : Reading) (part : Part) (k : Kind) (m : Meets old counted part k) where
+module _ (old counted : ReaderState) (part : Part) (k : Kind) (m : Meets old counted part k) where
   position_met : position_in m.to ≡ position_in part
   position_met =
       ap (λ ps. here (start_of ps) (levels_of m.to.items)) m.pairs ∙ ap (λ is. here (start_of part.pairs) (levels_of is)) m.items
@@ -145,7 +145,7 @@ module _ (old counted : Reading) (part : Part) (k : Kind) (m : Meets old counted
       (subst (λ (p : Parts). CostsIf (may_have_movetext counted.stage && rest) p s n) position_met there)
 
 -- so for each kind of token
-finds_met : (old counted : Reading) (part : Part) (k : Kind) (n : ℕ) → Meets old counted part k → begins_game counted.stage k ≡ false → Seeks counted k n → CostsToFind part k n
+finds_met : (old counted : ReaderState) (part : Part) (k : Kind) (n : ℕ) → Meets old counted part k → begins_game counted.stage k ≡ false → Seeks counted k n → CostsToFind part k n
 finds_met old counted part (tokens.symbol text) n m ready h = found_met old counted part (tokens.symbol text) m text n ready h
 finds_met old counted part _ n m ready h = h
 
@@ -154,21 +154,21 @@ written_alike : (mode : Mode) (deep : ℕ) (i : Item) → writes mode deep i ≡
 written_alike Full deep i = refl
 written_alike Reduced deep i = refl
 
-item_held : (r : Reading) (to : Part) (i : Item) (n k : ℕ) → IsOpen r to → TriesItem r.profile.mode r.text i n k
+item_held : (r : ReaderState) (to : Part) (i : Item) (n k : ℕ) → IsOpen r to → TriesItem r.profile.mode r.text i n k
     → CostsToWrite (is_written r.profile.mode (depth (levels_of_part to)) i) (position_in to) i n k
 item_held r to i n k is h =
     subst (λ (b : Bool). CostsToWrite b (position_in to) i n k)
     (ap (λ deep. writes r.profile.mode deep i) (depth_is r to is) ∙ written_alike r.profile.mode (depth (levels_of_part to)) i)
     (subst (λ (p : Parts). CostsToWrite (writes r.profile.mode (length r.text.levels.around) i) p i n k) (position_is r to is) h)
 
-abbrev AddsTo : Reading → Part → List Item → ℕ → ℕ → Type 0
+abbrev AddsTo : ReaderState → Part → List Item → ℕ → ℕ → Type 0
 AddsTo r to items n k = CostsToAdd r.profile.mode (depth (levels_of_part to)) (position_in to) items n k
 
 -- what was judged adds what was put, and one item at most
-adds_same : (r : Reading) (to : Part) (n k : ℕ) → k ≡ n → AddsTo r to (drop (length to.items) to.items) n k
+adds_same : (r : ReaderState) (to : Part) (n k : ℕ) → k ≡ n → AddsTo r to (drop (length to.items) to.items) n k
 adds_same r to n k same = subst (λ (l : List Item). AddsTo r to l n k) (sym (drop-length to.items)) same
 
-adds_judged : (tags levels : ℕ) (r : Reading) (to : Part) (j : Judged) (a : Accepted) (n k : ℕ) → Agrees r to → Fits tags levels r j
+adds_judged : (tags levels : ℕ) (r : ReaderState) (to : Part) (j : Judged) (a : Accepted) (n k : ℕ) → Agrees r to → Fits tags levels r j
     → TriesJudged r j (Ok a) n k → AddsTo r to (added to (after j to)) n k
 adds_judged tags levels r to (InText Number) a n k agrees fits h =
     subst (λ (l : List Item). AddsTo r to l n k) (sym (drop-append_seam to.items [])) h
@@ -184,17 +184,17 @@ written_more true place (move m) n k h = omega (arith, h.rises)
 written_more true place _ n k h = omega (arith, h)
 written_more false place i n k h = omega (arith, h)
 
-unwritten_more : (r : Reading) (i : Item) (n k : ℕ) → UnwrittenPairs r i n k → n ≤ k
-unwritten_more r i n k (handling.at_item h) = written_more (writes r.profile.mode (length r.text.levels.around) i) r.text.levels.present.present i n k h
-unwritten_more r i n k (handling.in_section at same) = omega (arith, same)
+unwritten_more : (r : ReaderState) (i : Item) (n k : ℕ) → UnwrittenPairs r i n k → n ≤ k
+unwritten_more r i n k (put_result.at_item h) = written_more (writes r.profile.mode (length r.text.levels.around) i) r.text.levels.present.present i n k h
+unwritten_more r i n k (put_result.in_section at same) = omega (arith, same)
 
-judged_more : (r : Reading) (j : Judged) (result : Result Accepted Reason) (n k : ℕ) → TriesJudged r j result n k → n ≤ k
+judged_more : (r : ReaderState) (j : Judged) (result : Result Accepted Reason) (n k : ℕ) → TriesJudged r j result n k → n ≤ k
 judged_more r (InText (Put i)) (Ok a) n k h = written_more (writes r.profile.mode (length r.text.levels.around) (model_item i)) r.text.levels.present.present (model_item i) n k h
 judged_more r (InText (Put i)) (Err reason) n k h = unwritten_more r (model_item i) n k h
 judged_more r _ result n k h = omega (arith, h)
 
 -- What was found and what was put of one token.
-module _ (tags levels : ℕ) (old counted : Reading) (part : Part) (k : Kind) (m : Meets old counted part k) (n new : ℕ)
+module _ (tags levels : ℕ) (old counted : ReaderState) (part : Part) (k : Kind) (m : Meets old counted part k) (n new : ℕ)
     (ready : begins_game counted.stage k ≡ false) (seeks : Seeks counted k n) (free : refusal old.profile part k ≡ None) where
   tries_met : (j : Judged) (a : Accepted) → Fits tags levels counted j → next part k ≡ after j m.to → TriesJudged counted j (Ok a) n new → Tries old.profile part k new
   tries_met j a fits leads h =
@@ -214,23 +214,23 @@ module _ (tags levels : ℕ) (old counted : Reading) (part : Part) (k : Kind) (m
   unwritten_met reason (InText (Put i)) fits leads h = by_write h
     where
       by_write : UnwrittenPairs counted (model_item i) n new → TriesUnwritten old.profile part k new
-      by_write (handling.at_item x) = tried.at_token (tries_met (InText (Put i)) More fits leads x)
-      by_write (handling.in_section at same) =
+      by_write (put_result.at_item x) = tried.at_token (tries_met (InText (Put i)) More fits leads x)
+      by_write (put_result.in_section at same) =
           tried.in_section (sym m.in_text ∙ ap (λ (x : Stage). stage_number InMovetext == stage_number x) (sym m.agrees.stage ∙ at))
           (subst (CostsToFind part k) (sym same) (finds_met old counted part k n m ready seeks))
   unwritten_met reason j fits leads h = tried.at_token (tries_met j More fits leads h)
 
 -- What the reader counts for a token that means something, once it is put.
-module _ (tags levels : ℕ) (old ready counted : Reading) (part : Part) (k : TokenKind) (n : ℕ) (agrees : Agrees old part)
+module _ (tags levels : ℕ) (old ready counted : ReaderState) (part : Part) (k : TokenKind) (n : ℕ) (agrees : Agrees old part)
     (is : ready ≡ ready_for_token old (kind_of k)) (counts : OnlyProbesRise ready counted) (no_game : begins_game counted.stage (kind_of k) ≡ false)
     (seeks : Seeks counted (kind_of k) n) (first : counted.most_probes ≡ max ready.most_probes n) where
   abbrev met : Meets old counted part (kind_of k)
   met = meets_counted old ready counted part k agrees is counts
 
   most_found : counted.most_probes ≡ max old.most_probes n
-  most_found = first ∙ ap (λ x. max x n) (ap (λ (r : Reading). r.most_probes) is ∙ ready_probes old (kind_of k))
+  most_found = first ∙ ap (λ x. max x n) (ap (λ (r : ReaderState). r.most_probes) is ∙ ready_probes old (kind_of k))
 
-  pub raises : (new : Reading) (j : Judged) (r : Result Accepted Reason) (more : ℕ) (d : Device)
+  pub raises : (new : ReaderState) (j : Judged) (r : Result Accepted Reason) (more : ℕ) (d : Device)
       → ((q : Part) → Agrees counted q → judged counted.profile q (kind_of k) ≡ Ok (after j q))
       → Fits tags levels counted j → ((q : Part) → Agrees counted q → GoesTo counted q (after j q) new r d)
       → TriesJudged counted j r n more → (n ≤ counted.most_probes → new.most_probes ≡ max counted.most_probes more)

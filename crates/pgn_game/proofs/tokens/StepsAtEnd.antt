@@ -21,10 +21,10 @@ use Rattle.pgn_game.specs.Game.{Item, Game}
 use Rattle.pgn_game.specs.FaultTable.{refusal, is_end, marker_of}
 use Rattle.pgn_game.specs.Progress.{next, progress_with, Progress, Read, read}
 use Rattle.pgn_game.specs.Due.{Gains}
-use Rattle.pgn_game.specs.Reading as reading
-use Rattle.pgn_game.specs.Reading.{Reading, Answers, Stays, FinishesAtMarker, CountsStop, CountsWrites, is_outside_the_table}
-use Rattle.pgn_game.specs.Feeding.{Converter, IsSound, game_in_reader, game_in_reader_if, IsLast, HasRead, Stands, unwritten, Finishes, FinishesToFault, ProbesAtStop, CountsFault, CountsReason}
-use Rattle.pgn_game.specs.Stepping.{SameGames, FaultAtEnd, AfterStepAtEnd, StepAtEndAdvances, AtEndSoFar, StaysBetween, outcome_at, is_ended, games_after, none_at_end, fault_of_step}
+use Rattle.pgn_game.specs.ReaderState as reader_state
+use Rattle.pgn_game.specs.ReaderState.{ReaderState, Answers, Stays, FinishesAtMarker, CountsStop, CountsWrites, is_outside_the_table}
+use Rattle.pgn_game.specs.ConverterCalls.{Converter, IsSound, game_in_reader, game_in_reader_if, IsLast, HasRead, Stands, unwritten, Finishes, FinishesToFault, ProbesAtStop, CountsFault, CountsReason}
+use Rattle.pgn_game.specs.ConverterSteps.{SameGames, FaultAtEnd, AfterStepAtEnd, StepAtEndAdvances, AtEndSoFar, StaysBetween, outcome_at, is_ended, games_after, none_at_end, fault_of_step}
 use Rattle.pgn_game.proofs.tokens.OneMoreToken.{gains_none, gains_more, stops_more, games_still, counts_still, read-passes}
 use Rattle.pgn_game.proofs.tokens.AcceptedToConverter.{stepped, gains_token, same_games, has_read_more, one_game, has_read_game, stops_refused, writing, stops_lexical, none_before_refused, none_before_unwritten, none_before_lexical, count_at_refused, count_at_unwritten, count_at_lexical}
 
@@ -136,10 +136,10 @@ pub let_go : (p : Profile) (c : Converter) (given : List Token) → HasRead p c 
 let_go p c given h = record { profile = h.profile; no_fault = h.no_fault; passes = h.passes; agrees = h.agrees; games = h.games; plies = h.plies; probed = h.probed; tried = h.tried; just_finished = tt }
 
 -- a converter after a step behind the last piece
-abbrev pub closed : Standing → Reading → ℕ → Bool → Result (Option Accepted) Fault → Converter
+abbrev pub closed : Standing → ReaderState → ℕ → Bool → Result (Option Accepted) Fault → Converter
 closed l r games finished outcome = record (stepped l r games finished outcome) { just_finished = None }
 
-pub closes : (p : Profile) (old : Converter) (u : List ℕ) (given : List Token) (t : Token) (l : Standing) (new : Reading) (finished : Bool) (a c : Option (List ℕ))
+pub closes : (p : Profile) (old : Converter) (u : List ℕ) (given : List Token) (t : Token) (l : Standing) (new : ReaderState) (finished : Bool) (a c : Option (List ℕ))
     (e : Bool) (r : Result Accepted Reason) → is_end t.kind ≡ e → HasRead p old given → Left u given e l t → new.profile ≡ old.reading.profile → old.reading.most_probes ≤ new.most_probes
     → Answers old.reading (read p given).progress.part t.kind new r a c
     → Stays old.reading new r → FinishesAtMarker t.kind new r
@@ -182,7 +182,7 @@ closes p old u given t l new finished a c false (Ok Finished) is_e has_read left
   },
   one_game p old given t l new finished has_read profile probes h.free h.leads,
 )
-closes p old u given t l new finished a c e (Err why) is_e has_read left profile probes (reading.refused reason some wrote tries) stays at_marker =
+closes p old u given t l new finished a c e (Err why) is_e has_read left profile probes (reader_state.refused reason some wrote tries) stays at_marker =
     let rest = tokens_left u given e l t left in
     (subst (λ ts. FaultAtEnd p given ts (record { at = t.at; reason = reason }) new.most_probes a c) (sym rest.1)
     (record {
@@ -190,7 +190,7 @@ closes p old u given t l new finished a c e (Err why) is_e has_read left profile
       no_game = none_before_refused p old given t l new finished has_read profile probes rest.0 a c reason some wrote;
       counts = count_at_refused p old given t l new finished has_read profile probes rest.0 a c reason some wrote tries;
     }))
-closes p old u given t l new finished a c e (Err why) is_e has_read left profile probes (reading.unwritten none wrote tries) stays at_marker =
+closes p old u given t l new finished a c e (Err why) is_e has_read left profile probes (reader_state.unwritten none wrote tries) stays at_marker =
     let rest = tokens_left u given e l t left in
     (subst (λ ts. FaultAtEnd p given ts (record { at = t.at; reason = WriteFault }) new.most_probes a c) (sym rest.1)
     (record {
@@ -206,7 +206,7 @@ closes_fault p old new u given f o has_read whole same =
     (record {
       stops = stops_lexical p given f o has_read.passes;
       no_game = none_before_lexical p given f o has_read.passes;
-      counts = subst (λ (r : Reading). ProbesAtStop (stops_lexical p given f o has_read.passes) r.most_probes) (sym same) (count_at_lexical p old given f o has_read);
+      counts = subst (λ (r : ReaderState). ProbesAtStop (stops_lexical p given f o has_read.passes) r.most_probes) (sym same) (count_at_lexical p old given f o has_read);
     })
 
 -- the end has neither a fault of its own nor a failure
@@ -216,7 +216,7 @@ fault_of_closed false (Ok o) = refl
 fault_of_closed e (Err f) = refl
 
 -- a token that finishes no game is counted as none, and the end is no marker
-pub games_of_closed : (k : Kind) (after : Reading) (at : ℕ) (e : Bool) (r : Result Accepted Reason) (games : ℕ) → is_end k ≡ e → FinishesAtMarker k after r
+pub games_of_closed : (k : Kind) (after : ReaderState) (at : ℕ) (e : Bool) (r : Result Accepted Reason) (games : ℕ) → is_end k ≡ e → FinishesAtMarker k after r
     → games_after (outcome_at at r) games ≡ games_after (none_at_end e (outcome_at at r)) games
 games_of_closed k after at true (Ok More) games is_e marker = refl
 games_of_closed k after at false (Ok More) games is_e marker = refl
@@ -284,7 +284,7 @@ counts_closed e (Err f) old new h = h
 
 -- A token behind the last piece keeps the counts small. The end takes no byte, but it is the last
 -- one.
-pub sound_behind : (old new : Standing) (before after : Reading) (games at : ℕ) (k : Kind) (e : Bool) (r : Result Accepted Reason) → is_end k ≡ e → Nearer e old new
+pub sound_behind : (old new : Standing) (before after : ReaderState) (games at : ℕ) (k : Kind) (e : Bool) (r : Result Accepted Reason) → is_end k ≡ e → Nearer e old new
     → FinishesAtMarker k after r → old.count ≤ 2 ^ 62 → games + waiting old ≤ 2 * old.count + 2
     → before.earlier_plies + before.text.plies + waiting old ≤ 2 * old.count + 2
     → after.earlier_plies + after.text.plies ≤ before.earlier_plies + before.text.plies + 1
@@ -333,7 +333,7 @@ sound_behind old new before after games at k e (Err reason) is_e near marker cou
       no_fault = λ is. absurd (cc);
     }
 
-pub not_just_finished : (b : Bool) (r : Reading) → game_in_reader_if b r ≡ None → b ≡ false
+pub not_just_finished : (b : Bool) (r : ReaderState) → game_in_reader_if b r ≡ None → b ≡ false
 not_just_finished true r h = absurd (cc)
 not_just_finished false r h = refl
 
@@ -365,8 +365,8 @@ module _ (p : Profile) (u : List ℕ) (given : List Token) (now new : Converter)
   held_still ts same stays h between =
       let kept = stays between in
       subst (λ gs. IsLast (Some (game_in_reader new.reading)) gs) (sym same)
-      (subst (λ (r : Reading). IsLast (Some (game_in_reader r)) (read p so.tokens).progress.games) (sym kept)
-      (so.last h (ap (λ (r : Reading). r.stage) (sym kept) ∙ between)))
+      (subst (λ (r : ReaderState). IsLast (Some (game_in_reader r)) (read p so.tokens).progress.games) (sym kept)
+      (so.last h (ap (λ (r : ReaderState). r.stage) (sym kept) ∙ between)))
 
   pub closed_more : AfterStepAtEnd p u so.tokens now new (Ok (Some More)) c d → AtEndSoFar p u given new finished_game a d
   closed_more (t, took, same, stays) =
@@ -421,7 +421,7 @@ module _ (p : Profile) (u : List ℕ) (given : List Token) (now new : Converter)
       }
 
 -- after a fault a converter owes nothing
-pub sound_behind_fault : (lexer : Standing) (reading : Reading) (games : ℕ) (is_finished : Bool) (f : Fault) → IsSound lexer reading games false is_finished (Some f)
+pub sound_behind_fault : (lexer : Standing) (reading : ReaderState) (games : ℕ) (is_finished : Bool) (f : Fault) → IsSound lexer reading games false is_finished (Some f)
 sound_behind_fault lexer reading games is_finished f =
     record {
       count = λ none. absurd (cc);
@@ -433,7 +433,7 @@ sound_behind_fault lexer reading games is_finished f =
     }
 
 -- behind the last piece a token was waiting, unless it is the end
-pub closes_sooner : (old new : Standing) (after : Reading) (at : ℕ) (k : Kind) (e : Bool) (r : Result Accepted Reason) → is_end k ≡ e → Nearer e old new
+pub closes_sooner : (old new : Standing) (after : ReaderState) (at : ℕ) (k : Kind) (e : Bool) (r : Result Accepted Reason) → is_end k ≡ e → Nearer e old new
     → FinishesAtMarker k after r → StepAtEndAdvances old new (none_at_end e (outcome_at at r))
 closes_sooner old new after at k true (Ok More) is_e near marker = tt
 closes_sooner old new after at k false (Ok More) is_e near marker = near.0
@@ -445,7 +445,7 @@ closes_sooner old new after at k false (Ok Finished) is_e near marker = near.0
 closes_sooner old new after at k e (Err reason) is_e near marker = tt
 
 -- while no game is just finished a converter owes no more
-pub sound_at_none : (lexer : Standing) (reading : Reading) (games : ℕ) (has_finished_game is_finished : Bool) (fault : Option Fault) → IsSound lexer reading games has_finished_game is_finished fault
+pub sound_at_none : (lexer : Standing) (reading : ReaderState) (games : ℕ) (has_finished_game is_finished : Bool) (fault : Option Fault) → IsSound lexer reading games has_finished_game is_finished fault
     → IsSound lexer reading games false is_finished fault
 sound_at_none lexer reading games has_finished_game is_finished fault sound =
     record {

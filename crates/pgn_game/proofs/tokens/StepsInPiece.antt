@@ -12,9 +12,9 @@ use Rattle.pgn_game.specs.declared.reason.Reason.TheVariants.{InputTooLong}
 use Rattle.pgn_game.specs.declared.reason.Fault.{Fault}
 use Rattle.pgn_game.specs.declared.accepted.Accepted.TheVariants.{More, Finished}
 use Rattle.pgn_game.specs.Profile.{Profile}
-use Rattle.pgn_game.specs.Reading.{Reading}
-use Rattle.pgn_game.specs.Feeding.{FinishedGame, Converter, Stands, AreNext, FedAll, FedGame, FedToFault, StopsIn, too_long, CountsReason}
-use Rattle.pgn_game.specs.Stepping.{AfterStep, next_at, SoFar}
+use Rattle.pgn_game.specs.ReaderState.{ReaderState}
+use Rattle.pgn_game.specs.ConverterCalls.{FinishedGame, Converter, Stands, AreNext, FedAll, FedGame, FedToFault, StopsIn, too_long, CountsReason}
+use Rattle.pgn_game.specs.ConverterSteps.{AfterStep, next_at, SoFar}
 use Rattle.pgn_game.proofs.tokens.OneMoreToken.{gains_none, gains_more, stops_more, games_still, counts_still}
 use Rattle.pgn_game.proofs.tokens.AcceptedToConverter.{still_none-none}
 
@@ -273,7 +273,7 @@ module _ (p : Profile) (u : List ℕ) (b : Option ℕ) (given : List Token) (pie
       goes_on (x ∷ xs) (suc n) s begins follows = tt
 
   -- the piece goes on past place 2^62
-  pub front_too_long : (now : Converter) (reading : Reading) (AtToken : Fault → Type 0) → length u + n ≡ 2 ^ 62 → n < length piece → reading ≡ now.reading → FedAll p u b given (take n piece) now a c
+  pub front_too_long : (now : Converter) (reading : ReaderState) (AtToken : Fault → Type 0) → length u + n ≡ 2 ^ 62 → n < length piece → reading ≡ now.reading → FedAll p u b given (take n piece) now a c
       → StopsIn u piece AtToken (λ front. (c' : Converter) × FedAll p u b given front c' a c × (reading ≡ c'.reading)) (record { at = 2 ^ 62; reason = InputTooLong })
   front_too_long now reading AtToken place more same fed =
       too_long (take n piece) (drop n piece) (sym (take-append-drop n piece))

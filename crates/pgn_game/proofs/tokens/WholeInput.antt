@@ -12,13 +12,13 @@ use Rattle.pgn_game.specs.declared.reason.Fault.{Fault}
 use Rattle.pgn_game.specs.declared.conversion.Totals.{Totals}
 use Rattle.pgn_game.specs.Profile.{Profile}
 use Rattle.pgn_game.specs.Levels.{plies_of}
-use Rattle.pgn_game.specs.Reading.{whole_plies}
+use Rattle.pgn_game.specs.ReaderState.{whole_plies}
 use Rattle.pgn_game.specs.Progress.{no_progress, Read, read, written, due, refused as is_refused, totals, verdict_of}
 use Rattle.pgn_game.specs.Due.{Gains}
 use Rattle.pgn_game.specs.MostTried.{MostTried}
-use Rattle.pgn_game.specs.Feeding.{Converter, Stands, Stops, refused, unwritten, StopsWriting, StopsIn, at_token, too_long, FedFault, FedWhole, ReadsUpTo, Finishes}
-use Rattle.pgn_game.specs.Converting.{IsConverted, IsTotalled, ReadsNoMore, FailsOn, Fails, AfterEnd, ReadSoFar, Converts, ConvertsSlice}
-use Rattle.pgn_game.specs.Converting as converting
+use Rattle.pgn_game.specs.ConverterCalls.{Converter, Stands, Stops, refused, unwritten, StopsWriting, StopsIn, at_token, too_long, FedFault, FedWhole, ReadsUpTo, Finishes}
+use Rattle.pgn_game.specs.Conversion.{IsConverted, IsTotalled, ReadsNoMore, FailsOn, Fails, AfterEnd, ReadSoFar, Converts, ConvertsSlice}
+use Rattle.pgn_game.specs.Conversion as conversion
 use Rattle.pgn_game.proofs.tokens.OneMoreToken.{torn-none, gains_none, gains_more, stops_more, stops_from}
 use Rattle.pgn_game.proofs.tokens.AcceptedToConverter.{in_games, still_none-none}
 
@@ -82,7 +82,7 @@ pub unread : (p : Profile) (left_old left left_new : Option (List ℕ)) (now : C
     → at ≡ now.lexer.count → Fails p left_old left_new a c (record { at = at; reason = ReadFault })
 unread p left_old left left_new now a c at so keeps place =
     subst (λ n. Fails p left_old left_new a c (record { at = n; reason = ReadFault })) (sym (place ∙ so.stands.lexer.count))
-    (converting.unread so.bytes (keeps_consumed left_old left left_new so.bytes so.consumed keeps)
+    (conversion.unread so.bytes (keeps_consumed left_old left left_new so.bytes so.consumed keeps)
     (no_more p so.bytes so.tokens a c so.decided so.stands.has_read.passes so.gains))
 
 -- the tokens up to a rejected one decide the verdict
@@ -138,17 +138,17 @@ stops_in_piece p left_old left left_new now a c d piece f so consumed (at_token 
 
     by_stops : {h : Fault} → Stops p [] fed.tokens a d h → Fails p left_old left_new a d h
     by_stops (refused h fault gains) =
-        converting.refused h (known_left left_old left_new (so.bytes ++ piece) (λ s. IsConverted p s (is_refused h) a d) all
+        conversion.refused h (known_left left_old left_new (so.bytes ++ piece) (λ s. IsConverted p s (is_refused h) a d) all
         (λ rest. refused_text p ((so.bytes ++ piece) ++ rest) fed.tokens (goes rest).0 h a d (goes rest).1 fault gains))
     by_stops (unwritten at writing) =
         let here = goes [] in
         let cut : tokens_of (so.bytes ++ piece) ≡ fed.tokens ++ here.0 = ap tokens_of (sym (append-nil (so.bytes ++ piece))) ∙ here.1 in
-        converting.unwritten (so.bytes ++ piece) at all (subst (λ ts. StopsWriting p [] ts at a d) (sym cut) (further_writing p [] fed.tokens here.0 at a d writing))
+        conversion.unwritten (so.bytes ++ piece) at all (subst (λ ts. StopsWriting p [] ts at a d) (sym cut) (further_writing p [] fed.tokens here.0 at a d writing))
 stops_in_piece p left_old left left_new now a c d piece f so consumed (too_long front rest cut place some before) =
     let all = Consumes-trans left_old left left_new so.bytes piece so.consumed consumed in
     let text : so.bytes ++ piece ≡ (so.bytes ++ front) ++ rest = ap (λ xs. so.bytes ++ xs) cut ∙ sym (append_assoc so.bytes front rest) in
     subst (λ n. Fails p left_old left_new a d (record { at = n; reason = InputTooLong })) place
-    (converting.too_long (so.bytes ++ front) rest (subst (Consumes left_old left_new) text all) place some
+    (conversion.too_long (so.bytes ++ front) rest (subst (Consumes left_old left_new) text all) place some
     (no_more p (so.bytes ++ front) before.tokens a d before.decided before.passes (gains_more p [] so.tokens before.tokens a c d so.gains before.gains)))
 
 -- the source's end
@@ -165,9 +165,9 @@ ends_here p left_old left left_new now a c d (Err f) so consumed end stops = by_
 
     by_stops : {h : Fault} → Stops p [] (tokens_of so.bytes) a d h → Fails p left_old left_new a d h
     by_stops (refused h fault gains) =
-        converting.refused h (known_whole left_old left_new so.bytes (λ s. IsConverted p s (is_refused h) a d) all end
+        conversion.refused h (known_whole left_old left_new so.bytes (λ s. IsConverted p s (is_refused h) a d) all end
         (refused_text p so.bytes (tokens_of so.bytes) [] h a d (sym (append-nil (tokens_of so.bytes))) fault gains))
-    by_stops (unwritten at writing) = converting.unwritten so.bytes at all writing
+    by_stops (unwritten at writing) = conversion.unwritten so.bytes at all writing
 
 -- a slice, fed from the start on
 pub slice_stops : (p : Profile) (f : Fault) (text : List ℕ) (a c : Option (List ℕ))
@@ -181,12 +181,12 @@ slice_stops p f text a c (at_token g fed) = by_stops fed.stops
     here = ((goes []).0, ap tokens_of (sym (append-nil text)) ∙ (goes []).1)
 
     by_stops : {h : Fault} → Stops p [] fed.tokens a c h → FailsOn p text a c h
-    by_stops (refused h fault gains) = converting.FailsOn.refused h (refused_text p text fed.tokens here.0 h a c here.1 fault gains)
+    by_stops (refused h fault gains) = conversion.FailsOn.refused h (refused_text p text fed.tokens here.0 h a c here.1 fault gains)
     by_stops (unwritten at writing) =
-        converting.FailsOn.unwritten at (subst (λ ts. StopsWriting p [] ts at a c) (sym here.1) (further_writing p [] fed.tokens here.0 at a c writing))
+        conversion.FailsOn.unwritten at (subst (λ ts. StopsWriting p [] ts at a c) (sym here.1) (further_writing p [] fed.tokens here.0 at a c writing))
 slice_stops p f text a c (too_long front rest cut place some before) =
     subst (λ n. FailsOn p text a c (record { at = n; reason = InputTooLong })) place
-    (converting.FailsOn.too_long front rest cut place some (no_more p front before.tokens a c before.decided before.passes before.gains))
+    (conversion.FailsOn.too_long front rest cut place some (no_more p front before.tokens a c before.decided before.passes before.gains))
 
 pub slice_ends : (p : Profile) (text : List ℕ) (now : Converter) (a c d : Option (List ℕ)) (r : Result Totals Fault) (fed : FedWhole p [] [] text now a c) → AfterEnd p text fed.tokens r c d
     → ConvertsSlice p text r a d
@@ -196,8 +196,8 @@ slice_ends p text now a c d (Err f) fed stops = by_stops (stops_more p [] fed.to
   where
     by_stops : {h : Fault} → Stops p [] (tokens_of text) a d h → FailsOn p text a d h
     by_stops (refused h fault gains) =
-        converting.FailsOn.refused h (refused_text p text (tokens_of text) [] h a d (sym (append-nil (tokens_of text))) fault gains)
-    by_stops (unwritten at writing) = converting.FailsOn.unwritten at writing
+        conversion.FailsOn.refused h (refused_text p text (tokens_of text) [] h a d (sym (append-nil (tokens_of text))) fault gains)
+    by_stops (unwritten at writing) = conversion.FailsOn.unwritten at writing
 
 -- an input that was read to its end is no longer than the places go
 pub short_input : (p : Profile) (left_old left left_new : Option (List ℕ)) (now : Converter) (a c : Option (List ℕ)) (r : Result Totals Fault) (so : ReadSoFar p left_old left now a c)

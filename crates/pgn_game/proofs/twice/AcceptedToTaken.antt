@@ -24,15 +24,15 @@ use Rattle.pgn_game.specs.FaultTable.{refusal, is_end, marker_of}
 use Rattle.pgn_game.specs.Text.{torn}
 use Rattle.pgn_game.specs.Due.{gain, text_next}
 use Rattle.pgn_game.specs.Progress.{Next, going, whole, next}
-use Rattle.pgn_game.specs.Reading.{Agrees, Answers, IsAccepted, Leads, Reading}
-use Rattle.pgn_game.specs.Reading as reading
+use Rattle.pgn_game.specs.ReaderState.{Agrees, Answers, IsAccepted, Leads, ReaderState}
+use Rattle.pgn_game.specs.ReaderState as reader_state
 use Rattle.pgn_game.specs.Checked.{is_other}
 use Rattle.pgn_game.specs.Pass.{IsCounting, LeadsTo, TakesToken, TokenFails, counting, marks_differ, model_mark, other, reading_under, refused, rejects, shows_other, unwritten}
 use Rattle.pgn_game.proofs.tokens.StepsAtEnd.{end_at, is_the_end}
 use Rattle.pgn_game.proofs.twice.MarkerCounts.{accepted_under, agrees_under, marker_finishes, no_marker_goes, refusal_counting, rejected_under}
 
 -- the reader, where a missing Result counts as the marker of the token, if it is one
-abbrev pub with_marker : Option Marker → Reading → Reading
+abbrev pub with_marker : Option Marker → ReaderState → ReaderState
 with_marker None r = r
 with_marker (Some m) r =
     record r { profile = record { tags = r.profile.tags; depth = r.profile.depth; mode = r.profile.mode; missing_result = counts_as (marker_text m) } }
@@ -73,7 +73,7 @@ or_true : (o : Option Reason) (b : Bool) → b ≡ true → (is_some o || b) ≡
 or_true None b h = h
 or_true (Some reason) b h = refl
 
-module _ (q : Profile) (part : Part) (told : Option CodeMark) (at : ℕ) (k : Kind) (marker : Option Marker) (old set new : Reading) (a c : Option (List ℕ))
+module _ (q : Profile) (part : Part) (told : Option CodeMark) (at : ℕ) (k : Kind) (marker : Option Marker) (old set new : ReaderState) (a c : Option (List ℕ))
     (takes : q.missing_result ≡ takes_the_marker) (counts : IsCounting q old.profile) (agrees : Agrees old part)
     (marker_is : option_map marker_text marker ≡ marker_of k) (set_is : set ≡ with_marker marker old) where
   abbrev t : Token
@@ -89,11 +89,11 @@ module _ (q : Profile) (part : Part) (told : Option CodeMark) (at : ℕ) (k : Ki
   counts_as_marker = by_marker marker marker_is set_is
     where
       by_marker : (o : Option Marker) → option_map marker_text o ≡ marker_of k → set ≡ with_marker o old → CountsAs
-      by_marker None is set_to = record { text = counts.0; profile = ap (λ (r : Reading). r.profile) set_to ∙ counts.1; known = inl (sym is) }
+      by_marker None is set_to = record { text = counts.0; profile = ap (λ (r : ReaderState). r.profile) set_to ∙ counts.1; known = inl (sym is) }
       by_marker (Some m) is set_to =
           record {
             text = marker_text m;
-            profile = ap (λ (r : Reading). r.profile) set_to ∙ ap (λ (p : Profile). counting p (marker_text m)) counts.1;
+            profile = ap (λ (r : ReaderState). r.profile) set_to ∙ ap (λ (p : Profile). counting p (marker_text m)) counts.1;
             known = inr (sym is);
           }
 
@@ -226,10 +226,10 @@ module _ (q : Profile) (part : Part) (told : Option CodeMark) (at : ℕ) (k : Ki
 
   pub fails : (reason : Reason) → marks_differ told marker at ≡ false → new.profile ≡ set.profile → Answers set part k new (Err reason) a c
       → TokenFails q part told t new a c (record { at = at; reason = reason })
-  fails reason same profile (reading.refused why some wrote tries) =
+  fails reason same profile (reader_state.refused why some wrote tries) =
       let x = counts_as_marker in
       refused why (rejected_under q x.text part k why takes x.known (ap (λ p. refusal p part k) (sym x.profile) ∙ some)) wrote
-  fails reason same profile (reading.unwritten none (n, short, wrote) tries) =
+  fails reason same profile (reader_state.unwritten none (n, short, wrote) tries) =
       let free = free_of none in
       unwritten (not_rejected free false (shows_none free same n short))
       (n, subst (λ p. n < length (gain p part k)) (sym profile) short, subst (λ p. Appends a c (take n (gain p part k))) (sym profile) wrote)

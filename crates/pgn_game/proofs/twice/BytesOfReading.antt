@@ -11,7 +11,7 @@ use Rattle.pgn_lexer.specs.Standing.{Standing, coming}
 use Rattle.pgn_lexer.specs.Stands.{IsDecided, StandsAfter, first}
 use Rattle.pgn_game.specs.declared.reason.Reason.TheVariants.{ReadFault, InputTooLong}
 use Rattle.pgn_game.specs.Profile.{Profile}
-use Rattle.pgn_game.specs.Feeding.{HasRead, IsSound}
+use Rattle.pgn_game.specs.ConverterCalls.{HasRead, IsSound}
 use Rattle.pgn_game.specs.Pass.{HasGiven, IsCounting, IsGoing, Pass, ReadFails, StandsIn, as_converter, too_long, unread}
 use Rattle.pgn_game.proofs.tokens.StepsInPiece.{decided_at_end}
 use Rattle.pgn_game.proofs.tokens.WholeInput.{known_whole}

@@ -11,8 +11,8 @@ use Rattle.pgn_game.specs.declared.checked.Taken.{Taken}
 use Rattle.pgn_game.specs.declared.checked.Taken.TheVariants.{More, Game as GameEnd, End}
 use Rattle.pgn_game.specs.FaultTable.{is_end}
 use Rattle.pgn_game.specs.declared.reason.Fault.{Fault}
-use Rattle.pgn_game.specs.Reading.{Reading}
-use Rattle.pgn_game.specs.Feeding.{IsSound}
+use Rattle.pgn_game.specs.ReaderState.{ReaderState}
+use Rattle.pgn_game.specs.ConverterCalls.{IsSound}
 use Rattle.pgn_game.proofs.tokens.StepsAtEnd.{Nearer}
 use Rattle.pgn_game.specs.Pass.{GoesBehind, IsGoing, IsTold, Keeps, KeepsGoing, LeavesReader, Pass, games_with, steps_left, until_read}
 
@@ -44,7 +44,7 @@ one_game (GameEnd m) n = omega arith
 one_game End n = omega arith
 
 -- the games with a token
-pub games_of : (told : Option CodeMark) (old new : Reading) (o n : ℕ) (r : Result Taken Fault) → IfOk r (LeavesReader told old new o n) → IfOk r (λ x. n ≡ games_with x o)
+pub games_of : (told : Option CodeMark) (old new : ReaderState) (o n : ℕ) (r : Result Taken Fault) → IfOk r (LeavesReader told old new o n) → IfOk r (λ x. n ≡ games_with x o)
 games_of told old new o n (Ok taken) h = h.games
 games_of told old new o n (Err f) h = tt
 
@@ -105,7 +105,7 @@ module _ (told : Option CodeMark) (old new : Pass) (going : IsGoing old) where
       record {
         going = sound new (omega (arith, going.room, count, empty))
             (omega (arith, games, games_same, few, count, some))
-            (omega (arith, plies, ap (λ (r : Reading). r.earlier_plies + r.text.plies) same, few, count, some));
+            (omega (arith, plies, ap (λ (r : ReaderState). r.earlier_plies + r.text.plies) same, few, count, some));
         under = subst (IsTold told) (sym same) under;
         fewer = omega (arith, one_until new.has_ended new.unused, count, few, some, going.room);
       }

@@ -10,10 +10,10 @@ use Rattle.pgn_game.specs.declared.reason.Reason.{Reason}
 use Rattle.pgn_game.specs.declared.reason.Reason.TheVariants.{Lexical, ExpectedName, BadTagName, DuplicateTag, TooManyTags, ExpectedValue, BadResult, BadFen, TagLineTooLong, ExpectedBracket, SetUpWithoutFen, ReducedFen, TagInMovetext, NotAMove, IllegalMove, AmbiguousMove, MoveLimit, NoMoveBefore, TooDeep, UnmatchedClose, MarkerInVariation, ResultDiffers, UnexpectedEnd, ReadFault, WriteFault, InputTooLong, Changed}
 use Rattle.pgn_game.specs.declared.reason.Fault.{Fault}
 use Rattle.pgn_game.specs.Profile.{Profile}
-use Rattle.pgn_game.specs.Converting.{CountsDevices}
-use Rattle.pgn_game.specs.Reading.{CountsWrites}
-use Rattle.pgn_game.specs.Feeding.{CountsReason}
-use Rattle.pgn_game.specs.ConvertingTwice.{CountsThree}
+use Rattle.pgn_game.specs.Conversion.{CountsDevices}
+use Rattle.pgn_game.specs.ReaderState.{CountsWrites}
+use Rattle.pgn_game.specs.ConverterCalls.{CountsReason}
+use Rattle.pgn_game.specs.CheckedConversion.{CountsThree}
 use Rattle.pgn_game.specs.Pass.{AfterStep, AfterTake, CountsRead, CountsReading, CountsStep, CountsTaken, CountsTaking, Pass, changed_reason}
 use Rattle.pgn_game.proofs.tokens.StepsAtEnd.{counts_reason}
 

@@ -26,8 +26,8 @@ use Rattle.pgn_game.specs.Text.{game_text}
 use Rattle.pgn_game.specs.Progress.{Next, going, whole, at_stage, items_of, in_text, next, next_in}
 use Rattle.pgn_game.specs.MostTried.{CostsUnlessRefused, Tries, added}
 use Rattle.pgn_game.specs.Movetext.{HoldsItems}
-use Rattle.pgn_game.specs.Reading.{Reading, Agrees, HoldsText, IsAccepted, Leads, is_outside_the_table}
-use Rattle.pgn_game.specs.Judging.{game_of, or_else, with_items}
+use Rattle.pgn_game.specs.ReaderState.{ReaderState, Agrees, HoldsText, IsAccepted, Leads, is_outside_the_table}
+use Rattle.pgn_game.specs.Judgement.{game_of, or_else, with_items}
 use Rattle.pgn_game.specs.Pass.{counting, reading_under}
 use Rattle.pgn_game.proofs.judging.RowsByStage.{naming, test_failed}
 use Rattle.pgn_game.proofs.judging.RefusalsInMovetext.{marker_whole, score_of}
@@ -129,15 +129,15 @@ pub no_marker_goes : (part : Part) (k : Kind) → marker_of k ≡ None → (to :
 no_marker_goes part k none = goes_at part.stage part k none
 
 -- The reader agrees with a part in any profile of its mode.
-text_under : (q : Profile) (r : Reading) (part : Part) (stage : Stage) → q.mode ≡ r.profile.mode → HoldsText stage r part → HoldsText stage (reading_under q r) part
+text_under : (q : Profile) (r : ReaderState) (part : Part) (stage : Stage) → q.mode ≡ r.profile.mode → HoldsText stage r part → HoldsText stage (reading_under q r) part
 text_under q r part InMovetext same h =
     (subst (λ mode. HoldsItems mode (start_of part.pairs) part.items r.text r.line) (sym same) h.0, h.1)
 text_under q r part _ same h = h
 
-pub agrees_under : (q : Profile) (r : Reading) (part : Part) → q.mode ≡ r.profile.mode → Agrees r part → Agrees (reading_under q r) part
+pub agrees_under : (q : Profile) (r : ReaderState) (part : Part) → q.mode ≡ r.profile.mode → Agrees r part → Agrees (reading_under q r) part
 agrees_under q r part same agrees = record { stage = agrees.stage; pairs = agrees.pairs; text = text_under q r part r.stage same agrees.text }
 
-leads_under : (q : Profile) (r : Reading) (to : Next) (accepted : Accepted) → q.mode ≡ r.profile.mode → Leads to accepted r → Leads to accepted (reading_under q r)
+leads_under : (q : Profile) (r : ReaderState) (to : Next) (accepted : Accepted) → q.mode ≡ r.profile.mode → Leads to accepted r → Leads to accepted (reading_under q r)
 leads_under q r (going part) More same h = agrees_under q r part same h
 leads_under q r (going part) Finished same h = absurd h
 leads_under q r (whole g) More same h = absurd h
@@ -156,7 +156,7 @@ tries_under q text part k n same h = record {
 }
 
 -- A token that the reader accepts is accepted under q too. This says nothing of what is written.
-pub accepted_under : (q : Profile) (text : List ℕ) (part : Part) (k : Kind) (old new : Reading) (accepted : Accepted) (a c : Option (List ℕ))
+pub accepted_under : (q : Profile) (text : List ℕ) (part : Part) (k : Kind) (old new : ReaderState) (accepted : Accepted) (a c : Option (List ℕ))
     → q.missing_result ≡ takes_the_marker → old.profile ≡ counting q text → new.profile ≡ old.profile
     → (marker_of k ≡ None) ⊎ (marker_of k ≡ Some text) → IsAccepted old part k new accepted a c
     → IsAccepted (reading_under q old) part k (reading_under q new) accepted None None

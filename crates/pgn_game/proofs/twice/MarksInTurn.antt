@@ -7,8 +7,8 @@ use Rattle.pgn_game.specs.Profile.{Profile}
 use Rattle.pgn_game.specs.Game.{Game, Part}
 use Rattle.pgn_game.specs.FaultTable.{refusal}
 use Rattle.pgn_game.specs.Progress.{Next, going, whole, next, no_progress, progress_after, Read, read}
-use Rattle.pgn_game.specs.Checked.{Mark, mark_at, marks, marks_from, is_other, is_changed, marks_after, follow, followed}
-use Rattle.pgn_game.specs.Pass.{HasMarked, HasFollowed, part_after}
+use Rattle.pgn_game.specs.Checked.{Mark, mark_at, marks, marks_from, is_other, is_changed, marks_after, compared_from, compared}
+use Rattle.pgn_game.specs.Pass.{HasMarked, HasMatched, part_after}
 use Rattle.pgn_game.proofs.EqualReadings.{after_marks, marks_test, after_change, change_test}
 use Rattle.pgn_game.proofs.tokens.OneMoreToken.{read-passes}
 
@@ -35,11 +35,11 @@ pub marked_game : (q : Profile) (given : List Token) (t : Token) (ms : List Mark
 marked_game q given t ms g passes free leads so =
     subst (λ (l : List Mark). HasMarked q (given ++ t ∷ []) l) (ap (λ (n : Next). ms ++ mark_at t.at n) leads) (marked_token q given t ms passes free so)
 
-pub followed_none : (q : Profile) → HasFollowed q [] [] []
-followed_none q ns ts = refl
+pub matched_none : (q : Profile) → HasMatched q [] [] []
+matched_none q ns ts = refl
 
-pub followed_mark : (q : Profile) (ms : List Mark) (m : Mark) (us : List Token) → HasFollowed q ms us [] → HasFollowed q (ms ++ m ∷ []) us (m ∷ [])
-followed_mark q ms m us so ns ts = ap (λ (l : List Mark). follow q l no_progress (us ++ ts)) (append_assoc ms (m ∷ []) ns) ∙ so (m ∷ ns) ts
+pub matched_mark : (q : Profile) (ms : List Mark) (m : Mark) (us : List Token) → HasMatched q ms us [] → HasMatched q (ms ++ m ∷ []) us (m ∷ [])
+matched_mark q ms m us so ns ts = ap (λ (l : List Mark). compared_from q l no_progress (us ++ ts)) (append_assoc ms (m ∷ []) ns) ∙ so (m ∷ ns) ts
 
 -- a token that shows no difference is not rejected
 either_false : (o : Option Reason) (other : Bool) → (is_some o || other) ≡ false → (o ≡ None) × (other ≡ false)
@@ -53,27 +53,27 @@ marks_behind : (n : Next) (m : Mark) (ns : List Mark) → marks_after n m ns ≡
 marks_behind (going to) m ns = refl
 marks_behind (whole g) m ns = refl
 
-followed_token : (q : Profile) (ms : List Mark) (m : Mark) (us : List Token) (t : Token) → (read q us).fault ≡ None → is_changed q m (part_after q us) t ≡ false → HasFollowed q ms us (m ∷ [])
-    → HasFollowed q ms (us ++ t ∷ []) (marks_after (next (part_after q us) t.kind) m [])
-followed_token q ms m us t passes same so ns ts =
+matched_token : (q : Profile) (ms : List Mark) (m : Mark) (us : List Token) (t : Token) → (read q us).fault ≡ None → is_changed q m (part_after q us) t ≡ false → HasMatched q ms us (m ∷ [])
+    → HasMatched q ms (us ++ t ∷ []) (marks_after (next (part_after q us) t.kind) m [])
+matched_token q ms m us t passes same so ns ts =
     let b = (read q us).progress in
     let n = next b.part t.kind in
-    ap (follow q (ms ++ ns) no_progress) (append_assoc us (t ∷ []) ts) ∙ so ns (t ∷ ts) ∙ change_test q m ns b t ts ∙ ap (after_change q m ns b t ts) same
-    ∙ ap (λ (l : List Mark). follow q l (progress_after b t) ts) (marks_behind n m ns)
-    ∙ ap (λ (r : Read). follow q (marks_after n m [] ++ ns) r.progress ts) (sym (read-passes q us t passes (not_changed q m b.part t same).0))
+    ap (compared_from q (ms ++ ns) no_progress) (append_assoc us (t ∷ []) ts) ∙ so ns (t ∷ ts) ∙ change_test q m ns b t ts ∙ ap (after_change q m ns b t ts) same
+    ∙ ap (λ (l : List Mark). compared_from q l (progress_after b t) ts) (marks_behind n m ns)
+    ∙ ap (λ (r : Read). compared_from q (marks_after n m [] ++ ns) r.progress ts) (sym (read-passes q us t passes (not_changed q m b.part t same).0))
 
-pub followed_more : (q : Profile) (ms : List Mark) (m : Mark) (us : List Token) (t : Token) (to : Part) → (read q us).fault ≡ None → is_changed q m (part_after q us) t ≡ false
-    → next (part_after q us) t.kind ≡ going to → HasFollowed q ms us (m ∷ []) → HasFollowed q ms (us ++ t ∷ []) (m ∷ [])
-followed_more q ms m us t to passes same leads so =
-    subst (λ (n : Next). HasFollowed q ms (us ++ t ∷ []) (marks_after n m [])) leads (followed_token q ms m us t passes same so)
+pub matched_more : (q : Profile) (ms : List Mark) (m : Mark) (us : List Token) (t : Token) (to : Part) → (read q us).fault ≡ None → is_changed q m (part_after q us) t ≡ false
+    → next (part_after q us) t.kind ≡ going to → HasMatched q ms us (m ∷ []) → HasMatched q ms (us ++ t ∷ []) (m ∷ [])
+matched_more q ms m us t to passes same leads so =
+    subst (λ (n : Next). HasMatched q ms (us ++ t ∷ []) (marks_after n m [])) leads (matched_token q ms m us t passes same so)
 
-pub followed_game : (q : Profile) (ms : List Mark) (m : Mark) (us : List Token) (t : Token) (g : Game) → (read q us).fault ≡ None → is_changed q m (part_after q us) t ≡ false
-    → next (part_after q us) t.kind ≡ whole g → HasFollowed q ms us (m ∷ []) → HasFollowed q ms (us ++ t ∷ []) []
-followed_game q ms m us t g passes same leads so =
-    subst (λ (n : Next). HasFollowed q ms (us ++ t ∷ []) (marks_after n m [])) leads (followed_token q ms m us t passes same so)
+pub matched_game : (q : Profile) (ms : List Mark) (m : Mark) (us : List Token) (t : Token) (g : Game) → (read q us).fault ≡ None → is_changed q m (part_after q us) t ≡ false
+    → next (part_after q us) t.kind ≡ whole g → HasMatched q ms us (m ∷ []) → HasMatched q ms (us ++ t ∷ []) []
+matched_game q ms m us t g passes same leads so =
+    subst (λ (n : Next). HasMatched q ms (us ++ t ∷ []) (marks_after n m [])) leads (matched_token q ms m us t passes same so)
 
 -- both readings, whatever comes behind them
-pub both_read : (q : Profile) (ts us vs ws : List Token) (ms left : List Mark) → HasMarked q ts ms → HasFollowed q ms us left
-    → followed q (ts ++ vs) (us ++ ws) ≡ follow q (left ++ marks_from q (read q ts).progress vs) (read q us).progress ws
+pub both_read : (q : Profile) (ts us vs ws : List Token) (ms left : List Mark) → HasMarked q ts ms → HasMatched q ms us left
+    → compared q (ts ++ vs) (us ++ ws) ≡ compared_from q (left ++ marks_from q (read q ts).progress vs) (read q us).progress ws
 both_read q ts us vs ws ms left marked so =
-    ap (λ (l : List Mark). follow q l no_progress (us ++ ws)) (marked vs) ∙ so (marks_from q (read q ts).progress vs) ws
+    ap (λ (l : List Mark). compared_from q l no_progress (us ++ ws)) (marked vs) ∙ so (marks_from q (read q ts).progress vs) ws

@@ -21,19 +21,19 @@ use Rattle.pgn_game.specs.Levels.{plies_of}
 use Rattle.pgn_game.specs.Text.{game_text, text_of, torn}
 use Rattle.pgn_game.specs.Progress.{Next, going, whole, next, Progress, progress_with, progress_after, Read, read, refused as is_refused, totals, verdict_of}
 use Rattle.pgn_game.specs.Due.{text_next, gain}
-use Rattle.pgn_game.specs.Reading.{whole_plies}
-use Rattle.pgn_game.specs.Feeding.{play_moves}
-use Rattle.pgn_game.specs.Converting.{verdict_in}
+use Rattle.pgn_game.specs.ReaderState.{whole_plies}
+use Rattle.pgn_game.specs.ConverterCalls.{play_moves}
+use Rattle.pgn_game.specs.Conversion.{verdict_in}
 use Rattle.pgn_game.specs.MostTried.{MostTried}
-use Rattle.pgn_game.specs.Checked.{Mark, marks_from, is_other, is_changed, marks_after, Followed, follow, followed, with_mark, torn_before, written_by, earlier_fault}
-use Rattle.pgn_game.specs.ConvertingTwice.{AreConverted, AreTotalled, BeginsWith, Decides, HasTaken, IsFollowed, EndsFirst, EndsSecond, StopsFollowing, FailsTwice, ConvertsTwice}
-use Rattle.pgn_game.specs.Pass.{Pass, model_mark, StandsIn, HasGiven, ReadFails, HasMarked, HasFollowed, ReadsMark, ReadsToEnd, StopsAt, ReadsToFault, torn_after, WritesToMark, StopsWithin, WritesToFault, changed_reason, as_changed, BothSoFar}
+use Rattle.pgn_game.specs.Checked.{Mark, marks_from, is_other, is_changed, marks_after, Comparison, compared_from, compared, with_mark, torn_before, written_by, earlier_fault}
+use Rattle.pgn_game.specs.CheckedConversion.{AreConverted, AreTotalled, BeginsWith, Decides, HasTaken, MatchesAllMarks, EndsFirst, EndsSecond, StopsWritingSecond, FailsTwice, ConvertsTwice}
+use Rattle.pgn_game.specs.Pass.{Pass, model_mark, StandsIn, HasGiven, ReadFails, HasMarked, HasMatched, ReadsMark, ReadsToEnd, StopsAt, ReadsToFault, torn_after, WritesToMark, StopsWithin, WritesToFault, changed_reason, as_changed, BothSoFar}
 use Rattle.pgn_game.proofs.EqualReadings.{after_marks, marks_test, after_change, change_test, no_mark}
 use Rattle.pgn_game.proofs.tokens.NextGrows.{next_is}
 use Rattle.pgn_game.proofs.tokens.OneMoreToken.{read-refuses, text_of-snoc}
 use Rattle.pgn_game.proofs.tokens.AcceptedToConverter.{follows_first, in_games}
 use Rattle.pgn_game.proofs.tokens.WholeInput.{known_left}
-use Rattle.pgn_game.proofs.twice.MarksInTurn.{marked_none, followed_none, not_changed, both_read}
+use Rattle.pgn_game.proofs.twice.MarksInTurn.{marked_none, matched_none, not_changed, both_read}
 
 -- what follows for both texts, if both are known
 both_known : (o n : Option (List ℕ)) (A B : List ℕ → Type 0) (P : List ℕ → List ℕ → Type 0) → IfSome o A → IfSome n B → ((s r : List ℕ) → A s → B r → P s r)
@@ -80,7 +80,7 @@ both_none q first second a b o first_given second_given =
       first_given = first_given;
       second_given = second_given;
       marked = marked_none q;
-      followed = followed_none q;
+      matched = matched_none q;
       between = refl;
       written = Appends-nil o;
     }
@@ -108,7 +108,7 @@ torn-between q (m ∷ ms) = refl
 
 -- what is written when a token is taken that shows no difference
 written_at_token : (q : Profile) (m : Mark) (ms : List Mark) (games : List Game) (t : Token) (n : Next) → q.missing_result ≡ takes_the_marker → is_other m n t ≡ false
-    → written_by q (record { progress = progress_with games n; ahead = marks_after n m ms; fault = None }) ≡ text_of q games ++ text_next (with_mark q m) n
+    → written_by q (record { progress = progress_with games n; marks_left = marks_after n m ms; fault = None }) ≡ text_of q games ++ text_next (with_mark q m) n
 written_at_token q m ms games t (going to) takes same = refl
 written_at_token q m ms games t (whole g) takes same =
     let marker = (bytes_eq-Decides g.marker m.text).0 (both_hold _ _ same) in
@@ -128,7 +128,7 @@ module _ (q : Profile) (first_old first_now second_old second_now : Option (List
         first_given = reads.has_given;
         second_given = writes.has_given;
         marked = reads.marked;
-        followed = writes.followed;
+        matched = writes.matched;
         between = writes.between;
         written = subst (Appends before after) (sym (ap (text_of q) writes.one_game ∙ text_of-snoc q (read q so.second_tokens).progress.games writes.game))
             (Appends-trans before mid after _ _ so.written writes.appended);
@@ -136,14 +136,14 @@ module _ (q : Profile) (first_old first_now second_old second_now : Option (List
 
 module _ (q : Profile) (first second sink : Device) (first_now : Option (List ℕ)) (a b : Pass)
     (so : BothSoFar q first.before first_now second.before second.after a b sink.before sink.after) where
-  abbrev at_mark : Followed
-  at_mark = record { progress = (read q so.second_tokens).progress; ahead = []; fault = None }
+  abbrev at_mark : Comparison
+  at_mark = record { progress = (read q so.second_tokens).progress; marks_left = []; fault = None }
 
   -- where `first` has no mark more, `second` is read no further
-  last_mark : (xs us ts vs ws : List Token) → xs ≡ ts ++ vs → us ≡ so.second_tokens ++ ws → HasMarked q ts so.marks → marks_from q (read q ts).progress vs ≡ [] → followed q xs us ≡ at_mark
+  last_mark : (xs us ts vs ws : List Token) → xs ≡ ts ++ vs → us ≡ so.second_tokens ++ ws → HasMarked q ts so.marks → marks_from q (read q ts).progress vs ≡ [] → compared q xs us ≡ at_mark
   last_mark xs us ts vs ws first second marked none =
-      ap (λ (l : List Token). followed q l us) first ∙ ap (followed q (ts ++ vs)) second ∙ both_read q ts so.second_tokens vs ws so.marks [] marked so.followed
-      ∙ ap (λ (ms : List Mark). follow q ms (read q so.second_tokens).progress ws) none ∙ no_mark q (read q so.second_tokens).progress ws
+      ap (λ (l : List Token). compared q l us) first ∙ ap (compared q (ts ++ vs)) second ∙ both_read q ts so.second_tokens vs ws so.marks [] marked so.matched
+      ∙ ap (λ (ms : List Mark). compared_from q ms (read q so.second_tokens).progress ws) none ∙ no_mark q (read q so.second_tokens).progress ws
 
   written : HasTaken sink (written_by q at_mark)
   written = subst (HasTaken sink) (sym (append-nil (text_of q (read q so.second_tokens).progress.games))) so.written
@@ -151,12 +151,12 @@ module _ (q : Profile) (first second sink : Device) (first_now : Option (List �
   second_begins : IfSome second.before (Begins so.second_tokens)
   second_begins = given_first q second.before second.after b so.second_tokens so.second_given
 
-  converted : (s r : List ℕ) (o : Option Fault) → followed q (tokens_of s) (tokens_of r) ≡ at_mark → (read q (tokens_of s)).fault ≡ o
+  converted : (s r : List ℕ) (o : Option Fault) → compared q (tokens_of s) (tokens_of r) ≡ at_mark → (read q (tokens_of s)).fault ≡ o
       → AreConverted q s r (verdict_of (record { progress = (read q so.second_tokens).progress; fault = o })) sink
   converted s r o is fault = (
-    ap (λ (f : Followed). verdict_of (record { progress = f.progress; fault = earlier_fault f.fault (read q (tokens_of s)).fault })) is
+    ap (λ (f : Comparison). verdict_of (record { progress = f.progress; fault = earlier_fault f.fault (read q (tokens_of s)).fault })) is
         ∙ ap (λ (x : Option Fault). verdict_of (record { progress = (read q so.second_tokens).progress; fault = x })) fault,
-    subst (λ (f : Followed). HasTaken sink (written_by q f)) (sym is) written,
+    subst (λ (f : Comparison). HasTaken sink (written_by q f)) (sym is) written,
   )
 
   pub both_end : (new_a : Pass) (t : Totals) → ReadsToEnd q first.before so.marks new_a → t.games ≡ b.games → t.plies ≡ whole_plies b.reading
@@ -175,14 +175,14 @@ module _ (q : Profile) (first second sink : Device) (first_now : Option (List �
         probes = record {
           most = omega (arith, probes, first_bound, second_bound);
           some = λ moves.
-              let some : 0 < b.reading.most_probes = h.probed (in_games c (subst (λ (f : Followed). IsTrue (play_moves f.progress.games)) is moves)) in
+              let some : 0 < b.reading.most_probes = h.probed (in_games c (subst (λ (f : Comparison). IsTrue (play_moves f.progress.games)) is moves)) in
               omega (arith, probes, some);
           tried = record {
             front = so.second_tokens;
             rest = y.0;
             cut = y.1;
             passes = h.passes;
-            same = sym (ap (λ (f : Followed). f.progress) is);
+            same = sym (ap (λ (f : Comparison). f.progress) is);
             most_of_first = new_a.reading.most_probes;
             most_of_second = b.reading.most_probes;
             first_tried = subst (λ (ts : List Token). MostTried q ts new_a.reading.most_probes) (sym x) end.has_read.tried;
@@ -197,13 +197,13 @@ module _ (q : Profile) (first second sink : Device) (first_now : Option (List �
   ends_first tokens u passes marked is_decided =
       record {
         passes = subst (λ (ts : List Token). (read q ts).fault ≡ None) is_decided passes;
-        followed = IfSome_then second.before {P = Begins so.second_tokens} {Q = λ r. IsFollowed q (decided u) (tokens_of r) sink} second_begins
+        matched = IfSome_then second.before {P = Begins so.second_tokens} {Q = λ r. MatchesAllMarks q (decided u) (tokens_of r) sink} second_begins
             (λ r y.
             let is = last_mark (decided u) (tokens_of r) tokens [] y.0 (sym is_decided ∙ sym (append-nil tokens)) y.1 marked refl in
             record {
-              fault = ap (λ (f : Followed). f.fault) is;
-              ahead = ap (λ (f : Followed). f.ahead) is;
-              appended = subst (λ (f : Followed). HasTaken sink (written_by q f)) (sym is) written;
+              fault = ap (λ (f : Comparison). f.fault) is;
+              marks_left = ap (λ (f : Comparison). f.marks_left) is;
+              appended = subst (λ (f : Comparison). HasTaken sink (written_by q f)) (sym is) written;
             });
       }
 
@@ -232,7 +232,7 @@ module _ (q : Profile) (first second sink : Device) (first_now : Option (List �
 
 module _ (q : Profile) (first second sink : Device) (first_now second_now mid : Option (List ℕ)) (a b : Pass)
     (so : BothSoFar q first.before first_now second.before second_now a b sink.before mid) (m : CodeMark) (new_a : Pass)
-    (reads : ReadsMark q first.before first.after so.marks m new_a) (tokens : List Token) (two : HasFollowed q (so.marks ++ model_mark m ∷ []) tokens (model_mark m ∷ []))
+    (reads : ReadsMark q first.before first.after so.marks m new_a) (tokens : List Token) (two : HasMatched q (so.marks ++ model_mark m ∷ []) tokens (model_mark m ∷ []))
     (same_games : (read q tokens).progress.games ≡ (read q so.second_tokens).progress.games) where
   abbrev mark : Mark
   mark = model_mark m
@@ -253,9 +253,9 @@ module _ (q : Profile) (first second sink : Device) (first_now second_now mid : 
   first_decides : Decides first reads.tokens
   first_decides = given_decides q first new_a reads.tokens reads.has_given
 
-  goes : (xs us vs ws : List Token) → xs ≡ reads.tokens ++ vs → us ≡ tokens ++ ws → followed q xs us ≡ follow q (mark ∷ behind vs) c ws
+  goes : (xs us vs ws : List Token) → xs ≡ reads.tokens ++ vs → us ≡ tokens ++ ws → compared q xs us ≡ compared_from q (mark ∷ behind vs) c ws
   goes xs us vs ws first second =
-      ap (λ (l : List Token). followed q l us) first ∙ ap (followed q (reads.tokens ++ vs)) second
+      ap (λ (l : List Token). compared q l us) first ∙ ap (compared q (reads.tokens ++ vs)) second
       ∙ both_read q reads.tokens tokens vs ws (so.marks ++ mark ∷ []) (mark ∷ []) reads.marked two
 
   -- what is written of this game stands behind the games
@@ -270,9 +270,9 @@ module _ (q : Profile) (first second sink : Device) (first_now second_now mid : 
       record {
         tokens = reads.tokens;
         decided_by = first_decides;
-        fault = ap (λ (f : Followed). f.fault) is;
-        ahead = (mark, [], ap (λ (f : Followed). f.ahead) is);
-        appended = subst (λ (f : Followed). HasTaken sink (written_by q f)) (sym is) (all_written _ wrote);
+        fault = ap (λ (f : Comparison). f.fault) is;
+        marks_left = (mark, [], ap (λ (f : Comparison). f.marks_left) is);
+        appended = subst (λ (f : Comparison). HasTaken sink (written_by q f)) (sym is) (all_written _ wrote);
       }
 
   second_unread : {f : Fault} → ReadFails second.before second.after tokens f → (changed_reason f.reason ≡ ReadFault → FailsOnce second) → Appends mid sink.after (torn_after q m tokens)
@@ -284,17 +284,17 @@ module _ (q : Profile) (first second sink : Device) (first_now second_now mid : 
   -- a write failed at a token
   stops_at : q.missing_result ≡ takes_the_marker → (t : Token) → is_changed q mark c.part t ≡ false → (n : ℕ) → n < length (gain under c.part t.kind)
       → Appends mid sink.after (torn under c.part ++ take n (gain under c.part t.kind)) → (r : List ℕ) → (us : List Token) × (tokens_of r ≡ tokens ++ t ∷ us)
-      → StopsFollowing q first (tokens_of r) t.at sink
+      → StopsWritingSecond q first (tokens_of r) t.at sink
   stops_at takes t same n short wrote r y =
       let games : List ℕ = text_of q c.games in
       let before_it : List ℕ = torn under c.part in
       let more : List ℕ = gain under c.part t.kind in
       let marks : List Mark = marks_after (next c.part t.kind) mark [] in
       let none : reads.tokens ≡ reads.tokens ++ [] = sym (append-nil reads.tokens) in
-      let at_front : followed q reads.tokens tokens ≡ record { progress = c; ahead = mark ∷ []; fault = None } = goes reads.tokens tokens [] [] none (sym (append-nil tokens)) in
-      let at_token : followed q reads.tokens (tokens ++ t ∷ []) ≡ record { progress = progress_after c t; ahead = marks; fault = None } =
+      let at_front : compared q reads.tokens tokens ≡ record { progress = c; marks_left = mark ∷ []; fault = None } = goes reads.tokens tokens [] [] none (sym (append-nil tokens)) in
+      let at_token : compared q reads.tokens (tokens ++ t ∷ []) ≡ record { progress = progress_after c t; marks_left = marks; fault = None } =
       goes reads.tokens (tokens ++ t ∷ []) [] (t ∷ []) none refl ∙ change_test q mark [] c t [] ∙ ap (after_change q mark [] c t []) same in
-      let text : written_by q (followed q reads.tokens (tokens ++ t ∷ [])) ≡ (games ++ before_it) ++ more =
+      let text : written_by q (compared q reads.tokens (tokens ++ t ∷ [])) ≡ (games ++ before_it) ++ more =
       ap (written_by q) at_token ∙ written_at_token q mark [] c.games t (next c.part t.kind) takes (not_changed q mark c.part t same).1
       ∙ ap (λ (l : List ℕ). games ++ l) (next_is under c.part t.kind) ∙ sym (append_assoc games before_it more) in
       let front : games ++ (before_it ++ take n more) ≡ take (length (games ++ before_it) + n) ((games ++ before_it) ++ more) =
@@ -307,9 +307,9 @@ module _ (q : Profile) (first second sink : Device) (first_now second_now mid : 
         rest = y.0;
         cut = y.1;
         place = refl;
-        fault = ap (λ (f : Followed). f.fault) at_token;
+        fault = ap (λ (f : Comparison). f.fault) at_token;
         count = length (games ++ before_it) + n;
-        least = subst (λ (f : Followed). length (written_by q f) ≤ length (games ++ before_it) + n) (sym at_front) (at_least (games ++ before_it) n);
+        least = subst (λ (f : Comparison). length (written_by q f) ≤ length (games ++ before_it) + n) (sym at_front) (at_least (games ++ before_it) n);
         short = subst (λ (l : List ℕ). length (games ++ before_it) + n < length l) (sym text) (not_all (games ++ before_it) more n short);
         appended = subst (λ (l : List ℕ). HasTaken sink (take (length (games ++ before_it) + n) l)) (sym text) (subst (HasTaken sink) front (all_written _ wrote));
       }
@@ -319,17 +319,17 @@ module _ (q : Profile) (first second sink : Device) (first_now second_now mid : 
   second_at takes counts (StopsWithin.unread f fails wrote) = second_unread fails counts wrote
   second_at takes counts (StopsWithin.unwritten t comes same n short wrote) =
       FailsTwice.unwritten t.at
-      (IfSome_then second.before {P = λ r. (us : List Token) × (tokens_of r ≡ tokens ++ t ∷ us)} {Q = λ r. StopsFollowing q first (tokens_of r) t.at sink} comes
+      (IfSome_then second.before {P = λ r. (us : List Token) × (tokens_of r ≡ tokens ++ t ∷ us)} {Q = λ r. StopsWritingSecond q first (tokens_of r) t.at sink} comes
       (stops_at takes t same n short wrote))
   second_at takes counts (StopsWithin.differs t comes changed wrote) =
       let f : Fault = record { at = t.at; reason = Changed } in
       FailsTwice.refused f
       (both_known first.before second.before (Begins reads.tokens) (λ r. (us : List Token) × (tokens_of r ≡ tokens ++ t ∷ us)) (λ s r. AreConverted q s r (is_refused f) sink) first_begins comes
       (λ s r x y.
-      let is : followed q (tokens_of s) (tokens_of r) ≡ record { progress = c; ahead = mark ∷ behind x.0; fault = Some f } =
+      let is : compared q (tokens_of s) (tokens_of r) ≡ record { progress = c; marks_left = mark ∷ behind x.0; fault = Some f } =
       goes (tokens_of s) (tokens_of r) x.0 (t ∷ y.0) x.1 y.1 ∙ change_test q mark (behind x.0) c t y.0 ∙ ap (after_change q mark (behind x.0) c t y.0) changed in (
-        ap (λ (z : Followed). verdict_of (record { progress = z.progress; fault = earlier_fault z.fault (read q (tokens_of s)).fault })) is,
-        subst (λ (z : Followed). HasTaken sink (written_by q z)) (sym is) (all_written _ wrote),
+        ap (λ (z : Comparison). verdict_of (record { progress = z.progress; fault = earlier_fault z.fault (read q (tokens_of s)).fault })) is,
+        subst (λ (z : Comparison). HasTaken sink (written_by q z)) (sym is) (all_written _ wrote),
       )))
 
 pub second_stops : (q : Profile) (first second sink : Device) (first_now second_now mid : Option (List ℕ)) (a b : Pass)
@@ -337,4 +337,4 @@ pub second_stops : (q : Profile) (first second sink : Device) (first_now second_
     → q.missing_result ≡ takes_the_marker → ReadsMark q first.before first.after so.marks m new_a → (f.reason ≡ ReadFault → FailsOnce second)
     → WritesToFault q second.before second.after (so.marks ++ model_mark m ∷ []) m so.second_tokens f mid sink.after → FailsTwice q first second sink f
 second_stops q first second sink first_now second_now mid a b so m new_a f takes reads counts fails =
-    second_at q first second sink first_now second_now mid a b so m new_a reads fails.tokens fails.followed fails.no_game takes counts fails.stops
+    second_at q first second sink first_now second_now mid a b so m new_a reads fails.tokens fails.matched fails.no_game takes counts fails.stops

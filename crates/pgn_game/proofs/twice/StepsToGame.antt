@@ -20,14 +20,14 @@ use Rattle.pgn_game.specs.FaultTable.{refusal, is_end}
 use Rattle.pgn_game.specs.Progress.{Next, going, whole, next, Progress, progress_with, progress_after, Read, read}
 use Rattle.pgn_game.specs.Text.{game_text, torn}
 use Rattle.pgn_game.specs.Due.{gain, text_next}
-use Rattle.pgn_game.specs.Reading.{Reading, is_outside_the_table}
+use Rattle.pgn_game.specs.ReaderState.{ReaderState, is_outside_the_table}
 use Rattle.pgn_game.specs.Checked.{Mark, is_changed, is_other}
-use Rattle.pgn_game.specs.Pass.{AfterRead, AfterStep, AfterWrite, HasFollowed, HasGiven, HasMarked, IsCounting, IsGoing, IsTold, LeadsTo, Pass, ReadFails, ReadsSoFar, TakesOn, TokenFails, WritesGameSoFar, WritesSoFar, as_changed, changed_reason, counting, model_mark, part_after, rejects, torn_after}
+use Rattle.pgn_game.specs.Pass.{AfterRead, AfterStep, AfterWrite, HasMatched, HasGiven, HasMarked, IsCounting, IsGoing, IsTold, LeadsTo, Pass, ReadFails, ReadsSoFar, TakesOn, TokenFails, WritesGameSoFar, WritesSoFar, as_changed, changed_reason, counting, model_mark, part_after, rejects, torn_after}
 use Rattle.pgn_game.specs.Pass as pass
 use Rattle.pgn_game.proofs.tokens.NextGrows.{next_is}
 use Rattle.pgn_game.proofs.tokens.OneMoreToken.{read-passes}
 use Rattle.pgn_game.proofs.twice.MarkerCounts.{refusals_are_inside, same_game_text}
-use Rattle.pgn_game.proofs.twice.MarksInTurn.{followed_game, followed_more, marked_game, marked_more}
+use Rattle.pgn_game.proofs.twice.MarksInTurn.{matched_game, matched_more, marked_game, marked_more}
 
 -- where a token leads, by what the step answers
 goes_there : (n : Next) (t : Token) → LeadsTo n t More → (to : Part) × (n ≡ going to)
@@ -181,13 +181,13 @@ module _ (q : Profile) (left_old left_now left_new : Option (List ℕ)) (ms : Li
   with_none wrote = subst (Appends a d) (append-nil (torn_after q m so.tokens)) (Appends-trans a c d _ _ so.appended wrote)
 
   pub write_more : IsTold (Some m) new.reading → AfterStep q left_old left_new (Some m) so.tokens new (Ok More) c d → WritesSoFar q left_old left_new ms m given new a d
-  write_more told (inl (has, wrote)) = record { tokens = so.tokens; has_given = has; followed = so.followed; no_game = so.no_game; appended = with_none wrote }
+  write_more told (inl (has, wrote)) = record { tokens = so.tokens; has_given = has; matched = so.matched; no_game = so.no_game; appended = with_none wrote }
   write_more told (inr (t, took)) =
       let to = goes_there _ t took.leads in
       record {
         tokens = so.tokens ++ t ∷ [];
         has_given = took.has_given;
-        followed = followed_more q ms (model_mark m) so.tokens t to.0 clear took.same to.1 so.followed;
+        matched = matched_more q ms (model_mark m) so.tokens t to.0 clear took.same to.1 so.matched;
         no_game = ap (λ (b : Progress). b.games) (games_going q so.tokens t to.0 clear took.free to.1) ∙ so.no_game;
         appended = subst (Appends a d) (torn_grows q m so.tokens t to.0 clear took.free to.1)
             (with_gain new.reading.profile t (told_profile q new.reading.profile m took.has_given.profile told) took.appended);
@@ -207,7 +207,7 @@ module _ (q : Profile) (left_old left_now left_new : Option (List ℕ)) (ms : Li
         game = g;
         has_given = took.has_given;
         goes_on = small;
-        followed = followed_game q ms (model_mark m) so.tokens t g clear took.same is.1 so.followed;
+        matched = matched_game q ms (model_mark m) so.tokens t g clear took.same is.1 so.matched;
         between = ap (λ (b : Progress). b.part) after;
         one_game = ap (λ (b : Progress). b.games) after ∙ ap (λ gs. gs ++ g ∷ []) so.no_game;
         appended = subst (Appends a d) text (with_gain new.reading.profile t (told_profile q new.reading.profile m took.has_given.profile told) took.appended);
@@ -230,9 +230,9 @@ module _ (q : Profile) (left_old left_now left_new : Option (List ℕ)) (ms : Li
       → AfterWrite q left_old left_new ms m given new (Err (as_changed f)) a d
   write_fault f told (inl fails) =
       let profile_is = told_profile q new.reading.profile m fails.profile told in
-      record { tokens = so.tokens; passes = clear; followed = so.followed; no_game = so.no_game; stops = stops_within profile_is f fails.token fails.comes fails.fails }
+      record { tokens = so.tokens; passes = clear; matched = so.matched; no_game = so.no_game; stops = stops_within profile_is f fails.token fails.comes fails.fails }
   write_fault f told (inr (fails, wrote)) =
-      record { tokens = so.tokens; passes = clear; followed = so.followed; no_game = so.no_game; stops = pass.StopsWithin.unread f fails (with_none wrote) }
+      record { tokens = so.tokens; passes = clear; matched = so.matched; no_game = so.no_game; stops = pass.StopsWithin.unread f fails (with_none wrote) }
 
 -- Before the first step.
 abbrev pub told_pass : CodeMark → Pass → Pass
@@ -249,8 +249,8 @@ told_going m s small =
     record { sound = record { count = h.count; few = h.few; few_plies = h.few_plies; fewer_plies = h.fewer_plies; between = h.between; no_fault = h.no_fault }; room = small.room }
 
 pub write_none : (q : Profile) (left_old left : Option (List ℕ)) (ms : List Mark) (m : CodeMark) (given : List Token) (s : Pass) (o : Option (List ℕ)) → HasGiven q left_old left s given
-    → part_after q given ≡ no_part → HasFollowed q ms given (model_mark m ∷ []) → WritesSoFar q left_old left ms m given (told_pass m s) o o
-write_none q left_old left ms m given s o has between followed =
+    → part_after q given ≡ no_part → HasMatched q ms given (model_mark m ∷ []) → WritesSoFar q left_old left ms m given (told_pass m s) o o
+write_none q left_old left ms m given s o has between matched =
     record {
       tokens = given;
       has_given = record {
@@ -261,18 +261,18 @@ write_none q left_old left ms m given s o has between followed =
         has_read = has.has_read;
         profile = (marker_text m.marker, ap (λ (p : Profile). counting p (marker_text m.marker)) has.profile.1);
       };
-      followed = followed;
+      matched = matched;
       no_game = refl;
       appended = subst (λ part. Appends o o (torn (counting q (marker_text m.marker)) part)) (sym between) (Appends-nil o);
     }
 
-pub begins_written : (m : CodeMark) (s old : Pass) (r : Reading) (left o : Option (List ℕ)) → r ≡ (told_pass m s).reading → s ≡ old → IsGoing old
+pub begins_written : (m : CodeMark) (s old : Pass) (r : ReaderState) (left o : Option (List ℕ)) → r ≡ (told_pass m s).reading → s ≡ old → IsGoing old
     → IsGoing (record s { reading = r }) × IsTold (Some m) r × WritesGameSoFar left left old m (record s { reading = r }) o o
 begins_written m s old r left o is same small =
-    let here : record s { reading = r } ≡ told_pass m s = ap (λ (x : Reading). record s { reading = x }) is in (
+    let here : record s { reading = r } ≡ told_pass m s = ap (λ (x : ReaderState). record s { reading = x }) is in (
       subst IsGoing (sym here) (told_going m s (subst IsGoing (sym same) small)),
       subst (IsTold (Some m)) (sym is) refl,
-      λ q left_old given ms takes has between followed.
+      λ q left_old given ms takes has between matched.
           subst (λ x. WritesSoFar q left_old left ms m given x o o) (sym here)
-          (write_none q left_old left ms m given s o (subst (λ x. HasGiven q left_old left x given) (sym same) has) between followed),
+          (write_none q left_old left ms m given s o (subst (λ x. HasGiven q left_old left x given) (sym same) has) between matched),
     )

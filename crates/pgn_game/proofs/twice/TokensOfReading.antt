@@ -27,8 +27,8 @@ use Rattle.pgn_game.specs.Game.{Game, Item, Part}
 use Rattle.pgn_game.specs.FaultTable.{refusal, is_end}
 use Rattle.pgn_game.specs.Progress.{Next, going, whole, next, read}
 use Rattle.pgn_game.specs.MostTried.{Raises, Tries}
-use Rattle.pgn_game.specs.Reading.{Agrees, IsAccepted, Reading}
-use Rattle.pgn_game.specs.Feeding.{Converter, HasRead}
+use Rattle.pgn_game.specs.ReaderState.{Agrees, IsAccepted, ReaderState}
+use Rattle.pgn_game.specs.ConverterCalls.{Converter, HasRead}
 use Rattle.pgn_game.specs.Pass.{AfterTake, AfterToken, ComesNext, HasGiven, IsCounting, LeadsTo, Pass, StandsIn, TakeFails, TakesEnd, TakesKind, TakesOn, TakesToken, as_converter, games_with, part_after, reading_under, refused}
 use Rattle.pgn_game.proofs.tokens.AcceptedToConverter.{follows_first, has_read_game, has_read_more, lexical-refusal}
 use Rattle.pgn_game.proofs.tokens.StepsAtEnd.{Left, Nearer, is_the_end, left_by, let_go, nearer_by, tokens_left}
@@ -221,7 +221,7 @@ module _ (q : Profile) (left_old left_now : Option (List ℕ)) (told : Option Co
   taken (Err f) fails games = record { token = t; comes = came.comes; profile = profile; fails = fails }
 
 -- The reader agrees with the part under its own profile too.
-agrees_back : (q : Profile) (r : Reading) (part : Part) → IsCounting q r.profile → Agrees (reading_under q r) part → Agrees r part
+agrees_back : (q : Profile) (r : ReaderState) (part : Part) → IsCounting q r.profile → Agrees (reading_under q r) part → Agrees r part
 agrees_back q r part (text, is) agrees = agrees_under r.profile (reading_under q r) part (ap (λ (p : Profile). p.mode) is) agrees
 
 -- a lexer does not show in what was read
@@ -242,7 +242,7 @@ waits_in_buffer false l unused given u left_old is h = h.0
 
 module _ (q : Profile) (left_old left_now : Option (List ℕ)) (told : Option CodeMark) (given : List Token) (s : Pass) (l : Standing) (takes : q.missing_result ≡ takes_the_marker)
     (has : HasGiven q left_old left_now s given) where
-  reads : (t : Token) (r : Reading) (result : Result Taken Fault) (a c : Option (List ℕ)) → TakesKind told t.kind t.at s.reading r result a c
+  reads : (t : Token) (r : ReaderState) (result : Result Taken Fault) (a c : Option (List ℕ)) → TakesKind told t.kind t.at s.reading r result a c
       → IsCounting q r.profile × AfterToken q (part_after q given) told t s.reading r result a c
   reads t r result a c h = h q (part_after q given) takes has.profile (agrees_back q s.reading (part_after q given) has.profile has.has_read.agrees)
 
@@ -254,7 +254,7 @@ module _ (q : Profile) (left_old left_now : Option (List ℕ)) (told : Option Co
     none_left : Consumes left_old left_now (has.bytes ++ [])
     none_left = subst (λ xs. Consumes left_old left_now (has.bytes ++ xs)) waits.1 has.consumed
 
-    pub token_at_end : (t : Token) (r : Reading) (games : ℕ) (result : Result Taken Fault) (a c : Option (List ℕ))
+    pub token_at_end : (t : Token) (r : ReaderState) (games : ℕ) (result : Result Taken Fault) (a c : Option (List ℕ))
         → ((u : List ℕ) (ts : List Token) → HasLeft s.lexer u ts → IsNext u ts t.kind l t) → FinishGivesToken t.kind s.lexer l t
         → TakesKind told t.kind t.at s.reading r result a c → IfOk result (λ x. games ≡ games_with x s.games)
         → AfterTake q left_old left_now told given (record s { lexer = l; reading = r; games = games }) result a c
@@ -282,7 +282,7 @@ module _ (q : Profile) (left_old left_now : Option (List ℕ)) (told : Option Co
     pub in_buffer_before : StandsAfter s.lexer has.bytes (first s.unused) given
     in_buffer_before = waits_in_buffer s.has_ended s.lexer s.unused given has.bytes left_old not_ended has.stands
 
-    pub token_in_buffer : TokensRise → (t : Token) (r : Reading) (games : ℕ) (unused : List ℕ) (result : Result Taken Fault) (a c : Option (List ℕ))
+    pub token_in_buffer : TokensRise → (t : Token) (r : ReaderState) (games : ℕ) (unused : List ℕ) (result : Result Taken Fault) (a c : Option (List ℕ))
         → AfterScan has.bytes (first s.unused) given s.unused l used (token t) → unused ≡ drop used s.unused
         → TakesKind told t.kind t.at s.reading r result a c → IfOk result (λ x. games ≡ games_with x s.games)
         → AfterTake q left_old left_now told given (record s { lexer = l; reading = r; games = games; unused = unused }) result a c

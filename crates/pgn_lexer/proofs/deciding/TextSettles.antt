@@ -10,7 +10,7 @@ use Rattle.pgn_lexer.specs.Tokens.{Token}
 use Rattle.pgn_lexer.specs.TokensOf.{tokens_of}
 use Rattle.pgn_lexer.specs.Decided.{decided, known}
 use Rattle.pgn_lexer.specs.PartialToken.{PartialToken, tokens_to_come, token_of, refusal, IsSound, HasNotFailed, pending_in, pending}
-use Rattle.pgn_lexer.specs.Taking.{after_byte}
+use Rattle.pgn_lexer.specs.ByteResult.{after_byte}
 use Rattle.pgn_lexer.specs.Laws.{IsPrefix, DecidedIsPrefix, KnownIsPrefix}
 use Rattle.pgn_lexer.proofs.stepping.StepGives.{StepGives, front_of}
 use Rattle.pgn_lexer.proofs.stepping.ByteGives.{step_gives}

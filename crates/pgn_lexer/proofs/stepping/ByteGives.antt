@@ -12,8 +12,8 @@ use Rattle.pgn_lexer.specs.Tokens.{HasLength, symbol, glyph, word, end}
 use Rattle.pgn_lexer.specs.Spelling.{class, comment_class, string_class, symbol_at, word_at, suffix_at}
 use Rattle.pgn_lexer.specs.TokensOf.{in_glyph, onto, tokens_from}
 use Rattle.pgn_lexer.specs.PartialToken.{PartialToken, IsSound, HasNotFailed, tokens_to_come, kind_in, token_of, refusal, pending, spelling, fault_met}
-use Rattle.pgn_lexer.specs.Taking.{after_byte, after_byte_in, after_end, after_end_in, AfterByte, IsAfterEnd, glyph_of}
-use Rattle.pgn_lexer.specs.Running.{reached_after}
+use Rattle.pgn_lexer.specs.ByteResult.{after_byte, after_byte_in, after_end, after_end_in, AfterByte, IsAfterEnd, glyph_of}
+use Rattle.pgn_lexer.specs.RunResult.{reached_after}
 use Rattle.pgn_lexer.proofs.stepping.StepGives.{Gives, front_of}
 use Rattle.pgn_lexer.proofs.stepping.RunOfBytes.{run_closes}
 use Rattle.pgn_lexer.proofs.stepping.FirstBytes.{start_gives, after_ef_gives, after_ef_bb_gives, escape_line_gives}

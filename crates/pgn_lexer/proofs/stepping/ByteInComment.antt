@@ -13,7 +13,7 @@ use Rattle.pgn_lexer.specs.Tokens.{Token, word}
 use Rattle.pgn_lexer.specs.Spelling.{comment_class, gives, stops, word_at}
 use Rattle.pgn_lexer.specs.TokensOf.{brace, line, begins_brace, begins_line, after_brace, after_line, onto, tokens_from}
 use Rattle.pgn_lexer.specs.PartialToken.{PartialToken}
-use Rattle.pgn_lexer.specs.Taking as taking
+use Rattle.pgn_lexer.specs.ByteResult as after
 use Rattle.pgn_lexer.proofs.stepping.RunOfBytes.{run_grows, run_breaks, run_ends, run_closes}
 use Rattle.pgn_lexer.proofs.stepping.StepGives.{Front, Gives, front_of}
 
@@ -42,7 +42,7 @@ word_long at run long = ap (λ c. if c then gives (word run) else stops at WordT
 abbrev from_brace : ℕ → ℕ → List Token → ℕ → CommentClass → Front
 from_brace place b ended waits c = record { place = place; byte = b; front = λ s. onto place (begins_brace place false c b s) (tokens_from (place + 1) (after_brace c) s); ended = ended; waits = waits }
 
-brace_class : (c : CommentClass) (place b : ℕ) (h : PartialToken) (ended : List Token) (waits : ℕ) → length h.text ≤ 255 → Gives (from_brace place b ended waits c) (taking.brace place h b c)
+brace_class : (c : CommentClass) (place b : ℕ) (h : PartialToken) (ended : List Token) (waits : ℕ) → length h.text ≤ 255 → Gives (from_brace place b ended waits c) (after.brace place h b c)
 brace_class comments.LineEnd place b h ended waits fits = record { sound = record { room = (fits, tt); placed = tt }; not_failed = tt; comes = λ s. refl }
 brace_class comments.Space place b h ended waits fits = record { sound = record { room = (fits, tt); placed = tt }; not_failed = tt; comes = λ s. refl }
 brace_class comments.CloseBrace place b h ended waits fits =
@@ -52,14 +52,14 @@ brace_class comments.WordByte place b h ended waits fits =
 brace_class comments.Control place b h ended waits fits = record { sound = record { room = (fits, tt); placed = tt }; fails = refl; comes = λ s. refl }
 
 pub brace_gives : (place b : ℕ) (h : PartialToken) (ended : List Token) (waits : ℕ) → length h.text ≤ 255
-    → Gives (record { place = place; byte = b; front = λ s. tokens_from place brace (b ∷ s); ended = ended; waits = waits }) (taking.brace place h b (comment_class b))
+    → Gives (record { place = place; byte = b; front = λ s. tokens_from place brace (b ∷ s); ended = ended; waits = waits }) (after.brace place h b (comment_class b))
 brace_gives place b h ended waits fits = brace_class (comment_class b) place b h ended waits fits
 
 -- between those of a comment that goes to the end of its line
 abbrev from_line : ℕ → ℕ → List Token → ℕ → CommentClass → Front
 from_line place b ended waits c = record { place = place; byte = b; front = λ s. onto place (begins_line place false c b s) (tokens_from (place + 1) (after_line c) s); ended = ended; waits = waits }
 
-line_class : (c : CommentClass) (place b : ℕ) (h : PartialToken) (ended : List Token) (waits : ℕ) → length h.text ≤ 255 → Gives (from_line place b ended waits c) (taking.line place h b c)
+line_class : (c : CommentClass) (place b : ℕ) (h : PartialToken) (ended : List Token) (waits : ℕ) → length h.text ≤ 255 → Gives (from_line place b ended waits c) (after.line place h b c)
 line_class comments.LineEnd place b h ended waits fits =
     record { sound = record { room = (fits, tt); placed = tt }; not_failed = tt; before = omega arith; lengths = tt; ends_at = refl; closed = refl; few = omega arith; comes = λ s. refl }
 line_class comments.Space place b h ended waits fits = record { sound = record { room = (fits, tt); placed = tt }; not_failed = tt; comes = λ s. refl }
@@ -69,7 +69,7 @@ line_class comments.WordByte place b h ended waits fits =
 line_class comments.Control place b h ended waits fits = record { sound = record { room = (fits, tt); placed = tt }; fails = refl; comes = λ s. refl }
 
 pub line_gives : (place b : ℕ) (h : PartialToken) (ended : List Token) (waits : ℕ) → length h.text ≤ 255
-    → Gives (record { place = place; byte = b; front = λ s. tokens_from place line (b ∷ s); ended = ended; waits = waits }) (taking.line place h b (comment_class b))
+    → Gives (record { place = place; byte = b; front = λ s. tokens_from place line (b ∷ s); ended = ended; waits = waits }) (after.line place h b (comment_class b))
 line_gives place b h ended waits fits = line_class (comment_class b) place b h ended waits fits
 
 -- the tokens from a byte of a class, where a word goes on, or not
@@ -98,7 +98,7 @@ module _ (place at b : ℕ) (text : List ℕ) (some : 0 < length text) (fits : l
   -- a letter more, in either comment
   brace_letter : comment_class b ≡ comments.WordByte → continues_word b ≡ true → (d : Bool) → nat_lt (length text) 79 ≡ d
       → let h : PartialToken = record { mode = modes.BraceWord; at = at; text = text } in
-      Gives (front_of place h b) (if d then taking.grown h modes.BraceWord b else taking.fails h h.at WordTooLong)
+      Gives (front_of place h b) (if d then after.grown h modes.BraceWord b else after.fails h h.at WordTooLong)
   brace_letter e w true room =
       let short : length text < 79 = ltb-true _ _ room in
       record {
@@ -117,7 +117,7 @@ module _ (place at b : ℕ) (text : List ℕ) (some : 0 < length text) (fits : l
 
   line_letter : comment_class b ≡ comments.WordByte → continues_word b ≡ true → (d : Bool) → nat_lt (length text) 79 ≡ d
       → let h : PartialToken = record { mode = modes.LineWord; at = at; text = text } in
-      Gives (front_of place h b) (if d then taking.grown h modes.LineWord b else taking.fails h h.at WordTooLong)
+      Gives (front_of place h b) (if d then after.grown h modes.LineWord b else after.fails h h.at WordTooLong)
   line_letter e w true room =
       let short : length text < 79 = ltb-true _ _ room in
       record {
@@ -137,7 +137,7 @@ module _ (place at b : ℕ) (text : List ℕ) (some : 0 < length text) (fits : l
   -- a word ends before another byte
   brace_word_ends : is_word_class (comment_class b) ≡ false
       → let h : PartialToken = record { mode = modes.BraceWord; at = at; text = text } in
-      Gives (front_of place h b) (taking.into h modes.Brace (steps.EndsBefore forms.Word))
+      Gives (front_of place h b) (after.into h modes.Brace (steps.EndsBefore forms.Word))
   brace_word_ends other =
       record {
         sound = record { room = (omega arith, tt); placed = tt };
@@ -156,7 +156,7 @@ module _ (place at b : ℕ) (text : List ℕ) (some : 0 < length text) (fits : l
 
   line_word_ends : is_word_class (comment_class b) ≡ false
       → let h : PartialToken = record { mode = modes.LineWord; at = at; text = text } in
-      Gives (front_of place h b) (taking.into h modes.Line (steps.EndsBefore forms.Word))
+      Gives (front_of place h b) (after.into h modes.Line (steps.EndsBefore forms.Word))
   line_word_ends other =
       record {
         sound = record { room = (omega arith, tt); placed = tt };
@@ -175,7 +175,7 @@ module _ (place at b : ℕ) (text : List ℕ) (some : 0 < length text) (fits : l
 
   pub brace_word_gives : (c : CommentClass) → comment_class b ≡ c
       → let h : PartialToken = record { mode = modes.BraceWord; at = at; text = text } in
-      Gives (front_of place h b) (taking.word modes.Brace h b c)
+      Gives (front_of place h b) (after.word modes.Brace h b c)
   brace_word_gives comments.WordByte e = brace_letter e (word_class b ∙ ap is_word_class e) (nat_lt (length text) 79) refl
   brace_word_gives comments.LineEnd e = brace_word_ends (ap is_word_class e)
   brace_word_gives comments.Space e = brace_word_ends (ap is_word_class e)
@@ -184,7 +184,7 @@ module _ (place at b : ℕ) (text : List ℕ) (some : 0 < length text) (fits : l
 
   pub line_word_gives : (c : CommentClass) → comment_class b ≡ c
       → let h : PartialToken = record { mode = modes.LineWord; at = at; text = text } in
-      Gives (front_of place h b) (taking.word modes.Line h b c)
+      Gives (front_of place h b) (after.word modes.Line h b c)
   line_word_gives comments.WordByte e = line_letter e (word_class b ∙ ap is_word_class e) (nat_lt (length text) 79) refl
   line_word_gives comments.LineEnd e = line_word_ends (ap is_word_class e)
   line_word_gives comments.Space e = line_word_ends (ap is_word_class e)

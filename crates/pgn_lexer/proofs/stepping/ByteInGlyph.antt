@@ -13,8 +13,8 @@ use Rattle.pgn_lexer.specs.Tokens.{glyph}
 use Rattle.pgn_lexer.specs.Spelling.{gives, stops, number_from, numbered_at, glyph_at, suffix_at}
 use Rattle.pgn_lexer.specs.TokensOf.{in_glyph, in_suffix, outside, onto, tokens_from}
 use Rattle.pgn_lexer.specs.PartialToken.{PartialToken, spelling}
-use Rattle.pgn_lexer.specs.Taking as taking
-use Rattle.pgn_lexer.specs.Taking.{into, fails}
+use Rattle.pgn_lexer.specs.ByteResult as after
+use Rattle.pgn_lexer.specs.ByteResult.{into, fails}
 use Rattle.pgn_lexer.proofs.stepping.RunOfBytes.{take_while-true, take_while-false, glyph_goes, glyph_ends, suffix_goes, suffix_ends, run_grows, run_breaks, run_ends, run_closes}
 use Rattle.pgn_lexer.proofs.stepping.StepGives.{Gives, front_of}
 
@@ -129,7 +129,7 @@ module _ (place at b : ℕ) (text : List ℕ) (fits : length text ≤ 255) (bega
 
   goes_on : (run : SuffixRun) → is_suffix b ≡ true
       → let h : PartialToken = record { mode = modes.Suffix run; at = at; text = text } in
-      Gives (front_of place h b) (taking.second_suffix h run b)
+      Gives (front_of place h b) (after.second_suffix h run b)
   goes_on runs.Good e = more runs.Good _ e (λ rest. second_good at b rest (b == 33) refl)
   goes_on runs.Poor e = more runs.Poor _ e (λ rest. second_poor at b rest (b == 33) refl)
   goes_on runs.VeryGood e = too_many runs.VeryGood e (λ rest. refl)
@@ -138,7 +138,7 @@ module _ (place at b : ℕ) (text : List ℕ) (fits : length text ≤ 255) (bega
   goes_on runs.Questionable e = too_many runs.Questionable e (λ rest. refl)
 
   -- what the run spells so far
-  pub spelled : (run : SuffixRun) → suffix_at at (spelling run) ≡ gives (glyph (taking.glyph_of run))
+  pub spelled : (run : SuffixRun) → suffix_at at (spelling run) ≡ gives (glyph (after.glyph_of run))
   spelled runs.Good = refl
   spelled runs.Poor = refl
   spelled runs.VeryGood = refl
@@ -146,7 +146,7 @@ module _ (place at b : ℕ) (text : List ℕ) (fits : length text ≤ 255) (bega
   spelled runs.Speculative = refl
   spelled runs.Questionable = refl
 
-  pub small_suffix : (run : SuffixRun) → taking.glyph_of run ≤ 255
+  pub small_suffix : (run : SuffixRun) → after.glyph_of run ≤ 255
   small_suffix runs.Good = omega arith
   small_suffix runs.Poor = omega arith
   small_suffix runs.VeryGood = omega arith
@@ -156,7 +156,7 @@ module _ (place at b : ℕ) (text : List ℕ) (fits : length text ≤ 255) (bega
 
   pub suffix_gives : (run : SuffixRun) (c : Bool) → is_suffix b ≡ c
       → let h : PartialToken = record { mode = modes.Suffix run; at = at; text = text } in
-      Gives (front_of place h b) (if c then taking.second_suffix h run b else into h modes.Outside (EndsBefore (forms.Glyph (taking.glyph_of run))))
+      Gives (front_of place h b) (if c then after.second_suffix h run b else into h modes.Outside (EndsBefore (forms.Glyph (after.glyph_of run))))
   suffix_gives run true e = goes_on run e
   suffix_gives run false e =
       record {
@@ -170,6 +170,6 @@ module _ (place at b : ℕ) (text : List ℕ) (fits : length text ≤ 255) (bega
         less = omega arith;
         within = outside;
         settled = λ s. refl;
-        comes = λ s. run_ends (suffix_at at) is_suffix at b (spelling run) s _ _ (glyph (taking.glyph_of run)) e (spelled run) (suffix_ends place b s e);
-        at_end = run_closes (suffix_at at) at (spelling run) _ (glyph (taking.glyph_of run)) (spelled run);
+        comes = λ s. run_ends (suffix_at at) is_suffix at b (spelling run) s _ _ (glyph (after.glyph_of run)) e (spelled run) (suffix_ends place b s e);
+        at_end = run_closes (suffix_at at) at (spelling run) _ (glyph (after.glyph_of run)) (spelled run);
       }

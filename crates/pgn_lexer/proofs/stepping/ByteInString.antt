@@ -11,8 +11,8 @@ use Rattle.pgn_lexer.specs.Tokens.{Token, str}
 use Rattle.pgn_lexer.specs.Spelling.{string_class, Reading, closed, broken, datum, reading, string_at}
 use Rattle.pgn_lexer.specs.TokensOf.{quotes, after_quoted, onto, tokens_from}
 use Rattle.pgn_lexer.specs.PartialToken.{PartialToken, with_front}
-use Rattle.pgn_lexer.specs.Taking as taking
-use Rattle.pgn_lexer.specs.Taking.{AfterByte, into, grown, fails}
+use Rattle.pgn_lexer.specs.ByteResult as after
+use Rattle.pgn_lexer.specs.ByteResult.{AfterByte, into, grown, fails}
 use Rattle.pgn_lexer.proofs.stepping.StepGives.{Gives, front_of}
 
 -- data read so far go in front, one by one
@@ -101,7 +101,7 @@ module _ (place at b : ℕ) (text : List ℕ) (fits : length text ≤ 255) (bega
 
   pub string_gives : (c : StringClass) → string_class b ≡ c
       → let h : PartialToken = record { mode = modes.Str; at = at; text = text } in
-      Gives (front_of place h b) (taking.string false place h b c)
+      Gives (front_of place h b) (after.string false place h b c)
   string_gives strings.Quote e =
       record {
         sound = record { room = (fits, tt); placed = tt };
@@ -159,7 +159,7 @@ module _ (place at b : ℕ) (text : List ℕ) (short : length text < 255) (began
 
   pub escaped_gives : (c : StringClass) → string_class b ≡ c
       → let h : PartialToken = record { mode = modes.AfterBackslash; at = at; text = text } in
-      Gives (front_of place h b) (taking.string true place h b c)
+      Gives (front_of place h b) (after.string true place h b c)
   escaped_gives strings.Quote e = taken_back strings.Quote (λ s. by_escaped strings.Quote s e)
   escaped_gives strings.LineEnd e = record { sound = record { room = (omega arith, tt); placed = tt }; fails = refl; comes = λ s. by_escaped strings.LineEnd s e }
   escaped_gives strings.Control e = record { sound = record { room = (omega arith, tt); placed = tt }; fails = refl; comes = λ s. by_escaped strings.Control s e }

@@ -10,7 +10,7 @@ use Rattle.pgn_lexer.specs.Tokens.{symbol}
 use Rattle.pgn_lexer.specs.Spelling.{gives, stops, symbol_at}
 use Rattle.pgn_lexer.specs.TokensOf.{outside}
 use Rattle.pgn_lexer.specs.PartialToken.{PartialToken}
-use Rattle.pgn_lexer.specs.Taking.{into, grown, fails}
+use Rattle.pgn_lexer.specs.ByteResult.{into, grown, fails}
 use Rattle.pgn_lexer.specs.declared.partial_token.Step.TheVariants.{EndsBefore}
 use Rattle.pgn_lexer.proofs.stepping.RunOfBytes.{symbol_goes, symbol_ends, run_grows, run_breaks, run_ends, run_closes}
 use Rattle.pgn_lexer.proofs.stepping.StepGives.{Gives, front_of}

@@ -11,7 +11,7 @@ use Rattle.pgn_lexer.specs.Tokens.{Token, EndsAt, HasLength, glyph, is_run}
 use Rattle.pgn_lexer.specs.Spelling.{kind_of_single, Reading, closed, broken, gives, reading, suffix_at, string_at}
 use Rattle.pgn_lexer.specs.TokensOf.{begins_class, begins_first, after_class, after_first, in_suffix, quotes, onto, tokens_from}
 use Rattle.pgn_lexer.specs.PartialToken.{PartialToken, spelling, with_front}
-use Rattle.pgn_lexer.specs.Taking.{begin, begin_line}
+use Rattle.pgn_lexer.specs.ByteResult.{begin, begin_line}
 use Rattle.pgn_lexer.proofs.stepping.StepGives.{Front, Gives}
 
 pub with_front-nil : (r : Reading) → with_front [] r ≡ r

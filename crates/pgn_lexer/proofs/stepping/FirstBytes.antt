@@ -11,7 +11,7 @@ use Rattle.pgn_lexer.specs.Tokens.{Token}
 use Rattle.pgn_lexer.specs.Spelling.{class}
 use Rattle.pgn_lexer.specs.TokensOf.{column, in_escape_line, tokens_from, tokens_of, has_mark}
 use Rattle.pgn_lexer.specs.PartialToken.{PartialToken}
-use Rattle.pgn_lexer.specs.Taking.{into, fails, begin_line}
+use Rattle.pgn_lexer.specs.ByteResult.{into, fails, begin_line}
 use Rattle.pgn_lexer.proofs.stepping.StepGives.{Front, Gives, StepGives, front_of}
 use Rattle.pgn_lexer.proofs.stepping.ByteOutside.{begin_line_gives}
 

@@ -21,8 +21,8 @@ use Rattle.pgn_lexer.specs.declared.partial_token.Step.{Step}
 use Rattle.pgn_lexer.specs.declared.partial_token.Step.TheVariants.{Used, Ends, EndsBefore, Fault}
 use Rattle.pgn_lexer.specs.Tokens.{EndsAt}
 use Rattle.pgn_lexer.specs.PartialToken.{PartialToken, tokens_to_come, kind_in, token_of, IsSound, HasNotFailed, pending, fault_of_mode, fault_met}
-use Rattle.pgn_lexer.specs.Taking.{begin, begin_line, brace, word, string, fails, grown, into, symbol, after_byte, after_byte_in, IsAfterByte}
-use Rattle.pgn_lexer.specs.Running.{IsOutside, Ran, RunsOn, StoodAt, RunGives, RunsToToken, RunsToFault, used_after, reached_after}
+use Rattle.pgn_lexer.specs.ByteResult.{begin, begin_line, brace, word, string, fails, grown, into, symbol, after_byte, after_byte_in, IsAfterByte}
+use Rattle.pgn_lexer.specs.RunResult.{IsOutside, Ran, RunsOn, StoodAt, RunGives, RunsToToken, RunsToFault, used_after, reached_after}
 use Rattle.pgn_lexer.specs.declared.partial_token.Reached.TheVariants as reached
 use Rattle.pgn_lexer.proofs.stepping.StepGives.{StepGives, Uses, EndsIn, EndsAhead, Fails, front_of}
 use Rattle.pgn_lexer.proofs.stepping.ByteGives.{step_gives}

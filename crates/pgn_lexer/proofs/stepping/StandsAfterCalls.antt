@@ -10,7 +10,7 @@ use Rattle.pgn_lexer.specs.TokensOf.{tokens_of}
 use Rattle.pgn_lexer.specs.Decided.{decided, known}
 use Rattle.pgn_lexer.specs.declared.partial_token.TokenForm.{TokenForm}
 use Rattle.pgn_lexer.specs.PartialToken.{PartialToken, tokens_to_come, token_of, kind_in, refusal, HasNotFailed}
-use Rattle.pgn_lexer.specs.Running.{RunsOut, StoodAt, EndsWithByte, EndsBeforeByte, RunsToToken, RunsToFault}
+use Rattle.pgn_lexer.specs.RunResult.{RunsOut, StoodAt, EndsWithByte, EndsBeforeByte, RunsToToken, RunsToFault}
 use Rattle.pgn_lexer.specs.Scanned.{Scanned, more, token, fault}
 use Rattle.pgn_lexer.specs.Standing.{Standing, fault_in_mode, fault_of}
 use Rattle.pgn_lexer.specs.Stands.{Follows, first, still, StandsAfter, IsDecided, EndsNoSooner, Scans}

@@ -8,7 +8,7 @@ use Rattle.pgn_lexer.specs.declared.partial_token.Step.TheVariants.{Used, Ends, 
 use Rattle.pgn_lexer.specs.Tokens.{Token, HasLength, EndsAt, is_run}
 use Rattle.pgn_lexer.specs.TokensOf.{Within, tokens_from}
 use Rattle.pgn_lexer.specs.PartialToken.{PartialToken, tokens_to_come, kind_in, token_of, refusal, IsSound, HasNotFailed, pending}
-use Rattle.pgn_lexer.specs.Taking.{AfterByte}
+use Rattle.pgn_lexer.specs.ByteResult.{AfterByte}
 
 -- What comes from a byte b at the place: `front s` where s follows b, and `ended` where the text
 -- ends before b; `waits` tokens at most came with no byte more.

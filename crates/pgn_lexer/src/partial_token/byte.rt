@@ -1,7 +1,7 @@
 //! What one byte does to the current token, mode by mode.
 
 ghost use Rattle.std.specs.Prelude.{◌≡◌, true, false, [], ◌∷◌};
-ghost use Rattle.pgn_lexer.specs.Taking as taking;
+ghost use Rattle.pgn_lexer.specs.ByteResult as after;
 
 use crate::class::{
     Class, CommentClass, StringClass, class_of, comment_class_of, continues_symbol, is_digit,
@@ -12,13 +12,13 @@ use crate::token::{LexFault, LexReason};
 
 impl PartialToken {
     ghost use Rattle.pgn_lexer.specs.Spelling as spelling;
-    ghost use Rattle.pgn_lexer.specs.Taking.{IsAfterByte};
+    ghost use Rattle.pgn_lexer.specs.ByteResult.{IsAfterByte};
     ghost use Rattle.pgn_lexer.specs.PartialToken.{HasMore};
 
     /// Takes the byte at the place: gives it to the handler of the mode.
-    #[tactic(auto, unfolding(crate::specs::Taking::after_byte))]
+    #[tactic(auto, unfolding(crate::specs::ByteResult::after_byte))]
     pub(crate) fn take(&mut self, byte: u8, place: u64) -> Step
-        ensures { IsAfterByte (taking.after_byte place self.old byte) self.new result }
+        ensures { IsAfterByte (after.after_byte place self.old byte) self.new result }
     {
         match self.mode {
             Mode::Start => self.start(byte, place),
@@ -42,7 +42,7 @@ impl PartialToken {
     }
 
     fn fail(&mut self, at: u64, reason: LexReason) -> Step
-        ensures { IsAfterByte (taking.fails self.old at reason) self.new result }
+        ensures { IsAfterByte (after.fails self.old at reason) self.new result }
     {
         let fault = LexFault { at, reason };
         self.at = at;
@@ -51,7 +51,7 @@ impl PartialToken {
     }
 
     fn start(&mut self, byte: u8, place: u64) -> Step
-        ensures { IsAfterByte (taking.start place self.old byte) self.new result }
+        ensures { IsAfterByte (after.start place self.old byte) self.new result }
     {
         if byte == 0xEF {
             self.mode = Mode::AfterEf;
@@ -63,7 +63,7 @@ impl PartialToken {
     /// One byte more of a byte order mark.
     fn mark(&mut self, wanted: u8, mode: Mode, byte: u8) -> Step
         requires { HasMore mode self.old.text }
-        ensures { IsAfterByte (taking.mark wanted mode self.old byte) self.new result }
+        ensures { IsAfterByte (after.mark wanted mode self.old byte) self.new result }
     {
         if byte != wanted {
             return self.fail(0, LexReason::StrayByte);
@@ -72,7 +72,7 @@ impl PartialToken {
     }
 
     fn begin_line(&mut self, byte: u8, place: u64) -> Step
-        ensures { IsAfterByte (taking.begin_line place self.old byte (spelling.class byte)) self.new
+        ensures { IsAfterByte (after.begin_line place self.old byte (spelling.class byte)) self.new
             result }
     {
         match class_of(byte) {
@@ -85,7 +85,7 @@ impl PartialToken {
     }
 
     fn begin(&mut self, class: Class, byte: u8, place: u64) -> Step
-        ensures { IsAfterByte (taking.begin place self.old byte class) self.new result }
+        ensures { IsAfterByte (after.begin place self.old byte class) self.new result }
     {
         self.at = place;
         match class {
@@ -112,7 +112,7 @@ impl PartialToken {
 
     fn escape_line(&mut self, byte: u8) -> Step
         requires { self.old.mode ≡ Mode.EscapeLine }
-        ensures { IsAfterByte (taking.escape_line self.old byte) self.new result }
+        ensures { IsAfterByte (after.escape_line self.old byte) self.new result }
     {
         if is_line_end(byte) {
             self.mode = Mode::LineStart;
@@ -122,7 +122,7 @@ impl PartialToken {
 
     pub(crate) fn symbol(&mut self, byte: u8) -> Step
         requires { self.old.mode ≡ Mode.Symbol }
-        ensures { IsAfterByte (taking.symbol self.old byte) self.new result }
+        ensures { IsAfterByte (after.symbol self.old byte) self.new result }
     {
         if !continues_symbol(byte) {
             self.mode = Mode::Outside;
@@ -136,7 +136,7 @@ impl PartialToken {
     }
 
     fn dollar(&mut self, byte: u8) -> Step
-        ensures { IsAfterByte (taking.dollar self.old byte) self.new result }
+        ensures { IsAfterByte (after.dollar self.old byte) self.new result }
     {
         if !is_digit(byte) {
             return self.fail(self.at, LexReason::LoneDollar);
@@ -146,7 +146,7 @@ impl PartialToken {
     }
 
     fn glyph(&mut self, number: u8, byte: u8) -> Step
-        ensures { IsAfterByte (taking.glyph self.old number byte) self.new result }
+        ensures { IsAfterByte (after.glyph self.old number byte) self.new result }
     {
         if !is_digit(byte) {
             self.mode = Mode::Outside;
@@ -161,7 +161,7 @@ impl PartialToken {
     }
 
     fn suffix(&mut self, run: SuffixRun, byte: u8) -> Step
-        ensures { IsAfterByte (taking.suffix self.old run byte) self.new result }
+        ensures { IsAfterByte (after.suffix self.old run byte) self.new result }
     {
         if !is_suffix(byte) {
             self.mode = Mode::Outside;
@@ -190,7 +190,7 @@ impl PartialToken {
 
     fn string(&mut self, byte: u8, place: u64) -> Step
         requires { self.old.mode ≡ Mode.Str }
-        ensures { IsAfterByte (taking.string false place self.old byte (spelling.string_class byte))
+        ensures { IsAfterByte (after.string false place self.old byte (spelling.string_class byte))
             self.new result }
     {
         match string_class_of(byte) {
@@ -219,7 +219,7 @@ impl PartialToken {
 
     fn after_backslash(&mut self, byte: u8, place: u64) -> Step
         requires { self.old.mode ≡ Mode.AfterBackslash }
-        ensures { IsAfterByte (taking.string true place self.old byte
+        ensures { IsAfterByte (after.string true place self.old byte
             (spelling.string_class byte)) self.new result }
     {
         match string_class_of(byte) {
@@ -243,7 +243,7 @@ impl PartialToken {
     }
 
     fn brace(&mut self, byte: u8, place: u64) -> Step
-        ensures { IsAfterByte (taking.brace place self.old byte (spelling.comment_class byte))
+        ensures { IsAfterByte (after.brace place self.old byte (spelling.comment_class byte))
             self.new result }
     {
         self.at = place;
@@ -256,7 +256,7 @@ impl PartialToken {
     }
 
     fn line(&mut self, byte: u8, place: u64) -> Step
-        ensures { IsAfterByte (taking.line place self.old byte (spelling.comment_class byte))
+        ensures { IsAfterByte (after.line place self.old byte (spelling.comment_class byte))
             self.new result }
     {
         self.at = place;
@@ -272,7 +272,7 @@ impl PartialToken {
     /// One byte more of a word, or its end. `between` is the mode between the words.
     pub(crate) fn word(&mut self, between: Mode, byte: u8) -> Step
         requires { HasMore between self.old.text }
-        ensures { IsAfterByte (taking.word between self.old byte (spelling.comment_class byte))
+        ensures { IsAfterByte (after.word between self.old byte (spelling.comment_class byte))
             self.new result }
     {
         match comment_class_of(byte) {
@@ -300,7 +300,7 @@ impl PartialToken {
 
     fn go(&mut self, mode: Mode) -> Step
         requires { HasMore mode self.old.text }
-        ensures { IsAfterByte (taking.into self.old mode Step.Used) self.new result }
+        ensures { IsAfterByte (after.into self.old mode Step.Used) self.new result }
     {
         self.mode = mode;
         Step::Used
@@ -308,7 +308,7 @@ impl PartialToken {
 
     fn end(&mut self, mode: Mode, form: TokenForm) -> Step
         requires { HasMore mode self.old.text }
-        ensures { IsAfterByte (taking.into self.old mode (Step.Ends form)) self.new result }
+        ensures { IsAfterByte (after.into self.old mode (Step.Ends form)) self.new result }
     {
         self.mode = mode;
         Step::Ends(form)
@@ -316,7 +316,7 @@ impl PartialToken {
 
     pub(crate) fn begin_text(&mut self, mode: Mode, byte: u8) -> Step
         requires { HasMore mode (byte ∷ []) }
-        ensures { IsAfterByte (taking.set_at mode self.old.at (byte ∷ []) Step.Used) self.new
+        ensures { IsAfterByte (after.set_at mode self.old.at (byte ∷ []) Step.Used) self.new
             result }
     {
         self.buffer.clear();
@@ -326,7 +326,7 @@ impl PartialToken {
     }
 
     pub(crate) fn begin_string(&mut self) -> Step
-        ensures { IsAfterByte (taking.set_at Mode.Str self.old.at [] Step.Used) self.new result }
+        ensures { IsAfterByte (after.set_at Mode.Str self.old.at [] Step.Used) self.new result }
     {
         self.buffer.clear();
         self.mode = Mode::Str;

@@ -1,20 +1,20 @@
 //! What the end of the text does to the current token.
 
-ghost use Rattle.pgn_lexer.specs.Taking as taking;
+ghost use Rattle.pgn_lexer.specs.ByteResult as after;
 ghost use Rattle.pgn_lexer.specs.declared.partial_token.Step.TheVariants.{EndsBefore};
 
 use crate::partial_token::{Mode, PartialToken, Reached, TokenForm, glyph_of};
 use crate::token::{LexFault, LexReason};
 
 impl PartialToken {
-    ghost use Rattle.pgn_lexer.specs.Taking.{IsAfterEnd};
+    ghost use Rattle.pgn_lexer.specs.ByteResult.{IsAfterEnd};
     ghost use Rattle.pgn_lexer.specs.PartialToken.{HasMore};
 
     /// Ends the text at the place: gives a token that is left, after which there may be more, or
     /// the end.
-    #[tactic(auto, unfolding(crate::specs::Taking::after_end))]
+    #[tactic(auto, unfolding(crate::specs::ByteResult::after_end))]
     pub(crate) fn close(&mut self, place: u64) -> Reached
-        ensures { IsAfterEnd (taking.after_end place self.old) self.new result }
+        ensures { IsAfterEnd (after.after_end place self.old) self.new result }
     {
         match self.mode {
             Mode::Start | Mode::LineStart | Mode::Outside | Mode::EscapeLine => Reached::End,
@@ -39,7 +39,7 @@ impl PartialToken {
     }
 
     fn fail_at_end(&mut self, at: u64, reason: LexReason) -> Reached
-        ensures { IsAfterEnd (taking.fails self.old at reason) self.new result }
+        ensures { IsAfterEnd (after.fails self.old at reason) self.new result }
     {
         let fault = LexFault { at, reason };
         self.at = at;
@@ -49,7 +49,7 @@ impl PartialToken {
 
     fn give(&mut self, mode: Mode, form: TokenForm) -> Reached
         requires { HasMore mode self.old.text }
-        ensures { IsAfterEnd (taking.into self.old mode (EndsBefore form)) self.new result }
+        ensures { IsAfterEnd (after.into self.old mode (EndsBefore form)) self.new result }
     {
         self.mode = mode;
         Reached::Token(form)

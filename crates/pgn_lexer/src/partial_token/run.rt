@@ -1,14 +1,14 @@
 //! Reads a piece up to the end of a token, with loops for the long runs.
 
 ghost use Rattle.std.specs.Prelude.{◌≡◌, ℕ, ◌+◌, ◌<◌, ◌≤◌, ◌^◌, length};
-ghost use Rattle.pgn_lexer.specs.Running.{used_after, reached_after};
+ghost use Rattle.pgn_lexer.specs.RunResult.{used_after, reached_after};
 
 use crate::class::{Class, CommentClass, StringClass, class_of, comment_class_of, string_class_of};
 use crate::partial_token::{Mode, PartialToken, Reached, Step, TokenForm};
 
 impl PartialToken {
     ghost use Rattle.pgn_lexer.specs.PartialToken.{IsSound};
-    ghost use Rattle.pgn_lexer.specs.Running.{IsOutside, RunGives, RunsOn};
+    ghost use Rattle.pgn_lexer.specs.RunResult.{IsOutside, RunGives, RunsOn};
 
     /// Uses the piece, which begins at the place, up to the end of the first token. A rejected byte
     /// is used too.

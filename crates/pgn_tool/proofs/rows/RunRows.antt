@@ -9,8 +9,8 @@ use Rattle.pgn_game.specs.TagSection.{roster}
 use Rattle.pgn_game.specs.Progress.{verdict}
 use Rattle.pgn_game.specs.Reason.{line_of}
 use Rattle.pgn_game.specs.Chess.{first_position}
-use Rattle.pgn_tool.specs.Listing.{finished_game_line}
-use Rattle.pgn_tool.specs.Running.{Job, checking, counting_line, exporting, line, listing, profile_for, status_of, text_for}
+use Rattle.pgn_tool.specs.ListLines.{finished_game_line}
+use Rattle.pgn_tool.specs.TaskRun.{Job, checking, counting_line, exporting, line, listing, profile_for, status_of, text_for}
 
 -- the six roster lines before Result, with no value
 abbrev unknown : List ℕ

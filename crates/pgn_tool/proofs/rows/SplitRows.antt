@@ -7,7 +7,7 @@ use Rattle.pgn_game.specs.declared.reason.Reason.TheVariants.{UnmatchedClose}
 use Rattle.pgn_game.specs.FaultTable.{refusal}
 use Rattle.pgn_game.specs.TagSection.{roster}
 use Rattle.pgn_game.specs.Progress.{read}
-use Rattle.pgn_tool.specs.Listing.{list_profile}
+use Rattle.pgn_tool.specs.ListLines.{list_profile}
 use Rattle.pgn_tool.specs.Files.{FileStep, closed, made}
 use Rattle.pgn_tool.specs.SplitGames.{files_of}
 

@@ -16,11 +16,11 @@ use Rattle.pgn_game.specs.declared.reason.Reason.TheVariants.{ReadFault, InputTo
 use Rattle.pgn_game.specs.declared.reason.Fault.{Fault}
 use Rattle.pgn_game.specs.Game.{Game}
 use Rattle.pgn_game.specs.Progress.{Read, no_progress, read}
-use Rattle.pgn_game.specs.Feeding as feeding
-use Rattle.pgn_game.specs.Feeding.{Converter, FedAll, FedGame, FedToFault, FinishedGame, Finishes, IsLast, Stands, StopsIn, finished_game_of}
-use Rattle.pgn_tool.specs.Listing.{CutsLine, IsListed, ListResult, ListsNoMore, ListStops, game_line, finished_game_line, line_just_finished, lines_from, lines_of, list_profile, list_text, too_long, unread, unwritten}
+use Rattle.pgn_game.specs.ConverterCalls as calls
+use Rattle.pgn_game.specs.ConverterCalls.{Converter, FedAll, FedGame, FedToFault, FinishedGame, Finishes, IsLast, Stands, StopsIn, finished_game_of}
+use Rattle.pgn_tool.specs.ListLines.{CutsLine, IsListed, ListResult, ListsNoMore, ListStops, game_line, finished_game_line, line_just_finished, lines_from, lines_of, list_profile, list_text, too_long, unread, unwritten}
 use Rattle.pgn_tool.specs.ListState.{AfterListEnd, AfterListedPiece, ListedSoFar, ListsToFault, SourceListedSoFar}
-use Rattle.pgn_tool.specs.Listing as listing
+use Rattle.pgn_tool.specs.ListLines as list_lines
 use Rattle.pgn_tool.specs.declared.list.Stopped.{Stopped}
 use Rattle.pgn_tool.specs.declared.list.Stopped.TheVariants.{Refused, Unwritten}
 use Rattle.pgn_tool.proofs.runs.TokensInTwoParts.{AddsOne, games_grow, last_games, not_both, read_more, read_stops}
@@ -166,25 +166,25 @@ module _ (u rest : List ℕ) (old new : Converter) (a b : Option (List ℕ)) (so
       → StopsIn u rest
       (λ fault. FedToFault list_profile u (first rest) so.tokens rest fault new.reading.most_probes None None)
       (λ front. (c : Converter) × FedAll list_profile u (first rest) so.tokens front c None None × (new.reading ≡ c.reading)) f
-      → feeding.CountsReason f.reason 0 0
+      → calls.CountsReason f.reason 0 0
       → StopsIn u rest (λ fault. ListsToFault (u ++ rest) fault a b) (λ front. ListsNoMore (u ++ front) a b) f
-  rest_stops f (feeding.at_token h to) counted = feeding.at_token h (by_stops to.fed.stops to.no_game counted)
+  rest_stops f (calls.at_token h to) counted = calls.at_token h (by_stops to.fed.stops to.no_game counted)
     where
-      by_stops : {h : Fault} (stops : feeding.Stops list_profile so.tokens to.fed.tokens None None h)
-          → feeding.games_before stops ≡ (read list_profile so.tokens).progress.games → feeding.CountsReason h.reason 0 0 → ListsToFault (u ++ rest) h a b
-      by_stops (feeding.refused h fault gains) same counts =
+      by_stops : {h : Fault} (stops : calls.Stops list_profile so.tokens to.fed.tokens None None h)
+          → calls.games_before stops ≡ (read list_profile so.tokens).progress.games → calls.CountsReason h.reason 0 0 → ListsToFault (u ++ rest) h a b
+      by_stops (calls.refused h fault gains) same counts =
           record {
             tokens = to.fed.tokens;
             next = λ s. to.fed.next s (subst (λ n. Follows n s) (sym (still_own rest)) tt);
             fault = fault;
             written = subst (λ gs. Appends a b (lines_from 1 gs)) (sym same) so.written;
           }
-      by_stops (feeding.unwritten at writing) same counts = absurd (omega (arith, counts))
-  rest_stops f (feeding.too_long front more cut place some (c, fed, same)) counted =
+      by_stops (calls.unwritten at writing) same counts = absurd (omega (arith, counts))
+  rest_stops f (calls.too_long front more cut place some (c, fed, same)) counted =
       let full : front ≡ [] → so.tokens ≡ decided u =
       λ none. so.at_limit (ap (length {A = ℕ}) (sym (ap (λ xs. u ++ xs) none ∙ append-nil u)) ∙ place) in
       let is = front_decided front full c fed in
-      feeding.too_long front more cut place some (record {
+      calls.too_long front more cut place some (record {
         passes = subst (λ ts. (read list_profile ts).fault ≡ None) is fed.stands.has_read.passes;
         written = subst (λ ts. Appends a b (lines_of ts)) is (subst (λ gs. Appends a b (lines_from 1 gs)) (sym fed.no_game) so.written);
       })
@@ -194,11 +194,11 @@ pub stops_further : (u piece : List ℕ) (at : ℕ) (a b : Option (List ℕ)) (f
     → StopsIn (u ++ take at piece) (drop at piece) (λ fault. ListsToFault ((u ++ take at piece) ++ drop at piece) fault a b)
     (λ front. ListsNoMore ((u ++ take at piece) ++ front) a b) f
     → StopsIn u piece (λ fault. ListsToFault (u ++ piece) fault a b) (λ front. ListsNoMore (u ++ front) a b) f
-stops_further u piece at a b f (feeding.at_token h to) =
-    feeding.at_token h (subst (λ xs. ListsToFault xs h a b) (whole u piece at) to)
-stops_further u piece at a b f (feeding.too_long front rest cut place some before) =
+stops_further u piece at a b f (calls.at_token h to) =
+    calls.at_token h (subst (λ xs. ListsToFault xs h a b) (whole u piece at) to)
+stops_further u piece at a b f (calls.too_long front rest cut place some before) =
     let text = append_assoc u (take at piece) front in
-    feeding.too_long (take at piece ++ front) rest
+    calls.too_long (take at piece ++ front) rest
     (sym (take-append-drop at piece) ∙ ap (λ xs. take at piece ++ xs) cut ∙ sym (append_assoc (take at piece) front rest))
     (sym (ap (length {A = ℕ}) text) ∙ place) some (subst (λ xs. ListsNoMore xs a b) text before)
 
@@ -265,14 +265,14 @@ module _ (u : List ℕ) (old new : Converter) (a b : Option (List ℕ)) (so : Li
             (Appends-trans a b c _ _ so.written front);
       }
 
-  pub last_refused : (f : Fault) → feeding.Stops list_profile so.tokens (tokens_of u) None None f → feeding.CountsReason f.reason 0 0 → IsListed u (Some f) a b
+  pub last_refused : (f : Fault) → calls.Stops list_profile so.tokens (tokens_of u) None None f → calls.CountsReason f.reason 0 0 → IsListed u (Some f) a b
   unfolding games
-  last_refused _ (feeding.refused f fault gains) counts = by_games adds
+  last_refused _ (calls.refused f fault gains) counts = by_games adds
     where
       by_games : AddsOne games (read list_profile (tokens_of u)) → IsListed u (Some f) a b
       by_games (inl same) = record { fault = fault; written = subst (λ gs. Appends a b (lines_from 1 gs)) (sym same) so.written }
       by_games (inr (passes, more)) = absurd (not_both _ _ fault passes)
-  last_refused _ (feeding.unwritten at writing) counts = absurd (omega (arith, counts))
+  last_refused _ (calls.unwritten at writing) counts = absurd (omega (arith, counts))
 
 -- ---- a whole source
 
@@ -321,8 +321,8 @@ module _ (left_old left : Option (List ℕ)) (c : Converter) (a b : Option (List
 
   pub read_stops_at : (piece : List ℕ) (new : Converter) (d : Option (List ℕ)) (stopped : Stopped) → Consumes left left_new piece
       → AfterListedPiece so.bytes piece new (Err stopped) a d → ListStops left_old left_new a d stopped
-  read_stops_at piece new d (Refused _) consumed (feeding.at_token f to) =
-      listing.refused f (known_left left_old left_new (so.bytes ++ piece) (λ s. IsListed s (Some f) a d) (read_all piece consumed)
+  read_stops_at piece new d (Refused _) consumed (calls.at_token f to) =
+      list_lines.refused f (known_left left_old left_new (so.bytes ++ piece) (λ s. IsListed s (Some f) a d) (read_all piece consumed)
       (λ more.
       let begun = to.next more in
       let same : read list_profile (tokens_of ((so.bytes ++ piece) ++ more)) ≡ read list_profile to.tokens =
@@ -331,7 +331,7 @@ module _ (left_old left : Option (List ℕ)) (c : Converter) (a b : Option (List
         fault = ap (λ (r : Read). r.fault) same ∙ to.fault;
         written = subst (λ (r : Read). Appends a d (lines_from 1 r.progress.games)) (sym same) to.written;
       }))
-  read_stops_at piece new d (Refused _) consumed (feeding.too_long front rest cut place some before) =
+  read_stops_at piece new d (Refused _) consumed (calls.too_long front rest cut place some before) =
       let text : so.bytes ++ piece ≡ (so.bytes ++ front) ++ rest = ap (λ xs. so.bytes ++ xs) cut ∙ sym (append_assoc so.bytes front rest) in
       subst (λ n. ListStops left_old left_new a d (Refused (record { at = n; reason = InputTooLong }))) place
       (too_long (so.bytes ++ front) rest (subst (Consumes left_old left_new) text (read_all piece consumed)) place some before)
@@ -346,5 +346,5 @@ module _ (left_old left : Option (List ℕ)) (c : Converter) (a b : Option (List
 
       by_result : (q : Result Unit Stopped) → AfterListEnd so.bytes q a d → ListResult left_old left_new q a d
       by_result (Ok x) h = known_whole left_old left_new so.bytes (λ s. IsListed s None a d) all end h
-      by_result (Err (Refused f)) h = listing.refused f (known_whole left_old left_new so.bytes (λ s. IsListed s (Some f) a d) all end h)
+      by_result (Err (Refused f)) h = list_lines.refused f (known_whole left_old left_new so.bytes (λ s. IsListed s (Some f) a d) all end h)
       by_result (Err Unwritten) h = unwritten so.bytes [] (subst (Consumes left_old left_new) (sym (append-nil so.bytes)) all) h

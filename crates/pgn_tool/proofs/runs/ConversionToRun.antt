@@ -14,13 +14,13 @@ use Rattle.pgn_game.specs.Profile.{Profile}
 use Rattle.pgn_lexer.specs.TokensOf.{tokens_of}
 use Rattle.pgn_game.specs.Progress.{Read, read, refused as is_refused, totals, verdict_of}
 use Rattle.pgn_game.specs.Levels.{plies_of}
-use Rattle.pgn_game.specs.Feeding.{profile_of}
-use Rattle.pgn_game.specs.Converting.{Converts, CountsDevices, Fails, IsConverted, refused, unread, unwritten, too_long}
+use Rattle.pgn_game.specs.ConverterCalls.{profile_of}
+use Rattle.pgn_game.specs.Conversion.{Converts, CountsDevices, Fails, IsConverted, refused, unread, unwritten, too_long}
 use Rattle.pgn_tool.specs.declared.list.Stopped.{Stopped}
 use Rattle.pgn_tool.specs.declared.list.Stopped.TheVariants as stopped
-use Rattle.pgn_tool.specs.Listing as lists
-use Rattle.pgn_tool.specs.Listing.{CountsReadFault, ListResult, ListStops, list_profile}
-use Rattle.pgn_tool.specs.Running.{Answers, Blames, Concludes, Ends, EndsList, HasFailed, IsCalm, IsSmooth, IsUntouched, Job, Runs, Tells, TellsVerdict, Works, checking, counting_of, exporting, line, listing, status_of}
+use Rattle.pgn_tool.specs.ListLines as list_lines
+use Rattle.pgn_tool.specs.ListLines.{CountsReadFault, ListResult, ListStops, list_profile}
+use Rattle.pgn_tool.specs.TaskRun.{Answers, Blames, Concludes, Ends, EndsList, HasFailed, IsCalm, IsSmooth, IsUntouched, Job, Runs, Tells, TellsVerdict, Works, checking, counting_of, exporting, line, listing, status_of}
 
 -- ---- devices
 
@@ -199,15 +199,15 @@ job_answers listing s source out err code answer smooth works ends = absurd work
 
 -- and a flush after it
 pub stops_on : (left_old left_new a b c : Option (List ℕ)) (stopped : Stopped) → ListStops left_old left_new a b stopped → Keeps b c → ListStops left_old left_new a c stopped
-stops_on None left_new a b c _ (lists.refused f listed) keeps = lists.refused f tt
-stops_on (Some s) left_new a b c _ (lists.refused f listed) keeps =
-    lists.refused f (record { fault = listed.fault; written = keeps_on a b c _ listed.written keeps })
-stops_on left_old left_new a b c _ (lists.unread u consumed listed) keeps =
-    lists.unread u consumed (record { passes = listed.passes; written = keeps_on a b c _ listed.written keeps })
-stops_on left_old left_new a b c _ (lists.too_long u rest consumed long more listed) keeps =
-    lists.too_long u rest consumed long more (record { passes = listed.passes; written = keeps_on a b c _ listed.written keeps })
-stops_on left_old left_new a b c _ (lists.unwritten u rest consumed cut) keeps =
-    lists.unwritten u rest consumed (record { count = cut.count; short = cut.short; front = keeps_on a b c _ cut.front keeps })
+stops_on None left_new a b c _ (list_lines.refused f listed) keeps = list_lines.refused f tt
+stops_on (Some s) left_new a b c _ (list_lines.refused f listed) keeps =
+    list_lines.refused f (record { fault = listed.fault; written = keeps_on a b c _ listed.written keeps })
+stops_on left_old left_new a b c _ (list_lines.unread u consumed listed) keeps =
+    list_lines.unread u consumed (record { passes = listed.passes; written = keeps_on a b c _ listed.written keeps })
+stops_on left_old left_new a b c _ (list_lines.too_long u rest consumed long more listed) keeps =
+    list_lines.too_long u rest consumed long more (record { passes = listed.passes; written = keeps_on a b c _ listed.written keeps })
+stops_on left_old left_new a b c _ (list_lines.unwritten u rest consumed cut) keeps =
+    list_lines.unwritten u rest consumed (record { count = cut.count; short = cut.short; front = keeps_on a b c _ cut.front keeps })
 
 pub lists_on : (left_old left_new a b c : Option (List ℕ)) (r : Result Unit Stopped) → ListResult left_old left_new r a b → Keeps b c → ListResult left_old left_new r a c
 lists_on None left_new a b c (Ok x) listed keeps = tt
@@ -229,13 +229,13 @@ refused_verdict r f e =
 
 stopped_answers : (s : List ℕ) (source out err : Device) (code : ℕ) (stopped : Stopped) → IsSmooth s source out
     → ListStops (Some s) source.after out.before out.after stopped → EndsList (Err stopped) source out err code → Answers listing s out err code
-stopped_answers s source out err code _ smooth (lists.refused f listed) ends =
+stopped_answers s source out err code _ smooth (list_lines.refused f listed) ends =
     let verdict = refused_verdict (read list_profile (tokens_of s)) f listed.fault in
     record { ends = ends.ends ∙ sym (ap status_of verdict); written = listed.written; told = subst (TellsVerdict err) (sym verdict) ends.told }
-stopped_answers s source out err code _ smooth (lists.unread u consumed listed) ends = absurd (calm_fails source smooth.reads ends.blames)
-stopped_answers s source out err code _ smooth (lists.too_long u rest consumed long more listed) ends =
+stopped_answers s source out err code _ smooth (list_lines.unread u consumed listed) ends = absurd (calm_fails source smooth.reads ends.blames)
+stopped_answers s source out err code _ smooth (list_lines.too_long u rest consumed long more listed) ends =
     absurd (longer s source.after u rest consumed long more smooth.short)
-stopped_answers s source out err code _ smooth (lists.unwritten u rest consumed cut) ends = absurd (calm_fails out smooth.writes ends.failed)
+stopped_answers s source out err code _ smooth (list_lines.unwritten u rest consumed cut) ends = absurd (calm_fails out smooth.writes ends.failed)
 
 list_answers : (s : List ℕ) (source out err : Device) (code : ℕ) (answer : Result Unit Stopped) → IsSmooth s source out
     → ListResult source.before source.after answer out.before out.after → EndsList answer source out err code → Answers listing s out err code

@@ -14,12 +14,12 @@ use Rattle.pgn_game.specs.declared.conversion.Totals.{Totals}
 use Rattle.pgn_game.specs.Profile.{Profile, takes_the_marker}
 use Rattle.pgn_game.specs.Progress.{Verdict, due, output, refused as is_refused}
 use Rattle.pgn_game.specs.Laws.{DueGrows, IsPrefix}
-use Rattle.pgn_game.specs.Checked.{checked_output, followed, written_by}
-use Rattle.pgn_game.specs.ConvertingTwice.{AreConverted, AreTotalled, BeginsWith, ConvertsTwice, Decides, EndsFirst, EndsSecond, FailsTwice, HasTaken, IsFollowed, StopsFollowing}
-use Rattle.pgn_game.specs.ConvertingTwice.{first_too_long, first_unread, refused, second_too_long, second_unread, unwritten}
+use Rattle.pgn_game.specs.Checked.{checked_output, compared, written_by}
+use Rattle.pgn_game.specs.CheckedConversion.{AreConverted, AreTotalled, BeginsWith, ConvertsTwice, Decides, EndsFirst, EndsSecond, FailsTwice, HasTaken, MatchesAllMarks, StopsWritingSecond}
+use Rattle.pgn_game.specs.CheckedConversion.{first_too_long, first_unread, refused, second_too_long, second_unread, unwritten}
 use Rattle.pgn_game.specs.EqualReadings.{EqualReadings, InterruptedReadings}
-use Rattle.pgn_tool.specs.Running.{HasFront}
-use Rattle.pgn_tool.specs.RunningTwice.{Gives, RunsTwice, WritesFront, profile_twice}
+use Rattle.pgn_tool.specs.TaskRun.{HasFront}
+use Rattle.pgn_tool.specs.CheckedRun.{Gives, RunsTwice, WritesFront, profile_twice}
 
 front_is : (out : Device) (written whole : List ℕ) → IsPrefix written whole → HasTaken out written → HasFront out whole
 front_is out written whole prefix taken =
@@ -59,10 +59,10 @@ module _ (decides : DecidedIsPrefix) (grows : DueGrows) (equal : EqualReadings) 
       let all : IsPrefix (due p (decided u)) (output p s) =
       subst (λ (t : List ℕ). IsPrefix (due p (decided u)) (output p t)) (sym x.1)
       (subst (λ (ts : List Token). IsPrefix (due p (decided u)) (due p ts)) (sym h.1) (grows p (decided u) h.0)) in
-      let so = subst (λ (b : Option (List ℕ)). IfSome b (λ r. IsFollowed p (decided u) (tokens_of r) out)) second_gives ends.followed in
+      let so = subst (λ (b : Option (List ℕ)). IfSome b (λ r. MatchesAllMarks p (decided u) (tokens_of r) out)) second_gives ends.matched in
       let law = interrupted.first_stops p u x.0 takes in
-      let text : written_by p (followed p (decided u) (tokens_of s)) ≡ due p (decided u) =
-      ap (λ (t : List ℕ). written_by p (followed p (decided u) (tokens_of t))) x.1 ∙ law.written in
+      let text : written_by p (compared p (decided u) (tokens_of s)) ≡ due p (decided u) =
+      ap (λ (t : List ℕ). written_by p (compared p (decided u) (tokens_of t))) x.1 ∙ law.written in
       front_is out _ _ all (subst (HasTaken out) text so.appended)
 
   begins : (ts : List Token) → Decides first ts → BeginsWith ts (tokens_of s)
@@ -76,10 +76,10 @@ module _ (decides : DecidedIsPrefix) (grows : DueGrows) (equal : EqualReadings) 
   ends_second : (u : List ℕ) → ((x : List ℕ) × (s ≡ u ++ x)) → EndsSecond p first u out → HasFront out (output p s)
   ends_second u x ends =
       let h = begins ends.tokens ends.decided_by in
-      let law = interrupted.second_stops p u x.0 ends.tokens h.0 ends.ahead.0 ends.ahead.1 takes (ap tokens_of (sym x.1) ∙ h.1) ends.ahead.2 in
-      front_is out _ _ (subst (λ (t : List ℕ). IsPrefix (written_by p (followed p ends.tokens (decided u))) (output p t)) (sym x.1) law.most) ends.appended
+      let law = interrupted.second_stops p u x.0 ends.tokens h.0 ends.marks_left.0 ends.marks_left.1 takes (ap tokens_of (sym x.1) ∙ h.1) ends.marks_left.2 in
+      front_is out _ _ (subst (λ (t : List ℕ). IsPrefix (written_by p (compared p ends.tokens (decided u))) (output p t)) (sym x.1) law.most) ends.appended
 
-  stops : (at : ℕ) → StopsFollowing p first (tokens_of s) at out → HasFront out (output p s)
+  stops : (at : ℕ) → StopsWritingSecond p first (tokens_of s) at out → HasFront out (output p s)
   stops at h =
       let x = begins h.tokens h.decided_by in
       front_is out _ _ (interrupted.write_fails p s h.tokens x.0 h.front h.rest h.token h.count takes x.1 h.cut) h.appended
@@ -90,7 +90,7 @@ module _ (decides : DecidedIsPrefix) (grows : DueGrows) (equal : EqualReadings) 
   fails _ (first_too_long u rest consumed long more ends) = ends_first u (front_left u rest (first_left (u ++ rest) consumed)) ends
   fails _ (second_unread u consumed failed ends) = ends_second u (second_left u consumed) ends
   fails _ (second_too_long u rest consumed long more ends) = ends_second u (front_left u rest (second_left (u ++ rest) consumed)) ends
-  fails _ (unwritten at known) = stops at (subst (λ (b : Option (List ℕ)). IfSome b (λ r. StopsFollowing p first (tokens_of r) at out)) second_gives known)
+  fails _ (unwritten at known) = stops at (subst (λ (b : Option (List ℕ)). IfSome b (λ r. StopsWritingSecond p first (tokens_of r) at out)) second_gives known)
 
   pub front_written : (answer : Result Totals Fault) → ConvertsTwice p first second out answer → HasFront out (output p s)
   front_written (Ok t) converts = converted _ (both_give (λ s r. AreTotalled p s r t out) converts).converted

@@ -10,10 +10,10 @@ use Rattle.pgn_tool.specs.declared.arguments.ParseFault.{ParseFault}
 use Rattle.pgn_tool.specs.declared.machine.SystemFault.{SystemFault}
 use Rattle.pgn_tool.specs.Machine.{Holding, IsOpened, Machine, Opens, Reading, holds, missing}
 use Rattle.pgn_tool.specs.Program.{Carries, EndsUnopened, IsIdle, IsMissing, Ran, RunsAgain, RunsOpened, RunsToOutput, RunsWords, StartsFrom, by_fault, by_task, file_source, makes_files, opened, source_of, unopened, unopened_again}
-use Rattle.pgn_tool.specs.Refusing.{AnswersFault}
+use Rattle.pgn_tool.specs.Replies.{AnswersFault}
 use Rattle.pgn_tool.specs.Requests.{AnswersBy, file_of, refusals, request_in, request_of}
-use Rattle.pgn_tool.specs.Running.{IsUntouched, mode_for}
-use Rattle.pgn_tool.specs.RunningTwice.{checked_mode}
+use Rattle.pgn_tool.specs.TaskRun.{IsUntouched, mode_for}
+use Rattle.pgn_tool.specs.CheckedRun.{checked_mode}
 use Rattle.pgn_tool.specs.Files.{FileStep}
 
 -- the device that was opened: what it had at first, and what it has in the end

@@ -11,8 +11,8 @@ use Rattle.pgn_layout.specs.Device.{AppendsFront, Writes}
 use Rattle.pgn_game.specs.Profile.{Profile, known_result}
 use Rattle.pgn_game.specs.Pairs.{value_of}
 use Rattle.pgn_game.specs.TagSection.{exported}
-use Rattle.pgn_game.specs.Feeding.{Converter, FinishedGame, finished_game_plies, finished_game_position, finished_game_value}
-use Rattle.pgn_tool.specs.Listing.{finished_game_line, line_just_finished, six_fields, listed_value}
+use Rattle.pgn_game.specs.ConverterCalls.{Converter, FinishedGame, finished_game_plies, finished_game_position, finished_game_value}
+use Rattle.pgn_tool.specs.ListLines.{finished_game_line, line_just_finished, six_fields, listed_value}
 
 -- a part that is written, and a front of the rest
 pub front_after : (a b c : Option (List ℕ)) (xs ys : List ℕ) → Appends a b xs → AppendsFront b c ys → AppendsFront a c (xs ++ ys)

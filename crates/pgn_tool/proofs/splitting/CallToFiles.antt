@@ -17,15 +17,15 @@ use Rattle.pgn_game.specs.Due.{Gains}
 use Rattle.pgn_game.specs.declared.reason.Fault.{Fault}
 use Rattle.pgn_game.specs.Text.{game_text, text_of}
 use Rattle.pgn_game.specs.Progress.{Read, no_progress, read}
-use Rattle.pgn_game.specs.Feeding as feeding
-use Rattle.pgn_game.specs.Feeding.{Converter, FedAll, FedGame, FedToFault, Stands, StopsIn, StopsWriting}
+use Rattle.pgn_game.specs.ConverterCalls as calls
+use Rattle.pgn_game.specs.ConverterCalls.{Converter, FedAll, FedGame, FedToFault, Stands, StopsIn, StopsWriting}
 use Rattle.pgn_tool.specs.declared.files.CreateFault.{CreateFault}
 use Rattle.pgn_tool.specs.declared.files.CreateFault.TheVariants as creating
 use Rattle.pgn_tool.specs.declared.split.Unsplit.{Unsplit}
 use Rattle.pgn_tool.specs.declared.split.Unsplit.TheVariants as unsplit
-use Rattle.pgn_tool.specs.Listing.{list_profile}
+use Rattle.pgn_tool.specs.ListLines.{list_profile}
 use Rattle.pgn_tool.specs.Files.{FileStep, added, closed, closing_steps, refusal_step, made, number_after, opening_steps, open_text, whole_files}
-use Rattle.pgn_tool.specs.Splitting.{IsOwn, TurnResult, settled}
+use Rattle.pgn_tool.specs.SplitFiles.{IsOwn, TurnResult, settled}
 use Rattle.pgn_tool.specs.SplitGames as games
 use Rattle.pgn_tool.specs.SplitState as state
 use Rattle.pgn_tool.specs.SplitGames.{CutFile, CutsFile, Logs, LogsCut, SplitsNoMore, StopsAt, cut, files_of, texts_in, torn_text}
@@ -241,23 +241,23 @@ module _ {A : Type 0} (taken : A → Option (List ℕ)) (failures : A → ℕ) (
       → StopsIn u rest (λ fault. FedToFault list_profile u (first rest) so.tokens rest fault new.reading.most_probes (open_text taken log file) (open_text taken after now))
       (λ front. (c : Converter) × FedAll list_profile u (first rest) so.tokens front c (open_text taken log file) (open_text taken after now) × (new.reading ≡ c.reading)) f
       → SplitStopsInPiece u rest before closed_log (unsplit.Refused f)
-  own_stops f turned zero own (feeding.at_token h to) = by_stops to.fed.stops to.no_game own
+  own_stops f turned zero own (calls.at_token h to) = by_stops to.fed.stops to.no_game own
     where
-      by_stops : {g : Fault} (stops : feeding.Stops list_profile so.tokens to.fed.tokens (open_text taken log file) (open_text taken after now) g)
-          → feeding.games_before stops ≡ (read list_profile so.tokens).progress.games → IsOwn g.reason → SplitStopsInPiece u rest before closed_log (unsplit.Refused g)
-      by_stops (feeding.refused g fault gains) same is =
-          state.at_fault g (feeding.at_token g (record {
+      by_stops : {g : Fault} (stops : calls.Stops list_profile so.tokens to.fed.tokens (open_text taken log file) (open_text taken after now) g)
+          → calls.games_before stops ≡ (read list_profile so.tokens).progress.games → IsOwn g.reason → SplitStopsInPiece u rest before closed_log (unsplit.Refused g)
+      by_stops (calls.refused g fault gains) same is =
+          state.at_fault g (calls.at_token g (record {
             tokens = to.fed.tokens;
             next = λ s. to.fed.next s (subst (λ n. Follows n s) (sym (still_own rest)) tt);
             fault = fault;
             files = files_left to.fed.tokens gains turned zero same;
           }))
-      by_stops (feeding.unwritten at writing) same is = absurd is
-  own_stops f turned zero own (feeding.too_long front more parts place some (c, fed, same_reading)) =
+      by_stops (calls.unwritten at writing) same is = absurd is
+  own_stops f turned zero own (calls.too_long front more parts place some (c, fed, same_reading)) =
       let full : front ≡ [] → so.tokens ≡ decided u =
       λ none. so.at_limit (ap (length {A = ℕ}) (sym (ap (λ xs. u ++ xs) none ∙ append-nil u)) ∙ place) in
       let is = front_decided taken failures u rest old new before log after file now count failed so turned front full c _ _ fed in
-      state.at_fault _ (feeding.too_long front more parts place some (record {
+      state.at_fault _ (calls.too_long front more parts place some (record {
         passes = subst (λ ts. (read list_profile ts).fault ≡ None) is fed.stands.has_read.passes;
         files = subst (λ ts. Logs before closed_log (files_of ts)) is (files_left fed.tokens fed.gains turned zero fed.no_game);
       }))
@@ -268,22 +268,22 @@ module _ {A : Type 0} (taken : A → Option (List ℕ)) (failures : A → ℕ) (
       → StopsIn u rest (λ fault. FedToFault list_profile u (first rest) so.tokens rest fault new.reading.most_probes (open_text taken log file) (open_text taken after now))
       (λ front. (c : Converter) × FedAll list_profile u (first rest) so.tokens front c (open_text taken log file) (open_text taken after now) × (new.reading ≡ c.reading)) f
       → SplitStopsInPiece u rest before closed_log why
-  write_stops f why refusal turned is more settles (feeding.at_token h to) = by_stops to.fed.stops to.no_game is settles
+  write_stops f why refusal turned is more settles (calls.at_token h to) = by_stops to.fed.stops to.no_game is settles
     where
-      by_stops : {g : Fault} (stops : feeding.Stops list_profile so.tokens to.fed.tokens (open_text taken log file) (open_text taken after now) g)
-          → feeding.games_before stops ≡ (read list_profile so.tokens).progress.games → g.reason ≡ WriteFault → settled {A = Fed} refusal (Err g) ≡ Err why → SplitStopsInPiece u rest before closed_log why
-      by_stops (feeding.refused g fault gains) same wrong so_why = absurd (no_own_write g.reason wrong (read_own list_profile no_progress to.fed.tokens g fault))
-      by_stops (feeding.unwritten at writing) same wrong so_why =
+      by_stops : {g : Fault} (stops : calls.Stops list_profile so.tokens to.fed.tokens (open_text taken log file) (open_text taken after now) g)
+          → calls.games_before stops ≡ (read list_profile so.tokens).progress.games → g.reason ≡ WriteFault → settled {A = Fed} refusal (Err g) ≡ Err why → SplitStopsInPiece u rest before closed_log why
+      by_stops (calls.refused g fault gains) same wrong so_why = absurd (no_own_write g.reason wrong (read_own list_profile no_progress to.fed.tokens g fault))
+      by_stops (calls.unwritten at writing) same wrong so_why =
           let all = to.fed.next [] (subst (λ n. Follows n []) (sym (still_own rest)) tt) in
           state.cut_file why
           (cuts taken failures before log after closed_log file now count failed (u ++ rest) so.tokens to.fed.tokens all.0 at refusal why so.files turned more closes writing same
           (ap tokens_of (sym (append-nil (u ++ rest))) ∙ all.1) (at_place refusal at writing.token.at why so_why writing.place))
-  write_stops f why refusal turned is more settles (feeding.too_long front behind parts place some (c, fed, same_reading)) = absurd (cc)
+  write_stops f why refusal turned is more settles (calls.too_long front behind parts place some (c, fed, same_reading)) = absurd (cc)
 
   pub call_stops : (refusal : Option CreateFault) (answer : Result Fed Fault) (result : Result Fed Unsplit) (why : Unsplit)
-      → TurnResult taken failures (one_more count) log file after now refusal failed → feeding.CountsFault answer 0 failed
+      → TurnResult taken failures (one_more count) log file after now refusal failed → calls.CountsFault answer 0 failed
       → result ≡ settled refusal answer → result ≡ Err why
-      → feeding.AfterFeed list_profile u (first rest) so.tokens rest new answer (open_text taken log file) (open_text taken after now)
+      → calls.AfterFeed list_profile u (first rest) so.tokens rest new answer (open_text taken log file) (open_text taken after now)
       → SplitStopsInPiece u rest before closed_log why
   call_stops refusal (Ok x) result why turned counts settles is fed = absurd (split_not_both result x why (settles ∙ settled_ok refusal x) is)
   call_stops refusal (Err f) result why turned counts settles is fed = by_reason (own_or_write f.reason failed counts)
@@ -299,19 +299,19 @@ module _ {A : Type 0} (taken : A → Option (List ℕ)) (failures : A → ℕ) (
 -- a call that went on: no file was refused, and no write failed
 pub calm : {A B : Type 0} → (taken : A → Option (List ℕ)) (failures : A → ℕ) (number : ℕ) (log after : Option (List FileStep)) (file now : Option A) (failed : ℕ)
     (refusal : Option CreateFault) (answer : Result B Fault) (x : B) → answer ≡ Ok x → TurnResult taken failures number log file after now refusal failed
-    → feeding.CountsFault answer 0 failed → TurnResult taken failures number log file after now None failed × (failed ≡ 0)
+    → calls.CountsFault answer 0 failed → TurnResult taken failures number log file after now None failed × (failed ≡ 0)
 calm taken failures number log after file now failed refusal answer x is turned counts =
-    let zero : failed ≡ 0 = subst (λ r. feeding.CountsFault r 0 failed) is counts in
+    let zero : failed ≡ 0 = subst (λ r. calls.CountsFault r 0 failed) is counts in
     (subst (λ r. TurnResult taken failures number log file after now r failed) (unrefused refusal failed turned.risen zero) turned, zero)
 
 -- how the rest of a piece stops is how the piece does
 pub stops_on_further : (u piece : List ℕ) (at : ℕ) (before after : Option (List FileStep)) (why : Unsplit)
     → SplitStopsInPiece (u ++ take at piece) (drop at piece) before after why → SplitStopsInPiece u piece before after why
-stops_on_further u piece at before after _ (state.at_fault f (feeding.at_token h to)) =
-    state.at_fault f (feeding.at_token h (subst (λ xs. SplitsToFault xs h before after) (whole u piece at) to))
-stops_on_further u piece at before after _ (state.at_fault f (feeding.too_long front rest parts place some split)) =
+stops_on_further u piece at before after _ (state.at_fault f (calls.at_token h to)) =
+    state.at_fault f (calls.at_token h (subst (λ xs. SplitsToFault xs h before after) (whole u piece at) to))
+stops_on_further u piece at before after _ (state.at_fault f (calls.too_long front rest parts place some split)) =
     let text = append_assoc u (take at piece) front in
-    state.at_fault f (feeding.too_long (take at piece ++ front) rest
+    state.at_fault f (calls.too_long (take at piece ++ front) rest
     (sym (take-append-drop at piece) ∙ ap (λ xs. take at piece ++ xs) parts ∙ sym (append_assoc (take at piece) front rest))
     (sym (ap (length {A = ℕ}) text) ∙ place) some (subst (λ xs. SplitsNoMore xs before after) text split))
 stops_on_further u piece at before after why (state.cut_file _ cuts) =

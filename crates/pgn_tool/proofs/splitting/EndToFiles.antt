@@ -15,8 +15,8 @@ use Rattle.pgn_game.specs.FaultTable.{Row, first_holding, is_at, is_end, refusal
 use Rattle.pgn_game.specs.Text.{torn, torn_at}
 use Rattle.pgn_game.specs.Progress.{Progress, Next, Read, progress_after, progress_with, due, going, next, next_in, no_progress, read, read_from, whole, written}
 use Rattle.pgn_game.specs.Due.{Gains}
-use Rattle.pgn_game.specs.Feeding as feeding
-use Rattle.pgn_game.specs.Feeding.{Converter, Finishes, FinishesToFault, StopsWriting}
+use Rattle.pgn_game.specs.ConverterCalls as calls
+use Rattle.pgn_game.specs.ConverterCalls.{Converter, Finishes, FinishesToFault, StopsWriting}
 use Rattle.pgn_game.specs.Laws.{DueGrows}
 use Rattle.pgn_lexer.specs.Laws.{IsLast, RisesTo, TokensRise}
 use Rattle.pgn_lexer.specs.declared.token.LexReason.{LexReason}
@@ -26,9 +26,9 @@ use Rattle.pgn_game.specs.declared.stage.Stage.TheVariants.{Between, AfterLeftBr
 use Rattle.pgn_tool.specs.declared.files.CreateFault.{CreateFault}
 use Rattle.pgn_tool.specs.declared.split.Unsplit.{Unsplit}
 use Rattle.pgn_tool.specs.declared.split.Unsplit.TheVariants as unsplit
-use Rattle.pgn_tool.specs.Listing.{list_profile}
+use Rattle.pgn_tool.specs.ListLines.{list_profile}
 use Rattle.pgn_tool.specs.Files.{FileStep, added, closing_steps, number_after, open_text, whole_files}
-use Rattle.pgn_tool.specs.Splitting.{IsOwn, TurnResult, settled}
+use Rattle.pgn_tool.specs.SplitFiles.{IsOwn, TurnResult, settled}
 use Rattle.pgn_tool.specs.SplitState as state
 use Rattle.pgn_tool.specs.SplitGames.{IsSplit, IsSplitWhole, Logs, files_of, texts_in, torn_file, torn_text}
 use Rattle.pgn_tool.specs.SplitState.{AfterSplitEnd, FilesOf, SplitSoFar, SplitStopsAtEnd}
@@ -290,17 +290,17 @@ module _ {A : Type 0} (taken : A → Option (List ℕ)) (failures : A → ℕ) (
 
   write_ends : (f : Fault) (why : Unsplit) (refusal : Option CreateFault) → DueGrows
       → TurnResult taken failures (one_more count) log file after now refusal failed → f.reason ≡ WriteFault → 0 < failed
-      → settled {A = Bool} refusal (Err f) ≡ Err why → feeding.Stops list_profile so.tokens (tokens_of u) (open_text taken log file) (open_text taken after now) f → SplitStopsAtEnd u before closed_log why
-  write_ends _ why refusal grows turned is more settles (feeding.refused f fault gains) =
+      → settled {A = Bool} refusal (Err f) ≡ Err why → calls.Stops list_profile so.tokens (tokens_of u) (open_text taken log file) (open_text taken after now) f → SplitStopsAtEnd u before closed_log why
+  write_ends _ why refusal grows turned is more settles (calls.refused f fault gains) =
       absurd (no_own_write f.reason is (read_own list_profile no_progress (tokens_of u) f fault))
-  write_ends _ why refusal grows turned is more settles (feeding.unwritten at writing) =
+  write_ends _ why refusal grows turned is more settles (calls.unwritten at writing) =
       state.cut_file why
       (cuts taken failures before log after closed_log file now count failed u so.tokens (tokens_of u) [] at refusal why so.files turned more closes writing
       (games_same grows at _ _ writing) (sym (append-nil (tokens_of u))) (at_place refusal at writing.token.at why settles writing.place))
 
   own_ends : (f : Fault) → TurnResult taken failures (one_more count) log file after now None failed → failed ≡ 0 → IsOwn f.reason
-      → feeding.Stops list_profile so.tokens (tokens_of u) (open_text taken log file) (open_text taken after now) f → SplitStopsAtEnd u before closed_log (unsplit.Refused f)
-  own_ends _ turned zero own (feeding.refused f fault gains) = by_games adds
+      → calls.Stops list_profile so.tokens (tokens_of u) (open_text taken log file) (open_text taken after now) f → SplitStopsAtEnd u before closed_log (unsplit.Refused f)
+  own_ends _ turned zero own (calls.refused f fault gains) = by_games adds
     where
       by_games : AddsOne (read list_profile so.tokens).progress.games (read list_profile (tokens_of u)) → SplitStopsAtEnd u before closed_log (unsplit.Refused f)
       by_games (inl same) =
@@ -309,12 +309,12 @@ module _ {A : Type 0} (taken : A → Option (List ℕ)) (failures : A → ℕ) (
             files = files_left taken failures u [] old new before log after closed_log file now count failed so closes (tokens_of u) gains turned zero same;
           })
       by_games (inr (passes, more)) = absurd (not_both _ _ fault passes)
-  own_ends _ turned zero own (feeding.unwritten at writing) = absurd own
+  own_ends _ turned zero own (calls.unwritten at writing) = absurd own
 
   pub end_stops : (refusal : Option CreateFault) (answer : Result Bool Fault) (result : Result Bool Unsplit) (why : Unsplit) → DueGrows
-      → TurnResult taken failures (one_more count) log file after now refusal failed → feeding.CountsFault answer 0 failed
+      → TurnResult taken failures (one_more count) log file after now refusal failed → calls.CountsFault answer 0 failed
       → result ≡ settled refusal answer → result ≡ Err why
-      → feeding.AfterFinish list_profile u so.tokens new answer (open_text taken log file) (open_text taken after now) → SplitStopsAtEnd u before closed_log why
+      → calls.AfterFinish list_profile u so.tokens new answer (open_text taken log file) (open_text taken after now) → SplitStopsAtEnd u before closed_log why
   end_stops refusal (Ok x) result why grows turned counts settles is fed = absurd (split_not_both result x why (settles ∙ settled_ok refusal x) is)
   end_stops refusal (Err f) result why grows turned counts settles is fed = by_reason (own_or_write f.reason failed counts)
     where

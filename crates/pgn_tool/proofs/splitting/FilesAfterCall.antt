@@ -6,14 +6,14 @@ use Rattle.pgn_layout.specs.Device.{one_more}
 use Rattle.pgn_game.specs.declared.reason.Reason.TheVariants.{ReadFault, WriteFault, Changed}
 use Rattle.pgn_game.specs.declared.reason.Reason.{Reason}
 use Rattle.pgn_game.specs.declared.reason.Fault.{Fault}
-use Rattle.pgn_game.specs.Feeding as feeding
+use Rattle.pgn_game.specs.ConverterCalls as calls
 use Rattle.pgn_tool.specs.declared.files.CreateFault.{CreateFault}
 use Rattle.pgn_tool.specs.declared.files.CreateFault.TheVariants as creating
 use Rattle.pgn_tool.specs.declared.split.Unsplit.{Unsplit}
 use Rattle.pgn_tool.specs.declared.split.Unsplit.TheVariants as unsplit
 use Rattle.pgn_tool.specs.Files.{FileStep, added, closed, closing_steps, failures_in, is_text, made, number_after, opening_steps, refused, steps, whole_files, without_memory}
-use Rattle.pgn_tool.specs.Splitting.{FilesAfter, FilesSoFar, FilesStop, IsOwn, IsWell, LastFile, SplitFiles, StopsBy, TurnResult, by_input, by_memory, by_refusal, by_write, settled}
-use Rattle.pgn_tool.specs.Splitting as splitting
+use Rattle.pgn_tool.specs.SplitFiles.{FilesAfter, FilesSoFar, FilesStop, IsOwn, IsWell, LastFile, SplitFiles, StopsBy, TurnResult, by_input, by_memory, by_refusal, by_write, settled}
+use Rattle.pgn_tool.specs.SplitFiles as split_files
 
 -- ---- logs
 
@@ -53,7 +53,7 @@ pub never_open : (was is : Bool) → (was ≡ true → is ≡ true) → is ≡ f
 never_open false is stays shut = refl
 never_open true is stays shut = absurd (false≢true (sym shut ∙ stays refl))
 
-pub own_or_write : (reason : Reason) (failed : ℕ) → feeding.CountsReason reason 0 failed → ((reason ≡ WriteFault) × (0 < failed)) ⊎ (IsOwn reason × (failed ≡ 0))
+pub own_or_write : (reason : Reason) (failed : ℕ) → calls.CountsReason reason 0 failed → ((reason ≡ WriteFault) × (0 < failed)) ⊎ (IsOwn reason × (failed ≡ 0))
 own_or_write WriteFault failed counts = inl (refl, omega (arith, counts))
 own_or_write ReadFault failed counts = absurd counts
 own_or_write Changed failed counts = absurd counts
@@ -132,7 +132,7 @@ module _ {A : Type 0} (taken : A → Option (List ℕ)) (failures : A → ℕ) (
       (by_memory shut)
 
   pub fed_stops : {B : Type 0} → (refusal : Option CreateFault) (answer : Result B Fault) (result : Result B Unsplit) (why : Unsplit)
-      → TurnResult taken failures (one_more count) log file after now refusal failed → feeding.CountsFault answer 0 failed
+      → TurnResult taken failures (one_more count) log file after now refusal failed → calls.CountsFault answer 0 failed
       → result ≡ settled refusal answer → result ≡ Err why → FilesStop failures before after now why
   fed_stops None (Ok x) result why turned counts settles is = absurd (not_both result x why settles is)
   fed_stops (Some creating.Refused) (Ok x) result why turned counts settles is = absurd (not_both result x why settles is)
@@ -148,7 +148,7 @@ module _ {A : Type 0} (taken : A → Option (List ℕ)) (failures : A → ℕ) (
 
   -- the converter went on
   pub fed_well : {B : Type 0} → (refusal : Option CreateFault) (answer : Result B Fault) (result : Result B Unsplit) (x : B)
-      → TurnResult taken failures (one_more count) log file after now refusal failed → feeding.CountsFault answer 0 failed
+      → TurnResult taken failures (one_more count) log file after now refusal failed → calls.CountsFault answer 0 failed
       → result ≡ settled refusal answer → result ≡ Ok x → FilesSoFar before after now count × IsWell taken failures after now
   fed_well refusal (Ok y) result x turned counts settles is = fed_on refusal turned counts
   fed_well None (Err f) result x turned counts settles is = absurd (not_both result x _ is settles)
@@ -225,14 +225,14 @@ read_stops taken failures before log file count at so well = record {
 
 last_of : {A : Type 0} → (taken : A → Option (List ℕ)) (failures : A → ℕ) (n : ℕ) (file : Option A) (why : Unsplit) (last : List FileStep)
     → StopsBy failures n file why last → LastFile n (Err why) (last ++ closing_steps taken failures file)
-last_of taken failures n None _ _ (by_input f own zero) = splitting.not_begun f own
+last_of taken failures n None _ _ (by_input f own zero) = split_files.not_begun f own
 last_of taken failures n (Some out) _ _ (by_input f own zero) =
-    subst (λ k. LastFile n (Err (unsplit.Refused f)) (made (one_more n) ∷ closed (taken out) k ∷ [])) (sym zero) (splitting.torn f (taken out) own)
-last_of taken failures n None _ _ (by_refusal at shut) = splitting.not_made at
+    subst (λ k. LastFile n (Err (unsplit.Refused f)) (made (one_more n) ∷ closed (taken out) k ∷ [])) (sym zero) (split_files.torn f (taken out) own)
+last_of taken failures n None _ _ (by_refusal at shut) = split_files.not_made at
 last_of taken failures n (Some out) _ _ (by_refusal at shut) = absurd (false≢true (sym shut))
 last_of taken failures n None _ _ (by_write at more is) = absurd (false≢true is)
-last_of taken failures n (Some out) _ _ (by_write at more is) = splitting.unwritten at (failures out) (taken out) more
-last_of taken failures n None _ _ (by_memory shut) = splitting.no_memory
+last_of taken failures n (Some out) _ _ (by_write at more is) = split_files.unwritten at (failures out) (taken out) more
+last_of taken failures n None _ _ (by_memory shut) = split_files.no_memory
 last_of taken failures n (Some out) _ _ (by_memory shut) = absurd (false≢true (sym shut))
 
 pub split_ends : {A : Type 0} → (taken : A → Option (List ℕ)) (failures : A → ℕ) (before log after : Option (List FileStep)) (file : Option A) (count : ℕ)
@@ -240,7 +240,7 @@ pub split_ends : {A : Type 0} → (taken : A → Option (List ℕ)) (failures : 
     → SplitFiles before after answer
 split_ends taken failures before log after file count (Ok done) (so, well) logged =
     let all = closed_on taken failures before log after file None count _ so well logged refl refl in
-    record { texts = all.texts; last = []; logged = all.logged; ends = splitting.all_whole }
+    record { texts = all.texts; last = []; logged = all.logged; ends = split_files.all_whole }
 split_ends taken failures before log after file count (Err why) stop logged =
     record {
       texts = stop.texts;

@@ -16,9 +16,9 @@ use Rattle.pgn_game.specs.TagSection.{tag_section}
 use Rattle.pgn_game.specs.FaultTable.{refusal, result_for}
 use Rattle.pgn_game.specs.Text.{game_text, text_of, tokens_out, torn}
 use Rattle.pgn_game.specs.Progress.{Next, Read, progress_with, due, going, next, no_progress, read, read_from, whole}
-use Rattle.pgn_tool.specs.Listing.{list_profile}
+use Rattle.pgn_tool.specs.ListLines.{list_profile}
 use Rattle.pgn_tool.specs.Files.{FileStep, added, closed, closing_steps, failures_in, has_text, is_text, made, number_after, opening_steps, open_text, whole_files}
-use Rattle.pgn_tool.specs.Splitting.{IsWell, TurnResult}
+use Rattle.pgn_tool.specs.SplitFiles.{IsWell, TurnResult}
 use Rattle.pgn_tool.specs.SplitGames.{files_of, texts_in, torn_file, torn_text}
 use Rattle.pgn_tool.specs.SplitState.{FilesOf}
 use Rattle.pgn_tool.proofs.runs.TokensInTwoParts.{read_more, reads_on}

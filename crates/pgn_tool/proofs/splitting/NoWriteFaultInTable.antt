@@ -8,7 +8,7 @@ use Rattle.pgn_game.specs.Profile.{Profile}
 use Rattle.pgn_game.specs.Game.{Part}
 use Rattle.pgn_game.specs.FaultTable.{Row, first_holding, refusal, rows}
 use Rattle.pgn_game.specs.Progress.{Progress, Read, progress_after, read_from}
-use Rattle.pgn_tool.specs.Splitting.{IsOwn}
+use Rattle.pgn_tool.specs.SplitFiles.{IsOwn}
 use Rattle.pgn_tool.proofs.runs.TokensInTwoParts.{reads_on}
 
 abbrev AreOwn : List Row → Type 0

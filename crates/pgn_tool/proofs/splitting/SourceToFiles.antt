@@ -7,13 +7,13 @@ use Rattle.pgn_lexer.specs.TokensOf.{tokens_of}
 use Rattle.pgn_game.specs.declared.reason.Reason.TheVariants.{ReadFault, InputTooLong}
 use Rattle.pgn_game.specs.Text.{game_text, torn}
 use Rattle.pgn_game.specs.Progress.{Read, no_progress, read}
-use Rattle.pgn_game.specs.Feeding as feeding
-use Rattle.pgn_game.specs.Feeding.{Converter, Stands}
+use Rattle.pgn_game.specs.ConverterCalls as calls
+use Rattle.pgn_game.specs.ConverterCalls.{Converter, Stands}
 use Rattle.pgn_tool.specs.declared.split.Unsplit.{Unsplit}
 use Rattle.pgn_tool.specs.declared.split.Unsplit.TheVariants.{Refused}
-use Rattle.pgn_tool.specs.Listing.{list_profile}
+use Rattle.pgn_tool.specs.ListLines.{list_profile}
 use Rattle.pgn_tool.specs.Files.{FileStep, added, closing_steps, number_after, whole_files}
-use Rattle.pgn_tool.specs.Splitting.{IsWell}
+use Rattle.pgn_tool.specs.SplitFiles.{IsWell}
 use Rattle.pgn_tool.specs.SplitGames as games
 use Rattle.pgn_tool.specs.SplitState as state
 use Rattle.pgn_tool.specs.SplitGames.{IsSplit, IsSplitWhole, Logs, SplitResult, SplitsNoMore, SplitStops, files_of, torn_file}
@@ -76,7 +76,7 @@ module _ {A : Type 0} (taken : A → Option (List ℕ)) (failures : A → ℕ) (
 
   pub read_stops_at : (piece : List ℕ) (why : Unsplit) (after : Option (List FileStep)) → Consumes left left_new piece → SplitStopsInPiece so.bytes piece before after why
       → SplitStops left_old left_new before after why
-  read_stops_at piece _ after consumed (state.at_fault _ (feeding.at_token f to)) =
+  read_stops_at piece _ after consumed (state.at_fault _ (calls.at_token f to)) =
       games.rejected f (known_left left_old left_new (so.bytes ++ piece) (λ s. IsSplit s f before after) (read_all piece consumed)
       (λ more.
       let begun = to.next more in
@@ -86,7 +86,7 @@ module _ {A : Type 0} (taken : A → Option (List ℕ)) (failures : A → ℕ) (
         fault = ap (λ (r : Read). r.fault) same ∙ to.fault;
         files = same_files before after to.tokens (tokens_of ((so.bytes ++ piece) ++ more)) (sym same) to.files;
       }))
-  read_stops_at piece _ after consumed (state.at_fault _ (feeding.too_long front rest parts place some split)) =
+  read_stops_at piece _ after consumed (state.at_fault _ (calls.too_long front rest parts place some split)) =
       let text : so.bytes ++ piece ≡ (so.bytes ++ front) ++ rest = ap (λ xs. so.bytes ++ xs) parts ∙ sym (append_assoc so.bytes front rest) in
       subst (λ n. SplitStops left_old left_new before after (Refused (record { at = n; reason = InputTooLong }))) place
       (games.too_long (so.bytes ++ front) rest (subst (Consumes left_old left_new) text (read_all piece consumed)) place some split)

@@ -4,7 +4,7 @@ use Rattle.pgn_layout.specs.Device.{device, one_more}
 use Rattle.pgn_game.specs.Checked.{checked_profile}
 use Rattle.pgn_game.specs.Pass.{Pass, model_mark}
 use Rattle.pgn_game.proofs.twice.FailuresOfSteps.{read_fails, second_counts, source_fails}
-use Rattle.pgn_game.proofs.twice.MarksInTurn.{followed_mark}
+use Rattle.pgn_game.proofs.twice.MarksInTurn.{matched_mark}
 use Rattle.pgn_game.proofs.twice.ReadingsToConversion.{both_end, both_more, both_none, first_stops, second_stops}
 use Rattle.pgn_game.proofs.checked.convert_checked.Goals as goal
 
@@ -55,7 +55,7 @@ loop-mark-preserved g c =
     let goes_on = rw c.in-Some.is at c.in_ok-mark.ensures.going in
     let first = reads q _ x.first_tokens x.marks refl x.first_given x.marked in
     let second =
-    c.in_ok-write_game.ensures.writes q _ x.second_tokens (x.marks ++ mark ∷ []) refl x.second_given x.between (followed_mark q x.marks mark x.second_tokens x.followed) in
+    c.in_ok-write_game.ensures.writes q _ x.second_tokens (x.marks ++ mark ∷ []) refl x.second_given x.between (matched_mark q x.marks mark x.second_tokens x.matched) in
     record {
       first_going = goes_on.0;
       second_going = second.goes_on;
@@ -82,7 +82,7 @@ returns-in_err-write_game-clause-converts g c =
     (device g.R.Source.left g.R.Source.failures c.args.second.now c.write_game.new.source) (device g.W.Sink.taken g.W.Sink.failures c.args.writer.now c.write_game.new.out) _ _ _
     c.loop-mark.ahead c.loop-mark.behind x c.in-Some.mark c.read_game.new.self f refl first
     (λ is. source_fails f.reason _ _ _ _ c.in_err-write_game.ensures.counted is ∙ ap one_more so.second)
-    (c.in_err-write_game.ensures.writes q _ x.second_tokens (x.marks ++ mark ∷ []) refl x.second_given x.between (followed_mark q x.marks mark x.second_tokens x.followed)))
+    (c.in_err-write_game.ensures.writes q _ x.second_tokens (x.marks ++ mark ∷ []) refl x.second_given x.between (matched_mark q x.marks mark x.second_tokens x.matched)))
 
 pub returns-in_err-write_game-clause-counted : goal.returns-in_err-write_game-clause-counted
 returns-in_err-write_game-clause-counted g c =

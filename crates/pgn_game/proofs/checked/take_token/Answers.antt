@@ -4,7 +4,7 @@ use Rattle.pgn_lexer.specs.Scanned.{kind_of}
 use Rattle.pgn_game.specs.declared.marker.Marker.{Marker}
 use Rattle.pgn_game.specs.declared.checked.Mark.{Mark as CodeMark}
 use Rattle.pgn_game.specs.Markers.{marker_text}
-use Rattle.pgn_game.specs.Reading.{Reading}
+use Rattle.pgn_game.specs.ReaderState.{ReaderState}
 use Rattle.pgn_game.proofs.tokens.StepsAtEnd.{marker_or_end}
 use Rattle.pgn_game.proofs.twice.AcceptedToTaken.{agrees_set, counting_new, fails, fails_at_end, fails_marks, is_none, taken_end, taken_game, taken_more, with_marker}
 use Rattle.pgn_game.proofs.checked.take_token.Goals as goal

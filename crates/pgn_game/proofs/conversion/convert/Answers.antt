@@ -2,7 +2,7 @@ use Rattle.std.proofs.Common.{◌≡◌, ◌<◌, length, take, refl, sym, ap, s
 use Rattle.std.proofs.lemmas.Result.{err_from_is_err_and}
 use Rattle.pgn_game.proofs.tokens.WholeInput.{read_none, read_more, unread, stops_in_piece, ends_here, short_input}
 use Rattle.pgn_layout.specs.Device.{one_more}
-use Rattle.pgn_game.specs.Feeding.{CountsFault, CountsReason}
+use Rattle.pgn_game.specs.ConverterCalls.{CountsFault, CountsReason}
 use Rattle.pgn_game.proofs.ReasonToDevice.{devices_of, counts_end}
 use Rattle.pgn_game.proofs.conversion.convert.Goals as goal
 

@@ -1,6 +1,6 @@
 use Rattle.std.proofs.Common.{◌≡◌, ◌≤◌, ◌-◌, ◌^◌, None, false, length}
-use Rattle.pgn_game.specs.Feeding.{profile_of}
-use Rattle.pgn_game.specs.Converting.{ReadSoFar}
+use Rattle.pgn_game.specs.ConverterCalls.{profile_of}
+use Rattle.pgn_game.specs.Conversion.{ReadSoFar}
 use Rattle.pgn_game.proofs.conversion.convert.Given as goal
 
 abbrev pub invariant-loop-converter : goal.invariant-loop-converter

@@ -10,7 +10,7 @@ use Rattle.pgn_game.specs.declared.reason.Reason.{Reason}
 use Rattle.pgn_game.specs.declared.reason.Reason.TheVariants.{MoveLimit}
 use Rattle.pgn_game.specs.Chess.{move_of}
 use Rattle.pgn_game.specs.FaultTable.{is_at_limit}
-use Rattle.pgn_game.specs.Finding.{found_in}
+use Rattle.pgn_game.specs.FoundMove.{found_in}
 use Rattle.pgn_game.specs.Tried.{Costs, CostsForm, CostsAnswer}
 use Rattle.pgn_game.proofs.find.find_move.Goals as goal
 

@@ -3,7 +3,7 @@ use Rattle.std.specs.Prelude.{codes}
 use Rattle.std.proofs.lemmas.Result.{err_from_is_err_and}
 use Rattle.std.proofs.KnownBytes.{Appends-trans}
 use Rattle.pgn_layout.specs.TagLine.{tag_line}
-use Rattle.pgn_game.specs.Holding.{index_of}
+use Rattle.pgn_game.specs.StoredPairs.{index_of}
 use Rattle.pgn_game.specs.Pairs.{Pair, has_pair}
 use Rattle.pgn_game.specs.SectionLines.{text_by, other_line}
 use Rattle.pgn_game.specs.TagSection.{other_pairs, tag_lines, with_set_up}

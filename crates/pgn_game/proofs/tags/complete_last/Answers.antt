@@ -2,7 +2,7 @@ use Rattle.std.proofs.Common.{◌≡◌, ℕ, ◌+◌, ◌≤◌, List, length, 
 use Rattle.std.specs.Prelude.{insert, IsSomeAnd}
 use Rattle.pgn_layout.specs.TagLine.{escaped}
 use Rattle.pgn_game.specs.Pairs.{Pair}
-use Rattle.pgn_game.specs.Holding.{index_of, last_name}
+use Rattle.pgn_game.specs.StoredPairs.{index_of, last_name}
 use Rattle.pgn_game.proofs.pairs.SortedPairs.{insert-place, last_name-snoc, finished-last}
 use Rattle.pgn_game.proofs.tags.complete_last.Goals as goal
 

@@ -1,9 +1,9 @@
 use Rattle.std.proofs.Common.{◌∙◌, ap, refl, sym}
 use Rattle.std.specs.Prelude.{Err, Ok}
 use Rattle.pgn_layout.specs.Device.{device}
-use Rattle.pgn_tool.specs.RunningTwice.{profile_twice}
+use Rattle.pgn_tool.specs.CheckedRun.{profile_twice}
 use Rattle.pgn_tool.proofs.runs.ConversionToRun.{concludes_as, flush_failed, flush_still}
-use Rattle.pgn_tool.proofs.runs.ConversionTwiceToRun.{blames_twice_of, converts_twice_on}
+use Rattle.pgn_tool.proofs.runs.CheckedConversionToRun.{blames_twice_of, converts_twice_on}
 use Rattle.pgn_tool.proofs.checked.export_twice.Goals as goal
 
 pub returns-in-Ok : goal.returns-in-Ok

@@ -1,7 +1,7 @@
 use Rattle.std.proofs.Common.{◌∙◌, ap, sym}
-use Rattle.pgn_tool.specs.RunningTwice.{checked_mode}
+use Rattle.pgn_tool.specs.CheckedRun.{checked_mode}
 use Rattle.pgn_tool.proofs.runs.ConversionTwiceToFront.{twice_front}
-use Rattle.pgn_tool.proofs.runs.ConversionTwiceToRun.{same_answers, twice_answers, twice_as, twice_status, twice_still}
+use Rattle.pgn_tool.proofs.runs.CheckedConversionToRun.{same_answers, twice_answers, twice_as, twice_status, twice_still}
 use Rattle.pgn_tool.proofs.checked.run_checked.Goals as goal
 
 pub returns-clause-runs : goal.returns-clause-runs

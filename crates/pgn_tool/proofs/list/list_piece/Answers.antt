@@ -1,6 +1,6 @@
 use Rattle.std.proofs.Common.{◌∙◌, ◌++◌, [], arith, refl, subst, take, drop, length-drop}
 use Rattle.std.proofs.lemmas.List.{take_rest}
-use Rattle.pgn_tool.specs.Listing.{CutsLine}
+use Rattle.pgn_tool.specs.ListLines.{CutsLine}
 use Rattle.pgn_tool.specs.ListState.{ListedSoFar}
 use Rattle.pgn_tool.proofs.runs.CallToLines.{game_cut, game_on, own_follows, piece_begins, rest_listed, rest_stops, stops_further, whole}
 use Rattle.pgn_tool.proofs.list.list_piece.Goals as goal

@@ -1,5 +1,5 @@
 use Rattle.std.proofs.Common.{rules, subst}
-use Rattle.pgn_game.specs.Feeding.{Ends}
+use Rattle.pgn_game.specs.ConverterCalls.{Ends}
 use Rattle.pgn_tool.specs.Files.{open_text}
 use Rattle.pgn_tool.proofs.split.finish_game.Goals as goal
 

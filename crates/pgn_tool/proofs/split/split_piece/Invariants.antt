@@ -3,7 +3,7 @@ use Rattle.std.proofs.Common.{◌≡◌, ◌≤◌, ◌+◌, ◌-◌, ◌*◌, N
 use Rattle.pgn_lexer.specs.Standing.{waiting}
 use Rattle.pgn_tool.specs.Files.{FileStep}
 use Rattle.pgn_tool.specs.SplitState.{SplitFrontResult}
-use Rattle.pgn_tool.specs.Splitting.{FilesSoFar, IsWell}
+use Rattle.pgn_tool.specs.SplitFiles.{FilesSoFar, IsWell}
 use Rattle.pgn_tool.proofs.split.split_piece.Given as goal
 
 abbrev pub invariant-loop-used : goal.invariant-loop-used

@@ -1,6 +1,6 @@
 use Rattle.std.proofs.Common.{◌≡◌, ◌≤◌, ◌-◌, ◌^◌, None, false, length}
 use Rattle.pgn_tool.specs.SplitState.{SourceSplitSoFar}
-use Rattle.pgn_tool.specs.Splitting.{FilesSoFar, IsWell}
+use Rattle.pgn_tool.specs.SplitFiles.{FilesSoFar, IsWell}
 use Rattle.pgn_tool.proofs.split.split_source.Given as goal
 
 abbrev pub invariant-loop-converter : goal.invariant-loop-converter

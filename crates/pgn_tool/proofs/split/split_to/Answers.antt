@@ -3,7 +3,7 @@ use Rattle.std.specs.Prelude.{Result, Err}
 use Rattle.pgn_layout.specs.Device.{device}
 use Rattle.pgn_tool.specs.declared.split.Unsplit.{Unsplit}
 use Rattle.pgn_tool.specs.declared.split.Unsplit.TheVariants.{NoMemory, Refused}
-use Rattle.pgn_tool.specs.Splitting.{EndsSplit}
+use Rattle.pgn_tool.specs.SplitFiles.{EndsSplit}
 use Rattle.pgn_tool.proofs.splitting.FilesAfterCall.{split_ends}
 use Rattle.pgn_tool.proofs.split.split_to.Goals as goal
 

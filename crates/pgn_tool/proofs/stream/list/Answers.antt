@@ -2,7 +2,7 @@ use Rattle.std.proofs.Common.{◌≡◌, ◌∙◌, ap, refl, subst, sym}
 use Rattle.std.specs.Prelude.{Err, Ok, Result}
 use Rattle.pgn_tool.specs.declared.list.Stopped.{Stopped}
 use Rattle.pgn_tool.specs.declared.list.Stopped.TheVariants.{Refused, Unwritten}
-use Rattle.pgn_tool.specs.Listing.{CountsList, ListResult}
+use Rattle.pgn_tool.specs.ListLines.{CountsList, ListResult}
 use Rattle.pgn_tool.proofs.runs.ConversionToRun.{concludes_as, flush_failed, flush_still, list_blames, lists_on, risen}
 use Rattle.pgn_tool.proofs.stream.list.Goals as goal
 

@@ -4,7 +4,7 @@ use Rattle.std.proofs.KnownBytes.{Consumes-nil}
 use Rattle.pgn_game.specs.Progress.{no_progress}
 use Rattle.pgn_game.specs.Game.{no_part}
 use Rattle.pgn_game.specs.MostTried.{MostTried, none}
-use Rattle.pgn_game.specs.Reading.{Reading, Agrees, whole_plies}
+use Rattle.pgn_game.specs.ReaderState.{ReaderState, Agrees, whole_plies}
 use Rattle.pgn_game.specs.Checked.{checked_profile}
 use Rattle.pgn_game.specs.Pass.{reading_under}
 use Rattle.pgn_game.proofs.checked.Pass.new.Goals as goal
@@ -22,12 +22,12 @@ returns-clause-given g c left =
         profile = refl;
         no_fault = refl;
         passes = refl;
-        agrees = subst (λ (r : Reading). Agrees (reading_under q r) no_part) (sym is) (record { stage = refl; pairs = refl; text = refl });
+        agrees = subst (λ (r : ReaderState). Agrees (reading_under q r) no_part) (sym is) (record { stage = refl; pairs = refl; text = refl });
         games = refl;
         plies = ap whole_plies is;
         probed = λ moves. absurd (cc);
-        tried = subst (MostTried q []) (sym (ap (λ (r : Reading). r.most_probes) is)) (none no_progress);
+        tried = subst (MostTried q []) (sym (ap (λ (r : ReaderState). r.most_probes) is)) (none no_progress);
         just_finished = tt;
       };
-      profile = (codes "*", ap (λ (r : Reading). r.profile) is);
+      profile = (codes "*", ap (λ (r : ReaderState). r.profile) is);
     }

@@ -21,30 +21,30 @@ loop-fault-preserved g c =
       mark = refl;
       source = c.in-Ok-More.ensures.counted.0 ∙ so.source;
       sink = c.in-Ok-More.ensures.counted.1 ∙ so.sink;
-      writes = λ q left_old given ms takes has between followed.
-          let x = so.writes q left_old given ms takes has between followed in
+      writes = λ q left_old given ms takes has between matched.
+          let x = so.writes q left_old given ms takes has between matched in
           write_more q left_old (g.R.Source.left c.loop-fault.source) (g.R.Source.left c.step.new.source) ms c.args.mark given c.loop-fault.self c.step.new.self
           (g.W.Sink.taken c.args.out.now) (g.W.Sink.taken c.loop-fault.out) (g.W.Sink.taken c.step.new.out) takes x keeps.under (step q left_old x.tokens takes x.has_given);
     }
 
 pub returns-in-Ok-Game-clause-writes : goal.returns-in-Ok-Game-clause-writes
-returns-in-Ok-Game-clause-writes g c q left_old given ms takes has between followed =
+returns-in-Ok-Game-clause-writes g c q left_old given ms takes has between matched =
     let step = rw c.in-Ok-Game.field-0-is at c.in-Ok-Game.ensures.takes in
     let keeps = rw c.in-Ok-Game.field-0-is at c.in-Ok-Game.ensures.keeps in
-    let x = c.loop-fault.invariant.writes q left_old given ms takes has between followed in
+    let x = c.loop-fault.invariant.writes q left_old given ms takes has between matched in
     write_game q left_old (g.R.Source.left c.loop-fault.source) (g.R.Source.left c.step.new.source) ms c.args.mark given c.loop-fault.self c.step.new.self
     (g.W.Sink.taken c.args.out.now) (g.W.Sink.taken c.loop-fault.out) (g.W.Sink.taken c.step.new.out) takes x c.in-Ok-Game.field-0-0 keeps.going keeps.under (step q left_old x.tokens takes x.has_given)
 
 pub returns-in-Ok-End-clause-writes : goal.returns-in-Ok-End-clause-writes
-returns-in-Ok-End-clause-writes g c q left_old given ms takes has between followed =
+returns-in-Ok-End-clause-writes g c q left_old given ms takes has between matched =
     let step = rw c.in-Ok-End.field-0-is at c.in-Ok-End.ensures.takes in
-    let x = c.loop-fault.invariant.writes q left_old given ms takes has between followed in
+    let x = c.loop-fault.invariant.writes q left_old given ms takes has between matched in
     absurd (no_end_within q left_old (g.R.Source.left c.loop-fault.source) (g.R.Source.left c.step.new.source) ms c.args.mark given c.loop-fault.self c.step.new.self
     (g.W.Sink.taken c.args.out.now) (g.W.Sink.taken c.loop-fault.out) (g.W.Sink.taken c.step.new.out) takes x (step q left_old x.tokens takes x.has_given))
 
 pub returns-in-Err-clause-writes : goal.returns-in-Err-clause-writes
-returns-in-Err-clause-writes g c q left_old given ms takes has between followed =
-    let x = c.loop-fault.invariant.writes q left_old given ms takes has between followed in
+returns-in-Err-clause-writes g c q left_old given ms takes has between matched =
+    let x = c.loop-fault.invariant.writes q left_old given ms takes has between matched in
     rw c.changed.ensures
     (write_fault q left_old (g.R.Source.left c.loop-fault.source) (g.R.Source.left c.step.new.source) ms c.args.mark given c.loop-fault.self c.step.new.self
     (g.W.Sink.taken c.args.out.now) (g.W.Sink.taken c.loop-fault.out) (g.W.Sink.taken c.step.new.out) takes x c.in-Err.fault c.in-Err.ensures.keeps

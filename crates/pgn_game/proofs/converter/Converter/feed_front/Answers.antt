@@ -4,7 +4,7 @@ use Rattle.pgn_game.specs.declared.accepted.Accepted.TheVariants.{More, Finished
 use Rattle.std.proofs.Math.Nat.{add_assoc}
 use Rattle.std.proofs.lemmas.List.{take_rest}
 use Rattle.pgn_lexer.specs.Standing.{waiting}
-use Rattle.pgn_game.specs.Feeding.{Converter, Stands}
+use Rattle.pgn_game.specs.ConverterCalls.{Converter, Stands}
 use Rattle.pgn_game.proofs.ReaderFitsInMemory.{fits_alike}
 use Rattle.pgn_game.proofs.tokens.StepsAtEnd.{sound_at_none}
 use Rattle.pgn_game.proofs.tokens.StepsInPiece.{lets_go, so_far_none, fed_behind, stands_here, so_far_more, fed_all, fed_game, fed_fault, counts_step, none_just_finished}

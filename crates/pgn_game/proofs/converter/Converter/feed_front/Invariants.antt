@@ -1,6 +1,6 @@
 use Rattle.std.proofs.Common.{◌≡◌, ◌≤◌, ◌+◌, ◌-◌, ◌*◌, None, false, length}
 use Rattle.pgn_lexer.specs.Standing.{waiting}
-use Rattle.pgn_game.specs.Stepping.{FeedsSoFar}
+use Rattle.pgn_game.specs.ConverterSteps.{FeedsSoFar}
 use Rattle.pgn_game.proofs.converter.Converter.feed_front.Given as goal
 
 abbrev pub invariant-loop-at : goal.invariant-loop-at

@@ -2,8 +2,8 @@ use Rattle.std.proofs.Common.{◌-◌, [], refl, sym, ap, subst}
 use Rattle.pgn_game.specs.Progress.{no_progress}
 use Rattle.pgn_game.specs.Game.{no_part}
 use Rattle.pgn_game.specs.MostTried.{MostTried, none}
-use Rattle.pgn_game.specs.Reading.{Reading, Agrees, whole_plies}
-use Rattle.pgn_game.specs.Feeding.{profile_of}
+use Rattle.pgn_game.specs.ReaderState.{ReaderState, Agrees, whole_plies}
+use Rattle.pgn_game.specs.ConverterCalls.{profile_of}
 use Rattle.pgn_game.proofs.converter.Converter.new.Goals as goal
 
 pub returns-clause-stands : goal.returns-clause-stands
@@ -12,14 +12,14 @@ returns-clause-stands g c =
     record {
       lexer = c.new.ensures.stands;
       has_read = record {
-        profile = ap (λ (r : Reading). r.profile) is;
+        profile = ap (λ (r : ReaderState). r.profile) is;
         no_fault = refl;
         passes = refl;
-        agrees = subst (λ (r : Reading). Agrees r no_part) (sym is) (record { stage = refl; pairs = refl; text = refl });
+        agrees = subst (λ (r : ReaderState). Agrees r no_part) (sym is) (record { stage = refl; pairs = refl; text = refl });
         games = refl;
         plies = ap whole_plies is;
         probed = λ moves. absurd (cc);
-        tried = subst (MostTried (profile_of g.row.T (g.row.L - 1) c.args.mode) []) (sym (ap (λ (r : Reading). r.most_probes) is)) (none no_progress);
+        tried = subst (MostTried (profile_of g.row.T (g.row.L - 1) c.args.mode) []) (sym (ap (λ (r : ReaderState). r.most_probes) is)) (none no_progress);
         just_finished = tt;
       };
     }

@@ -1,10 +1,10 @@
 use Rattle.std.proofs.Common.{◌+◌, ◌*◌, ◌<◌, is_some, arith, sym, ap, subst, refl, ◌∙◌}
-use Rattle.pgn_game.specs.Stepping.{games_after, finished_game as is_of_game}
+use Rattle.pgn_game.specs.ConverterSteps.{games_after, finished_game as is_of_game}
 use Rattle.pgn_game.proofs.tokens.StepsAtEnd.{counts_token}
 use Rattle.pgn_game.proofs.ReaderFitsInMemory.{fits_reader}
 use Rattle.pgn_lexer.specs.Standing.{waiting}
 use Rattle.pgn_lexer.specs.Stands.{first}
-use Rattle.pgn_game.specs.Feeding.{Stands, Converter}
+use Rattle.pgn_game.specs.ConverterCalls.{Stands, Converter}
 use Rattle.pgn_game.proofs.tokens.AcceptedToConverter.{is_some_held, advances_token, took, took_none, took_fault, follows_own}
 use Rattle.pgn_game.proofs.converter.Converter.step.Goals as goal
 

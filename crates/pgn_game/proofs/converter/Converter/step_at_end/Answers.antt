@@ -1,10 +1,10 @@
 use Rattle.std.proofs.Common.{arith, sym, ap, subst, refl, ◌∙◌}
-use Rattle.pgn_game.specs.Feeding.{Converter, HasRead, game_in_reader_if}
+use Rattle.pgn_game.specs.ConverterCalls.{Converter, HasRead, game_in_reader_if}
 use Rattle.pgn_lexer.specs.Scanned.{kind_of}
 use Rattle.pgn_lexer.specs.Stands.{HasLeft}
 use Rattle.pgn_game.proofs.tokens.StepsAtEnd.{sound_behind_fault, closes_sooner, closes, closes_fault, left_by, not_just_finished, fault_of_closed, games_of_closed, counts_closed, counts_token, nearer_by, sound_behind}
 use Rattle.pgn_game.specs.FaultTable.{is_end}
-use Rattle.pgn_game.specs.Stepping.{games_after, outcome_at, none_at_end, StepAtEndAdvances}
+use Rattle.pgn_game.specs.ConverterSteps.{games_after, outcome_at, none_at_end, StepAtEndAdvances}
 use Rattle.pgn_game.proofs.ReaderFitsInMemory.{fits_reader}
 use Rattle.pgn_game.proofs.converter.Converter.step_at_end.Goals as goal
 

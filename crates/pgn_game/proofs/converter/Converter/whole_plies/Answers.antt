@@ -1,8 +1,8 @@
 use Rattle.std.proofs.Common.{◌≡◌, ℕ, arith, refl, sym, ap, ◌∙◌}
-use Rattle.pgn_game.specs.Reading.{whole_plies, plies_behind}
+use Rattle.pgn_game.specs.ReaderState.{whole_plies, plies_behind}
 use Rattle.pgn_game.specs.declared.stage.Stage.{Stage}
 use Rattle.pgn_game.specs.declared.stage.Stage.TheVariants.{Between, AfterLeftBracket, AfterName, AfterValue, AfterTags, InMovetext}
-use Rattle.pgn_game.specs.Feeding.{Converter}
+use Rattle.pgn_game.specs.ConverterCalls.{Converter}
 use Rattle.pgn_game.proofs.ReaderFitsInMemory.{fits_reader}
 use Rattle.pgn_game.proofs.converter.Converter.whole_plies.Goals as goal
 

@@ -1,6 +1,6 @@
 use Rattle.std.proofs.Common.{subst}
 use Rattle.pgn_game.specs.Movetext.{Movetext}
-use Rattle.pgn_game.specs.Putting.{GoesOn}
+use Rattle.pgn_game.specs.ItemResult.{GoesOn}
 use Rattle.pgn_game.proofs.putting.ItemToMovetext.{adds_put, adds_front}
 use Rattle.pgn_game.proofs.movetext.Movetext.put.Goals as goal
 

@@ -2,7 +2,7 @@ use Rattle.std.proofs.Common.{rules, ◌∷◌, [], List, ℕ, ap, subst, ◌∙
 use Rattle.pgn_layout.specs.Device.{device}
 use Rattle.pgn_game.specs.Chess.{text_of_move}
 use Rattle.pgn_game.specs.Movetext.{Movetext}
-use Rattle.pgn_game.specs.Putting.{PutsTokens, number_due}
+use Rattle.pgn_game.specs.ItemResult.{PutsTokens, number_due}
 use Rattle.pgn_game.proofs.putting.ItemToMovetext.{puts_after, puts_fail, is_text, is_token, writes_move}
 use Rattle.pgn_game.proofs.movetext.Movetext.write_move.Goals as goal
 

@@ -1,8 +1,8 @@
 use Rattle.std.proofs.Common.{◌∙◌, arith}
 use Rattle.std.proofs.KnownBytes.{Appends-nil}
 use Rattle.pgn_lexer.specs.Scanned.{kind_of}
-use Rattle.pgn_game.specs.Reading as reading
-use Rattle.pgn_game.specs.Judging.{after}
+use Rattle.pgn_game.specs.ReaderState as reader_state
+use Rattle.pgn_game.specs.Judgement.{after}
 use Rattle.pgn_game.proofs.ReaderFitsInMemory.{reader_alike}
 use Rattle.pgn_game.proofs.tokens.JudgedToAccepted.{accepted, refused, counts_refused, keeps_found, stays_found, finishes_at_marker}
 use Rattle.pgn_game.proofs.tokens.PairsTriedForToken.{raises, raises_refused}
@@ -52,7 +52,7 @@ returns-in-Err g c =
       accepts = λ part agrees.
           let some = refused c.args.self.now c.make_ready.new.self c.find-found.new.self part c.args.kind c.in-Err.reason agrees c.make_ready.ensures c.find-found.ensures.counted
           c.in-Err.ensures.judges in
-          reading.refused c.in-Err.reason some (Appends-nil _)
+          reader_state.refused c.in-Err.reason some (Appends-nil _)
           (raises_refused g.row.T g.row.L c.args.self.now c.make_ready.new.self c.find-found.new.self part c.args.kind _ agrees c.make_ready.ensures c.find-found.ensures.counted keeps.ready
           c.find-found.ensures.tried c.find-found.ensures.most c.in-Err.reason some);
       profile = keeps.profile;

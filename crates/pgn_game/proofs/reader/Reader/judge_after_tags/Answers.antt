@@ -6,18 +6,18 @@ use Rattle.pgn_game.specs.declared.judged.Judged.TheVariants.{PairOpen}
 use Rattle.pgn_game.specs.declared.reason.Reason.TheVariants.{SetUpWithoutFen, TooManyTags, UnexpectedEnd}
 use Rattle.pgn_game.specs.declared.stage.Stage.TheVariants.{AfterTags}
 use Rattle.pgn_game.specs.Game.{Part}
-use Rattle.pgn_game.specs.Holding.{TagPairs}
+use Rattle.pgn_game.specs.StoredPairs.{TagPairs}
 use Rattle.pgn_game.specs.FaultTable.{refusal}
 use Rattle.pgn_game.specs.Progress.{next}
-use Rattle.pgn_game.specs.Reading.{Reading, Agrees}
-use Rattle.pgn_game.specs.Judging.{may_have_movetext}
+use Rattle.pgn_game.specs.ReaderState.{ReaderState, Agrees}
+use Rattle.pgn_game.specs.Judgement.{may_have_movetext}
 use Rattle.pgn_game.proofs.judging.RefusalsByStage.{hit, pass, end_after_tags, open_refusal, open_next, refuses_set_up}
 use Rattle.pgn_game.proofs.judging.HandlersToRows.{no_bracket, no_end, lacks_of}
 use Rattle.pgn_game.proofs.judging.PartsToJudgement.{refused, goes, entry_at, free_after_tags, part_stage, held_at}
 use Rattle.pgn_game.proofs.reader.Reader.judge_after_tags.Goals as goal
 
 -- how many pairs the part has
-held_of : (old : Reading) (part : Part) → Agrees old part → old.stage ≡ AfterTags → length old.tags.held ≡ length part.pairs
+held_of : (old : ReaderState) (part : Part) → Agrees old part → old.stage ≡ AfterTags → length old.tags.held ≡ length part.pairs
 held_of old part agrees at = ap (λ (t : TagPairs). length t.held) (held_at old part AfterTags agrees at)
 
 pub returns-in-End : goal.returns-in-End
@@ -30,9 +30,9 @@ pub returns-then-is_full : goal.returns-then-is_full
 returns-then-is_full g c =
     let old = c.args.self.now in
     let v = c.self.view_is in
-    let most : g.row.T ≡ old.profile.tags = ap (λ (r : Reading). r.profile.tags) v in
+    let most : g.row.T ≡ old.profile.tags = ap (λ (r : ReaderState). r.profile.tags) v in
     let full : length c.self.inside.tags.held ≡ g.row.T = c.if-is_full.ensures.full.0 refl in
-    let held : length c.self.inside.tags.held ≡ length old.tags.held = ap (λ (r : Reading). length r.tags.held) v in
+    let held : length c.self.inside.tags.held ≡ length old.tags.held = ap (λ (r : ReaderState). length r.tags.held) v in
     refused g.row.T g.row.L old (kind_of c.args.kind) TooManyTags refl (λ part agrees.
     ap (λ (k : TokenKind). refusal old.profile part (kind_of k)) c.in-LeftBracket.is ∙ open_refusal old.profile part (part_stage old part AfterTags agrees c.requires.stage)
     ∙ hit _ _ _ (le-leb old.profile.tags (length part.pairs) (omega (arith, most, full, held, held_of old part agrees c.requires.stage))))
@@ -41,10 +41,10 @@ pub returns-else-is_full : goal.returns-else-is_full
 returns-else-is_full g c =
     let old = c.args.self.now in
     let v = c.self.view_is in
-    let most : g.row.T ≡ old.profile.tags = ap (λ (r : Reading). r.profile.tags) v in
+    let most : g.row.T ≡ old.profile.tags = ap (λ (r : ReaderState). r.profile.tags) v in
     let full : length c.self.inside.tags.held ≡ g.row.T → ⊥ = λ e. false≢true (c.if-is_full.ensures.full.1 e) in
     let room : length c.self.inside.tags.held ≤ g.row.T = c.if-is_full.ensures.room in
-    let held : length c.self.inside.tags.held ≡ length old.tags.held = ap (λ (r : Reading). length r.tags.held) v in
+    let held : length c.self.inside.tags.held ≡ length old.tags.held = ap (λ (r : ReaderState). length r.tags.held) v in
     goes g.row.T g.row.L old (kind_of c.args.kind) PairOpen (c.requires.stage, omega (arith, full, room, held)) (λ e. absurd (cc)) (λ part agrees.
     let at = part_stage old part AfterTags agrees c.requires.stage in (
       ap (λ (k : TokenKind). refusal old.profile part (kind_of k)) c.in-LeftBracket.is ∙ open_refusal old.profile part at

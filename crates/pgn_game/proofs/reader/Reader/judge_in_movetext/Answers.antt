@@ -4,7 +4,7 @@ use Rattle.pgn_lexer.specs.declared.token.TokenKind.{TokenKind}
 use Rattle.pgn_game.specs.declared.reason.Reason.TheVariants.{TagInMovetext, UnexpectedEnd}
 use Rattle.pgn_game.specs.declared.stage.Stage.TheVariants.{InMovetext}
 use Rattle.pgn_game.specs.FaultTable.{refusal}
-use Rattle.pgn_game.specs.Judging.{may_have_movetext}
+use Rattle.pgn_game.specs.Judgement.{may_have_movetext}
 use Rattle.pgn_game.proofs.judging.RefusalsByStage.{end_in_movetext, bracket_in_movetext}
 use Rattle.pgn_game.proofs.judging.HandlersToRows.{no_bracket, no_end}
 use Rattle.pgn_game.proofs.judging.PartsToJudgement.{refused, entry_at, free_in_movetext, part_stage}

@@ -8,9 +8,9 @@ use Rattle.pgn_game.specs.declared.reason.Reason.TheVariants.{MarkerInVariation,
 use Rattle.pgn_game.specs.Markers.{marker_text}
 use Rattle.pgn_game.specs.Pairs.{Pair, value_of}
 use Rattle.pgn_game.specs.Levels.{depth}
-use Rattle.pgn_game.specs.Holding.{TagPairs}
+use Rattle.pgn_game.specs.StoredPairs.{TagPairs}
 use Rattle.pgn_game.specs.FaultTable.{levels_of_part}
-use Rattle.pgn_game.specs.Reading.{Reading}
+use Rattle.pgn_game.specs.ReaderState.{ReaderState}
 use Rattle.pgn_game.proofs.judging.PartsToJudgement.{entry_refused, entry_goes}
 use Rattle.pgn_game.proofs.judging.RefusalsInMovetext.{depth_is, marker_inside, marker_differs, marker_free, marker_whole, none_around, test_of, differs}
 use Rattle.pgn_game.proofs.reader.Reader.judge_marker.Goals as goal
@@ -20,7 +20,7 @@ returns-then-depth-gt0 g c = λ k is.
     let old = c.args.self.now in
     entry_refused g.row.T g.row.L old (kind_of k) MarkerInVariation refl (λ part op.
     marker_inside old k c.args.marker.now part is (le-leb 1 (depth (levels_of_part part))
-    (omega (arith, c.if-depth-gt0.true, c.depth.ensures.value, depth_is old part op, ap (λ (r : Reading). length r.text.levels.around) c.self.view_is))))
+    (omega (arith, c.if-depth-gt0.true, c.depth.ensures.value, depth_is old part op, ap (λ (r : ReaderState). length r.text.levels.around) c.self.view_is))))
 
 pub returns-then-ne : goal.returns-then-ne
 returns-then-ne g c = λ k is.
@@ -28,12 +28,12 @@ returns-then-ne g c = λ k is.
     let v = c.self.view_is in
     let marker = c.args.marker.now in
     let missing = marker_text c.self.inside.missing_result in
-    let known = sym (ap (λ (r : Reading). r.profile.missing_result) v) in
-    let test = test_of c.self.inside.tags.held c.value.result _ c.unwrap_or.result missing marker true old.tags.held (ap (λ (r : Reading). r.tags.held) v)
+    let known = sym (ap (λ (r : ReaderState). r.profile.missing_result) v) in
+    let test = test_of c.self.inside.tags.held c.value.result _ c.unwrap_or.result missing marker true old.tags.held (ap (λ (r : ReaderState). r.tags.held) v)
     c.value.ensures.value c.text-missing.ensures.text c.unwrap_or.ensures (sym c.if-ne.true ∙ c.ne.ensures) in
     entry_refused g.row.T g.row.L old (kind_of k) ResultDiffers refl (λ part op.
     marker_differs old k missing marker part is
-    (omega (arith, c.if-depth-gt0.false, c.depth.ensures.value, depth_is old part op, ap (λ (r : Reading). length r.text.levels.around) v)) known
+    (omega (arith, c.if-depth-gt0.false, c.depth.ensures.value, depth_is old part op, ap (λ (r : ReaderState). length r.text.levels.around) v)) known
     (ap (λ (ps : List Pair). differs missing (value_of ps (codes "Result")) marker) (sym (ap (λ (t : TagPairs). t.held) op.pairs)) ∙ test))
 
 pub returns : goal.returns
@@ -42,9 +42,9 @@ returns g c = λ k is.
     let v = c.self.view_is in
     let marker = c.args.marker.now in
     let missing = marker_text c.self.inside.missing_result in
-    let known = sym (ap (λ (r : Reading). r.profile.missing_result) v) in
-    let none : length old.text.levels.around ≡ 0 = omega (arith, c.if-depth-gt0.false, c.depth.ensures.value, ap (λ (r : Reading). length r.text.levels.around) v) in
-    let test = test_of c.self.inside.tags.held c.value.result _ c.unwrap_or.result missing marker false old.tags.held (ap (λ (r : Reading). r.tags.held) v)
+    let known = sym (ap (λ (r : ReaderState). r.profile.missing_result) v) in
+    let none : length old.text.levels.around ≡ 0 = omega (arith, c.if-depth-gt0.false, c.depth.ensures.value, ap (λ (r : ReaderState). length r.text.levels.around) v) in
+    let test = test_of c.self.inside.tags.held c.value.result _ c.unwrap_or.result missing marker false old.tags.held (ap (λ (r : ReaderState). r.tags.held) v)
     c.value.ensures.value c.text-missing.ensures.text c.unwrap_or.ensures (sym c.if-ne.false ∙ c.ne.ensures) in
     entry_goes g.row.T g.row.L old (kind_of k) (InText (Marker c.args.marker)) (c.requires.stage, (c.requires.token, none_around old.text.levels.around none), tt) (λ e. ap is_some is) (λ part op. (
       marker_free old k missing marker part is (sym (depth_is old part op) ∙ none) known

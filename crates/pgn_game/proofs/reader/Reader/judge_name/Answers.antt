@@ -6,10 +6,10 @@ use Rattle.pgn_game.specs.declared.judged.Judged.TheVariants.{Name}
 use Rattle.pgn_game.specs.declared.mode.Mode.{Mode}
 use Rattle.pgn_game.specs.declared.reason.Reason.TheVariants.{ExpectedName, BadTagName, DuplicateTag, TagLineTooLong, ReducedFen}
 use Rattle.pgn_game.specs.declared.stage.Stage.TheVariants.{AfterLeftBracket}
-use Rattle.pgn_game.specs.Holding.{TagPairs}
+use Rattle.pgn_game.specs.StoredPairs.{TagPairs}
 use Rattle.pgn_game.specs.Progress.{next}
 use Rattle.pgn_game.specs.FaultTable.{refusal, is_reduced}
-use Rattle.pgn_game.specs.Reading.{Reading}
+use Rattle.pgn_game.specs.ReaderState.{ReaderState}
 use Rattle.pgn_game.proofs.judging.RefusalsByStage.{hit, pass, expected_name, name_refusal, name_next}
 use Rattle.pgn_game.proofs.judging.PartsToJudgement.{comment, refused, goes, part_stage, held_at, has_pair_found}
 use Rattle.pgn_game.proofs.reader.Reader.judge_name.Goals as goal
@@ -36,7 +36,7 @@ returns-then-is_some g c =
     let old = c.args.self.now in
     let v = c.self.view_is in
     refused g.row.T g.row.L old (kind_of c.args.kind) DuplicateTag refl (λ part agrees.
-    let same = ap (λ (r : Reading). r.tags.held) v ∙ ap (λ (t : TagPairs). t.held) (held_at old part AfterLeftBracket agrees c.requires.stage) in
+    let same = ap (λ (r : ReaderState). r.tags.held) v ∙ ap (λ (t : TagPairs). t.held) (held_at old part AfterLeftBracket agrees c.requires.stage) in
     ap (λ (k : TokenKind). refusal old.profile part (kind_of k)) c.in-Symbol.is ∙ name_refusal old.profile part c.in-Symbol.name.now (part_stage old part AfterLeftBracket agrees c.requires.stage)
     ∙ pass _ _ _ (ap not (sym c.is_tag_name.ensures ∙ c.if-not-is_tag_name.false))
     ∙ hit _ _ _ (has_pair_found c.self.inside.tags.held part.pairs c.in-Symbol.name.now c.value.result true same c.value.ensures.value (sym c.if-is_some.true ∙ c.is_some.ensures)))
@@ -46,7 +46,7 @@ returns-then-name-gt-NAME_OR_VALUE_LENGTH g c =
     let old = c.args.self.now in
     let v = c.self.view_is in
     refused g.row.T g.row.L old (kind_of c.args.kind) TagLineTooLong refl (λ part agrees.
-    let same = ap (λ (r : Reading). r.tags.held) v ∙ ap (λ (t : TagPairs). t.held) (held_at old part AfterLeftBracket agrees c.requires.stage) in
+    let same = ap (λ (r : ReaderState). r.tags.held) v ∙ ap (λ (t : TagPairs). t.held) (held_at old part AfterLeftBracket agrees c.requires.stage) in
     ap (λ (k : TokenKind). refusal old.profile part (kind_of k)) c.in-Symbol.is ∙ name_refusal old.profile part c.in-Symbol.name.now (part_stage old part AfterLeftBracket agrees c.requires.stage)
     ∙ pass _ _ _ (ap not (sym c.is_tag_name.ensures ∙ c.if-not-is_tag_name.false))
     ∙ pass _ _ _ (has_pair_found c.self.inside.tags.held part.pairs c.in-Symbol.name.now c.value.result false same c.value.ensures.value (sym c.if-is_some.false ∙ c.is_some.ensures))
@@ -57,12 +57,12 @@ returns-then-is_reduced_fen g c =
     let old = c.args.self.now in
     let v = c.self.view_is in
     refused g.row.T g.row.L old (kind_of c.args.kind) ReducedFen refl (λ part agrees.
-    let same = ap (λ (r : Reading). r.tags.held) v ∙ ap (λ (t : TagPairs). t.held) (held_at old part AfterLeftBracket agrees c.requires.stage) in
+    let same = ap (λ (r : ReaderState). r.tags.held) v ∙ ap (λ (t : TagPairs). t.held) (held_at old part AfterLeftBracket agrees c.requires.stage) in
     ap (λ (k : TokenKind). refusal old.profile part (kind_of k)) c.in-Symbol.is ∙ name_refusal old.profile part c.in-Symbol.name.now (part_stage old part AfterLeftBracket agrees c.requires.stage)
     ∙ pass _ _ _ (ap not (sym c.is_tag_name.ensures ∙ c.if-not-is_tag_name.false))
     ∙ pass _ _ _ (has_pair_found c.self.inside.tags.held part.pairs c.in-Symbol.name.now c.value.result false same c.value.ensures.value (sym c.if-is_some.false ∙ c.is_some.ensures))
     ∙ pass _ _ _ (le-ltb 249 (length c.in-Symbol.name.now) c.if-name-gt-NAME_OR_VALUE_LENGTH.false)
-    ∙ hit _ _ _ (ap (λ (m : Mode). is_reduced m && bytes_eq c.in-Symbol.name.now (codes "FEN")) (sym (ap (λ (r : Reading). r.profile.mode) v)) ∙ sym c.is_reduced_fen.ensures ∙ c.if-is_reduced_fen.true))
+    ∙ hit _ _ _ (ap (λ (m : Mode). is_reduced m && bytes_eq c.in-Symbol.name.now (codes "FEN")) (sym (ap (λ (r : ReaderState). r.profile.mode) v)) ∙ sym c.is_reduced_fen.ensures ∙ c.if-is_reduced_fen.true))
 
 pub returns : goal.returns
 returns g c =
@@ -72,14 +72,14 @@ returns g c =
     goes g.row.T g.row.L old (kind_of c.args.kind) (Name c.in-Symbol.name) (
       c.requires.stage,
       c.if-name-gt-NAME_OR_VALUE_LENGTH.false,
-      has_pair_found c.self.inside.tags.held old.tags.held name c.value.result false (ap (λ (r : Reading). r.tags.held) v) c.value.ensures.value (sym c.if-is_some.false ∙ c.is_some.ensures),
+      has_pair_found c.self.inside.tags.held old.tags.held name c.value.result false (ap (λ (r : ReaderState). r.tags.held) v) c.value.ensures.value (sym c.if-is_some.false ∙ c.is_some.ensures),
     )
     (λ e. absurd (cc)) (λ part agrees.
-    let same = ap (λ (r : Reading). r.tags.held) v ∙ ap (λ (t : TagPairs). t.held) (held_at old part AfterLeftBracket agrees c.requires.stage) in (
+    let same = ap (λ (r : ReaderState). r.tags.held) v ∙ ap (λ (t : TagPairs). t.held) (held_at old part AfterLeftBracket agrees c.requires.stage) in (
       ap (λ (k : TokenKind). refusal old.profile part (kind_of k)) c.in-Symbol.is ∙ name_refusal old.profile part c.in-Symbol.name.now (part_stage old part AfterLeftBracket agrees c.requires.stage)
           ∙ pass _ _ _ (ap not (sym c.is_tag_name.ensures ∙ c.if-not-is_tag_name.false))
           ∙ pass _ _ _ (has_pair_found c.self.inside.tags.held part.pairs c.in-Symbol.name.now c.value.result false same c.value.ensures.value (sym c.if-is_some.false ∙ c.is_some.ensures))
           ∙ pass _ _ _ (le-ltb 249 (length c.in-Symbol.name.now) c.if-name-gt-NAME_OR_VALUE_LENGTH.false)
-          ∙ pass _ _ _ (ap (λ (m : Mode). is_reduced m && bytes_eq c.in-Symbol.name.now (codes "FEN")) (sym (ap (λ (r : Reading). r.profile.mode) v)) ∙ sym c.is_reduced_fen.ensures ∙ c.if-is_reduced_fen.false),
+          ∙ pass _ _ _ (ap (λ (m : Mode). is_reduced m && bytes_eq c.in-Symbol.name.now (codes "FEN")) (sym (ap (λ (r : ReaderState). r.profile.mode) v)) ∙ sym c.is_reduced_fen.ensures ∙ c.if-is_reduced_fen.false),
       ap (λ (k : TokenKind). next part (kind_of k)) c.in-Symbol.is ∙ name_next part name (part_stage old part AfterLeftBracket agrees c.requires.stage),
     ))

@@ -5,7 +5,7 @@ use Rattle.pgn_lexer.specs.Tokens.{symbol}
 use Rattle.pgn_lexer.specs.declared.token.TokenKind.TheVariants as variants
 use Rattle.pgn_game.specs.declared.reason.Reason.{Reason}
 use Rattle.pgn_game.specs.FaultTable.{is_score, marker_of}
-use Rattle.pgn_game.specs.Judging.{IsLegal}
+use Rattle.pgn_game.specs.Judgement.{IsLegal}
 use Rattle.pgn_game.proofs.judging.PartsToJudgement.{entry_goes}
 use Rattle.pgn_game.proofs.judging.RefusalsInMovetext.{move_free, move_leads, sought}
 use Rattle.pgn_game.proofs.reader.Reader.judge_symbol.Goals as goal

@@ -11,15 +11,15 @@ use Rattle.pgn_game.specs.declared.stage.Stage.TheVariants.{AfterName}
 use Rattle.pgn_game.specs.Game.{Part}
 use Rattle.pgn_game.specs.FaultTable.{refusal, is_result as is_any_result}
 use Rattle.pgn_game.specs.Progress.{next}
-use Rattle.pgn_game.specs.Reading.{Reading, Agrees}
-use Rattle.pgn_game.specs.Judging.{ValueFits, fen_position as told}
+use Rattle.pgn_game.specs.ReaderState.{ReaderState, Agrees}
+use Rattle.pgn_game.specs.Judgement.{ValueFits, fen_position as told}
 use Rattle.pgn_game.proofs.judging.RefusalsByStage.{hit, pass, expected_value, value_refusal, value_next}
 use Rattle.pgn_game.proofs.pairs.PairsToFirstPosition.{start_fine, start_faults}
 use Rattle.pgn_game.proofs.judging.PartsToJudgement.{comment, refused, goes, part_stage, held_at, begun_name}
 use Rattle.pgn_game.proofs.reader.Reader.judge_value.Goals as goal
 
 -- the name that the reader was given is the part's
-name_of : (old : Reading) (begun : Option (List ℕ)) (name : List ℕ) → begun ≡ old.tags.pending_name → begun ≡ Some name → old.stage ≡ AfterName
+name_of : (old : ReaderState) (begun : Option (List ℕ)) (name : List ℕ) → begun ≡ old.tags.pending_name → begun ≡ Some name → old.stage ≡ AfterName
     → (part : Part) → Agrees old part → name ≡ part.name
 name_of old begun name same is at part agrees = begun_name old.tags part name (held_at old part AfterName agrees at).0 (sym same ∙ is)
 
@@ -52,7 +52,7 @@ returns-then-is_bad_result g c =
     let old = c.args.self.now in
     let value = c.in-Str.value.now in
     refused g.row.T g.row.L old (kind_of c.args.kind) BadResult refl (λ part agrees.
-    let name = name_of old c.self.inside.tags.pending_name c.pending_name-name.result.now (ap (λ (r : Reading). r.tags.pending_name) c.self.view_is) c.pending_name-name.ensures c.requires.stage part agrees in
+    let name = name_of old c.self.inside.tags.pending_name c.pending_name-name.result.now (ap (λ (r : ReaderState). r.tags.pending_name) c.self.view_is) c.pending_name-name.ensures c.requires.stage part agrees in
     ap (λ (k : TokenKind). refusal old.profile part (kind_of k)) c.in-Str.is ∙ value_refusal old.profile part value (part_stage old part AfterName agrees c.requires.stage)
     ∙ hit _ _ _ (ap (bad value) (sym name) ∙ sym c.is_bad_result.ensures ∙ c.if-is_bad_result.true))
 
@@ -61,7 +61,7 @@ returns-in-Err g c =
     let old = c.args.self.now in
     let value = c.in-Str.value.now in
     refused g.row.T g.row.L old (kind_of c.args.kind) (BadFen c.in-Err.field) refl (λ part agrees.
-    let name = name_of old c.self.inside.tags.pending_name c.pending_name-name.result.now (ap (λ (r : Reading). r.tags.pending_name) c.self.view_is) c.pending_name-name.ensures c.requires.stage part agrees in
+    let name = name_of old c.self.inside.tags.pending_name c.pending_name-name.result.now (ap (λ (r : ReaderState). r.tags.pending_name) c.self.view_is) c.pending_name-name.ensures c.requires.stage part agrees in
     let fault = start_faults part.name value c.in-Err.field (ap (λ (n : List ℕ). told n value) (sym name) ∙ sym c.fen_position.ensures ∙ c.in-Err.is) in
     ap (λ (k : TokenKind). refusal old.profile part (kind_of k)) c.in-Str.is ∙ value_refusal old.profile part value (part_stage old part AfterName agrees c.requires.stage)
     ∙ pass _ _ _ (ap (bad value) (sym name) ∙ sym c.is_bad_result.ensures ∙ c.if-is_bad_result.false)
@@ -72,7 +72,7 @@ returns-then-not-fits_tag_line g c =
     let old = c.args.self.now in
     let value = c.in-Str.value.now in
     refused g.row.T g.row.L old (kind_of c.args.kind) TagLineTooLong refl (λ part agrees.
-    let name = name_of old c.self.inside.tags.pending_name c.pending_name-name.result.now (ap (λ (r : Reading). r.tags.pending_name) c.self.view_is) c.pending_name-name.ensures c.requires.stage part agrees in
+    let name = name_of old c.self.inside.tags.pending_name c.pending_name-name.result.now (ap (λ (r : ReaderState). r.tags.pending_name) c.self.view_is) c.pending_name-name.ensures c.requires.stage part agrees in
     ap (λ (k : TokenKind). refusal old.profile part (kind_of k)) c.in-Str.is ∙ value_refusal old.profile part value (part_stage old part AfterName agrees c.requires.stage)
     ∙ pass _ _ _ (ap (bad value) (sym name) ∙ sym c.is_bad_result.ensures ∙ c.if-is_bad_result.false)
     ∙ pass _ _ _ (start_fine part.name value (subst (λ (n : List ℕ). IsTrue (is_ok (told n value))) name (rw (sym c.fen_position.ensures) (is_fine c.fen_position.result c.in_default-fen_position.not-Err))))
@@ -82,7 +82,7 @@ pub returns : goal.returns
 returns g c =
     let old = c.args.self.now in
     let value = c.in-Str.value.now in
-    let begun : old.tags.pending_name ≡ Some c.pending_name-name.result.now = sym (ap (λ (r : Reading). r.tags.pending_name) c.self.view_is) ∙ c.pending_name-name.ensures in
+    let begun : old.tags.pending_name ≡ Some c.pending_name-name.result.now = sym (ap (λ (r : ReaderState). r.tags.pending_name) c.self.view_is) ∙ c.pending_name-name.ensures in
     let tells : IsTrue (is_ok (told c.pending_name-name.result.now value)) = rw (sym c.fen_position.ensures) (is_fine c.fen_position.result c.in_default-fen_position.not-Err) in
     let fits = c.fits_tag_line.ensures.0 c.if-not-fits_tag_line.false in
     goes g.row.T g.row.L old (kind_of c.args.kind) (Value c.in-Str.value)

@@ -7,7 +7,7 @@ use Rattle.pgn_game.specs.declared.judged.Item.TheVariants.{Close}
 use Rattle.pgn_game.specs.declared.reason.Reason.TheVariants.{UnmatchedClose}
 use Rattle.pgn_game.specs.Levels.{depth}
 use Rattle.pgn_game.specs.FaultTable.{levels_of_part}
-use Rattle.pgn_game.specs.Reading.{Reading}
+use Rattle.pgn_game.specs.ReaderState.{ReaderState}
 use Rattle.pgn_game.proofs.judging.RefusalsByStage.{hit, pass}
 use Rattle.pgn_game.proofs.judging.PartsToJudgement.{entry_refused, entry_goes}
 use Rattle.pgn_game.proofs.judging.RefusalsInMovetext.{depth_is}
@@ -18,11 +18,11 @@ returns-then-depth-eq0 g c =
     let old = c.args.self.now in
     entry_refused g.row.T g.row.L old right_paren UnmatchedClose refl (λ part is.
     hit _ _ _ (ap (λ (n : ℕ). n == 0)
-    (sym (depth_is old part is) ∙ sym (ap (λ (r : Reading). length r.text.levels.around) c.self.view_is) ∙ sym c.depth.ensures.value ∙ c.if-depth-eq0.true)))
+    (sym (depth_is old part is) ∙ sym (ap (λ (r : ReaderState). length r.text.levels.around) c.self.view_is) ∙ sym c.depth.ensures.value ∙ c.if-depth-eq0.true)))
 
 pub returns : goal.returns
 returns g c =
     let old = c.args.self.now in
-    let deep : c.depth.result ≡ length old.text.levels.around = c.depth.ensures.value ∙ ap (λ (r : Reading). length r.text.levels.around) c.self.view_is in
+    let deep : c.depth.result ≡ length old.text.levels.around = c.depth.ensures.value ∙ ap (λ (r : ReaderState). length r.text.levels.around) c.self.view_is in
     entry_goes g.row.T g.row.L old right_paren (InText (Put Close)) (c.requires.stage, omega (arith, deep, c.if-depth-eq0.false), tt) (λ e. absurd (cc))
     (λ part is. (pass _ _ _ (ne_eqb (depth (levels_of_part part)) 0 (λ e. c.if-depth-eq0.false (deep ∙ depth_is old part is ∙ e))), refl))

@@ -6,22 +6,22 @@ use Rattle.std.specs.Io.KnownBytes.{Appends}
 use Rattle.pgn_layout.specs.Device.{AppendsFront, one_more}
 use Rattle.pgn_layout.specs.Layout.{Put, EndGame, text_at, line_at}
 use Rattle.pgn_game.specs.declared.judged.Entry.{Entry}
-use Rattle.pgn_game.specs.Reading.{Reading}
-use Rattle.pgn_game.specs.Judging.{EntryFits, IsProbed}
+use Rattle.pgn_game.specs.ReaderState.{ReaderState}
+use Rattle.pgn_game.specs.Judgement.{EntryFits, IsProbed}
 use Rattle.pgn_game.proofs.putting.WritesInTurn.{front_of_more, front_after}
 use Rattle.pgn_game.proofs.putting.MarkerToReader.{puts_unbegun, ends_well, ends_ill}
 use Rattle.pgn_game.proofs.putting.ItemToReader.{IsAfterItem, begins_as, puts_number, puts_item, fails_item}
 use Rattle.pgn_game.proofs.reader.Reader.put_entry.Goals as goal
 
 -- the reader after an item, once its probes are counted
-after_item : (begun between new : Reading) (probes : ℕ) → new ≡ record between { most_probes = max between.most_probes probes }
+after_item : (begun between new : ReaderState) (probes : ℕ) → new ≡ record between { most_probes = max between.most_probes probes }
     → IsAfterItem begun between → IsAfterItem begun new
 after_item begun between new probes is next = record {
-  profile = ap (λ (r : Reading). r.profile) is ∙ next.profile;
-  stage = ap (λ (r : Reading). r.stage) is ∙ next.stage;
-  tags = ap (λ (r : Reading). r.tags) is ∙ next.tags;
-  earlier = ap (λ (r : Reading). r.earlier_plies) is ∙ next.earlier;
-  probes = omega (arith, ap (λ (r : Reading). r.most_probes) is, next.probes, le-max_left between.most_probes probes);
+  profile = ap (λ (r : ReaderState). r.profile) is ∙ next.profile;
+  stage = ap (λ (r : ReaderState). r.stage) is ∙ next.stage;
+  tags = ap (λ (r : ReaderState). r.tags) is ∙ next.tags;
+  earlier = ap (λ (r : ReaderState). r.earlier_plies) is ∙ next.earlier;
+  probes = omega (arith, ap (λ (r : ReaderState). r.most_probes) is, next.probes, le-max_left between.most_probes probes);
 }
 
 pub returns-in_err-begin_movetext-clause-puts : goal.returns-in_err-begin_movetext-clause-puts

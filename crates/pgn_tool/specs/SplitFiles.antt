@@ -6,12 +6,12 @@ use Rattle.pgn_game.specs.declared.reason.Reason.TheVariants.{ReadFault, WriteFa
 use Rattle.pgn_game.specs.declared.reason.Fault.{Fault}
 use Rattle.pgn_game.specs.Reason.{line_of}
 use Rattle.pgn_game.specs.declared.converter.Fed.{Fed}
-use Rattle.pgn_game.specs.Feeding.{Advances, Converter, CountsFault, Ends, Feeds, KeepsFault, used_of}
+use Rattle.pgn_game.specs.ConverterCalls.{Advances, Converter, CountsFault, Ends, Feeds, KeepsFault, used_of}
 use Rattle.pgn_tool.specs.declared.files.CreateFault.{CreateFault}
 use Rattle.pgn_tool.specs.declared.files.CreateFault.TheVariants as creating
 use Rattle.pgn_tool.specs.declared.split.Unsplit.{Unsplit}
 use Rattle.pgn_tool.specs.declared.split.Unsplit.TheVariants.{Refused, NoMemory}
-use Rattle.pgn_tool.specs.Running.{IsUntouched, Tells, line}
+use Rattle.pgn_tool.specs.TaskRun.{IsUntouched, Tells, line}
 use Rattle.pgn_tool.specs.SplitGames.{SplitResult}
 use Rattle.pgn_tool.specs.Files.{FileStep, added, closed, failures_in, has_text, made, number_after, opening_steps, refused, steps, open_text, whole_files, without_memory}
 

@@ -13,10 +13,10 @@ use Rattle.pgn_game.specs.Profile.{Profile}
 use Rattle.pgn_game.specs.Reason.{line_of}
 use Rattle.pgn_game.specs.Progress.{output, verdict}
 use Rattle.pgn_game.specs.Checked.{checked_output, checked_profile, checked_verdict}
-use Rattle.pgn_game.specs.ConvertingTwice.{ConvertsTwice}
+use Rattle.pgn_game.specs.CheckedConversion.{ConvertsTwice}
 use Rattle.pgn_tool.specs.declared.arguments.Task.{Task}
 use Rattle.pgn_tool.specs.declared.arguments.Task.TheVariants.{Checked}
-use Rattle.pgn_tool.specs.Running.{Concludes, HasFailed, HasFront, Tells, TellsVerdict, line, mode_for, status_of}
+use Rattle.pgn_tool.specs.TaskRun.{Concludes, HasFailed, HasFront, Tells, TellsVerdict, line, mode_for, status_of}
 
 -- ---- what is asked for
 

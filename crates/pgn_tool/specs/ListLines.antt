@@ -18,7 +18,7 @@ use Rattle.pgn_game.specs.Pairs.{Pair, value_of}
 use Rattle.pgn_game.specs.TagSection.{exported}
 use Rattle.pgn_game.specs.Game.{Game}
 use Rattle.pgn_game.specs.Progress.{read}
-use Rattle.pgn_game.specs.Feeding.{Converter, FinishedGame, finished_game_of, profile_of}
+use Rattle.pgn_game.specs.ConverterCalls.{Converter, FinishedGame, finished_game_of, profile_of}
 use Rattle.pgn_tool.specs.declared.list.Stopped.{Stopped}
 use Rattle.pgn_tool.specs.declared.list.Stopped.TheVariants.{Refused, Unwritten}
 

@@ -23,14 +23,14 @@ use Rattle.pgn_game.specs.FaultTable.{is_comment, is_end}
 use Rattle.pgn_game.specs.Progress.{Next}
 use Rattle.pgn_game.specs.Due.{text_next}
 use Rattle.pgn_game.specs.Movetext.{movetext_from}
-use Rattle.pgn_game.specs.Putting.{TriesItem}
-use Rattle.pgn_game.specs.Reading.{Reading, Agrees, Leads, Stays, CountsWrites, plies_next, whole_plies}
-use Rattle.pgn_game.specs.Judging.{after, is_final, model_item}
+use Rattle.pgn_game.specs.ItemResult.{TriesItem}
+use Rattle.pgn_game.specs.ReaderState.{ReaderState, Agrees, Leads, Stays, CountsWrites, plies_next, whole_plies}
+use Rattle.pgn_game.specs.Judgement.{after, is_final, model_item}
 
 -- A game begins.
 
 -- nothing is left of the game before, and movetext may come as it does after pairs
-abbrev pub at_game_start : Reading → Reading
+abbrev pub at_game_start : ReaderState → ReaderState
 at_game_start old = record old {
   stage = AfterTags;
   tags = record { held = []; pending_name = None };
@@ -43,11 +43,11 @@ abbrev pub begins_game : Stage → Kind → Bool
 begins_game Between k = not (is_comment k || is_end k)
 begins_game _ k = false
 
-abbrev pub ready_for_token : Reading → Kind → Reading
+abbrev pub ready_for_token : ReaderState → Kind → ReaderState
 ready_for_token old k = elim (begins_game old.stage k) [ true ↦ at_game_start old | false ↦ old ]
 
 -- What a call leaves as it was, or nearly.
-pub record Keeps (old new : Reading) : Type 0 where
+pub record Keeps (old new : ReaderState) : Type 0 where
   pub profile : new.profile ≡ old.profile
   pub plies : new.earlier_plies + new.text.plies ≤ old.earlier_plies + old.text.plies + 1
   pub probes : old.most_probes ≤ new.most_probes
@@ -57,30 +57,30 @@ abbrev pub gain_to : Profile → Part → Next → List ℕ
 gain_to p part to = drop (length (torn p part)) (text_next p to)
 
 -- the reader goes there, and what that adds was appended
-pub record Goes (old : Reading) (part : Part) (to : Next) (new : Reading) (accepted : Accepted)
+pub record Goes (old : ReaderState) (part : Part) (to : Next) (new : ReaderState) (accepted : Accepted)
     (d : Device) : Type 0 where
   pub leads : Leads to accepted new
   pub plies : whole_plies new ≡ whole_plies old + plies_next to
   pub appended : Appends d.before d.after (gain_to old.profile part to)
 
 -- or a write failed, and a front of it was
-abbrev pub GoesTo : Reading → Part → Next → Reading → Result Accepted Reason → Device → Type 0
+abbrev pub GoesTo : ReaderState → Part → Next → ReaderState → Result Accepted Reason → Device → Type 0
 GoesTo old part to new (Ok accepted) d = Goes old part to new accepted d
 GoesTo old part to new (Err reason) d =
     (reason ≡ WriteFault) × AppendsFront d.before d.after (gain_to old.profile part to)
 
 -- only a marker finishes a game
-abbrev pub FinishesFinal : Judged → Reading → Result Accepted Reason → Type 0
+abbrev pub FinishesFinal : Judged → ReaderState → Result Accepted Reason → Type 0
 FinishesFinal j new (Ok More) = Unit {0}
 FinishesFinal j new (Ok Finished) = IsTrue (is_final j) × (new.stage ≡ Between)
 FinishesFinal j new (Err reason) = Unit {0}
 
 -- How many pairs were tried to write it. Where a write of the tag section failed, none was tried.
-pub data UnwrittenPairs (old : Reading) (i : Item) (before after : ℕ) : Type 0 where
+pub data UnwrittenPairs (old : ReaderState) (i : Item) (before after : ℕ) : Type 0 where
   at_item : TriesItem old.profile.mode old.text i before after → UnwrittenPairs old i before after
   in_section : old.stage ≡ AfterTags → after ≡ before → UnwrittenPairs old i before after
 
-abbrev pub TriesJudged : Reading → Judged → Result Accepted Reason → ℕ → ℕ → Type 0
+abbrev pub TriesJudged : ReaderState → Judged → Result Accepted Reason → ℕ → ℕ → Type 0
 TriesJudged old (InText (Put i)) (Ok accepted) before after =
     TriesItem old.profile.mode old.text (model_item i) before after
 TriesJudged old (InText (Put i)) (Err reason) before after =
@@ -88,7 +88,7 @@ TriesJudged old (InText (Put i)) (Err reason) before after =
 TriesJudged old j r before after = after ≡ before
 
 -- What putting comes to, for each part that the reader agrees with.
-pub record PutResult (old : Reading) (j : Judged) (new : Reading) (r : Result Accepted Reason)
+pub record PutResult (old : ReaderState) (j : Judged) (new : ReaderState) (r : Result Accepted Reason)
     (d : Device) : Type 0 where
   pub goes : (part : Part) → Agrees old part → GoesTo old part (after j part) new r d
   pub keeps : Keeps old new
@@ -103,11 +103,11 @@ section_due InMovetext mode result ps = []
 section_due _ mode result ps = tag_section mode result ps
 
 -- the same, for a reader
-abbrev pub section_due_of : Reading → List ℕ
+abbrev pub section_due_of : ReaderState → List ℕ
 section_due_of r = section_due r.stage r.profile.mode (known_result r.profile.missing_result) r.tags.held
 
 -- The tag section was written, where it was due, and nothing else has changed.
-pub record BeginsText {A E : Type 0} (old new : Reading) (r : Result A E)
+pub record BeginsText {A E : Type 0} (old new : ReaderState) (r : Result A E)
     (d : Device) : Type 0 where
   pub text : Writes d.before d.after r (section_due_of old)
   pub begun : OnOk r (new ≡ record old { stage = InMovetext })

@@ -14,7 +14,7 @@ use Rattle.pgn_game.specs.Game.{Item}
 use Rattle.pgn_game.specs.Text.{is_move, number_before, tokens_at, full_text}
 use Rattle.pgn_game.specs.Movetext.{Movetext, StoredLevels, HoldsItems, IsBackIn, level_at}
 use Rattle.pgn_game.specs.MostTried.{CostsToWrite}
-use Rattle.pgn_game.specs.Judging.{model_item}
+use Rattle.pgn_game.specs.Judgement.{model_item}
 
 -- tokens are put in turn: what goes out, and the line that is held then
 pub record PutsTokens {A E : Type 0} (tokens : List (List ℕ)) (line new_line : List ℕ)

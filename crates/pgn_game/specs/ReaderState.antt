@@ -14,7 +14,7 @@ use Rattle.pgn_game.specs.declared.accepted.Accepted.{Accepted}
 use Rattle.pgn_game.specs.declared.accepted.Accepted.TheVariants.{More, Finished}
 use Rattle.pgn_game.specs.Profile.{Profile}
 use Rattle.pgn_game.specs.Pairs.{has_pair}
-use Rattle.pgn_game.specs.Holding.{TagPairs}
+use Rattle.pgn_game.specs.StoredPairs.{TagPairs}
 use Rattle.pgn_game.specs.Game.{Item, Game, Part, no_part}
 use Rattle.pgn_game.specs.Levels.{start_of, plies_of, last_position}
 use Rattle.pgn_game.specs.Text.{is_move}
@@ -27,7 +27,7 @@ use Rattle.pgn_game.specs.MostTried.{Raises, Tries, TriesUnwritten}
 
 -- What is asked for, how far the game is, its pairs, its movetext, how many moves outside
 -- variations the games before it have, the most pairs tried for a move, and the line of movetext.
-pub record Reading : Type 0 where
+pub record ReaderState : Type 0 where
   pub profile : Profile
   pub stage : Stage
   pub tags : TagPairs
@@ -56,7 +56,7 @@ has_move items = list_any is_move items
 
 -- The movetext held is that of the part, which before its stage has no item. Between games it may
 -- be that of the game before.
-abbrev pub HoldsText : Stage → Reading → Part → Type 0
+abbrev pub HoldsText : Stage → ReaderState → Part → Type 0
 HoldsText Between reading part = reading.line ≡ []
 HoldsText InMovetext reading part =
     HoldsItems reading.profile.mode (start_of part.pairs) part.items reading.text reading.line × (IsTrue (has_move part.items) → 0 < reading.most_probes)
@@ -64,14 +64,14 @@ HoldsText _ reading part = (part.items ≡ []) × (reading.text ≡ movetext_fro
 
 -- The reader agrees with a part: its fields follow from it, but for what was left from the game
 -- before.
-pub record Agrees (reading : Reading) (part : Part) : Type 0 where
+pub record Agrees (reading : ReaderState) (part : Part) : Type 0 where
   pub stage : reading.stage ≡ part.stage
   pub pairs : HoldsPairs reading.stage reading.tags part
   pub text : HoldsText reading.stage reading part
 
 -- The reader stands behind a whole game, and still has its pairs, its count of moves and its last
 -- position.
-pub record IsBehind (reading : Reading) (g : Game) : Type 0 where
+pub record IsBehind (reading : ReaderState) (g : Game) : Type 0 where
   pub agrees : Agrees reading no_part
   pub pairs : reading.tags.held ≡ g.pairs
   pub plies : reading.text.plies ≡ plies_of g
@@ -83,7 +83,7 @@ abbrev pub plies_behind : Stage → ℕ → ℕ → ℕ
 plies_behind Between earlier plies = earlier + plies
 plies_behind _ earlier plies = earlier
 
-abbrev pub whole_plies : Reading → ℕ
+abbrev pub whole_plies : ReaderState → ℕ
 whole_plies reading = plies_behind reading.stage reading.earlier_plies reading.text.plies
 
 -- and how many a token adds to them
@@ -92,14 +92,14 @@ plies_next (going part) = 0
 plies_next (whole g) = plies_of g
 
 -- where a token that is not rejected leads
-abbrev pub Leads : Next → Accepted → Reading → Type 0
+abbrev pub Leads : Next → Accepted → ReaderState → Type 0
 Leads (going part) More new = Agrees new part
 Leads (going part) Finished new = ⊥
 Leads (whole g) More new = ⊥
 Leads (whole g) Finished new = IsBehind new g
 
 -- A token is accepted: it leads on, and what it adds was appended.
-pub record IsAccepted (old : Reading) (part : Part) (k : Kind) (new : Reading) (accepted : Accepted) (before after : Option (List ℕ)) : Type 0 where
+pub record IsAccepted (old : ReaderState) (part : Part) (k : Kind) (new : ReaderState) (accepted : Accepted) (before after : Option (List ℕ)) : Type 0 where
   pub free : refusal old.profile part k ≡ None
   pub leads : Leads (next part k) accepted new
   pub plies : whole_plies new ≡ whole_plies old + plies_next (next part k)
@@ -108,7 +108,7 @@ pub record IsAccepted (old : Reading) (part : Part) (k : Kind) (new : Reading) (
 
 -- A token is not accepted: a row of the fault table rejects it, and nothing is appended; or a write
 -- failed, and a prefix of what the token adds was appended, and not all.
-pub data IsStopped (old : Reading) (part : Part) (k : Kind) (new : Reading)
+pub data IsStopped (old : ReaderState) (part : Part) (k : Kind) (new : ReaderState)
     (before after : Option (List ℕ)) : Reason → Type 0 where
   refused : (reason : Reason) → refusal old.profile part k ≡ Some reason → Appends before after []
       → Raises (Tries old.profile part k) old.most_probes new.most_probes
@@ -119,24 +119,24 @@ pub data IsStopped (old : Reading) (part : Part) (k : Kind) (new : Reading)
       → IsStopped old part k new before after WriteFault
 
 -- What the reader answers to a token after a part that it agrees with.
-abbrev pub Answers : Reading → Part → Kind → Reading → Result Accepted Reason → Option (List ℕ)
+abbrev pub Answers : ReaderState → Part → Kind → ReaderState → Result Accepted Reason → Option (List ℕ)
     → Option (List ℕ) → Type 0
 Answers old part k new (Ok accepted) before after = IsAccepted old part k new accepted before after
 Answers old part k new (Err reason) before after = IsStopped old part k new before after reason
 
 -- so for every part
-abbrev pub Accepts : Reading → Kind → Reading → Result Accepted Reason → Option (List ℕ)
+abbrev pub Accepts : ReaderState → Kind → ReaderState → Result Accepted Reason → Option (List ℕ)
     → Option (List ℕ) → Type 0
 Accepts old k new r before after = (part : Part) → Agrees old part → Answers old part k new r before after
 
 -- A token after which no game is begun, and that finished none, changes nothing.
-abbrev pub Stays : Reading → Reading → Result Accepted Reason → Type 0
+abbrev pub Stays : ReaderState → ReaderState → Result Accepted Reason → Type 0
 Stays old new (Ok More) = new.stage ≡ Between → new ≡ old
 Stays old new (Ok Finished) = Unit {0}
 Stays old new (Err reason) = Unit {0}
 
 -- only a marker finishes a game, and no game is begun then
-abbrev pub FinishesAtMarker : Kind → Reading → Result Accepted Reason → Type 0
+abbrev pub FinishesAtMarker : Kind → ReaderState → Result Accepted Reason → Type 0
 FinishesAtMarker k new (Ok More) = Unit {0}
 FinishesAtMarker k new (Ok Finished) = IsTrue (is_some (marker_of k)) × (new.stage ≡ Between)
 FinishesAtMarker k new (Err reason) = Unit {0}

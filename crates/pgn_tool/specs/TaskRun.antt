@@ -11,13 +11,13 @@ use Rattle.pgn_game.specs.declared.conversion.Totals.{Totals}
 use Rattle.pgn_game.specs.Profile.{Profile}
 use Rattle.pgn_game.specs.Reason.{line_of}
 use Rattle.pgn_game.specs.Progress.{Verdict, refused, totals, output, verdict}
-use Rattle.pgn_game.specs.Feeding.{profile_of}
-use Rattle.pgn_game.specs.Converting.{Converts}
+use Rattle.pgn_game.specs.ConverterCalls.{profile_of}
+use Rattle.pgn_game.specs.Conversion.{Converts}
 use Rattle.pgn_tool.specs.declared.arguments.Task.{Task}
 use Rattle.pgn_tool.specs.declared.arguments.Task.TheVariants.{Export, Checked, Check, List as ListGames, Split}
 use Rattle.pgn_tool.specs.declared.list.Stopped.{Stopped}
 use Rattle.pgn_tool.specs.declared.list.Stopped.TheVariants as stopped
-use Rattle.pgn_tool.specs.Listing.{ListResult, list_text}
+use Rattle.pgn_tool.specs.ListLines.{ListResult, list_text}
 
 -- ---- what is asked for
 

@@ -15,11 +15,11 @@ use Rattle.pgn_game.specs.declared.conversion.Totals.{Totals}
 use Rattle.pgn_game.specs.Profile.{Profile, takes_the_marker}
 use Rattle.pgn_game.specs.Progress.{Verdict, output, refused as is_refused, verdict}
 use Rattle.pgn_game.specs.Checked.{checked_output, checked_verdict}
-use Rattle.pgn_game.specs.ConvertingTwice.{AreConverted, AreTotalled, ConvertsTwice, CountsThree, EndsFirst, EndsSecond, FailsTwice, HasTaken, IsFollowed, OneFails, StopsFollowing}
-use Rattle.pgn_game.specs.ConvertingTwice.{first_too_long, first_unread, refused, second_too_long, second_unread, unwritten}
+use Rattle.pgn_game.specs.CheckedConversion.{AreConverted, AreTotalled, ConvertsTwice, CountsThree, EndsFirst, EndsSecond, FailsTwice, HasTaken, MatchesAllMarks, OneFails, StopsWritingSecond}
+use Rattle.pgn_game.specs.CheckedConversion.{first_too_long, first_unread, refused, second_too_long, second_unread, unwritten}
 use Rattle.pgn_game.specs.EqualReadings.{EqualReadings}
-use Rattle.pgn_tool.specs.Running.{HasFailed, IsCalm, IsSmooth, TellsVerdict, status_of}
-use Rattle.pgn_tool.specs.RunningTwice.{AnswersSame, AnswersTwice, BlamesTwice, EndsTwice, RunsTwice, profile_twice}
+use Rattle.pgn_tool.specs.TaskRun.{HasFailed, IsCalm, IsSmooth, TellsVerdict, status_of}
+use Rattle.pgn_tool.specs.CheckedRun.{AnswersSame, AnswersTwice, BlamesTwice, EndsTwice, RunsTwice, profile_twice}
 use Rattle.pgn_tool.proofs.runs.ConversionToRun.{calm_fails, keeps_on, longer, risen, well}
 
 -- ---- a conversion, and a flush after it
@@ -41,23 +41,23 @@ module _ (p : Profile) (first second d e : Device) (same : e.before ≡ d.before
   totalled_on (Some s) None t known = tt
   totalled_on (Some s) (Some r) t known = record { converted = (known.converted.0, taken_on d e _ same keeps known.converted.1); probes = known.probes }
 
-  followed_on : (ts : List Token) (b : Option (List ℕ)) → IfSome b (λ r. IsFollowed p ts (tokens_of r) d) → IfSome b (λ r. IsFollowed p ts (tokens_of r) e)
-  followed_on ts None known = tt
-  followed_on ts (Some r) known = record { fault = known.fault; ahead = known.ahead; appended = taken_on d e _ same keeps known.appended }
+  matched_on : (ts : List Token) (b : Option (List ℕ)) → IfSome b (λ r. MatchesAllMarks p ts (tokens_of r) d) → IfSome b (λ r. MatchesAllMarks p ts (tokens_of r) e)
+  matched_on ts None known = tt
+  matched_on ts (Some r) known = record { fault = known.fault; marks_left = known.marks_left; appended = taken_on d e _ same keeps known.appended }
 
   first_on : (u : List ℕ) → EndsFirst p u second d → EndsFirst p u second e
-  first_on u ends = record { passes = ends.passes; followed = followed_on (decided u) second.before ends.followed }
+  first_on u ends = record { passes = ends.passes; matched = matched_on (decided u) second.before ends.matched }
 
   second_on : (u : List ℕ) → EndsSecond p first u d → EndsSecond p first u e
   second_on u ends = record {
     tokens = ends.tokens;
     decided_by = ends.decided_by;
     fault = ends.fault;
-    ahead = ends.ahead;
+    marks_left = ends.marks_left;
     appended = taken_on d e _ same keeps ends.appended;
   }
 
-  stops_on : (at : ℕ) (b : Option (List ℕ)) → IfSome b (λ r. StopsFollowing p first (tokens_of r) at d) → IfSome b (λ r. StopsFollowing p first (tokens_of r) at e)
+  stops_on : (at : ℕ) (b : Option (List ℕ)) → IfSome b (λ r. StopsWritingSecond p first (tokens_of r) at d) → IfSome b (λ r. StopsWritingSecond p first (tokens_of r) at e)
   stops_on at None known = tt
   stops_on at (Some r) known = record {
     tokens = known.tokens;

@@ -28,7 +28,7 @@ use Rattle.pgn_game.specs.Progress.{Progress, read, due}
 use Rattle.pgn_game.specs.MostTried.{MostTried, Raises, TriesUnwritten}
 use Rattle.pgn_game.specs.Due.{Gains}
 use Rattle.pgn_game.specs.Levels.{plies_of, last_position}
-use Rattle.pgn_game.specs.Reading.{Reading, Agrees, has_move, whole_plies}
+use Rattle.pgn_game.specs.ReaderState.{ReaderState, Agrees, has_move, whole_plies}
 
 -- what can be asked of the game just finished: its pairs, how many moves it has outside variations,
 -- and the position after these
@@ -44,7 +44,7 @@ finished_game_of g = record { pairs = g.pairs; plies = plies_of g; position = la
 -- has ended, and the fault
 pub record Converter : Type 0 where
   pub lexer : Standing
-  pub reading : Reading
+  pub reading : ReaderState
   pub games : ℕ
   pub just_finished : Option FinishedGame
   pub is_finished : Bool
@@ -55,18 +55,18 @@ abbrev pub profile_of : ℕ → ℕ → Mode → Profile
 profile_of most depth mode = record { tags = most; depth = depth; mode = mode; missing_result = counts_as (codes "*") }
 
 -- what the reader still holds of a game
-abbrev pub game_in_reader : Reading → FinishedGame
+abbrev pub game_in_reader : ReaderState → FinishedGame
 game_in_reader reading = record { pairs = reading.tags.held; plies = reading.text.plies; position = reading.text.levels.present.present }
 
 -- the same, while a game is just finished
-abbrev pub game_in_reader_if : Bool → Reading → Option FinishedGame
+abbrev pub game_in_reader_if : Bool → ReaderState → Option FinishedGame
 game_in_reader_if true reading = Some (game_in_reader reading)
 game_in_reader_if false reading = None
 
 -- What a converter keeps to. Before a fault its counts stay small: a byte ends at most two tokens,
 -- so the games fit, and the moves; the end is one token more. A game is just finished only between
 -- games, and not after a fault.
-pub record IsSound (lexer : Standing) (reading : Reading) (games : ℕ) (has_finished_game is_finished : Bool) (fault : Option Fault) : Type 0 where
+pub record IsSound (lexer : Standing) (reading : ReaderState) (games : ℕ) (has_finished_game is_finished : Bool) (fault : Option Fault) : Type 0 where
   pub count : fault ≡ None → lexer.count ≤ 2 ^ 62
   pub few : fault ≡ None → games + waiting lexer ≤ 2 * lexer.count + 2
   pub few_plies : fault ≡ None → reading.earlier_plies + reading.text.plies + waiting lexer ≤ 2 * lexer.count + 3

@@ -20,7 +20,7 @@ use Rattle.pgn_game.specs.declared.stage.Stage.TheVariants.{AfterLeftBracket, Af
 use Rattle.pgn_game.specs.Profile.{Profile}
 use Rattle.pgn_game.specs.Pairs.{has_pair, insert_pair}
 use Rattle.pgn_game.specs.Chess.{move_of, position_of}
-use Rattle.pgn_game.specs.Finding.{found_in}
+use Rattle.pgn_game.specs.FoundMove.{found_in}
 use Rattle.pgn_game.specs.MostTried.{CostsIf}
 use Rattle.pgn_game.specs.Game as games
 use Rattle.pgn_game.specs.Game.{Item, Game, Part}
@@ -28,7 +28,7 @@ use Rattle.pgn_game.specs.Levels.{depth, start_of}
 use Rattle.pgn_game.specs.FaultTable.{refusal, marker_of, is_marker, is_number, is_score, has_other_result, is_move_with, is_no_form, is_no_move, is_many_moves, is_one_move, is_at_limit, levels_of_part, position_in}
 use Rattle.pgn_game.specs.Progress.{Next, going, whole, at_stage, next, in_text}
 use Rattle.pgn_game.specs.Movetext.{Movetext, HoldsItems}
-use Rattle.pgn_game.specs.Reading.{Reading, Agrees, has_move, is_outside_the_table}
+use Rattle.pgn_game.specs.ReaderState.{ReaderState, Agrees, has_move, is_outside_the_table}
 
 -- the part with more items, and the game of a part and a marker
 abbrev pub with_items : Part → List Item → Part
@@ -124,7 +124,7 @@ IsProbed (Put (Move played)) most = 0 < most
 IsProbed e most = Unit {0}
 
 -- What was judged can be put on a reader of at most so many pairs and levels.
-abbrev pub Fits : ℕ → ℕ → Reading → Judged → Type 0
+abbrev pub Fits : ℕ → ℕ → ReaderState → Judged → Type 0
 Fits tags levels r Skipped = Unit {0}
 Fits tags levels r PairOpen = (r.stage ≡ AfterTags) × (length r.tags.held < tags)
 Fits tags levels r (Name name) =
@@ -140,24 +140,24 @@ Fits tags levels r (InText e) =
 abbrev pub found_of : Bool → Parts → List ℕ → Option (Result Played Reason)
 found_of sought here s = elim sought [ true ↦ Some (found_in here (move_of here s)) | false ↦ None ]
 
-abbrev pub found : Reading → Kind → Option (Result Played Reason)
+abbrev pub found : ReaderState → Kind → Option (Result Played Reason)
 found r (tokens.symbol s) =
     found_of (may_have_movetext r.stage && not (is_score s || is_number s)) r.text.levels.present.present s
 found r _ = None
 
 -- It was found, and its pairs are counted.
-pub record Finds (r : Reading) (k : Kind) (result : Option (Result Played Reason)) : Type 0 where
+pub record Finds (r : ReaderState) (k : Kind) (result : Option (Result Played Reason)) : Type 0 where
   pub says : result ≡ found r k
   pub legal : IfSome result (λ f. IfOk f (λ played. IsLegal r.text.levels.present.present played × (0 < r.most_probes)))
 
 -- how many pairs were tried for it
-abbrev pub Seeks : Reading → Kind → ℕ → Type 0
+abbrev pub Seeks : ReaderState → Kind → ℕ → Type 0
 Seeks r (tokens.symbol s) n =
     CostsIf (may_have_movetext r.stage && not (is_score s || is_number s)) r.text.levels.present.present s n
 Seeks r k n = n ≡ 0
 
 -- the count of probes has risen, if anything has changed
-pub record OnlyProbesRise (old new : Reading) : Type 0 where
+pub record OnlyProbesRise (old new : ReaderState) : Type 0 where
   pub same : new ≡ record old { most_probes = new.most_probes }
   pub more : old.most_probes ≤ new.most_probes
   pub closed : may_have_movetext old.stage ≡ false → new ≡ old
@@ -172,7 +172,7 @@ FinalIsMarker k j = IsTrue (is_final j) → IsTrue (is_some (marker_of k))
 
 -- What judging a token results in, where the model says this of it after each of these parts: the
 -- reader says the same. What it means can be put, or its reason is one of the table.
-pub record Judgement (tags levels : ℕ) (reader : Reading) (is_of : Part → Type 0)
+pub record Judgement (tags levels : ℕ) (reader : ReaderState) (is_of : Part → Type 0)
     (says : Part → Result Next Reason) (k : Kind) (r : Result Judged Reason) : Type 0 where
   pub judges : (part : Part) → is_of part → says part ≡ leads part r
   pub fits : MatchResult r (Fits tags levels reader)
@@ -180,14 +180,14 @@ pub record Judgement (tags levels : ℕ) (reader : Reading) (is_of : Part → Ty
   pub final_is_marker : IfOk r (FinalIsMarker k)
 
 -- of any token, after a part that the reader agrees with
-abbrev pub Judges : ℕ → ℕ → Reading → Kind → Result Judged Reason → Type 0
+abbrev pub Judges : ℕ → ℕ → ReaderState → Kind → Result Judged Reason → Type 0
 Judges tags levels reader =
     λ k. Judgement tags levels reader (Agrees reader) (λ part. judged reader.profile part k) k
 
 -- Movetext.
 
 -- The reader holds a part after whose pairs movetext begins, or in which it goes on.
-pub record IsOpen (reading : Reading) (part : Part) : Type 0 where
+pub record IsOpen (reading : ReaderState) (part : Part) : Type 0 where
   pub stage : reading.stage ≡ part.stage
   pub pairs : reading.tags ≡ record { held = part.pairs; pending_name = None }
   pub fresh : reading.stage ≡ AfterTags → part.items ≡ []
@@ -229,7 +229,7 @@ text_refusal p part (tokens.symbol s) =
 text_refusal p part k = None
 
 -- of a token of movetext, after a part that is open
-abbrev pub JudgesEntry : ℕ → ℕ → Reading → Kind → Result Judged Reason → Type 0
+abbrev pub JudgesEntry : ℕ → ℕ → ReaderState → Kind → Result Judged Reason → Type 0
 JudgesEntry tags levels reader = λ k.
     Judgement tags levels reader (IsOpen reader)
     (λ part. outcome_of (text_refusal reader.profile part k) (in_text part k)) k

@@ -16,7 +16,7 @@ use Rattle.pgn_game.specs.Profile.{Profile}
 use Rattle.pgn_game.specs.Progress.{read, due, output, Verdict, refused as is_refused, totals, verdict}
 use Rattle.pgn_game.specs.Due.{Gains}
 use Rattle.pgn_game.specs.MostTried.{MostTried}
-use Rattle.pgn_game.specs.Feeding.{Converter, play_moves, Stands, StopsWriting, Stops}
+use Rattle.pgn_game.specs.ConverterCalls.{Converter, play_moves, Stands, StopsWriting, Stops}
 
 -- the verdict that has these numbers
 abbrev pub verdict_in : Totals → Verdict

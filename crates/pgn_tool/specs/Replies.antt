@@ -2,7 +2,7 @@
 use Rattle.std.specs.Prelude.{◌≡◌, ℕ, ◌≤◌, List, codes, string_bytes}
 use Rattle.std.specs.Io.KnownBytes.{Appends}
 use Rattle.pgn_layout.specs.Device.{Device, IsStill}
-use Rattle.pgn_tool.specs.Running.{HasFailed, IsUntouched, Tells, line}
+use Rattle.pgn_tool.specs.TaskRun.{HasFailed, IsUntouched, Tells, line}
 use Rattle.pgn_tool.specs.declared.arguments.ParseFault.{ParseFault}
 use Rattle.pgn_tool.specs.declared.arguments.ParseFault.TheVariants.{Help, Bad, NoMemory}
 

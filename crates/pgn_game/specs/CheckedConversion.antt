@@ -14,10 +14,10 @@ use Rattle.pgn_game.specs.declared.reason.Fault.{Fault}
 use Rattle.pgn_game.specs.declared.conversion.Totals.{Totals}
 use Rattle.pgn_game.specs.Profile.{Profile}
 use Rattle.pgn_game.specs.Progress.{read, Verdict, refused as is_refused}
-use Rattle.pgn_game.specs.Converting.{verdict_in}
-use Rattle.pgn_game.specs.Feeding.{play_moves}
+use Rattle.pgn_game.specs.Conversion.{verdict_in}
+use Rattle.pgn_game.specs.ConverterCalls.{play_moves}
 use Rattle.pgn_game.specs.MostTried.{MostTried}
-use Rattle.pgn_game.specs.Checked.{Mark, marks, Followed, followed, written_by, checked_verdict, checked_output}
+use Rattle.pgn_game.specs.Checked.{Mark, marks, Comparison, compared, written_by, checked_verdict, checked_output}
 
 -- the tokens begin with ts
 abbrev pub BeginsWith : List Token → List Token → Type 0
@@ -38,7 +38,7 @@ pub record MostOfBoth (p : Profile) (ts us : List Token) (n : ℕ) : Type 0 wher
   pub rest : List Token
   pub cut : us ≡ front ++ rest
   pub passes : (read p front).fault ≡ None
-  pub same : (read p front).progress ≡ (followed p ts us).progress
+  pub same : (read p front).progress ≡ (compared p ts us).progress
   pub most_of_first : ℕ
   pub most_of_second : ℕ
   pub first_tried : MostTried p ts most_of_first
@@ -46,15 +46,15 @@ pub record MostOfBoth (p : Profile) (ts us : List Token) (n : ℕ) : Type 0 wher
   pub greater : n ≡ max most_of_first most_of_second
 
 -- It is at most 1,040, and at least one if a game that is written has a move.
-pub record CountsBoth (p : Profile) (s r : List ℕ) (n : ℕ) : Type 0 where
+pub record ProbesBoth (p : Profile) (s r : List ℕ) (n : ℕ) : Type 0 where
   pub most : n ≤ 1040
-  pub some : IsTrue (play_moves (followed p (tokens_of s) (tokens_of r)).progress.games) → 0 < n
+  pub some : IsTrue (play_moves (compared p (tokens_of s) (tokens_of r)).progress.games) → 0 < n
   pub tried : MostOfBoth p (tokens_of s) (tokens_of r) n
 
 -- both were converted, with these numbers
 pub record AreTotalled (p : Profile) (s r : List ℕ) (t : Totals) (sink : Device) : Type 0 where
   pub converted : AreConverted p s r (verdict_in t) sink
-  pub probes : CountsBoth p s r t.most_probes
+  pub probes : ProbesBoth p s r t.most_probes
 
 -- The bytes that a source has given decide these tokens: however it goes on, the tokens of its text
 -- begin with them. Or it has ended, and the tokens of its text begin with them.
@@ -64,29 +64,29 @@ pub data Decides (source : Device) (ts : List Token) : Type 0 where
 
 -- `second` was read against the marks of these tokens of `first`, up to the last one, without a
 -- difference, and the games up to there are written.
-pub record IsFollowed (p : Profile) (ts us : List Token) (sink : Device) : Type 0 where
-  pub fault : (followed p ts us).fault ≡ None
-  pub ahead : (followed p ts us).ahead ≡ []
-  pub appended : HasTaken sink (written_by p (followed p ts us))
+pub record MatchesAllMarks (p : Profile) (ts us : List Token) (sink : Device) : Type 0 where
+  pub fault : (compared p ts us).fault ≡ None
+  pub marks_left : (compared p ts us).marks_left ≡ []
+  pub appended : HasTaken sink (written_by p (compared p ts us))
 
 -- `first` has given the bytes u, of which nothing is rejected, and is read no further.
 pub record EndsFirst (p : Profile) (u : List ℕ) (second sink : Device) : Type 0 where
   pub passes : (read p (decided u)).fault ≡ None
-  pub followed : IfSome second.before (λ r. IsFollowed p (decided u) (tokens_of r) sink)
+  pub matched : IfSome second.before (λ r. MatchesAllMarks p (decided u) (tokens_of r) sink)
 
 -- `second` has given the bytes u, which show no difference, and is read no further, before a mark
 -- of tokens that `first` has given.
 pub record EndsSecond (p : Profile) (first : Device) (u : List ℕ) (sink : Device) : Type 0 where
   pub tokens : List Token
   pub decided_by : Decides first tokens
-  pub fault : (followed p tokens (decided u)).fault ≡ None
-  pub ahead : (m : Mark) × (ms : List Mark) × ((followed p tokens (decided u)).ahead ≡ m ∷ ms)
-  pub appended : HasTaken sink (written_by p (followed p tokens (decided u)))
+  pub fault : (compared p tokens (decided u)).fault ≡ None
+  pub marks_left : (m : Mark) × (ms : List Mark) × ((compared p tokens (decided u)).marks_left ≡ m ∷ ms)
+  pub appended : HasTaken sink (written_by p (compared p tokens (decided u)))
 
 -- Where a write failed: the tokens of `second` up to `token` show no difference from the marks of
 -- tokens that `first` has given. Of what is written for them, a front was, not all, and at least
 -- what is written for those before it.
-pub record StopsFollowing (p : Profile) (first : Device) (us : List Token) (at : ℕ) (sink : Device) : Type 0 where
+pub record StopsWritingSecond (p : Profile) (first : Device) (us : List Token) (at : ℕ) (sink : Device) : Type 0 where
   pub tokens : List Token
   pub decided_by : Decides first tokens
   pub front : List Token
@@ -94,11 +94,11 @@ pub record StopsFollowing (p : Profile) (first : Device) (us : List Token) (at :
   pub rest : List Token
   pub cut : us ≡ front ++ token ∷ rest
   pub place : token.at ≡ at
-  pub fault : (followed p tokens (front ++ token ∷ [])).fault ≡ None
+  pub fault : (compared p tokens (front ++ token ∷ [])).fault ≡ None
   pub count : ℕ
-  pub least : length (written_by p (followed p tokens front)) ≤ count
-  pub short : count < length (written_by p (followed p tokens (front ++ token ∷ [])))
-  pub appended : HasTaken sink (take count (written_by p (followed p tokens (front ++ token ∷ []))))
+  pub least : length (written_by p (compared p tokens front)) ≤ count
+  pub short : count < length (written_by p (compared p tokens (front ++ token ∷ [])))
+  pub appended : HasTaken sink (take count (written_by p (compared p tokens (front ++ token ∷ []))))
 
 -- How a conversion fails: by the texts' own verdict, a fault of `first` or the first difference;
 -- because a read of either failed, or a write; or since the byte at place 2^62 came. In `second`
@@ -114,7 +114,7 @@ pub data FailsTwice (p : Profile) (first second sink : Device) : Fault → Type 
       → FailsTwice p first second sink (record { at = length u; reason = ReadFault })
   second_too_long : (u rest : List ℕ) → Consumes second.before second.after (u ++ rest) → length u ≡ 2 ^ 62 → 0 < length rest → EndsSecond p first u sink
       → FailsTwice p first second sink (record { at = length u; reason = Changed })
-  unwritten : (at : ℕ) → IfSome second.before (λ r. StopsFollowing p first (tokens_of r) at sink)
+  unwritten : (at : ℕ) → IfSome second.before (λ r. StopsWritingSecond p first (tokens_of r) at sink)
       → FailsTwice p first second sink (record { at = at; reason = WriteFault })
 
 -- What the sources have left is converted, `first` up to its end.

@@ -21,7 +21,7 @@ use Rattle.pgn_lexer.specs.declared.partial_token.Reached.{Reached}
 use Rattle.pgn_lexer.specs.Bytes.{is_line_end, is_digit, continues_symbol, is_suffix}
 use Rattle.pgn_lexer.specs.Spelling.{class, comment_class, string_class}
 use Rattle.pgn_lexer.specs.PartialToken.{PartialToken}
-use Rattle.pgn_lexer.specs.Running.{reached_after}
+use Rattle.pgn_lexer.specs.RunResult.{reached_after}
 
 -- what is held then, and what the byte results in
 pub record AfterByte : Type 0 where

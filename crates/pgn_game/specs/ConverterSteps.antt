@@ -20,7 +20,7 @@ use Rattle.pgn_game.specs.Profile.{Profile}
 use Rattle.pgn_game.specs.Game.{Game}
 use Rattle.pgn_game.specs.Progress.{read}
 use Rattle.pgn_game.specs.Due.{Gains}
-use Rattle.pgn_game.specs.Feeding.{Converter, game_in_reader, finished_game_of, IsLast, HasRead, Stands, Stops, games_before, ProbesAtStop, FedAll, FedGame, FedToFault}
+use Rattle.pgn_game.specs.ConverterCalls.{Converter, game_in_reader, finished_game_of, IsLast, HasRead, Stands, Stops, games_before, ProbesAtStop, FedAll, FedGame, FedToFault}
 
 -- the games read with one token more: none more, or one
 abbrev pub SameGames : Profile → List Token → List Token → Type 0
