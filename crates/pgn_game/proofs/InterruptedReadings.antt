@@ -134,7 +134,7 @@ module _ (p : Profile) (takes : p.missing_result ≡ takes_the_marker) where
   pub first_stops : (us more : List Token) → Ends (us ++ more) → AreWritten p (compared p us (us ++ more)) (due p us)
   first_stops us more last =
       let so = compared_same p no_progress us more (front_ends us more last) in
-      record { fault = so.fault; marks_left = so.marks_left; written = written_same p (compared p us (us ++ more)) (read p us).progress takes so }
+      record { fault = so.fault; no_mark_left = so.marks_left; written = written_same p (compared p us (us ++ more)) (read p us).progress takes so }
 
   -- `second` stops there
   pub second_stops : (us more : List Token) → Ends (us ++ more) → AreWrittenWithin p (compared p (us ++ more) us) (due p us) (due p (us ++ more))
@@ -154,7 +154,7 @@ module _ (p : Profile) (takes : p.missing_result ≡ takes_the_marker) where
       by_length : ((z : List Token) × (us ≡ ts ++ z)) ⊎ ((z : List Token) × (ts ≡ us ++ z)) → AreWrittenWithin p (compared p ts us) (due p us) (due p (us ++ more))
       by_length (inl h) =
           let none : (compared p ts us).marks_left ≡ [] =
-          ap (λ (l : List Token). (compared p ts l).marks_left) h.1 ∙ (first_stops ts h.0 (subst Ends h.1 (front_ends us more last))).marks_left in
+          ap (λ (l : List Token). (compared p ts l).marks_left) h.1 ∙ (first_stops ts h.0 (subst Ends h.1 (front_ends us more last))).no_mark_left in
           absurd (cc (none, ahead))
       by_length (inr h) =
           let so = second_stops us h.0 (subst Ends h.1 (front_ends ts rest (subst Ends same last))) in

@@ -15,7 +15,7 @@ use Rattle.pgn_game.specs.FaultTable.{refusal, is_end}
 use Rattle.pgn_game.specs.Text.{text_of, torn}
 use Rattle.pgn_game.specs.Progress.{Next, going, whole, next, Progress, no_progress, progress_after, read, Verdict, verdict_of}
 
--- the profile of both readings, for at most so many pairs and levels
+-- the profile of both readings, for at most so many pairs of a game, and variations so deep
 abbrev pub checked_profile : ℕ → ℕ → Mode → Profile
 checked_profile most depth mode = record { tags = most; depth = depth; mode = mode; missing_result = takes_the_marker }
 

@@ -20,8 +20,8 @@ use Rattle.pgn_game.specs.MostTried.{MostTried}
 use Rattle.pgn_game.specs.Checked.{Mark, marks, Comparison, compared, written_by, checked_verdict, checked_output}
 
 -- the tokens begin with ts
-abbrev pub BeginsWith : List Token → List Token → Type 0
-BeginsWith ts tokens = (rest : List Token) × (tokens ≡ ts ++ rest)
+abbrev pub IsTokenPrefix : List Token → List Token → Type 0
+IsTokenPrefix ts tokens = (rest : List Token) × (tokens ≡ ts ++ rest)
 
 -- the sink has taken this text, and no more
 abbrev pub HasTaken : Device → List ℕ → Type 0
@@ -59,34 +59,34 @@ pub record AreTotalled (p : Profile) (s r : List ℕ) (t : Totals) (sink : Devic
 -- The bytes that a source has given decide these tokens: however it goes on, the tokens of its text
 -- begin with them. Or it has ended, and the tokens of its text begin with them.
 pub data Decides (source : Device) (ts : List Token) : Type 0 where
-  so_far : (u : List ℕ) → Consumes source.before source.after u → ((x : List ℕ) → BeginsWith ts (tokens_of (u ++ x))) → Decides source ts
-  at_end : (u : List ℕ) → Consumes source.before source.after u → IfSome source.before (λ s. s ≡ u) → BeginsWith ts (tokens_of u) → Decides source ts
+  so_far : (u : List ℕ) → Consumes source.before source.after u → ((x : List ℕ) → IsTokenPrefix ts (tokens_of (u ++ x))) → Decides source ts
+  at_end : (u : List ℕ) → Consumes source.before source.after u → IfSome source.before (λ s. s ≡ u) → IsTokenPrefix ts (tokens_of u) → Decides source ts
 
--- `second` was read against the marks of these tokens of `first`, up to the last one, without a
--- difference, and the games up to there are written.
+-- `second` was read up to the last mark of these tokens of `first`, without a difference, and the
+-- games up to there are written.
 pub record MatchesAllMarks (p : Profile) (ts us : List Token) (sink : Device) : Type 0 where
   pub fault : (compared p ts us).fault ≡ None
-  pub marks_left : (compared p ts us).marks_left ≡ []
+  pub no_mark_left : (compared p ts us).marks_left ≡ []
   pub appended : HasTaken sink (written_by p (compared p ts us))
 
 -- `first` has given the bytes u, of which nothing is rejected, and is read no further.
-pub record EndsFirst (p : Profile) (u : List ℕ) (second sink : Device) : Type 0 where
+pub record FirstStops (p : Profile) (u : List ℕ) (second sink : Device) : Type 0 where
   pub passes : (read p (decided u)).fault ≡ None
   pub matched : IfSome second.before (λ r. MatchesAllMarks p (decided u) (tokens_of r) sink)
 
 -- `second` has given the bytes u, which show no difference, and is read no further, before a mark
 -- of tokens that `first` has given.
-pub record EndsSecond (p : Profile) (first : Device) (u : List ℕ) (sink : Device) : Type 0 where
+pub record SecondStops (p : Profile) (first : Device) (u : List ℕ) (sink : Device) : Type 0 where
   pub tokens : List Token
   pub decided_by : Decides first tokens
   pub fault : (compared p tokens (decided u)).fault ≡ None
-  pub marks_left : (m : Mark) × (ms : List Mark) × ((compared p tokens (decided u)).marks_left ≡ m ∷ ms)
+  pub next_mark : (m : Mark) × (ms : List Mark) × ((compared p tokens (decided u)).marks_left ≡ m ∷ ms)
   pub appended : HasTaken sink (written_by p (compared p tokens (decided u)))
 
 -- Where a write failed: the tokens of `second` up to `token` show no difference from the marks of
 -- tokens that `first` has given. Of what is written for them, a front was, not all, and at least
 -- what is written for those before it.
-pub record StopsWritingSecond (p : Profile) (first : Device) (us : List Token) (at : ℕ) (sink : Device) : Type 0 where
+pub record WriteStops (p : Profile) (first : Device) (us : List Token) (at : ℕ) (sink : Device) : Type 0 where
   pub tokens : List Token
   pub decided_by : Decides first tokens
   pub front : List Token
@@ -103,24 +103,24 @@ pub record StopsWritingSecond (p : Profile) (first : Device) (us : List Token) (
 -- How a conversion fails: by the texts' own verdict, a fault of `first` or the first difference;
 -- because a read of either failed, or a write; or since the byte at place 2^62 came. In `second`
 -- that is a difference, since `first` has finished this game before its own place 2^62.
-pub data FailsTwice (p : Profile) (first second sink : Device) : Fault → Type 0 where
+pub data TwoReadingsFail (p : Profile) (first second sink : Device) : Fault → Type 0 where
   refused : (f : Fault) → IfSome first.before (λ s. IfSome second.before (λ r. AreConverted p s r (is_refused f) sink))
-      → FailsTwice p first second sink f
-  first_unread : (u : List ℕ) → Consumes first.before first.after u → FailsOnce first → EndsFirst p u second sink
-      → FailsTwice p first second sink (record { at = length u; reason = ReadFault })
-  first_too_long : (u rest : List ℕ) → Consumes first.before first.after (u ++ rest) → length u ≡ 2 ^ 62 → 0 < length rest → EndsFirst p u second sink
-      → FailsTwice p first second sink (record { at = length u; reason = InputTooLong })
-  second_unread : (u : List ℕ) → Consumes second.before second.after u → FailsOnce second → EndsSecond p first u sink
-      → FailsTwice p first second sink (record { at = length u; reason = ReadFault })
-  second_too_long : (u rest : List ℕ) → Consumes second.before second.after (u ++ rest) → length u ≡ 2 ^ 62 → 0 < length rest → EndsSecond p first u sink
-      → FailsTwice p first second sink (record { at = length u; reason = Changed })
-  unwritten : (at : ℕ) → IfSome second.before (λ r. StopsWritingSecond p first (tokens_of r) at sink)
-      → FailsTwice p first second sink (record { at = at; reason = WriteFault })
+      → TwoReadingsFail p first second sink f
+  first_unread : (u : List ℕ) → Consumes first.before first.after u → FailsOnce first → FirstStops p u second sink
+      → TwoReadingsFail p first second sink (record { at = length u; reason = ReadFault })
+  first_too_long : (u rest : List ℕ) → Consumes first.before first.after (u ++ rest) → length u ≡ 2 ^ 62 → 0 < length rest → FirstStops p u second sink
+      → TwoReadingsFail p first second sink (record { at = length u; reason = InputTooLong })
+  second_unread : (u : List ℕ) → Consumes second.before second.after u → FailsOnce second → SecondStops p first u sink
+      → TwoReadingsFail p first second sink (record { at = length u; reason = ReadFault })
+  second_too_long : (u rest : List ℕ) → Consumes second.before second.after (u ++ rest) → length u ≡ 2 ^ 62 → 0 < length rest → SecondStops p first u sink
+      → TwoReadingsFail p first second sink (record { at = length u; reason = Changed })
+  unwritten : (at : ℕ) → IfSome second.before (λ r. WriteStops p first (tokens_of r) at sink)
+      → TwoReadingsFail p first second sink (record { at = at; reason = WriteFault })
 
 -- What the sources have left is converted, `first` up to its end.
-abbrev pub ConvertsTwice : Profile → (first second sink : Device) → Result Totals Fault → Type 0
-ConvertsTwice p first second sink (Ok t) = IfSome first.before (λ s. IfSome second.before (λ r. AreTotalled p s r t sink))
-ConvertsTwice p first second sink (Err f) = FailsTwice p first second sink f
+abbrev pub TwoReadingsConvert : Profile → (first second sink : Device) → Result Totals Fault → Type 0
+TwoReadingsConvert p first second sink (Ok t) = IfSome first.before (λ s. IfSome second.before (λ r. AreTotalled p s r t sink))
+TwoReadingsConvert p first second sink (Err f) = TwoReadingsFail p first second sink f
 
 -- one of two devices counts one failure more, and the other none
 abbrev pub OneFails : (first second : Device) → Type 0
@@ -133,6 +133,6 @@ CountsThree ReadFault first second sink = OneFails first second × IsStill sink
 CountsThree WriteFault first second sink = IsStill first × IsStill second × FailsOnce sink
 CountsThree _ first second sink = IsStill first × IsStill second × IsStill sink
 
-abbrev pub CountsTwice : (first second sink : Device) → Result Totals Fault → Type 0
-CountsTwice first second sink (Ok t) = IsStill first × IsStill second × IsStill sink
-CountsTwice first second sink (Err f) = CountsThree f.reason first second sink
+abbrev pub TwoReadingsCount : (first second sink : Device) → Result Totals Fault → Type 0
+TwoReadingsCount first second sink (Ok t) = IsStill first × IsStill second × IsStill sink
+TwoReadingsCount first second sink (Err f) = CountsThree f.reason first second sink

@@ -18,10 +18,10 @@ EqualReadings = (p : Profile) (s : List ℕ) → p.missing_result ≡ takes_the_
 -- Nothing shows a difference, all marks are read, and what is written is this text.
 pub record AreWritten (p : Profile) (f : Comparison) (text : List ℕ) : Type 0 where
   pub fault : f.fault ≡ None
-  pub marks_left : f.marks_left ≡ []
+  pub no_mark_left : f.marks_left ≡ []
   pub written : written_by p f ≡ text
 
--- Nothing shows a difference. What is written begins with `front`, and `whole` begins with it.
+-- Nothing shows a difference. What is written begins with `front`, and is a prefix of `whole`.
 pub record AreWrittenWithin (p : Profile) (f : Comparison) (front whole : List ℕ) : Type 0 where
   pub fault : f.fault ≡ None
   pub least : IsPrefix front (written_by p f)
@@ -30,8 +30,8 @@ pub record AreWrittenWithin (p : Profile) (f : Comparison) (front whole : List �
 -- Where the readings give the same text, but one is read no further or a write fails. ts are the
 -- tokens that `first` has given by then.
 -- - If `first` gives u alone, what is written is what one reading has written after u.
--- - If `second` gives u alone, and so stops before a mark, at least that is written, and a prefix
---   of the output of the text.
+-- - If `second` gives u alone, and a mark of ts is still to come, at least that is written, and a
+--   prefix of the output of the text.
 -- - If a write fails at a token of `second`, a prefix of the output of the text is written.
 pub record InterruptedReadings : Type 0 where
   pub first_stops : (p : Profile) (u x : List ℕ) → p.missing_result ≡ takes_the_marker

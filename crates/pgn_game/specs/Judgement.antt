@@ -123,7 +123,7 @@ abbrev pub IsProbed : Entry → ℕ → Type 0
 IsProbed (Put (Move played)) most = 0 < most
 IsProbed e most = Unit {0}
 
--- What was judged can be put on a reader of at most so many pairs and levels.
+-- What was judged can be put on a reader of at most so many pairs of a game and levels.
 abbrev pub Fits : ℕ → ℕ → ReaderState → Judged → Type 0
 Fits tags levels r Skipped = Unit {0}
 Fits tags levels r PairOpen = (r.stage ≡ AfterTags) × (length r.tags.held < tags)

@@ -6,7 +6,7 @@ ghost use Rattle.pgn_lexer.specs.Scanned.{kind_of};
 ghost use Rattle.pgn_lexer.specs.Tokens.{HasLength};
 ghost use Rattle.pgn_game.specs.declared.reason.Reason.TheVariants.{Changed};
 ghost use Rattle.pgn_game.specs.Checked.{checked_profile};
-ghost use Rattle.pgn_game.specs.CheckedConversion.{ConvertsTwice, CountsTwice};
+ghost use Rattle.pgn_game.specs.CheckedConversion.{TwoReadingsConvert, TwoReadingsCount};
 ghost use Rattle.pgn_game.specs.Pass.{CountsRead, CountsStep, CountsTaken, Fills, GoesBehind};
 ghost use Rattle.pgn_game.specs.Pass.{GoesOn, HasGiven};
 ghost use Rattle.pgn_game.specs.Pass.{IsGoing, IsTold, Keeps, LeavesReader, ReadsGame, Steps, Takes};
@@ -69,11 +69,11 @@ pub fn convert_checked<const T: usize, const L: usize, Q: Source, R: Source, W: 
 ) -> Result<Totals, Fault>
     requires levels { 1 ≤ L }
     requires memory { HoldsTwice T.row L.row }
-    ensures converts { ConvertsTwice (checked_profile T (L - 1) mode)
+    ensures converts { TwoReadingsConvert (checked_profile T (L - 1) mode)
         (device Q.left Q.failures first.old first.new)
         (device R.left R.failures second.old second.new)
         (device W.taken W.failures writer.old writer.new) result }
-    ensures counted { CountsTwice (device Q.left Q.failures first.old first.new)
+    ensures counted { TwoReadingsCount (device Q.left Q.failures first.old first.new)
         (device R.left R.failures second.old second.new)
         (device W.taken W.failures writer.old writer.new) result }
 {

@@ -1,7 +1,7 @@
 -- Runs of a task, and the lines of a list.
 pub mod CallToLines
 pub mod ConversionToRun
-pub mod ConversionTwiceToFront
+pub mod CheckedConversionToFront
 pub mod CheckedConversionToRun
 pub mod FileToRun
 pub mod PartsOfText

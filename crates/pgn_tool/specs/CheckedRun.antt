@@ -13,10 +13,10 @@ use Rattle.pgn_game.specs.Profile.{Profile}
 use Rattle.pgn_game.specs.Reason.{line_of}
 use Rattle.pgn_game.specs.Progress.{output, verdict}
 use Rattle.pgn_game.specs.Checked.{checked_output, checked_profile, checked_verdict}
-use Rattle.pgn_game.specs.CheckedConversion.{ConvertsTwice}
+use Rattle.pgn_game.specs.CheckedConversion.{TwoReadingsConvert, TwoReadingsCount}
 use Rattle.pgn_tool.specs.declared.arguments.Task.{Task}
 use Rattle.pgn_tool.specs.declared.arguments.Task.TheVariants.{Checked}
-use Rattle.pgn_tool.specs.TaskRun.{Concludes, HasFailed, HasFront, Tells, TellsVerdict, line, mode_for, status_of}
+use Rattle.pgn_tool.specs.TaskRun.{Concludes, FlushCounts, HasFailed, HasFront, Tells, TellsVerdict, line, mode_for, status_of}
 
 -- ---- what is asked for
 
@@ -66,11 +66,19 @@ abbrev pub EndsTwice : Result Totals Fault → (first second out err : Device) �
 EndsTwice (Ok t) first second out err status = Concludes first out err status × IsStill second
 EndsTwice (Err f) first second out err status = RefusesTwice f first second out err status
 
+-- The devices count what the conversion reports, and nothing after it but the flush.
+pub record CountsBothReadings (answer : Result Totals Fault) (first second out : Device) : Type 0 where
+  pub converted : Device
+  pub failures : converted.failures ≡ out.failures
+  pub conversion : TwoReadingsCount first second converted answer
+  pub flush : FlushCounts converted.failures_after out.failures_after
+
 -- A run that reads two sources: a conversion with its result, what it wrote to standard output, and
 -- how the run ends.
 pub record RunsTwice (mode : Mode) (first second out err : Device) (status : ℕ) : Type 0 where
   pub answer : Result Totals Fault
-  pub works : ConvertsTwice (profile_twice mode) first second out answer
+  pub works : TwoReadingsConvert (profile_twice mode) first second out answer
+  pub counted : CountsBothReadings answer first second out
   pub ends : EndsTwice answer first second out err status
 
 -- the source gives the text s, up to a failure

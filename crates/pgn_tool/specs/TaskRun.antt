@@ -1,5 +1,5 @@
 -- **Definition**: what a run of a task does to its devices, and the status that it ends with.
-use Rattle.std.specs.Prelude.{◌≡◌, ℕ, ◌-◌, ◌^◌, ◌<◌, ◌≤◌, Bool, true, false, List, [], ◌∷◌, ◌++◌, length, take, codes, decimal, Option, None, Some, Result, Ok, Err}
+use Rattle.std.specs.Prelude.{◌≡◌, ℕ, ◌-◌, ◌^◌, ◌<◌, ◌≤◌, ◌⊎◌, Bool, true, false, List, [], ◌∷◌, ◌++◌, length, take, codes, decimal, Option, None, Some, Result, Ok, Err}
 use Rattle.std.specs.Io.KnownBytes.{Appends, Keeps}
 use Rattle.pgn_layout.specs.Device.{Device, IsStill, one_more}
 use Rattle.pgn_game.specs.declared.mode.Mode.{Mode}
@@ -12,12 +12,12 @@ use Rattle.pgn_game.specs.Profile.{Profile}
 use Rattle.pgn_game.specs.Reason.{line_of}
 use Rattle.pgn_game.specs.Progress.{Verdict, refused, totals, output, verdict}
 use Rattle.pgn_game.specs.ConverterCalls.{profile_of}
-use Rattle.pgn_game.specs.Conversion.{Converts}
+use Rattle.pgn_game.specs.Conversion.{Converts, CountsResult}
 use Rattle.pgn_tool.specs.declared.arguments.Task.{Task}
 use Rattle.pgn_tool.specs.declared.arguments.Task.TheVariants.{Export, Checked, Check, List as ListGames, Split}
 use Rattle.pgn_tool.specs.declared.list.Stopped.{Stopped}
 use Rattle.pgn_tool.specs.declared.list.Stopped.TheVariants as stopped
-use Rattle.pgn_tool.specs.ListLines.{ListResult, list_text}
+use Rattle.pgn_tool.specs.ListLines.{CountsList, ListResult, list_text}
 
 -- ---- what is asked for
 
@@ -160,11 +160,23 @@ Works (exporting mode) answer source out = Converts (profile_of 64 32 mode) sour
 Works checking answer source out = Converts (profile_of 64 32 Full) source.before source.after answer None None × WritesCountingLine answer out
 Works listing answer source out = ⊥
 
+-- the flush at the end of a run may fail once, and is not called again
+abbrev pub FlushCounts : ℕ → ℕ → Type 0
+FlushCounts old new = (new ≡ old) ⊎ (new ≡ one_more old)
+
+-- The devices count what the conversion reports, and nothing after it but the flush.
+abbrev pub CountsWork : Job → Result Totals Fault → Device → Device → Type 0
+CountsWork (exporting mode) answer source out =
+    (converted : ℕ) × CountsResult answer source.failures source.failures_after out.failures converted × FlushCounts converted out.failures_after
+CountsWork checking answer source out = CountsResult answer source.failures source.failures_after 0 0
+CountsWork listing answer source out = ⊥
+
 -- A run that converts: a conversion with its result, and how it ends. For an export, standard
 -- output has what the conversion wrote.
 pub record RunsConversion (job : Job) (source out err : Device) (status : ℕ) : Type 0 where
   pub answer : Result Totals Fault
   pub works : Works job answer source out
+  pub counted : CountsWork job answer source out
   pub ends : Ends answer source out err status
 
 -- a line could not be written, which is reported
@@ -182,6 +194,7 @@ EndsList (Err stopped.Unwritten) source out err status = Breaks out err status
 pub record RunsList (source out err : Device) (status : ℕ) : Type 0 where
   pub answer : Result Unit Stopped
   pub lists : ListResult source.before source.after answer out.before out.after
+  pub counted : (listed : ℕ) × CountsList answer source.failures source.failures_after out.failures listed × FlushCounts listed out.failures_after
   pub ends : EndsList answer source out err status
 
 -- what a run of a job is

@@ -14,7 +14,7 @@ use pgn_lexer::laws::decided_is_prefix;
 /// Carries out `export --checked` on what two sources give, and returns the exit status.
 ///
 /// Each game is read from `first` to its marker, then read from `second` and written. A missing
-/// Result takes the marker. Both sources have to give the same bytes.
+/// Result takes the marker. Both sources are meant to give the same bytes.
 ///
 /// - 0: there was no fault. `out` has the export text, and is flushed once, at the end. `err` is
 ///   not touched.
@@ -33,7 +33,8 @@ pub fn run_checked<Q: Source, R: Source, O: Sink, E: Sink>(
 ) -> u8
     requires { is_checked task.now ≡ true }
 
-    // If no device fails, the two texts decide the status, the output and the report.
+    // If no device fails, the two texts decide the status, the output and the report. They have at
+    // most 2^62 bytes.
     ensures answers { (s r : List ℕ)
         → IsSmooth s (device Q.left Q.failures first.old first.new)
         (device O.taken O.failures out.old out.new)
@@ -63,7 +64,7 @@ pub fn run_checked<Q: Source, R: Source, O: Sink, E: Sink>(
     ensures second_kept { result ≡ 0 → R.failures second.new ≡ R.failures second.old }
     ensures out_kept { result ≡ 0 → O.failures out.new ≡ O.failures out.old }
 
-    // What is written and reported then.
+    // What is written and reported, whatever the devices do.
     ensures runs { RunsTwice (checked_mode task.now)
         (device Q.left Q.failures first.old first.new)
         (device R.left R.failures second.old second.new)

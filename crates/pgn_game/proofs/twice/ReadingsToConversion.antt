@@ -26,7 +26,7 @@ use Rattle.pgn_game.specs.ConverterCalls.{play_moves}
 use Rattle.pgn_game.specs.Conversion.{verdict_in}
 use Rattle.pgn_game.specs.MostTried.{MostTried}
 use Rattle.pgn_game.specs.Checked.{Mark, marks_from, is_other, is_changed, marks_after, Comparison, compared_from, compared, with_mark, torn_before, written_by, earlier_fault}
-use Rattle.pgn_game.specs.CheckedConversion.{AreConverted, AreTotalled, BeginsWith, Decides, HasTaken, MatchesAllMarks, EndsFirst, EndsSecond, StopsWritingSecond, FailsTwice, ConvertsTwice}
+use Rattle.pgn_game.specs.CheckedConversion.{AreConverted, AreTotalled, IsTokenPrefix, Decides, HasTaken, MatchesAllMarks, FirstStops, SecondStops, WriteStops, TwoReadingsFail, TwoReadingsConvert}
 use Rattle.pgn_game.specs.Pass.{Pass, model_mark, StandsIn, HasGiven, ReadFails, HasMarked, HasMatched, ReadsMark, ReadsToEnd, StopsAt, ReadsToFault, torn_after, WritesToMark, StopsWithin, WritesToFault, changed_reason, as_changed, BothSoFar}
 use Rattle.pgn_game.proofs.EqualReadings.{after_marks, marks_test, after_change, change_test, no_mark}
 use Rattle.pgn_game.proofs.tokens.NextGrows.{next_is}
@@ -43,7 +43,7 @@ both_known o n A B P first second goes =
 
 -- the tokens of the text begin with these
 abbrev Begins : List Token → List ℕ → Type 0
-Begins given s = BeginsWith given (tokens_of s)
+Begins given s = IsTokenPrefix given (tokens_of s)
 
 begins : (has_ended : Bool) (l : Standing) (unused u : List ℕ) (given : List Token) (o n : Option (List ℕ)) → Consumes o n (u ++ unused) → StandsIn has_ended l unused given u o
     → IfSome o (Begins given)
@@ -161,7 +161,7 @@ module _ (q : Profile) (first second sink : Device) (first_now : Option (List �
 
   pub both_end : (new_a : Pass) (t : Totals) → ReadsToEnd q first.before so.marks new_a → t.games ≡ b.games → t.plies ≡ whole_plies b.reading
       → t.most_probes ≡ max new_a.reading.most_probes b.reading.most_probes → new_a.reading.most_probes ≤ 1040 → b.reading.most_probes ≤ 1040
-      → ConvertsTwice q first second sink (Ok t)
+      → TwoReadingsConvert q first second sink (Ok t)
   both_end new_a t end games plies probes first_bound second_bound =
       let h = so.second_given.has_read in
       let c : Progress = (read q so.second_tokens).progress in
@@ -193,7 +193,7 @@ module _ (q : Profile) (first second sink : Device) (first_now : Option (List �
       })
 
   -- `first` gives no token more
-  ends_first : (tokens : List Token) (u : List ℕ) → (read q tokens).fault ≡ None → HasMarked q tokens so.marks → tokens ≡ decided u → EndsFirst q u second sink
+  ends_first : (tokens : List Token) (u : List ℕ) → (read q tokens).fault ≡ None → HasMarked q tokens so.marks → tokens ≡ decided u → FirstStops q u second sink
   ends_first tokens u passes marked is_decided =
       record {
         passes = subst (λ (ts : List Token). (read q ts).fault ≡ None) is_decided passes;
@@ -202,32 +202,32 @@ module _ (q : Profile) (first second sink : Device) (first_now : Option (List �
             let is = last_mark (decided u) (tokens_of r) tokens [] y.0 (sym is_decided ∙ sym (append-nil tokens)) y.1 marked refl in
             record {
               fault = ap (λ (f : Comparison). f.fault) is;
-              marks_left = ap (λ (f : Comparison). f.marks_left) is;
+              no_mark_left = ap (λ (f : Comparison). f.marks_left) is;
               appended = subst (λ (f : Comparison). HasTaken sink (written_by q f)) (sym is) written;
             });
       }
 
   first_unread : {f : Fault} (tokens : List Token) → (read q tokens).fault ≡ None → HasMarked q tokens so.marks → (f.reason ≡ ReadFault → FailsOnce first) → ReadFails first.before first.after tokens f
-      → FailsTwice q first second sink f
+      → TwoReadingsFail q first second sink f
   first_unread tokens passes marked counts (ReadFails.unread u consumed is_decided) =
-      FailsTwice.first_unread u consumed (counts refl) (ends_first tokens u passes marked is_decided)
+      TwoReadingsFail.first_unread u consumed (counts refl) (ends_first tokens u passes marked is_decided)
   first_unread tokens passes marked counts (ReadFails.too_long u rest consumed place some is_decided) =
-      FailsTwice.first_too_long u rest consumed place some (ends_first tokens u passes marked is_decided)
+      TwoReadingsFail.first_too_long u rest consumed place some (ends_first tokens u passes marked is_decided)
 
   first_at : {f : Fault} (tokens : List Token) → (read q tokens).fault ≡ None → HasMarked q tokens so.marks → (f.reason ≡ ReadFault → FailsOnce first) → StopsAt q first.before first.after tokens f
-      → FailsTwice q first second sink f
+      → TwoReadingsFail q first second sink f
   first_at tokens passes marked counts (StopsAt.unread f fails) = first_unread tokens passes marked counts fails
   first_at tokens passes marked counts (StopsAt.refused t reason comes rejected) =
       let f : Fault = record { at = t.at; reason = reason } in
       let c : Progress = (read q tokens).progress in
-      FailsTwice.refused f
+      TwoReadingsFail.refused f
       (both_known first.before second.before (λ s. (ts : List Token) × (tokens_of s ≡ tokens ++ t ∷ ts)) (Begins so.second_tokens) (λ s r. AreConverted q s r (is_refused f) sink) comes second_begins
       (λ s r x y.
       let none : marks_from q c (t ∷ x.0) ≡ [] = marks_test q c t x.0 ∙ ap (after_marks q c t x.0) rejected in
       let is = last_mark (tokens_of s) (tokens_of r) tokens (t ∷ x.0) y.0 x.1 y.1 marked none in
       converted s r (Some f) is (ap (λ (ts : List Token). (read q ts).fault) x.1 ∙ ap (λ (r : Read). r.fault) (read-refuses q tokens t x.0 reason passes rejected))))
 
-  pub first_stops : (f : Fault) → (f.reason ≡ ReadFault → FailsOnce first) → ReadsToFault q first.before first.after so.marks f → FailsTwice q first second sink f
+  pub first_stops : (f : Fault) → (f.reason ≡ ReadFault → FailsOnce first) → ReadsToFault q first.before first.after so.marks f → TwoReadingsFail q first second sink f
   first_stops f counts fails = first_at fails.tokens fails.passes fails.marked counts fails.stops
 
 module _ (q : Profile) (first second sink : Device) (first_now second_now mid : Option (List ℕ)) (a b : Pass)
@@ -264,27 +264,27 @@ module _ (q : Profile) (first second sink : Device) (first_now second_now mid : 
       subst (λ (games : List Game). HasTaken sink (text_of q games ++ text)) (sym same_games) (Appends-trans sink.before mid sink.after _ _ so.written wrote)
 
   -- `second` gives no token more
-  ends_second : (u : List ℕ) → tokens ≡ decided u → Appends mid sink.after (torn_after q m tokens) → EndsSecond q first u sink
+  ends_second : (u : List ℕ) → tokens ≡ decided u → Appends mid sink.after (torn_after q m tokens) → SecondStops q first u sink
   ends_second u is_decided wrote =
       let is = goes reads.tokens (decided u) [] [] (sym (append-nil reads.tokens)) (sym is_decided ∙ sym (append-nil tokens)) in
       record {
         tokens = reads.tokens;
         decided_by = first_decides;
         fault = ap (λ (f : Comparison). f.fault) is;
-        marks_left = (mark, [], ap (λ (f : Comparison). f.marks_left) is);
+        next_mark = (mark, [], ap (λ (f : Comparison). f.marks_left) is);
         appended = subst (λ (f : Comparison). HasTaken sink (written_by q f)) (sym is) (all_written _ wrote);
       }
 
   second_unread : {f : Fault} → ReadFails second.before second.after tokens f → (changed_reason f.reason ≡ ReadFault → FailsOnce second) → Appends mid sink.after (torn_after q m tokens)
-      → FailsTwice q first second sink (as_changed f)
-  second_unread (ReadFails.unread u consumed is_decided) counts wrote = FailsTwice.second_unread u consumed (counts refl) (ends_second u is_decided wrote)
+      → TwoReadingsFail q first second sink (as_changed f)
+  second_unread (ReadFails.unread u consumed is_decided) counts wrote = TwoReadingsFail.second_unread u consumed (counts refl) (ends_second u is_decided wrote)
   second_unread (ReadFails.too_long u rest consumed place some is_decided) counts wrote =
-      FailsTwice.second_too_long u rest consumed place some (ends_second u is_decided wrote)
+      TwoReadingsFail.second_too_long u rest consumed place some (ends_second u is_decided wrote)
 
   -- a write failed at a token
   stops_at : q.missing_result ≡ takes_the_marker → (t : Token) → is_changed q mark c.part t ≡ false → (n : ℕ) → n < length (gain under c.part t.kind)
       → Appends mid sink.after (torn under c.part ++ take n (gain under c.part t.kind)) → (r : List ℕ) → (us : List Token) × (tokens_of r ≡ tokens ++ t ∷ us)
-      → StopsWritingSecond q first (tokens_of r) t.at sink
+      → WriteStops q first (tokens_of r) t.at sink
   stops_at takes t same n short wrote r y =
       let games : List ℕ = text_of q c.games in
       let before_it : List ℕ = torn under c.part in
@@ -315,15 +315,15 @@ module _ (q : Profile) (first second sink : Device) (first_now second_now mid : 
       }
 
   second_at : {f : Fault} → q.missing_result ≡ takes_the_marker → (f.reason ≡ ReadFault → FailsOnce second) → StopsWithin q second.before second.after m tokens mid sink.after f
-      → FailsTwice q first second sink f
+      → TwoReadingsFail q first second sink f
   second_at takes counts (StopsWithin.unread f fails wrote) = second_unread fails counts wrote
   second_at takes counts (StopsWithin.unwritten t comes same n short wrote) =
-      FailsTwice.unwritten t.at
-      (IfSome_then second.before {P = λ r. (us : List Token) × (tokens_of r ≡ tokens ++ t ∷ us)} {Q = λ r. StopsWritingSecond q first (tokens_of r) t.at sink} comes
+      TwoReadingsFail.unwritten t.at
+      (IfSome_then second.before {P = λ r. (us : List Token) × (tokens_of r ≡ tokens ++ t ∷ us)} {Q = λ r. WriteStops q first (tokens_of r) t.at sink} comes
       (stops_at takes t same n short wrote))
   second_at takes counts (StopsWithin.differs t comes changed wrote) =
       let f : Fault = record { at = t.at; reason = Changed } in
-      FailsTwice.refused f
+      TwoReadingsFail.refused f
       (both_known first.before second.before (Begins reads.tokens) (λ r. (us : List Token) × (tokens_of r ≡ tokens ++ t ∷ us)) (λ s r. AreConverted q s r (is_refused f) sink) first_begins comes
       (λ s r x y.
       let is : compared q (tokens_of s) (tokens_of r) ≡ record { progress = c; marks_left = mark ∷ behind x.0; fault = Some f } =
@@ -335,6 +335,6 @@ module _ (q : Profile) (first second sink : Device) (first_now second_now mid : 
 pub second_stops : (q : Profile) (first second sink : Device) (first_now second_now mid : Option (List ℕ)) (a b : Pass)
     (so : BothSoFar q first.before first_now second.before second_now a b sink.before mid) (m : CodeMark) (new_a : Pass) (f : Fault)
     → q.missing_result ≡ takes_the_marker → ReadsMark q first.before first.after so.marks m new_a → (f.reason ≡ ReadFault → FailsOnce second)
-    → WritesToFault q second.before second.after (so.marks ++ model_mark m ∷ []) m so.second_tokens f mid sink.after → FailsTwice q first second sink f
+    → WritesToFault q second.before second.after (so.marks ++ model_mark m ∷ []) m so.second_tokens f mid sink.after → TwoReadingsFail q first second sink f
 second_stops q first second sink first_now second_now mid a b so m new_a f takes reads counts fails =
     second_at q first second sink first_now second_now mid a b so m new_a reads fails.tokens fails.matched fails.no_game takes counts fails.stops

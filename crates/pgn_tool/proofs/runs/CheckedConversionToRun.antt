@@ -15,7 +15,7 @@ use Rattle.pgn_game.specs.declared.conversion.Totals.{Totals}
 use Rattle.pgn_game.specs.Profile.{Profile, takes_the_marker}
 use Rattle.pgn_game.specs.Progress.{Verdict, output, refused as is_refused, verdict}
 use Rattle.pgn_game.specs.Checked.{checked_output, checked_verdict}
-use Rattle.pgn_game.specs.CheckedConversion.{AreConverted, AreTotalled, ConvertsTwice, CountsThree, EndsFirst, EndsSecond, FailsTwice, HasTaken, MatchesAllMarks, OneFails, StopsWritingSecond}
+use Rattle.pgn_game.specs.CheckedConversion.{AreConverted, AreTotalled, TwoReadingsConvert, CountsThree, FirstStops, SecondStops, TwoReadingsFail, HasTaken, MatchesAllMarks, OneFails, WriteStops}
 use Rattle.pgn_game.specs.CheckedConversion.{first_too_long, first_unread, refused, second_too_long, second_unread, unwritten}
 use Rattle.pgn_game.specs.EqualReadings.{EqualReadings}
 use Rattle.pgn_tool.specs.TaskRun.{HasFailed, IsCalm, IsSmooth, TellsVerdict, status_of}
@@ -43,21 +43,21 @@ module _ (p : Profile) (first second d e : Device) (same : e.before ≡ d.before
 
   matched_on : (ts : List Token) (b : Option (List ℕ)) → IfSome b (λ r. MatchesAllMarks p ts (tokens_of r) d) → IfSome b (λ r. MatchesAllMarks p ts (tokens_of r) e)
   matched_on ts None known = tt
-  matched_on ts (Some r) known = record { fault = known.fault; marks_left = known.marks_left; appended = taken_on d e _ same keeps known.appended }
+  matched_on ts (Some r) known = record { fault = known.fault; no_mark_left = known.no_mark_left; appended = taken_on d e _ same keeps known.appended }
 
-  first_on : (u : List ℕ) → EndsFirst p u second d → EndsFirst p u second e
+  first_on : (u : List ℕ) → FirstStops p u second d → FirstStops p u second e
   first_on u ends = record { passes = ends.passes; matched = matched_on (decided u) second.before ends.matched }
 
-  second_on : (u : List ℕ) → EndsSecond p first u d → EndsSecond p first u e
+  second_on : (u : List ℕ) → SecondStops p first u d → SecondStops p first u e
   second_on u ends = record {
     tokens = ends.tokens;
     decided_by = ends.decided_by;
     fault = ends.fault;
-    marks_left = ends.marks_left;
+    next_mark = ends.next_mark;
     appended = taken_on d e _ same keeps ends.appended;
   }
 
-  stops_on : (at : ℕ) (b : Option (List ℕ)) → IfSome b (λ r. StopsWritingSecond p first (tokens_of r) at d) → IfSome b (λ r. StopsWritingSecond p first (tokens_of r) at e)
+  stops_on : (at : ℕ) (b : Option (List ℕ)) → IfSome b (λ r. WriteStops p first (tokens_of r) at d) → IfSome b (λ r. WriteStops p first (tokens_of r) at e)
   stops_on at None known = tt
   stops_on at (Some r) known = record {
     tokens = known.tokens;
@@ -74,7 +74,7 @@ module _ (p : Profile) (first second d e : Device) (same : e.before ≡ d.before
     appended = taken_on d e _ same keeps known.appended;
   }
 
-  fails_on : (f : Fault) → FailsTwice p first second d f → FailsTwice p first second e f
+  fails_on : (f : Fault) → TwoReadingsFail p first second d f → TwoReadingsFail p first second e f
   fails_on _ (refused f known) = refused f (converted_on first.before second.before (is_refused f) known)
   fails_on _ (first_unread u consumed failed ends) = first_unread u consumed failed (first_on u ends)
   fails_on _ (first_too_long u rest consumed long more ends) = first_too_long u rest consumed long more (first_on u ends)
@@ -82,7 +82,7 @@ module _ (p : Profile) (first second d e : Device) (same : e.before ≡ d.before
   fails_on _ (second_too_long u rest consumed long more ends) = second_too_long u rest consumed long more (second_on u ends)
   fails_on _ (unwritten at known) = unwritten at (stops_on at second.before known)
 
-  pub converts_twice_on : (r : Result Totals Fault) → ConvertsTwice p first second d r → ConvertsTwice p first second e r
+  pub converts_twice_on : (r : Result Totals Fault) → TwoReadingsConvert p first second d r → TwoReadingsConvert p first second e r
   converts_twice_on (Ok t) converts = totalled_on first.before second.before t converts
   converts_twice_on (Err f) converts = fails_on f converts
 
@@ -108,7 +108,7 @@ neither_failed first second one other (inr failed) = calm_fails second other fai
 
 -- a fault that no device is to blame for is the texts' own
 own_fault : (p : Profile) (s r : List ℕ) (first second out : Device) (f : Fault) → IsSmooth s first out → IsSmooth r second out
-    → FailsTwice p first second out f → BlamesTwice f.reason first second out → AreConverted p s r (is_refused f) out
+    → TwoReadingsFail p first second out f → BlamesTwice f.reason first second out → AreConverted p s r (is_refused f) out
 own_fault p s r first second out _ one other (refused f known) blames =
     let whole = subst (λ (a : Option (List ℕ)). IfSome a (λ s. IfSome second.before (λ r. AreConverted p s r (is_refused f) out))) one.gives known in
     subst (λ (b : Option (List ℕ)). IfSome b (λ r. AreConverted p s r (is_refused f) out)) other.gives whole
@@ -121,7 +121,7 @@ own_fault p s r first second out _ one other (second_too_long u rest consumed lo
 own_fault p s r first second out _ one other (unwritten at known) blames = absurd (calm_fails out one.writes blames)
 
 texts_answer : (mode : Mode) (s r : List ℕ) (first second out err : Device) (code : ℕ) (answer : Result Totals Fault) → IsSmooth s first out → IsSmooth r second out
-    → ConvertsTwice (profile_twice mode) first second out answer → EndsTwice answer first second out err code → AnswersTwice mode s r out err code
+    → TwoReadingsConvert (profile_twice mode) first second out answer → EndsTwice answer first second out err code → AnswersTwice mode s r out err code
 texts_answer mode s r first second out err code (Ok t) one other works ends =
     let p = profile_twice mode in
     let whole = subst (λ (a : Option (List ℕ)). IfSome a (λ s. IfSome second.before (λ r. AreTotalled p s r t out))) one.gives works in

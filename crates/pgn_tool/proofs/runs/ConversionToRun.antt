@@ -1,5 +1,5 @@
 -- What follows of a run from the conversion in it.
-use Rattle.std.proofs.Common.{◌≡◌, ◌∙◌, ℕ, ◌^◌, ◌<◌, ◌≤◌, Bool, true, false, List, [], ◌++◌, length, ap, refl, subst, sym, arith, append-nil, take, length-append, Option, None, Some}
+use Rattle.std.proofs.Common.{◌≡◌, ◌∙◌, ℕ, ◌^◌, ◌<◌, ◌≤◌, Bool, true, false, List, [], ◌++◌, length, ap, refl, subst, sym, arith, append-nil, take, length-append, Option, None, Some, inl, inr}
 use Rattle.std.proofs.lemmas.Bool.{false≢true}
 use Rattle.std.proofs.Math.Seq.{take-length}
 use Rattle.std.specs.Prelude.{Result, Ok, Err, is_ok, map, sum, codes, if◌then◌else◌}
@@ -20,7 +20,7 @@ use Rattle.pgn_tool.specs.declared.list.Stopped.{Stopped}
 use Rattle.pgn_tool.specs.declared.list.Stopped.TheVariants as stopped
 use Rattle.pgn_tool.specs.ListLines as list_lines
 use Rattle.pgn_tool.specs.ListLines.{CountsReadFault, ListResult, ListStops, list_profile}
-use Rattle.pgn_tool.specs.TaskRun.{Answers, Blames, Concludes, Ends, EndsList, HasFailed, IsCalm, IsSmooth, IsUntouched, Job, Runs, Tells, TellsVerdict, Works, checking, counting_of, exporting, line, listing, status_of}
+use Rattle.pgn_tool.specs.TaskRun.{Answers, Blames, Concludes, Ends, EndsList, FlushCounts, HasFailed, IsCalm, IsSmooth, IsUntouched, Job, Runs, Tells, TellsVerdict, Works, checking, counting_of, exporting, line, listing, status_of}
 
 -- ---- devices
 
@@ -58,6 +58,10 @@ flush_still (Err e) old mid new still counts is = absurd (false≢true is)
 pub flush_failed : {A E : Type 0} → (r : Result A E) (old mid new : ℕ) → mid ≡ old → Counts r mid new → is_ok r ≡ false → one_more old ≤ new
 flush_failed (Ok x) old mid new still counts is = absurd (false≢true (sym is))
 flush_failed (Err e) old mid new still counts is = omega (arith, still, counts)
+
+pub flush_counts : {A E : Type 0} → (r : Result A E) (mid new : ℕ) → Counts r mid new → FlushCounts mid new
+flush_counts (Ok x) mid new counts = inl counts
+flush_counts (Err e) mid new counts = inr counts
 
 -- the status says whether all was written
 pub concludes_as : (is_written : Bool) (source out err : Device) (status : ℕ) → IsStill source → (is_written ≡ true → IsStill out)

@@ -2,7 +2,7 @@ use Rattle.std.proofs.Common.{◌∙◌, ap, refl, sym}
 use Rattle.std.specs.Prelude.{Err, Ok}
 use Rattle.pgn_layout.specs.Device.{device}
 use Rattle.pgn_tool.specs.CheckedRun.{profile_twice}
-use Rattle.pgn_tool.proofs.runs.ConversionToRun.{concludes_as, flush_failed, flush_still}
+use Rattle.pgn_tool.proofs.runs.ConversionToRun.{concludes_as, flush_counts, flush_failed, flush_still}
 use Rattle.pgn_tool.proofs.runs.CheckedConversionToRun.{blames_twice_of, converts_twice_on}
 use Rattle.pgn_tool.proofs.checked.export_twice.Goals as goal
 
@@ -16,6 +16,7 @@ returns-in-Ok g c =
     record {
       answer = Ok c.in-Ok.field-0;
       works = converts_twice_on (profile_twice c.args.mode) first second converted out refl c.flush-flushed.ensures.bytes (Ok c.in-Ok.field-0) c.in-Ok.ensures.converts;
+      counted = record { converted = converted; failures = refl; conversion = counted; flush = flush_counts c.flush-flushed.result _ _ c.flush-flushed.ensures.failures };
       ends = (
         concludes_as c.is_ok.result _ _ _ _ counted.0
             (λ well. flush_still c.flush-flushed.result _ _ _ counted.2 c.flush-flushed.ensures.failures (sym c.is_ok.ensures.value ∙ well))
@@ -36,6 +37,12 @@ returns-in-Err g c =
     record {
       answer = Err c.in-Err.fault;
       works = converts_twice_on (profile_twice c.args.mode) first second converted out refl c.flush-flushed.ensures.bytes (Err c.in-Err.fault) c.in-Err.ensures.converts;
+      counted = record {
+        converted = converted;
+        failures = refl;
+        conversion = c.in-Err.ensures.counted;
+        flush = flush_counts c.flush-flushed.result _ _ c.flush-flushed.ensures.failures;
+      };
       ends = record {
         ends = c.refuse.ensures.status;
         told = c.refuse.ensures.told;

@@ -9,6 +9,7 @@ returns-in-Ok g c =
     record {
       answer = Ok c.in-Ok.totals;
       works = (c.in-Ok.ensures.converts, (tells_as c.write_totals-is_written.result _ _ totals.written totals.failed, totals.front));
+      counted = c.in-Ok.ensures.counted;
       ends =
           concludes_as c.write_totals-is_written.result _ _ _ _ c.in-Ok.ensures.counted.0 totals.kept totals.failed c.conclude.ensures.status
           (λ well. (ap g.E.Sink.taken (c.conclude.ensures.untouched well), ap g.E.Sink.failures (c.conclude.ensures.untouched well)))
@@ -19,6 +20,7 @@ pub returns-in-Err : goal.returns-in-Err
 returns-in-Err g c = record {
   answer = Err c.in-Err.fault;
   works = (c.in-Err.ensures.converts, c.flush.ensures.bytes);
+  counted = c.in-Err.ensures.counted;
   ends = record {
     ends = c.refuse.ensures.status;
     told = c.refuse.ensures.told;

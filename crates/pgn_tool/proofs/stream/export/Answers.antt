@@ -1,12 +1,13 @@
 use Rattle.std.proofs.Common.{◌∙◌, ap, sym}
 use Rattle.std.specs.Prelude.{Err, Ok}
-use Rattle.pgn_tool.proofs.runs.ConversionToRun.{blames_of, concludes_as, converts_on, flush_failed, flush_still}
+use Rattle.pgn_tool.proofs.runs.ConversionToRun.{blames_of, concludes_as, converts_on, flush_counts, flush_failed, flush_still}
 use Rattle.pgn_tool.proofs.stream.export.Goals as goal
 
 pub returns-in-Ok : goal.returns-in-Ok
 returns-in-Ok g c = record {
   answer = Ok c.in-Ok.field-0;
   works = converts_on _ _ (g.R.Source.left c.convert-answer.new.reader) _ _ _ (Ok c.in-Ok.field-0) c.in-Ok.ensures.converts c.flush-flushed.ensures.bytes;
+  counted = (_, c.in-Ok.ensures.counted, flush_counts c.flush-flushed.result _ _ c.flush-flushed.ensures.failures);
   ends =
       concludes_as c.is_ok.result _ _ _ _ c.in-Ok.ensures.counted.0
       (λ well. flush_still c.flush-flushed.result _ _ _ c.in-Ok.ensures.counted.1 c.flush-flushed.ensures.failures (sym c.is_ok.ensures.value ∙ well))
@@ -20,6 +21,7 @@ pub returns-in-Err : goal.returns-in-Err
 returns-in-Err g c = record {
   answer = Err c.in-Err.fault;
   works = converts_on _ _ _ _ _ _ (Err c.in-Err.fault) c.in-Err.ensures.converts c.flush-flushed.ensures.bytes;
+  counted = (_, c.in-Err.ensures.counted, flush_counts c.flush-flushed.result _ _ c.flush-flushed.ensures.failures);
   ends = record {
     ends = c.refuse.ensures.status;
     told = c.refuse.ensures.told;

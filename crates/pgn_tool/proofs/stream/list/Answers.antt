@@ -3,7 +3,7 @@ use Rattle.std.specs.Prelude.{Err, Ok, Result}
 use Rattle.pgn_tool.specs.declared.list.Stopped.{Stopped}
 use Rattle.pgn_tool.specs.declared.list.Stopped.TheVariants.{Refused, Unwritten}
 use Rattle.pgn_tool.specs.ListLines.{CountsList, ListResult}
-use Rattle.pgn_tool.proofs.runs.ConversionToRun.{concludes_as, flush_failed, flush_still, list_blames, lists_on, risen}
+use Rattle.pgn_tool.proofs.runs.ConversionToRun.{concludes_as, flush_counts, flush_failed, flush_still, list_blames, lists_on, risen}
 use Rattle.pgn_tool.proofs.stream.list.Goals as goal
 
 pub returns-in-Ok : goal.returns-in-Ok
@@ -12,6 +12,7 @@ returns-in-Ok g c =
     record {
       answer = Ok tt;
       lists = lists_on _ (g.R.Source.left c.list_games-answer.new.source) _ _ _ (Ok tt) c.in-Ok.ensures.lists c.flush-flushed.ensures.bytes;
+      counted = (_, counted, flush_counts c.flush-flushed.result _ _ c.flush-flushed.ensures.failures);
       ends =
           concludes_as c.is_ok.result _ _ _ _ counted.0
           (λ well. flush_still c.flush-flushed.result _ _ _ counted.1 c.flush-flushed.ensures.failures (sym c.is_ok.ensures.value ∙ well))
@@ -31,6 +32,7 @@ returns-in-Err-Refused g c =
     record {
       answer = Err (Refused c.in-Err-Refused.fault);
       lists = lists_on _ _ _ _ _ (Err (Refused c.in-Err-Refused.fault)) listed c.flush-flushed.ensures.bytes;
+      counted = (_, counted, flush_counts c.flush-flushed.result _ _ c.flush-flushed.ensures.failures);
       ends = record {
         ends = c.refuse.ensures.status;
         told = c.refuse.ensures.told;
@@ -48,6 +50,7 @@ returns-in-Err-Unwritten g c =
     record {
       answer = Err Unwritten;
       lists = lists_on _ _ _ _ _ (Err Unwritten) listed c.flush-flushed.ensures.bytes;
+      counted = (_, counted, flush_counts c.flush-flushed.result _ _ c.flush-flushed.ensures.failures);
       ends = record {
         ends = c.conclude-in-Err-Unwritten.ensures.status;
         failed = risen c.flush-flushed.result _ _ _ counted.1 c.flush-flushed.ensures.failures;

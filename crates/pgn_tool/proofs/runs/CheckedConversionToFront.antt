@@ -15,7 +15,7 @@ use Rattle.pgn_game.specs.Profile.{Profile, takes_the_marker}
 use Rattle.pgn_game.specs.Progress.{Verdict, due, output, refused as is_refused}
 use Rattle.pgn_game.specs.Laws.{DueGrows, IsPrefix}
 use Rattle.pgn_game.specs.Checked.{checked_output, compared, written_by}
-use Rattle.pgn_game.specs.CheckedConversion.{AreConverted, AreTotalled, BeginsWith, ConvertsTwice, Decides, EndsFirst, EndsSecond, FailsTwice, HasTaken, MatchesAllMarks, StopsWritingSecond}
+use Rattle.pgn_game.specs.CheckedConversion.{AreConverted, AreTotalled, IsTokenPrefix, TwoReadingsConvert, Decides, FirstStops, SecondStops, TwoReadingsFail, HasTaken, MatchesAllMarks, WriteStops}
 use Rattle.pgn_game.specs.CheckedConversion.{first_too_long, first_unread, refused, second_too_long, second_unread, unwritten}
 use Rattle.pgn_game.specs.EqualReadings.{EqualReadings, InterruptedReadings}
 use Rattle.pgn_tool.specs.TaskRun.{HasFront}
@@ -53,7 +53,7 @@ module _ (decides : DecidedIsPrefix) (grows : DueGrows) (equal : EqualReadings) 
   converted : (v : Verdict) → AreConverted p s s v out → HasFront out (output p s)
   converted v h = whole_is out _ _ (equal p s takes).1 h.1
 
-  ends_first : (u : List ℕ) → ((x : List ℕ) × (s ≡ u ++ x)) → EndsFirst p u second out → HasFront out (output p s)
+  ends_first : (u : List ℕ) → ((x : List ℕ) × (s ≡ u ++ x)) → FirstStops p u second out → HasFront out (output p s)
   ends_first u x ends =
       let h = decides u x.0 in
       let all : IsPrefix (due p (decided u)) (output p s) =
@@ -65,34 +65,34 @@ module _ (decides : DecidedIsPrefix) (grows : DueGrows) (equal : EqualReadings) 
       ap (λ (t : List ℕ). written_by p (compared p (decided u) (tokens_of t))) x.1 ∙ law.written in
       front_is out _ _ all (subst (HasTaken out) text so.appended)
 
-  begins : (ts : List Token) → Decides first ts → BeginsWith ts (tokens_of s)
+  begins : (ts : List Token) → Decides first ts → IsTokenPrefix ts (tokens_of s)
   begins ts (Decides.so_far u consumed goes) =
       let x = first_left u consumed in
-      subst (λ (t : List ℕ). BeginsWith ts (tokens_of t)) (sym x.1) (goes x.0)
+      subst (λ (t : List ℕ). IsTokenPrefix ts (tokens_of t)) (sym x.1) (goes x.0)
   begins ts (Decides.at_end u consumed all goes) =
       let same : s ≡ u = subst (λ (a : Option (List ℕ)). IfSome a (λ s. s ≡ u)) first_gives all in
-      subst (λ (t : List ℕ). BeginsWith ts (tokens_of t)) (sym same) goes
+      subst (λ (t : List ℕ). IsTokenPrefix ts (tokens_of t)) (sym same) goes
 
-  ends_second : (u : List ℕ) → ((x : List ℕ) × (s ≡ u ++ x)) → EndsSecond p first u out → HasFront out (output p s)
+  ends_second : (u : List ℕ) → ((x : List ℕ) × (s ≡ u ++ x)) → SecondStops p first u out → HasFront out (output p s)
   ends_second u x ends =
       let h = begins ends.tokens ends.decided_by in
-      let law = interrupted.second_stops p u x.0 ends.tokens h.0 ends.marks_left.0 ends.marks_left.1 takes (ap tokens_of (sym x.1) ∙ h.1) ends.marks_left.2 in
+      let law = interrupted.second_stops p u x.0 ends.tokens h.0 ends.next_mark.0 ends.next_mark.1 takes (ap tokens_of (sym x.1) ∙ h.1) ends.next_mark.2 in
       front_is out _ _ (subst (λ (t : List ℕ). IsPrefix (written_by p (compared p ends.tokens (decided u))) (output p t)) (sym x.1) law.most) ends.appended
 
-  stops : (at : ℕ) → StopsWritingSecond p first (tokens_of s) at out → HasFront out (output p s)
+  stops : (at : ℕ) → WriteStops p first (tokens_of s) at out → HasFront out (output p s)
   stops at h =
       let x = begins h.tokens h.decided_by in
       front_is out _ _ (interrupted.write_fails p s h.tokens x.0 h.front h.rest h.token h.count takes x.1 h.cut) h.appended
 
-  fails : (f : Fault) → FailsTwice p first second out f → HasFront out (output p s)
+  fails : (f : Fault) → TwoReadingsFail p first second out f → HasFront out (output p s)
   fails _ (refused f known) = converted _ (both_give (λ s r. AreConverted p s r (is_refused f) out) known)
   fails _ (first_unread u consumed failed ends) = ends_first u (first_left u consumed) ends
   fails _ (first_too_long u rest consumed long more ends) = ends_first u (front_left u rest (first_left (u ++ rest) consumed)) ends
   fails _ (second_unread u consumed failed ends) = ends_second u (second_left u consumed) ends
   fails _ (second_too_long u rest consumed long more ends) = ends_second u (front_left u rest (second_left (u ++ rest) consumed)) ends
-  fails _ (unwritten at known) = stops at (subst (λ (b : Option (List ℕ)). IfSome b (λ r. StopsWritingSecond p first (tokens_of r) at out)) second_gives known)
+  fails _ (unwritten at known) = stops at (subst (λ (b : Option (List ℕ)). IfSome b (λ r. WriteStops p first (tokens_of r) at out)) second_gives known)
 
-  pub front_written : (answer : Result Totals Fault) → ConvertsTwice p first second out answer → HasFront out (output p s)
+  pub front_written : (answer : Result Totals Fault) → TwoReadingsConvert p first second out answer → HasFront out (output p s)
   front_written (Ok t) converts = converted _ (both_give (λ s r. AreTotalled p s r t out) converts).converted
   front_written (Err f) converts = fails f converts
 
