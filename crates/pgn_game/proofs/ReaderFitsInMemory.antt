@@ -1,8 +1,9 @@
--- Where a converter fits in memory, its reader does.
+-- Where a converter or one of two readings fits in memory, its reader does.
 use Rattle.std.proofs.Common.{rules}
 use Rattle.std.specs.Mem.{FitsInMemory}
 use Rattle.std.specs.Borrow.{RattleType}
 use Rattle.pgn_game.specs.contracts.converter.Converter.{the_row}
+use Rattle.pgn_game.specs.contracts.checked.Pass.{the_row as pass_row}
 use Rattle.pgn_game.specs.contracts.reader.Reader.{the_row as reader_row}
 
 pub fits_reader : (T L : RattleType) → FitsInMemory (the_row T L) → FitsInMemory (reader_row T L)
@@ -15,3 +16,10 @@ fits_alike T L fits = fits
 -- and so does a reader
 pub reader_alike : (T L : RattleType) → FitsInMemory (reader_row T L) → FitsInMemory (reader_row T L)
 reader_alike T L fits = fits
+
+pub pass_fits_reader : (T L : RattleType) → FitsInMemory (pass_row T L) → FitsInMemory (reader_row T L)
+pass_fits_reader T L fits = search rules
+
+-- and so does a reading
+pub pass_alike : (T L : RattleType) → FitsInMemory (pass_row T L) → FitsInMemory (pass_row T L)
+pass_alike T L fits = fits

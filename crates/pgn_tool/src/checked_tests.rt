@@ -139,19 +139,32 @@ const DIFFERENT: &[Row] = &[
     ),
 ];
 
+/// The rows, each behind a call of its own, so that no proof of a loop sees all their bytes.
+fn rows() -> &'static [Row] {
+    ROWS
+}
+
+fn different() -> &'static [Row] {
+    DIFFERENT
+}
+
+/// A run to memory.
+fn run_in_memory(alloc: Global, reduced: bool, first: Reader, second: Reader) -> Ran {
+    let task = task(alloc, reduced);
+    run(&task, first, second, memory(alloc), memory(alloc))
+}
+
+/// Whether a run leaves what the row says.
+fn leaves(alloc: Global, row: &Row) -> bool {
+    let (first, second, status, out, err) = *row;
+    run_in_memory(alloc, false, whole(first), whole(second)).is(status, out, err)
+}
+
 #[test]
 fn writes_games_that_are_read_twice(rt: HostRuntime) {
-    let task = task(rt.alloc(), false);
-    for rows in [ROWS, DIFFERENT] {
-        for &(first, second, status, out, err) in rows {
-            let ran = run(
-                &task,
-                whole(first),
-                whole(second),
-                memory(rt.alloc()),
-                memory(rt.alloc()),
-            );
-            assert!(rt; ran.is(status, out, err), "{first:?} and {second:?}");
+    for rows in [rows(), different()] {
+        for row in rows {
+            assert!(rt; leaves(rt.alloc(), row), "{:?} and {:?}", row.0, row.1);
         }
     }
 }
@@ -159,13 +172,7 @@ fn writes_games_that_are_read_twice(rt: HostRuntime) {
 #[test]
 fn writes_reduced_games(rt: HostRuntime) {
     let text = b"[ECO \"C20\"] 1. e4 $1 {good} (1. d4) e5 1-0";
-    let ran = run(
-        &task(rt.alloc(), true),
-        whole(text),
-        whole(text),
-        memory(rt.alloc()),
-        memory(rt.alloc()),
-    );
+    let ran = run_in_memory(rt.alloc(), true, whole(text), whole(text));
     assert!(rt; ran.is(0, REDUCED, b""));
 }
 
@@ -202,13 +209,7 @@ fn reports(alloc: Global, ran: &Ran, bytes: usize) -> bool {
 fn reports_first(alloc: Global, error: ErrorKind, most: usize, fails_at: usize) -> bool {
     let first = failing(fails_at, error, most);
     let second = failing(usize::MAX, error, most);
-    let ran = run(
-        &task(alloc, false),
-        first,
-        second,
-        memory(alloc),
-        memory(alloc),
-    );
+    let ran = run_in_memory(alloc, false, first, second);
     let bytes = fails_at.saturating_mul(most);
     if bytes >= TWO.len().saturating_add(most) {
         return ran.is(0, BOTH, b"");
@@ -220,13 +221,7 @@ fn reports_first(alloc: Global, error: ErrorKind, most: usize, fails_at: usize) 
 fn reports_second(alloc: Global, error: ErrorKind, most: usize, fails_at: usize) -> bool {
     let first = failing(usize::MAX, error, most);
     let second = failing(fails_at, error, most);
-    let ran = run(
-        &task(alloc, false),
-        first,
-        second,
-        memory(alloc),
-        memory(alloc),
-    );
+    let ran = run_in_memory(alloc, false, first, second);
     let bytes = fails_at.saturating_mul(most);
     if bytes >= TWO.len() {
         return ran.is(0, BOTH, b"");
@@ -234,13 +229,17 @@ fn reports_second(alloc: Global, error: ErrorKind, most: usize, fails_at: usize)
     reports(alloc, &ran, bytes)
 }
 
+// Whether a run reports this read of each source in turn.
+fn reports_both(alloc: Global, error: ErrorKind, most: usize, fails_at: usize) -> bool {
+    reports_first(alloc, error, most, fails_at) && reports_second(alloc, error, most, fails_at)
+}
+
 #[test]
 fn tells_each_read_of_two_that_fails(rt: HostRuntime) {
     for error in [ErrorKind::BrokenPipe, ErrorKind::Interrupted] {
-        for fails_at in 0..11usize {
-            for most in [1, 7] {
-                let is_right = reports_first(rt.alloc(), error, most, fails_at)
-                    && reports_second(rt.alloc(), error, most, fails_at);
+        for most in [1, 7] {
+            for fails_at in 0..11usize {
+                let is_right = reports_both(rt.alloc(), error, most, fails_at);
                 assert!(rt; is_right, "read {fails_at} of {most} bytes");
             }
         }
@@ -295,22 +294,30 @@ fn tells_each_write_of_two_that_fails(rt: HostRuntime) {
     }
 }
 
+// Whether a run of this text, read twice, leaves this, where a flush or this write to standard
+// error fails.
+fn ends(alloc: Global, text: &'static [u8], fails: (bool, usize), left: Left) -> bool {
+    let (flush_fails, err_at) = fails;
+    let (status, written, told) = left;
+    let mut out = memory(alloc);
+    out.flush_fails = flush_fails;
+    let mut err = memory(alloc);
+    err.fails_at = err_at;
+    let ran = run(&task(alloc, false), whole(text), whole(text), out, err);
+    ran.is(status, written, told)
+}
+
+/// What a run leaves: the status, standard output, standard error.
+type Left = (u8, &'static [u8], &'static [u8]);
+
 #[test]
 fn tells_a_flush_that_fails_after_two(rt: HostRuntime) {
-    let task = task(rt.alloc(), false);
-    for (text, flush_fails, err_at, status, written, told) in [
-        (TWO, true, usize::MAX, 1, BOTH, UNWRITTEN),
-        // Only the first fault is reported.
-        (b"1-0 e9", true, usize::MAX, 1, WON, b"byte 4: not a move\n"),
-        // A failure of standard error changes no status.
-        (TWO, false, 0, 0, BOTH, b""),
-        (b"1-0 e9", false, 0, 1, WON, b""),
-    ] {
-        let mut out = memory(rt.alloc());
-        out.flush_fails = flush_fails;
-        let mut err = memory(rt.alloc());
-        err.fails_at = err_at;
-        let ran = run(&task, whole(text), whole(text), out, err);
-        assert!(rt; ran.is(status, written, told), "{text:?}");
-    }
+    let (alloc, bad) = (rt.alloc(), b"1-0 e9");
+    let (unflushed, untold) = ((true, usize::MAX), (false, 0));
+    assert!(rt; ends(alloc, TWO, unflushed, (1, BOTH, UNWRITTEN)));
+    // Only the first fault is reported.
+    assert!(rt; ends(alloc, bad, unflushed, (1, WON, b"byte 4: not a move\n")));
+    // A failure of standard error changes no status.
+    assert!(rt; ends(alloc, TWO, untold, (0, BOTH, b"")));
+    assert!(rt; ends(alloc, bad, untold, (1, WON, b"")));
 }

@@ -278,14 +278,31 @@ const SHORTS: &[Row] = &[
     (&["p", "--version"], 0, b"pgn_tool 0.1.0\n", 0, b""),
 ];
 
+/// The rows, each behind a call of its own, so that no proof of a loop sees all their bytes.
+fn rows() -> &'static [Row] {
+    ROWS
+}
+
+fn shorts() -> &'static [Row] {
+    SHORTS
+}
+
+/// Whether a run leaves what the row says.
+fn leaves(alloc: Global, row: &Row, has_memory: bool) -> Result<bool, AllocError> {
+    let (words, status, out, files, err) = *row;
+    let ran = call(alloc, words, has_memory)?;
+    Ok(ran.is(status, out, files, err) && ran.buffers <= 1)
+}
+
 #[test]
 fn reads_the_file_or_standard_input(rt: HostRuntime) -> Result<(), Fail> {
-    for (rows, has_memory) in [(ROWS, true), (SHORTS, false)] {
-        for &(words, status, out, files, err) in rows {
-            let ran = call(rt.alloc(), words, has_memory)?;
-            let is_right = ran.is(status, out, files, err) && ran.buffers <= 1;
-            assert!(rt; is_right, "at {words:?}, with memory: {has_memory}");
-        }
+    for row in rows() {
+        let is_right = leaves(rt.alloc(), row, true)?;
+        assert!(rt; is_right, "at {:?}", row.0);
+    }
+    for row in shorts() {
+        let is_right = leaves(rt.alloc(), row, false)?;
+        assert!(rt; is_right, "at {:?}, without memory", row.0);
     }
     Ok(())
 }

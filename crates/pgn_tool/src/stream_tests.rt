@@ -228,9 +228,14 @@ const ROWS: &[Row] = &[
     ),
 ];
 
+/// The rows, behind a call of its own, so that no proof of a loop sees all their bytes.
+fn rows() -> &'static [Row] {
+    ROWS
+}
+
 #[test]
 fn writes_what_is_asked_for(rt: HostRuntime) {
-    for &(job, text, status, out, err) in ROWS {
+    for &(job, text, status, out, err) in rows() {
         let ran = run(job, whole(text), memory(rt.alloc()), memory(rt.alloc()));
         assert!(rt; ran.is(status, out, err), "{job:?} of {text:?}");
     }

@@ -1,5 +1,5 @@
 -- Bytes that a reading reads, where its buffer is used up.
-use Rattle.std.proofs.Common.{◌≡◌, ℕ, ◌+◌, ◌-◌, ◌<◌, ◌≤◌, Bool, true, false, List, [], ◌∷◌, ◌++◌, length, take, drop, Option, None, Some, IfSome, refl, sym, ap, subst, ◌∙◌, inl, append-nil, length-take-le, arith}
+use Rattle.std.proofs.Common.{◌≡◌, ℕ, ◌+◌, ◌-◌, ◌<◌, ◌≤◌, Bool, true, false, List, [], ◌∷◌, ◌++◌, length, take, drop, Option, None, Some, IfSome, refl, sym, ap, subst, ◌∙◌, inl, append-nil, length-append, length-drop, length-take, length-take-le, arith}
 use Rattle.std.specs.Prelude.{◌^◌}
 use Rattle.std.proofs.Math.Seq.{take-append-le}
 use Rattle.std.proofs.KnownBytes.{Consumes-kept, Consumes-trans}
@@ -117,3 +117,7 @@ going_filled old new going kept room =
 pub kept_of : (s old : Pass) (unused : List ℕ) (has_ended : Bool) → s ≡ old
     → record { lexer = s.lexer; reading = s.reading; games = s.games; unused = unused; has_ended = has_ended } ≡ record old { unused = unused; has_ended = has_ended }
 kept_of s old unused has_ended is = ap (λ (x : Pass). record { lexer = x.lexer; reading = x.reading; games = x.games; unused = unused; has_ended = has_ended }) is
+
+-- The buffer is as long as before, where its first bytes are read anew.
+pub still_full : (n : ℕ) (ys xs : List ℕ) → length ys ≡ length (take n xs) → n ≤ 4096 → length xs ≡ 4096 → length (ys ++ drop n xs) ≡ 4096
+still_full n ys xs is fits full = omega (arith, length-append ys (drop n xs), length-drop n xs, length-take n xs, is, fits, full)

@@ -1,6 +1,6 @@
 //! Inputs that are read twice.
 use crate::tests::devices::{Gauge, Meter, Trouble};
-use crate::tests::runs::{tables, verdict_of};
+use crate::tests::runs::{agrees, tables, verdict_of};
 use crate::{Vector, Verdict};
 use pgn_game::{Fault, Mode, Reason, Totals, convert_checked};
 use std::io::ErrorKind;
@@ -33,7 +33,7 @@ const LONE: &str =
 const OTHER_MOVE: &str =
     "[Event \"?\"]\n[Site \"?\"]\n[Date \"????.??.??\"]\n[Round \"?\"]\n[White \"?\"]\n[Black \"?\"]\n[Result \"*\"]\n\n1. d4 *\n\n";
 
-const ROWS: [Row; 14] = [
+const ROWS: &[Row] = &[
     Row {
         name: "nothing",
         first: "",
@@ -166,7 +166,7 @@ const ROWS: [Row; 14] = [
 
 /// The rows, behind a call of its own, so that no proof of a loop sees all their bytes.
 fn rows() -> &'static [Row] {
-    &ROWS
+    ROWS
 }
 
 /// Converts what both sources give.
@@ -177,6 +177,16 @@ fn run(
     mode: Mode,
 ) -> Result<Totals, Fault> {
     convert_checked::<64, 33, _, _, _>(first, second, out, mode)
+}
+
+/// Converts what both sources give to the text, which is emptied first.
+fn run_to(
+    mut first: Gauge,
+    mut second: Gauge,
+    text: &mut Vec<u8>,
+    mode: Mode,
+) -> Result<Totals, Fault> {
+    run(&mut first, &mut second, &mut Meter::whole(text), mode)
 }
 
 /// A source of which no read fails.
@@ -198,13 +208,7 @@ fn failing(text: &'static str, fails_at: usize) -> Gauge {
 fn converts_each_row(rt: HostRuntime) {
     let mut text = Vec::new(rt.alloc());
     for row in rows() {
-        let mut out = Meter::whole(&mut text);
-        let result = run(
-            &mut whole(row.first),
-            &mut whole(row.second),
-            &mut out,
-            Mode::Full,
-        );
+        let result = run_to(whole(row.first), whole(row.second), &mut text, Mode::Full);
         assert_eq!(rt; verdict_of(result), row.verdict, "{}", row.name);
         assert!(rt;
             text.as_slice() == row.output.as_bytes(),
@@ -214,38 +218,39 @@ fn converts_each_row(rt: HostRuntime) {
     }
 }
 
+/// Of a vector with a fault whole games alone are written.
+fn has_whole_games(rt: &impl Abort, vector: &Vector, written: &[u8]) {
+    assert!(rt;
+        written.is_empty() || written.ends_with(b"\n\n"),
+        "{}",
+        vector.name
+    );
+    assert!(rt;
+        vector.output.as_bytes().starts_with(written),
+        "{}",
+        vector.name
+    );
+}
+
+/// A Result that differs is rejected. One that is missing is not.
+fn takes_missing_result(rt: &impl Abort, vector: &Vector, is_refused: bool) {
+    let has_result = vector.input.contains("[Result ");
+    assert!(rt; is_refused == has_result, "{}", vector.name);
+}
+
 /// The same verdict where a missing Result makes no difference; whole games alone are written.
 fn agrees_twice(rt: &impl Abort, vector: &'static Vector, text: &mut Vec<u8>) {
-    let mut out = Meter::whole(&mut *text);
-    let result = run(
-        &mut whole(vector.input),
-        &mut whole(vector.input),
-        &mut out,
-        vector.mode,
-    );
+    let result = run_to(whole(vector.input), whole(vector.input), text, vector.mode);
     if let Verdict::Refused(fault) = vector.verdict {
         if fault.reason == Reason::ResultDiffers {
+            takes_missing_result(rt, vector, result.is_err());
             return;
         }
-        let written = text.as_slice();
-        assert!(rt;
-            written.is_empty() || written.ends_with(b"\n\n"),
-            "{}",
-            vector.name
-        );
-        assert!(rt;
-            vector.output.as_bytes().starts_with(written),
-            "{}",
-            vector.name
-        );
-    } else {
-        assert!(rt;
-            text.as_slice() == vector.output.as_bytes(),
-            "{}",
-            vector.name
-        );
+        has_whole_games(rt, vector, text.as_slice());
+        assert_eq!(rt; verdict_of(result), vector.verdict, "{}", vector.name);
+        return;
     }
-    assert_eq!(rt; verdict_of(result), vector.verdict, "{}", vector.name);
+    agrees(rt, vector, result, text.as_slice());
 }
 
 fn agrees_on_all(rt: &impl Abort, table: &'static [Vector], text: &mut Vec<u8>) {
@@ -263,14 +268,14 @@ fn converts_each_vector_that_is_read_twice(rt: HostRuntime) {
 }
 
 /// What is written when so many bytes were read of the source that fails.
-fn written_before(read: usize, steps: [(usize, &'static str); 3]) -> &'static str {
+fn written_before(read: usize, steps: &[(usize, &'static str)]) -> &'static [u8] {
     let mut written = "";
-    for (least, output) in steps {
+    for &(least, output) in steps {
         if least <= read {
             written = output;
         }
     }
-    written
+    written.as_bytes()
 }
 
 const TWO_GAMES: &str = "1. e4 1-0 *";
@@ -278,52 +283,63 @@ const TWO_GAMES: &str = "1. e4 1-0 *";
 const TWO_WRITTEN: &str =
     "[Event \"?\"]\n[Site \"?\"]\n[Date \"????.??.??\"]\n[Round \"?\"]\n[White \"?\"]\n[Black \"?\"]\n[Result \"1-0\"]\n\n1. e4 1-0\n\n[Event \"?\"]\n[Site \"?\"]\n[Date \"????.??.??\"]\n[Round \"?\"]\n[White \"?\"]\n[Black \"?\"]\n[Result \"*\"]\n\n*\n\n";
 
+/// The verdict of two games of which this read fails.
+fn failed_read(fails_at: usize) -> Verdict {
+    Verdict::Refused(Fault {
+        at: fails_at as u64,
+        reason: Reason::ReadFault,
+    })
+}
+
+/// What is written when so many bytes were read of the first. A marker that is a symbol is known at
+/// the byte behind it.
+const FIRST_STEPS: &[(usize, &str)] = &[(10, ONE_WON), (11, TWO_WRITTEN), (12, TWO_WRITTEN)];
+
 #[test]
 fn reports_each_read_of_the_first_that_fails(rt: HostRuntime) {
     let mut text = Vec::new(rt.alloc());
-    // A marker that is a symbol is known at the byte behind it.
-    let steps = [(10, ONE_WON), (11, TWO_WRITTEN), (12, TWO_WRITTEN)];
     for fails_at in 0..=11usize {
         let mut first = failing(TWO_GAMES, fails_at);
         let mut out = Meter::whole(&mut text);
         let result = run(&mut first, &mut whole(TWO_GAMES), &mut out, Mode::Full);
-        let reason = Reason::ReadFault;
-        assert_eq!(rt;
-            result,
-            Err(Fault {
-                at: fails_at as u64,
-                reason
-            })
-        );
+        assert_eq!(rt; verdict_of(result), failed_read(fails_at));
         assert_eq!(rt; first.failures, 1);
-        let expected = written_before(fails_at, steps).as_bytes();
+        let expected = written_before(fails_at, FIRST_STEPS);
         assert!(rt; text.as_slice() == expected, "{fails_at}");
     }
 }
 
+/// What is written when so many bytes were read of the second. The first period shows that movetext
+/// has begun.
+const SECOND_STEPS: &[(usize, &str)] = &[(2, HEAD_WON), (10, ONE_WON), (11, TWO_WRITTEN)];
+
+/// What two games give.
+const BOTH: Verdict = Verdict::Converted { games: 2, plies: 1 };
+
+// Behind the last marker nothing is read.
 #[test]
 fn reports_each_read_of_the_second_that_fails(rt: HostRuntime) {
     let mut text = Vec::new(rt.alloc());
-    // The first period shows that movetext has begun. Behind the last marker nothing is read.
-    let steps = [(2, HEAD_WON), (10, ONE_WON), (11, TWO_WRITTEN)];
     for fails_at in 0..=12usize {
-        let mut second = failing(TWO_GAMES, fails_at);
-        let mut out = Meter::whole(&mut text);
-        let result = run(&mut whole(TWO_GAMES), &mut second, &mut out, Mode::Full);
-        let reason = Reason::ReadFault;
-        let fault = Fault {
-            at: fails_at as u64,
-            reason,
-        };
+        let second = failing(TWO_GAMES, fails_at);
+        let result = run_to(whole(TWO_GAMES), second, &mut text, Mode::Full);
         let verdict = if fails_at < 11 {
-            Verdict::Refused(fault)
+            failed_read(fails_at)
         } else {
-            Verdict::Converted { games: 2, plies: 1 }
+            BOTH
         };
         assert_eq!(rt; verdict_of(result), verdict, "{fails_at}");
-        let expected = written_before(fails_at, steps).as_bytes();
+        let expected = written_before(fails_at, SECOND_STEPS);
         assert!(rt; text.as_slice() == expected, "{fails_at}");
     }
+}
+
+/// The run met its failure: not all is written.
+fn is_cut(rt: &impl Abort, run: Result<Totals, Fault>, failures: u64, written: usize) {
+    assert_eq!(rt; failures, 1, "{written}");
+    let reason = run.err().map(|fault| fault.reason);
+    assert_eq!(rt; reason, Some(Reason::WriteFault), "{written}");
+    assert!(rt; written < TWO_WRITTEN.len(), "{written}");
 }
 
 #[test]
@@ -343,16 +359,10 @@ fn reports_each_write_that_fails(rt: HostRuntime) {
             "{fails_at}"
         );
         if failures == 0 {
-            assert_eq!(rt;
-                verdict_of(result),
-                Verdict::Converted { games: 2, plies: 1 }
-            );
+            assert_eq!(rt; verdict_of(result), BOTH);
             return;
         }
-        assert_eq!(rt; failures, 1, "{fails_at}");
-        let reason = result.err().map(|fault| fault.reason);
-        assert_eq!(rt; reason, Some(Reason::WriteFault), "{fails_at}");
-        assert!(rt; text.len() < TWO_WRITTEN.len(), "{fails_at}");
+        is_cut(&rt, result, failures, text.len());
     }
     assert!(rt; false, "each run met the failure");
 }

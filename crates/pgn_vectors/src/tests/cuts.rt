@@ -29,30 +29,41 @@ fn cuts_tokens_of_more_than_one_byte(rt: HostRuntime) {
     }
 }
 
-/// The first bytes give a prefix of the output. With the end after them they give the same as a
-/// slice of them.
-fn ends_at(rt: &impl Abort, vector: &Vector, end: usize, text: &mut Vec<u8>, whole: &mut Vec<u8>) {
-    let piece = vector.input.as_bytes().get(..end).unwrap_or_default();
+/// The vector up to this byte.
+fn front(vector: &Vector, end: usize) -> &[u8] {
+    vector.input.as_bytes().get(..end).unwrap_or_default()
+}
+
+/// The first bytes, before the end of the input is known, give a prefix of the output.
+fn is_front(rt: &impl Abort, vector: &Vector, fed: Result<u64, Fault>, text: &[u8]) {
+    assert!(rt;
+        vector.output.as_bytes().starts_with(text),
+        "{}: {text:?}",
+        vector.name
+    );
+    if let Err(fault) = fed {
+        assert_eq!(rt; Verdict::Refused(fault), vector.verdict, "{}", vector.name);
+    }
+}
+
+/// Feeds the bytes and ends the input. The text before the end is a prefix of the output.
+fn end_behind(
+    rt: &impl Abort,
+    vector: &Vector,
+    piece: &[u8],
+    text: &mut Vec<u8>,
+) -> Result<Totals, Fault> {
     let mut converter = Usual::new(vector.mode);
     text.clear();
     let fed = feed(&mut converter, piece, &mut Outlet::new(&mut *text));
-    assert!(rt;
-        vector.output.as_bytes().starts_with(text.as_slice()),
-        "{} up to {end}",
-        vector.name
-    );
-    let result = match fed {
-        Ok(plies) => finish(&mut converter, plies, &mut Outlet::new(&mut *text)),
-        Err(fault) => {
-            assert_eq!(rt;
-                Verdict::Refused(fault),
-                vector.verdict,
-                "{} up to {end}",
-                vector.name
-            );
-            Err(fault)
-        }
-    };
+    is_front(rt, vector, fed, text.as_slice());
+    finish(&mut converter, fed?, &mut Outlet::new(text))
+}
+
+/// The first bytes, with the end behind them, give the same as a slice of them.
+fn ends_at(rt: &impl Abort, vector: &Vector, end: usize, text: &mut Vec<u8>, whole: &mut Vec<u8>) {
+    let piece = front(vector, end);
+    let result = end_behind(rt, vector, piece, text);
     let expected = converted(piece, vector.mode, whole);
     assert_eq!(rt; result, expected, "{} up to {end}", vector.name);
     assert!(rt;

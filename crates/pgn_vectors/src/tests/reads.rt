@@ -20,13 +20,17 @@ struct Ran {
 /// How a read fails, and how many bytes the others give.
 type Drip = (ErrorKind, usize);
 
+/// Converts what the source gives to the text, which is emptied first.
+fn convert_to(source: &mut Gauge, text: &mut Vec<u8>, mode: Mode) -> Result<Totals, Fault> {
+    convert::<64, 33, _, _>(source, &mut Meter::whole(text), mode)
+}
+
 /// Converts the vector with this read failing.
 fn run(vector: &'static Vector, fails_at: usize, drip: Drip, text: &mut Vec<u8>) -> Ran {
     let (error, most) = drip;
     let input = vector.input.as_bytes();
     let mut source = Gauge::new(input, error, fails_at, most);
-    let mut out = Meter::whole(text);
-    let result = convert::<64, 33, _, _>(&mut source, &mut out, vector.mode);
+    let result = convert_to(&mut source, text, vector.mode);
     Ran {
         result,
         failures: source.failures,
@@ -44,31 +48,42 @@ fn is_reported(rt: &impl Abort, vector: &Vector, ran: Ran) {
     assert_eq!(rt; ran.failures, 1, "{}", vector.name);
 }
 
-/// Converts the vector with each read in turn failing, until a run meets no failure. What is
-/// written is what the outline says for the bytes read.
+/// The run met no failure at this read: the end was met, by a read that gave no byte, or a fault
+/// before it.
+fn is_read(rt: &impl Abort, run_of: (&Outline, &Vector), ran: Ran, fails_at: usize, most: usize) {
+    let (outline, vector) = run_of;
+    let whole = vector.input.len().saturating_add(most);
+    assert!(rt;
+        whole <= fails_at.saturating_mul(most) || outline.read <= ran.given,
+        "{} at read {fails_at}",
+        outline.name
+    );
+}
+
+/// The run met its failure: what is written is what the outline says for the bytes read.
+fn writes_due(rt: &impl Abort, run_of: (&Outline, &Vector), ran: Ran, text: &[u8]) {
+    let (outline, vector) = run_of;
+    is_reported(rt, vector, ran);
+    let name = outline.name;
+    assert!(rt; ran.given < outline.read, "{name} at byte {}", ran.given);
+    let due = vector.output.as_bytes().get(..outline.due(ran.given));
+    assert!(rt; due == Some(text), "{name} at byte {}", ran.given);
+}
+
+/// Converts the vector with each read in turn failing, until a run meets no failure.
 fn meets_each(rt: &impl Abort, outline: &Outline, drip: Drip, text: &mut Vec<u8>) {
     let Some(vector) = outline.vector() else {
         assert!(rt; false, "{}: no vector", outline.name);
         return;
     };
-    let length = vector.input.len();
     for fails_at in 0..10_000usize {
         let ran = run(vector, fails_at, drip, &mut *text);
-        let name = outline.name;
         if ran.failures == 0 {
             agrees(rt, vector, ran.result, text.as_slice());
-            // The end was met, by a read that gave no byte, or a fault before it.
-            let is_read = length.saturating_add(drip.1) <= fails_at.saturating_mul(drip.1);
-            assert!(rt;
-                is_read || outline.read <= ran.given,
-                "{name} at read {fails_at}"
-            );
+            is_read(rt, (outline, vector), ran, fails_at, drip.1);
             return;
         }
-        is_reported(rt, vector, ran);
-        assert!(rt; ran.given < outline.read, "{name} at read {fails_at}");
-        let due = vector.output.as_bytes().get(..outline.due(ran.given));
-        assert!(rt; due == Some(text.as_slice()), "{name} at read {fails_at}");
+        writes_due(rt, (outline, vector), ran, text.as_slice());
     }
     assert!(rt; false, "{}: each run met the failure", outline.name);
 }
@@ -126,8 +141,7 @@ fn reads_a_front_of_each_vector(rt: HostRuntime) {
 fn writes_what_is_due_before_a_read_fails(rt: HostRuntime) {
     let mut text = Vec::new(rt.alloc());
     let mut source = Gauge::new(b"1. e4 e5", ErrorKind::Interrupted, 8, 1);
-    let mut out = Meter::whole(&mut text);
-    let result = convert::<64, 33, _, _>(&mut source, &mut out, Mode::Full);
+    let result = convert_to(&mut source, &mut text, Mode::Full);
     let reason = Reason::ReadFault;
     assert_eq!(rt; result, Err(Fault { at: 8, reason }));
     assert!(rt; text.as_slice() == HEAD);
@@ -140,8 +154,7 @@ fn reads_up_to_a_fault(rt: HostRuntime) {
         b"[Event \"?\"]\n[Site \"?\"]\n[Date \"????.??.??\"]\n[Round \"?\"]\n[White \"?\"]\n[Black \"?\"]\n[Result \"*\"]\n[A \"1\"]\n\n*\n\n".as_slice();
     for fails_at in 0..=14 {
         let mut source = Gauge::new(b"[A \"1\"] * 1-0", ErrorKind::BrokenPipe, fails_at, 1);
-        let mut out = Meter::whole(&mut text);
-        let result = convert::<64, 33, _, _>(&mut source, &mut out, Mode::Full);
+        let result = convert_to(&mut source, &mut text, Mode::Full);
         let (at, reason) = if fails_at < 14 {
             (fails_at as u64, Reason::ReadFault)
         } else {

@@ -49,7 +49,7 @@ fn position_faults() -> &'static [Vector] {
     POSITION_FAULTS
 }
 
-fn faults() -> &'static [Vector] {
+pub fn faults() -> &'static [Vector] {
     FAULTS
 }
 
@@ -111,15 +111,20 @@ pub fn feed_once<W: Sink>(converter: &mut Usual, piece: &[u8], out: &mut W) -> R
 
 /// Ends the input, and returns the totals, if the games that ended before have so many moves.
 pub fn finish<W: Sink>(converter: &mut Usual, plies: u64, out: &mut W) -> Result<Totals, Fault> {
-    if converter.is_finished() {
-        return Err(UNCALLED);
-    }
-    converter.finish(out)?;
+    finish_once(converter, out)?;
     Ok(Totals {
         games: converter.games(),
         plies: plies.saturating_add(converter.plies()),
         most_probes: converter.most_probes(),
     })
+}
+
+/// Ends the input, and returns whether that finished a game.
+pub fn finish_once<W: Sink>(converter: &mut Usual, out: &mut W) -> Result<bool, Fault> {
+    if converter.is_finished() {
+        return Err(UNCALLED);
+    }
+    converter.finish(out)
 }
 
 /// What no run of these tests returns: the call was not made.

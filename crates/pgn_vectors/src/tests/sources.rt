@@ -1,7 +1,7 @@
 //! A source over a reader.
 use pgn_game::{Inlet, ReadFailed, Source};
 use std::io::{self, ErrorKind, Read};
-use std::test::Fail;
+use std::process::Abort;
 
 /// A reader that fails at its second call.
 #[derive(Drop)]
@@ -23,19 +23,25 @@ impl Read for Flaky {
     }
 }
 
-#[test]
-fn reads_from_a_reader(rt: HostRuntime) -> Result<(), Fail> {
+/// The next read, into room for four bytes, gives these.
+fn reads<S: Source>(rt: &impl Abort, source: &mut S, bytes: &[u8]) {
     let mut buffer = [0; 4];
-    let mut source = Inlet::new(b"1-0 *".as_slice());
-    assert_eq!(rt; source.read_some(&mut buffer), Ok(4));
-    assert!(rt; buffer.as_slice() == b"1-0 ".as_slice());
-    assert_eq!(rt; source.read_some(&mut buffer), Ok(1));
-    assert_eq!(rt; buffer[0], b'*');
-    assert_eq!(rt; source.read_some(&mut buffer), Ok(0));
+    assert_eq!(rt; source.read_some(&mut buffer), Ok(bytes.len()));
+    assert!(rt; buffer.starts_with(bytes));
+}
 
+#[test]
+fn reads_from_a_reader(rt: HostRuntime) {
+    let mut source = Inlet::new(b"1-0 *".as_slice());
+    reads(&rt, &mut source, b"1-0 ");
+    reads(&rt, &mut source, b"*");
+    reads(&rt, &mut source, b"");
+}
+
+#[test]
+fn reads_on_after_a_failure(rt: HostRuntime) {
     let mut source = Inlet::new(Flaky { calls: 0 });
-    assert_eq!(rt; source.read_some(&mut buffer), Ok(1));
-    assert_eq!(rt; source.read_some(&mut buffer), Err(ReadFailed));
-    assert_eq!(rt; source.read_some(&mut buffer), Ok(1));
-    Ok(())
+    reads(&rt, &mut source, b"*");
+    assert_eq!(rt; source.read_some(&mut [0; 4]), Err(ReadFailed));
+    reads(&rt, &mut source, b"*");
 }

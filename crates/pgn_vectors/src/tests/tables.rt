@@ -1,6 +1,6 @@
 //! Each vector, in each way to convert it.
-use crate::tests::runs::{LONE_MARKER, Usual, agrees, converted, feed, finish, tables};
-use crate::{FAULTS, Vector, Verdict};
+use crate::tests::runs::{LONE_MARKER, Usual, agrees, converted, faults, feed, finish, tables};
+use crate::{Vector, Verdict};
 use pgn_game::{Fault, Inlet, Mode, Outlet, Reason, Totals, convert};
 use std::process::Abort;
 use std::test::Fail;
@@ -114,18 +114,23 @@ fn is_refused_behind(rt: &impl Abort, vector: &Vector, run: Result<Totals, Fault
     }
 }
 
+/// Converts the bytes, which are a game and the vector.
+fn refuses_behind(rt: &impl Abort, vector: &Vector, input: &[u8], text: &mut Vec<u8>) {
+    let result = converted(input, vector.mode, text);
+    is_refused_behind(rt, vector, result);
+    let rest = text.as_slice().strip_prefix(LONE_MARKER);
+    assert!(rt; rest == Some(vector.output.as_bytes()), "{}", vector.name);
+}
+
 #[test]
 fn refuses_each_fault_behind_a_game(rt: HostRuntime) -> Result<(), Fail> {
     let mut input = Vec::new(rt.alloc());
     let mut text = Vec::new(rt.alloc());
-    for vector in FAULTS {
+    for vector in faults() {
         input.clear();
         input.extend_from_slice(b"* ")?;
         input.extend_from_slice(vector.input.as_bytes())?;
-        let result = converted(input.as_slice(), vector.mode, &mut text);
-        is_refused_behind(&rt, vector, result);
-        let rest = text.as_slice().strip_prefix(LONE_MARKER);
-        assert!(rt; rest == Some(vector.output.as_bytes()), "{}", vector.name);
+        refuses_behind(&rt, vector, input.as_slice(), &mut text);
     }
     Ok(())
 }

@@ -17,7 +17,7 @@ enum Way {
     Pieces(usize),
 }
 
-const WAYS: [Way; 6] = [
+const WAYS: &[Way] = &[
     Way::Slice,
     Way::Source,
     Way::Pieces(1),
@@ -26,14 +26,15 @@ const WAYS: [Way; 6] = [
     Way::Pieces(4096),
 ];
 
+/// Pieces that are fed after a fault.
+const LATER: &[&[u8]] = &[b"", b"*", b" 1. e4 *\n"];
+
 /// Each call after a fault reports it again.
 fn stays<W: Sink>(rt: &impl Abort, converter: &mut Usual, fault: Fault, out: &mut W) {
-    for piece in [b"".as_slice(), b"*".as_slice(), b" 1. e4 *\n".as_slice()] {
+    for piece in LATER {
         assert_eq!(rt; feed(converter, piece, out), Err(fault));
-        assert_eq!(rt; feed(converter, piece, &mut Nowhere), Err(fault));
     }
     assert_eq!(rt; finish(converter, 0, out), Err(fault));
-    assert_eq!(rt; finish(converter, 0, &mut Nowhere), Err(fault));
 }
 
 /// Feeds the input in pieces of so many bytes, then empty pieces, and ends it.
@@ -68,6 +69,7 @@ fn convert_by<W: Sink>(
             let result = feed_pieces(&mut converter, input, length, out);
             if let Err(fault) = result {
                 stays(rt, &mut converter, fault, out);
+                stays(rt, &mut converter, fault, &mut Nowhere);
             }
             result
         }
@@ -115,6 +117,14 @@ fn place_of_cut(rt: &impl Abort, vector: &Vector, ran: Ran, text: &[u8]) -> Opti
     }
 }
 
+/// The place at which a run stopped is that of the outline, for so many bytes written.
+fn is_at_place(rt: &impl Abort, run_of: (Way, &Outline), at: Option<u64>, written: usize) {
+    let (way, outline) = run_of;
+    let name = outline.name;
+    assert!(rt; at.is_some(), "{way:?}, {name} at {written}");
+    assert_eq!(rt; at, outline.place(written), "{way:?}, {name} at {written}");
+}
+
 /// Converts the vector with each write in turn failing, until a run meets no failure. Each place is
 /// that of the outline.
 fn meets_each(
@@ -137,9 +147,7 @@ fn meets_each(
             return;
         }
         let at = place_of_cut(rt, vector, ran, text.as_slice());
-        let (name, written) = (outline.name, text.len());
-        assert!(rt; at.is_some(), "{way:?}, {name} at {written}");
-        assert_eq!(rt; at, outline.place(written), "{way:?}, {name} at {written}");
+        is_at_place(rt, run_of, at, text.len());
     }
     assert!(rt; false, "{}: each run met the failure", outline.name);
 }
@@ -148,7 +156,7 @@ fn meets_each(
 fn reports_each_write_that_fails(rt: HostRuntime) {
     let mut text = Vec::new(rt.alloc());
     for outline in outlines() {
-        for way in WAYS {
+        for &way in WAYS {
             for trouble in [Trouble::Broken, Trouble::Interrupted, Trouble::TakesNone] {
                 meets_each(&rt, (way, outline), (trouble, usize::MAX), &mut text);
             }
@@ -197,37 +205,37 @@ fn writes_a_front_of_each_vector(rt: HostRuntime) {
     }
 }
 
-/// Room for a part of an output: it takes what fits, and then no byte.
+/// The verdict of the vector where there is room for so many bytes of its output.
+fn verdict_in(outline: &Outline, vector: &Vector, length: usize) -> Verdict {
+    let reason = Reason::WriteFault;
+    match outline.place(length) {
+        Some(at) => Verdict::Refused(Fault { at, reason }),
+        None => vector.verdict,
+    }
+}
+
+/// Room for so many bytes of an output: it takes what fits, and then no byte.
+fn fills_room(rt: &impl Abort, outline: &Outline, vector: &Vector, length: usize) {
+    let mut room = [0; 1000];
+    let Some(buffer) = room.get_mut(..length) else {
+        assert!(rt; false, "{}: no room", outline.name);
+        return;
+    };
+    let result = convert_by(rt, Way::Pieces(9), vector, &mut Outlet::new(buffer));
+    let expected = verdict_in(outline, vector, length);
+    assert_eq!(rt;
+        verdict_of(result),
+        expected,
+        "{} in {length}",
+        outline.name
+    );
+    let output = vector.output.as_bytes().get(..length);
+    assert!(rt; room.get(..length) == output, "{}", outline.name);
+}
+
 fn fills(rt: &impl Abort, outline: &Outline, vector: &Vector) {
-    let output = vector.output.as_bytes();
-    for length in 0..1000usize {
-        if output.len() < length {
-            return;
-        }
-        let mut room = [0; 1000];
-        let Some(buffer) = room.get_mut(..length) else {
-            assert!(rt; false, "{}: no room", outline.name);
-            return;
-        };
-        let result = convert_by(rt, Way::Pieces(9), vector, &mut Outlet::new(buffer));
-        let expected = match outline.place(length) {
-            Some(at) => Verdict::Refused(Fault {
-                at,
-                reason: Reason::WriteFault,
-            }),
-            None => vector.verdict,
-        };
-        assert_eq!(rt;
-            verdict_of(result),
-            expected,
-            "{} in {length}",
-            outline.name
-        );
-        assert!(rt;
-            room.get(..length) == output.get(..length),
-            "{}",
-            outline.name
-        );
+    for length in 0..=vector.output.len() {
+        fills_room(rt, outline, vector, length);
     }
 }
 
@@ -241,12 +249,16 @@ fn fills_each_room(rt: HostRuntime) {
     }
 }
 
+fn converts_one_to_nowhere(rt: &impl Abort, way: Way, vector: &Vector) {
+    let result = convert_by(rt, way, vector, &mut Nowhere);
+    assert_eq!(rt; verdict_of(result), vector.verdict, "{}", vector.name);
+}
+
 fn converts_all_to_nowhere(rt: &impl Abort, table: &[Vector]) {
     for vector in table {
-        for way in [Way::Slice, Way::Source, Way::Pieces(4)] {
-            let result = convert_by(rt, way, vector, &mut Nowhere);
-            assert_eq!(rt; verdict_of(result), vector.verdict, "{}", vector.name);
-        }
+        converts_one_to_nowhere(rt, Way::Slice, vector);
+        converts_one_to_nowhere(rt, Way::Source, vector);
+        converts_one_to_nowhere(rt, Way::Pieces(4), vector);
     }
 }
 
@@ -268,5 +280,6 @@ fn reports_a_write_that_failed_again(rt: HostRuntime) {
     };
     assert_eq!(rt; feed(&mut converter, b"* *", &mut out), Err(fault));
     stays(&rt, &mut converter, fault, &mut out);
+    stays(&rt, &mut converter, fault, &mut Nowhere);
     assert!(rt; text.as_slice() == LONE_MARKER);
 }

@@ -1,4 +1,4 @@
-use Rattle.std.proofs.Common.{◌-◌, ◌++◌, ◌∷◌, [], max, refl, sym, ap, subst, ◌∙◌, arith}
+use Rattle.std.proofs.Common.{rules, ◌-◌, ◌++◌, ◌∷◌, [], max, refl, sym, ap, subst, ◌∙◌, arith}
 use Rattle.std.proofs.lemmas.Result.{err_from_is_err_and}
 use Rattle.pgn_layout.specs.Device.{device, one_more}
 use Rattle.pgn_game.specs.Checked.{checked_profile}
@@ -6,6 +6,7 @@ use Rattle.pgn_game.specs.Pass.{Pass, model_mark}
 use Rattle.pgn_game.proofs.twice.FailuresOfSteps.{read_fails, second_counts, source_fails}
 use Rattle.pgn_game.proofs.twice.MarksInTurn.{matched_mark}
 use Rattle.pgn_game.proofs.twice.ReadingsToConversion.{both_end, both_more, both_none, first_stops, second_stops}
+use Rattle.pgn_game.proofs.ReaderFitsInMemory.{pass_alike, pass_fits_reader}
 use Rattle.pgn_game.proofs.checked.convert_checked.Goals as goal
 
 pub loop-mark-init : goal.loop-mark-init
@@ -92,3 +93,21 @@ returns-in_err-write_game-clause-counted g c =
     (second_counts c.in_err-write_game.field-0.0.reason (device g.Q.Source.left g.Q.Source.failures c.args.first.now c.read_game.new.source)
     (device g.R.Source.left g.R.Source.failures c.args.second.now c.write_game.new.source) (device g.W.Sink.taken g.W.Sink.failures c.args.writer.now c.write_game.new.out) _ _
     (c.in_ok-mark.ensures.counted ∙ so.first) so.second so.sink c.in_err-write_game.ensures.counted)
+
+pub new-ahead-requires : goal.new-ahead-requires
+new-ahead-requires g c = (search pass_alike, c.requires.levels)
+
+pub new-behind-requires : goal.new-behind-requires
+new-behind-requires g c = (search pass_alike, c.requires.levels)
+
+pub read_game-requires : goal.read_game-requires
+read_game-requires g c = (search pass_alike, search rules)
+
+pub write_game-requires : goal.write_game-requires
+write_game-requires g c = (search pass_alike, search rules)
+
+pub most_probes-requires : goal.most_probes-requires
+most_probes-requires g c = search pass_fits_reader
+
+pub totals-requires : goal.totals-requires
+totals-requires g c = (search pass_alike, (search rules, search rules))

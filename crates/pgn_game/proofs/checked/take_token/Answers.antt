@@ -1,4 +1,4 @@
-use Rattle.std.proofs.Common.{◌≡◌, Option, None, Some, Bool, true, false, refl, sym, ap, subst, ◌∙◌}
+use Rattle.std.proofs.Common.{rules, ◌≡◌, Option, None, Some, Bool, true, false, refl, sym, ap, subst, ◌∙◌}
 use Rattle.std.specs.Prelude.{is_some, option_map}
 use Rattle.pgn_lexer.specs.Scanned.{kind_of}
 use Rattle.pgn_game.specs.declared.marker.Marker.{Marker}
@@ -7,6 +7,7 @@ use Rattle.pgn_game.specs.Markers.{marker_text}
 use Rattle.pgn_game.specs.ReaderState.{ReaderState}
 use Rattle.pgn_game.proofs.tokens.StepsAtEnd.{marker_or_end}
 use Rattle.pgn_game.proofs.twice.AcceptedToTaken.{agrees_set, counting_new, fails, fails_at_end, fails_marks, is_none, taken_end, taken_game, taken_more, with_marker}
+use Rattle.pgn_game.proofs.ReaderFitsInMemory.{reader_alike}
 use Rattle.pgn_game.proofs.checked.take_token.Goals as goal
 use Rattle.pgn_game.proofs.checked.take_token.Goals.{in-Some, in_default}
 
@@ -103,3 +104,9 @@ returns-in-Some-marker-clause-behind g c =
     let mk : c.match-marker.marker ≡ c.of-marker.result = elim c.match-marker.branch [ in-Some w ↦ w.marker-is ∙ sym w.in-Some.is | in_default w ↦ w.marker-is ] in
     marker_or_end (kind_of c.args.kind)
     (ap is_some (sym c.of-marker.ensures ∙ ap (option_map marker_text) (sym mk ∙ c.in-Some-marker.is)))
+
+pub count_missing_result_as-requires : goal.count_missing_result_as-requires
+count_missing_result_as-requires g c = search reader_alike
+
+pub accept-requires : goal.accept-requires
+accept-requires g c = (search reader_alike, (search rules, search rules))

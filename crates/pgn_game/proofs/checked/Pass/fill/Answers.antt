@@ -1,7 +1,7 @@
 use Rattle.std.proofs.Common.{◌≡◌, ℕ, ◌+◌, ◌<◌, ◌≤◌, ◌-◌, ◌^◌, max, true, List, [], ◌++◌, length, take, drop, refl, sym, ap, subst, ◌∙◌, inl, inr, arith, length-take-le}
 use Rattle.std.specs.Io.KnownBytes.{Consumes}
 use Rattle.pgn_game.specs.Pass.{Pass}
-use Rattle.pgn_game.proofs.twice.BytesOfReading.{ended_here, fails_too_long, fails_unread, filled_here, front_fits, front_some, going_filled, kept_of, taken_front}
+use Rattle.pgn_game.proofs.twice.BytesOfReading.{ended_here, fails_too_long, fails_unread, filled_here, front_fits, front_some, going_filled, kept_of, still_full, taken_front}
 use Rattle.pgn_game.proofs.checked.Pass.fill.Goals as goal
 
 pub returns-in-Err-clause-fills : goal.returns-in-Err-clause-fills
@@ -57,3 +57,23 @@ returns-in-Ok-2-clause-fills g c =
           (front_fits c.args.self.now.lexer.count c.in-Ok.field-0 c.read_some.new.buffer _ within
           (omega (arith, within, c.read_some.auto.buffer, c.bytes_to_read.ensures.room, c.if-room-eq0.false, c.count-at.ensures, place, c.requires.going.room)));
     }
+
+pub overflow_sub-room : goal.overflow_sub-room
+overflow_sub-room g c = omega (arith, c.count-at.ensures, ap (λ (s : Pass). s.lexer.count) c.self.view_is, c.requires.going.room)
+
+pub invariant_of-self : goal.invariant_of-self
+invariant_of-self g c =
+    (c.self.invariant.0, c.self.invariant.1, still_full c.bytes_to_read.result c.read_some.new.buffer c.self.inside.buffer c.read_some.auto.buffer c.bytes_to_read.ensures.fits c.self.told)
+
+pub invariant_of-self-in-Ok-eq0 : goal.invariant_of-self-in-Ok-eq0
+invariant_of-self-in-Ok-eq0 g c =
+    (omega arith, omega arith, still_full c.bytes_to_read.result c.read_some.new.buffer c.self.inside.buffer c.read_some.auto.buffer c.bytes_to_read.ensures.fits c.self.told)
+
+pub invariant_of-self-then-room-eq0 : goal.invariant_of-self-then-room-eq0
+invariant_of-self-then-room-eq0 g c =
+    (c.self.invariant.0, c.self.invariant.1, still_full c.bytes_to_read.result c.read_some.new.buffer c.self.inside.buffer c.read_some.auto.buffer c.bytes_to_read.ensures.fits c.self.told)
+
+pub invariant_of-self-in-Ok-2 : goal.invariant_of-self-in-Ok-2
+invariant_of-self-in-Ok-2 g c =
+    let short : c.in-Ok.field-0 ≤ 4096 = omega (arith, c.in-Ok.ensures.bound.0, c.read_some.auto.buffer, c.bytes_to_read.ensures.fits) in
+    (omega arith, short, still_full c.bytes_to_read.result c.read_some.new.buffer c.self.inside.buffer c.read_some.auto.buffer c.bytes_to_read.ensures.fits c.self.told)

@@ -41,3 +41,14 @@ returns-in_err-step-clause-reads g c q left_old given ms takes has marked =
     let e = err_from_is_err_and c.from_residual.result c.from_residual.ensures.1 in
     let f = c.in_err-step.field-0.0 in
     rw (e.1, e.2) (read_fault q left_old (g.R.Source.left c.loop-mark.source) (g.R.Source.left c.step.new.source) ms c.loop-mark.self c.step.new.self x f (c.in_err-step.ensures.takes q left_old x.tokens takes x.has_given) (no_write f.reason _ _ c.in_err-step.ensures.counted))
+
+pub loop-mark-smaller : goal.loop-mark-smaller
+loop-mark-smaller g c =
+    let keeps = rw c.in-More.is at c.in_ok-step.ensures.keeps in
+    keeps.fewer
+
+pub returns-in-Game-clause-counted : goal.returns-in-Game-clause-counted
+returns-in-Game-clause-counted g c = c.in_ok-step.ensures.counted.0 ∙ c.loop-mark.invariant.source
+
+pub returns-in-End-clause-counted : goal.returns-in-End-clause-counted
+returns-in-End-clause-counted g c = c.in_ok-step.ensures.counted.0 ∙ c.loop-mark.invariant.source

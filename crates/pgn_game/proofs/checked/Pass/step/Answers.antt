@@ -1,7 +1,9 @@
-use Rattle.std.proofs.Common.{inl, inr}
+use Rattle.std.proofs.Common.{rules, ◌-◌, ◌<◌, length, drop, inl, inr, sym, ap, ◌∙◌, arith, length-take, length-drop}
 use Rattle.std.proofs.KnownBytes.{Appends-nil}
 use Rattle.std.proofs.lemmas.Result.{err_from_is_err_and}
+use Rattle.pgn_game.specs.Pass.{Pass}
 use Rattle.pgn_game.proofs.twice.FailuresOfSteps.{devices_read, step_counts, step_of_take}
+use Rattle.pgn_game.proofs.ReaderFitsInMemory.{pass_alike}
 use Rattle.pgn_game.proofs.checked.Pass.step.Goals as goal
 
 pub returns-then-self-clause-takes : goal.returns-then-self-clause-takes
@@ -30,3 +32,17 @@ returns-in_err-fill-clause-counted g c =
 
 pub returns-clause-takes : goal.returns-clause-takes
 returns-clause-takes g c q left_old given takes has = inl (c.in_ok-fill.ensures.fills.fills q left_old given has, Appends-nil _)
+
+pub take_at_end-requires : goal.take_at_end-requires
+take_at_end-requires g c = (search pass_alike, (c.requires.going, (c.requires.told, search rules)))
+
+pub take_in_buffer-requires : goal.take_in_buffer-requires
+take_in_buffer-requires g c =
+    let not_ended = sym (ap (λ (s : Pass). s.has_ended) c.self.view_is) ∙ c.if-self.false in
+    let unused = ap (λ (s : Pass). length s.unused) c.self.view_is in
+    let some : 0 < length c.args.self.now.unused =
+    omega (arith, unused, length-take (c.self.inside.end - c.self.inside.start) (drop c.self.inside.start c.self.inside.buffer), length-drop c.self.inside.start c.self.inside.buffer, c.if-self-2.true, c.self.invariant.1, c.self.told) in
+    (search pass_alike, (c.requires.going, (c.requires.told, (not_ended, some))))
+
+pub fill-requires : goal.fill-requires
+fill-requires g c = (search pass_alike, (c.requires.going, search rules))

@@ -1,10 +1,11 @@
-use Rattle.std.proofs.Common.{◌≡◌, refl, sym, ap, subst, ◌∙◌}
+use Rattle.std.proofs.Common.{rules, ◌≡◌, refl, sym, ap, subst, ◌∙◌}
 use Rattle.pgn_lexer.specs.Scanned.{kind_of}
 use Rattle.pgn_lexer.specs.Tokens.{Token}
 use Rattle.pgn_game.specs.Pass.{HasGiven, IsGoing, Pass}
 use Rattle.pgn_game.proofs.tokens.StepsAtEnd.{nearer_by}
 use Rattle.pgn_game.proofs.twice.CountsStaySmall.{games_of, keeps_at_end, keeps_by}
 use Rattle.pgn_game.proofs.twice.TokensOfReading.{fails_at_end, token_at_end}
+use Rattle.pgn_game.proofs.ReaderFitsInMemory.{pass_fits_reader}
 use Rattle.pgn_game.proofs.checked.Pass.take_at_end.Goals as goal
 
 pub returns-in-Token-clause-takes : goal.returns-in-Token-clause-takes
@@ -31,3 +32,15 @@ returns-in-Fault-clause-takes g c q left_old left_now given takes has =
     rw c.lexical.ensures
     (fails_at_end q left_old left_now c.args.told given _ c.finish.follows.lender-at-none takes here (ap (λ (x : Pass). x.has_ended) c.self.view_is ∙ c.requires.behind)
     c.in-Fault.fault _ (rw c.in-Fault.is at c.finish.follows.holds-at-none.left))
+
+pub take_token-requires : goal.take_token-requires
+take_token-requires g c = (search pass_fits_reader, (search rules, (search rules, search rules)))
+
+pub invariant_of-self : goal.invariant_of-self
+invariant_of-self g c = (c.self.invariant.0, c.self.invariant.1, c.self.told)
+
+pub invariant_of-self-in-Token : goal.invariant_of-self-in-Token
+invariant_of-self-in-Token g c = (c.self.invariant.0, c.self.invariant.1, c.self.told)
+
+pub invariant_of-self-in-Fault : goal.invariant_of-self-in-Fault
+invariant_of-self-in-Fault g c = (c.self.invariant.0, c.self.invariant.1, c.self.told)

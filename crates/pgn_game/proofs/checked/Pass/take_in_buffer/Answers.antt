@@ -1,4 +1,4 @@
-use Rattle.std.proofs.Common.{◌≡◌, ℕ, ◌+◌, ◌-◌, ◌<◌, ◌≤◌, List, [], length, take, drop, inl, refl, sym, ap, subst, ◌∙◌, arith, length-take-le, length-drop}
+use Rattle.std.proofs.Common.{rules, ◌≡◌, ℕ, ◌+◌, ◌-◌, ◌<◌, ◌≤◌, List, [], length, take, drop, inl, refl, sym, ap, subst, ◌∙◌, arith, length-take, length-take-le, length-drop}
 use Rattle.std.proofs.KnownBytes.{Appends-nil}
 use Rattle.pgn_lexer.specs.Scanned.{kind_of}
 use Rattle.pgn_lexer.specs.Tokens.{Token}
@@ -9,6 +9,7 @@ use Rattle.pgn_game.specs.ReaderState.{ReaderState}
 use Rattle.pgn_game.proofs.tokens.AcceptedToConverter.{follows_own}
 use Rattle.pgn_game.proofs.twice.CountsStaySmall.{games_of, going_on, keeps_by, keeps_in_buffer}
 use Rattle.pgn_game.proofs.twice.TokensOfReading.{fails_in_buffer, in_buffer_before, more_in_buffer, none_of, rest_length, rest_of, token_in_buffer}
+use Rattle.pgn_game.proofs.ReaderFitsInMemory.{pass_fits_reader}
 use Rattle.pgn_game.proofs.checked.Pass.take_in_buffer.Goals as goal
 
 pub returns-in-NeedMore-clause-takes : goal.returns-in-NeedMore-clause-takes
@@ -64,3 +65,31 @@ returns-in-Fault-clause-takes g c q left_old left_now given takes has =
     rw c.lexical.ensures
     (fails_in_buffer q left_old left_now c.args.told given _ c.next-scan.follows.lender-at-none takes here not_ended c.next-scan.result.used c.in-Fault.fault _
     (carries here.bytes _ given (in_buffer_before q left_old left_now c.args.told given _ c.next-scan.follows.lender-at-none takes here not_ended c.next-scan.result.used) (follows_own _)))
+
+pub take_token-requires : goal.take_token-requires
+take_token-requires g c = (search pass_fits_reader, (search rules, (search rules, search rules)))
+
+pub next-scan-requires : goal.next-scan-requires
+next-scan-requires g c =
+    let going = subst IsGoing (sym c.self.view_is) c.requires.going in
+    rw c.as_slice-buffer.ensures going.room
+
+pub overflow_add-self : goal.overflow_add-self
+overflow_add-self g c =
+    let within = rw c.as_slice-buffer.ensures at c.next-scan.ensures.used in
+    omega (arith, within, length-take (c.self.inside.end - c.self.inside.start) (drop c.self.inside.start c.self.inside.buffer), c.self.invariant.0, c.self.invariant.1)
+
+pub invariant_of-self : goal.invariant_of-self
+invariant_of-self g c =
+    let within = rw c.as_slice-buffer.ensures at c.next-scan.ensures.used in
+    (omega (arith, within, length-take (c.self.inside.end - c.self.inside.start) (drop c.self.inside.start c.self.inside.buffer), c.self.invariant.0), c.self.invariant.1, c.self.told)
+
+pub invariant_of-self-in-Token : goal.invariant_of-self-in-Token
+invariant_of-self-in-Token g c =
+    let within = rw c.as_slice-buffer.ensures at c.next-scan.ensures.used in
+    (omega (arith, within, length-take (c.self.inside.end - c.self.inside.start) (drop c.self.inside.start c.self.inside.buffer), c.self.invariant.0), c.self.invariant.1, c.self.told)
+
+pub invariant_of-self-in-Fault : goal.invariant_of-self-in-Fault
+invariant_of-self-in-Fault g c =
+    let within = rw c.as_slice-buffer.ensures at c.next-scan.ensures.used in
+    (omega (arith, within, length-take (c.self.inside.end - c.self.inside.start) (drop c.self.inside.start c.self.inside.buffer), c.self.invariant.0), c.self.invariant.1, c.self.told)

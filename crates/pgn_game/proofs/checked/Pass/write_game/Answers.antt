@@ -1,6 +1,7 @@
 use Rattle.std.proofs.Common.{refl, ◌∙◌}
 use Rattle.pgn_game.proofs.twice.FailuresOfSteps.{changed_devices}
 use Rattle.pgn_game.proofs.twice.StepsToGame.{begins_written, no_end_within, write_fault, write_game, write_more}
+use Rattle.pgn_game.proofs.ReaderFitsInMemory.{pass_alike, pass_fits_reader}
 use Rattle.pgn_game.proofs.checked.Pass.write_game.Goals as goal
 
 pub loop-fault-init : goal.loop-fault-init
@@ -49,3 +50,25 @@ returns-in-Err-clause-writes g c q left_old given ms takes has between matched =
     (write_fault q left_old (g.R.Source.left c.loop-fault.source) (g.R.Source.left c.step.new.source) ms c.args.mark given c.loop-fault.self c.step.new.self
     (g.W.Sink.taken c.args.out.now) (g.W.Sink.taken c.loop-fault.out) (g.W.Sink.taken c.step.new.out) takes x c.in-Err.fault c.in-Err.ensures.keeps
     (c.in-Err.ensures.takes q left_old x.tokens takes x.has_given))
+
+pub count_missing_result_as-requires : goal.count_missing_result_as-requires
+count_missing_result_as-requires g c = search pass_fits_reader
+
+pub step-requires : goal.step-requires
+step-requires g c = (search pass_alike, (c.loop-fault.invariant.going, c.loop-fault.invariant.under))
+
+pub invariant_of-self : goal.invariant_of-self
+invariant_of-self g c = (c.self.invariant.0, c.self.invariant.1, c.self.told)
+
+pub loop-fault-smaller : goal.loop-fault-smaller
+loop-fault-smaller g c =
+    let keeps = rw c.in-Ok-More.field-0-is at c.in-Ok-More.ensures.keeps in
+    keeps.fewer
+
+pub returns-in-Ok-Game-clause-counted : goal.returns-in-Ok-Game-clause-counted
+returns-in-Ok-Game-clause-counted g c =
+    (c.in-Ok-Game.ensures.counted.0 ∙ c.loop-fault.invariant.source, c.in-Ok-Game.ensures.counted.1 ∙ c.loop-fault.invariant.sink)
+
+pub returns-in-Ok-End-clause-counted : goal.returns-in-Ok-End-clause-counted
+returns-in-Ok-End-clause-counted g c =
+    (c.in-Ok-End.ensures.counted.0 ∙ c.loop-fault.invariant.source, c.in-Ok-End.ensures.counted.1 ∙ c.loop-fault.invariant.sink)
