@@ -1,4 +1,4 @@
--- **Definition**: the squares from which a piece may reach a square, seen from that square.
+-- **Definition**: where a piece of a kind is looked for, when a legal move to a square is sought.
 -- No standard has this: it is our own way to find moves, and a law says that it misses none.
 -- Letters: p is a position, k a kind of piece, s an origin, t a target.
 use Rattle.std.specs.Prelude.{ℕ, Bool, ◌&&◌, ◌||◌, List, [], ◌∷◌, filter, length, sum_by}
@@ -9,7 +9,8 @@ use Rattle.chess_rules.specs.Square.{Square, squares, is_jump, in_line, on_diago
 use Rattle.chess_rules.specs.Attacks.{is_clear}
 use Rattle.chess_rules.specs.Step.{own}
 
--- a knight is a jump away; another piece is on a rank, a file or a diagonal with t, and all squares
+-- Only a knight's own way of moving counts: a bishop on the file of t is a candidate too. So a
+-- knight is a jump away; another piece is on a rank, a file or a diagonal with t, and all squares
 -- between are empty
 abbrev pub sees : Kind → Parts → Square → Square → Bool
 sees Knight p s t = is_jump s t

@@ -44,14 +44,14 @@ pub(crate) fn kings(contents: &[Option<Piece>; 64], colour: Colour) -> usize
 pub(crate) fn king_square(contents: &[Option<Piece>; 64], colour: Colour) -> Square
     ensures { result ≡ walk.king_square colour contents.now }
 {
-    match king_place(contents, colour) {
+    match king_index(contents, colour) {
         Some(index) => Square::nth(index),
         None => Square::nth(0),
     }
 }
 
-// The place of the colour's first king.
-fn king_place(contents: &[Option<Piece>; 64], colour: Colour) -> Option<usize>
+// The index of the colour's first king, counted from a1, b1 to h8; none if it has no king.
+fn king_index(contents: &[Option<Piece>; 64], colour: Colour) -> Option<usize>
     ensures place { result ≡ position (spec.has_piece colour King) contents.now }
     ensures below { IfSome result (λ i. i < 64) }
 {

@@ -376,7 +376,7 @@ fn piece_goes(position: &Position, kind: Kind, mv: &Move) -> bool
     piece_attacks(board, kind, side, mv.from, mv.to)
 }
 
-// Whether the king on the origin may go so. (FIDE Laws 3.8)
+// Whether this move of a king is a step to a neighbouring square, or castling (FIDE Laws 3.8).
 fn king_goes(position: &Position, mv: &Move) -> bool
     requires { IsTrue (spec.own position.now King mv.now.from) }
     ensures { result ≡ ways.king_goes position.now mv.now }

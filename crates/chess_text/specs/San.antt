@@ -1,4 +1,5 @@
--- **Definition**: the text of a move as it is written (PGN 8.2.3).
+-- **Definition**: the text of a move as it is written (PGN 8.2.3). At the end: how many pairs of an
+-- origin and a target are tried for legality to write it.
 use Rattle.std.specs.Prelude.{◌≡◌, ℕ, ◌+◌, ◌≤◌, ◌<◌, Bool, true, false, ◌&&◌, ◌||◌, not, List, [], ◌∷◌, ◌++◌, Option, None, Some, length, ◌==◌, codes, if◌then◌else◌, filter}
 use Rattle.std.specs.List.{list_any}
 use Rattle.chess_rules.specs.declared.piece.Kind.{Kind}
@@ -128,6 +129,6 @@ disambiguation_pairs p m = piece_pairs (at p.board m.from) p m
 pub record MarkPairs (q : Parts) (n m : ℕ) : Type 0 where
   pub rises : n ≤ m
   pub most : m ≤ n + 1024
-  pub quiet : is_check q ≡ false → m ≡ n
+  pub no_check : is_check q ≡ false → m ≡ n
   pub check : is_check q ≡ true → has_legal_move q ≡ true → n < m
   pub mate : is_check q ≡ true → has_legal_move q ≡ false → m ≡ n + pair_count q

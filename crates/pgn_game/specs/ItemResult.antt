@@ -12,7 +12,7 @@ use Rattle.pgn_game.specs.declared.mode.Mode.TheVariants.{Full, Reduced}
 use Rattle.pgn_game.specs.Chess.{is_black_to_move}
 use Rattle.pgn_game.specs.Game.{Item}
 use Rattle.pgn_game.specs.Text.{is_move, number_before, tokens_at, full_text}
-use Rattle.pgn_game.specs.Movetext.{Movetext, StoredLevels, HoldsItems, IsBackIn, level_at}
+use Rattle.pgn_game.specs.Movetext.{Movetext, StoredLevels, HoldsItems, ClosesLevel, level_at}
 use Rattle.pgn_game.specs.MostTried.{CostsToWrite}
 use Rattle.pgn_game.specs.Judgement.{model_item}
 
@@ -68,7 +68,7 @@ LeadsLevels (Move played) old new =
 LeadsLevels Open old new =
     IfSome old.present.before
     (λ start. new ≡ record { present = level_at start; around = old.present ∷ old.around })
-LeadsLevels Close old new = IsBackIn old.around new
+LeadsLevels Close old new = ClosesLevel old.around new
 LeadsLevels _ old new = new ≡ old
 
 -- An item is written, or left out. Where a write failed, nothing changes.

@@ -26,7 +26,7 @@ level_at start = record { present = start; before = None }
 abbrev pub only_level : Parts → StoredLevels
 only_level start = record { present = level_at start; around = [] }
 
--- The levels as they are kept: the game's own first, at least one, and at most so many.
+-- The levels as the code stores them, in a list: the main line first, the current level last.
 abbrev pub level_of : CodeLevel → StoredLevel
 level_of l = record { present = l.present; before = l.before }
 
@@ -42,10 +42,10 @@ pub record FitsLevelStore (most : ℕ) (levels : List CodeLevel) : Type 0 where
   pub some : 0 < length levels
   pub room : length levels ≤ most
 
--- the nearest of the levels around is the current one again
-abbrev pub IsBackIn : List StoredLevel → StoredLevels → Type 0
-IsBackIn [] new = Unit {0}
-IsBackIn (l ∷ around) new = new ≡ record { present = l; around = around }
+-- A variation closes: the nearest level around is current again. No claim if there is none.
+abbrev pub ClosesLevel : List StoredLevel → StoredLevels → Type 0
+ClosesLevel [] new = Unit {0}
+ClosesLevel (l ∷ around) new = new ≡ record { present = l; around = around }
 
 -- What a contract sees of the current movetext.
 pub record Movetext : Type 0 where
@@ -57,7 +57,7 @@ pub record Movetext : Type 0 where
 abbrev pub movetext_from : Parts → Movetext
 movetext_from start = record { levels = only_level start; plies = 0; is_after_move = false }
 
--- so where a FEN told that position, and else as before
+-- If a FEN gave a first position: no item yet, from there on. Otherwise unchanged.
 abbrev pub movetext_after_fen : Option Parts → Movetext → Movetext
 movetext_after_fen None text = text
 movetext_after_fen (Some start) text = movetext_from start

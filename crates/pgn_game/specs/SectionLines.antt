@@ -9,10 +9,12 @@ abbrev pub text_by : {A : Type 0} → (A → List ℕ) → List A → List ℕ
 text_by f [] = []
 text_by f (x ∷ xs) = f x ++ text_by f xs
 
--- the line of a roster pair, of a game with these pairs
+-- The line of the roster pair d: the value that the game has for this name, or else the default,
+-- which is d's own.
 abbrev pub roster_line : List Pair → Pair → List ℕ
 roster_line ps d = tag_line d.name (unwrap_or (value_of ps d.name) d.value)
 
--- the line of another pair; none for one of the roster, nor for a SetUp beside the one of a FEN
+-- The line of a pair outside the roster. A roster pair has no line here. A SetUp has none if there
+-- is a FEN, whose own SetUp is written instead.
 abbrev pub other_line : Bool → Pair → List ℕ
 other_line has_fen p = elim (in_roster p.name || (has_fen && bytes_eq p.name (codes "SetUp"))) [ true ↦ [] | false ↦ tag_line p.name p.value ]

@@ -394,7 +394,8 @@ fn differs(at: u64) -> Fault
     }
 }
 
-// Whether a marker at this place shows a difference from the mark that was told.
+// Whether this marker, or its place, differs from the mark that the other reading has told. False
+// if the token is no marker, or if no mark was told.
 #[inline(always)]
 fn marks_differ(told: Option<Mark>, marker: Option<Marker>, at: u64) -> bool
     ensures { result ≡ do_marks_differ told marker at }
@@ -405,8 +406,8 @@ fn marks_differ(told: Option<Mark>, marker: Option<Marker>, at: u64) -> bool
     marker.text() != told.marker.text() || at != told.at
 }
 
-// How many bytes are read at once, with room for so many: as many as the buffer holds. Where there
-// is no room, one byte shows that the input is too long.
+// How many bytes to ask the source for: as many as fit into both the buffer and the room. If there
+// is no room, one byte, which shows that the input is too long.
 fn bytes_to_read(room: u64) -> usize
     ensures some { 0 < result }
     ensures fits { result ≤ 4096 }

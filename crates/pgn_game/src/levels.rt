@@ -1,7 +1,7 @@
 //! The levels of movetext: the game's own, and those of the variations that are open.
 ghost use Rattle.std.specs.Prelude.{◌≡◌, ◌+◌, ◌<◌, ◌≤◌, ◌∷◌, None, Some, IsSome, IfSome, is_some, length};
 ghost use Rattle.pgn_game.specs.Chess.{first_position};
-ghost use Rattle.pgn_game.specs.Movetext.{level_at, only_level, IsBackIn};
+ghost use Rattle.pgn_game.specs.Movetext.{level_at, only_level, ClosesLevel};
 
 use arrayvec::ArrayVec;
 use chess_rules::Position;
@@ -122,7 +122,7 @@ impl<const L: usize> Levels<L> {
     /// Closes the current variation: the level around it goes on.
     pub fn close(&mut self)
         requires { 0 < length self.old.around }
-        ensures { IsBackIn self.old.around self.new }
+        ensures { ClosesLevel self.old.around self.new }
     {
         self.levels.truncate(self.levels.len() - 1);
     }

@@ -19,8 +19,8 @@ AppendsFront old new text = (n : ℕ) × (n < length text) × Appends old new (t
 abbrev pub Writes : {A E : Type 0} → Option (List ℕ) → Option (List ℕ) → Result A E → List ℕ → Type 0
 Writes old new r text = MatchResult r (λ _. Appends old new text) (λ _. AppendsFront old new text)
 
--- A device before a call and after it: the bytes that a source has left or a sink has taken, if it
--- reports them, and how often it has failed.
+-- What a contract compares: a device before and after a call. The bytes are those left in a source
+-- or taken by a sink, if it reports them.
 pub record Device : Type 0 where
   pub before : Option (List ℕ)
   pub after : Option (List ℕ)

@@ -123,7 +123,7 @@ fn append(line: &mut ArrayVec<u8, LINE_WITH_LF_LENGTH>, token: &[u8])
     let _ = line.try_extend_from_slice(token);
 }
 
-// Writes the line with LF in one write, and empties it, also if the write failed.
+// Gives the line and its LF to one `write_all`, and empties the line, also if that failed.
 #[inline(always)]
 fn write_line<W: Sink>(
     line: &mut ArrayVec<u8, LINE_WITH_LF_LENGTH>,

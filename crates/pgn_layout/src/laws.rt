@@ -7,7 +7,7 @@ pub fn tokens_determine_lines()
     ensures { TokensDetermineLines }
 {}
 
-/// Tokens that are put one after another are written on exactly these lines (PGN 8.2.1, 8.2.6).
+/// Tokens put one after another are written on the lines that `Lines` allows (PGN 8.2.1, 8.2.6).
 ///
 /// The first token is put on an empty line. All lines but the last are written as the tokens come.
 /// The end of the game writes the last one, and an empty line.

@@ -36,8 +36,8 @@ is_barred b = nat_le b 31 || (b == 127)
 abbrev pub is_plain : ℕ → Bool
 is_plain b = not (is_barred b || is_escaped b)
 
--- How data are written, and what comes after them: a quote and a backslash have a backslash before
--- them (PGN 7), and a backslash before any other byte is, by our choice, a datum itself.
+-- How the data of a string are written before s. Each quote and backslash has a backslash before it
+-- (PGN 7). By our choice, a backslash before any other byte stands for itself.
 pub data Data : List ℕ → List ℕ → List ℕ → Type 0 where
   no_data : (s : List ℕ) → Data [] [] s
   plain : (b : ℕ) (raw text s : List ℕ) → IsTrue (is_plain b) → Data raw text s → Data (b ∷ raw) (b ∷ text) s
@@ -95,8 +95,8 @@ pub data Refuses : List ℕ → ℕ → LexReason → Type 0 where
   large_glyph : (d : ℕ) (ds s : List ℕ) → IsTrue (is_digit d) → IsRun is_digit ds s → 255 < number_of (d ∷ ds) → Refuses (36 ∷ d ∷ (ds ++ s)) 0 GlyphRange
   bad_suffix : (run s : List ℕ) → IsRun is_suffix run s → 2 < length run → Refuses (run ++ s) 0 BadSuffix
 
--- Where a place is: outside strings and comments, in the first column or not; or in a comment,
--- which has braces or goes to the end of its line.
+-- What a byte is inside of. Outside strings and comments: whether it is in the first column. In a
+-- comment: whether that has braces, or goes to the end of its line.
 pub data Where : Type 0 where
   outside : Bool → Where
   comment : Bool → Where

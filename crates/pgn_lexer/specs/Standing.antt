@@ -1,4 +1,4 @@
--- **Definition**: what a contract sees of a lexer.
+-- **Definition**: the value that contracts see of a lexer, and the tokens that it still gives.
 use Rattle.std.specs.Prelude.{ℕ, List, Option, None, Some}
 use Rattle.pgn_lexer.specs.declared.token.LexFault.{LexFault}
 use Rattle.pgn_lexer.specs.declared.partial_token.Mode.{Mode}

@@ -49,18 +49,18 @@ pub record Machine : Type 0 where
   pub input : Reading
   pub second : Reading
   pub out : Device
-  pub is_short : Bool
+  pub lacks_memory : Bool
   pub files : Option (List FileStep)
   pub files_after : Option (List FileStep)
   pub err : Device
 
 abbrev pub machine : Reading → Reading → Device → Bool → Option (List FileStep) → Option (List FileStep) → Device
     → Machine
-machine input second out is_short files files_after err = record {
+machine input second out lacks_memory files files_after err = record {
   input = input;
   second = second;
   out = out;
-  is_short = is_short;
+  lacks_memory = lacks_memory;
   files = files;
   files_after = files_after;
   err = err;

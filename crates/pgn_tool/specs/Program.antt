@@ -1,4 +1,5 @@
--- **Definition**: what a run of the program does to the devices of a machine, by its words.
+-- **Definition**: what a run of the program does to the devices of a machine, for the words of its
+-- command line.
 use Rattle.std.specs.Prelude.{◌≡◌, ℕ, ◌≤◌, Bool, true, false, List, [], ◌∷◌, map, codes, Option, None, Some, Result, Ok, Err, String, Vec, string_bytes}
 use Rattle.std.specs.Global.{Global}
 use Rattle.pgn_layout.specs.Device.{Device}
@@ -61,42 +62,42 @@ EndsUnopened NoMemory err status = Reports (codes "out of memory") 3 err status
 abbrev pub IsMissing : (out err : Device) (status : ℕ) → Type 0
 IsMissing out err status = (fault : SystemFault) × EndsUnopened fault err status × IsUntouched out
 
--- A task that writes to standard output: there is no memory for a buffer, and nothing is read or
--- written; or it runs, and where no device fails it does what is said of the text that is read.
-pub data RunsStream (job : Job) (source out : Device) (is_short : Bool) (err : Device)
+-- A task that writes to standard output. Without memory for its buffer, nothing is read or written.
+-- Otherwise it runs; if no device fails, it does with the text read what `Answers` says.
+pub data RunsStream (job : Job) (source out : Device) (lacks_memory : Bool) (err : Device)
     (status : ℕ) : Type 0 where
-  unbuffered : is_short ≡ true → IsUntouched source → IsUntouched out
+  unbuffered : lacks_memory ≡ true → IsUntouched source → IsUntouched out
       → Reports (codes "out of memory") 3 err status
-      → RunsStream job source out is_short err status
+      → RunsStream job source out lacks_memory err status
   streams : status ≤ 1 → Runs job source out err status → ((s : List ℕ) → IsSmooth s source out
       → Answers job s out err status)
-      → RunsStream job source out is_short err status
+      → RunsStream job source out lacks_memory err status
 
--- The same of a task that reads two sources: where no device fails it does what is said of the two
--- texts, and if they are the same, what is said of one.
-pub data RunsBoth (mode : Mode) (first second out : Device) (is_short : Bool) (err : Device)
+-- A task that reads two sources. If no device fails, `AnswersTwice` says what it does, and if both
+-- texts are the same, `AnswersSame` says more.
+pub data RunsBoth (mode : Mode) (first second out : Device) (lacks_memory : Bool) (err : Device)
     (status : ℕ) : Type 0 where
-  unbuffered_twice : is_short ≡ true → IsUntouched first → IsUntouched second → IsUntouched out
+  unbuffered_twice : lacks_memory ≡ true → IsUntouched first → IsUntouched second → IsUntouched out
       → Reports (codes "out of memory") 3 err status
-      → RunsBoth mode first second out is_short err status
+      → RunsBoth mode first second out lacks_memory err status
   streams_twice : status ≤ 1 → RunsTwice mode first second out err status
       → ((s r : List ℕ) → IsSmooth s first out → IsSmooth r second out
       → AnswersTwice mode s r out err status)
       → ((s : List ℕ) → IsSmooth s first out → IsSmooth s second out
       → AnswersSame mode s out err status)
-      → RunsBoth mode first second out is_short err status
+      → RunsBoth mode first second out lacks_memory err status
 
 -- The file that is read by now is opened once more. It is refused, for a reason for which the
 -- machine refuses the file of this name, and nothing is read or written. Or it is read twice.
 pub data RunsAgain (mode : Mode) (name : List ℕ) (first : Device) (second : Reading) (out : Device)
-    (is_short : Bool) (err : Device) (status : ℕ) : Type 0 where
+    (lacks_memory : Bool) (err : Device) (status : ℕ) : Type 0 where
   unopened_again : (fault : SystemFault) → second.refuses name fault ≡ true
       → IsUntouched first → IsUntouched second.standard → IsUntouched out
       → EndsUnopened fault err status
-      → RunsAgain mode name first second out is_short err status
+      → RunsAgain mode name first second out lacks_memory err status
   opened_again : (again : Device) → source_of (Some name) second ≡ Some again
-      → RunsBoth mode first again out is_short err status
-      → RunsAgain mode name first second out is_short err status
+      → RunsBoth mode first again out lacks_memory err status
+      → RunsAgain mode name first second out lacks_memory err status
 
 -- only `split` makes files
 abbrev pub makes_files : Task → Bool
@@ -105,34 +106,34 @@ makes_files _ = false
 
 -- A task that makes no file: `export --checked` opens its file once more, and no other task does.
 abbrev pub RunsToOutput : Task → Device → Reading → Device → Bool → Device → ℕ → Type 0
-RunsToOutput (Checked reduced file) source second out is_short err status =
-    RunsAgain (mode_for reduced) (string_bytes file) source second out is_short err status
-RunsToOutput task source second out is_short err status =
-    RunsStream (job_of task) source out is_short err status × IsUntouched second.standard
+RunsToOutput (Checked reduced file) source second out lacks_memory err status =
+    RunsAgain (mode_for reduced) (string_bytes file) source second out lacks_memory err status
+RunsToOutput task source second out lacks_memory err status =
+    RunsStream (job_of task) source out lacks_memory err status × IsUntouched second.standard
 
 -- the task, on what is read: only `split` makes files, in its folder, and it writes nothing else
 abbrev pub RunsOpened : Task → Device → Reading → Device → Bool → Option (List FileStep)
     → Option (List FileStep) → Device → ℕ → Type 0
-RunsOpened (Split dir file) source second out is_short files files_after err status =
+RunsOpened (Split dir file) source second out lacks_memory files files_after err status =
     RunsSplit (added files (entered (string_bytes dir) ∷ [])) files_after source err status
     × IsUntouched out × IsUntouched second.standard
-RunsOpened task source second out is_short files files_after err status =
-    RunsToOutput task source second out is_short err status × (files_after ≡ files)
+RunsOpened task source second out lacks_memory files files_after err status =
+    RunsToOutput task source second out lacks_memory err status × (files_after ≡ files)
 
 -- nothing was read, and no file was made
 abbrev pub IsIdle : Machine → Type 0
 IsIdle m =
     IsUntouched m.input.standard × IsUntouched m.second.standard × (m.files_after ≡ m.files)
 
--- How a task is carried out: its file is refused, for a reason for which the machine refuses the
--- file of this name, and nothing is read or written; or it runs on what is read.
+-- How a task is carried out. If its file cannot be opened, nothing is read or written, and the
+-- machine has a reason to refuse this name. Otherwise the task runs on what is read.
 pub data Carries (task : Task) (m : Machine) (status : ℕ) : Type 0 where
   unopened : (name : List ℕ) (fault : SystemFault) → file_of (request_of task) ≡ Some name
       → m.input.refuses name fault ≡ true
       → IsIdle m → IsUntouched m.out → EndsUnopened fault m.err status
       → Carries task m status
   opened : (source : Device) → source_of (file_of (request_of task)) m.input ≡ Some source
-      → RunsOpened task source m.second m.out m.is_short m.files m.files_after m.err status
+      → RunsOpened task source m.second m.out m.lacks_memory m.files m.files_after m.err status
       → Carries task m status
 
 -- ---- by the words

@@ -14,7 +14,7 @@ use Rattle.pgn_tool.specs.ListLines.{list_profile}
 use Rattle.pgn_tool.specs.Files.{FileStep, added, closing_steps, number_after, opening_steps, open_text, whole_files}
 use Rattle.pgn_tool.specs.SplitGames.{CutsFile, IsSplit, IsSplitWhole, Logs, SplitsNoMore, files_of, texts_in, torn_text}
 
--- The files of these tokens, the last one still open.
+-- The files of the games in these tokens: the finished ones, and the one that is open, if any.
 pub record FilesOf {A : Type 0} (taken : A → Option (List ℕ)) (before : List FileStep)
     (log : Option (List FileStep)) (file : Option A) (count : ℕ) (ts : List Token) : Type 0 where
   pub counted : count ≡ number_after 0 (texts_in ts)

@@ -62,13 +62,13 @@ pub trait Output: Sink {
     ghost use Rattle.std.specs.Prelude.{◌≡◌, Bool, true, OnErr};
 
     // There was no memory for the buffer.
-    ghost is_short: { Self → Bool };
+    ghost lacks_memory: { Self → Bool };
 
     /// Makes a buffer for what is written from now on.
     fn reserve(&mut self) -> Result<(), AllocError>
         ensures taken { Self.taken self.new ≡ Self.taken self.old }
         ensures failures { Self.failures self.new ≡ Self.failures self.old }
-        ensures short { OnErr result (is_short self.new ≡ true) };
+        ensures short { OnErr result (lacks_memory self.new ≡ true) };
 }
 
 /// Files of games, in a folder.

@@ -50,7 +50,7 @@ pub fn run<I: Input, O: Output, F: GameFolder, E: Sink>(
     ensures ran { Ran words (machine
         (reading I.left I.failures I.holding I.refuses input.old input.new)
         (reading I.left I.failures I.holding I.refuses second.old second.new)
-        (device O.taken O.failures out.old out.new) (O.is_short out.new)
+        (device O.taken O.failures out.old out.new) (O.lacks_memory out.new)
         (F.log files.old) (F.log files.new)
         (device E.taken E.failures err.old err.new)) result }
 {
@@ -77,7 +77,7 @@ fn run_task<I: Input, O: Output, F: GameFolder, E: Sink>(
     ensures carries { Carries task (machine
         (reading I.left I.failures I.holding I.refuses input.old input.new)
         (reading I.left I.failures I.holding I.refuses second.old second.new)
-        (device O.taken O.failures out.old out.new) (O.is_short out.new)
+        (device O.taken O.failures out.old out.new) (O.lacks_memory out.new)
         (F.log files.old) (F.log files.new)
         (device E.taken E.failures err.old err.new)) result }
     ensures missing { (name : List ℕ) → file_of (request_of task) ≡ Some name
@@ -125,7 +125,7 @@ fn run_opened<I: Input, O: Output, F: GameFolder, E: Sink>(
     ensures status { result ≤ 3 }
     ensures opened { RunsOpened task (device I.left I.failures input.old input.new)
         (reading I.left I.failures I.holding I.refuses second.old second.new)
-        (device O.taken O.failures out.old out.new) (O.is_short out.new)
+        (device O.taken O.failures out.old out.new) (O.lacks_memory out.new)
         (F.log files.old) (F.log files.new)
         (device E.taken E.failures err.old err.new) result }
 {
@@ -150,7 +150,7 @@ fn run_to_output<I: Input, O: Output, E: Sink>(
     ensures status { result ≤ 3 }
     ensures runs { RunsToOutput task.now (device I.left I.failures input.old input.new)
         (reading I.left I.failures I.holding I.refuses second.old second.new)
-        (device O.taken O.failures out.old out.new) (O.is_short out.new)
+        (device O.taken O.failures out.old out.new) (O.lacks_memory out.new)
         (device E.taken E.failures err.old err.new) result }
 {
     match task {
@@ -176,7 +176,7 @@ fn run_again<I: Input, O: Output, E: Sink>(
     ensures runs { RunsAgain (checked_mode task.now) name.now
         (device I.left I.failures first.old first.new)
         (reading I.left I.failures I.holding I.refuses second.old second.new)
-        (device O.taken O.failures out.old out.new) (O.is_short out.new)
+        (device O.taken O.failures out.old out.new) (O.lacks_memory out.new)
         (device E.taken E.failures err.old err.new) result }
 {
     match second.open(name) {
@@ -198,7 +198,7 @@ fn run_both<I: Input, O: Output, E: Sink>(
     ensures runs { RunsBoth (checked_mode task.now)
         (device I.left I.failures first.old first.new)
         (device I.left I.failures second.old second.new)
-        (device O.taken O.failures out.old out.new) (O.is_short out.new)
+        (device O.taken O.failures out.old out.new) (O.lacks_memory out.new)
         (device E.taken E.failures err.old err.new) result }
 {
     match out.reserve() {
@@ -217,7 +217,7 @@ fn run_buffered<I: Input, O: Output, E: Sink>(
     requires { is_for_stream task.now ≡ true }
     ensures status { result ≤ 3 }
     ensures runs { RunsStream (job_of task.now) (device I.left I.failures input.old input.new)
-        (device O.taken O.failures out.old out.new) (O.is_short out.new)
+        (device O.taken O.failures out.old out.new) (O.lacks_memory out.new)
         (device E.taken E.failures err.old err.new) result }
 {
     match out.reserve() {

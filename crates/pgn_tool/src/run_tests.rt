@@ -87,7 +87,7 @@ struct Screen {
     outlet: Outlet<Page>,
     buffers: usize,
     has_memory: bool,
-    is_short: bool,
+    lacks_memory: bool,
 }
 
 impl Sink for Screen {
@@ -107,14 +107,14 @@ impl Sink for Screen {
 }
 
 impl Output for Screen {
-    ghost is_short = { λ s. s.is_short };
+    ghost lacks_memory = { λ s. s.lacks_memory };
 
     fn reserve(&mut self) -> Result<(), AllocError> {
         self.buffers = self.buffers.saturating_add(1);
         if self.has_memory {
             return Ok(());
         }
-        self.is_short = true;
+        self.lacks_memory = true;
         Err(AllocError)
     }
 }
@@ -179,7 +179,7 @@ fn run_words(alloc: Global, words: Result<Vec<String>, SystemFault>, has_memory:
         outlet: Outlet::new(memory(alloc)),
         buffers: 0,
         has_memory,
-        is_short: false,
+        lacks_memory: false,
     };
     let mut folders = Drawers {
         alloc,

@@ -215,7 +215,8 @@ fn settle<A: Copy>(answer: Result<A, Fault>, refusal: Option<CreateFault>) -> Re
     }
 }
 
-// `feed`, into the sink over the file of this game.
+// Feeds the piece to the converter, whose output goes to the file of this game. Gives back the
+// files that were borrowed for the call.
 fn feed_sink<'a, K: Before, F: GameFiles>(
     converter: &mut Splitter,
     piece: &[u8],

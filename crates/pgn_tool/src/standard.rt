@@ -100,7 +100,7 @@ pub struct StandardOutput {
     rt: HostRuntime,
     writer: Writer,
     failures: u64,
-    is_short: bool,
+    lacks_memory: bool,
 }
 
 impl StandardOutput {
@@ -110,7 +110,7 @@ impl StandardOutput {
             rt,
             writer: Writer::Direct(rt.stdout()),
             failures: 0,
-            is_short: false,
+            lacks_memory: false,
         }
     }
 
@@ -145,7 +145,7 @@ impl Sink for StandardOutput {
 }
 
 impl Output for StandardOutput {
-    ghost is_short = { λ s. s.is_short };
+    ghost lacks_memory = { λ s. s.lacks_memory };
 
     fn reserve(&mut self) -> Result<(), AllocError> {
         match BufWriter::with_capacity(self.rt.alloc(), OUTPUT_BUFFER, self.rt.stdout()) {
@@ -154,7 +154,7 @@ impl Output for StandardOutput {
                 Ok(())
             }
             Err(_) => {
-                self.is_short = true;
+                self.lacks_memory = true;
                 Err(AllocError)
             }
         }

@@ -22,7 +22,7 @@ quiet q n calm =
     record {
       rises = omega arith;
       most = omega arith;
-      quiet = λ is. refl;
+      no_check = λ is. refl;
       check = λ is some. differ is;
       mate = λ is none. differ is;
     }

@@ -6,7 +6,7 @@ use Rattle.std.specs.Prelude.{IsSome, IfSome}
 use Rattle.std.specs.List.{refill}
 use Rattle.chess_rules.specs.declared.position.Parts.{Parts}
 use Rattle.pgn_game.specs.declared.levels.Level.{Level as CodeLevel}
-use Rattle.pgn_game.specs.Movetext.{StoredLevels, level_of, inside, code_levels, IsBackIn, level_at}
+use Rattle.pgn_game.specs.Movetext.{StoredLevels, level_of, inside, code_levels, ClosesLevel, level_at}
 
 -- one level deeper
 abbrev deeper : StoredLevels → CodeLevel → StoredLevels
@@ -80,7 +80,7 @@ opens-nothing (Some p) P some e = absurd (cc)
 
 -- the last one is taken away
 pub front-held : (xs : List CodeLevel) (ls : StoredLevels) (n : ℕ) → code_levels xs ≡ ls → 0 < length xs → n ≡ length xs → 0 < length ls.around
-    → IsBackIn ls.around (code_levels (take (n - 1) xs))
+    → ClosesLevel ls.around (code_levels (take (n - 1) xs))
 front-held [] ls n e some all inner = absurd (omega (arith, some))
 front-held (x ∷ []) ls n e some all inner = absurd (omega (arith, inner, ap (λ (m : StoredLevels). length m.around) e))
 front-held (x ∷ y ∷ xs) ls n e some all inner =

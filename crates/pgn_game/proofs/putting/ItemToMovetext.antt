@@ -23,7 +23,7 @@ use Rattle.pgn_game.specs.Chess.{play, text_of_move}
 use Rattle.pgn_game.specs.Game.{Item, move, open_variation, close_variation}
 use Rattle.pgn_game.specs.Levels.{Level as ModelLevel, Levels as ModelLevels, levels_after, levels_of, first_level, depth, here, outermost, main_moves}
 use Rattle.pgn_game.specs.Text.{Placed, is_move, tokens_at, tokens_from, tokens_out, full_text}
-use Rattle.pgn_game.specs.Movetext.{StoredLevels, Movetext, level_at, IsBackIn, before_last, stored_level, stored_levels, ends_in_move, HoldsItems}
+use Rattle.pgn_game.specs.Movetext.{StoredLevels, Movetext, level_at, ClosesLevel, before_last, stored_level, stored_levels, ends_in_move, HoldsItems}
 use Rattle.pgn_game.specs.Judgement.{ItemFits, model_item}
 use Rattle.pgn_game.specs.ItemResult.{PutsTokens, GoesOn, LeadsLevels, writes, tokens_if, after_move_if, plies_in, item_text, Adds}
 use Rattle.pgn_game.proofs.putting.WritesInTurn.{front_of_more, Writes-append}
@@ -137,7 +137,7 @@ opened start trail true around new some h = h
 opened start trail false around new some h = absurd (cc)
 
 closed : (start : Parts) (present : ModelLevel) (around : List ModelLevel) (new : StoredLevels) → 0 < length (map (stored_level start) around)
-    → IsBackIn (map (stored_level start) around) new → new ≡ stored_levels start (levels_after (record { present = present; around = around }) close_variation)
+    → ClosesLevel (map (stored_level start) around) new → new ≡ stored_levels start (levels_after (record { present = present; around = around }) close_variation)
 closed start present [] new some h = absurd (omega arith)
 closed start present (l ∷ around) new some h = h
 
@@ -160,7 +160,7 @@ levels_lead most code.Open text new start ls fits leads e =
     (subst (λ (o : StoredLevels). IfSome o.present.before (λ s. new ≡ record { present = level_at s; around = o.present ∷ o.around })) e leads)
 levels_lead most code.Close text new start ls fits leads e =
     closed start ls.present ls.around new
-    (subst (λ (o : StoredLevels). 0 < length o.around) e fits) (subst (λ (o : StoredLevels). IsBackIn o.around new) e leads)
+    (subst (λ (o : StoredLevels). 0 < length o.around) e fits) (subst (λ (o : StoredLevels). ClosesLevel o.around new) e leads)
 levels_lead most _ text new start ls fits leads e = leads ∙ e
 
 one_at_most : (moved main : Bool) → elim moved [ true ↦ elim main [ true ↦ 1 | false ↦ 0 ] | false ↦ 0 ] ≤ 1

@@ -145,6 +145,7 @@ impl PartialToken {
         Step::Used
     }
 
+    /// The next byte of `$` and digits, whose number so far is this one (PGN 10).
     fn glyph(&mut self, number: u8, byte: u8) -> Step
         ensures { IsAfterByte (after.glyph self.old number byte) self.new result }
     {

@@ -57,32 +57,32 @@ unopened_is task m status fault answer is starts =
     (subst (λ (r : Result Unit SystemFault). StartsFrom (file_of (request_of task)) m.input.holding m.input.refuses m.input.standard r) is starts)
 
 -- the file was opened once, and not once more
-pub refused_again : (mode : Mode) (name : List ℕ) (first : Device) (second : Reading) (out : Device) (is_short : Bool) (err : Device) (status : ℕ)
+pub refused_again : (mode : Mode) (name : List ℕ) (first : Device) (second : Reading) (out : Device) (lacks_memory : Bool) (err : Device) (status : ℕ)
     (fault : SystemFault) (answer : Result Unit SystemFault) → answer ≡ Err fault
     → Opens (second.holding name) (second.refuses name) second.standard answer
-    → IsUntouched first → IsUntouched out → EndsUnopened fault err status → RunsAgain mode name first second out is_short err status
-refused_again mode name first second out is_short err status fault answer is opens still unwritten ends =
+    → IsUntouched first → IsUntouched out → EndsUnopened fault err status → RunsAgain mode name first second out lacks_memory err status
+refused_again mode name first second out lacks_memory err status fault answer is opens still unwritten ends =
     let refused = subst (λ (r : Result Unit SystemFault). Opens (second.holding name) (second.refuses name) second.standard r) is opens in
     unopened_again fault refused.0 still refused.1 unwritten ends
 
 -- the task reads a file twice
-pub to_output : (task : Task) (reduced : Bool) (file : String Global) (name : List ℕ) (first : Device) (second : Reading) (out : Device) (is_short : Bool)
+pub to_output : (task : Task) (reduced : Bool) (file : String Global) (name : List ℕ) (first : Device) (second : Reading) (out : Device) (lacks_memory : Bool)
     (err : Device) (status : ℕ) → task ≡ Checked reduced file → name ≡ string_bytes file
-    → RunsAgain (checked_mode task) name first second out is_short err status → RunsToOutput task first second out is_short err status
-to_output task reduced file name first second out is_short err status is same runs =
-    subst (λ (t : Task). RunsToOutput t first second out is_short err status) (sym is)
-    (subst (λ (n : List ℕ). RunsAgain (mode_for reduced) n first second out is_short err status) same
-    (subst (λ (t : Task). RunsAgain (checked_mode t) name first second out is_short err status) is runs))
+    → RunsAgain (checked_mode task) name first second out lacks_memory err status → RunsToOutput task first second out lacks_memory err status
+to_output task reduced file name first second out lacks_memory err status is same runs =
+    subst (λ (t : Task). RunsToOutput t first second out lacks_memory err status) (sym is)
+    (subst (λ (n : List ℕ). RunsAgain (mode_for reduced) n first second out lacks_memory err status) same
+    (subst (λ (t : Task). RunsAgain (checked_mode t) name first second out lacks_memory err status) is runs))
 
 -- the task makes no file
-pub opened_to_output : (task : Task) (first : Device) (second : Reading) (out : Device) (is_short : Bool) (files : Option (List FileStep)) (err : Device)
-    (status : ℕ) → makes_files task ≡ false → RunsToOutput task first second out is_short err status
-    → RunsOpened task first second out is_short files files err status
-opened_to_output (Export reduced file) first second out is_short files err status not runs = (runs, refl)
-opened_to_output (Checked reduced file) first second out is_short files err status not runs = (runs, refl)
-opened_to_output (Check file) first second out is_short files err status not runs = (runs, refl)
-opened_to_output (ListGames file) first second out is_short files err status not runs = (runs, refl)
-opened_to_output (Split dir file) first second out is_short files err status not runs = absurd (true≢false not)
+pub opened_to_output : (task : Task) (first : Device) (second : Reading) (out : Device) (lacks_memory : Bool) (files : Option (List FileStep)) (err : Device)
+    (status : ℕ) → makes_files task ≡ false → RunsToOutput task first second out lacks_memory err status
+    → RunsOpened task first second out lacks_memory files files err status
+opened_to_output (Export reduced file) first second out lacks_memory files err status not runs = (runs, refl)
+opened_to_output (Checked reduced file) first second out lacks_memory files err status not runs = (runs, refl)
+opened_to_output (Check file) first second out lacks_memory files err status not runs = (runs, refl)
+opened_to_output (ListGames file) first second out lacks_memory files err status not runs = (runs, refl)
+opened_to_output (Split dir file) first second out lacks_memory files err status not runs = absurd (true≢false not)
 
 -- the words of the call, as they were handed to `parse`
 abbrev pub Words : Type 0
