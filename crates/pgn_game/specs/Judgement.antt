@@ -145,6 +145,12 @@ found r (tokens.symbol s) =
     found_of (may_have_movetext r.stage && not (is_score s || is_number s)) r.text.levels.present.present s
 found r _ = None
 
+-- a move number or a period
+abbrev pub is_number_or_period : Kind → Bool
+is_number_or_period tokens.period = true
+is_number_or_period (tokens.symbol s) = is_number s && not (is_score s)
+is_number_or_period _ = false
+
 -- It was found, and its pairs are counted.
 pub record Finds (r : ReaderState) (k : Kind) (result : Option (Result Played Reason)) : Type 0 where
   pub says : result ≡ found r k

@@ -1,5 +1,5 @@
 //! Reads games token by token: judges what a token means, and carries that out.
-ghost use Rattle.std.specs.Prelude.{◌≡◌, ◌+◌, ◌-◌, ◌≤◌, ◌<◌, ◌^◌, ◌&&◌, [], false, not};
+ghost use Rattle.std.specs.Prelude.{◌≡◌, ◌+◌, ◌-◌, ◌≤◌, ◌<◌, ◌^◌, ◌&&◌, [], true, false, not};
 ghost use Rattle.std.specs.Prelude.{Some, IsTrue, ◌↔◌, bytes_eq, codes, max};
 ghost use Rattle.std.specs.Option.{option_copied};
 ghost use Rattle.pgn_layout.specs.Device.{device};
@@ -18,9 +18,11 @@ ghost use Rattle.pgn_game.specs.Profile.{counts_as, known_result};
 ghost use Rattle.pgn_game.specs.Markers.{marker_text};
 ghost use Rattle.pgn_game.specs.Movetext.{movetext_from};
 ghost use Rattle.pgn_game.specs.ReaderState.{Accepts, Stays, FinishesAtMarker, CountsWrites};
-ghost use Rattle.pgn_game.specs.Judgement.{Finds, Fits, Judges, JudgesEntry, OnlyProbesRise, Seeks, may_have_movetext};
+ghost use Rattle.pgn_game.specs.Judgement.{Finds, Fits, Judges, JudgesEntry, OnlyProbesRise, Seeks};
+ghost use Rattle.pgn_game.specs.Judgement.{is_number_or_period as is_of_number, may_have_movetext};
 ghost use Rattle.pgn_game.specs.Judgement.{fen_position as position_in_fen};
-ghost use Rattle.pgn_game.specs.PutResult.{BeginsText, PutResult, TriesJudged, begins_game, ready_for_token};
+ghost use Rattle.pgn_game.specs.PutResult.{BeginsText, PutResult, TriesJudged};
+ghost use Rattle.pgn_game.specs.PutResult.{at_game_start, begins_game, ready_for_token};
 ghost use Rattle.pgn_game.specs.FaultTable.{is_result as is_any_result, is_reduced};
 ghost use Rattle.pgn_game.specs.FaultTable.{lacks_fen as set_up_lacks_fen, marker_of};
 
@@ -35,7 +37,9 @@ use crate::reason::Reason;
 use crate::section::{exported_value, write_section};
 use crate::stage::Stage;
 use crate::tags::TagPairs;
-use crate::token_tests::{is_comment, is_end, is_number, is_result, is_score, is_tag_name};
+use crate::token_tests::{
+    is_comment, is_end, is_number, is_number_or_period, is_result, is_score, is_tag_name,
+};
 use chess_rules::{Position, Probes};
 use chess_text::{Played, read_fen};
 use pgn_layout::{CurrentLine, Sink, WriteFault, fits_tag_line};
@@ -189,6 +193,9 @@ impl<const T: usize, const L: usize> Reader<T, L> {
         ensures probes { self.old.most_probes ≤ self.new.most_probes }
     {
         self.make_ready(kind);
+        if self.passes_number(kind) {
+            return Ok(Accepted::More);
+        }
         let mut probes = Probes::new();
         let found = self.find(kind, &mut probes);
         match self.judge(kind, &found) {
@@ -207,10 +214,35 @@ impl<const T: usize, const L: usize> Reader<T, L> {
         if !self.is_between() || is_comment(kind) || is_end(kind) {
             return;
         }
+        self.begin_game();
+    }
+
+    // Begins a game. It is not inlined: most tokens begin none.
+    #[inline(never)]
+    fn begin_game(&mut self)
+        requires { self.old.earlier_plies + self.old.text.plies < 2 ^ 64 }
+        ensures { self.new ≡ at_game_start self.old }
+    {
         self.earlier_plies += self.text.plies();
         self.tags.clear();
         self.text.begin(Position::initial());
         self.stage = Stage::AfterTags;
+    }
+
+    // Whether this is a move number or a period in movetext. It changes nothing there.
+    #[inline(always)]
+    fn passes_number(&self, kind: TokenKind<'_>) -> bool
+        ensures stage { result ≡ true → self.now.stage ≡ InMovetext }
+        ensures number { result ≡ true → is_of_number (kind_of kind.entry) ≡ true }
+        ensures known { self.now.profile.missing_result
+            ≡ counts_as (known_result self.now.profile.missing_result) }
+    {
+        // For the proof alone: the model of the reader has the text of this marker.
+        let _ = &self.missing_result;
+        match self.stage {
+            Stage::InMovetext => is_number_or_period(kind),
+            _ => false,
+        }
     }
 
     // Looks for the move of a symbol, if movetext can begin or go on here. Returns the move, or why

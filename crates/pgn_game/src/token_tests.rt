@@ -2,6 +2,7 @@
 ghost use Rattle.std.specs.Prelude.{◌≡◌};
 ghost use Rattle.std.specs.List.{list_all};
 ghost use Rattle.pgn_lexer.specs.Scanned.{kind_of};
+ghost use Rattle.pgn_game.specs.Judgement.{is_number_or_period as is_of_number};
 ghost use Rattle.pgn_game.specs.FaultTable.{is_comment as is_of_comment, is_end as is_the_end, in_name, is_result as is_any_result, is_score as is_any_score, is_number as is_any_number};
 
 use pgn_lexer::TokenKind;
@@ -63,4 +64,16 @@ pub fn is_number(text: &[u8]) -> bool
     ensures { result ≡ is_any_number text.now }
 {
     text.iter().all(|byte| byte.is_ascii_digit())
+}
+
+/// Whether the token is a move number or a period (PGN 8.2.2.1).
+#[inline(always)]
+pub fn is_number_or_period(kind: TokenKind<'_>) -> bool
+    ensures { result ≡ is_of_number (kind_of kind.entry) }
+{
+    match kind {
+        TokenKind::Period => true,
+        TokenKind::Symbol(text) => is_number(text) && !is_score(text),
+        _ => false,
+    }
 }

@@ -131,6 +131,17 @@ move_leads old part s here played number score is same found =
     symbol_leads part s false false number score
     ∙ ap (λ (r : MoveReading). going (with_items part (move_item r))) (found_free (position_in part) (move_of (position_in part) s) played (found_at old part s here (Ok played) is same found)).1
 
+-- a number is not rejected, and adds no item
+number_rows : (p : Profile) (part : Part) (s : List ℕ) (r : MoveReading) → rows_for p part s true false r ≡ None
+number_rows p part s r = refl
+
+pub number_free : (p : Profile) (part : Part) (s : List ℕ) → is_number s ≡ true → is_score s ≡ false → text_refusal p part (symbol s) ≡ None
+number_free p part s number score =
+    symbol_refusal p part s true false (ap (λ (b : Bool). b || is_score s) number) score ∙ number_rows p part s (move_of (position_in part) s)
+
+pub number_leads : (part : Part) (s : List ℕ) → is_number s ≡ true → is_score s ≡ false → in_text part (symbol s) ≡ going (with_items part [])
+number_leads part s number score = symbol_leads part s true false number score
+
 -- Markers.
 
 -- what a marker is rejected for

@@ -173,6 +173,21 @@ puts_number old new d at begins =
     (λ has. subst (λ (n : ℕ). 0 < n) (sym begins.probes) (is.probed (subst (λ (l : List Item). IsTrue (has_move l)) (append-nil items) has)))
     (subst (Appends d.before d.after) (sym (append-nil _) ∙ ap (λ l. section_due_of old ++ l) (sym nothing) ∙ gain_is old part [] begins.known at is) begins.text))
 
+-- and in movetext it changes nothing at all
+pub number_passed : (old : ReaderState) (d : Device) → old.stage ≡ InMovetext → old.profile.missing_result ≡ counts_as (known_result old.profile.missing_result)
+    → Appends d.before d.after [] → d.failures_after ≡ d.failures → PutResult old (InText Number) old (Ok More) d
+number_passed old d at known nothing counted =
+    puts_number old old d (ap may_have_movetext at) (record {
+      text = subst (λ (s : Stage). Appends d.before d.after (section_due s old.profile.mode (known_result old.profile.missing_result) old.tags.held)) (sym at) nothing;
+      begun = ap (λ (s : Stage). record old { stage = s }) at;
+      known = known;
+      profile = refl;
+      earlier = refl;
+      plies = refl;
+      probes = refl;
+      counted = counted;
+    })
+
 -- where a move was played, some pair was tried
 probed_with : (old : ReaderState) (part : Part) (i : CodeItem) (most : ℕ) → IsProbed (Put i) old.most_probes → old.most_probes ≤ most
     → (IsTrue (has_move part.items) → 0 < old.most_probes) → IsTrue (has_move (part.items ++ model_item i ∷ [])) → 0 < most

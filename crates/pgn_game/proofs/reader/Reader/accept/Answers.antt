@@ -1,9 +1,16 @@
-use Rattle.std.proofs.Common.{◌∙◌, arith}
+use Rattle.std.proofs.Common.{◌∙◌, refl, sym, arith}
+use Rattle.std.specs.Prelude.{Ok}
 use Rattle.std.proofs.KnownBytes.{Appends-nil}
 use Rattle.pgn_lexer.specs.Scanned.{kind_of}
 use Rattle.pgn_game.specs.ReaderState as reader_state
 use Rattle.pgn_game.specs.Judgement.{after}
 use Rattle.pgn_game.proofs.ReaderFitsInMemory.{reader_alike}
+use Rattle.pgn_game.specs.declared.judged.Judged.TheVariants.{Entry as InText}
+use Rattle.pgn_game.specs.declared.judged.Entry.TheVariants.{Number}
+use Rattle.pgn_game.specs.declared.accepted.Accepted.TheVariants.{More}
+use Rattle.pgn_layout.specs.Device.{device}
+use Rattle.pgn_game.proofs.judging.NumbersInMovetext.{number_judged, number_untried, no_probes_rise, most_with_none}
+use Rattle.pgn_game.proofs.putting.ItemToReader.{number_passed}
 use Rattle.pgn_game.proofs.tokens.JudgedToAccepted.{accepted, refused, counts_refused, keeps_found, stays_found, finishes_at_marker}
 use Rattle.pgn_game.proofs.tokens.PairsTriedForToken.{raises, raises_refused}
 use Rattle.pgn_game.proofs.reader.Reader.accept.Goals as goal
@@ -59,6 +66,33 @@ returns-in-Err g c =
       stays = tt;
       finished = tt;
       counted = counts_refused c.in-Err.reason _ c.in-Err.ensures.fits;
+      plies = omega (arith, keeps.plies);
+      probes = keeps.probes;
+    }
+
+pub passes_number-requires : goal.passes_number-requires
+passes_number-requires g c = search reader_alike
+
+pub returns-then-passes_number : goal.returns-then-passes_number
+returns-then-passes_number g c =
+    let ready = c.make_ready.new.self in
+    let same = no_probes_rise ready in
+    let keeps = keeps_found c.args.self.now ready ready (kind_of c.args.kind) c.make_ready.ensures same in
+    let at = c.passes_number.ensures.stage c.if-passes_number.true in
+    let number = c.passes_number.ensures.number c.if-passes_number.true in
+    let d = device g.W.Sink.taken g.W.Sink.failures c.args.out.now c.args.out.now in
+    let judges = number_judged g.row.T g.row.L ready c.args.kind at number in
+    let puts = number_passed ready d at c.passes_number.ensures.known (Appends-nil _) refl in
+    record {
+      accepts = λ part agrees.
+          accepted c.args.self.now ready ready ready part c.args.kind (after (InText Number)) (Ok More) d agrees c.make_ready.ensures same judges.judges puts.goes
+          (raises g.row.T g.row.L c.args.self.now ready ready part c.args.kind 0 agrees c.make_ready.ensures same keeps.ready
+          (number_untried ready c.args.kind number) (most_with_none ready.most_probes) ready (InText Number) (Ok More) 0 d judges.judges judges.fits puts.goes
+          refl (λ few. most_with_none ready.most_probes));
+      profile = keeps.profile;
+      stays = stays_found c.args.self.now ready ready (kind_of c.args.kind) (Ok More) keeps puts.stays;
+      finished = tt;
+      counted = refl;
       plies = omega (arith, keeps.plies);
       probes = keeps.probes;
     }
