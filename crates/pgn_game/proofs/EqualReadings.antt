@@ -3,10 +3,9 @@ use Rattle.std.proofs.Common.{◌≡◌, ℕ, Bool, true, false, List, [], ◌�
 use Rattle.std.specs.Prelude.{◌||◌, ◌&&◌, ◌==◌, not, is_some, map, length, sum}
 use Rattle.std.proofs.lemmas.Bool.Decides.{eqb_tells}
 use Rattle.std.proofs.lemmas.Slice.Eq.{bytes_eq-Decides}
-use Rattle.pgn_lexer.specs.Tokens as tokens
-use Rattle.pgn_lexer.specs.Tokens.{Kind, Token}
+use Rattle.pgn_lexer.specs.Tokens.{Token}
 use Rattle.pgn_lexer.specs.TokensOf.{tokens_of}
-use Rattle.pgn_lexer.specs.Laws.{IsLast, RisesTo, TokensRise}
+use Rattle.pgn_lexer.specs.Laws.{RisesTo, TokensRise}
 use Rattle.pgn_game.specs.declared.reason.Reason.{Reason}
 use Rattle.pgn_game.specs.declared.reason.Reason.TheVariants.{Changed}
 use Rattle.pgn_game.specs.declared.reason.Fault.{Fault}
@@ -19,6 +18,7 @@ use Rattle.pgn_game.specs.Progress.{Next, going, whole, next, Progress, no_progr
 use Rattle.pgn_game.specs.Checked.{Mark, mark_at, marks_from, is_other, is_changed, marks_after, Comparison, compared_from, compared, earlier_fault, torn_before, written_by}
 use Rattle.pgn_game.specs.EqualReadings.{EqualReadings}
 use Rattle.pgn_game.proofs.tokens.OneMoreToken.{after_test, read_from-test, goes_on}
+use Rattle.pgn_game.proofs.reading.RunsToEnd.{not_end}
 
 -- how far the second reading is: its games, and no difference is seen
 pub record Same (f : Comparison) (gs : List Game) : Type 0 where
@@ -31,10 +31,6 @@ abbrev pub Ends : List Token → Type 0
 Ends [] = Unit {0}
 Ends (t ∷ []) = Unit {0}
 Ends (t ∷ u ∷ ts) = (is_end t.kind ≡ false) × Ends (u ∷ ts)
-
-not_end : (k : Kind) → (IsLast k → ⊥) → is_end k ≡ false
-not_end tokens.end last = absurd (last tt)
-not_end _ last = refl
 
 pub ends : (ts : List Token) → RisesTo ts → Ends ts
 ends [] rises = tt

@@ -16,13 +16,9 @@ use Rattle.pgn_game.specs.Laws.{IsPrefix}
 use Rattle.pgn_game.specs.Checked.{Mark, mark_at, marks_from, Comparison, compared_from, compared, with_mark, written_by}
 use Rattle.pgn_game.specs.EqualReadings.{AreWritten, AreWrittenWithin, InterruptedReadings}
 use Rattle.pgn_game.proofs.tokens.OneMoreToken.{after_test, read_from-test, goes_on, also, grows_from, due_grows, text_of-snoc}
-use Rattle.pgn_game.proofs.tokens.NextGrows.{next_grows}
+use Rattle.pgn_game.proofs.tokens.NextGrows.{behind, next_grows}
 use Rattle.pgn_game.proofs.EqualReadings.{Ends, ends, rest_ends, after_marks, marks_test, SeesGames, same_token, rejected_token, compared_same, written_same}
 use Rattle.pgn_game.proofs.twice.MarkerCounts.{same_game_text}
-
--- a prefix of what comes behind a text, with that text
-behind : (xs ys zs : List ℕ) → IsPrefix ys zs → IsPrefix (xs ++ ys) (xs ++ zs)
-behind xs ys zs h = (h.0, ap (λ (l : List ℕ). xs ++ l) h.1 ∙ sym (append_assoc xs ys h.0))
 
 front_of : (n : ℕ) (xs ys : List ℕ) → IsPrefix xs ys → IsPrefix (take n xs) ys
 front_of n xs ys h = also (take n xs) xs ys (drop n xs, sym (take-append-drop n xs)) h

@@ -1,6 +1,6 @@
 -- The text of a game that sound tokens spelled: it spells the game with its defaults filled in, and
 -- that game has the same text.
-use Rattle.std.proofs.Common.{◌≡◌, ℕ, ◌≤◌, true, List, [], ◌∷◌, ◌++◌, length, refl, sym, ap, subst, arith, Option, None, Some}
+use Rattle.std.proofs.Common.{◌≡◌, ℕ, ◌≤◌, true, List, [], ◌++◌, length, refl, sym, ap, subst, arith, Option, None, Some}
 use Rattle.std.specs.Prelude.{codes, not, unwrap_or, IsTrue, Ok, Result}
 use Rattle.std.specs.List.{AllByRecursion, list_all}
 use Rattle.chess_rules.specs.declared.position.Parts.{Parts}

@@ -66,15 +66,8 @@ each_of f g (c ∷ s) h e = let both = and_parts (f c) (list_all f s) e in and_f
 continues : (letter digit underscore plus hash equals colon hyphen slash : Bool)
     → (letter || digit || plus || hash || equals || hyphen) ≡ true
     → ((letter || digit) || underscore || plus || hash || equals || colon || hyphen || slash) ≡ true
-continues true d u p h e c m s i = refl
-continues false true u p h e c m s i = refl
-continues false false true p h e c m s i = refl
-continues false false false true h e c m s i = refl
-continues false false false false true e c m s i = refl
-continues false false false false false true c m s i = refl
-continues false false false false false false true m s i = refl
-continues false false false false false false false true s i = refl
 continues false false false false false false false false s i = absurd (false≢true i)
+continues _ _ _ _ _ _ _ _ s i = refl
 
 move_byte : (c : ℕ) → is_move_byte c ≡ true → continues_symbol c ≡ true
 move_byte c = continues (is_letter c) (is_digit c) (c == 95) (c == 43) (c == 35) (c == 61) (c == 58) (c == 45) (c == 47)

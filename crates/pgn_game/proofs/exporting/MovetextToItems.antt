@@ -36,11 +36,7 @@ pub aside : (k : Kind) (item items : List Item) (first : Parts) (ls : Levels) �
     → (fold levels_after ls (item ++ items) ≡ fold levels_after ls items)
     × (filter is_main_move (placed_from first ls (item ++ items)) ≡ filter is_main_move (placed_from first ls items))
 aside _ _ items first ls (number s is) = (refl, refl)
-aside _ _ items first ls period = (refl, refl)
-aside _ _ items first ls (glyph n) = (refl, refl)
-aside _ _ items first ls comment_open = (refl, refl)
-aside _ _ items first ls (word s) = (refl, refl)
-aside _ _ items first ls comment_close = (refl, refl)
+aside _ _ items first ls _ = (refl, refl)
 
 -- movetext closes the variations that it opens
 pub around_again : (p : Profile) (first : Parts) (deep : ℕ) (l : Level) (ks : List Kind) (items : List Item) → SpellsText p first deep l ks items

@@ -14,7 +14,7 @@ use Rattle.pgn_game.specs.Game.{Item, Game}
 use Rattle.pgn_game.specs.Levels.{Level, start_of}
 use Rattle.pgn_game.specs.Pairs.{Pair, value_of}
 use Rattle.pgn_game.specs.Profile.{Profile}
-use Rattle.pgn_game.specs.Spells.{AreDropped, SpellsPair, pair, SpellsPairs, no_pair, next_pair, KeepsTags, by_name, IsSetUp, SpellsText, no_more, token, move, variation, StandsFor, number, period, glyph, comment_open, word, comment_close, new_level, BeginsBare, IsResult, SpellsGame}
+use Rattle.pgn_game.specs.Spells.{AreDropped, SpellsPair, pair, SpellsPairs, no_pair, next_pair, KeepsTags, by_name, IsSetUp, SpellsText, no_more, token, move, variation, StandsFor, number, comment_open, word, comment_close, new_level, BeginsBare, IsResult, SpellsGame}
 use Rattle.pgn_game.proofs.AllOfJoined.{all_front, all_behind}
 use Rattle.pgn_game.proofs.judging.RefusalsInMovetext.{score_of}
 use Rattle.pgn_game.proofs.exporting.PiecesToTokens.{IsSoundPair, IsWritable}
@@ -79,11 +79,7 @@ behind_pairs _ _ ls (next_pair ks js q qs first rest) h =
 
 item_goes_on : (k : Kind) (item : List Item) → StandsFor k item → GoesOn k
 item_goes_on _ _ (number s is) = tt
-item_goes_on _ _ period = tt
-item_goes_on _ _ (glyph n) = tt
-item_goes_on _ _ comment_open = tt
-item_goes_on _ _ (word s) = tt
-item_goes_on _ _ comment_close = tt
+item_goes_on _ _ _ = tt
 
 text_goes_on : (p : Profile) (first : Parts) (deep : ℕ) (l : Level) (ks : List Kind) (items : List Item)
     → SpellsText p first deep l ks items → AllByRecursion GoesOn ks

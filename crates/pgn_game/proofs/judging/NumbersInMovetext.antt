@@ -1,5 +1,5 @@
 -- A move number or a period in movetext: what it means, and that no pair is tried for it.
-use Rattle.std.proofs.Common.{◌≡◌, Bool, true, false, ◌&&◌, ◌||◌, not, ℕ, List, max, None, refl, sym, ap, subst, ◌∙◌, arith}
+use Rattle.std.proofs.Common.{◌≡◌, Bool, true, false, ◌&&◌, ◌||◌, not, ℕ, List, max, refl, sym, ap, subst, ◌∙◌, arith}
 use Rattle.std.specs.Prelude.{Ok}
 use Rattle.pgn_lexer.specs.Tokens as tokens
 use Rattle.pgn_lexer.specs.Scanned.{kind_of}
@@ -7,7 +7,6 @@ use Rattle.pgn_lexer.specs.declared.token.TokenKind.{TokenKind}
 use Rattle.pgn_lexer.specs.declared.token.TokenKind.TheVariants as variants
 use Rattle.pgn_game.specs.declared.judged.Judged.TheVariants.{Entry as InText}
 use Rattle.pgn_game.specs.declared.judged.Entry.TheVariants.{Number}
-use Rattle.pgn_game.specs.declared.stage.Stage.{Stage}
 use Rattle.pgn_game.specs.declared.stage.Stage.TheVariants.{InMovetext}
 use Rattle.pgn_game.specs.FaultTable.{is_number, is_score}
 use Rattle.pgn_game.specs.MostTried.{CostsIf}

@@ -1,5 +1,5 @@
 -- Which tokens are rejected at a stage, and where the others lead.
-use Rattle.std.proofs.Common.{◌≡◌, ℕ, ◌+◌, Bool, true, false, ◌&&◌, List, [], length, nat_le, Option, None, Some, refl, sym, ap, subst, ◌∙◌, Bor}
+use Rattle.std.proofs.Common.{◌≡◌, ℕ, Bool, true, false, ◌&&◌, List, [], length, nat_le, Option, None, Some, refl, sym, ap, subst, ◌∙◌, Bor}
 use Rattle.std.specs.Prelude.{IsTrue, Ok}
 use Rattle.pgn_lexer.specs.Tokens as tokens
 use Rattle.pgn_lexer.specs.Tokens.{left_bracket, right_bracket, symbol, str}

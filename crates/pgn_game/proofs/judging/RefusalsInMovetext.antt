@@ -56,7 +56,7 @@ MoveReading = Option (Result Played SanFault)
 abbrev marker_if : Bool → List ℕ → Option (List ℕ)
 marker_if score s = elim score [ true ↦ Some s | false ↦ None ]
 
-abbrev other_if : Missing → List Pair → Option (List ℕ) → Bool
+abbrev pub other_if : Missing → List Pair → Option (List ℕ) → Bool
 other_if missing ps o =
     elim o [ None ↦ false | Some marker ↦ not (bytes_eq marker (unwrap_or (value_of ps (codes "Result")) (result_for missing marker))) ]
 
@@ -87,10 +87,8 @@ refused_as p (Some (Err Ambiguous)) = Some AmbiguousMove
 refused_as p (Some (Ok played)) = or_else (is_at_limit p) MoveLimit None
 
 move_rows : (p : Profile) (part : Part) (s : List ℕ) (r : MoveReading) → rows_for p part s false false r ≡ refused_as (position_in part) r
-move_rows p part s None = refl
 move_rows p part s (Some (Err NoMove)) = refl
-move_rows p part s (Some (Err Ambiguous)) = refl
-move_rows p part s (Some (Ok played)) = refl
+move_rows p part s _ = refl
 
 move_refusal : (p : Profile) (part : Part) (s : List ℕ) → is_number s ≡ false → is_score s ≡ false → text_refusal p part (symbol s) ≡ refused_as (position_in part) (move_of (position_in part) s)
 move_refusal p part s number score =
@@ -111,9 +109,8 @@ found_free p (Some (Ok one)) played e = by_limit (is_at_limit p) refl
         let h : limited false one ≡ Ok played = sym (ap (λ (b : Bool). limited b one) is) ∙ e in
         let k : one ≡ played = cc in
         (pass (is_at_limit p) MoveLimit None is, ap one_move k)
-found_free p None played e = absurd (cc)
 found_free p (Some (Err NoMove)) played e = absurd (cc)
-found_free p (Some (Err Ambiguous)) played e = absurd (cc)
+found_free p _ played e = absurd (cc)
 
 -- what was found at the reader's position was found at the part's
 found_at : (old : ReaderState) (part : Part) (s : List ℕ) (here : Parts) (r : Result Played Reason) → IsOpen old part → here ≡ old.text.levels.present.present → r ≡ found_in here (move_of here s)

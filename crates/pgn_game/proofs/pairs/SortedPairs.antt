@@ -61,11 +61,6 @@ pub named-last : (ps : List Pair) (b : Bool) (t : TagPairs) (P : List ℕ → Ty
 named-last ps true t P e h = let Q : TagPairs → Type 0 = λ u. IsSomeAnd u.pending_name P in subst Q (sym e) h
 named-last ps false t P e h = let Q : TagPairs → Type 0 = λ u. IsSomeAnd u.pending_name P in absurd (subst Q (sym e) h)
 
--- there is a last pair then
-pub some-last : (ps : List Pair) (P : List ℕ → Type 0) → IsSomeAnd (last_name ps) P → 0 < length ps
-some-last [] P h = absurd h
-some-last (p ∷ ps) P h = omega arith
-
 -- the last pair gets its value and goes to its place
 pub finished-last : (front : List Pair) (p : Pair) (value : List ℕ) (ps more : List Pair) → ps ≡ front ++ p ∷ []
     → more ≡ insert_pair (record { name = p.name; value = value }) front

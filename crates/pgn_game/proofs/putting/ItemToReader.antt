@@ -40,7 +40,7 @@ use Rattle.pgn_game.proofs.judging.PartsToJudgement.{open_agrees}
 abbrev pub lines_gain : Mode → List Pair → List Item → List Item → List ℕ
 lines_gain mode ps items more = drop (length (full_text mode (start_of ps) items)) (full_text mode (start_of ps) (items ++ more))
 
-abbrev part_at : Stage → List Pair → List ℕ → List Item → Part
+abbrev pub part_at : Stage → List Pair → List ℕ → List Item → Part
 part_at stage ps name items = record { stage = stage; pairs = ps; name = name; items = items }
 
 pub no_text : (mode : Mode) (start : Parts) → full_text mode start [] ≡ []
@@ -55,16 +55,13 @@ same_lines mode ps items more none =
 gain_at : (mode : Mode) (result : List ℕ) (stage : Stage) (ps : List Pair) (name : List ℕ) (items more : List Item) → IsTrue (may_have_movetext stage) → (stage ≡ AfterTags → items ≡ [])
     → drop (length (torn_at stage mode result (part_at stage ps name items))) (torn_at InMovetext mode result (part_at InMovetext ps name (items ++ more)))
     ≡ section_due stage mode result ps ++ lines_gain mode ps items more
-gain_at mode result Between ps name items more at fresh = absurd (cc)
-gain_at mode result AfterLeftBracket ps name items more at fresh = absurd (cc)
-gain_at mode result AfterName ps name items more at fresh = absurd (cc)
-gain_at mode result AfterValue ps name items more at fresh = absurd (cc)
 gain_at mode result AfterTags ps name items more at fresh = ap (λ l. tag_section mode result ps ++ l) (same_lines mode ps items more (fresh refl))
 gain_at mode result InMovetext ps name items more at fresh =
     let section = tag_section mode result ps in
     let old = full_text mode (start_of ps) items in
     let new = full_text mode (start_of ps) (items ++ more) in
     ap (λ n. drop n (section ++ new)) (length-append section old) ∙ drop-append-add section new (length old)
+gain_at mode result _ ps name items more at fresh = absurd (cc)
 
 -- the stage of a part is the reader's
 pub open_stage : (old : ReaderState) (part : Part) → IsOpen old part → IsTrue (may_have_movetext old.stage) → IsTrue (may_have_movetext part.stage)
@@ -204,12 +201,7 @@ probed_with old part i most put rises before has = by_kind i put refl
 
     by_kind : (k : CodeItem) → IsProbed (Put k) old.most_probes → i ≡ k → 0 < most
     by_kind (code.Move played) put is = omega (arith, put, rises)
-    by_kind (code.Glyph n) put is = earlier (ap (λ (k : CodeItem). list_any is_move (model_item k ∷ [])) is)
-    by_kind code.CommentOpen put is = earlier (ap (λ (k : CodeItem). list_any is_move (model_item k ∷ [])) is)
-    by_kind (code.Word text) put is = earlier (ap (λ (k : CodeItem). list_any is_move (model_item k ∷ [])) is)
-    by_kind code.CommentClose put is = earlier (ap (λ (k : CodeItem). list_any is_move (model_item k ∷ [])) is)
-    by_kind code.Open put is = earlier (ap (λ (k : CodeItem). list_any is_move (model_item k ∷ [])) is)
-    by_kind code.Close put is = earlier (ap (λ (k : CodeItem). list_any is_move (model_item k ∷ [])) is)
+    by_kind _ put is = earlier (ap (λ (k : CodeItem). list_any is_move (model_item k ∷ [])) is)
 
 -- the movetext that was held is held where its section is written
 begun_held : (old begun : ReaderState) (part : Part) → IsOpen old part → begun ≡ record old { stage = InMovetext }

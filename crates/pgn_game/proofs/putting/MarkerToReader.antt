@@ -16,7 +16,7 @@ use Rattle.pgn_game.specs.declared.judged.Entry.{Entry}
 use Rattle.pgn_game.specs.declared.judged.Entry.TheVariants.{Number, Item as PutItem, Marker}
 use Rattle.pgn_game.specs.declared.mode.Mode.{Mode}
 use Rattle.pgn_game.specs.declared.stage.Stage.{Stage}
-use Rattle.pgn_game.specs.declared.stage.Stage.TheVariants.{Between, AfterLeftBracket, AfterName, AfterValue, AfterTags, InMovetext}
+use Rattle.pgn_game.specs.declared.stage.Stage.TheVariants.{Between, AfterTags, InMovetext}
 use Rattle.pgn_game.specs.Profile.{Profile, Missing, counts_as, known_result}
 use Rattle.pgn_game.specs.Pairs.{Pair}
 use Rattle.pgn_game.specs.Game.{Item, Part}
@@ -33,7 +33,7 @@ use Rattle.pgn_game.proofs.putting.WritesInTurn.{front_of_more, front_after}
 use Rattle.pgn_game.proofs.putting.ItemToMovetext.{from_to}
 use Rattle.pgn_game.proofs.putting.ItemsAppended.{game_ends}
 use Rattle.pgn_game.proofs.judging.PartsToJudgement.{open_agrees}
-use Rattle.pgn_game.proofs.putting.ItemToReader.{gain_is, lines_gain, no_text, open_stage, plies_before, section_is, unwritten}
+use Rattle.pgn_game.proofs.putting.ItemToReader.{gain_is, lines_gain, no_text, open_stage, part_at, plies_before, section_is, unwritten}
 use Rattle.pgn_game.proofs.judging.RefusalsInMovetext.{depth_is, position_is}
 
 -- the lines of a game whose items are these, and an empty line
@@ -47,25 +47,19 @@ ending line marker = text_at line (Put marker) ++ text_at (line_at line (Put mar
 abbrev line_of : Mode → List Pair → List Item → List ℕ
 line_of mode ps items = last_line (lines_of (tokens_out mode (start_of ps) items))
 
-abbrev part_at : Stage → List Pair → List ℕ → List Item → Part
-part_at stage ps name items = record { stage = stage; pairs = ps; name = name; items = items }
-
 nothing_full : (mode : Mode) (ps : List Pair) (items : List Item) (rest : List ℕ) → items ≡ [] → full_text mode (start_of ps) items ++ rest ≡ rest
 nothing_full mode ps items rest none = ap (λ (l : List ℕ). l ++ rest) (ap (λ (is : List Item). full_text mode (start_of ps) is) none ∙ no_text mode (start_of ps))
 
 gain_at : (mode : Mode) (result : List ℕ) (stage : Stage) (ps : List Pair) (name : List ℕ) (items : List Item) (lines rest : List ℕ) → IsTrue (may_have_movetext stage) → (stage ≡ AfterTags → items ≡ [])
     → lines ≡ full_text mode (start_of ps) items ++ rest
     → drop (length (torn_at stage mode result (part_at stage ps name items))) (tag_section mode result ps ++ lines) ≡ section_due stage mode result ps ++ rest
-gain_at mode result Between ps name items lines rest at fresh is = absurd (cc)
-gain_at mode result AfterLeftBracket ps name items lines rest at fresh is = absurd (cc)
-gain_at mode result AfterName ps name items lines rest at fresh is = absurd (cc)
-gain_at mode result AfterValue ps name items lines rest at fresh is = absurd (cc)
 gain_at mode result AfterTags ps name items lines rest at fresh is = ap (λ l. tag_section mode result ps ++ l) (is ∙ nothing_full mode ps items rest (fresh refl))
 gain_at mode result InMovetext ps name items lines rest at fresh is =
     let section = tag_section mode result ps in
     let full = full_text mode (start_of ps) items in
     ap (λ n. drop n (section ++ lines)) (length-append section full) ∙ drop-append-add section lines (length full)
     ∙ ap (drop (length full)) is ∙ drop-append_seam full rest
+gain_at mode result _ ps name items lines rest at fresh is = absurd (cc)
 
 gain_of : (p : Profile) (part : Part) (marker : List ℕ) → p.missing_result ≡ counts_as (known_result p.missing_result) → IsTrue (may_have_movetext part.stage) → (part.stage ≡ AfterTags → part.items ≡ [])
     → All IsToken (tokens_out p.mode (start_of part.pairs) part.items) → IsToken marker

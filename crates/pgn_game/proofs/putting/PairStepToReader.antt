@@ -80,11 +80,7 @@ steps old new j from stage tags start o n is at begun goes before each =
 
     earlier : (s : Stage) (plies : ℕ) → (s ≡ Between → ⊥) → plies_behind s old.earlier_plies plies ≡ old.earlier_plies
     earlier Between plies out = absurd (out refl)
-    earlier AfterLeftBracket plies out = refl
-    earlier AfterName plies out = refl
-    earlier AfterValue plies out = refl
-    earlier AfterTags plies out = refl
-    earlier InMovetext plies out = refl
+    earlier _ plies out = refl
 
 -- where a game begins once the pair is held
 begins_with : (name value : List ℕ) (ps : List Pair) (start : Option Parts) (text : Movetext) → has_pair ps name ≡ false → fen_position name value ≡ Ok start → text ≡ movetext_from (start_of ps)

@@ -1,5 +1,5 @@
 -- Each move that is read is legal where it stands.
-use Rattle.std.proofs.Common.{◌≡◌, ℕ, Bool, true, false, List, [], ◌∷◌, ◌++◌, Option, None, Some, Result, Ok, Err, refl, sym, ap, subst, ◌∙◌, ◌⊎◌, inl, inr}
+use Rattle.std.proofs.Common.{◌≡◌, ℕ, Bool, true, false, List, [], ◌∷◌, ◌++◌, Option, None, Some, Result, Ok, refl, sym, ap, subst, ◌∙◌, ◌⊎◌, inl, inr}
 use Rattle.std.specs.Prelude.{IsTrue, option_map, is_some}
 use Rattle.std.specs.List.{list_all}
 use Rattle.std.proofs.lemmas.Bool.{and_from}
@@ -106,10 +106,9 @@ module _ (one_read : TheOneMoveIsRead) where
 
   item_legal : (start : Parts) (ls : Levels) (s : List ℕ) (o : Option (Result Played SanFault))
       → move_of (here start ls) s ≡ o → IsTrue (go_on_legally start ls (move_item o))
-  item_legal start ls s None e = refl
-  item_legal start ls s (Some (Err fault)) e = refl
   item_legal start ls s (Some (Ok x)) e =
       and_from _ _ (ap is_some (named_is_legal (here start ls) s x e)) refl
+  item_legal start ls s _ e = refl
 
   items_legal : (part : Part) (k : Kind)
       → IsTrue (go_on_legally (start_of part.pairs) (levels_of_part part) (items_of part k))

@@ -2,6 +2,7 @@
 use Rattle.std.proofs.Common.{◌≡◌, ℕ, Bool, true, false, ◌||◌, not, List, [], ◌∷◌, ◌++◌, Option, None, Some, refl, ap, ◌∙◌, append-nil}
 use Rattle.std.specs.Prelude.{codes, bytes_eq, unwrap_or, IsFalse, Result}
 use Rattle.std.proofs.lemmas.List.Sums.{fold-append}
+use Rattle.std.proofs.lemmas.Bool.{not-false}
 use Rattle.std.proofs.lemmas.Slice.Eq.{bytes_eq-Decides}
 use Rattle.chess_text.specs.declared.resolution.Played.{Played}
 use Rattle.chess_text.specs.declared.resolution.SanFault.{SanFault}
@@ -12,11 +13,11 @@ use Rattle.pgn_game.specs.Profile.{Profile, Missing, counts_as, takes_the_marker
 use Rattle.pgn_game.specs.Pairs.{Pair, value_of}
 use Rattle.pgn_game.specs.Chess.{move_of}
 use Rattle.pgn_game.specs.Game as games
-use Rattle.pgn_game.specs.Game.{Item, Game, Part}
+use Rattle.pgn_game.specs.Game.{Item}
 use Rattle.pgn_game.specs.Levels.{levels_of, levels_after, first_level, depth, here, start_of}
 use Rattle.pgn_game.specs.FaultTable.{refusal, is_score, is_number, is_end, is_at_limit, result_for, has_other_result}
 use Rattle.pgn_game.specs.Progress.{Next, next, going, whole, move_item}
-use Rattle.pgn_game.specs.Spells.{StandsFor, number, period, glyph, comment_open, word, comment_close, IsResult}
+use Rattle.pgn_game.specs.Spells.{StandsFor, number, glyph, comment_open, word, comment_close, IsResult}
 use Rattle.pgn_game.proofs.reading.RunsToEnd.{at}
 use Rattle.pgn_game.proofs.judging.RowsByStage.{symbol_fault, symbolic}
 
@@ -28,13 +29,9 @@ levels_more items x = fold-append levels_after first_level items (x ∷ [])
 abbrev pub differs : Missing → Option (List ℕ) → List ℕ → Bool
 differs missing o marker = not (bytes_eq marker (unwrap_or o (result_for missing marker)))
 
-was_true : (b : Bool) → not b ≡ false → b ≡ true
-was_true true e = refl
-was_true false e = absurd (cc)
-
 pub result_is : (missing : Missing) (o : Option (List ℕ)) (marker : List ℕ) → IsFalse (differs missing o marker) → IsResult missing o marker
-result_is missing (Some v) marker h = (bytes_eq-Decides marker v).0 (was_true (bytes_eq marker v) h)
-result_is (counts_as text) None marker h = (bytes_eq-Decides marker text).0 (was_true (bytes_eq marker text) h)
+result_is missing (Some v) marker h = (bytes_eq-Decides marker v).0 (not-false (bytes_eq marker v) h)
+result_is (counts_as text) None marker h = (bytes_eq-Decides marker text).0 (not-false (bytes_eq marker text) h)
 result_is takes_the_marker None marker h = tt
 
 pub result_meets : (missing : Missing) (o : Option (List ℕ)) (marker : List ℕ) → IsResult missing o marker → IsFalse (differs missing o marker)
@@ -96,11 +93,7 @@ stands_free p ps name items _ _ (number s is) =
     ∙ ap (λ (b : Bool). symbol_fault b (is_score s) (move_of place s) (is_at_limit place) (depth (levels_of items)) other) is
     ∙ number_passes (is_score s) (move_of place s) (is_at_limit place) (depth (levels_of items)) other (number_no_score s is)
     (no_other p.missing_result ps name items s (number_no_score s is))
-stands_free p ps name items _ _ period = refl
-stands_free p ps name items _ _ (glyph n) = refl
-stands_free p ps name items _ _ comment_open = refl
-stands_free p ps name items _ _ (word s) = refl
-stands_free p ps name items _ _ comment_close = refl
+stands_free p ps name items _ _ _ = refl
 
 pub stands_leads : (ps : List Pair) (name : List ℕ) (items : List Item) (k : Kind) (item : List Item) → StandsFor k item
     → next (at InMovetext ps name items) k ≡ going (at InMovetext ps name (items ++ item))
@@ -108,24 +101,15 @@ stands_leads ps name items _ _ (number s is) =
     symbol_leads ps name items s
     ∙ ap (λ (b : Bool). symbol_next ps name items s b (is_score s) (move_of (here (start_of ps) (levels_of items)) s)) is
     ∙ ap (λ (b : Bool). symbol_next ps name items s true b (move_of (here (start_of ps) (levels_of items)) s)) (number_no_score s is)
-stands_leads ps name items _ _ period = refl
-stands_leads ps name items _ _ (glyph n) = refl
-stands_leads ps name items _ _ comment_open = refl
-stands_leads ps name items _ _ (word s) = refl
-stands_leads ps name items _ _ comment_close = refl
+stands_leads ps name items _ _ _ = refl
 
 pub stands_levels : (items : List Item) (k : Kind) (item : List Item) → StandsFor k item → levels_of (items ++ item) ≡ levels_of items
-stands_levels items _ _ (number s is) = ap levels_of (append-nil items)
-stands_levels items _ _ period = ap levels_of (append-nil items)
 stands_levels items _ _ (glyph n) = levels_more items (games.glyph n)
 stands_levels items _ _ comment_open = levels_more items games.comment_open
 stands_levels items _ _ (word s) = levels_more items (games.word s)
 stands_levels items _ _ comment_close = levels_more items games.comment_close
+stands_levels items _ _ _ = ap levels_of (append-nil items)
 
 pub stands_goes : (k : Kind) (item : List Item) → StandsFor k item → is_end k ≡ false
 stands_goes _ _ (number s is) = refl
-stands_goes _ _ period = refl
-stands_goes _ _ (glyph n) = refl
-stands_goes _ _ comment_open = refl
-stands_goes _ _ (word s) = refl
-stands_goes _ _ comment_close = refl
+stands_goes _ _ _ = refl

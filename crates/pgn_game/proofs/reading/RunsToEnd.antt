@@ -5,7 +5,7 @@ use Rattle.pgn_lexer.specs.Tokens as tokens
 use Rattle.pgn_lexer.specs.Tokens.{Kind, Token}
 use Rattle.pgn_lexer.specs.Laws.{IsLast, RisesTo}
 use Rattle.pgn_game.specs.declared.stage.Stage.{Stage}
-use Rattle.pgn_game.specs.declared.stage.Stage.TheVariants.{Between, AfterLeftBracket, AfterName, AfterValue, AfterTags, InMovetext}
+use Rattle.pgn_game.specs.declared.stage.Stage.TheVariants.{Between, AfterLeftBracket, AfterName, AfterValue, InMovetext}
 use Rattle.pgn_game.specs.Profile.{Profile}
 use Rattle.pgn_game.specs.Pairs.{Pair}
 use Rattle.pgn_game.specs.Game.{Item, Game, Part, no_part}
@@ -34,7 +34,7 @@ record Read_on (p : Profile) (b : Progress) (ts : List Token) (gs : List Game) :
   same : (read_from p b ts).progress.games ≡ b.games ++ gs
   runs : Runs p b.part (kinds ts) gs
 
-not_end : (k : Kind) → (IsLast k → ⊥) → is_end k ≡ false
+pub not_end : (k : Kind) → (IsLast k → ⊥) → is_end k ≡ false
 not_end tokens.end h = absurd (h tt)
 not_end _ h = refl
 
@@ -43,8 +43,7 @@ end_leads Between ps name items = (at Between ps name items, refl)
 end_leads AfterLeftBracket ps name items = (at AfterLeftBracket ps name items, refl)
 end_leads AfterName ps name items = (at AfterName ps name items, refl)
 end_leads AfterValue ps name items = (at AfterValue ps name items, refl)
-end_leads AfterTags ps name items = (at InMovetext ps name (items ++ []), refl)
-end_leads InMovetext ps name items = (at InMovetext ps name (items ++ []), refl)
+end_leads _ ps name items = (at InMovetext ps name (items ++ []), refl)
 
 at_end : (p : Profile) (b : Progress) (place : ℕ) (k : Kind) → IsLast k → (read_from p b (record { at = place; kind = k } ∷ [])).fault ≡ None
     → Read_on p b (record { at = place; kind = k } ∷ []) []

@@ -271,7 +271,7 @@ next_in_piece l u piece used given stands s follows =
     ∙ append_assoc (u ++ take used piece) rest s in
     (coming l (rest ++ s), ap tokens_of whole ∙ stands.tokens (rest ++ s) (follows_first rest s))
 
-still_none : (b : Option ℕ) (piece : List ℕ) → 0 < length piece → still b piece ≡ None
+pub still_none : (b : Option ℕ) (piece : List ℕ) → 0 < length piece → still b piece ≡ None
 still_none b [] h = absurd (omega arith)
 still_none b (x ∷ xs) h = refl
 

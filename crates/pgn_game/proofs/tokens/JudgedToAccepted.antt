@@ -11,7 +11,7 @@ use Rattle.pgn_game.specs.declared.accepted.Accepted.TheVariants.{More, Finished
 use Rattle.pgn_game.specs.declared.judged.Judged.{Judged}
 use Rattle.pgn_game.specs.declared.reason.Reason.{Reason}
 use Rattle.pgn_game.specs.declared.stage.Stage.{Stage}
-use Rattle.pgn_game.specs.declared.stage.Stage.TheVariants.{Between, AfterLeftBracket, AfterName, AfterValue, AfterTags, InMovetext}
+use Rattle.pgn_game.specs.declared.stage.Stage.TheVariants.{Between, AfterTags, InMovetext}
 use Rattle.pgn_game.specs.Profile.{Profile}
 use Rattle.pgn_game.specs.Game.{Part, no_part}
 use Rattle.pgn_game.specs.Text.{torn}
@@ -69,11 +69,7 @@ begins_at_first old part k agrees at is =
 -- a token begins a game between games alone
 between_of : (s : Stage) (k : Kind) → begins_game s k ≡ true → (s ≡ Between) × IsTrue (begins_game Between k)
 between_of Between k is = (refl, is)
-between_of AfterLeftBracket k is = absurd (cc)
-between_of AfterName k is = absurd (cc)
-between_of AfterValue k is = absurd (cc)
-between_of AfterTags k is = absurd (cc)
-between_of InMovetext k is = absurd (cc)
+between_of _ k is = absurd (cc)
 
 pub meets : (old : ReaderState) (part : Part) (k : TokenKind) → Agrees old part → Meets old (ready_for_token old (kind_of k)) part (kind_of k)
 meets old part k agrees = by_test (begins_game old.stage (kind_of k)) refl
@@ -96,12 +92,8 @@ meets old part k agrees = by_test (begins_game old.stage (kind_of k)) refl
 
 -- a higher count of probes agrees with the same part
 counts_on : (r : ReaderState) (n : ℕ) (part : Part) (stage : Stage) → r.stage ≡ stage → r.most_probes ≤ n → HoldsText stage r part → HoldsText stage (record r { most_probes = n }) part
-counts_on r n part Between at more h = h
-counts_on r n part AfterLeftBracket at more h = h
-counts_on r n part AfterName at more h = h
-counts_on r n part AfterValue at more h = h
-counts_on r n part AfterTags at more h = h
 counts_on r n part InMovetext at more h = (h.0, λ has. let some : 0 < r.most_probes = h.1 has in omega (arith, some, more))
+counts_on r n part _ at more h = h
 
 agrees_on : (r : ReaderState) (n : ℕ) (part : Part) → r.most_probes ≤ n → Agrees r part → Agrees (record r { most_probes = n }) part
 agrees_on r n part more agrees = record { stage = agrees.stage; pairs = agrees.pairs; text = counts_on r n part r.stage refl more agrees.text }
@@ -217,11 +209,9 @@ keeps_found old ready found k is counts =
 pub stays_found : (old found new : ReaderState) (k : Kind) (r : Result Accepted Reason) → KeepsFound old found k → Stays found new r → Stays old new r
 stays_found old found new k (Ok More) keeps stays =
     λ at. let same = stays at in same ∙ keeps.stays (ap (λ (x : ReaderState). x.stage) (sym same) ∙ at)
-stays_found old found new k (Ok Finished) keeps stays = tt
-stays_found old found new k (Err reason) keeps stays = tt
+stays_found old found new k _ keeps stays = tt
 
 -- what finishes a game is a marker
 pub finishes_at_marker : (k : Kind) (j : Judged) (new : ReaderState) (r : Result Accepted Reason) → FinalIsMarker k j → FinishesFinal j new r → FinishesAtMarker k new r
-finishes_at_marker k j new (Ok More) final_is_marker finishes = tt
 finishes_at_marker k j new (Ok Finished) final_is_marker finishes = (final_is_marker finishes.0, finishes.1)
-finishes_at_marker k j new (Err reason) final_is_marker finishes = tt
+finishes_at_marker k j new _ final_is_marker finishes = tt

@@ -20,7 +20,7 @@ use Rattle.pgn_game.specs.Laws.{IsPrefix}
 use Rattle.pgn_game.proofs.putting.ItemsAppended.{full_text_grows, full_text_marker}
 
 -- a text in front of both
-behind : (xs ys zs : List ℕ) → IsPrefix ys zs → IsPrefix (xs ++ ys) (xs ++ zs)
+pub behind : (xs ys zs : List ℕ) → IsPrefix ys zs → IsPrefix (xs ++ ys) (xs ++ zs)
 behind xs ys zs h = (h.0, ap (λ l. xs ++ l) h.1 ∙ sym (append_assoc xs ys h.0))
 
 module _ (tags deepest : ℕ) (mode : Mode) (ps : List Pair) (name : List ℕ) (items : List Item) where

@@ -9,11 +9,11 @@ use Rattle.pgn_lexer.specs.PartialToken.{refusal as refusal_token}
 use Rattle.pgn_lexer.specs.Standing.{Standing, coming, waiting}
 use Rattle.pgn_lexer.specs.Stands.{HasLeft, IsNext, FinishGivesToken, Follows}
 use Rattle.pgn_game.specs.declared.stage.Stage.{Stage}
-use Rattle.pgn_game.specs.declared.stage.Stage.TheVariants.{Between, AfterLeftBracket, AfterName, AfterValue, AfterTags, InMovetext}
+use Rattle.pgn_game.specs.declared.stage.Stage.TheVariants.{Between}
 use Rattle.pgn_game.specs.declared.accepted.Accepted.{Accepted}
 use Rattle.pgn_game.specs.declared.accepted.Accepted.TheVariants.{More, Finished}
 use Rattle.pgn_game.specs.declared.reason.Reason.{Reason}
-use Rattle.pgn_game.specs.declared.reason.Reason.TheVariants.{Lexical, ExpectedName, BadTagName, DuplicateTag, TooManyTags, ExpectedValue, BadResult, BadFen, TagLineTooLong, ExpectedBracket, SetUpWithoutFen, ReducedFen, TagInMovetext, NotAMove, IllegalMove, AmbiguousMove, MoveLimit, NoMoveBefore, TooDeep, UnmatchedClose, MarkerInVariation, ResultDiffers, UnexpectedEnd, ReadFault, WriteFault, InputTooLong, Changed}
+use Rattle.pgn_game.specs.declared.reason.Reason.TheVariants.{Lexical, ReadFault, WriteFault, InputTooLong, Changed}
 use Rattle.pgn_game.specs.declared.reason.Fault.{Fault}
 use Rattle.pgn_game.specs.Profile.{Profile}
 use Rattle.pgn_game.specs.Pairs.{Pair}
@@ -35,19 +35,7 @@ Left u given false l t = HasLeft l u (given ++ t ∷ [])
 
 pub left_by : (u : List ℕ) (given : List Token) (k : Kind) (l : Standing) (t : Token) → IsNext u given k l t → Left u given (is_end k) l t
 left_by u given tokens.left_bracket l t h = h
-left_by u given tokens.right_bracket l t h = h
-left_by u given tokens.left_paren l t h = h
-left_by u given tokens.right_paren l t h = h
-left_by u given tokens.period l t h = h
-left_by u given tokens.asterisk l t h = h
-left_by u given (tokens.symbol text) l t h = h
-left_by u given (tokens.str text) l t h = h
-left_by u given (tokens.glyph n) l t h = h
-left_by u given tokens.comment_open l t h = h
-left_by u given (tokens.word text) l t h = h
-left_by u given tokens.comment_close l t h = h
-left_by u given tokens.end l t h = h
-left_by u given (tokens.refused r) l t h = h
+left_by u given _ l t h = h
 
 -- a token was waiting, unless it is the end
 abbrev pub Nearer : Bool → Standing → Standing → Type 0
@@ -55,37 +43,16 @@ Nearer true old new = new ≡ old
 Nearer false old new = (waiting new < waiting old) × (new.count ≡ old.count)
 
 pub nearer_by : (k : Kind) (old new : Standing) (t : Token) → FinishGivesToken k old new t → Nearer (is_end k) old new
-nearer_by tokens.left_bracket old new t h = (h.1, h.2)
-nearer_by tokens.right_bracket old new t h = (h.1, h.2)
-nearer_by tokens.left_paren old new t h = (h.1, h.2)
-nearer_by tokens.right_paren old new t h = (h.1, h.2)
-nearer_by tokens.period old new t h = (h.1, h.2)
-nearer_by tokens.asterisk old new t h = (h.1, h.2)
-nearer_by (tokens.symbol text) old new t h = (h.1, h.2)
-nearer_by (tokens.str text) old new t h = (h.1, h.2)
-nearer_by (tokens.glyph n) old new t h = (h.1, h.2)
-nearer_by tokens.comment_open old new t h = (h.1, h.2)
-nearer_by (tokens.word text) old new t h = (h.1, h.2)
-nearer_by tokens.comment_close old new t h = (h.1, h.2)
 nearer_by tokens.end old new t h = h.1
-nearer_by (tokens.refused r) old new t h = (h.1, h.2)
+nearer_by _ old new t h = (h.1, h.2)
 
 -- the end is no marker
 pub marker_or_end : (k : Kind) → IsTrue (is_some (marker_of k)) → is_end k ≡ false
-marker_or_end tokens.left_bracket h = refl
-marker_or_end tokens.right_bracket h = refl
-marker_or_end tokens.left_paren h = refl
-marker_or_end tokens.right_paren h = refl
-marker_or_end tokens.period h = refl
-marker_or_end tokens.asterisk h = refl
-marker_or_end (tokens.symbol text) h = refl
-marker_or_end (tokens.str text) h = refl
-marker_or_end (tokens.glyph n) h = refl
-marker_or_end tokens.comment_open h = refl
-marker_or_end (tokens.word text) h = refl
-marker_or_end tokens.comment_close h = refl
 marker_or_end tokens.end h = absurd (cc)
-marker_or_end (tokens.refused r) h = refl
+marker_or_end _ h = refl
+
+no_marker_at_end : (k : Kind) → is_end k ≡ true → IsTrue (is_some (marker_of k)) → ⊥
+no_marker_at_end k is_e marker = let none = marker_or_end k marker in absurd (cc)
 
 -- the tokens of the text begin so in either case
 pub tokens_left : (u : List ℕ) (given : List Token) (e : Bool) (l : Standing) (t : Token) → Left u given e l t → (us : List Token) × (tokens_of u ≡ given ++ t ∷ us)
@@ -97,11 +64,7 @@ pub end_at : (p : Profile) (s : Stage) (ps : List Pair) (name : List ℕ) (items
     → refusal p (record { stage = s; pairs = ps; name = name; items = items }) tokens.end ≡ None → s ≡ Between
 unfolding refusal
 end_at p Between ps name items h = refl
-end_at p AfterLeftBracket ps name items h = absurd (cc)
-end_at p AfterName ps name items h = absurd (cc)
-end_at p AfterValue ps name items h = absurd (cc)
-end_at p AfterTags ps name items h = absurd (cc)
-end_at p InMovetext ps name items h = absurd (cc)
+end_at p _ ps name items h = absurd (cc)
 
 between_after : (s : Stage) (ps : List Pair) (name : List ℕ) (items : List Item) (games : List Game) → s ≡ Between
     → (progress_with games (next (record { stage = s; pairs = ps; name = name; items = items }) tokens.end)).part.stage ≡ Between
@@ -109,20 +72,8 @@ between_after s ps name items games e =
     subst (λ s. (progress_with games (next (record { stage = s; pairs = ps; name = name; items = items }) tokens.end)).part.stage ≡ Between) (sym e) refl
 
 pub is_the_end : (k : Kind) → is_end k ≡ true → k ≡ tokens.end
-is_the_end tokens.left_bracket h = absurd (cc)
-is_the_end tokens.right_bracket h = absurd (cc)
-is_the_end tokens.left_paren h = absurd (cc)
-is_the_end tokens.right_paren h = absurd (cc)
-is_the_end tokens.period h = absurd (cc)
-is_the_end tokens.asterisk h = absurd (cc)
-is_the_end (tokens.symbol text) h = absurd (cc)
-is_the_end (tokens.str text) h = absurd (cc)
-is_the_end (tokens.glyph n) h = absurd (cc)
-is_the_end tokens.comment_open h = absurd (cc)
-is_the_end (tokens.word text) h = absurd (cc)
-is_the_end tokens.comment_close h = absurd (cc)
 is_the_end tokens.end h = refl
-is_the_end (tokens.refused r) h = absurd (cc)
+is_the_end _ h = absurd (cc)
 
 pub end_passes : (p : Profile) (b : Progress) (k : Kind) → is_end k ≡ true → refusal p b.part k ≡ None → (progress_with b.games (next b.part k)).part.stage ≡ Between
 end_passes p b k e none =
@@ -169,10 +120,7 @@ closes p old u given t l new finished a c false (Ok More) is_e has_read left pro
   stays,
 )
 closes p old u given t l new finished a c true (Ok Finished) is_e has_read left profile probes h stays at_marker =
-    absurd (differ (sym is_e ∙ marker_or_end t.kind at_marker.0))
-  where
-    differ : true ≡ false → ⊥
-    differ e = absurd (cc)
+    absurd (no_marker_at_end t.kind is_e at_marker.0)
 closes p old u given t l new finished a c false (Ok Finished) is_e has_read left profile probes h stays at_marker = (
   t,
   record {
@@ -218,60 +166,23 @@ fault_of_closed e (Err f) = refl
 -- a token that finishes no game is counted as none, and the end is no marker
 pub games_of_closed : (k : Kind) (after : ReaderState) (at : ℕ) (e : Bool) (r : Result Accepted Reason) (games : ℕ) → is_end k ≡ e → FinishesAtMarker k after r
     → games_after (outcome_at at r) games ≡ games_after (none_at_end e (outcome_at at r)) games
+games_of_closed k after at true (Ok Finished) games is_e marker = absurd (no_marker_at_end k is_e marker.0)
 games_of_closed k after at true (Ok More) games is_e marker = refl
-games_of_closed k after at false (Ok More) games is_e marker = refl
-games_of_closed k after at true (Ok Finished) games is_e marker = absurd (differ (sym is_e ∙ marker_or_end k marker.0))
-  where
-    differ : true ≡ false → ⊥
-    differ h = absurd (cc)
-games_of_closed k after at false (Ok Finished) games is_e marker = refl
+games_of_closed k after at false (Ok accepted) games is_e marker = refl
 games_of_closed k after at e (Err reason) games is_e marker = refl
 
 -- an error of the reader counts as the fault that it is
 pub counts_reason : (r : Reason) (old new : ℕ) → CountsWrites (Err r) old new → CountsReason r old new
 counts_reason (Lexical x) old new h = by_test (is_outside_the_table (Lexical x)) h
   where
-    differ : Lexical x ≡ WriteFault → ⊥
-    differ e = absurd (cc)
-
     by_test : (b : Bool) → CountsStop b (Lexical x) old new → new ≡ old
     by_test false h = h
-    by_test true h = absurd (differ h.0)
-counts_reason ExpectedName old new h = h
-counts_reason BadTagName old new h = h
-counts_reason DuplicateTag old new h = h
-counts_reason TooManyTags old new h = h
-counts_reason ExpectedValue old new h = h
-counts_reason BadResult old new h = h
-counts_reason (BadFen field) old new h = h
-counts_reason TagLineTooLong old new h = h
-counts_reason ExpectedBracket old new h = h
-counts_reason SetUpWithoutFen old new h = h
-counts_reason ReducedFen old new h = h
-counts_reason TagInMovetext old new h = h
-counts_reason NotAMove old new h = h
-counts_reason IllegalMove old new h = h
-counts_reason AmbiguousMove old new h = h
-counts_reason MoveLimit old new h = h
-counts_reason NoMoveBefore old new h = h
-counts_reason TooDeep old new h = h
-counts_reason UnmatchedClose old new h = h
-counts_reason MarkerInVariation old new h = h
-counts_reason ResultDiffers old new h = h
-counts_reason UnexpectedEnd old new h = h
+    by_test true h = let is = h.0 in absurd (cc)
 counts_reason WriteFault old new h = h.1
-counts_reason ReadFault old new h = absurd (differ h.0)
-  where
-    differ : ReadFault ≡ WriteFault → ⊥
-    differ e = absurd (cc)
-counts_reason InputTooLong old new h = absurd (differ h.0)
-  where
-    differ : InputTooLong ≡ WriteFault → ⊥
-    differ e = absurd (cc)
-counts_reason Changed old new h = absurd (differ h.0)
-  where
-    differ : Changed ≡ WriteFault → ⊥
-    differ e = absurd (cc)
+counts_reason ReadFault old new h = let is = h.0 in absurd (cc)
+counts_reason InputTooLong old new h = let is = h.0 in absurd (cc)
+counts_reason Changed old new h = let is = h.0 in absurd (cc)
+counts_reason _ old new h = h
 
 pub counts_token : (at : ℕ) (r : Result Accepted Reason) (old new : ℕ) → CountsWrites r old new → CountsFault (outcome_at at r) old new
 counts_token at (Ok accepted) old new h = h
@@ -281,6 +192,18 @@ pub counts_closed : (e : Bool) (outcome : Result (Option Accepted) Fault) (old n
 counts_closed true (Ok o) old new h = h
 counts_closed false (Ok o) old new h = h
 counts_closed e (Err f) old new h = h
+
+-- after a fault a converter owes nothing
+pub sound_behind_fault : (lexer : Standing) (reading : ReaderState) (games : ℕ) (is_finished : Bool) (f : Fault) → IsSound lexer reading games false is_finished (Some f)
+sound_behind_fault lexer reading games is_finished f =
+    record {
+      count = λ none. absurd (cc);
+      few = λ none. absurd (cc);
+      few_plies = λ none. absurd (cc);
+      fewer_plies = λ none is. absurd (cc);
+      between = λ is. absurd (cc);
+      no_fault = λ is. absurd (cc);
+    }
 
 -- A token behind the last piece keeps the counts small. The end takes no byte, but it is the last
 -- one.
@@ -310,10 +233,7 @@ sound_behind old new before after games at k false (Ok More) is_e near marker co
       no_fault = λ is. absurd (cc);
     }
 sound_behind old new before after games at k true (Ok Finished) is_e near marker count few plies more =
-    absurd (differ (sym is_e ∙ marker_or_end k marker.0))
-  where
-    differ : true ≡ false → ⊥
-    differ e = absurd (cc)
+    absurd (no_marker_at_end k is_e marker.0)
 sound_behind old new before after games at k false (Ok Finished) is_e near marker count few plies more =
     record {
       count = λ none. omega (arith, count, near.1);
@@ -323,15 +243,7 @@ sound_behind old new before after games at k false (Ok Finished) is_e near marke
       between = λ is. absurd (cc);
       no_fault = λ is. absurd (cc);
     }
-sound_behind old new before after games at k e (Err reason) is_e near marker count few plies more =
-    record {
-      count = λ none. absurd (cc);
-      few = λ none. absurd (cc);
-      few_plies = λ none. absurd (cc);
-      fewer_plies = λ none is. absurd (cc);
-      between = λ is. absurd (cc);
-      no_fault = λ is. absurd (cc);
-    }
+sound_behind old new before after games at k e (Err reason) is_e near marker count few plies more = sound_behind_fault new after games _ _
 
 pub not_just_finished : (b : Bool) (r : ReaderState) → game_in_reader_if b r ≡ None → b ≡ false
 not_just_finished true r h = absurd (cc)
@@ -420,28 +332,12 @@ module _ (p : Profile) (u : List ℕ) (given : List Token) (now new : Converter)
         counts = counts_still p given so.tokens (tokens_of u) f a c d so.gains to.stops new.reading.most_probes to.counts;
       }
 
--- after a fault a converter owes nothing
-pub sound_behind_fault : (lexer : Standing) (reading : ReaderState) (games : ℕ) (is_finished : Bool) (f : Fault) → IsSound lexer reading games false is_finished (Some f)
-sound_behind_fault lexer reading games is_finished f =
-    record {
-      count = λ none. absurd (cc);
-      few = λ none. absurd (cc);
-      few_plies = λ none. absurd (cc);
-      fewer_plies = λ none is. absurd (cc);
-      between = λ is. absurd (cc);
-      no_fault = λ is. absurd (cc);
-    }
-
 -- behind the last piece a token was waiting, unless it is the end
 pub closes_sooner : (old new : Standing) (after : ReaderState) (at : ℕ) (k : Kind) (e : Bool) (r : Result Accepted Reason) → is_end k ≡ e → Nearer e old new
     → FinishesAtMarker k after r → StepAtEndAdvances old new (none_at_end e (outcome_at at r))
 closes_sooner old new after at k true (Ok More) is_e near marker = tt
-closes_sooner old new after at k false (Ok More) is_e near marker = near.0
-closes_sooner old new after at k true (Ok Finished) is_e near marker = absurd (differ (sym is_e ∙ marker_or_end k marker.0))
-  where
-    differ : true ≡ false → ⊥
-    differ e = absurd (cc)
-closes_sooner old new after at k false (Ok Finished) is_e near marker = near.0
+closes_sooner old new after at k true (Ok Finished) is_e near marker = absurd (no_marker_at_end k is_e marker.0)
+closes_sooner old new after at k false (Ok accepted) is_e near marker = near.0
 closes_sooner old new after at k e (Err reason) is_e near marker = tt
 
 -- while no game is just finished a converter owes no more

@@ -16,7 +16,7 @@ use Rattle.pgn_game.specs.ReaderState.{ReaderState}
 use Rattle.pgn_game.specs.ConverterCalls.{FinishedGame, Converter, Stands, AreNext, FedAll, FedGame, FedToFault, StopsIn, too_long, CountsReason}
 use Rattle.pgn_game.specs.ConverterSteps.{AfterStep, next_at, SoFar}
 use Rattle.pgn_game.proofs.tokens.OneMoreToken.{gains_none, gains_more, stops_more, games_still, counts_still}
-use Rattle.pgn_game.proofs.tokens.AcceptedToConverter.{still_none-none}
+use Rattle.pgn_game.proofs.tokens.AcceptedToConverter.{still_none, still_none-none}
 
 -- the game just finished is let go
 pub lets_go : (p : Profile) (old : Converter) (u : List ℕ) (b : Option ℕ) (given : List Token) → Stands p old u b given → Stands p (record old { just_finished = None }) u b given
@@ -130,17 +130,13 @@ module _ (p : Profile) (u : List ℕ) (b : Option ℕ) (given : List Token) (pie
   fed_all new used (all, stands, is_decided, gains) finished =
       record {
         tokens = so.tokens;
-        stands = subst (λ n. Stands p new (u ++ piece) n so.tokens) (sym (still_some b piece some)) (subst (λ xs. Stands p new xs None so.tokens) (whole_piece u piece at) stands);
+        stands = subst (λ n. Stands p new (u ++ piece) n so.tokens) (sym (still_none b piece some)) (subst (λ xs. Stands p new xs None so.tokens) (whole_piece u piece at) stands);
         decided = λ h. is_decided ∙ ap decided (whole_piece u piece at);
         empty = so.empty;
         no_game = so.no_game;
         none_just_finished = finished;
         gains = gains_more p given so.tokens so.tokens a c d so.gains gains;
       }
-    where
-      still_some : (b : Option ℕ) (xs : List ℕ) → 0 < length xs → still b xs ≡ None
-      still_some b [] h = absurd (omega arith)
-      still_some b (x ∷ xs) h = refl
 
   -- a marker
   pub fed_game : (new : Converter) (used : ℕ) → length u + length piece ≤ 2 ^ 62
@@ -170,17 +166,13 @@ module _ (p : Profile) (u : List ℕ) (b : Option ℕ) (given : List Token) (pie
       record {
         fed = record {
           tokens = fed.tokens;
-          next = subst (λ n. AreNext (u ++ piece) n fed.tokens) (still_none-none (drop at piece) ∙ sym (still_some b piece some))
+          next = subst (λ n. AreNext (u ++ piece) n fed.tokens) (still_none-none (drop at piece) ∙ sym (still_none b piece some))
               (subst (λ xs. AreNext xs (still None (drop at piece)) fed.tokens) (whole_piece u piece at) fed.next);
           stops = stops_more p given so.tokens fed.tokens f a c d so.gains fed.stops;
         };
         no_game = games_still p given so.tokens fed.tokens f a c d so.gains fed.stops ∙ to_fault.no_game ∙ so.no_game;
         counts = counts_still p given so.tokens fed.tokens f a c d so.gains fed.stops new.reading.most_probes to_fault.counts;
       }
-    where
-      still_some : (b : Option ℕ) (xs : List ℕ) → 0 < length xs → still b xs ≡ None
-      still_some b [] h = absurd (omega arith)
-      still_some b (x ∷ xs) h = refl
 
 -- ---- a front of the piece
 

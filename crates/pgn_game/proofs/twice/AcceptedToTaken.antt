@@ -1,7 +1,7 @@
 -- What the reader answers to a token, and what a reading takes: a missing Result counts as the
 -- token's marker.
-use Rattle.std.proofs.Common.{◌≡◌, ℕ, ◌<◌, ◌⊎◌, inl, inr, Bool, true, false, List, [], length, take, drop, Option, None, Some, Result, Ok, Err, refl, sym, ap, subst, ◌∙◌, arith}
-use Rattle.std.specs.Prelude.{◌||◌, ◌&&◌, ◌==◌, not, bytes_eq, is_some, option_map}
+use Rattle.std.proofs.Common.{◌≡◌, ℕ, ◌<◌, ◌⊎◌, inl, inr, Bool, true, false, List, [], length, take, drop, Option, None, Some, Err, refl, sym, ap, subst, ◌∙◌, arith}
+use Rattle.std.specs.Prelude.{◌||◌, is_some, option_map}
 use Rattle.std.proofs.Math.Seq.{drop-length}
 use Rattle.std.proofs.KnownBytes.{Appends-nil}
 use Rattle.std.specs.Io.KnownBytes.{Appends}
@@ -23,7 +23,7 @@ use Rattle.pgn_game.specs.Game.{Game, Item, Part}
 use Rattle.pgn_game.specs.FaultTable.{refusal, is_end, marker_of}
 use Rattle.pgn_game.specs.Text.{torn}
 use Rattle.pgn_game.specs.Due.{gain, text_next}
-use Rattle.pgn_game.specs.Progress.{Next, going, whole, next}
+use Rattle.pgn_game.specs.Progress.{going, whole, next}
 use Rattle.pgn_game.specs.ReaderState.{Agrees, Answers, IsAccepted, Leads, ReaderState}
 use Rattle.pgn_game.specs.ReaderState as reader_state
 use Rattle.pgn_game.specs.Checked.{is_other}

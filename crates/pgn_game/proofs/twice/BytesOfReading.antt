@@ -1,5 +1,5 @@
 -- Bytes that a reading reads, where its buffer is used up.
-use Rattle.std.proofs.Common.{◌≡◌, ℕ, ◌+◌, ◌-◌, ◌<◌, ◌≤◌, Bool, true, false, List, [], ◌∷◌, ◌++◌, length, take, drop, Option, None, Some, IfSome, refl, sym, ap, subst, ◌∙◌, inl, append-nil, length-append, length-drop, length-take, length-take-le, arith}
+use Rattle.std.proofs.Common.{◌≡◌, ℕ, ◌+◌, ◌-◌, ◌<◌, ◌≤◌, Bool, true, false, List, [], ◌++◌, length, take, drop, Option, None, refl, sym, ap, subst, ◌∙◌, inl, append-nil, length-append, length-drop, length-take, length-take-le, arith}
 use Rattle.std.specs.Prelude.{◌^◌}
 use Rattle.std.proofs.Math.Seq.{take-append-le}
 use Rattle.std.proofs.KnownBytes.{Consumes-kept, Consumes-trans}

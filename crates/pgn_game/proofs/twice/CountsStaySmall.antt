@@ -1,5 +1,5 @@
 -- The counts of a reading stay small, and fewer steps are left after each.
-use Rattle.std.proofs.Common.{◌≡◌, ℕ, ◌+◌, ◌-◌, ◌*◌, ◌<◌, ◌≤◌, zero, suc, Bool, true, false, List, [], ◌∷◌, length, Option, None, Some, Result, Ok, Err, refl, sym, ap, subst, ◌∙◌, arith}
+use Rattle.std.proofs.Common.{◌≡◌, ℕ, ◌+◌, ◌-◌, ◌*◌, ◌<◌, ◌≤◌, zero, suc, Bool, true, false, List, [], ◌∷◌, length, Option, Result, Ok, Err, refl, sym, ap, subst, ◌∙◌, arith}
 use Rattle.std.specs.Prelude.{◌^◌, IfOk}
 use Rattle.pgn_lexer.specs.declared.partial_token.Mode.{Mode as LexerMode}
 use Rattle.pgn_lexer.specs.declared.partial_token.Mode.TheVariants.{Symbol, Glyph, Suffix, BraceWord, Line, LineWord}
@@ -12,7 +12,6 @@ use Rattle.pgn_game.specs.declared.checked.Taken.TheVariants.{More, Game as Game
 use Rattle.pgn_game.specs.FaultTable.{is_end}
 use Rattle.pgn_game.specs.declared.reason.Fault.{Fault}
 use Rattle.pgn_game.specs.ReaderState.{ReaderState}
-use Rattle.pgn_game.specs.ConverterCalls.{IsSound}
 use Rattle.pgn_game.proofs.tokens.StepsAtEnd.{Nearer}
 use Rattle.pgn_game.specs.Pass.{GoesBehind, IsGoing, IsTold, Keeps, KeepsGoing, LeavesReader, Pass, games_with, steps_left, until_read}
 
@@ -40,8 +39,7 @@ none_until (x ∷ xs) h = refl
 -- a game more at most
 one_game : (taken : Taken) (n : ℕ) → games_with taken n ≤ n + 1
 one_game More n = omega arith
-one_game (GameEnd m) n = omega arith
-one_game End n = omega arith
+one_game _ n = omega arith
 
 -- the games with a token
 pub games_of : (told : Option CodeMark) (old new : ReaderState) (o n : ℕ) (r : Result Taken Fault) → IfOk r (LeavesReader told old new o n) → IfOk r (λ x. n ≡ games_with x o)

@@ -1,35 +1,26 @@
 -- Which device counts a failure in a step, of the reasons one by one.
-use Rattle.std.proofs.Common.{◌≡◌, ℕ, Option, None, Some, List, [], Result, Ok, Err, refl, sym, ap, subst, ◌∙◌, inl, inr, arith}
-use Rattle.std.proofs.KnownBytes.{Appends-nil}
+use Rattle.std.proofs.Common.{◌≡◌, ℕ, Option, List, Result, Ok, Err, refl, ap, subst, ◌∙◌, inl, inr, arith}
 use Rattle.pgn_layout.specs.Device.{Device, IsStill, one_more}
 use Rattle.pgn_lexer.specs.Tokens.{Token}
 use Rattle.pgn_game.specs.declared.checked.Mark.{Mark as CodeMark}
 use Rattle.pgn_game.specs.declared.checked.Taken.{Taken}
-use Rattle.pgn_game.specs.declared.checked.Taken.TheVariants.{More, Game as GameEnd, End}
 use Rattle.pgn_game.specs.declared.reason.Reason.{Reason}
-use Rattle.pgn_game.specs.declared.reason.Reason.TheVariants.{Lexical, ExpectedName, BadTagName, DuplicateTag, TooManyTags, ExpectedValue, BadResult, BadFen, TagLineTooLong, ExpectedBracket, SetUpWithoutFen, ReducedFen, TagInMovetext, NotAMove, IllegalMove, AmbiguousMove, MoveLimit, NoMoveBefore, TooDeep, UnmatchedClose, MarkerInVariation, ResultDiffers, UnexpectedEnd, ReadFault, WriteFault, InputTooLong, Changed}
+use Rattle.pgn_game.specs.declared.reason.Reason.TheVariants.{ReadFault, WriteFault, Changed}
 use Rattle.pgn_game.specs.declared.reason.Fault.{Fault}
 use Rattle.pgn_game.specs.Profile.{Profile}
 use Rattle.pgn_game.specs.Conversion.{CountsDevices}
-use Rattle.pgn_game.specs.ReaderState.{CountsWrites}
 use Rattle.pgn_game.specs.ConverterCalls.{CountsReason}
 use Rattle.pgn_game.specs.CheckedConversion.{CountsThree}
-use Rattle.pgn_game.specs.Pass.{AfterStep, AfterTake, CountsRead, CountsReading, CountsStep, CountsTaken, CountsTaking, Pass, changed_reason}
-use Rattle.pgn_game.proofs.tokens.StepsAtEnd.{counts_reason}
+use Rattle.pgn_game.specs.Pass.{AfterStep, AfterTake, CountsReading, CountsStep, CountsTaken, CountsTaking, Pass}
 
 -- what the reader counts
 pub taking_of : (r : Reason) (o n : ℕ) → CountsReason r o n → CountsTaking r o n
 taking_of ReadFault o n h = absurd h
-taking_of WriteFault o n h = h
 taking_of Changed o n h = absurd h
 taking_of _ o n h = h
 
-pub taking_write : (r : Reason) (o n : ℕ) → CountsWrites (Err r) o n → CountsTaking r o n
-taking_write r o n h = taking_of r o n (counts_reason r o n h)
-
 devices_taken : (r : Reason) (s o n : ℕ) → CountsTaking r o n → CountsDevices r s s o n
 devices_taken ReadFault s o n h = absurd h
-devices_taken WriteFault s o n h = (refl, h)
 devices_taken _ s o n h = (refl, h)
 
 pub step_counts : (r : Result Taken Fault) (s o n : ℕ) → CountsTaken r o n → CountsStep r s s o n
@@ -38,24 +29,12 @@ step_counts (Err f) s o n h = devices_taken f.reason s o n h
 
 -- what the source counts
 pub devices_read : (r : Reason) (s t o : ℕ) → CountsReading r s t → CountsDevices r s t o o
-devices_read ReadFault s t o h = (h, refl)
 devices_read WriteFault s t o h = absurd h
 devices_read _ s t o h = (h, refl)
 
 -- a sink that counts nothing
-pub reading_of : (r : Reason) (s t : ℕ) → CountsDevices r s t 0 0 → CountsReading r s t
-reading_of ReadFault s t h = h.0
-reading_of WriteFault s t h = absurd (omega (arith, h.1))
-reading_of _ s t h = h.0
-
 pub no_write : (r : Reason) (s t : ℕ) → CountsDevices r s t 0 0 → r ≡ WriteFault → ⊥
 no_write r s t h is = absurd (omega (arith, (subst (λ x. CountsDevices x s t 0 0) is h).1))
-
--- a fault of the second reading
-pub changed_devices : (r : Reason) (s t o n : ℕ) → CountsDevices r s t o n → CountsDevices (changed_reason r) s t o n
-changed_devices ReadFault s t o n h = h
-changed_devices WriteFault s t o n h = h
-changed_devices _ s t o n h = h
 
 -- what one step in the buffer or at the end is for the reading
 pub step_of_take : (q : Profile) (left_old left : Option (List ℕ)) (told : Option CodeMark) (given : List Token) (new : Pass) (r : Result Taken Fault) (a c : Option (List ℕ))

@@ -18,7 +18,6 @@ use Rattle.pgn_game.specs.declared.reason.Reason.TheVariants.{Lexical, BadTagNam
 use Rattle.pgn_game.specs.declared.stage.Stage.{Stage}
 use Rattle.pgn_game.specs.declared.stage.Stage.TheVariants.{Between, AfterLeftBracket, AfterName, AfterValue, AfterTags, InMovetext}
 use Rattle.pgn_game.specs.Profile.{Profile, Missing, counts_as, takes_the_marker}
-use Rattle.pgn_game.specs.Pairs.{Pair, value_of}
 use Rattle.pgn_game.specs.Game.{Game, Part, no_part}
 use Rattle.pgn_game.specs.Levels.{depth, start_of}
 use Rattle.pgn_game.specs.FaultTable.{Row, row, rows, first_holding, refusal, in_name, is_score, is_outside_tag_pairs, has_other_result, levels_of_part, marker_of, position_in}
@@ -30,17 +29,13 @@ use Rattle.pgn_game.specs.ReaderState.{ReaderState, Agrees, HoldsText, IsAccepte
 use Rattle.pgn_game.specs.Judgement.{game_of, or_else, with_items}
 use Rattle.pgn_game.specs.Pass.{counting, reading_under}
 use Rattle.pgn_game.proofs.judging.RowsByStage.{naming, test_failed}
-use Rattle.pgn_game.proofs.judging.RefusalsInMovetext.{marker_whole, score_of}
-use Rattle.pgn_game.proofs.reading.MovetextTokens.{differs}
+use Rattle.pgn_game.proofs.judging.RefusalsInMovetext.{marker_whole, other_if, score_of}
 
 -- the same profile, but for a missing Result
 abbrev with_missing : Profile → Missing → Profile
 with_missing q missing = record { tags = q.tags; depth = q.depth; mode = q.mode; missing_result = missing }
 
 -- One row of the table depends on a missing Result, and only at a marker.
-abbrev other_if : Missing → List Pair → Option (List ℕ) → Bool
-other_if missing ps o = elim o [ None ↦ false | Some marker ↦ differs missing (value_of ps (codes "Result")) marker ]
-
 other_alike : (text : List ℕ) (part : Part) (k : Kind) → (marker_of k ≡ None) ⊎ (marker_of k ≡ Some text)
     → has_other_result (counts_as text) part k ≡ has_other_result takes_the_marker part k
 other_alike text part k (inl none) = ap (other_if (counts_as text) part.pairs) none ∙ sym (ap (other_if takes_the_marker part.pairs) none)

@@ -1,9 +1,10 @@
 -- From what the calls of each game return, in both readings, to the conversion.
-use Rattle.std.proofs.Common.{◌≡◌, ℕ, ◌+◌, ◌<◌, ◌≤◌, max, Bool, true, false, not, ◌&&◌, List, [], ◌∷◌, ◌++◌, length, take, Option, None, Some, Ok, IfSome, refl, sym, ap, subst, ◌∙◌, append_assoc, append-nil, length-append, arith}
+use Rattle.std.proofs.Common.{◌≡◌, ℕ, ◌+◌, ◌<◌, ◌≤◌, max, Bool, true, false, List, [], ◌∷◌, ◌++◌, length, take, Option, None, Some, Ok, IfSome, refl, sym, ap, subst, ◌∙◌, append_assoc, append-nil, length-append, arith}
 use Rattle.std.specs.Prelude.{IsTrue, map, sum}
 use Rattle.std.proofs.Math.Seq.{take-append-add}
 use Rattle.std.proofs.KnownBytes.{Appends-nil, Appends-trans}
 use Rattle.std.proofs.lemmas.Option.{IfSome_then}
+use Rattle.std.proofs.lemmas.Bool.{and_parts, not-false}
 use Rattle.std.proofs.lemmas.Slice.Eq.{bytes_eq-Decides}
 use Rattle.std.specs.Io.KnownBytes.{Appends, Consumes}
 use Rattle.pgn_layout.specs.Device.{Device, FailsOnce}
@@ -97,10 +98,6 @@ under_mark q g m takes same =
     let text : Missing → List ℕ = λ missing. game_text (record { tags = q.tags; depth = q.depth; mode = q.mode; missing_result = missing }) g in
     ap text takes ∙ ap (λ (marker : List ℕ). game_text (with_mark q (record { text = marker; at = m.at })) g) same
 
-both_hold : (x y : Bool) → not (x && y) ≡ false → x ≡ true
-both_hold true y same = refl
-both_hold false y same = absurd (cc)
-
 -- between games nothing is written of one
 torn-between : (q : Profile) (ms : List Mark) → torn_before q ms no_part ≡ []
 torn-between q [] = refl
@@ -111,7 +108,7 @@ written_at_token : (q : Profile) (m : Mark) (ms : List Mark) (games : List Game)
     → written_by q (record { progress = progress_with games n; marks_left = marks_after n m ms; fault = None }) ≡ text_of q games ++ text_next (with_mark q m) n
 written_at_token q m ms games t (going to) takes same = refl
 written_at_token q m ms games t (whole g) takes same =
-    let marker = (bytes_eq-Decides g.marker m.text).0 (both_hold _ _ same) in
+    let marker = (bytes_eq-Decides g.marker m.text).0 (and_parts _ _ (not-false _ same)).0 in
     ap (λ (l : List ℕ). text_of q (games ++ g ∷ []) ++ l) (torn-between q ms) ∙ append-nil (text_of q (games ++ g ∷ [])) ∙ text_of-snoc q games g
     ∙ ap (λ (l : List ℕ). text_of q games ++ l) (under_mark q g m takes marker)
 

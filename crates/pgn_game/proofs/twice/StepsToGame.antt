@@ -1,17 +1,15 @@
 -- Steps of a reading in turn, up to the mark of its game.
-use Rattle.std.proofs.Common.{◌≡◌, ℕ, ◌+◌, ◌-◌, ◌*◌, ◌<◌, ◌≤◌, ◌⊎◌, zero, suc, inl, inr, Bool, true, false, List, [], ◌∷◌, ◌++◌, length, take, Option, None, Some, Result, Ok, Err, refl, sym, ap, subst, ◌∙◌, append_assoc, append-nil, arith}
-use Rattle.std.specs.Prelude.{◌^◌, ◌||◌, ◌&&◌, ◌==◌, not, is_some, bytes_eq, min}
+use Rattle.std.proofs.Common.{◌≡◌, ℕ, ◌+◌, ◌-◌, ◌<◌, inl, inr, Bool, true, false, List, [], ◌∷◌, ◌++◌, length, take, Option, None, Some, Ok, Err, refl, sym, ap, subst, ◌∙◌, append-nil}
+use Rattle.std.specs.Prelude.{◌||◌, ◌==◌, is_some, bytes_eq}
+use Rattle.std.proofs.lemmas.Bool.{and_parts, not-false}
 use Rattle.std.proofs.lemmas.Slice.Eq.{bytes_eq-Decides}
 use Rattle.std.proofs.KnownBytes.{Appends-nil, Appends-trans}
 use Rattle.std.specs.Io.KnownBytes.{Appends}
 use Rattle.pgn_lexer.specs.Tokens.{Kind, Token}
-use Rattle.pgn_lexer.specs.declared.partial_token.Mode.{Mode as LexerMode}
-use Rattle.pgn_lexer.specs.Standing.{Standing, waiting}
 use Rattle.pgn_game.specs.declared.checked.Mark.{Mark as CodeMark}
-use Rattle.pgn_game.specs.declared.checked.Taken.{Taken}
 use Rattle.pgn_game.specs.declared.checked.Taken.TheVariants.{More, Game as GameEnd, End}
 use Rattle.pgn_game.specs.declared.reason.Reason.{Reason}
-use Rattle.pgn_game.specs.declared.reason.Reason.TheVariants.{Lexical, ExpectedName, BadTagName, DuplicateTag, TooManyTags, ExpectedValue, BadResult, BadFen, TagLineTooLong, ExpectedBracket, SetUpWithoutFen, ReducedFen, TagInMovetext, NotAMove, IllegalMove, AmbiguousMove, MoveLimit, NoMoveBefore, TooDeep, UnmatchedClose, MarkerInVariation, ResultDiffers, UnexpectedEnd, ReadFault, WriteFault, InputTooLong, Changed}
+use Rattle.pgn_game.specs.declared.reason.Reason.TheVariants.{ReadFault, WriteFault, Changed}
 use Rattle.pgn_game.specs.declared.reason.Fault.{Fault}
 use Rattle.pgn_game.specs.Markers.{marker_text}
 use Rattle.pgn_game.specs.Profile.{Profile, Missing, counts_as, takes_the_marker}
@@ -21,8 +19,8 @@ use Rattle.pgn_game.specs.Progress.{Next, going, whole, next, Progress, progress
 use Rattle.pgn_game.specs.Text.{game_text, torn}
 use Rattle.pgn_game.specs.Due.{gain, text_next}
 use Rattle.pgn_game.specs.ReaderState.{ReaderState, is_outside_the_table}
-use Rattle.pgn_game.specs.Checked.{Mark, is_changed, is_other}
-use Rattle.pgn_game.specs.Pass.{AfterRead, AfterStep, AfterWrite, HasMatched, HasGiven, HasMarked, IsCounting, IsGoing, IsTold, LeadsTo, Pass, ReadFails, ReadsSoFar, TakesOn, TokenFails, WritesGameSoFar, WritesSoFar, as_changed, changed_reason, counting, model_mark, part_after, rejects, torn_after}
+use Rattle.pgn_game.specs.Checked.{Mark, is_other}
+use Rattle.pgn_game.specs.Pass.{AfterRead, AfterStep, AfterWrite, HasMatched, HasGiven, HasMarked, IsCounting, IsGoing, IsTold, LeadsTo, Pass, ReadsSoFar, TokenFails, WritesGameSoFar, WritesSoFar, as_changed, changed_reason, counting, model_mark, part_after, rejects, torn_after}
 use Rattle.pgn_game.specs.Pass as pass
 use Rattle.pgn_game.proofs.tokens.NextGrows.{next_is}
 use Rattle.pgn_game.proofs.tokens.OneMoreToken.{read-passes}
@@ -87,33 +85,9 @@ module _ (q : Profile) (left_old left_now left_new : Option (List ℕ)) (ms : Li
 
 -- a reason of the fault table shows a change
 changes : (reason : Reason) → is_outside_the_table reason ≡ false → changed_reason reason ≡ Changed
-changes (Lexical x) h = refl
-changes ExpectedName h = refl
-changes BadTagName h = refl
-changes DuplicateTag h = refl
-changes TooManyTags h = refl
-changes ExpectedValue h = refl
-changes BadResult h = refl
-changes (BadFen field) h = refl
-changes TagLineTooLong h = refl
-changes ExpectedBracket h = refl
-changes SetUpWithoutFen h = refl
-changes ReducedFen h = refl
-changes TagInMovetext h = refl
-changes NotAMove h = refl
-changes IllegalMove h = refl
-changes AmbiguousMove h = refl
-changes MoveLimit h = refl
-changes NoMoveBefore h = refl
-changes TooDeep h = refl
-changes UnmatchedClose h = refl
-changes MarkerInVariation h = refl
-changes ResultDiffers h = refl
-changes UnexpectedEnd h = refl
 changes ReadFault h = absurd (cc)
 changes WriteFault h = absurd (cc)
-changes InputTooLong h = refl
-changes Changed h = refl
+changes _ h = refl
 
 inside_changes : (q : Profile) (part : Part) (k : Kind) (reason : Reason) → refusal q part k ≡ Some reason → changed_reason reason ≡ Changed
 inside_changes q part k reason some = changes reason (refusals_are_inside q part k reason some)
@@ -145,14 +119,10 @@ or_none : (o : Option Reason) (b : Bool) → (is_some o || b) ≡ false → b �
 or_none None b h = h
 or_none (Some reason) b h = absurd (cc)
 
-and_left : (x y : Bool) → not (x && y) ≡ false → x ≡ true
-and_left true y h = refl
-and_left false y h = absurd (cc)
-
 same_marker : (q : Profile) (part : Part) (m : CodeMark) (t : Token) (g : Game) → rejects (Some m) q part t ≡ false → next part t.kind ≡ whole g → g.marker ≡ marker_text m.marker
 same_marker q part m t g same leads =
     let other : is_other (model_mark m) (whole g) t ≡ false = ap (λ (n : Next). is_other (model_mark m) n t) (sym leads) ∙ or_none (refusal q part t.kind) _ same in
-    (bytes_eq-Decides g.marker (marker_text m.marker)).0 (and_left (bytes_eq g.marker (marker_text m.marker)) (t.at == m.at) other)
+    (bytes_eq-Decides g.marker (marker_text m.marker)).0 (and_parts (bytes_eq g.marker (marker_text m.marker)) (t.at == m.at) (not-false _ other)).0
 
 no_end : (q : Profile) (part : Part) (m : CodeMark) (t : Token) → rejects (Some m) q part t ≡ false → LeadsTo (next part t.kind) t End → ⊥
 no_end q part m t same leads =

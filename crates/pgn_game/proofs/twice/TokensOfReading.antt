@@ -1,9 +1,9 @@
 -- A token of one of two readings: what the lexer gives, and what the reader answers.
-use Rattle.std.proofs.Common.{◌≡◌, ℕ, ◌+◌, ◌-◌, ◌*◌, ◌<◌, ◌≤◌, ◌⊎◌, max, inl, inr, Bool, true, false, List, [], ◌∷◌, ◌++◌, length, take, drop, Option, None, Some, Result, Ok, Err, IfSome, refl, sym, ap, subst, ◌∙◌, append_assoc, append-nil, length-append, length-drop, length-take, drop_of_length-le, le_refl, arith}
-use Rattle.std.specs.Prelude.{◌^◌, IfOk}
+use Rattle.std.proofs.Common.{◌≡◌, ℕ, ◌+◌, ◌-◌, ◌<◌, ◌≤◌, inl, inr, Bool, true, false, List, [], ◌∷◌, ◌++◌, length, take, drop, Option, None, Some, Result, Ok, Err, IfSome, refl, sym, ap, subst, ◌∙◌, append_assoc, append-nil, length-drop, length-take, drop_of_length-le, le_refl, arith}
+use Rattle.std.specs.Prelude.{IfOk}
 use Rattle.std.proofs.lemmas.List.{drop-drop, drop-take}
 use Rattle.std.proofs.KnownBytes.{Appends-nil}
-use Rattle.std.specs.Io.KnownBytes.{Appends, Consumes}
+use Rattle.std.specs.Io.KnownBytes.{Consumes}
 use Rattle.pgn_lexer.specs.declared.token.LexFault.{LexFault}
 use Rattle.pgn_lexer.specs.Tokens.{Kind, Token}
 use Rattle.pgn_lexer.specs.Tokens as tokens
@@ -11,26 +11,26 @@ use Rattle.pgn_lexer.specs.TokensOf.{tokens_of}
 use Rattle.pgn_lexer.specs.Laws.{IsLast, RisesTo, TokensRise}
 use Rattle.pgn_lexer.specs.PartialToken.{refusal as refusal_token}
 use Rattle.pgn_lexer.specs.Scanned.{more, token, fault}
-use Rattle.pgn_lexer.specs.Standing.{Standing, coming, waiting}
+use Rattle.pgn_lexer.specs.Standing.{Standing, coming}
 use Rattle.pgn_lexer.specs.Stands.{AfterScan, FinishGivesToken, Follows, HasLeft, IsNext, StandsAfter, first, still}
-use Rattle.pgn_game.specs.declared.accepted.Accepted.TheVariants.{More as Continues, Finished}
+use Rattle.pgn_game.specs.declared.accepted.Accepted.TheVariants.{More as Continues}
 use Rattle.pgn_game.specs.declared.checked.Mark.{Mark as CodeMark}
 use Rattle.pgn_game.specs.declared.checked.Taken.{Taken}
 use Rattle.pgn_game.specs.declared.checked.Taken.TheVariants.{More, Game as GameEnd, End}
 use Rattle.pgn_game.specs.declared.reason.Reason.TheVariants.{Lexical}
 use Rattle.pgn_game.specs.declared.reason.Fault.{Fault}
 use Rattle.pgn_game.specs.declared.stage.Stage.{Stage}
-use Rattle.pgn_game.specs.declared.stage.Stage.TheVariants.{Between, AfterLeftBracket, AfterName, AfterValue, AfterTags, InMovetext}
+use Rattle.pgn_game.specs.declared.stage.Stage.TheVariants.{Between}
 use Rattle.pgn_game.specs.Profile.{Profile, takes_the_marker}
 use Rattle.pgn_game.specs.Pairs.{Pair}
 use Rattle.pgn_game.specs.Game.{Game, Item, Part}
-use Rattle.pgn_game.specs.FaultTable.{refusal, is_end}
-use Rattle.pgn_game.specs.Progress.{Next, going, whole, next, read}
-use Rattle.pgn_game.specs.MostTried.{Raises, Tries}
+use Rattle.pgn_game.specs.FaultTable.{is_end}
+use Rattle.pgn_game.specs.Progress.{Next, going, whole, next}
+use Rattle.pgn_game.specs.MostTried.{Raises}
 use Rattle.pgn_game.specs.ReaderState.{Agrees, IsAccepted, ReaderState}
-use Rattle.pgn_game.specs.ConverterCalls.{Converter, HasRead}
-use Rattle.pgn_game.specs.Pass.{AfterTake, AfterToken, ComesNext, HasGiven, IsCounting, LeadsTo, Pass, StandsIn, TakeFails, TakesEnd, TakesKind, TakesOn, TakesToken, as_converter, games_with, part_after, reading_under, refused}
-use Rattle.pgn_game.proofs.tokens.AcceptedToConverter.{follows_first, has_read_game, has_read_more, lexical-refusal}
+use Rattle.pgn_game.specs.ConverterCalls.{HasRead}
+use Rattle.pgn_game.specs.Pass.{AfterTake, AfterToken, ComesNext, HasGiven, IsCounting, LeadsTo, Pass, StandsIn, TakeFails, TakesKind, TakesToken, as_converter, games_with, part_after, reading_under, refused}
+use Rattle.pgn_game.proofs.tokens.AcceptedToConverter.{follows_first, has_read_game, has_read_more, lexical-refusal, still_none}
 use Rattle.pgn_game.proofs.tokens.StepsAtEnd.{Left, Nearer, is_the_end, left_by, let_go, nearer_by, tokens_left}
 use Rattle.pgn_game.proofs.tokens.StepsInPiece.{whole_piece}
 use Rattle.pgn_game.proofs.tokens.WholeInput.{known_left}
@@ -97,13 +97,9 @@ module _ (left_old left_now : Option (List ℕ)) (unused bytes : List ℕ) (give
       → Consumes left_old left_now ((bytes ++ unused) ++ []) × StandsIn false new [] given (bytes ++ unused) left_old × (new.count ≡ length (bytes ++ unused))
   none_in_buffer scan some = (
     subst (Consumes left_old left_now) (sym (append-nil (bytes ++ unused))) consumed,
-    (subst (λ b. StandsAfter new (bytes ++ unused) b given) (no_byte unused some) scan.1, inl (scan.2 some)),
+    (subst (λ b. StandsAfter new (bytes ++ unused) b given) (still_none (first unused) unused some) scan.1, inl (scan.2 some)),
     scan.1.count,
   )
-    where
-      no_byte : (xs : List ℕ) → 0 < length xs → still (first xs) xs ≡ None
-      no_byte [] h = absurd (omega arith)
-      no_byte (x ∷ xs) h = refl
 
 -- Where the source has ended.
 module _ (left_old left_now : Option (List ℕ)) (bytes : List ℕ) (given : List Token) (old new : Standing) (consumed : Consumes left_old left_now (bytes ++ [])) (all : IfSome left_old (λ s. s ≡ bytes)) where
@@ -133,11 +129,7 @@ module _ (left_old left_now : Option (List ℕ)) (bytes : List ℕ) (given : Lis
 -- no end finishes a game
 end_goes : (s : Stage) (ps : List Pair) (name : List ℕ) (items : List Item) (g : Game) → next (record { stage = s; pairs = ps; name = name; items = items }) tokens.end ≡ whole g → ⊥
 end_goes Between ps name items g h = absurd (cc)
-end_goes AfterLeftBracket ps name items g h = absurd (cc)
-end_goes AfterName ps name items g h = absurd (cc)
-end_goes AfterValue ps name items g h = absurd (cc)
-end_goes AfterTags ps name items g h = absurd (cc)
-end_goes InMovetext ps name items g h = absurd (cc)
+end_goes _ ps name items g h = absurd (cc)
 
 not_the_end : (part : Part) (k : Kind) (g : Game) → next part k ≡ whole g → is_end k ≡ false
 not_the_end part k g h = by_flag (is_end k) refl

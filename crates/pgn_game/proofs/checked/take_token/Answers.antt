@@ -1,10 +1,7 @@
-use Rattle.std.proofs.Common.{rules, ◌≡◌, Option, None, Some, Bool, true, false, refl, sym, ap, subst, ◌∙◌}
+use Rattle.std.proofs.Common.{rules, ◌≡◌, None, true, false, refl, sym, ap, ◌∙◌}
 use Rattle.std.specs.Prelude.{is_some, option_map}
 use Rattle.pgn_lexer.specs.Scanned.{kind_of}
-use Rattle.pgn_game.specs.declared.marker.Marker.{Marker}
-use Rattle.pgn_game.specs.declared.checked.Mark.{Mark as CodeMark}
 use Rattle.pgn_game.specs.Markers.{marker_text}
-use Rattle.pgn_game.specs.ReaderState.{ReaderState}
 use Rattle.pgn_game.proofs.tokens.StepsAtEnd.{marker_or_end}
 use Rattle.pgn_game.proofs.twice.AcceptedToTaken.{agrees_set, counting_new, fails, fails_at_end, fails_marks, is_none, taken_end, taken_game, taken_more, with_marker}
 use Rattle.pgn_game.proofs.ReaderFitsInMemory.{reader_alike}

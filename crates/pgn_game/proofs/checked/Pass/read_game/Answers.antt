@@ -1,4 +1,4 @@
-use Rattle.std.proofs.Common.{arith, refl, ◌∙◌}
+use Rattle.std.proofs.Common.{arith, ◌∙◌}
 use Rattle.std.proofs.lemmas.Result.{err_from_is_err_and}
 use Rattle.pgn_game.proofs.twice.FailuresOfSteps.{no_write}
 use Rattle.pgn_game.proofs.twice.StepsToGame.{read_fault, read_game, read_more, read_to_end}

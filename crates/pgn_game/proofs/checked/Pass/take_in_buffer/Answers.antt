@@ -1,11 +1,10 @@
-use Rattle.std.proofs.Common.{rules, ◌≡◌, ℕ, ◌+◌, ◌-◌, ◌<◌, ◌≤◌, List, [], length, take, drop, inl, refl, sym, ap, subst, ◌∙◌, arith, length-take, length-take-le, length-drop}
+use Rattle.std.proofs.Common.{rules, ◌+◌, ◌-◌, ◌<◌, length, drop, inl, refl, sym, ap, subst, ◌∙◌, arith, length-take}
 use Rattle.std.proofs.KnownBytes.{Appends-nil}
 use Rattle.pgn_lexer.specs.Scanned.{kind_of}
 use Rattle.pgn_lexer.specs.Tokens.{Token}
 use Rattle.std.specs.Prelude.{Ok}
 use Rattle.pgn_game.specs.declared.checked.Taken.TheVariants.{More}
 use Rattle.pgn_game.specs.Pass.{HasGiven, IsGoing, IsTold, Pass}
-use Rattle.pgn_game.specs.ReaderState.{ReaderState}
 use Rattle.pgn_game.proofs.tokens.AcceptedToConverter.{follows_own}
 use Rattle.pgn_game.proofs.twice.CountsStaySmall.{games_of, going_on, keeps_by, keeps_in_buffer}
 use Rattle.pgn_game.proofs.twice.TokensOfReading.{fails_in_buffer, in_buffer_before, more_in_buffer, none_of, rest_length, rest_of, token_in_buffer}

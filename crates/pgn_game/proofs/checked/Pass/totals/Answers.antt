@@ -1,4 +1,4 @@
-use Rattle.std.proofs.Common.{◌≡◌, ℕ, ◌+◌, max, arith, ap, ◌∙◌}
+use Rattle.std.proofs.Common.{◌+◌, max, arith, ap, ◌∙◌}
 use Rattle.pgn_game.specs.Pass.{Pass}
 use Rattle.pgn_game.proofs.ReaderFitsInMemory.{pass_fits_reader}
 use Rattle.pgn_game.proofs.checked.Pass.totals.Goals as goal

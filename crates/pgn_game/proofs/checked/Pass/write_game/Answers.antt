@@ -1,5 +1,4 @@
 use Rattle.std.proofs.Common.{refl, ◌∙◌}
-use Rattle.pgn_game.proofs.twice.FailuresOfSteps.{changed_devices}
 use Rattle.pgn_game.proofs.twice.StepsToGame.{begins_written, no_end_within, write_fault, write_game, write_more}
 use Rattle.pgn_game.proofs.ReaderFitsInMemory.{pass_alike, pass_fits_reader}
 use Rattle.pgn_game.proofs.checked.Pass.write_game.Goals as goal

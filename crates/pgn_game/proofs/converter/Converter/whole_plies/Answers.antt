@@ -1,7 +1,7 @@
 use Rattle.std.proofs.Common.{◌≡◌, ℕ, arith, refl, sym, ap, ◌∙◌}
 use Rattle.pgn_game.specs.ReaderState.{whole_plies, plies_behind}
 use Rattle.pgn_game.specs.declared.stage.Stage.{Stage}
-use Rattle.pgn_game.specs.declared.stage.Stage.TheVariants.{Between, AfterLeftBracket, AfterName, AfterValue, AfterTags, InMovetext}
+use Rattle.pgn_game.specs.declared.stage.Stage.TheVariants.{Between}
 use Rattle.pgn_game.specs.ConverterCalls.{Converter}
 use Rattle.pgn_game.proofs.ReaderFitsInMemory.{fits_reader}
 use Rattle.pgn_game.proofs.converter.Converter.whole_plies.Goals as goal
@@ -9,11 +9,7 @@ use Rattle.pgn_game.proofs.converter.Converter.whole_plies.Goals as goal
 -- in a game its own moves are not counted yet
 plies_elsewhere : (stage : Stage) (earlier plies : ℕ) → (stage ≡ Between → ⊥) → plies_behind stage earlier plies ≡ earlier
 plies_elsewhere Between earlier plies inside = absurd (inside refl)
-plies_elsewhere AfterLeftBracket earlier plies inside = refl
-plies_elsewhere AfterName earlier plies inside = refl
-plies_elsewhere AfterValue earlier plies inside = refl
-plies_elsewhere AfterTags earlier plies inside = refl
-plies_elsewhere InMovetext earlier plies inside = refl
+plies_elsewhere _ earlier plies inside = refl
 
 pub is_between-requires : goal.is_between-requires
 is_between-requires g c = search fits_reader
