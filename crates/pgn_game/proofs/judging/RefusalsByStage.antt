@@ -42,10 +42,7 @@ expected_name_at : (p : Profile) (part : Part) (k : TokenKind) → false ≡ is_
     → refusal p (at_stage AfterLeftBracket part) (kind_of k) ≡ Some ExpectedName
 unfolding refusal
 expected_name_at p part (variants.Symbol t) is other = absurd (other t refl)
-expected_name_at p part variants.CommentOpen is other = absurd (cc)
-expected_name_at p part (variants.Word t) is other = absurd (cc)
-expected_name_at p part variants.CommentClose is other = absurd (cc)
-expected_name_at p part _ is other = refl
+expected_name_at p part _ is other = cc
 
 pub expected_name : (p : Profile) (part : Part) (k : TokenKind) → part.stage ≡ AfterLeftBracket → false ≡ is_comment (kind_of k) → ((text : Bor (List ℕ)) → k ≡ variants.Symbol text → ⊥)
     → refusal p part (kind_of k) ≡ Some ExpectedName
@@ -55,10 +52,7 @@ expected_value_at : (p : Profile) (part : Part) (k : TokenKind) → false ≡ is
     → refusal p (at_stage AfterName part) (kind_of k) ≡ Some ExpectedValue
 unfolding refusal
 expected_value_at p part (variants.Str t) is other = absurd (other t refl)
-expected_value_at p part variants.CommentOpen is other = absurd (cc)
-expected_value_at p part (variants.Word t) is other = absurd (cc)
-expected_value_at p part variants.CommentClose is other = absurd (cc)
-expected_value_at p part _ is other = refl
+expected_value_at p part _ is other = cc
 
 pub expected_value : (p : Profile) (part : Part) (k : TokenKind) → part.stage ≡ AfterName → false ≡ is_comment (kind_of k) → ((text : Bor (List ℕ)) → k ≡ variants.Str text → ⊥)
     → refusal p part (kind_of k) ≡ Some ExpectedValue
@@ -68,10 +62,7 @@ expected_bracket_at : (p : Profile) (part : Part) (k : TokenKind) → false ≡ 
     → refusal p (at_stage AfterValue part) (kind_of k) ≡ Some ExpectedBracket
 unfolding refusal
 expected_bracket_at p part variants.RightBracket is other = absurd (other refl)
-expected_bracket_at p part variants.CommentOpen is other = absurd (cc)
-expected_bracket_at p part (variants.Word t) is other = absurd (cc)
-expected_bracket_at p part variants.CommentClose is other = absurd (cc)
-expected_bracket_at p part _ is other = refl
+expected_bracket_at p part _ is other = cc
 
 pub expected_bracket : (p : Profile) (part : Part) (k : TokenKind) → part.stage ≡ AfterValue → false ≡ is_comment (kind_of k) → (k ≡ variants.RightBracket → ⊥)
     → refusal p part (kind_of k) ≡ Some ExpectedBracket
@@ -116,15 +107,13 @@ open_next part at = at_the_stage (λ q. next q left_bracket ≡ going (at_stage 
 -- a token that is neither a `[` nor the end may be one of movetext
 textual : (k : TokenKind) → is_left_bracket (kind_of k) ≡ false → is_end (kind_of k) ≡ false → IsTrue (is_textual (kind_of k))
 textual variants.LeftBracket bracket over = absurd (cc)
-textual variants.End bracket over = absurd (cc)
-textual _ bracket over = refl
+textual _ bracket over = cc
 
 text_in_movetext : (p : Profile) (part : Part) (k : TokenKind) → is_left_bracket (kind_of k) ≡ false → is_end (kind_of k) ≡ false
     → refusal p (at_stage InMovetext part) (kind_of k) ≡ text_refusal p part (kind_of k)
 unfolding refusal
 text_in_movetext p part variants.LeftBracket bracket over = absurd (cc)
-text_in_movetext p part variants.End bracket over = absurd (cc)
-text_in_movetext p part _ bracket over = refl
+text_in_movetext p part _ bracket over = cc
 
 text_refusal_at : (p : Profile) (part : Part) (stage : Stage) (k : TokenKind) → IsTrue (may_have_movetext stage) → is_left_bracket (kind_of k) ≡ false
     → is_end (kind_of k) ≡ false → (is_at AfterTags (at_stage stage part) && lacks_fen part.pairs) ≡ false
@@ -162,21 +151,15 @@ unfolding refusal
 passes_between p part k at is = at_the_stage (λ q. judged p q (kind_of k) ≡ Ok (going q)) part Between at (by_kind k is)
   where
     by_kind : (k : TokenKind) → begins_game Between (kind_of k) ≡ false → judged p (at_stage Between part) (kind_of k) ≡ Ok (going (at_stage Between part))
-    by_kind variants.CommentOpen is = refl
-    by_kind (variants.Word t) is = refl
-    by_kind variants.CommentClose is = refl
     by_kind variants.End is = refl
-    by_kind _ is = absurd (cc)
+    by_kind _ is = cc
 
 -- A token that begins a game means what it means after pairs, of which there is none.
 pub begins_alike : (p : Profile) (k : TokenKind) → IsTrue (begins_game Between (kind_of k))
     → judged p no_part (kind_of k) ≡ judged p (at_stage AfterTags no_part) (kind_of k)
 unfolding refusal
-begins_alike p variants.CommentOpen is = absurd (cc)
-begins_alike p (variants.Word t) is = absurd (cc)
-begins_alike p variants.CommentClose is = absurd (cc)
 begins_alike p variants.End is = absurd (cc)
-begins_alike p _ is = refl
+begins_alike p _ is = cc
 
 -- the end after the pairs of a game
 pub end_after_tags : (p : Profile) (part : Part) → part.stage ≡ AfterTags → refusal p part tokens.end ≡ Some UnexpectedEnd

@@ -52,18 +52,11 @@ reduced_row p = pass (is_reduced p.mode && false) ReducedFen None (and_right (is
 pub comment_free : (p : Profile) (stage : Stage) (ps : List Pair) (name : List ℕ) (items : List Item) (k : Kind) → IsTrue (drops_comments stage) → IsTrue (is_comment k)
     → refusal p (at stage ps name items) k ≡ None
 unfolding refusal
-comment_free p AfterTags ps name items k drops is = absurd (cc)
-comment_free p InMovetext ps name items k drops is = absurd (cc)
+comment_free p Between ps name items tokens.comment_open drops is = refl
 comment_free p AfterLeftBracket ps name items tokens.comment_open drops is = reduced_row p
-comment_free p AfterLeftBracket ps name items (tokens.word s) drops is = reduced_row p
-comment_free p AfterLeftBracket ps name items tokens.comment_close drops is = reduced_row p
 comment_free p AfterName ps name items tokens.comment_open drops is = no_value_rows p name
-comment_free p AfterName ps name items (tokens.word s) drops is = no_value_rows p name
-comment_free p AfterName ps name items tokens.comment_close drops is = no_value_rows p name
-comment_free p _ ps name items tokens.comment_open drops is = refl
-comment_free p _ ps name items (tokens.word s) drops is = refl
-comment_free p _ ps name items tokens.comment_close drops is = refl
-comment_free p _ ps name items _ drops is = absurd (cc)
+comment_free p AfterValue ps name items tokens.comment_open drops is = refl
+comment_free p _ ps name items _ drops is = cc (reduced_row p, no_value_rows p name)
 
 pub comment_stays : (stage : Stage) (ps : List Pair) (name : List ℕ) (items : List Item) (k : Kind) → IsTrue (drops_comments stage) → IsTrue (is_comment k)
     → next (at stage ps name items) k ≡ going (at stage ps name items)
@@ -129,38 +122,24 @@ pub after_tags : (p : Profile) (ps : List Pair) (name : List ℕ) (items : List 
     → refusal p (at AfterTags ps name items) k ≡ or_else (lacks_fen ps) SetUpWithoutFen (refusal p (at InMovetext ps name items) k)
 unfolding refusal
 after_tags p ps name items tokens.left_bracket is = absurd (cc)
-after_tags p ps name items tokens.end is = absurd (cc)
-after_tags p ps name items (tokens.refused r) is = absurd (cc)
-after_tags p ps name items _ is = refl
+after_tags p ps name items _ is = cc
 
 pub leads_after_tags : (ps : List Pair) (name : List ℕ) (items : List Item) (k : Kind) → IsTrue (is_textual k)
     → next (at AfterTags ps name items) k ≡ next (at InMovetext ps name items) k
 leads_after_tags ps name items tokens.left_bracket is = absurd (cc)
-leads_after_tags ps name items tokens.end is = absurd (cc)
-leads_after_tags ps name items (tokens.refused r) is = absurd (cc)
-leads_after_tags ps name items _ is = refl
+leads_after_tags ps name items _ is = cc
 
 -- without pairs
 pub between : (p : Profile) (ps : List Pair) (name : List ℕ) (items : List Item) (k : Kind) → IsTrue (is_textual k) → IsFalse (is_comment k)
     → refusal p (at Between ps name items) k ≡ refusal p (at InMovetext ps name items) k
 unfolding refusal
 between p ps name items tokens.left_bracket is bare = absurd (cc)
-between p ps name items tokens.end is bare = absurd (cc)
-between p ps name items (tokens.refused r) is bare = absurd (cc)
-between p ps name items tokens.comment_open is bare = absurd (cc)
-between p ps name items (tokens.word s) is bare = absurd (cc)
-between p ps name items tokens.comment_close is bare = absurd (cc)
-between p ps name items _ is bare = refl
+between p ps name items _ is bare = cc
 
 pub leads_between : (ps : List Pair) (name : List ℕ) (items : List Item) (k : Kind) → IsTrue (is_textual k) → IsFalse (is_comment k)
     → next (at Between ps name items) k ≡ next (at InMovetext ps name items) k
 leads_between ps name items tokens.left_bracket is bare = absurd (cc)
-leads_between ps name items tokens.end is bare = absurd (cc)
-leads_between ps name items (tokens.refused r) is bare = absurd (cc)
-leads_between ps name items tokens.comment_open is bare = absurd (cc)
-leads_between ps name items (tokens.word s) is bare = absurd (cc)
-leads_between ps name items tokens.comment_close is bare = absurd (cc)
-leads_between ps name items _ is bare = refl
+leads_between ps name items _ is bare = cc
 
 -- what a variation and its end are rejected for
 pub varying : (p : Profile) (ps : List Pair) (name : List ℕ) (items : List Item)

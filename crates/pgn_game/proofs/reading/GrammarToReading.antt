@@ -255,9 +255,7 @@ runs_alike p _ other _ _ alike (finishes part k g ks gs free end leads runs) =
 textual : (p : Profile) (ps : List Pair) (name : List ℕ) (items : List Item) (k : Kind) → refusal p (at InMovetext ps name items) k ≡ None → IsTrue (is_textual k)
 unfolding refusal
 textual p ps name items tokens.left_bracket free = absurd (cc)
-textual p ps name items tokens.end free = absurd (cc)
-textual p ps name items (tokens.refused r) free = absurd (cc)
-textual p ps name items _ free = refl
+textual p ps name items _ free = cc
 
 -- movetext begins behind the pairs
 begins_after_tags : (p : Profile) (ps : List Pair) (name : List ℕ) (items : List Item) (ks : List Kind) (gs : List Game) → lacks_fen ps ≡ false
@@ -302,9 +300,7 @@ has_fen (Some v) fen h = guarded (bytes_eq v (codes "1")) (not fen) (λ e. ap no
 bare_with : (text : List Kind) (last : Kind) (rest : List Kind) (marker : List ℕ) → marker_of last ≡ Some marker → BeginsBare text → BeginsBare (text ++ last ∷ rest)
 bare_with (k ∷ ks) last rest marker is bare = bare
 bare_with [] tokens.comment_open rest marker is bare = absurd (cc)
-bare_with [] (tokens.word s) rest marker is bare = absurd (cc)
-bare_with [] tokens.comment_close rest marker is bare = absurd (cc)
-bare_with [] _ rest marker is bare = refl
+bare_with [] _ rest marker is bare = cc
 
 -- pairs and what comes behind them, or what comes in place of pairs
 tags_run : (p : Profile) (tags : List Kind) (given : List Pair) (rest : List Kind) (gs : List Game) → SpellsPairs tags given → Takes p [] given → IsSetUp (with_pairs [] given)

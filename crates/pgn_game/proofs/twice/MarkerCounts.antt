@@ -74,10 +74,8 @@ no_name s is = by_tests (bytes_eq s (codes "1-0")) (bytes_eq s (codes "0-1")) (b
 star_leads : (q : Profile) (stage : Stage) (part : Part) → refusal q (at_stage stage part) tokens.asterisk ≡ None
     → next (at_stage stage part) tokens.asterisk ≡ in_text part tokens.asterisk
 unfolding refusal
-star_leads q AfterLeftBracket part free = absurd (cc)
-star_leads q AfterName part free = absurd (cc)
-star_leads q AfterValue part free = absurd (cc)
-star_leads q _ part free = refl
+star_leads q Between part free = refl
+star_leads q _ part free = cc
 
 score_leads : (q : Profile) (stage : Stage) (part : Part) (s : List ℕ) → is_score s ≡ true → refusal q (at_stage stage part) (tokens.symbol s) ≡ None
     → next (at_stage stage part) (tokens.symbol s) ≡ in_text part (tokens.symbol s)
