@@ -1,16 +1,10 @@
 -- Two equal readings: no token of the second shows a difference, also where one stops early.
-use Rattle.std.proofs.Common.{◌≡◌, ℕ, Bool, true, false, List, [], ◌∷◌, ◌++◌, inl, inr, Option, None, Some, refl, sym, ap, subst, ◌∙◌, append-nil}
-use Rattle.std.specs.Prelude.{◌||◌, ◌&&◌, ◌==◌, not, is_some, map, length, sum}
+use Rattle.std.proofs.Common.{◌≡◌, ℕ, Bool, true, false, List, [], ◌∷◌, ◌++◌, inl, inr, Option, None, Some, refl, sym, ap, subst, ◌∙◌, append-nil, ◌||◌, ◌&&◌, ◌==◌, not, is_some, map, length, sum}
 use Rattle.std.proofs.lemmas.Bool.Decides.{eqb_tells}
 use Rattle.std.proofs.lemmas.Slice.Eq.{bytes_eq-Decides}
-use Rattle.pgn_lexer.specs.Tokens.{Token}
 use Rattle.pgn_lexer.specs.TokensOf.{tokens_of}
 use Rattle.pgn_lexer.specs.Laws.{RisesTo, TokensRise}
-use Rattle.pgn_game.specs.declared.reason.Reason.{Reason}
-use Rattle.pgn_game.specs.declared.reason.Reason.TheVariants.{Changed}
-use Rattle.pgn_game.specs.declared.reason.Fault.{Fault}
-use Rattle.pgn_game.specs.Profile.{Profile, Missing, takes_the_marker}
-use Rattle.pgn_game.specs.Game.{Game, Part}
+use Rattle.pgn_game.proofs.Words.{Token, Reason, Changed, Fault, Profile, Missing, takes_the_marker, Game, Part}
 use Rattle.pgn_game.specs.Levels.{plies_of}
 use Rattle.pgn_game.specs.FaultTable.{refusal, is_end}
 use Rattle.pgn_game.specs.Text.{text_of, torn_for}

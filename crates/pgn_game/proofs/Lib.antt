@@ -3,6 +3,7 @@ mod EqualReadings
 mod InterruptedReadings
 mod ReaderFitsInMemory
 mod ReasonToDevice
+mod Words
 mod exporting
 mod judging
 mod pairs

@@ -1,8 +1,6 @@
 -- Which device counts a failure, of the reasons one by one.
 use Rattle.std.proofs.Common.{◌≡◌, ℕ, Result, Ok, Err}
-use Rattle.pgn_game.specs.declared.reason.Reason.{Reason}
-use Rattle.pgn_game.specs.declared.reason.Reason.TheVariants.{ReadFault, Changed}
-use Rattle.pgn_game.specs.declared.reason.Fault.{Fault}
+use Rattle.pgn_game.proofs.Words.{Reason, ReadFault, Changed, Fault}
 use Rattle.pgn_game.specs.declared.conversion.Totals.{Totals}
 use Rattle.pgn_game.specs.ConverterCalls.{CountsReason, CountsFault}
 use Rattle.pgn_game.specs.Conversion.{CountsDevices, CountsResult}

@@ -1,30 +1,23 @@
 -- An export text is read as its games with their defaults filled in, so it is written again as it
 -- is.
-use Rattle.std.proofs.Common.{◌≡◌, ℕ, ◌+◌, ◌≤◌, ◌^◌, inl, inr, Bool, true, false, List, [], ◌∷◌, ◌++◌, length, map, refl, sym, ap, subst, ◌∙◌, arith, length-append, append-nil, Option, None, Some}
-use Rattle.std.specs.Prelude.{sum, IfSome, Ok, Err, filter, not, bytes_eq, codes}
+use Rattle.std.proofs.Common.{◌≡◌, ℕ, ◌+◌, ◌≤◌, ◌^◌, inl, inr, Bool, true, false, List, [], ◌∷◌, ◌++◌, length, map, refl, sym, ap, subst, ◌∙◌, arith, length-append, append-nil, Option, None, Some, sum, IfSome, Ok, Err, filter, not, bytes_eq, codes}
 use Rattle.std.specs.Io.KnownBytes.{Appends, Consumes}
 use Rattle.std.proofs.lemmas.List.{length-map}
 use Rattle.std.proofs.lemmas.List.Sums.{length-filter, count_by-le-length}
 use Rattle.pgn_lexer.specs.Laws.{IsLast, RisesTo, TokensRise}
 use Rattle.pgn_lexer.specs.Tokens as tokens
-use Rattle.pgn_lexer.specs.Tokens.{Kind, Token}
 use Rattle.pgn_lexer.specs.TokensOf.{tokens_of}
-use Rattle.pgn_game.specs.declared.reason.Fault.{Fault}
-use Rattle.pgn_game.specs.declared.stage.Stage.TheVariants.{Between}
+use Rattle.pgn_game.proofs.Words.{Kind, Token, Fault, Between, Game, Part, Mode, Full, Reduced, Pair, has_pair, Profile}
 use Rattle.pgn_game.specs.declared.conversion.Totals.{Totals}
 use Rattle.pgn_game.specs.Progress.{Progress, progress_after, Read, read_from, read, output, verdict, Counted, refused as is_refused, totals}
 use Rattle.pgn_game.specs.Conversion.{FailsOn, Fails}
 use Rattle.pgn_game.specs.Conversion as conversion
 use Rattle.pgn_game.specs.FaultTable.{refusal, is_end}
 use Rattle.pgn_game.specs.Filled.{filled}
-use Rattle.pgn_game.specs.FixedPoint.{AreExportable, TextSpells, SameText, counted, IsWrittenAgain, SliceIsKept, SourceIsKept, FixedPoint, ExportIsKept, ExportIsKeptOfSource, games_in, IsExportable, ExportingTwice, SameOutput, FewPairsHaveRoom}
-use Rattle.pgn_game.specs.Game.{Game, Part}
+use Rattle.pgn_game.specs.FixedPoint.{AreExportable, SameText, counted, IsWrittenAgain, SliceIsKept, SourceIsKept, FixedPoint, ExportIsKept, ExportIsKeptOfSource, games_in, IsExportable, ExportingTwice, SameOutput, FewPairsHaveRoom}
 use Rattle.pgn_game.specs.Levels.{plies_of}
-use Rattle.pgn_game.specs.declared.mode.Mode.{Mode}
-use Rattle.pgn_game.specs.declared.mode.Mode.TheVariants.{Full, Reduced}
-use Rattle.pgn_game.specs.Pairs.{Pair, has_pair}
-use Rattle.pgn_game.specs.Profile.{Profile}
 use Rattle.pgn_game.specs.TagSection.{roster, in_roster, roster_pairs, with_set_up, other_pairs, exported}
+use Rattle.pgn_game.proofs.exporting.ExportToGames.{ExportedGames}
 use Rattle.pgn_game.proofs.reading.PairsInTurn.{length-insert}
 use Rattle.pgn_game.proofs.pairs.ExportedValues.{set_up, set_up_if, without_set_up}
 use Rattle.pgn_game.specs.Spells.{Spells}
@@ -109,29 +102,28 @@ source_fails p s gs _ left_old left_new before after ver short left (conversion.
     absurd (let fits = consumed_fits left_old left_new s (u ++ rest) left consumed in omega (arith, length-append u rest))
 
 -- The laws.
-module _ (unique : UniqueReading) (rise : TokensRise) (spells : TextSpells)
-    (again : (p : Profile) (gs : List Game) → AreExportable p gs → text_of p (map (filled p.mode) gs) ≡ text_of p gs)
-    (plies : (p : Profile) (gs : List Game) → AreExportable p gs → map plies_of (map (filled p.mode) gs) ≡ map plies_of gs) where
+module _ (unique : UniqueReading) (rise : TokensRise) (exported_games : (p : Profile) (gs : List Game) → AreExportable p gs → ExportedGames p gs) where
   -- the games that the text spells are the only ones
   pub same_text : SameText
   same_text p gs hs h k = (
     λ e.
-        let one = ((unique p (text_of p gs) (map (filled p.mode) gs)).0 (spells p gs h)).1 in
-        let other = ((unique p (text_of p hs) (map (filled p.mode) hs)).0 (spells p hs k)).1 in
+        let one = ((unique p (text_of p gs) (map (filled p.mode) gs)).0 (exported_games p gs h).spells).1 in
+        let other = ((unique p (text_of p hs) (map (filled p.mode) hs)).0 (exported_games p hs k).spells).1 in
         sym one ∙ ap (λ s. (read p (tokens_of s)).progress.games) e ∙ other,
-    λ e. sym (again p gs h) ∙ ap (text_of p) e ∙ again p hs k,
+    λ e. sym (exported_games p gs h).again ∙ ap (text_of p) e ∙ (exported_games p hs k).again,
   )
 
   counted_again : (p : Profile) (gs : List Game) → AreExportable p gs → counted (map (filled p.mode) gs) ≡ counted gs
   counted_again p gs h =
       ap (λ n. record { games = n; plies = sum (map plies_of (map (filled p.mode) gs)) }) (length-map gs (filled p.mode))
-      ∙ ap (λ ns. record { games = length gs; plies = sum ns }) (plies p gs h)
+      ∙ ap (λ ns. record { games = length gs; plies = sum ns }) (exported_games p gs h).plies
 
   pub fixed_point : FixedPoint
-  fixed_point p gs h = (
-    output_is unique rise p (text_of p gs) (map (filled p.mode) gs) (spells p gs h) ∙ again p gs h,
-    verdict_is unique rise p (text_of p gs) (map (filled p.mode) gs) (spells p gs h) ∙ ap totals (counted_again p gs h),
-  )
+  fixed_point p gs h =
+      let e = exported_games p gs h in (
+        output_is unique rise p (text_of p gs) (map (filled p.mode) gs) e.spells ∙ e.again,
+        verdict_is unique rise p (text_of p gs) (map (filled p.mode) gs) e.spells ∙ ap totals (counted_again p gs h),
+      )
 
 -- Converting an export text.
 pub slice_is_kept : FixedPoint → ExportIsKept

@@ -1,7 +1,6 @@
 -- The export text of games that some text spells: it spells them with their defaults filled in, and
 -- these have the same text.
-use Rattle.std.proofs.Common.{◌≡◌, ℕ, false, List, [], ◌∷◌, ◌++◌, length, map, refl, sym, ap, subst, ◌∙◌, append_assoc, append-nil, Some}
-use Rattle.std.specs.Prelude.{codes}
+use Rattle.std.proofs.Common.{◌≡◌, ℕ, false, List, [], ◌∷◌, ◌++◌, length, map, refl, sym, ap, subst, ◌∙◌, append_assoc, append-nil, Some, codes}
 use Rattle.std.proofs.ByRecursion.{All-append, All-map}
 use Rattle.std.specs.List.{AllByRecursion}
 use Rattle.chess_rules.specs.Laws.{LeavesPosition}
@@ -12,17 +11,14 @@ use Rattle.pgn_layout.specs.Lines.{lines_of, text_of as text_of_lines}
 use Rattle.pgn_lexer.specs.Laws.{NumbersAreSymbols, KindsAreReadBack, TokensAreSound}
 use Rattle.pgn_lexer.specs.Sound.{IsSoundKind, CommentsClose}
 use Rattle.pgn_lexer.specs.Tokens as tokens
-use Rattle.pgn_lexer.specs.Tokens.{Kind}
 use Rattle.pgn_lexer.specs.TokensOf.{tokens_of}
 use Rattle.pgn_lexer.specs.Written.{written, AreEnded, IsReadable}
 use Rattle.pgn_game.specs.FaultTable.{marker_of}
 use Rattle.pgn_game.specs.Filled.{exported_pairs, filled}
 use Rattle.pgn_game.specs.FixedPoint.{TagSectionFits, AreExportable, TextSpells}
-use Rattle.pgn_game.specs.Game.{Game}
+use Rattle.pgn_game.proofs.Words.{Kind, Game, value_of, Profile}
 use Rattle.pgn_game.specs.Levels.{start_of, plies_of}
-use Rattle.pgn_game.specs.Pairs.{value_of}
-use Rattle.pgn_game.specs.Profile.{Profile}
-use Rattle.pgn_game.specs.Spells.{by_name, SpellsText, new_level, IsResult, SpellsGame, SpellsGames, no_game, next_game}
+use Rattle.pgn_game.specs.Spells.{Spells, by_name, SpellsText, new_level, IsResult, SpellsGame, SpellsGames, no_game, next_game}
 use Rattle.pgn_game.specs.TagSection.{tag_lines}
 use Rattle.pgn_game.specs.Text.{tokens_out, game_text, text_of}
 use Rattle.pgn_game.proofs.AllOfJoined.{all_front, all_behind}
@@ -61,6 +57,13 @@ with_feed ks s a = with_kinds (ks ++ []) ks (s ++ 10 ∷ []) (append-nil ks) (bo
 section_pieces : (tags text : List Kind) (a b : List ℕ) → PiecesOf tags a → PiecesOf text b → PiecesOf (tags ++ text) ((a ++ 10 ∷ []) ++ b ++ 10 ∷ [])
 section_pieces tags text a b h k =
     with_feed (tags ++ text) ((a ++ 10 ∷ []) ++ b) (both_pieces tags text (a ++ 10 ∷ []) b (with_feed tags a h) k)
+
+-- What is shown of exportable games: their text spells them again, it is their text again, and they
+-- have as many plies.
+pub record ExportedGames (p : Profile) (gs : List Game) : Type 0 where
+  pub spells : Spells p (tokens_of (text_of p gs)) (map (filled p.mode) gs)
+  pub again : text_of p (map (filled p.mode) gs) ≡ text_of p gs
+  pub plies : map plies_of (map (filled p.mode) gs) ≡ map plies_of gs
 
 module _ (one_read : TheOneMoveIsRead) (leaves : LeavesPosition) (is_symbol : WrittenMoveIsSymbol) (is_read : WrittenMoveIsRead) (numbers : NumbersAreSymbols) (reads_fen : ReadingIsSpelling) (lines_keep : LinesOfKeepTokens) where
   text_kept : (p : Profile) (g : Game) (h : SoundGame p g) → ExportedPairs p g → KeptText p.mode p (start_of g.pairs) h.text g.items
@@ -173,14 +176,14 @@ module _ (one_read : TheOneMoveIsRead) (leaves : LeavesPosition) (is_symbol : Wr
       one_more_game p g gs (written_game p g this.0 room.0) (written_games p ls gs rest (all_behind IsSoundKind ks ls sound) this.1 room.1)
 
   module _ (sound : TokensAreSound) (read_back : KindsAreReadBack) where
-    pub exported_games : (p : Profile) (gs : List Game) → AreExportable p gs → WrittenGames p gs
-    exported_games p gs h =
+    exportable_written : (p : Profile) (gs : List Game) → AreExportable p gs → WrittenGames p gs
+    exportable_written p gs h =
         let is = sound h.source in
         written_games p (kinds (tokens_of h.source)) gs h.spelled (All-map IsSoundKind (λ t. t.kind) (tokens_of h.source) is.texts) is.comments h.room
 
     pub text_spells : TextSpells
     text_spells p gs h =
-        let w = exported_games p gs h in
+        let w = exportable_written p gs h in
         let ps = w.pieces.pieces in
         let readable : IsReadable ps =
         record {
@@ -190,3 +193,8 @@ module _ (one_read : TheOneMoveIsRead) (leaves : LeavesPosition) (is_symbol : Wr
         } in
         let same = ap (λ s. kinds (tokens_of s)) (sym w.pieces.text) ∙ read_back ps readable ∙ ap (λ ks. ks ++ tokens.end ∷ []) w.pieces.kinds in
         subst (λ ks. SpellsGames p ks (map (filled p.mode) gs)) (sym same) w.spells
+
+    pub exported_games : (p : Profile) (gs : List Game) → AreExportable p gs → ExportedGames p gs
+    exported_games p gs h =
+        let w = exportable_written p gs h in
+        record { spells = text_spells p gs h; again = w.again; plies = w.plies }

@@ -1,9 +1,7 @@
 -- The text of a game that sound tokens spelled: it spells the game with its defaults filled in, and
 -- that game has the same text.
-use Rattle.std.proofs.Common.{◌≡◌, ℕ, ◌≤◌, true, List, [], ◌++◌, length, refl, sym, ap, subst, arith, Option, None, Some}
-use Rattle.std.specs.Prelude.{codes, not, unwrap_or, IsTrue, Ok, Result}
+use Rattle.std.proofs.Common.{◌≡◌, ℕ, ◌≤◌, true, List, [], ◌++◌, length, refl, sym, ap, subst, arith, Option, None, Some, codes, not, unwrap_or, IsTrue, Ok, Result}
 use Rattle.std.specs.List.{AllByRecursion, list_all}
-use Rattle.chess_rules.specs.declared.position.Parts.{Parts}
 use Rattle.chess_rules.specs.Position.{is_position}
 use Rattle.chess_rules.specs.Square.{squares}
 use Rattle.chess_text.specs.declared.fen.FenFault.{FenFault}
@@ -11,16 +9,12 @@ use Rattle.chess_text.specs.Laws.{ReadingIsSpelling}
 use Rattle.pgn_lexer.specs.Bytes.{starts_symbol, continues_symbol}
 use Rattle.pgn_lexer.specs.Lexes.{is_barred}
 use Rattle.pgn_lexer.specs.Sound.{begins_with, IsSymbol, IsData}
-use Rattle.pgn_game.specs.declared.mode.Mode.{Mode}
-use Rattle.pgn_game.specs.declared.mode.Mode.TheVariants.{Full, Reduced}
+use Rattle.pgn_game.proofs.Words.{Parts, Mode, Full, Reduced, Game, Pair, value_of, Profile, Missing, counts_as, takes_the_marker}
 use Rattle.pgn_game.specs.Chess.{first_position, position_of}
 use Rattle.pgn_game.specs.FaultTable.{is_result, result_for}
 use Rattle.pgn_game.specs.Filled.{exported_pairs}
 use Rattle.pgn_game.specs.FixedPoint.{TagSectionFits}
-use Rattle.pgn_game.specs.Game.{Game}
 use Rattle.pgn_game.specs.Levels.{start_of, start_by, position_or_first}
-use Rattle.pgn_game.specs.Pairs.{Pair, value_of}
-use Rattle.pgn_game.specs.Profile.{Profile, Missing, counts_as, takes_the_marker}
 use Rattle.pgn_game.specs.Spells.{KeepsTags, IsPair, by_name, IsResult}
 use Rattle.pgn_game.specs.TagSection.{roster, roster_pairs, with_set_up, other_pairs, exported}
 use Rattle.pgn_game.proofs.reading.PairsInTurn.{all-all}

@@ -1,13 +1,9 @@
 -- Exported tag pairs are tag pairs of a game again, and exporting them again changes nothing.
-use Rattle.std.proofs.Common.{◌≡◌, ℕ, ◌+◌, ◌≤◌, Bool, true, false, cond, List, [], ◌∷◌, ◌++◌, length, map, drop, refl, sym, ap, subst, ◌∙◌, arith, Option, None, Some, inl, inr}
-use Rattle.std.specs.Prelude.{◌&&◌, ◌||◌, not, bytes_eq, is_some, unwrap_or, codes, IsTrue, IsFalse}
+use Rattle.std.proofs.Common.{◌≡◌, ℕ, ◌+◌, ◌≤◌, Bool, true, false, cond, List, [], ◌∷◌, ◌++◌, length, map, drop, refl, sym, ap, subst, ◌∙◌, arith, Option, None, Some, inl, inr, ◌&&◌, ◌||◌, not, bytes_eq, is_some, unwrap_or, codes, IsTrue, IsFalse}
 use Rattle.std.specs.List.{AllByRecursion, list_all}
 use Rattle.std.proofs.lemmas.Bool.{false≢true, cases_Bool, or_cases}
 use Rattle.pgn_layout.specs.TagLine.{escaped}
-use Rattle.pgn_game.specs.declared.mode.Mode.{Mode}
-use Rattle.pgn_game.specs.declared.mode.Mode.TheVariants.{Full, Reduced}
-use Rattle.pgn_game.specs.Profile.{Profile}
-use Rattle.pgn_game.specs.Pairs.{Pair, value_of, has_pair}
+use Rattle.pgn_game.proofs.Words.{Mode, Full, Reduced, Profile, Pair, value_of, has_pair}
 use Rattle.pgn_game.specs.TagSection.{roster, in_roster, roster_pairs, with_set_up, other_pairs, exported}
 use Rattle.pgn_game.specs.FaultTable.{in_name, is_score, is_result}
 use Rattle.pgn_game.specs.Levels.{start_by, start_of}

@@ -1,6 +1,5 @@
 -- Texts in pieces that a lexer reads back: tag lines, and the lines of movetext.
-use Rattle.std.proofs.Common.{◌≡◌, ℕ, Bool, true, false, List, [], ◌∷◌, ◌++◌, refl, sym, ap, subst, ◌∙◌, append_assoc, inl, inr}
-use Rattle.std.specs.Prelude.{◌==◌, codes, decimal, IsTrue}
+use Rattle.std.proofs.Common.{◌≡◌, ℕ, Bool, true, false, List, [], ◌∷◌, ◌++◌, refl, sym, ap, subst, ◌∙◌, append_assoc, inl, inr, ◌==◌, codes, decimal, IsTrue}
 use Rattle.std.proofs.ByRecursion.{All-append}
 use Rattle.std.specs.List.{AllByRecursion}
 use Rattle.std.proofs.lemmas.Bool.{or_cases, eqb-true}
@@ -9,10 +8,9 @@ use Rattle.pgn_layout.specs.TagLine.{tag_line, escaped}
 use Rattle.pgn_lexer.specs.Bytes.{is_space, is_digit, continues_symbol, continues_word}
 use Rattle.pgn_lexer.specs.Sound.{IsSymbol, IsData, CommentsClose}
 use Rattle.pgn_lexer.specs.Tokens as tokens
-use Rattle.pgn_lexer.specs.Tokens.{Kind}
 use Rattle.pgn_lexer.specs.Written as written
 use Rattle.pgn_lexer.specs.Written.{Piece, text_of_pieces, kinds_in, IsPiece, IsEndedBy, AreEnded}
-use Rattle.pgn_game.specs.Pairs.{Pair}
+use Rattle.pgn_game.proofs.Words.{Kind, Pair}
 use Rattle.pgn_game.specs.TagSection.{tag_lines}
 use Rattle.pgn_game.specs.Spells.{SpellsPairs, no_pair, next_pair, pair}
 use Rattle.pgn_game.proofs.AllOfJoined.{all_front, all_behind}

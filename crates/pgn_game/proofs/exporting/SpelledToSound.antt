@@ -1,19 +1,14 @@
 -- What is known of a game that a text spells: its tokens are sound, and its comments close.
-use Rattle.std.proofs.Common.{◌≡◌, ℕ, ◌+◌, Bool, true, false, List, [], ◌∷◌, ◌++◌, refl, sym, ap, subst, ◌∙◌, append_assoc, Some}
-use Rattle.std.specs.Prelude.{◌||◌, codes, bytes_eq}
+use Rattle.std.proofs.Common.{◌≡◌, ℕ, ◌+◌, Bool, true, false, List, [], ◌∷◌, ◌++◌, refl, sym, ap, subst, ◌∙◌, append_assoc, Some, ◌||◌, codes, bytes_eq}
 use Rattle.std.specs.List.{AllByRecursion, list_all}
 use Rattle.std.proofs.ByRecursion.{All-append}
 use Rattle.std.proofs.lemmas.Bool.{false≢true, and_parts}
-use Rattle.chess_rules.specs.declared.position.Parts.{Parts}
 use Rattle.pgn_lexer.specs.Sound.{IsSoundKind, CommentsClose}
 use Rattle.pgn_lexer.specs.Tokens as tokens
-use Rattle.pgn_lexer.specs.Tokens.{Kind}
 use Rattle.pgn_lexer.specs.Written.{written}
 use Rattle.pgn_game.specs.FaultTable.{is_comment, is_score, is_result, marker_of}
-use Rattle.pgn_game.specs.Game.{Item, Game}
+use Rattle.pgn_game.proofs.Words.{Parts, Kind, Item, Game, Pair, value_of, Profile}
 use Rattle.pgn_game.specs.Levels.{Level, start_of}
-use Rattle.pgn_game.specs.Pairs.{Pair, value_of}
-use Rattle.pgn_game.specs.Profile.{Profile}
 use Rattle.pgn_game.specs.Spells.{AreDropped, SpellsPair, pair, SpellsPairs, no_pair, next_pair, KeepsTags, by_name, IsSetUp, SpellsText, no_more, token, move, variation, StandsFor, number, comment_open, word, comment_close, new_level, BeginsBare, IsResult, SpellsGame}
 use Rattle.pgn_game.proofs.AllOfJoined.{all_front, all_behind}
 use Rattle.pgn_game.proofs.judging.RefusalsInMovetext.{score_of}

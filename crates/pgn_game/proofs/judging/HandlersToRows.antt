@@ -3,8 +3,7 @@ use Rattle.std.proofs.Common.{◌≡◌, Bool, false, refl, sym, ap, ◌∙◌}
 use Rattle.pgn_lexer.specs.Scanned.{kind_of}
 use Rattle.pgn_lexer.specs.declared.token.TokenKind.{TokenKind}
 use Rattle.pgn_lexer.specs.declared.token.TokenKind.TheVariants as variants
-use Rattle.pgn_game.specs.declared.stage.Stage.TheVariants.{AfterTags}
-use Rattle.pgn_game.specs.Game.{Part}
+use Rattle.pgn_game.proofs.Words.{AfterTags, Part}
 use Rattle.pgn_game.specs.StoredPairs.{TagPairs}
 use Rattle.pgn_game.specs.FaultTable.{is_left_bracket, is_end, lacks_fen}
 use Rattle.pgn_game.specs.ReaderState.{ReaderState, Agrees}

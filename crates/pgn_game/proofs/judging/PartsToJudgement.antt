@@ -1,24 +1,15 @@
 -- What judging a token comes to, from what is known of each part.
-use Rattle.std.proofs.Common.{◌≡◌, ℕ, ◌&&◌, List, [], Bool, true, false, Option, None, Some, Bor, refl, sym, ap, subst, ◌∙◌}
-use Rattle.std.specs.Prelude.{Ok, Err, IsFalse, IsTrue, Result, ◌==◌}
+use Rattle.std.proofs.Common.{◌≡◌, ℕ, ◌&&◌, List, [], Bool, true, false, Option, None, Some, Bor, refl, sym, ap, subst, ◌∙◌, Ok, Err, IsFalse, IsTrue, Result, ◌==◌}
 use Rattle.std.specs.Option.{option_copied, is_some}
 use Rattle.std.proofs.lemmas.Bool.{and_right}
 use Rattle.std.proofs.lemmas.List.Elements.{All-nil}
-use Rattle.chess_rules.specs.declared.position.Parts.{Parts}
 use Rattle.pgn_layout.specs.Lines.{IsToken}
-use Rattle.pgn_lexer.specs.Tokens.{Kind}
 use Rattle.pgn_lexer.specs.Scanned.{kind_of}
 use Rattle.pgn_lexer.specs.declared.token.TokenKind.{TokenKind}
 use Rattle.pgn_game.specs.declared.judged.Judged.{Judged}
 use Rattle.pgn_game.specs.declared.judged.Judged.TheVariants.{Skipped}
-use Rattle.pgn_game.specs.declared.mode.Mode.{Mode}
-use Rattle.pgn_game.specs.declared.mode.Mode.TheVariants.{Full, Reduced}
-use Rattle.pgn_game.specs.declared.reason.Reason.{Reason}
-use Rattle.pgn_game.specs.declared.stage.Stage.{Stage}
-use Rattle.pgn_game.specs.declared.stage.Stage.TheVariants.{AfterTags, InMovetext, Between}
-use Rattle.pgn_game.specs.Pairs.{Pair, value_of, has_pair}
+use Rattle.pgn_game.proofs.Words.{Parts, Kind, Mode, Full, Reduced, Reason, Stage, AfterTags, InMovetext, Between, Pair, value_of, has_pair, Item, Part}
 use Rattle.pgn_game.specs.StoredPairs.{TagPairs}
-use Rattle.pgn_game.specs.Game.{Item, Part}
 use Rattle.pgn_game.specs.Levels.{start_of}
 use Rattle.pgn_game.specs.FaultTable.{refusal, is_at, is_comment, is_left_bracket, is_end, lacks_fen, stage_number}
 use Rattle.pgn_game.specs.Progress.{Next, next, in_text}

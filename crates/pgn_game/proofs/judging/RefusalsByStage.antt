@@ -1,18 +1,11 @@
 -- Which tokens are rejected at a stage, and where the others lead.
-use Rattle.std.proofs.Common.{◌≡◌, ℕ, Bool, true, false, ◌&&◌, List, [], length, nat_le, Option, None, Some, refl, sym, ap, subst, ◌∙◌, Bor}
-use Rattle.std.specs.Prelude.{IsTrue, Ok}
+use Rattle.std.proofs.Common.{◌≡◌, ℕ, Bool, true, false, ◌&&◌, List, [], length, nat_le, Option, None, Some, refl, sym, ap, subst, ◌∙◌, Bor, IsTrue, Ok}
 use Rattle.pgn_lexer.specs.Tokens as tokens
 use Rattle.pgn_lexer.specs.Tokens.{left_bracket, right_bracket, symbol, str}
 use Rattle.pgn_lexer.specs.Scanned.{kind_of}
 use Rattle.pgn_lexer.specs.declared.token.TokenKind.{TokenKind}
 use Rattle.pgn_lexer.specs.declared.token.TokenKind.TheVariants as variants
-use Rattle.pgn_game.specs.declared.reason.Reason.{Reason}
-use Rattle.pgn_game.specs.declared.reason.Reason.TheVariants.{ExpectedName, TooManyTags, ExpectedValue, ExpectedBracket, SetUpWithoutFen, TagInMovetext, UnexpectedEnd}
-use Rattle.pgn_game.specs.declared.stage.Stage.{Stage}
-use Rattle.pgn_game.specs.declared.stage.Stage.TheVariants.{Between, AfterLeftBracket, AfterName, AfterValue, AfterTags, InMovetext}
-use Rattle.pgn_game.specs.Profile.{Profile}
-use Rattle.pgn_game.specs.Pairs.{insert_pair}
-use Rattle.pgn_game.specs.Game.{Part, no_part}
+use Rattle.pgn_game.proofs.Words.{Reason, ExpectedName, TooManyTags, ExpectedValue, ExpectedBracket, SetUpWithoutFen, TagInMovetext, UnexpectedEnd, Stage, Between, AfterLeftBracket, AfterName, AfterValue, AfterTags, InMovetext, Profile, insert_pair, Part, no_part}
 use Rattle.pgn_game.specs.FaultTable.{refusal, is_at, is_comment, is_left_bracket, is_end, lacks_fen}
 use Rattle.pgn_game.specs.Progress.{going, next, at_stage, in_text}
 use Rattle.pgn_game.specs.Judgement.{may_have_movetext, judged, outcome_of, or_else, text_refusal}

@@ -1,31 +1,22 @@
 -- What the tokens of movetext are rejected for, and where they lead, for a part that is open.
-use Rattle.std.proofs.Common.{◌≡◌, ℕ, Bool, true, false, ◌&&◌, ◌||◌, not, List, [], ◌∷◌, length, nat_le, Option, None, Some, Bor, refl, sym, ap, ◌∙◌, arith}
+use Rattle.std.proofs.Common.{◌≡◌, ℕ, Bool, true, false, ◌&&◌, ◌||◌, not, List, [], ◌∷◌, length, nat_le, Option, None, Some, Bor, refl, sym, ap, ◌∙◌, arith, is_some, ◌==◌, Result, Ok, Err, bytes_eq, codes, unwrap_or}
 use Rattle.std.proofs.lemmas.List.{length-map}
 use Rattle.std.proofs.lemmas.Bool.{or_right, or_from}
 use Rattle.std.specs.Option.{option_copied}
-use Rattle.std.specs.Prelude.{is_some, ◌==◌, Result, Ok, Err, bytes_eq, codes, unwrap_or}
-use Rattle.chess_rules.specs.declared.position.Parts.{Parts}
-use Rattle.chess_text.specs.declared.resolution.Played.{Played}
-use Rattle.chess_text.specs.declared.resolution.SanFault.{SanFault}
 use Rattle.chess_text.specs.declared.resolution.SanFault.TheVariants.{NoMove, Ambiguous}
 use Rattle.pgn_lexer.specs.Tokens.{Kind, symbol}
 use Rattle.pgn_lexer.specs.Scanned.{kind_of}
 use Rattle.pgn_lexer.specs.declared.token.TokenKind.{TokenKind}
 use Rattle.pgn_lexer.specs.declared.token.TokenKind.TheVariants as variants
-use Rattle.pgn_game.specs.declared.reason.Reason.{Reason}
-use Rattle.pgn_game.specs.declared.reason.Reason.TheVariants.{NotAMove, IllegalMove, AmbiguousMove, MoveLimit, MarkerInVariation, ResultDiffers}
-use Rattle.pgn_game.specs.Profile.{Profile, Missing, counts_as}
+use Rattle.pgn_game.proofs.Words.{Parts, Played, SanFault, Reason, NotAMove, IllegalMove, AmbiguousMove, MoveLimit, MarkerInVariation, ResultDiffers, Profile, Missing, counts_as, Pair, value_of, Part, Stage}
 use Rattle.pgn_game.specs.Chess.{move_of}
-use Rattle.pgn_game.specs.Pairs.{Pair, value_of}
 use Rattle.pgn_game.specs.Game as games
-use Rattle.pgn_game.specs.Game.{Part}
 use Rattle.pgn_game.specs.Levels.{Level as ModelLevel, depth, start_of, replayed, without_last}
 use Rattle.pgn_game.specs.FaultTable.{marker_of, is_number, is_score, is_at_limit, levels_of_part, position_in, result_for}
 use Rattle.pgn_game.specs.FoundMove.{found_in}
 use Rattle.pgn_game.specs.Progress.{Next, going, whole, in_text, move_item, items_of}
 use Rattle.pgn_game.specs.Movetext.{StoredLevels, before_last, stored_level}
 use Rattle.pgn_game.specs.ReaderState.{ReaderState}
-use Rattle.pgn_game.specs.declared.stage.Stage.{Stage}
 use Rattle.pgn_game.specs.Judgement.{IsOpen, found_of, may_have_movetext, game_of, or_else, text_refusal, with_items}
 use Rattle.pgn_game.proofs.judging.RowsByStage.{symbol_rows}
 use Rattle.pgn_game.proofs.judging.RefusalsByStage.{hit, pass}

@@ -1,21 +1,11 @@
 -- What is asked of a token at each stage, row by row, and where it then leads.
-use Rattle.std.proofs.Common.{◌≡◌, ℕ, ◌+◌, Bool, true, false, ◌&&◌, ◌||◌, not, List, length, nat_lt, nat_le, Option, None, Some, refl, ap, ◌∙◌}
-use Rattle.std.specs.Prelude.{◌==◌, codes, bytes_eq, is_some, IsTrue, IsFalse, Result}
+use Rattle.std.proofs.Common.{◌≡◌, ℕ, ◌+◌, Bool, true, false, ◌&&◌, ◌||◌, not, List, length, nat_lt, nat_le, Option, None, Some, refl, ap, ◌∙◌, ◌==◌, codes, bytes_eq, is_some, IsTrue, IsFalse, Result}
 use Rattle.std.specs.List.{list_all}
 use Rattle.std.proofs.lemmas.Bool.{and_right}
-use Rattle.chess_text.specs.declared.resolution.Played.{Played}
-use Rattle.chess_text.specs.declared.resolution.SanFault.{SanFault}
 use Rattle.pgn_layout.specs.TagLine.{escaped}
 use Rattle.pgn_lexer.specs.Tokens as tokens
-use Rattle.pgn_lexer.specs.Tokens.{Kind}
-use Rattle.pgn_game.specs.declared.reason.Reason.{Reason}
-use Rattle.pgn_game.specs.declared.reason.Reason.TheVariants.{BadTagName, DuplicateTag, TooManyTags, BadResult, BadFen, TagLineTooLong, SetUpWithoutFen, ReducedFen, NotAMove, IllegalMove, AmbiguousMove, MoveLimit, NoMoveBefore, TooDeep, UnmatchedClose, MarkerInVariation, ResultDiffers}
-use Rattle.pgn_game.specs.declared.stage.Stage.{Stage}
-use Rattle.pgn_game.specs.declared.stage.Stage.TheVariants.{Between, AfterLeftBracket, AfterName, AfterValue, AfterTags, InMovetext}
-use Rattle.pgn_game.specs.Profile.{Profile}
-use Rattle.pgn_game.specs.Pairs.{Pair, has_pair}
+use Rattle.pgn_game.proofs.Words.{Played, SanFault, Kind, Reason, BadTagName, DuplicateTag, TooManyTags, BadResult, BadFen, TagLineTooLong, SetUpWithoutFen, ReducedFen, NotAMove, IllegalMove, AmbiguousMove, MoveLimit, NoMoveBefore, TooDeep, UnmatchedClose, MarkerInVariation, ResultDiffers, Stage, Between, AfterLeftBracket, AfterName, AfterValue, AfterTags, InMovetext, Profile, Pair, has_pair, Item}
 use Rattle.pgn_game.specs.Chess.{move_of}
-use Rattle.pgn_game.specs.Game.{Item}
 use Rattle.pgn_game.specs.Levels.{levels_of, depth, here, start_of}
 use Rattle.pgn_game.specs.FaultTable.{refusal, is_comment, is_end, in_name, is_result, is_score, is_number, is_no_form, is_no_move, is_many_moves, is_one_move, is_at_limit, fen_field, fen_field_of, lacks_fen, is_reduced, has_other_result}
 use Rattle.pgn_game.specs.Progress.{next, going}

@@ -1,6 +1,5 @@
 -- The order of names is a strict order of all names; and pairs in this order.
-use Rattle.std.proofs.Common.{◌≡◌, ℕ, ◌<◌, ◌⊎◌, inl, inr, Bool, true, false, cond, List, [], ◌∷◌, refl, sym, ap, ◌∙◌, arith, Option, None, Some, le-ltb, lt-ltb, eq-eqb}
-use Rattle.std.specs.Prelude.{◌||◌, ◌&&◌, ◌==◌, nat_lt, bytes_eq, filter, is_some}
+use Rattle.std.proofs.Common.{◌≡◌, ℕ, ◌<◌, ◌⊎◌, inl, inr, Bool, true, false, cond, List, [], ◌∷◌, refl, sym, ap, ◌∙◌, arith, Option, None, Some, le-ltb, lt-ltb, eq-eqb, ◌||◌, ◌&&◌, ◌==◌, nat_lt, bytes_eq, filter, is_some}
 use Rattle.std.specs.List.{AllByRecursion}
 use Rattle.std.proofs.ByRecursion.{All-weaker, all_kept_by}
 use Rattle.std.proofs.lemmas.Bool.{false≢true, or_cases, and_parts, ltb-true, eqb-true, cases_order}

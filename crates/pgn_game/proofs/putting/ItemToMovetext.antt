@@ -1,14 +1,11 @@
 -- What an item adds to the movetext that is held.
-use Rattle.std.proofs.Common.{◌≡◌, ℕ, ◌+◌, ◌<◌, ◌≤◌, Bool, true, false, cond, List, [], ◌∷◌, ◌++◌, map, length, drop, Option, Some, refl, sym, ap, subst, ◌∙◌, append_assoc, append-nil, arith}
-use Rattle.std.specs.Prelude.{All, ◌==◌, ◌&&◌, IsTrue, is_some, IfSome, Result, Ok, Err, IsErr, OnOk, unwrap_or}
+use Rattle.std.proofs.Common.{◌≡◌, ℕ, ◌+◌, ◌<◌, ◌≤◌, Bool, true, false, cond, List, [], ◌∷◌, ◌++◌, map, length, drop, Option, Some, refl, sym, ap, subst, ◌∙◌, append_assoc, append-nil, arith, All, ◌==◌, ◌&&◌, IsTrue, is_some, IfSome, Result, Ok, Err, IsErr, OnOk, unwrap_or}
 use Rattle.std.specs.Io.KnownBytes.{Appends}
 use Rattle.std.proofs.lemmas.List.Elements.{All-nil, All-cons, All-head, All-tail, All-append}
 use Rattle.std.proofs.lemmas.List.{length-map}
-use Rattle.std.proofs.lemmas.List.Sums.{fold-append}
 use Rattle.std.proofs.Math.Dec.{eqb-suc-zero}
 use Rattle.std.proofs.Math.Seq.{drop-append_seam}
 use Rattle.chess_rules.specs.declared.position.Move.{Move}
-use Rattle.chess_rules.specs.declared.position.Parts.{Parts}
 use Rattle.chess_rules.specs.Legal.{legal}
 use Rattle.chess_text.specs.San.{san, MarkPairs, disambiguation_pairs}
 use Rattle.pgn_layout.specs.declared.sink.WriteFault.{WriteFault}
@@ -17,15 +14,15 @@ use Rattle.pgn_layout.specs.Lines.{IsToken, lines_of, full_lines, last_line, tex
 use Rattle.pgn_layout.specs.Layout.{Put, laid_from, text_put, line_put}
 use Rattle.pgn_game.specs.declared.judged.Item.{Item as CodeItem}
 use Rattle.pgn_game.specs.declared.judged.Item.TheVariants as code
-use Rattle.pgn_game.specs.declared.mode.Mode.{Mode}
-use Rattle.pgn_game.specs.declared.mode.Mode.TheVariants.{Full, Reduced}
+use Rattle.pgn_game.proofs.Words.{Parts, Mode, Full, Reduced}
 use Rattle.pgn_game.specs.Chess.{play, text_of_move}
 use Rattle.pgn_game.specs.Game.{Item, move, open_variation, close_variation}
-use Rattle.pgn_game.specs.Levels.{Level as ModelLevel, Levels as ModelLevels, levels_after, levels_of, first_level, depth, here, outermost, main_moves}
+use Rattle.pgn_game.specs.Levels.{Level as ModelLevel, Levels as ModelLevels, levels_after, levels_of, depth, here, outermost, main_moves}
 use Rattle.pgn_game.specs.Text.{Placed, is_move, tokens_at, tokens_from, tokens_out, full_text}
 use Rattle.pgn_game.specs.Movetext.{StoredLevels, Movetext, level_at, ClosesLevel, before_last, stored_level, stored_levels, ends_in_move, HoldsItems}
 use Rattle.pgn_game.specs.Judgement.{ItemFits, model_item}
 use Rattle.pgn_game.specs.ItemResult.{PutsTokens, GoesOn, LeadsLevels, writes, tokens_if, after_move_if, plies_in, item_text, Adds}
+use Rattle.pgn_game.proofs.reading.MovetextTokens.{levels_more}
 use Rattle.pgn_game.proofs.putting.WritesInTurn.{front_of_more, Writes-append}
 use Rattle.pgn_game.proofs.putting.ItemsAppended.{written_from_start, written_behind, written_more, tokens_behind, tokens_more, full_lines_put, last_line_put}
 
@@ -53,9 +50,6 @@ last_line_laid ts (u ∷ us) each more =
     ∙ ap (λ l. (laid_from l (map Put us)).line) (last_line_put ts u each)
 
 -- One item more.
-levels_of-snoc : (items : List Item) (i : Item) → levels_of (items ++ i ∷ []) ≡ levels_after (levels_of items) i
-levels_of-snoc items i = fold-append levels_after first_level items (i ∷ [])
-
 ends_in_move-append : (b : Bool) (xs ys : List Placed) → ends_in_move b (xs ++ ys) ≡ ends_in_move (ends_in_move b xs) ys
 ends_in_move-append b [] ys = refl
 ends_in_move-append b (x ∷ xs) ys = ends_in_move-append (is_move x.item) xs ys
@@ -64,15 +58,13 @@ ends_in_move-append b (x ∷ xs) ys = ends_in_move-append (is_move x.item) xs ys
 abbrev main_of : ModelLevels → List Move
 main_of ls = (outermost ls.present ls.around).trail
 
-none_more : (n : ℕ) → n ≡ n + 0
-none_more n = omega arith
-
 plies_by : (i : Item) (present : ModelLevel) (around : List ModelLevel)
     → length (main_of (levels_after (record { present = present; around = around }) i)) ≡ length (main_of (record { present = present; around = around })) + plies_in i (length around)
 plies_by (move m) present [] = omega arith
 plies_by (move m) present (l ∷ around) =
     let n = length (main_of (record { present = present; around = l ∷ around })) in
-    none_more n ∙ ap (λ b. n + elim b [ true ↦ 1 | false ↦ 0 ]) (sym (eqb-suc-zero (length around)))
+    let none_more : n ≡ n + 0 = omega arith in
+    none_more ∙ ap (λ b. n + elim b [ true ↦ 1 | false ↦ 0 ]) (sym (eqb-suc-zero (length around)))
 plies_by close_variation present [] = omega arith
 plies_by close_variation present (l ∷ around) = omega arith
 plies_by _ present around = omega arith
@@ -80,7 +72,7 @@ plies_by _ present around = omega arith
 plies-snoc : (items : List Item) (i : Item)
     → length (main_moves (items ++ i ∷ [])) ≡ length (main_moves items) + plies_in i (depth (levels_of items))
 plies-snoc items i =
-    ap (λ ls. length (main_of ls)) (levels_of-snoc items i) ∙ plies_by i (levels_of items).present (levels_of items).around
+    ap (λ ls. length (main_of ls)) (levels_more items i) ∙ plies_by i (levels_of items).present (levels_of items).around
 
 -- Whether an item is written decides its tokens, and whether a move was written last.
 module _ (mode : Mode) (start : Parts) (items : List Item) (i : Item) (text : Movetext) (line : List ℕ) (written : Bool)
@@ -202,7 +194,7 @@ module _ (most : ℕ) (mode : Mode) (i : CodeItem) (text : Movetext) (line new_l
       let behind = written_behind mode start items (model_item i ∷ []) in
       record {
         levels = levels_lead most i text new.levels start (levels_of items) fits on.levels holds.levels
-            ∙ ap (stored_levels start) (sym (levels_of-snoc items (model_item i)));
+            ∙ ap (stored_levels start) (sym (levels_more items (model_item i)));
         plies = on.plies
             ∙ ap (λ n. text.plies + plies_in (model_item i) n) (sym (same_depth mode start items (model_item i) text line written holds refl))
             ∙ ap (λ n. n + plies_in (model_item i) (depth (levels_of items))) holds.plies ∙ sym (plies-snoc items (model_item i));

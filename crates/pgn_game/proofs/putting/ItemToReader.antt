@@ -1,12 +1,10 @@
 -- What putting a token of movetext adds to what stands written of its game, and to the reader.
-use Rattle.std.proofs.Common.{◌≡◌, ℕ, ◌<◌, ◌≤◌, Bool, true, false, ◌||◌, List, [], ◌∷◌, ◌++◌, length, drop, Option, None, refl, sym, ap, subst, ◌∙◌, append-nil, length-append, arith}
-use Rattle.std.specs.Prelude.{IsTrue, Ok, Err}
+use Rattle.std.proofs.Common.{◌≡◌, ℕ, ◌<◌, ◌≤◌, Bool, true, false, ◌||◌, List, [], ◌∷◌, ◌++◌, length, drop, Option, None, refl, sym, ap, subst, ◌∙◌, append-nil, length-append, arith, IsTrue, Ok, Err}
 use Rattle.std.specs.List.{list_any}
 use Rattle.std.proofs.lemmas.List.Folds.{list_any-append}
 use Rattle.std.proofs.Math.Seq.{drop-append-add, drop-length}
 use Rattle.std.proofs.KnownBytes.{Appends-trans}
 use Rattle.std.specs.Io.KnownBytes.{Appends}
-use Rattle.chess_rules.specs.declared.position.Parts.{Parts}
 use Rattle.pgn_layout.specs.declared.sink.WriteFault.{WriteFault}
 use Rattle.pgn_layout.specs.Device.{AppendsFront, Device, one_more}
 use Rattle.pgn_game.specs.declared.judged.Item.{Item as CodeItem}
@@ -14,15 +12,9 @@ use Rattle.pgn_game.specs.declared.judged.Item.TheVariants as code
 use Rattle.pgn_game.specs.declared.judged.Judged.{Judged}
 use Rattle.pgn_game.specs.declared.judged.Judged.TheVariants.{Entry as InText}
 use Rattle.pgn_game.specs.declared.judged.Entry.TheVariants.{Number, Item as Put}
-use Rattle.pgn_game.specs.declared.mode.Mode.{Mode}
-use Rattle.pgn_game.specs.declared.mode.Mode.TheVariants.{Full, Reduced}
-use Rattle.pgn_game.specs.declared.stage.Stage.{Stage}
-use Rattle.pgn_game.specs.declared.stage.Stage.TheVariants.{Between, AfterLeftBracket, AfterName, AfterValue, AfterTags, InMovetext}
+use Rattle.pgn_game.proofs.Words.{Parts, Mode, Full, Reduced, Stage, Between, AfterTags, InMovetext, Profile, Missing, counts_as, known_result, Pair, Item, Part}
 use Rattle.pgn_game.specs.declared.accepted.Accepted.TheVariants.{More}
 use Rattle.pgn_game.specs.declared.reason.Reason.TheVariants as reasons
-use Rattle.pgn_game.specs.Profile.{Profile, Missing, counts_as, known_result}
-use Rattle.pgn_game.specs.Pairs.{Pair}
-use Rattle.pgn_game.specs.Game.{Item, Part}
 use Rattle.pgn_game.specs.Levels.{start_of}
 use Rattle.pgn_game.specs.TagSection.{tag_section}
 use Rattle.pgn_game.specs.Text.{is_move, full_text, torn_at, torn_for}
@@ -95,11 +87,7 @@ plies_before old at = by_stage old.stage at
   where
     by_stage : (stage : Stage) → IsTrue (may_have_movetext stage) → plies_behind stage old.earlier_plies old.text.plies ≡ old.earlier_plies
     by_stage Between at = absurd (cc)
-    by_stage AfterLeftBracket at = refl
-    by_stage AfterName at = refl
-    by_stage AfterValue at = refl
-    by_stage AfterTags at = refl
-    by_stage InMovetext at = refl
+    by_stage _ at = refl
 
 -- a put that failed, and one after which the game goes on
 pub unwritten : (old new : ReaderState) (j : Judged) (d : Device) → Keeps old new → d.failures_after ≡ one_more d.failures

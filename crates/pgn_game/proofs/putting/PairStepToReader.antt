@@ -1,19 +1,13 @@
 -- What putting a step of the tag section does, or nothing.
-use Rattle.std.proofs.Common.{◌≡◌, ℕ, ◌≤◌, false, List, [], length, drop, Option, None, Some, Bor, refl, sym, ap, subst, ◌∙◌, le_refl, arith}
-use Rattle.std.specs.Prelude.{IfSome, IsSomeAnd, IsTrue, Result, Ok, Err, is_ok}
+use Rattle.std.proofs.Common.{◌≡◌, ℕ, ◌≤◌, false, List, [], length, drop, Option, None, Some, Bor, refl, sym, ap, subst, ◌∙◌, le_refl, arith, IfSome, IsSomeAnd, IsTrue, Result, Ok, Err, is_ok}
 use Rattle.std.specs.Result.{result_unwrap_or}
 use Rattle.std.proofs.Math.ListN.{drop_of_length-le}
 use Rattle.std.specs.Io.KnownBytes.{Appends}
 use Rattle.std.proofs.KnownBytes.{Appends-nil}
-use Rattle.chess_rules.specs.declared.position.Parts.{Parts}
 use Rattle.pgn_game.specs.declared.judged.Judged.{Judged}
 use Rattle.pgn_game.specs.declared.judged.Judged.TheVariants.{Value}
-use Rattle.pgn_game.specs.declared.stage.Stage.{Stage}
-use Rattle.pgn_game.specs.declared.stage.Stage.TheVariants.{Between, AfterLeftBracket, AfterName, AfterValue, AfterTags, InMovetext}
+use Rattle.pgn_game.proofs.Words.{Parts, Stage, Between, AfterName, AfterValue, InMovetext, Profile, Missing, counts_as, takes_the_marker, Pair, has_pair, Item, Part}
 use Rattle.pgn_game.specs.declared.accepted.Accepted.TheVariants.{More}
-use Rattle.pgn_game.specs.Profile.{Profile, Missing, counts_as, takes_the_marker}
-use Rattle.pgn_game.specs.Pairs.{Pair, has_pair}
-use Rattle.pgn_game.specs.Game.{Item, Part}
 use Rattle.pgn_game.specs.Levels.{start_of}
 use Rattle.pgn_game.specs.StoredPairs.{TagPairs}
 use Rattle.pgn_game.specs.Text.{torn, torn_for}
@@ -34,12 +28,8 @@ nothing_torn p stage ps name items before = by_profile p.missing_result stage be
   where
     by_profile : (missing : Missing) (s : Stage) → (s ≡ InMovetext → ⊥) → torn_for missing p.mode (record { stage = s; pairs = ps; name = name; items = items }) ≡ []
     by_profile takes_the_marker s before = refl
-    by_profile (counts_as text) Between before = refl
-    by_profile (counts_as text) AfterLeftBracket before = refl
-    by_profile (counts_as text) AfterName before = refl
-    by_profile (counts_as text) AfterValue before = refl
-    by_profile (counts_as text) AfterTags before = refl
     by_profile (counts_as text) InMovetext before = absurd (before refl)
+    by_profile (counts_as text) _ before = refl
 
 pub no_torn : (p : Profile) (part : Part) (stage : Stage) → part.stage ≡ stage → (stage ≡ InMovetext → ⊥) → torn p part ≡ []
 no_torn p part stage at before = nothing_torn p part.stage part.pairs part.name part.items (λ e. before (sym at ∙ e))

@@ -1,26 +1,16 @@
 -- Each move that is read is legal where it stands.
-use Rattle.std.proofs.Common.{◌≡◌, ℕ, Bool, true, false, List, [], ◌∷◌, ◌++◌, Option, None, Some, Result, Ok, refl, sym, ap, subst, ◌∙◌, ◌⊎◌, inl, inr}
-use Rattle.std.specs.Prelude.{IsTrue, option_map, is_some}
+use Rattle.std.proofs.Common.{◌≡◌, ℕ, Bool, true, false, List, [], ◌∷◌, ◌++◌, Option, None, Some, Result, Ok, refl, sym, ap, subst, ◌∙◌, ◌⊎◌, inl, inr, IsTrue, option_map, is_some}
 use Rattle.std.specs.List.{list_all}
 use Rattle.std.proofs.lemmas.Bool.{and_from}
 use Rattle.std.proofs.lemmas.List.Folds.{list_all-append}
-use Rattle.chess_rules.specs.declared.position.Parts.{Parts}
 use Rattle.chess_rules.specs.Legal.{legal}
-use Rattle.chess_text.specs.declared.resolution.Played.{Played}
-use Rattle.chess_text.specs.declared.resolution.SanFault.{SanFault}
 use Rattle.chess_text.specs.declared.form.Form.{Form}
 use Rattle.chess_text.specs.Form.{form_of}
 use Rattle.chess_text.specs.MoveOfForm.{move_of_form}
 use Rattle.chess_text.specs.Laws.{TheOneMoveIsRead}
-use Rattle.pgn_lexer.specs.Tokens.{Kind, Token}
 use Rattle.pgn_lexer.specs.Tokens as tokens
-use Rattle.pgn_game.specs.declared.reason.Reason.{Reason}
-use Rattle.pgn_game.specs.declared.stage.Stage.{Stage}
-use Rattle.pgn_game.specs.declared.stage.Stage.TheVariants.{Between, AfterLeftBracket, AfterName, AfterValue, AfterTags, InMovetext}
-use Rattle.pgn_game.specs.Profile.{Profile}
-use Rattle.pgn_game.specs.Pairs.{Pair}
+use Rattle.pgn_game.proofs.Words.{Parts, Played, SanFault, Kind, Token, Reason, Stage, Between, AfterLeftBracket, AfterName, AfterValue, AfterTags, InMovetext, Profile, Pair, Item, Game, Part}
 use Rattle.pgn_game.specs.Chess.{move_of}
-use Rattle.pgn_game.specs.Game.{Item, Game, Part}
 use Rattle.pgn_game.specs.Levels.{Levels, here, levels_of, start_of, first_level}
 use Rattle.pgn_game.specs.FaultTable.{is_number, marker_of, position_in, levels_of_part, refusal}
 use Rattle.pgn_game.specs.Text.{placed_from}
@@ -71,11 +61,9 @@ adds_none AfterTags part tokens.left_bracket none = inr none
 adds_none AfterTags part _ none = inl refl
 adds_none InMovetext part k none = inl refl
 adds_none AfterLeftBracket part (tokens.symbol name) none = inr none
-adds_none AfterLeftBracket part _ none = inr none
 adds_none AfterName part (tokens.str value) none = inr none
-adds_none AfterName part _ none = inr none
 adds_none AfterValue part tokens.right_bracket none = inr none
-adds_none AfterValue part _ none = inr none
+adds_none _ part _ none = inr none
 
 leads_none : (nx : Next) → AddsNone nx → LeadsLegally nx
 leads_none (going part) none =

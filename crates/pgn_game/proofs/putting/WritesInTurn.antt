@@ -1,6 +1,5 @@
 -- Texts written in turn.
-use Rattle.std.proofs.Common.{◌≡◌, ℕ, ◌+◌, ◌<◌, List, [], ◌∷◌, ◌++◌, length, take, drop, get_or, Option, ap, sym, subst, ◌∙◌, refl, add-one, append-nil, append_assoc, length-append, arith}
-use Rattle.std.specs.Prelude.{Some, slice_get, Result, Ok, Err}
+use Rattle.std.proofs.Common.{◌≡◌, ℕ, ◌+◌, ◌<◌, List, [], ◌∷◌, ◌++◌, length, take, drop, get_or, Option, ap, sym, subst, ◌∙◌, refl, add-one, append-nil, append_assoc, length-append, arith, Some, slice_get, Result, Ok, Err}
 use Rattle.std.proofs.Math.Seq.{take-suc, take-append-add}
 use Rattle.std.proofs.lemmas.List.{take-append-drop, take-append-le}
 use Rattle.std.proofs.lemmas.Option.{slice_get_within, get_or_from_slice_get}

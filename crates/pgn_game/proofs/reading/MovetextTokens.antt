@@ -1,19 +1,12 @@
 -- Where a token of movetext leads, and when a marker is the Result.
-use Rattle.std.proofs.Common.{◌≡◌, ℕ, Bool, true, false, ◌||◌, not, List, [], ◌∷◌, ◌++◌, Option, None, Some, refl, ap, ◌∙◌, append-nil}
-use Rattle.std.specs.Prelude.{codes, bytes_eq, unwrap_or, IsFalse, Result}
+use Rattle.std.proofs.Common.{◌≡◌, ℕ, Bool, true, false, ◌||◌, not, List, [], ◌∷◌, ◌++◌, Option, None, Some, refl, ap, ◌∙◌, append-nil, codes, bytes_eq, unwrap_or, IsFalse, Result}
 use Rattle.std.proofs.lemmas.List.Sums.{fold-append}
 use Rattle.std.proofs.lemmas.Bool.{not-false}
 use Rattle.std.proofs.lemmas.Slice.Eq.{bytes_eq-Decides}
-use Rattle.chess_text.specs.declared.resolution.Played.{Played}
-use Rattle.chess_text.specs.declared.resolution.SanFault.{SanFault}
 use Rattle.pgn_lexer.specs.Tokens as tokens
-use Rattle.pgn_lexer.specs.Tokens.{Kind}
-use Rattle.pgn_game.specs.declared.stage.Stage.TheVariants.{InMovetext}
-use Rattle.pgn_game.specs.Profile.{Profile, Missing, counts_as, takes_the_marker}
-use Rattle.pgn_game.specs.Pairs.{Pair, value_of}
+use Rattle.pgn_game.proofs.Words.{Played, SanFault, Kind, InMovetext, Profile, Missing, counts_as, takes_the_marker, Pair, value_of, Item}
 use Rattle.pgn_game.specs.Chess.{move_of}
 use Rattle.pgn_game.specs.Game as games
-use Rattle.pgn_game.specs.Game.{Item}
 use Rattle.pgn_game.specs.Levels.{levels_of, levels_after, first_level, depth, here, start_of}
 use Rattle.pgn_game.specs.FaultTable.{refusal, is_score, is_number, is_end, is_at_limit, result_for, has_other_result}
 use Rattle.pgn_game.specs.Progress.{Next, next, going, whole, move_item}

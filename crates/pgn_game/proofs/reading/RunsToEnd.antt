@@ -1,14 +1,8 @@
 -- Tokens that are read to their end, as a relation: which games they finish from a part on.
-use Rattle.std.proofs.Common.{◌≡◌, ℕ, false, List, [], ◌∷◌, ◌++◌, map, None, refl, sym, ap, subst, ◌∙◌, append_assoc, append-nil}
-use Rattle.std.specs.Prelude.{◌↔◌}
+use Rattle.std.proofs.Common.{◌≡◌, ℕ, false, List, [], ◌∷◌, ◌++◌, map, None, refl, sym, ap, subst, ◌∙◌, append_assoc, append-nil, ◌↔◌}
 use Rattle.pgn_lexer.specs.Tokens as tokens
-use Rattle.pgn_lexer.specs.Tokens.{Kind, Token}
 use Rattle.pgn_lexer.specs.Laws.{IsLast, RisesTo}
-use Rattle.pgn_game.specs.declared.stage.Stage.{Stage}
-use Rattle.pgn_game.specs.declared.stage.Stage.TheVariants.{Between, AfterLeftBracket, AfterName, AfterValue, InMovetext}
-use Rattle.pgn_game.specs.Profile.{Profile}
-use Rattle.pgn_game.specs.Pairs.{Pair}
-use Rattle.pgn_game.specs.Game.{Item, Game, Part, no_part}
+use Rattle.pgn_game.proofs.Words.{Kind, Token, Stage, Between, AfterLeftBracket, AfterName, AfterValue, InMovetext, Profile, Pair, Item, Game, Part, no_part}
 use Rattle.pgn_game.specs.FaultTable.{refusal, is_end}
 use Rattle.pgn_game.proofs.tokens.OneMoreToken.{first_passes, goes_on}
 use Rattle.pgn_game.specs.Progress.{Next, going, whole, next, Progress, no_progress, progress_with, progress_after, Read, read_from, read}

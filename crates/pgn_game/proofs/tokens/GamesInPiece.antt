@@ -1,11 +1,9 @@
 -- Games in turn in a piece.
 use Rattle.std.proofs.Common.{◌≡◌, ℕ, ◌+◌, ◌^◌, ◌<◌, ◌≤◌, List, [], ◌∷◌, ◌++◌, length, take, drop, Option, None, refl, sym, ap, subst, ◌∙◌, inl, append-nil, append_assoc, take_all, length-drop, arith}
 use Rattle.std.proofs.lemmas.List.{take-append-drop, drop-drop}
-use Rattle.pgn_lexer.specs.Tokens.{Token}
 use Rattle.pgn_lexer.specs.Decided.{decided}
 use Rattle.pgn_lexer.specs.Stands.{IsDecided, first, still}
-use Rattle.pgn_game.specs.declared.reason.Fault.{Fault}
-use Rattle.pgn_game.specs.Profile.{Profile}
+use Rattle.pgn_game.proofs.Words.{Token, Fault, Profile}
 use Rattle.pgn_game.specs.ConverterCalls.{Converter, Stands, AreNext, FedAll, FedGame, FedToFault, FedFault, FedWhole, ReadsUpTo, StopsIn, at_token, too_long}
 use Rattle.pgn_game.specs.ConverterSteps.{AllSoFar}
 use Rattle.pgn_game.proofs.tokens.OneMoreToken.{gains_none, gains_more, stops_more}

@@ -2,14 +2,8 @@
 -- token later.
 use Rattle.std.proofs.Common.{◌≡◌, ℕ, List, [], ◌∷◌, ◌++◌, length, drop, None, Some, refl, sym, ap, subst, ◌∙◌, append_assoc}
 use Rattle.std.proofs.Math.Seq.{drop-append_seam}
-use Rattle.pgn_lexer.specs.Tokens.{Kind}
 use Rattle.pgn_layout.specs.Lines.{lines_of, text_of as text_of_lines}
-use Rattle.pgn_game.specs.declared.mode.Mode.{Mode}
-use Rattle.pgn_game.specs.declared.stage.Stage.{Stage}
-use Rattle.pgn_game.specs.declared.stage.Stage.TheVariants.{Between, AfterLeftBracket, AfterName, AfterValue, AfterTags, InMovetext}
-use Rattle.pgn_game.specs.Profile.{Profile, Missing, counts_as, takes_the_marker}
-use Rattle.pgn_game.specs.Pairs.{Pair}
-use Rattle.pgn_game.specs.Game.{Item, Part}
+use Rattle.pgn_game.proofs.Words.{Kind, Mode, Stage, InMovetext, Profile, Missing, counts_as, takes_the_marker, Pair, Item, Part}
 use Rattle.pgn_game.specs.Levels.{start_of}
 use Rattle.pgn_game.specs.FaultTable.{marker_of}
 use Rattle.pgn_game.specs.TagSection.{tag_section}
@@ -49,11 +43,7 @@ module _ (tags deepest : ℕ) (mode : Mode) (ps : List Pair) (name : List ℕ) (
   stage_grows : (missing : Missing) (stage : Stage) (k : Kind) → Grows missing stage k
   stage_grows takes_the_marker stage k = (_, refl)
   stage_grows (counts_as text) InMovetext k = in_movetext_grows text k
-  stage_grows (counts_as text) Between k = (_, refl)
-  stage_grows (counts_as text) AfterLeftBracket k = (_, refl)
-  stage_grows (counts_as text) AfterName k = (_, refl)
-  stage_grows (counts_as text) AfterValue k = (_, refl)
-  stage_grows (counts_as text) AfterTags k = (_, refl)
+  stage_grows (counts_as text) _ k = (_, refl)
 
 pub next_grows : (p : Profile) (part : Part) (k : Kind) → IsPrefix (torn p part) (text_next p (next part k))
 next_grows p part k = stage_grows p.tags p.depth p.mode part.pairs part.name part.items p.missing_result part.stage k

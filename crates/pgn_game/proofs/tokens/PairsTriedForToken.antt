@@ -1,12 +1,9 @@
 -- How many pairs were tried for a token: from what the reader counts to what is said of tokens.
-use Rattle.std.proofs.Common.{◌≡◌, ℕ, ◌≤◌, ◌<◌, max, Bool, true, false, ◌&&◌, ◌||◌, not, List, [], ◌∷◌, ◌++◌, length, drop, Option, None, Some, Result, Ok, Err, refl, sym, ap, subst, ◌∙◌, arith}
-use Rattle.std.specs.Prelude.{IsTrue, ◌==◌}
+use Rattle.std.proofs.Common.{◌≡◌, ℕ, ◌≤◌, ◌<◌, max, Bool, true, false, ◌&&◌, ◌||◌, not, List, [], ◌∷◌, ◌++◌, length, drop, Option, None, Some, Result, Ok, Err, refl, sym, ap, subst, ◌∙◌, arith, IsTrue, ◌==◌}
 use Rattle.std.proofs.Math.Nat.{le-max_right}
 use Rattle.std.proofs.Math.Seq.{drop-append_seam, drop-length}
-use Rattle.chess_rules.specs.declared.position.Parts.{Parts}
 use Rattle.pgn_layout.specs.Device.{Device}
 use Rattle.pgn_lexer.specs.Tokens as tokens
-use Rattle.pgn_lexer.specs.Tokens.{Kind, Token}
 use Rattle.pgn_lexer.specs.Scanned.{kind_of}
 use Rattle.pgn_lexer.specs.declared.token.LexReason.{LexReason}
 use Rattle.pgn_lexer.specs.declared.token.TokenKind.{TokenKind}
@@ -15,12 +12,7 @@ use Rattle.pgn_game.specs.declared.accepted.Accepted.TheVariants.{More}
 use Rattle.pgn_game.specs.declared.judged.Judged.{Judged}
 use Rattle.pgn_game.specs.declared.judged.Judged.TheVariants.{Entry as InText}
 use Rattle.pgn_game.specs.declared.judged.Entry.TheVariants.{Number, Item as Put, Marker}
-use Rattle.pgn_game.specs.declared.mode.Mode.{Mode}
-use Rattle.pgn_game.specs.declared.mode.Mode.TheVariants.{Full, Reduced}
-use Rattle.pgn_game.specs.declared.reason.Reason.{Reason}
-use Rattle.pgn_game.specs.declared.stage.Stage.{Stage}
-use Rattle.pgn_game.specs.declared.stage.Stage.TheVariants.{Between, InMovetext}
-use Rattle.pgn_game.specs.Profile.{Profile}
+use Rattle.pgn_game.proofs.Words.{Parts, Kind, Token, Mode, Full, Reduced, Reason, Stage, Between, InMovetext, Profile}
 use Rattle.pgn_game.specs.Game.{Item, Part, move}
 use Rattle.pgn_game.specs.Levels.{depth, here, levels_of, start_of}
 use Rattle.pgn_game.specs.FaultTable.{refusal, is_number, is_outside_tag_pairs, is_score, levels_of_part, position_in, stage_number}
@@ -37,33 +29,18 @@ use Rattle.pgn_game.proofs.tokens.OneMoreToken.{first_passes, goes_on}
 use Rattle.pgn_game.proofs.judging.RefusalsInMovetext.{depth_is, position_is}
 use Rattle.pgn_game.proofs.judging.PartsToJudgement.{held_at, open_agrees, text_at}
 
--- The numbers.
-most_of_none : (n : ℕ) → max n 0 ≡ n
-most_of_none n = omega arith
-
-most_of_one : (n : ℕ) → n ≡ max 0 n
-most_of_one n = omega arith
-
-most_again : (a b c : ℕ) → max a (max b c) ≡ max (max a b) c
-most_again a b c = omega arith
-
-most_through : (old between new n m : ℕ) → between ≡ max old n → new ≡ max between m → n ≤ m → new ≡ max old m
-most_through old between new n m first more rises = omega (arith, first, more, rises)
-
 -- Tokens in turn.
-differ : {P : Type 0} (o : Option Reason) (reason : Reason) → o ≡ Some reason → o ≡ None → P
-differ o reason some none = absurd (cc)
-
 -- what is tried for tokens, and for those behind them
 most_then : (p : Profile) (b : Progress) (ts : List Token) (most : ℕ) → MostFrom p b ts most → (us : List Token) (n : ℕ)
     → (read_from p b ts).fault ≡ None → MostFrom p (read_from p b ts).progress us n
     → MostFrom p b (ts ++ us) (max most n)
-most_then p b ts most (tried.none c) us n clear then = subst (MostFrom p c us) (most_of_one n) then
+most_then p b ts most (tried.none c) us n clear then = let most_of_one : n ≡ max 0 n = omega arith in subst (MostFrom p c us) most_of_one then
 most_then p b ts most (tried.refused c x xs m reason some h) us n clear then =
-    differ (refusal p c.part x.kind) reason some (first_passes p c x xs clear)
+    let none = first_passes p c x xs clear in absurd (cc)
 most_then p b ts most (tried.passes c x xs m rest is h more) us n clear then =
     let same : read_from p c (x ∷ xs) ≡ read_from p (progress_after c x) xs = goes_on p c x xs is in
-    subst (MostFrom p c (x ∷ xs ++ us)) (most_again m rest n)
+    let again : max m (max rest n) ≡ max (max m rest) n = omega arith in
+    subst (MostFrom p c (x ∷ xs ++ us)) again
     (tried.passes c x (xs ++ us) m (max rest n) is h
     (most_then p (progress_after c x) xs rest more us n (ap (λ (r : Read). r.fault) (sym same) ∙ clear)
     (subst (λ (r : Read). MostFrom p r.progress us n) same then)))
@@ -74,7 +51,8 @@ pub most_with : (p : Profile) (given : List Token) (t : Token) (old new : ℕ) �
 most_with p given t old new before clear free raised =
     let b = (read p given).progress in
     let one = tried.passes b t [] raised.tried 0 free raised.allowed (tried.none (progress_after b t)) in
-    let then = subst (MostFrom p b (t ∷ [])) (most_of_none raised.tried) one in
+    let least : max raised.tried 0 ≡ raised.tried = omega arith in
+    let then = subst (MostFrom p b (t ∷ [])) least one in
     subst (MostTried p (given ++ t ∷ [])) (sym raised.most)
     (most_then p no_progress given old before (t ∷ []) raised.tried clear then)
 
@@ -244,8 +222,8 @@ module _ (tags levels : ℕ) (old ready counted : ReaderState) (part : Part) (k 
 
       most : new.most_probes ≡ max old.most_probes more
       most =
-          most_through old.most_probes counted.most_probes new.most_probes n more most_found
-          (then (omega (arith, most_found, le-max_right old.most_probes n))) (judged_more counted j r n more tries)
+          let later = then (omega (arith, most_found, le-max_right old.most_probes n)) in
+          omega (arith, most_found, later, judged_more counted j r n more tries)
 
       by_answer : (x : Result Accepted Reason) → GoesTo counted met.to (after j met.to) new x d → TriesJudged counted j x n more
           → new.most_probes ≡ max old.most_probes more → PutRaises old.profile part (kind_of k) x old.most_probes new.most_probes

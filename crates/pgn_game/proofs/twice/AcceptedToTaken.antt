@@ -1,25 +1,17 @@
 -- What the reader answers to a token, and what a reading takes: a missing Result counts as the
 -- token's marker.
-use Rattle.std.proofs.Common.{◌≡◌, ℕ, ◌<◌, ◌⊎◌, inl, inr, Bool, true, false, List, [], length, take, drop, Option, None, Some, Err, refl, sym, ap, subst, ◌∙◌, arith}
-use Rattle.std.specs.Prelude.{◌||◌, is_some, option_map}
+use Rattle.std.proofs.Common.{◌≡◌, ℕ, ◌<◌, ◌⊎◌, inl, inr, Bool, true, false, List, [], length, take, drop, Option, None, Some, Err, refl, sym, ap, subst, ◌∙◌, arith, ◌||◌, is_some, option_map}
 use Rattle.std.proofs.Math.Seq.{drop-length}
 use Rattle.std.proofs.KnownBytes.{Appends-nil}
 use Rattle.std.specs.Io.KnownBytes.{Appends}
-use Rattle.pgn_lexer.specs.Tokens.{Kind, Token}
 use Rattle.pgn_lexer.specs.Tokens as tokens
 use Rattle.pgn_game.specs.declared.accepted.Accepted.{Accepted}
 use Rattle.pgn_game.specs.declared.accepted.Accepted.TheVariants.{More as Continues, Finished}
 use Rattle.pgn_game.specs.declared.checked.Mark.{Mark as CodeMark}
 use Rattle.pgn_game.specs.declared.checked.Taken.TheVariants.{More, Game as GameEnd, End}
 use Rattle.pgn_game.specs.declared.marker.Marker.{Marker}
-use Rattle.pgn_game.specs.declared.reason.Reason.{Reason}
-use Rattle.pgn_game.specs.declared.reason.Reason.TheVariants.{Changed}
-use Rattle.pgn_game.specs.declared.stage.Stage.{Stage}
-use Rattle.pgn_game.specs.declared.stage.Stage.TheVariants.{Between}
+use Rattle.pgn_game.proofs.Words.{Kind, Token, Reason, Changed, Stage, Between, Profile, counts_as, takes_the_marker, Pair, Game, Item, Part}
 use Rattle.pgn_game.specs.Markers.{marker_text}
-use Rattle.pgn_game.specs.Profile.{Profile, counts_as, takes_the_marker}
-use Rattle.pgn_game.specs.Pairs.{Pair}
-use Rattle.pgn_game.specs.Game.{Game, Item, Part}
 use Rattle.pgn_game.specs.FaultTable.{refusal, is_end, marker_of}
 use Rattle.pgn_game.specs.Text.{torn}
 use Rattle.pgn_game.specs.Due.{gain, text_next}
@@ -199,18 +191,9 @@ module _ (q : Profile) (part : Part) (told : Option CodeMark) (at : ℕ) (k : Ki
     where
       by_both : (x : Option CodeMark) (y : Option Marker) → told ≡ x → marker ≡ y → TokenFails q part told t old o o (record { at = at; reason = Changed })
       by_both (Some x) (Some m) told_is is = other (fails_marks_at x m told_is is differ) (ap is_some told_is) (Appends-nil o)
-      by_both None y told_is is = absurd (no_differ y (ap (λ x. marks_differ x marker at) (sym told_is) ∙ differ))
-        where
-          no_differ : (y : Option Marker) → marks_differ None marker at ≡ true → ⊥
-          no_differ y h = absurd (cc)
-      by_both (Some x) None told_is is = absurd (no_marker_differs (ap (λ y. marks_differ told y at) (sym is) ∙ differ))
-        where
-          no_marker_differs : marks_differ told None at ≡ true → ⊥
-          no_marker_differs h = by_told told h
-            where
-              by_told : (x : Option CodeMark) → marks_differ x None at ≡ true → ⊥
-              by_told None h = absurd (cc)
-              by_told (Some x) h = absurd (cc)
+      by_both None y told_is is = let same : marks_differ None marker at ≡ true = ap (λ x. marks_differ x marker at) (sym told_is) ∙ differ in absurd (cc)
+      by_both (Some x) None told_is is =
+          let same : marks_differ (Some x) None at ≡ true = ap (λ x. marks_differ x None at) (sym told_is) ∙ ap (λ y. marks_differ told y at) (sym is) ∙ differ in absurd (cc)
 
   -- a write failed: so the token is not the end, which adds nothing
   shows_none : refusal q part k ≡ None → marks_differ told marker at ≡ false → (n : ℕ) → n < length (gain set.profile part k) → shows_other told (next part k) t ≡ false

@@ -1,28 +1,17 @@
 -- Bytes that a reading reads, where its buffer is used up.
-use Rattle.std.proofs.Common.{◌≡◌, ℕ, ◌+◌, ◌-◌, ◌<◌, ◌≤◌, Bool, true, false, List, [], ◌++◌, length, take, drop, Option, None, refl, sym, ap, subst, ◌∙◌, inl, append-nil, length-append, length-drop, length-take, length-take-le, arith}
-use Rattle.std.specs.Prelude.{◌^◌}
+use Rattle.std.proofs.Common.{◌≡◌, ℕ, ◌+◌, ◌-◌, ◌<◌, ◌≤◌, Bool, true, false, List, [], ◌++◌, length, take, drop, Option, None, refl, sym, ap, subst, ◌∙◌, inl, append-nil, length-append, length-drop, length-take, length-take-le, arith, ◌^◌}
 use Rattle.std.proofs.Math.Seq.{take-append-le}
 use Rattle.std.proofs.KnownBytes.{Consumes-kept, Consumes-trans}
 use Rattle.std.specs.Io.KnownBytes.{Consumes, IsAtEnd, Keeps}
-use Rattle.pgn_lexer.specs.Tokens.{Token}
 use Rattle.pgn_lexer.specs.TokensOf.{tokens_of}
 use Rattle.pgn_lexer.specs.Decided.{decided}
 use Rattle.pgn_lexer.specs.Standing.{Standing, coming}
 use Rattle.pgn_lexer.specs.Stands.{IsDecided, StandsAfter, first}
-use Rattle.pgn_game.specs.declared.reason.Reason.TheVariants.{ReadFault, InputTooLong}
-use Rattle.pgn_game.specs.Profile.{Profile}
+use Rattle.pgn_game.proofs.Words.{Token, ReadFault, InputTooLong, Profile}
 use Rattle.pgn_game.specs.ConverterCalls.{HasRead, IsSound}
 use Rattle.pgn_game.specs.Pass.{HasGiven, IsCounting, IsGoing, Pass, ReadFails, StandsIn, as_converter, too_long, unread}
 use Rattle.pgn_game.proofs.tokens.StepsInPiece.{decided_at_end}
 use Rattle.pgn_game.proofs.tokens.WholeInput.{known_whole}
-
-in_buffer : (e : Bool) (l : Standing) (unused : List ℕ) (given : List Token) (u : List ℕ) (left_old : Option (List ℕ)) → e ≡ false → unused ≡ [] → StandsIn e l unused given u left_old
-    → StandsAfter l u None given × (given ≡ decided u)
-in_buffer true l unused given u left_old is empty h = absurd (cc)
-in_buffer false l unused given u left_old is empty h = (
-  subst (λ xs. StandsAfter l u (first xs) given) empty h.0,
-  decided_at_end u given (subst (λ xs. IsDecided u xs given) empty h.1),
-)
 
 before_any : (l : Standing) (u : List ℕ) (b : Option ℕ) (given : List Token) → StandsAfter l u None given → StandsAfter l u b given
 before_any l u b given h = record { count = h.count; before = h.before; tokens = λ s k. h.tokens s tt }
@@ -33,7 +22,11 @@ module _ (q : Profile) (left_old left left_new : Option (List ℕ)) (old new : P
   consumed = subst (Consumes left_old left) (ap (λ xs. has.bytes ++ xs) empty ∙ append-nil has.bytes) has.consumed
 
   stands : StandsAfter old.lexer has.bytes None given × (given ≡ decided has.bytes)
-  stands = in_buffer old.has_ended old.lexer old.unused given has.bytes left_old not_ended empty has.stands
+  stands =
+      let h = subst (λ e. StandsIn e old.lexer old.unused given has.bytes left_old) not_ended has.stands in (
+        subst (λ xs. StandsAfter old.lexer has.bytes (first xs) given) empty h.0,
+        decided_at_end has.bytes given (subst (λ xs. IsDecided has.bytes xs given) empty h.1),
+      )
 
   pub fails_unread : (at : ℕ) → Keeps left left_new → at ≡ old.lexer.count → ReadFails left_old left_new given (record { at = at; reason = ReadFault })
   fails_unread at keeps place =

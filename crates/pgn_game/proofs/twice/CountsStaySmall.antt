@@ -1,16 +1,14 @@
 -- The counts of a reading stay small, and fewer steps are left after each.
-use Rattle.std.proofs.Common.{◌≡◌, ℕ, ◌+◌, ◌-◌, ◌*◌, ◌<◌, ◌≤◌, zero, suc, Bool, true, false, List, [], ◌∷◌, length, Option, Result, Ok, Err, refl, sym, ap, subst, ◌∙◌, arith}
-use Rattle.std.specs.Prelude.{◌^◌, IfOk}
+use Rattle.std.proofs.Common.{◌≡◌, ℕ, ◌+◌, ◌-◌, ◌*◌, ◌<◌, ◌≤◌, zero, suc, Bool, true, false, List, [], ◌∷◌, length, Option, Result, Ok, Err, refl, sym, ap, subst, ◌∙◌, arith, ◌^◌, IfOk}
 use Rattle.pgn_lexer.specs.declared.partial_token.Mode.{Mode as LexerMode}
 use Rattle.pgn_lexer.specs.declared.partial_token.Mode.TheVariants.{Symbol, Glyph, Suffix, BraceWord, Line, LineWord}
 use Rattle.pgn_lexer.specs.PartialToken.{pending_in}
-use Rattle.pgn_lexer.specs.Tokens.{Kind}
 use Rattle.pgn_lexer.specs.Standing.{Standing, waiting}
 use Rattle.pgn_game.specs.declared.checked.Mark.{Mark as CodeMark}
 use Rattle.pgn_game.specs.declared.checked.Taken.{Taken}
 use Rattle.pgn_game.specs.declared.checked.Taken.TheVariants.{More, Game as GameEnd, End}
 use Rattle.pgn_game.specs.FaultTable.{is_end}
-use Rattle.pgn_game.specs.declared.reason.Fault.{Fault}
+use Rattle.pgn_game.proofs.Words.{Kind, Fault}
 use Rattle.pgn_game.specs.ReaderState.{ReaderState}
 use Rattle.pgn_game.proofs.tokens.StepsAtEnd.{Nearer}
 use Rattle.pgn_game.specs.Pass.{GoesBehind, IsGoing, IsTold, Keeps, KeepsGoing, LeavesReader, Pass, games_with, steps_left, until_read}

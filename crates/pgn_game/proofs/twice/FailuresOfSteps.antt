@@ -1,13 +1,9 @@
 -- Which device counts a failure in a step, of the reasons one by one.
 use Rattle.std.proofs.Common.{◌≡◌, ℕ, Option, List, Result, Ok, Err, refl, ap, subst, ◌∙◌, inl, inr, arith}
 use Rattle.pgn_layout.specs.Device.{Device, IsStill, one_more}
-use Rattle.pgn_lexer.specs.Tokens.{Token}
 use Rattle.pgn_game.specs.declared.checked.Mark.{Mark as CodeMark}
 use Rattle.pgn_game.specs.declared.checked.Taken.{Taken}
-use Rattle.pgn_game.specs.declared.reason.Reason.{Reason}
-use Rattle.pgn_game.specs.declared.reason.Reason.TheVariants.{ReadFault, WriteFault, Changed}
-use Rattle.pgn_game.specs.declared.reason.Fault.{Fault}
-use Rattle.pgn_game.specs.Profile.{Profile}
+use Rattle.pgn_game.proofs.Words.{Token, Reason, ReadFault, WriteFault, Changed, Fault, Profile}
 use Rattle.pgn_game.specs.Conversion.{CountsDevices}
 use Rattle.pgn_game.specs.ConverterCalls.{CountsReason}
 use Rattle.pgn_game.specs.CheckedConversion.{CountsThree}

@@ -2,23 +2,16 @@
 -- table rejects the same tokens for the same reasons, and a game has the same export text.
 -- Letters: q is the profile whose missing Result takes the marker. For the reader it counts as the
 -- marker `text`. k is the kind of a token, g a game.
-use Rattle.std.proofs.Common.{◌≡◌, ℕ, ◌⊎◌, Bool, true, false, ◌&&◌, ◌||◌, not, List, [], ◌∷◌, ◌++◌, take, drop, Option, None, Some, inl, inr, refl, sym, ap, subst, ◌∙◌, true≢false}
-use Rattle.std.specs.Prelude.{IsTrue, ◌==◌, codes, bytes_eq}
+use Rattle.std.proofs.Common.{◌≡◌, ℕ, ◌⊎◌, Bool, true, false, ◌&&◌, ◌||◌, not, List, [], ◌∷◌, ◌++◌, take, drop, Option, None, Some, inl, inr, refl, sym, ap, subst, ◌∙◌, true≢false, IsTrue, ◌==◌, codes, bytes_eq}
 use Rattle.std.specs.List.{list_all}
 use Rattle.std.proofs.lemmas.Bool.{and_parts, not-true}
 use Rattle.std.proofs.lemmas.Slice.Eq.{bytes_eq-Decides}
 use Rattle.pgn_lexer.specs.Tokens as tokens
-use Rattle.pgn_lexer.specs.Tokens.{Kind}
 use Rattle.pgn_lexer.specs.declared.token.LexReason.{LexReason}
 use Rattle.pgn_lexer.specs.declared.token.LexReason.TheVariants as lexical
 use Rattle.pgn_game.specs.declared.accepted.Accepted.{Accepted}
 use Rattle.pgn_game.specs.declared.accepted.Accepted.TheVariants.{More, Finished}
-use Rattle.pgn_game.specs.declared.reason.Reason.{Reason}
-use Rattle.pgn_game.specs.declared.reason.Reason.TheVariants.{Lexical, BadTagName, ResultDiffers}
-use Rattle.pgn_game.specs.declared.stage.Stage.{Stage}
-use Rattle.pgn_game.specs.declared.stage.Stage.TheVariants.{Between, AfterLeftBracket, AfterName, AfterValue, AfterTags, InMovetext}
-use Rattle.pgn_game.specs.Profile.{Profile, Missing, counts_as, takes_the_marker}
-use Rattle.pgn_game.specs.Game.{Game, Part, no_part}
+use Rattle.pgn_game.proofs.Words.{Kind, Reason, Lexical, BadTagName, ResultDiffers, Stage, Between, AfterLeftBracket, AfterName, AfterValue, AfterTags, InMovetext, Profile, Missing, counts_as, takes_the_marker, Game, Part, no_part}
 use Rattle.pgn_game.specs.Levels.{depth, start_of}
 use Rattle.pgn_game.specs.FaultTable.{Row, row, rows, first_holding, refusal, in_name, is_score, is_outside_tag_pairs, has_other_result, levels_of_part, marker_of, position_in}
 use Rattle.pgn_game.specs.Text.{game_text}
@@ -112,11 +105,9 @@ goes_at AfterTags part tokens.left_bracket none = (_, refl)
 goes_at AfterTags part k none = text_goes part k none
 goes_at InMovetext part k none = text_goes part k none
 goes_at AfterLeftBracket part (tokens.symbol name) none = (_, refl)
-goes_at AfterLeftBracket part _ none = (_, refl)
 goes_at AfterName part (tokens.str value) none = (_, refl)
-goes_at AfterName part _ none = (_, refl)
 goes_at AfterValue part tokens.right_bracket none = (_, refl)
-goes_at AfterValue part _ none = (_, refl)
+goes_at _ part _ none = (_, refl)
 
 pub no_marker_goes : (part : Part) (k : Kind) → marker_of k ≡ None → (to : Part) × (next part k ≡ going to)
 no_marker_goes part k none = goes_at part.stage part k none

@@ -1,10 +1,7 @@
 -- One token more, of either reading: the marks of the first, and the tokens of the second up to a
 -- mark.
 use Rattle.std.proofs.Common.{◌≡◌, Bool, false, ◌||◌, is_some, List, [], ◌∷◌, ◌++◌, Option, None, Some, refl, sym, ap, subst, ◌∙◌, append_assoc, append-nil}
-use Rattle.pgn_lexer.specs.Tokens.{Token}
-use Rattle.pgn_game.specs.declared.reason.Reason.{Reason}
-use Rattle.pgn_game.specs.Profile.{Profile}
-use Rattle.pgn_game.specs.Game.{Game, Part}
+use Rattle.pgn_game.proofs.Words.{Token, Reason, Profile, Game, Part}
 use Rattle.pgn_game.specs.FaultTable.{refusal}
 use Rattle.pgn_game.specs.Progress.{Next, going, whole, next, no_progress, progress_after, Read, read}
 use Rattle.pgn_game.specs.Checked.{Mark, mark_at, marks, marks_from, is_other, is_changed, marks_after, compared_from, compared}
@@ -42,7 +39,7 @@ pub matched_mark : (q : Profile) (ms : List Mark) (m : Mark) (us : List Token) �
 matched_mark q ms m us so ns ts = ap (λ (l : List Mark). compared_from q l no_progress (us ++ ts)) (append_assoc ms (m ∷ []) ns) ∙ so (m ∷ ns) ts
 
 -- a token that shows no difference is not rejected
-either_false : (o : Option Reason) (other : Bool) → (is_some o || other) ≡ false → (o ≡ None) × (other ≡ false)
+pub either_false : (o : Option Reason) (other : Bool) → (is_some o || other) ≡ false → (o ≡ None) × (other ≡ false)
 either_false None other same = (refl, same)
 either_false (Some reason) other same = absurd (cc)
 

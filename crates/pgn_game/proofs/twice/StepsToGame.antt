@@ -1,19 +1,13 @@
 -- Steps of a reading in turn, up to the mark of its game.
-use Rattle.std.proofs.Common.{◌≡◌, ℕ, ◌+◌, ◌-◌, ◌<◌, inl, inr, Bool, true, false, List, [], ◌∷◌, ◌++◌, length, take, Option, None, Some, Ok, Err, refl, sym, ap, subst, ◌∙◌, append-nil}
-use Rattle.std.specs.Prelude.{◌||◌, ◌==◌, is_some, bytes_eq}
-use Rattle.std.proofs.lemmas.Bool.{and_parts, not-false}
+use Rattle.std.proofs.Common.{◌≡◌, ℕ, ◌+◌, ◌-◌, ◌<◌, inl, inr, true, false, List, [], ◌∷◌, ◌++◌, length, take, Option, None, Some, Ok, Err, refl, sym, ap, subst, ◌∙◌, append-nil, ◌||◌, ◌==◌, is_some, bytes_eq}
+use Rattle.std.proofs.lemmas.Bool.{true≢false, and_parts, not-false}
 use Rattle.std.proofs.lemmas.Slice.Eq.{bytes_eq-Decides}
 use Rattle.std.proofs.KnownBytes.{Appends-nil, Appends-trans}
 use Rattle.std.specs.Io.KnownBytes.{Appends}
-use Rattle.pgn_lexer.specs.Tokens.{Kind, Token}
 use Rattle.pgn_game.specs.declared.checked.Mark.{Mark as CodeMark}
 use Rattle.pgn_game.specs.declared.checked.Taken.TheVariants.{More, Game as GameEnd, End}
-use Rattle.pgn_game.specs.declared.reason.Reason.{Reason}
-use Rattle.pgn_game.specs.declared.reason.Reason.TheVariants.{ReadFault, WriteFault, Changed}
-use Rattle.pgn_game.specs.declared.reason.Fault.{Fault}
+use Rattle.pgn_game.proofs.Words.{Kind, Token, Reason, ReadFault, WriteFault, Changed, Fault, Profile, Missing, counts_as, takes_the_marker, Game, Part, no_part}
 use Rattle.pgn_game.specs.Markers.{marker_text}
-use Rattle.pgn_game.specs.Profile.{Profile, Missing, counts_as, takes_the_marker}
-use Rattle.pgn_game.specs.Game.{Game, Part, no_part}
 use Rattle.pgn_game.specs.FaultTable.{refusal, is_end}
 use Rattle.pgn_game.specs.Progress.{Next, going, whole, next, Progress, progress_with, progress_after, Read, read}
 use Rattle.pgn_game.specs.Text.{game_text, torn}
@@ -25,7 +19,7 @@ use Rattle.pgn_game.specs.Pass as pass
 use Rattle.pgn_game.proofs.tokens.NextGrows.{next_is}
 use Rattle.pgn_game.proofs.tokens.OneMoreToken.{read-passes}
 use Rattle.pgn_game.proofs.twice.MarkerCounts.{refusals_are_inside, same_game_text}
-use Rattle.pgn_game.proofs.twice.MarksInTurn.{matched_game, matched_more, marked_game, marked_more}
+use Rattle.pgn_game.proofs.twice.MarksInTurn.{either_false, matched_game, matched_more, marked_game, marked_more}
 
 -- where a token leads, by what the step answers
 goes_there : (n : Next) (t : Token) → LeadsTo n t More → (to : Part) × (n ≡ going to)
@@ -115,24 +109,17 @@ told_profile : (q p : Profile) (m : CodeMark) → IsCounting q p → p.missing_r
 told_profile q p m (text, is) told =
     is ∙ ap (λ (x : Missing). record { tags = q.tags; depth = q.depth; mode = q.mode; missing_result = x }) (ap (λ (p : Profile). p.missing_result) (sym is) ∙ told)
 
-or_none : (o : Option Reason) (b : Bool) → (is_some o || b) ≡ false → b ≡ false
-or_none None b h = h
-or_none (Some reason) b h = absurd (cc)
-
 same_marker : (q : Profile) (part : Part) (m : CodeMark) (t : Token) (g : Game) → rejects (Some m) q part t ≡ false → next part t.kind ≡ whole g → g.marker ≡ marker_text m.marker
 same_marker q part m t g same leads =
-    let other : is_other (model_mark m) (whole g) t ≡ false = ap (λ (n : Next). is_other (model_mark m) n t) (sym leads) ∙ or_none (refusal q part t.kind) _ same in
+    let other : is_other (model_mark m) (whole g) t ≡ false = ap (λ (n : Next). is_other (model_mark m) n t) (sym leads) ∙ (either_false (refusal q part t.kind) _ same).1 in
     (bytes_eq-Decides g.marker (marker_text m.marker)).0 (and_parts (bytes_eq g.marker (marker_text m.marker)) (t.at == m.at) (not-false _ other)).0
 
 no_end : (q : Profile) (part : Part) (m : CodeMark) (t : Token) → rejects (Some m) q part t ≡ false → LeadsTo (next part t.kind) t End → ⊥
 no_end q part m t same leads =
     let to = goes_to_end _ t leads in
-    let other : is_other (model_mark m) (going to.0) t ≡ false = ap (λ (n : Next). is_other (model_mark m) n t) (sym to.1) ∙ or_none (refusal q part t.kind) _ same in
-    differ (is_end t.kind) (subst (λ n. LeadsTo n t End) to.1 leads) other
-  where
-    differ : (b : Bool) → b ≡ true → b ≡ false → ⊥
-    differ true h k = absurd (cc)
-    differ false h k = absurd (cc)
+    let other : is_other (model_mark m) (going to.0) t ≡ false = ap (λ (n : Next). is_other (model_mark m) n t) (sym to.1) ∙ (either_false (refusal q part t.kind) _ same).1 in
+    let is : is_end t.kind ≡ true = subst (λ n. LeadsTo n t End) to.1 leads in
+    true≢false (sym is ∙ other)
 
 module _ (q : Profile) (left_old left_now left_new : Option (List ℕ)) (ms : List Mark) (m : CodeMark) (given : List Token) (now new : Pass) (a c d : Option (List ℕ))
     (takes : q.missing_result ≡ takes_the_marker) (so : WritesSoFar q left_old left_now ms m given now a c) where

@@ -1,11 +1,9 @@
 -- A token of one of two readings: what the lexer gives, and what the reader answers.
-use Rattle.std.proofs.Common.{◌≡◌, ℕ, ◌+◌, ◌-◌, ◌<◌, ◌≤◌, inl, inr, Bool, true, false, List, [], ◌∷◌, ◌++◌, length, take, drop, Option, None, Some, Result, Ok, Err, IfSome, refl, sym, ap, subst, ◌∙◌, append_assoc, append-nil, length-drop, length-take, drop_of_length-le, le_refl, arith}
-use Rattle.std.specs.Prelude.{IfOk}
+use Rattle.std.proofs.Common.{◌≡◌, ℕ, ◌+◌, ◌-◌, ◌<◌, ◌≤◌, inl, inr, Bool, true, false, List, [], ◌∷◌, ◌++◌, length, take, drop, Option, None, Some, Result, Ok, Err, IfSome, refl, sym, ap, subst, ◌∙◌, append_assoc, append-nil, length-drop, length-take, drop_of_length-le, le_refl, arith, IfOk}
 use Rattle.std.proofs.lemmas.List.{drop-drop, drop-take}
 use Rattle.std.proofs.KnownBytes.{Appends-nil}
 use Rattle.std.specs.Io.KnownBytes.{Consumes}
 use Rattle.pgn_lexer.specs.declared.token.LexFault.{LexFault}
-use Rattle.pgn_lexer.specs.Tokens.{Kind, Token}
 use Rattle.pgn_lexer.specs.Tokens as tokens
 use Rattle.pgn_lexer.specs.TokensOf.{tokens_of}
 use Rattle.pgn_lexer.specs.Laws.{IsLast, RisesTo, TokensRise}
@@ -17,13 +15,7 @@ use Rattle.pgn_game.specs.declared.accepted.Accepted.TheVariants.{More as Contin
 use Rattle.pgn_game.specs.declared.checked.Mark.{Mark as CodeMark}
 use Rattle.pgn_game.specs.declared.checked.Taken.{Taken}
 use Rattle.pgn_game.specs.declared.checked.Taken.TheVariants.{More, Game as GameEnd, End}
-use Rattle.pgn_game.specs.declared.reason.Reason.TheVariants.{Lexical}
-use Rattle.pgn_game.specs.declared.reason.Fault.{Fault}
-use Rattle.pgn_game.specs.declared.stage.Stage.{Stage}
-use Rattle.pgn_game.specs.declared.stage.Stage.TheVariants.{Between}
-use Rattle.pgn_game.specs.Profile.{Profile, takes_the_marker}
-use Rattle.pgn_game.specs.Pairs.{Pair}
-use Rattle.pgn_game.specs.Game.{Game, Item, Part}
+use Rattle.pgn_game.proofs.Words.{Kind, Token, Lexical, Fault, Stage, Between, Profile, takes_the_marker, Pair, Game, Item, Part}
 use Rattle.pgn_game.specs.FaultTable.{is_end}
 use Rattle.pgn_game.specs.Progress.{Next, going, whole, next}
 use Rattle.pgn_game.specs.MostTried.{Raises}
@@ -111,17 +103,9 @@ module _ (left_old left_now : Option (List ℕ)) (bytes : List ℕ) (given : Lis
       let left = left_by bytes given t.kind new t is_next in
       record {
         comes = of_whole (λ s. (ts : List Token) × (tokens_of s ≡ given ++ t ∷ ts)) (tokens_left bytes given (is_end t.kind) new t left);
-        behind = λ is. (bytes, consumed, (by_flag (is_end t.kind) is left, refl, all), count is);
-        whole = λ is. of_whole (λ s. tokens_of s ≡ given ++ t ∷ []) (at_flag (is_end t.kind) is left);
+        behind = λ is. (bytes, consumed, (subst (λ e. Left bytes given e new t) is left, refl, all), count is);
+        whole = λ is. of_whole (λ s. tokens_of s ≡ given ++ t ∷ []) (subst (λ e. Left bytes given e new t) is left);
       }
-    where
-      by_flag : (e : Bool) → e ≡ false → Left bytes given e new t → HasLeft new bytes (given ++ t ∷ [])
-      by_flag true is h = absurd (cc)
-      by_flag false is h = h
-
-      at_flag : (e : Bool) → e ≡ true → Left bytes given e new t → tokens_of bytes ≡ given ++ t ∷ []
-      at_flag true is h = h
-      at_flag false is h = absurd (cc)
 
   pub fault_at_end : (f : LexFault) → tokens_of bytes ≡ given ++ refusal_token f ∷ [] → ComesNext left_old given (refusal_token f)
   fault_at_end f cut = of_whole (λ s. (ts : List Token) × (tokens_of s ≡ given ++ refusal_token f ∷ ts)) ([], cut)
@@ -222,16 +206,6 @@ read_alike : (q : Profile) (s : Pass) (l : Standing) (unused : List ℕ) (given 
 read_alike q s l unused given h =
     record { profile = h.profile; no_fault = h.no_fault; passes = h.passes; agrees = h.agrees; games = h.games; plies = h.plies; probed = h.probed; tried = h.tried; just_finished = h.just_finished }
 
-waits_at_end : (e : Bool) (l : Standing) (unused : List ℕ) (given : List Token) (u : List ℕ) (left_old : Option (List ℕ)) → e ≡ true → StandsIn e l unused given u left_old
-    → HasLeft l u given × (unused ≡ []) × IfSome left_old (λ s. s ≡ u)
-waits_at_end true l unused given u left_old is h = h
-waits_at_end false l unused given u left_old is h = absurd (cc)
-
-waits_in_buffer : (e : Bool) (l : Standing) (unused : List ℕ) (given : List Token) (u : List ℕ) (left_old : Option (List ℕ)) → e ≡ false → StandsIn e l unused given u left_old
-    → StandsAfter l u (first unused) given
-waits_in_buffer true l unused given u left_old is h = absurd (cc)
-waits_in_buffer false l unused given u left_old is h = h.0
-
 module _ (q : Profile) (left_old left_now : Option (List ℕ)) (told : Option CodeMark) (given : List Token) (s : Pass) (l : Standing) (takes : q.missing_result ≡ takes_the_marker)
     (has : HasGiven q left_old left_now s given) where
   reads : (t : Token) (r : ReaderState) (result : Result Taken Fault) (a c : Option (List ℕ)) → TakesKind told t.kind t.at s.reading r result a c
@@ -241,7 +215,7 @@ module _ (q : Profile) (left_old left_now : Option (List ℕ)) (told : Option Co
   -- Where the source has ended.
   module _ (ended : s.has_ended ≡ true) where
     waits : HasLeft s.lexer has.bytes given × (s.unused ≡ []) × IfSome left_old (λ text. text ≡ has.bytes)
-    waits = waits_at_end s.has_ended s.lexer s.unused given has.bytes left_old ended has.stands
+    waits = subst (λ e. StandsIn e s.lexer s.unused given has.bytes left_old) ended has.stands
 
     none_left : Consumes left_old left_now (has.bytes ++ [])
     none_left = subst (λ xs. Consumes left_old left_now (has.bytes ++ xs)) waits.1 has.consumed
@@ -272,7 +246,7 @@ module _ (q : Profile) (left_old left_now : Option (List ℕ)) (told : Option Co
   -- In the buffer.
   module _ (not_ended : s.has_ended ≡ false) (used : ℕ) where
     pub in_buffer_before : StandsAfter s.lexer has.bytes (first s.unused) given
-    in_buffer_before = waits_in_buffer s.has_ended s.lexer s.unused given has.bytes left_old not_ended has.stands
+    in_buffer_before = (subst (λ e. StandsIn e s.lexer s.unused given has.bytes left_old) not_ended has.stands).0
 
     pub token_in_buffer : TokensRise → (t : Token) (r : ReaderState) (games : ℕ) (unused : List ℕ) (result : Result Taken Fault) (a c : Option (List ℕ))
         → AfterScan has.bytes (first s.unused) given s.unused l used (token t) → unused ≡ drop used s.unused

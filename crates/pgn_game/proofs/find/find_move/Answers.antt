@@ -1,13 +1,8 @@
-use Rattle.std.proofs.Common.{◌≡◌, Bool, true, false, List, ℕ, ◌+◌, None, Some, sym, ap, subst, ◌∙◌, arith}
-use Rattle.std.specs.Prelude.{Option, Result, Ok, Err, option_map}
-use Rattle.chess_rules.specs.declared.position.Parts.{Parts}
+use Rattle.std.proofs.Common.{◌≡◌, Bool, true, false, List, ℕ, ◌+◌, None, Some, sym, ap, subst, ◌∙◌, arith, Option, Result, Ok, Err, option_map}
 use Rattle.chess_text.specs.declared.form.Form.{Form}
-use Rattle.chess_text.specs.declared.resolution.Played.{Played}
-use Rattle.chess_text.specs.declared.resolution.SanFault.{SanFault}
 use Rattle.chess_text.specs.Form.{form_of}
 use Rattle.chess_text.specs.MoveOfForm.{move_of_form}
-use Rattle.pgn_game.specs.declared.reason.Reason.{Reason}
-use Rattle.pgn_game.specs.declared.reason.Reason.TheVariants.{MoveLimit}
+use Rattle.pgn_game.proofs.Words.{Parts, Played, SanFault, Reason, MoveLimit}
 use Rattle.pgn_game.specs.Chess.{move_of}
 use Rattle.pgn_game.specs.FaultTable.{is_at_limit}
 use Rattle.pgn_game.specs.FoundMove.{found_in}

@@ -1,5 +1,4 @@
-use Rattle.std.proofs.Common.{◌≡◌, false, not, codes, bytes_eq, sym, ap, ◌∙◌}
-use Rattle.std.specs.Prelude.{Ok, Err}
+use Rattle.std.proofs.Common.{◌≡◌, false, not, codes, bytes_eq, sym, ap, ◌∙◌, Ok, Err}
 use Rattle.pgn_game.proofs.pairs.PairsToFirstPosition.{told_read}
 use Rattle.pgn_game.proofs.reader.fen_position.Goals as goal
 

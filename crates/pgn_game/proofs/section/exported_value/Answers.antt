@@ -1,12 +1,10 @@
 use Rattle.std.proofs.Common.{rules, ◌≡◌, Bool, true, false, not, Option, List, ℕ, None, Some, refl, sym, subst, ◌∙◌, ap, Bor}
 use Rattle.std.specs.Option.{option_copied, is_some}
 use Rattle.std.proofs.lemmas.Bool.{false≢true}
-use Rattle.pgn_game.specs.declared.mode.Mode.{Mode}
-use Rattle.pgn_game.specs.declared.mode.Mode.TheVariants.{Reduced}
+use Rattle.pgn_game.proofs.Words.{Mode, Reduced, value_of}
 use Rattle.pgn_game.specs.contracts.mode.Mode as mode
 use denote.Enum.Bare.{sameb, same_true}
 use Rattle.pgn_game.specs.Markers.{marker_text}
-use Rattle.pgn_game.specs.Pairs.{value_of}
 use Rattle.pgn_game.specs.TagSection.{roster, exported}
 use Rattle.pgn_game.proofs.pairs.ExportedValues.{exported_either, exported_none}
 use Rattle.pgn_game.proofs.pairs.ValuesByName.{either_of}

@@ -1,5 +1,4 @@
-use Rattle.std.proofs.Common.{◌≡◌, ℕ, ◌+◌, List, ◌∙◌, length, take, subst, arith, refl}
-use Rattle.std.specs.Prelude.{Option, Some, slice_get, unwrap_or}
+use Rattle.std.proofs.Common.{◌≡◌, ℕ, ◌+◌, List, ◌∙◌, length, take, subst, arith, refl, Option, Some, slice_get, unwrap_or}
 use Rattle.std.proofs.lemmas.Result.{err_from_is_err_and}
 use Rattle.std.proofs.lemmas.List.{take_all}
 use Rattle.std.specs.Io.KnownBytes.{Appends}

@@ -1,5 +1,4 @@
-use Rattle.std.proofs.Common.{◌≡◌, ℕ, ◌+◌, ◌≤◌, List, length, Option, refl, ap, subst, ◌∙◌}
-use Rattle.std.specs.Prelude.{insert, IsSomeAnd}
+use Rattle.std.proofs.Common.{◌≡◌, ℕ, ◌+◌, ◌≤◌, List, length, Option, refl, ap, subst, ◌∙◌, insert, IsSomeAnd}
 use Rattle.pgn_layout.specs.TagLine.{escaped}
 use Rattle.pgn_game.specs.Pairs.{Pair}
 use Rattle.pgn_game.specs.StoredPairs.{index_of, last_name}

@@ -1,5 +1,4 @@
-use Rattle.std.proofs.Common.{◌-◌, [], refl, sym, ap, subst, inl}
-use Rattle.std.specs.Prelude.{codes}
+use Rattle.std.proofs.Common.{◌-◌, [], refl, sym, ap, subst, inl, codes}
 use Rattle.std.proofs.KnownBytes.{Consumes-nil}
 use Rattle.pgn_game.specs.Progress.{no_progress}
 use Rattle.pgn_game.specs.Game.{no_part}

@@ -1,8 +1,7 @@
-use Rattle.std.proofs.Common.{rules, ◌+◌, ◌-◌, ◌<◌, length, drop, inl, refl, sym, ap, subst, ◌∙◌, arith, length-take}
+use Rattle.std.proofs.Common.{rules, ◌+◌, ◌-◌, ◌<◌, length, drop, inl, refl, sym, ap, subst, ◌∙◌, arith, length-take, Ok}
 use Rattle.std.proofs.KnownBytes.{Appends-nil}
 use Rattle.pgn_lexer.specs.Scanned.{kind_of}
 use Rattle.pgn_lexer.specs.Tokens.{Token}
-use Rattle.std.specs.Prelude.{Ok}
 use Rattle.pgn_game.specs.declared.checked.Taken.TheVariants.{More}
 use Rattle.pgn_game.specs.Pass.{HasGiven, IsGoing, IsTold, Pass}
 use Rattle.pgn_game.proofs.tokens.AcceptedToConverter.{follows_own}

@@ -1,5 +1,4 @@
-use Rattle.std.proofs.Common.{◌≡◌, ℕ, ◌+◌, ◌-◌, length, take, drop, arith, refl, sym, ap, subst, ◌∙◌, length-drop, le_refl}
-use Rattle.std.specs.Prelude.{Ok, None, Some}
+use Rattle.std.proofs.Common.{◌≡◌, ℕ, ◌+◌, ◌-◌, length, take, drop, arith, refl, sym, ap, subst, ◌∙◌, length-drop, le_refl, Ok, None, Some}
 use Rattle.pgn_game.specs.declared.accepted.Accepted.TheVariants.{More, Finished}
 use Rattle.std.proofs.Math.Nat.{add_assoc}
 use Rattle.std.proofs.lemmas.List.{take_rest}

@@ -1,5 +1,4 @@
-use Rattle.std.proofs.Common.{ap, ◌∙◌}
-use Rattle.std.specs.Prelude.{is_some}
+use Rattle.std.proofs.Common.{ap, ◌∙◌, is_some}
 use Rattle.pgn_game.specs.Movetext.{StoredLevel}
 use Rattle.pgn_game.proofs.putting.CodeLevelsToStored.{last-held}
 use Rattle.pgn_game.proofs.levels.Levels.has_own_move.Goals as goal

@@ -1,9 +1,7 @@
-use Rattle.std.proofs.Common.{◌≡◌, None, ap, sym, subst, ◌∙◌}
-use Rattle.std.specs.Prelude.{IfSome, Option, Result, ℕ}
+use Rattle.std.proofs.Common.{◌≡◌, None, ap, sym, subst, ◌∙◌, IfSome, Option, Result, ℕ}
 use Rattle.std.specs.Result.{result_unwrap_or}
-use Rattle.chess_rules.specs.declared.position.Parts.{Parts}
 use Rattle.pgn_game.specs.declared.judged.Judged.{Judged}
-use Rattle.pgn_game.specs.declared.stage.Stage.TheVariants.{AfterValue}
+use Rattle.pgn_game.proofs.Words.{Parts, AfterValue}
 use Rattle.pgn_game.specs.Movetext.{movetext_after_fen}
 use Rattle.pgn_game.specs.ReaderState.{ReaderState}
 use Rattle.pgn_game.specs.Judgement.{Fits}

@@ -3,9 +3,7 @@ use Rattle.std.proofs.lemmas.Bool.{le-leb, lt-leb, false≢true}
 use Rattle.pgn_lexer.specs.Scanned.{kind_of}
 use Rattle.pgn_lexer.specs.declared.token.TokenKind.{TokenKind}
 use Rattle.pgn_game.specs.declared.judged.Judged.TheVariants.{PairOpen}
-use Rattle.pgn_game.specs.declared.reason.Reason.TheVariants.{SetUpWithoutFen, TooManyTags, UnexpectedEnd}
-use Rattle.pgn_game.specs.declared.stage.Stage.TheVariants.{AfterTags}
-use Rattle.pgn_game.specs.Game.{Part}
+use Rattle.pgn_game.proofs.Words.{SetUpWithoutFen, TooManyTags, UnexpectedEnd, AfterTags, Part}
 use Rattle.pgn_game.specs.StoredPairs.{TagPairs}
 use Rattle.pgn_game.specs.FaultTable.{refusal}
 use Rattle.pgn_game.specs.Progress.{next}

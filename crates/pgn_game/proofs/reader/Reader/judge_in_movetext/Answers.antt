@@ -1,8 +1,7 @@
 use Rattle.std.proofs.Common.{refl, ap, ◌∙◌}
 use Rattle.pgn_lexer.specs.Scanned.{kind_of}
 use Rattle.pgn_lexer.specs.declared.token.TokenKind.{TokenKind}
-use Rattle.pgn_game.specs.declared.reason.Reason.TheVariants.{TagInMovetext, UnexpectedEnd}
-use Rattle.pgn_game.specs.declared.stage.Stage.TheVariants.{InMovetext}
+use Rattle.pgn_game.proofs.Words.{TagInMovetext, UnexpectedEnd, InMovetext}
 use Rattle.pgn_game.specs.FaultTable.{refusal}
 use Rattle.pgn_game.specs.Judgement.{may_have_movetext}
 use Rattle.pgn_game.proofs.judging.RefusalsByStage.{end_in_movetext, bracket_in_movetext}

@@ -1,12 +1,10 @@
-use Rattle.std.proofs.Common.{◌≡◌, true, false, List, length, refl, sym, ap, ◌∙◌, arith}
-use Rattle.std.specs.Prelude.{codes, is_some}
+use Rattle.std.proofs.Common.{◌≡◌, true, false, List, length, refl, sym, ap, ◌∙◌, arith, codes, is_some}
 use Rattle.std.proofs.lemmas.Bool.{le-leb}
 use Rattle.pgn_lexer.specs.Scanned.{kind_of}
 use Rattle.pgn_game.specs.declared.judged.Judged.TheVariants.{Entry as InText}
 use Rattle.pgn_game.specs.declared.judged.Entry.TheVariants.{Marker}
-use Rattle.pgn_game.specs.declared.reason.Reason.TheVariants.{MarkerInVariation, ResultDiffers}
+use Rattle.pgn_game.proofs.Words.{MarkerInVariation, ResultDiffers, Pair, value_of}
 use Rattle.pgn_game.specs.Markers.{marker_text}
-use Rattle.pgn_game.specs.Pairs.{Pair, value_of}
 use Rattle.pgn_game.specs.Levels.{depth}
 use Rattle.pgn_game.specs.StoredPairs.{TagPairs}
 use Rattle.pgn_game.specs.FaultTable.{levels_of_part}

@@ -2,8 +2,7 @@ use Rattle.std.proofs.Common.{refl, sym, ap, ◌∙◌}
 use Rattle.pgn_lexer.specs.Scanned.{kind_of}
 use Rattle.pgn_lexer.specs.declared.token.TokenKind.{TokenKind}
 use Rattle.pgn_game.specs.declared.judged.Judged.TheVariants.{PairClose}
-use Rattle.pgn_game.specs.declared.reason.Reason.TheVariants.{ExpectedBracket}
-use Rattle.pgn_game.specs.declared.stage.Stage.TheVariants.{AfterValue}
+use Rattle.pgn_game.proofs.Words.{ExpectedBracket, AfterValue}
 use Rattle.pgn_game.specs.Progress.{next}
 use Rattle.pgn_game.specs.FaultTable.{refusal}
 use Rattle.pgn_game.proofs.judging.RefusalsByStage.{expected_bracket, close_refusal, close_next}

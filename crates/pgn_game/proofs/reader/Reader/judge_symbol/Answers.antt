@@ -1,9 +1,7 @@
-use Rattle.std.proofs.Common.{◌≡◌, ◌<◌, ℕ, Bool, true, false, List, Option, None, Some, refl, sym, ap, subst, ◌∙◌}
-use Rattle.std.specs.Prelude.{IfOk, IfSome, Ok, Result}
-use Rattle.chess_text.specs.declared.resolution.Played.{Played}
+use Rattle.std.proofs.Common.{◌≡◌, ◌<◌, ℕ, Bool, true, false, List, Option, None, Some, refl, sym, ap, subst, ◌∙◌, IfOk, IfSome, Ok, Result}
 use Rattle.pgn_lexer.specs.Tokens.{symbol}
 use Rattle.pgn_lexer.specs.declared.token.TokenKind.TheVariants as variants
-use Rattle.pgn_game.specs.declared.reason.Reason.{Reason}
+use Rattle.pgn_game.proofs.Words.{Played, Reason}
 use Rattle.pgn_game.specs.FaultTable.{is_score, marker_of}
 use Rattle.pgn_game.specs.Judgement.{IsLegal}
 use Rattle.pgn_game.proofs.judging.PartsToJudgement.{entry_goes}

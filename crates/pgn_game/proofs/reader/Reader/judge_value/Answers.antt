@@ -1,14 +1,10 @@
-use Rattle.std.proofs.Common.{◌≡◌, ◌&&◌, ◌≤◌, ◌+◌, false, not, Some, IsTrue, bytes_eq, codes, ℕ, length, Bool, true, nat_lt, List, Option, refl, sym, ap, subst, ◌∙◌}
-use Rattle.std.specs.Prelude.{IsSomeAnd, Result, Ok, Err, is_ok}
-use Rattle.chess_rules.specs.declared.position.Parts.{Parts}
+use Rattle.std.proofs.Common.{◌≡◌, ◌&&◌, ◌≤◌, ◌+◌, false, not, Some, IsTrue, bytes_eq, codes, ℕ, length, Bool, true, nat_lt, List, Option, refl, sym, ap, subst, ◌∙◌, IsSomeAnd, Result, Ok, Err, is_ok}
 use Rattle.std.proofs.lemmas.Bool.{le-ltb, ltb-false, true_from_ne_false, false≢true}
 use Rattle.pgn_layout.specs.TagLine.{escaped}
 use Rattle.pgn_lexer.specs.Scanned.{kind_of}
 use Rattle.pgn_lexer.specs.declared.token.TokenKind.{TokenKind}
 use Rattle.pgn_game.specs.declared.judged.Judged.TheVariants.{Value}
-use Rattle.pgn_game.specs.declared.reason.Reason.TheVariants.{ExpectedValue, BadResult, BadFen, TagLineTooLong}
-use Rattle.pgn_game.specs.declared.stage.Stage.TheVariants.{AfterName}
-use Rattle.pgn_game.specs.Game.{Part}
+use Rattle.pgn_game.proofs.Words.{Parts, ExpectedValue, BadResult, BadFen, TagLineTooLong, AfterName, Part}
 use Rattle.pgn_game.specs.FaultTable.{refusal, is_result as is_any_result}
 use Rattle.pgn_game.specs.Progress.{next}
 use Rattle.pgn_game.specs.ReaderState.{ReaderState, Agrees}

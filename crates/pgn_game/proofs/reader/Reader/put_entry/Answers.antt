@@ -1,5 +1,4 @@
-use Rattle.std.proofs.Common.{◌≡◌, max, ℕ, List, refl, ap, subst, ◌∙◌, arith}
-use Rattle.std.specs.Prelude.{Err}
+use Rattle.std.proofs.Common.{◌≡◌, max, ℕ, List, refl, ap, subst, ◌∙◌, arith, Err}
 use Rattle.std.proofs.Math.Nat.{le-max_left}
 use Rattle.std.proofs.lemmas.Result.{err_from_is_err_and}
 use Rattle.std.specs.Io.KnownBytes.{Appends}

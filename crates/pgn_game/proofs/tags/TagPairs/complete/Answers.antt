@@ -1,8 +1,7 @@
-use Rattle.std.proofs.Common.{◌≡◌, ℕ, ◌+◌, ◌≤◌, List, length, ap, sym, ◌∙◌}
+use Rattle.std.proofs.Common.{◌≡◌, ℕ, ◌+◌, ◌≤◌, List, length, ap, sym, ◌∙◌, take, drop, ◌++◌}
 use Rattle.pgn_layout.specs.TagLine.{escaped}
 use Rattle.pgn_game.proofs.pairs.SortedPairs.{named-last, completed}
 use Rattle.std.specs.List.{refill}
-use Rattle.std.proofs.Common.{take, drop, ◌++◌}
 use Rattle.std.proofs.Math.Seq.{take-append_seam}
 use Rattle.pgn_game.specs.Pairs.{Pair}
 use Rattle.pgn_game.proofs.tags.TagPairs.complete.Goals as goal

@@ -1,5 +1,4 @@
-use Rattle.std.proofs.Common.{◌≡◌, List, ◌-◌, length, ap, sym, ◌∙◌}
-use Rattle.std.specs.Prelude.{Some, slice_get}
+use Rattle.std.proofs.Common.{◌≡◌, List, ◌-◌, length, ap, sym, ◌∙◌, Some, slice_get}
 use Rattle.pgn_game.specs.Pairs.{Pair}
 use Rattle.pgn_game.proofs.pairs.SortedPairs.{begun-last}
 use Rattle.pgn_game.proofs.tags.TagPairs.pending_name.Goals as goal
