@@ -1,7 +1,8 @@
 -- The order of names is a strict order of all names; and pairs in this order.
-use Rattle.std.proofs.Common.{◌≡◌, ℕ, ◌<◌, ◌⊎◌, inl, inr, Bool, true, false, cond, List, [], ◌∷◌, refl, sym, ap, ◌∙◌, arith, Option, None, Some, le-ltb, lt-ltb, eq-eqb, ◌||◌, ◌&&◌, ◌==◌, nat_lt, bytes_eq, filter, is_some}
+use Rattle.std.proofs.Common.{◌≡◌, ℕ, ◌<◌, ◌⊎◌, inl, inr, Bool, true, false, cond, List, [], ◌∷◌, refl, sym, ap, ◌∙◌, arith, None, Some, le-ltb, lt-ltb, eq-eqb, ◌||◌, ◌&&◌, ◌==◌, nat_lt, bytes_eq, filter, is_some}
 use Rattle.std.specs.List.{AllByRecursion}
 use Rattle.std.proofs.ByRecursion.{All-weaker, all_kept_by}
+use Rattle.std.proofs.lemmas.Option.{none-some, same_Some}
 use Rattle.std.proofs.lemmas.Bool.{false≢true, or_cases, and_parts, ltb-true, eqb-true, cases_order}
 use Rattle.pgn_game.specs.Pairs.{Pair, value_of, has_pair, comes_before, insert_pair}
 use Rattle.pgn_game.specs.Spells.{AreDistinct}
@@ -127,9 +128,6 @@ distinct_in_order (q ∷ qs) h = (ap is_some (absent q.name qs h.0), distinct_in
 value_first : (q : Pair) (qs : List Pair) → value_of (q ∷ qs) q.name ≡ Some q.value
 value_first q qs = value_of-cons q qs q.name ∙ ap (λ b. pick b q.value (value_of qs q.name)) (bytes_eq-refl q.name q.name refl)
 
-is_not_there : (v : List ℕ) (o : Option (List ℕ)) → o ≡ Some v → o ≡ None → ⊥
-is_not_there v o e f = cc
-
 same_behind : (p q : Pair) (ps qs : List Pair) (n : List ℕ) → AllAfter p.name ps → AllAfter q.name qs → p.name ≡ q.name
     → value_of (p ∷ ps) n ≡ value_of (q ∷ qs) n → value_of ps n ≡ value_of qs n
 same_behind p q ps qs n h k same e = by_test (bytes_eq p.name n) refl
@@ -138,27 +136,22 @@ same_behind p q ps qs n h k same e = by_test (bytes_eq p.name n) refl
     by_test true is = let here = bytes_eq-true p.name n is in cc (here, same, absent p.name ps h, absent q.name qs k)
     by_test false is = cc (is, same, value_of-cons p ps n, value_of-cons q qs n, e)
 
-some_value : (v w : List ℕ) → Some v ≡ Some w → v ≡ w
-some_value v w e = cc
-
 pub same_pairs : (ps qs : List Pair) → InOrder ps → InOrder qs → ((name : List ℕ) → value_of ps name ≡ value_of qs name) → ps ≡ qs
 same_pairs [] [] h k e = refl
-same_pairs [] (q ∷ qs) h k e = absurd (is_not_there q.value (value_of (q ∷ qs) q.name) (value_first q qs) (sym (e q.name)))
-same_pairs (p ∷ ps) [] h k e = absurd (is_not_there p.value (value_of (p ∷ ps) p.name) (value_first p ps) (e p.name))
+same_pairs [] (q ∷ qs) h k e = absurd (none-some q.value (e q.name ∙ value_first q qs))
+same_pairs (p ∷ ps) [] h k e = absurd (none-some p.value (sym (e p.name) ∙ value_first p ps))
 same_pairs (p ∷ ps) (q ∷ qs) h k e = by_order (same_pairs ps qs h.1 k.1) (comparable p.name q.name)
   where
     here : p.name ≡ q.name → p ≡ q
     here same =
-        let value = some_value p.value q.value (sym (value_first p ps) ∙ e p.name ∙ ap (value_of (q ∷ qs)) same ∙ value_first q qs) in
+        let value = same_Some p.value q.value (sym (value_first p ps) ∙ e p.name ∙ ap (value_of (q ∷ qs)) same ∙ value_first q qs) in
         ap (λ n. record { name = n; value = p.value }) same ∙ ap (λ v. record { name = q.name; value = v }) value
 
     by_order : (((n : List ℕ) → value_of ps n ≡ value_of qs n) → ps ≡ qs) → Comparable p.name q.name → (p ∷ ps) ≡ (q ∷ qs)
     by_order rest (inl before) =
-        absurd (is_not_there p.value (value_of (p ∷ ps) p.name) (value_first p ps)
-        (e p.name ∙ absent p.name (q ∷ qs) (before, further_after p.name q.name qs before k.0)))
+        absurd (none-some p.value (sym (e p.name ∙ absent p.name (q ∷ qs) (before, further_after p.name q.name qs before k.0)) ∙ value_first p ps))
     by_order rest (inr (inl same)) =
         ap (λ x. x ∷ ps) (here same)
         ∙ ap (λ xs. q ∷ xs) (rest (λ n. same_behind p q ps qs n h.0 k.0 same (e n)))
     by_order rest (inr (inr before)) =
-        absurd (is_not_there q.value (value_of (q ∷ qs) q.name) (value_first q qs)
-        (sym (e q.name) ∙ absent q.name (p ∷ ps) (before, further_after q.name p.name ps before h.0)))
+        absurd (none-some q.value (sym (sym (e q.name) ∙ absent q.name (p ∷ ps) (before, further_after q.name p.name ps before h.0)) ∙ value_first q qs))

@@ -343,7 +343,3 @@ sound_at_none lexer reading games has_finished_game is_finished fault sound =
       between = λ is. absurd (cc);
       no_fault = λ is. absurd (cc);
     }
-
--- a fault is kept or not
-pub none_kept : (fault : Option Fault) (f : Fault) → fault ≡ None → fault ≡ Some f → ⊥
-none_kept fault f none kept = let same = sym none ∙ kept in absurd (cc)

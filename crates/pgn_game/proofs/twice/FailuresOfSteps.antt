@@ -3,18 +3,12 @@ use Rattle.std.proofs.Common.{◌≡◌, ℕ, Option, List, Result, Ok, Err, ref
 use Rattle.pgn_layout.specs.Device.{Device, IsStill, one_more}
 use Rattle.pgn_game.specs.declared.checked.Mark.{Mark as CodeMark}
 use Rattle.pgn_game.specs.declared.checked.Taken.{Taken}
-use Rattle.pgn_game.proofs.Words.{Token, Reason, ReadFault, WriteFault, Changed, Fault, Profile}
+use Rattle.pgn_game.proofs.Words.{Token, Reason, ReadFault, WriteFault, Fault, Profile}
 use Rattle.pgn_game.specs.Conversion.{CountsDevices}
-use Rattle.pgn_game.specs.ConverterCalls.{CountsReason}
 use Rattle.pgn_game.specs.CheckedConversion.{CountsThree}
 use Rattle.pgn_game.specs.Pass.{AfterStep, AfterTake, CountsReading, CountsStep, CountsTaken, CountsTaking, Pass}
 
 -- what the reader counts
-pub taking_of : (r : Reason) (o n : ℕ) → CountsReason r o n → CountsTaking r o n
-taking_of ReadFault o n h = absurd h
-taking_of Changed o n h = absurd h
-taking_of _ o n h = h
-
 devices_taken : (r : Reason) (s o n : ℕ) → CountsTaking r o n → CountsDevices r s s o n
 devices_taken ReadFault s o n h = absurd h
 devices_taken _ s o n h = (refl, h)

@@ -1,8 +1,9 @@
 use Rattle.std.proofs.Common.{◌≡◌, ℕ, ◌≤◌, ◌-◌, ◌^◌, None, length, arith, sym, ap, ◌∙◌, le_refl, length-take}
+use Rattle.std.proofs.lemmas.Option.{none-some}
 use Rattle.std.proofs.lemmas.Result.{err_from_is_err_and}
 use Rattle.pgn_game.specs.ConverterCalls.{Converter, at_token}
 use Rattle.pgn_game.proofs.ReaderFitsInMemory.{fits_alike}
-use Rattle.pgn_game.proofs.tokens.StepsAtEnd.{none_kept, not_just_finished, sound_behind_fault}
+use Rattle.pgn_game.proofs.tokens.StepsAtEnd.{not_just_finished, sound_behind_fault}
 use Rattle.pgn_game.proofs.tokens.StepsInPiece.{follows_front, front_all, front_game, front_fault, front_too_long, limit_left, front_used}
 use Rattle.pgn_game.proofs.converter.Converter.feed.Goals as goal
 
@@ -25,7 +26,7 @@ returns-in_err-used g c =
       fault = fed.fault;
       games = fed.games;
       probes = c.feed_front.ensures.probes;
-      again = λ f is. absurd (none_kept _ f none is);
+      again = λ f is. absurd (none-some f (sym none ∙ is));
       counted = λ free. fed.counted;
     })
 
@@ -58,7 +59,7 @@ returns-in-Game g c =
       fault = fed.fault;
       games = tt;
       probes = c.feed_front.ensures.probes;
-      again = λ f is. absurd (none_kept _ f none is);
+      again = λ f is. absurd (none-some f (sym none ∙ is));
       counted = λ free. fed.counted;
     }
 
@@ -97,7 +98,7 @@ returns-then-front-piece g c =
         ap (λ (s : Converter). s.reading.most_probes) c.self-2.view_is,
         c.feed_front.ensures.probes,
       );
-      again = λ f is. absurd (none_kept _ f none is);
+      again = λ f is. absurd (none-some f (sym none ∙ is));
       counted = λ free. rw c.too_long.ensures.fault fed.counted;
     }
 
@@ -132,7 +133,7 @@ returns-else-front-piece g c =
       fault = fed.fault;
       games = rw c.in-All.is at fed.games;
       probes = c.feed_front.ensures.probes;
-      again = λ f is. absurd (none_kept _ f none is);
+      again = λ f is. absurd (none-some f (sym none ∙ is));
       counted = λ free. fed.counted;
     }
 

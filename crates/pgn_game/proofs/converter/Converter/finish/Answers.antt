@@ -1,7 +1,8 @@
 use Rattle.std.proofs.Common.{rules, arith, refl, sym, ap, subst, ◌∙◌, Ok, None, Some}
+use Rattle.std.proofs.lemmas.Option.{none-some}
 use Rattle.pgn_game.specs.ConverterCalls.{Converter, Stands}
 use Rattle.pgn_game.proofs.ReaderFitsInMemory.{fits_reader}
-use Rattle.pgn_game.proofs.tokens.StepsAtEnd.{none_kept, sound_at_none, closed_none, closed_more, closed_game, closed_end, closed_fault}
+use Rattle.pgn_game.proofs.tokens.StepsAtEnd.{sound_at_none, closed_none, closed_more, closed_game, closed_end, closed_fault}
 use Rattle.pgn_game.proofs.tokens.StepsInPiece.{counts_step}
 use Rattle.pgn_game.specs.ConverterSteps.{AfterStepAtEnd}
 use Rattle.pgn_game.proofs.converter.Converter.finish.Goals as goal
@@ -115,7 +116,7 @@ pub returns-in-Ok-None-clause-none_just_finished : goal.returns-in-Ok-None-claus
 returns-in-Ok-None-clause-none_just_finished g c = tt
 
 pub returns-in-Ok-None-clause-again : goal.returns-in-Ok-None-clause-again
-returns-in-Ok-None-clause-again g c = λ f is. absurd (none_kept _ f (ap (λ (s : Converter). s.fault) (sym c.self.view_is) ∙ c.in_default.is) is)
+returns-in-Ok-None-clause-again g c = λ f is. absurd (none-some f (sym (ap (λ (s : Converter). s.fault) (sym c.self.view_is) ∙ c.in_default.is) ∙ is))
 
 pub returns-in-Err-clause-fault : goal.returns-in-Err-clause-fault
 returns-in-Err-clause-fault g c = rw c.in-Err.is at c.step_at_end.ensures.fault
@@ -124,7 +125,7 @@ pub returns-in-Err-clause-none_just_finished : goal.returns-in-Err-clause-none_j
 returns-in-Err-clause-none_just_finished g c = c.step_at_end.ensures.none_just_finished
 
 pub returns-in-Err-clause-again : goal.returns-in-Err-clause-again
-returns-in-Err-clause-again g c = λ f is. absurd (none_kept _ f (ap (λ (s : Converter). s.fault) (sym c.self.view_is) ∙ c.in_default.is) is)
+returns-in-Err-clause-again g c = λ f is. absurd (none-some f (sym (ap (λ (s : Converter). s.fault) (sym c.self.view_is) ∙ c.in_default.is) ∙ is))
 
 pub returns-in-Some-clause-fault : goal.returns-in-Some-clause-fault
 returns-in-Some-clause-fault g c = ap (λ (s : Converter). s.fault) (sym c.self.view_is) ∙ c.in-Some.is
@@ -133,7 +134,7 @@ pub returns-in-Some-clause-finished : goal.returns-in-Some-clause-finished
 returns-in-Some-clause-finished g c = c.requires.not_finished
 
 pub returns-in-Some-clause-counted : goal.returns-in-Some-clause-counted
-returns-in-Some-clause-counted g c = λ none. absurd (none_kept _ c.in-Some.fault none (ap (λ (s : Converter). s.fault) (sym c.self.view_is) ∙ c.in-Some.is))
+returns-in-Some-clause-counted g c = λ none. absurd (none-some c.in-Some.fault (sym none ∙ ap (λ (s : Converter). s.fault) (sym c.self.view_is) ∙ c.in-Some.is))
 
 pub returns-in-Some-clause-probes : goal.returns-in-Some-clause-probes
 returns-in-Some-clause-probes g c = omega arith
