@@ -1,5 +1,5 @@
 -- Steps of a reading in turn, up to the mark of its game.
-use Rattle.std.proofs.Common.{◌≡◌, ℕ, ◌+◌, ◌-◌, ◌<◌, inl, inr, true, false, List, [], ◌∷◌, ◌++◌, length, take, Option, None, Some, Ok, Err, refl, sym, ap, subst, ◌∙◌, append-nil, ◌||◌, ◌==◌, is_some, bytes_eq}
+use Rattle.std.proofs.Common.{◌≡◌, ℕ, ◌<◌, inl, inr, true, false, List, [], ◌∷◌, ◌++◌, length, take, Option, None, Some, Ok, Err, refl, sym, ap, subst, ◌∙◌, append-nil, ◌||◌, ◌==◌, is_some, bytes_eq}
 use Rattle.std.proofs.lemmas.Bool.{true≢false, and_parts, not-false}
 use Rattle.std.proofs.lemmas.Slice.Eq.{bytes_eq-Decides}
 use Rattle.std.proofs.KnownBytes.{Appends-nil, Appends-trans}

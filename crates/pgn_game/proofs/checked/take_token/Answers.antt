@@ -1,4 +1,4 @@
-use Rattle.std.proofs.Common.{rules, ◌≡◌, None, true, false, refl, sym, ap, ◌∙◌, is_some, option_map}
+use Rattle.std.proofs.Common.{rules, ◌≡◌, None, refl, sym, ap, ◌∙◌, is_some, option_map}
 use Rattle.pgn_lexer.specs.Scanned.{kind_of}
 use Rattle.pgn_game.specs.Markers.{marker_text}
 use Rattle.pgn_game.proofs.tokens.StepsAtEnd.{marker_or_end}

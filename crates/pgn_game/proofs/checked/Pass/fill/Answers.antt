@@ -1,4 +1,4 @@
-use Rattle.std.proofs.Common.{◌<◌, ◌≤◌, ◌-◌, true, [], length, refl, sym, ap, subst, ◌∙◌, inl, inr, arith, length-take-le}
+use Rattle.std.proofs.Common.{◌<◌, ◌≤◌, true, [], length, refl, sym, ap, subst, ◌∙◌, inl, inr, arith, length-take-le}
 use Rattle.std.specs.Io.KnownBytes.{Consumes}
 use Rattle.pgn_game.specs.Pass.{Pass}
 use Rattle.pgn_game.proofs.twice.BytesOfReading.{ended_here, fails_too_long, fails_unread, filled_here, front_fits, front_some, going_filled, kept_of, still_full, taken_front}
