@@ -22,7 +22,7 @@ bytes_eq-sym xs ys =
     same_bool (bytes_eq xs ys) (bytes_eq ys xs) (λ e. bytes_eq-refl ys xs (sym (bytes_eq-true xs ys e)))
     (λ e. bytes_eq-refl xs ys (sym (bytes_eq-true ys xs e)))
 
-pub no_value : (o : Option (List ℕ)) → is_some o ≡ false → o ≡ None
+pub no_value : {A : Type 0} (o : Option A) → is_some o ≡ false → o ≡ None
 no_value None e = refl
 no_value (Some v) e = absurd (false≢true (sym e))
 

@@ -1,5 +1,5 @@
 -- Steps in turn in a piece.
-use Rattle.std.proofs.Common.{◌≡◌, ℕ, ◌+◌, ◌-◌, ◌<◌, ◌≤◌, ◌^◌, zero, suc, false, List, [], ◌∷◌, ◌++◌, length, take, drop, Option, None, Some, refl, sym, ap, subst, ◌∙◌, append_assoc, append-nil, length-append, length-drop, length-take, length-take-le, le_refl, take_all, drop_of_length-le, inl, inr, arith, is_some, Ok, Err}
+use Rattle.std.proofs.Common.{◌≡◌, ℕ, ◌+◌, ◌-◌, ◌<◌, ◌≤◌, ◌^◌, zero, suc, List, [], ◌∷◌, ◌++◌, length, take, drop, Option, None, Some, refl, sym, ap, subst, ◌∙◌, append_assoc, append-nil, length-append, length-drop, length-take, length-take-le, le_refl, take_all, drop_of_length-le, inl, inr, arith, Ok, Err}
 use Rattle.std.proofs.Math.Seq.{take-add}
 use Rattle.std.proofs.lemmas.List.{take-append-drop, take-take, drop-take, drop-drop}
 use Rattle.pgn_lexer.specs.Tokens.{Token, EndsAt}
@@ -9,7 +9,7 @@ use Rattle.pgn_lexer.specs.Stands.{Follows, IsDecided, first, still}
 use Rattle.pgn_game.proofs.Words.{Reason, InputTooLong, Fault, Profile}
 use Rattle.pgn_game.specs.declared.accepted.Accepted.TheVariants.{More, Finished}
 use Rattle.pgn_game.specs.ReaderState.{ReaderState}
-use Rattle.pgn_game.specs.ConverterCalls.{FinishedGame, Converter, Stands, AreNext, FedAll, FedGame, FedToFault, StopsIn, too_long, CountsReason}
+use Rattle.pgn_game.specs.ConverterCalls.{Converter, Stands, AreNext, FedAll, FedGame, FedToFault, StopsIn, too_long, CountsReason}
 use Rattle.pgn_game.specs.ConverterSteps.{AfterStep, next_at, SoFar}
 use Rattle.pgn_game.proofs.tokens.OneMoreToken.{gains_none, gains_more, stops_more, games_still, counts_still}
 use Rattle.pgn_game.proofs.tokens.AcceptedToConverter.{still_none, still_none-none}
@@ -271,8 +271,3 @@ module _ (p : Profile) (u : List ℕ) (b : Option ℕ) (given : List Token) (pie
 -- what a step counts, after steps that counted nothing
 pub counts_step : (r : Reason) (x y z : ℕ) → y ≡ x → CountsReason r y z → CountsReason r x z
 counts_step r x y z same h = subst (λ n. CountsReason r n z) same h
-
--- no game is just finished
-pub none_just_finished : (o : Option FinishedGame) → is_some o ≡ false → o ≡ None
-none_just_finished None h = refl
-none_just_finished (Some finished) h = absurd (cc)

@@ -42,10 +42,6 @@ end_gains_nothing q p part k is free =
     let leads : next part k ≡ going part = ap (next part) k_is ∙ end_part part.stage part.pairs part.name part.items between in
     ap (λ n. drop (length (torn p part)) (text_next p n)) leads ∙ drop-length (torn p part)
 
-pub is_none : {A : Type 0} (o : Option A) → is_some o ≡ false → o ≡ None
-is_none None h = refl
-is_none (Some x) h = absurd (cc)
-
 -- a token that is not rejected, and shows no difference by its marker
 told_apart : (part : Part) (told : Option CodeMark) (at : ℕ) (k : Kind) (m : Marker) → next part k ≡ whole (record { pairs = part.pairs; items = part.items; marker = marker_text m })
     → shows_other told (next part k) (record { at = at; kind = k }) ≡ marks_differ told (Some m) at

@@ -1,8 +1,9 @@
 use Rattle.std.proofs.Common.{rules, ◌≡◌, None, refl, sym, ap, ◌∙◌, is_some, option_map}
 use Rattle.pgn_lexer.specs.Scanned.{kind_of}
 use Rattle.pgn_game.specs.Markers.{marker_text}
+use Rattle.pgn_game.proofs.pairs.ValuesByName.{no_value}
 use Rattle.pgn_game.proofs.tokens.StepsAtEnd.{marker_or_end}
-use Rattle.pgn_game.proofs.twice.AcceptedToTaken.{agrees_set, counting_new, fails, fails_at_end, fails_marks, is_none, taken_end, taken_game, taken_more, with_marker}
+use Rattle.pgn_game.proofs.twice.AcceptedToTaken.{agrees_set, counting_new, fails, fails_at_end, fails_marks, taken_end, taken_game, taken_more, with_marker}
 use Rattle.pgn_game.proofs.ReaderFitsInMemory.{reader_alike}
 use Rattle.pgn_game.proofs.checked.take_token.Goals as goal
 use Rattle.pgn_game.proofs.checked.take_token.Goals.{in-Some, in_default}
@@ -92,7 +93,7 @@ returns-clause-takes g c q part takes counts agrees =
     let here = agrees_set q part c.args.told c.args.at (kind_of c.args.kind) m old c.match-marker.reader c.accept.new.self (g.W.Sink.taken c.args.out.now) (g.W.Sink.taken c.accept.new.out) takes counts agrees c.of-marker.ensures set in
     let same = sym c.marks_differ.ensures ∙ c.if-marks_differ.false in (
       counting_new q part c.args.told c.args.at (kind_of c.args.kind) m old c.match-marker.reader c.accept.new.self (g.W.Sink.taken c.args.out.now) (g.W.Sink.taken c.accept.new.out) takes counts agrees c.of-marker.ensures set c.accept.ensures.profile,
-      taken_end q part c.args.told c.args.at (kind_of c.args.kind) m old c.match-marker.reader c.accept.new.self (g.W.Sink.taken c.args.out.now) (g.W.Sink.taken c.accept.new.out) takes counts agrees c.of-marker.ensures set c.in_default-accept.field-0 (sym mk ∙ c.in_default-marker.is) (sym c.is_end.ensures ∙ c.if-not-is_end.false) (is_none c.args.told (sym c.is_some.ensures ∙ c.if-is_some.false)) c.accept.ensures.profile (c.in_default-accept.ensures.accepts part here),
+      taken_end q part c.args.told c.args.at (kind_of c.args.kind) m old c.match-marker.reader c.accept.new.self (g.W.Sink.taken c.args.out.now) (g.W.Sink.taken c.accept.new.out) takes counts agrees c.of-marker.ensures set c.in_default-accept.field-0 (sym mk ∙ c.in_default-marker.is) (sym c.is_end.ensures ∙ c.if-not-is_end.false) (no_value c.args.told (sym c.is_some.ensures ∙ c.if-is_some.false)) c.accept.ensures.profile (c.in_default-accept.ensures.accepts part here),
     )
 
 pub returns-in-Some-marker-clause-behind : goal.returns-in-Some-marker-clause-behind

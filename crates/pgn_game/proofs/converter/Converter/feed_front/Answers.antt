@@ -5,8 +5,9 @@ use Rattle.std.proofs.lemmas.List.{take_rest}
 use Rattle.pgn_lexer.specs.Standing.{waiting}
 use Rattle.pgn_game.specs.ConverterCalls.{Converter, Stands}
 use Rattle.pgn_game.proofs.ReaderFitsInMemory.{fits_alike}
+use Rattle.pgn_game.proofs.pairs.ValuesByName.{no_value}
 use Rattle.pgn_game.proofs.tokens.StepsAtEnd.{sound_at_none}
-use Rattle.pgn_game.proofs.tokens.StepsInPiece.{lets_go, so_far_none, fed_behind, stands_here, so_far_more, fed_all, fed_game, fed_fault, counts_step, none_just_finished}
+use Rattle.pgn_game.proofs.tokens.StepsInPiece.{lets_go, so_far_none, fed_behind, stands_here, so_far_more, fed_all, fed_game, fed_fault, counts_step}
 use Rattle.pgn_game.proofs.converter.Converter.feed_front.Goals as goal
 
 pub loop-at-init : goal.loop-at-init
@@ -48,7 +49,7 @@ returns-in-Ok-None g c =
     let after = rw (is, take_rest) at step.after in
     let advances = rw (is, take_rest) at step.advances in
     let counted = rw is at step.counted in
-    let none = none_just_finished _ (rw is at step.just_finished) in
+    let none = no_value _ (rw is at step.just_finished) in
     record {
       used = le_refl _;
       feeds = λ p u b given stands follows.
@@ -89,7 +90,7 @@ loop-at-preserved g c =
       goes = omega (arith, advances, c.loop-at.invariant.goes);
       fault = fault;
       games = rw is at c.step-step.ensures.games ∙ c.loop-at.invariant.games;
-      none_just_finished = none_just_finished _ (rw is at c.step-step.ensures.just_finished);
+      none_just_finished = no_value _ (rw is at c.step-step.ensures.just_finished);
       not_finished = c.step-step.ensures.finished ∙ c.loop-at.invariant.not_finished;
       probes = omega (arith, c.step-step.ensures.probes, c.loop-at.invariant.probes);
       counted = counted ∙ c.loop-at.invariant.counted;
@@ -144,7 +145,7 @@ returns-in-Err g c =
       advances = tt;
       not_finished = step.finished ∙ so.not_finished;
       fault = rw c.in-Err.is at step.fault;
-      games = (rw c.in-Err.is at step.games ∙ so.games, none_just_finished _ (rw c.in-Err.is at step.just_finished));
+      games = (rw c.in-Err.is at step.games ∙ so.games, no_value _ (rw c.in-Err.is at step.just_finished));
       probes = omega (arith, step.probes, so.probes);
       counted = counts_step c.in-Err.fault.reason _ _ _ so.counted counted;
     }
