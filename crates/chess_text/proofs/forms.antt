@@ -3,6 +3,7 @@ pub mod AgreeingAreFound
 pub mod BeforeMarks
 pub mod CastlingForms
 pub mod CastlingMoves
+pub mod CommonForms
 pub mod FormToSpelling
 pub mod MoverOfMove
 pub mod OnlyElement

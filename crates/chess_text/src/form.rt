@@ -1,6 +1,6 @@
 //! The text of a move by itself: standard algebraic notation before a position gives it a meaning.
 
-ghost use Rattle.std.specs.Prelude.{◌≡◌};
+ghost use Rattle.std.specs.Prelude.{◌≡◌, [], ◌∷◌, IfSome, None, Some};
 ghost use Rattle.chess_text.specs.Form as spec;
 
 use chess_rules::{Kind, Promotion, Square};
@@ -40,6 +40,55 @@ pub enum Form {
 /// assert_eq!(read_form(b"castles"), None);
 /// ```
 pub fn read_form(text: &[u8]) -> Option<Form>
+    ensures { result ≡ spec.form_of text.now }
+{
+    match common_form(text) {
+        Some(form) => Some(form),
+        None => read_other(text),
+    }
+}
+
+// The form of a text with one of the most common shapes: `e4`, `Nf3`, `Nxf3` or `exd5`. For any
+// other text it is `None`.
+fn common_form(text: &[u8]) -> Option<Form>
+    ensures { IfSome result (λ form. spec.form_of text.now ≡ Some form) }
+{
+    match *text {
+        [file, rank] => move_form(Kind::Pawn, None, file, rank),
+        [letter, file, rank] => move_form(kind_of_letter(letter)?, None, file, rank),
+        [first, b'x', file, rank] => capture_form(first, file, rank),
+        _ => None,
+    }
+}
+
+// The form of a capture without a promotion: the first byte is a piece's letter or a pawn's file.
+fn capture_form(first: u8, file: u8, rank: u8) -> Option<Form>
+    ensures { IfSome result (λ form. spec.form_of (first ∷ 120 ∷ file ∷ rank ∷ []) ≡ Some form) }
+{
+    match kind_of_letter(first) {
+        Some(kind) => move_form(kind, None, file, rank),
+        None => move_form(Kind::Pawn, Some(file_of(first)?), file, rank),
+    }
+}
+
+// The form of a move to the square that the two bytes name. The origin's file may be given.
+fn move_form(kind: Kind, origin_file: Option<u8>, file: u8, rank: u8) -> Option<Form>
+    ensures { result ≡ spec.piece_move_if (Some kind) origin_file None
+        (spec.square_of (spec.file_of file) (spec.rank_of rank)) None }
+{
+    let to = square_of(file, rank)?;
+    Some(Form::Man {
+        kind,
+        file: origin_file,
+        rank: None,
+        to,
+        promotion: None,
+    })
+}
+
+// The form of any text. Few texts need it, so it is not inlined.
+#[inline(never)]
+fn read_other(text: &[u8]) -> Option<Form>
     ensures { result ≡ spec.form_of text.now }
 {
     let bare = before_marks(text);
@@ -171,8 +220,15 @@ fn before_promotion(text: &[u8]) -> &[u8]
 fn target_at_end(text: &[u8]) -> Option<Square>
     ensures { result ≡ spec.target_at_end text.now }
 {
-    let file = file_of(last_byte(front(text)))?;
-    let rank = rank_of(last_byte(text))?;
+    square_of(last_byte(front(text)), last_byte(text))
+}
+
+// The square that a file's letter and a rank's digit name.
+fn square_of(file: u8, rank: u8) -> Option<Square>
+    ensures { result ≡ spec.square_of (spec.file_of file) (spec.rank_of rank) }
+{
+    let file = file_of(file)?;
+    let rank = rank_of(rank)?;
     Square::new(file, rank)
 }
 
@@ -214,12 +270,21 @@ fn kind_of_text(text: &[u8]) -> Option<Kind>
 {
     match *text {
         [] => Some(Kind::Pawn),
-        [b'K'] => Some(Kind::King),
-        [b'Q'] => Some(Kind::Queen),
-        [b'R'] => Some(Kind::Rook),
-        [b'B'] => Some(Kind::Bishop),
-        [b'N'] => Some(Kind::Knight),
-        [b'P'] => Some(Kind::Pawn),
+        [byte] => kind_of_letter(byte),
+        _ => None,
+    }
+}
+
+fn kind_of_letter(byte: u8) -> Option<Kind>
+    ensures { result ≡ spec.kind_of_text (byte ∷ []) }
+{
+    match byte {
+        b'K' => Some(Kind::King),
+        b'Q' => Some(Kind::Queen),
+        b'R' => Some(Kind::Rook),
+        b'B' => Some(Kind::Bishop),
+        b'N' => Some(Kind::Knight),
+        b'P' => Some(Kind::Pawn),
         _ => None,
     }
 }

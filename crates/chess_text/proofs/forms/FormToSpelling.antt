@@ -46,7 +46,7 @@ ends_in s n e h = snoc_again s (not_empty s n e h) ∙ ap (λ c. front s ++ c �
 is_it : (s : List ℕ) (n : ℕ) → (last_byte s == n) ≡ true → 0 < n → s ≡ front s ++ n ∷ []
 is_it s n h low = ends_in s n (eqb-true (last_byte s) n h) low
 
-file_byte : (c n : ℕ) → file_of c ≡ Some n → (c ≡ 97 + n) × (nat_lt n 8 ≡ true)
+pub file_byte : (c n : ℕ) → file_of c ≡ Some n → (c ≡ 97 + n) × (nat_lt n 8 ≡ true)
 file_byte c n h = by_test (nat_le 97 c && nat_le c 104) refl h
   where
     by_test : (b : Bool) → (nat_le 97 c && nat_le c 104) ≡ b → (if b then Some (c - 97) else None) ≡ Some n → (c ≡ 97 + n) × (nat_lt n 8 ≡ true)
@@ -87,7 +87,7 @@ capture_spelled s = by_test (last_byte s == 120) refl
     by_test true e = record { text = codes "x"; joined = is_it s 120 e (omega arith); fits = refl }
     by_test false e = record { text = []; joined = sym (append-nil s); fits = refl }
 
-target_spelled : (s : List ℕ) (to : Square) → target_at_end s ≡ Some to → (s ≡ front (front s) ++ square_text to) × (on_board to ≡ true)
+pub target_spelled : (s : List ℕ) (to : Square) → target_at_end s ≡ Some to → (s ≡ front (front s) ++ square_text to) × (on_board to ≡ true)
 target_spelled s to h = by_bytes (file_of (last_byte (front s))) (rank_of (last_byte s)) refl refl h
   where
     by_bytes : (f r : Option ℕ) → file_of (last_byte (front s)) ≡ f → rank_of (last_byte s) ≡ r → square_of f r ≡ Some to → (s ≡ front (front s) ++ square_text to) × (on_board to ≡ true)
@@ -156,7 +156,7 @@ own_letter Bishop = refl
 own_letter Knight = refl
 own_letter Pawn = refl
 
-kind_spelled : (s : List ℕ) (k : Kind) → kind_of_text s ≡ Some k → is_among s (letter_texts k) ≡ true
+pub kind_spelled : (s : List ℕ) (k : Kind) → kind_of_text s ≡ Some k → is_among s (letter_texts k) ≡ true
 kind_spelled [] k h = ap (λ j. is_among [] (letter_texts j)) (sym (same_some Pawn k h))
 kind_spelled (c ∷ d ∷ s) k h = absurd (cc)
 kind_spelled (c ∷ []) k h = ap (λ d. is_among (d ∷ []) (letter_texts k)) (sym (eqb-true (letter k) c (found (λ j. letter j == c) kinds k h))) ∙ own_letter k

@@ -1,0 +1,63 @@
+-- The forms of texts of the commonest shapes.
+use Rattle.std.proofs.Common.{◌≡◌, ℕ, ◌+◌, true, ◌&&◌, nat_lt, List, [], ◌∷◌, ◌++◌, length, get_or, append-nil, refl, sym, ap, ap₂, subst, arith}
+use Rattle.std.specs.Prelude.{Option, None, Some, IfSome, codes}
+use Rattle.chess_rules.specs.declared.piece.Kind.{Kind}
+use Rattle.chess_rules.specs.declared.piece.Kind.TheVariants.{Pawn}
+use Rattle.chess_rules.specs.Square.{Square, on_board}
+use Rattle.chess_text.specs.declared.form.Form.{Form}
+use Rattle.chess_text.specs.declared.form.Form.TheVariants.{Man}
+use Rattle.chess_text.specs.Letter.{file_letter, square_text}
+use Rattle.chess_text.specs.Form.{is_among, letter_texts, hint_text, capture_texts, below_eight, file_of, rank_of, square_of, kind_of_text, piece_move_if, form_of}
+use Rattle.chess_text.proofs.forms.SpellingToForm.{form_read}
+use Rattle.chess_text.proofs.forms.FormToSpelling.{file_byte, target_spelled, kind_spelled}
+
+-- what the last two bytes say, where what stands before them is known
+module _ (k : Kind) (file : Option ℕ) (a b : ℕ) (moved : Option Form) (is : moved ≡ piece_move_if (Some k) file None (square_of (file_of a) (rank_of b)) None) where
+  -- s is the whole text: the letters, the file, the x and the two bytes
+  reads : (s letters capture : List ℕ) → is_among letters (letter_texts k) ≡ true → is_among capture capture_texts ≡ true → below_eight file ≡ true
+      → ((to : Square) → a ∷ b ∷ [] ≡ square_text to → s ≡ letters ++ hint_text file_letter file ++ [] ++ capture ++ square_text to ++ [])
+      → IfSome moved (λ f. form_of s ≡ Some f)
+  reads s letters capture letters_fit capture_fits below joined =
+      subst (λ (o : Option Form). IfSome o (λ f. form_of s ≡ Some f)) (sym is) (by_target (square_of (file_of a) (rank_of b)) refl)
+    where
+      by_target : (o : Option Square) → square_of (file_of a) (rank_of b) ≡ o → IfSome (piece_move_if (Some k) file None o None) (λ f. form_of s ≡ Some f)
+      by_target None e = tt
+      by_target (Some to) e =
+          let target : (a ∷ b ∷ [] ≡ square_text to) × (on_board to ≡ true) = target_spelled (a ∷ b ∷ []) to e in
+          form_read s (Man k file None to None)
+          (record {
+            bare = s;
+            marks = [];
+            joined = sym (append-nil s);
+            spells_bare = record { letters = letters; capture = capture; promoted = []; joined = joined to target.0; letters_fit = letters_fit; capture_fits = capture_fits; promoted_fits = refl };
+            marks_alone = refl;
+          })
+          (ap₂ (λ x y. (x && true) && y) below target.1)
+
+-- e4
+pub pawn_move : (s : List ℕ) (moved : Option Form) → length s ≡ 2 → moved ≡ piece_move_if (Some Pawn) None None (square_of (file_of (get_or s 0 0)) (rank_of (get_or s 1 0))) None → IfSome moved (λ f. form_of s ≡ Some f)
+pawn_move (a ∷ b ∷ []) moved two is = reads Pawn None a b moved is (a ∷ b ∷ []) [] [] refl refl refl (λ to e. e)
+pawn_move [] moved two is = absurd (omega (arith, two))
+pawn_move (a ∷ []) moved two is = absurd (omega (arith, two))
+pawn_move (a ∷ b ∷ c ∷ s) moved two is = absurd (omega (arith, two))
+
+-- Nf3
+pub piece_move : (s : List ℕ) (k : Kind) (moved : Option Form) → length s ≡ 3 → kind_of_text (get_or s 0 0 ∷ []) ≡ Some k
+    → moved ≡ piece_move_if (Some k) None None (square_of (file_of (get_or s 1 0)) (rank_of (get_or s 2 0))) None → IfSome moved (λ f. form_of s ≡ Some f)
+piece_move (c ∷ a ∷ b ∷ []) k moved three named is =
+    reads k None a b moved is (c ∷ a ∷ b ∷ []) (c ∷ []) [] (kind_spelled (c ∷ []) k named) refl refl (λ to e. ap (λ t. c ∷ t) e)
+piece_move [] k moved three named is = absurd (omega (arith, three))
+piece_move (c ∷ []) k moved three named is = absurd (omega (arith, three))
+piece_move (c ∷ a ∷ []) k moved three named is = absurd (omega (arith, three))
+piece_move (c ∷ a ∷ b ∷ d ∷ s) k moved three named is = absurd (omega (arith, three))
+
+-- Nxf3
+pub piece_capture : (c a b : ℕ) (k : Kind) (moved : Option Form) → kind_of_text (c ∷ []) ≡ Some k → moved ≡ piece_move_if (Some k) None None (square_of (file_of a) (rank_of b)) None → IfSome moved (λ f. form_of (c ∷ 120 ∷ a ∷ b ∷ []) ≡ Some f)
+piece_capture c a b k moved named is =
+    reads k None a b moved is (c ∷ 120 ∷ a ∷ b ∷ []) (c ∷ []) (codes "x") (kind_spelled (c ∷ []) k named) refl refl (λ to e. ap (λ t. c ∷ 120 ∷ t) e)
+
+-- exd5
+pub pawn_capture : (c a b file : ℕ) (moved : Option Form) → file_of c ≡ Some file → moved ≡ piece_move_if (Some Pawn) (Some file) None (square_of (file_of a) (rank_of b)) None → IfSome moved (λ f. form_of (c ∷ 120 ∷ a ∷ b ∷ []) ≡ Some f)
+pawn_capture c a b file moved named is =
+    let origin : (c ≡ 97 + file) × (nat_lt file 8 ≡ true) = file_byte c file named in
+    reads Pawn (Some file) a b moved is (c ∷ 120 ∷ a ∷ b ∷ []) [] (codes "x") refl refl origin.1 (λ to e. ap₂ (λ d t. d ∷ 120 ∷ t) origin.0 e)
