@@ -21,6 +21,7 @@ use arrayvec::ArrayVec;
 /// Such a piece is the first on a rank, a file or a diagonal from the target, or for a knight a
 /// jump away. From no other square has a piece of the kind a legal move to the target. There are at
 /// most 8, each once.
+#[inline(always)]
 pub fn origins(position: &Position, kind: Kind, target: Square) -> ArrayVec<Square, 8>
     ensures exactly { IsPermutation (candidates position.now kind target) result.items }
     ensures once { AllPairs ◌≢◌ result.items }

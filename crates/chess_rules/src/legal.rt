@@ -1,7 +1,7 @@
 //! Which moves are legal, and check.
 
 ghost use Rattle.chess_rules.specs.Step.{is_on_board};
-ghost use Rattle.std.specs.Prelude.{IsTrue, ◌≡◌, ◌+◌, ◌<◌, ◌≤◌, ◌^◌, true, false};
+ghost use Rattle.std.specs.Prelude.{IsTrue, ◌≡◌, ◌+◌, ◌<◌, ◌≤◌, ◌^◌, Some, true, false};
 ghost use Rattle.chess_rules.specs.Candidate.{pair_count};
 ghost use Rattle.chess_rules.specs.Legal as spec;
 
@@ -41,6 +41,19 @@ pub fn try_pair(position: &Position, mv: Move, probes: &mut Probes) -> Option<Po
     } else {
         None
     }
+}
+
+/// Returns the position after a legal move. (FIDE Laws 3.10.1)
+///
+/// The move must be legal. This tries no pair.
+#[inline(always)]
+pub fn position_after(position: &Position, mv: &Move) -> Position
+    requires { IsTrue (spec.is_legal position.now mv.now) }
+    ensures { spec.legal position.now mv.now ≡ Some result }
+{
+    mv.from.recall_invariant();
+    mv.to.recall_invariant();
+    position.after(mv)
 }
 
 // Whether the move is legal: `try_pair` without the position after it.

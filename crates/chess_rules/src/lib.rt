@@ -22,7 +22,7 @@ mod tests;
 mod word;
 
 pub use candidates::origins;
-pub use legal::{has_legal_move, in_check, try_pair};
+pub use legal::{has_legal_move, in_check, position_after, try_pair};
 pub use piece::{Colour, Kind, Piece, Promotion};
 pub use position::{Move, Parts, Position, PositionFault, Rights};
 pub use probes::Probes;

@@ -342,7 +342,10 @@ fn pawn_advances(position: &Position, mv: &Move) -> bool
 fn pawn_takes(position: &Position, mv: &Move) -> bool
     ensures { result ≡ ways.pawn_takes position.now mv.now }
 {
-    is_pawn_capture(position, mv) || is_en_passant(position, mv)
+    if position.board().is_empty(mv.to) {
+        return is_target(position.target(), mv.to) && is_en_passant(position, mv);
+    }
+    is_pawn_capture(position, mv)
 }
 
 // Whether a pawn of the side to move, which the origin has, may go so. (FIDE Laws 3.7)
@@ -407,10 +410,9 @@ pub(crate) fn is_step(position: &Position, mv: &Move) -> bool
 fn king_goes_far(position: &Position, mv: &Move) -> bool
     ensures { result ≡ ways.king_goes_far position.now mv.now }
 {
-    mv.from.file().abs_diff(mv.to.file()) > 1
-        && position
-            .board()
-            .has_piece(mv.from, position.side(), Kind::King)
+    position.recall_invariant();
+    mv.from.recall_invariant();
+    mv.from.is(position.king()) && mv.from.file().abs_diff(mv.to.file()) > 1
 }
 
 // Whether the move, if it is a step, moves one piece and does nothing more.

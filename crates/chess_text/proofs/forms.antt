@@ -5,6 +5,7 @@ pub mod CastlingForms
 pub mod CastlingMoves
 pub mod CommonForms
 pub mod FormToSpelling
+pub mod MoveKept
 pub mod MoverOfMove
 pub mod OnlyElement
 pub mod PawnWays

@@ -1,10 +1,10 @@
 //! The move that a form names in a position. (PGN 8.2.3)
 
-ghost use Rattle.std.specs.Prelude.{◌≡◌, ◌≢◌, ◌+◌, ◌<◌, ◌≤◌, ◌^◌, Err, IsTrue, length};
+ghost use Rattle.std.specs.Prelude.{◌≡◌, ◌≢◌, ◌+◌, ◌<◌, ◌≤◌, ◌^◌, ◌&&◌, Err, IsTrue, Some, length};
 ghost use Rattle.std.specs.Result.{OnOk};
 ghost use Rattle.chess_rules.specs.declared.piece.Kind.TheVariants.{King};
 ghost use Rattle.chess_rules.specs.Candidate.{candidates};
-ghost use Rattle.chess_rules.specs.Legal.{is_legal};
+ghost use Rattle.chess_rules.specs.Legal.{is_legal, legal};
 ghost use Rattle.chess_rules.specs.Step.{own};
 ghost use Rattle.chess_text.specs.declared.form.Form.TheVariants.{Castle, Man};
 ghost use Rattle.chess_text.specs.declared.resolution.SanFault.TheVariants.{Ambiguous};
@@ -12,7 +12,9 @@ ghost use Rattle.chess_text.specs.MoveOfForm as spec;
 
 use crate::form::Form;
 use chess_rules::laws::candidates_are_complete;
-use chess_rules::{Colour, Kind, Move, Position, Probes, Promotion, Square, origins, try_pair};
+use chess_rules::{
+    Colour, Kind, Move, Position, Probes, Promotion, Square, origins, position_after, try_pair,
+};
 
 /// A legal move, and the position after it.
 #[derive(Clone, Copy)]
@@ -166,30 +168,29 @@ fn is_fit(hint: Option<u8>, number: u8) -> bool
     }
 }
 
-// The move with the position after it, if it is legal, no castling, and begins where the hints
-// allow.
-fn try_piece_move(
-    position: &Position,
-    hints: Hints,
-    mv: Move,
-    probes: &mut Probes,
-) -> Option<Played>
+// Whether the move is legal, no castling, and begins where the hints allow.
+fn agrees(position: &Position, hints: Hints, mv: &Move, probes: &mut Probes) -> bool
     requires { probes.old + 1 < 2 ^ 32 }
-    ensures played { result
-        ≡ spec.played (spec.piece_move_fits position.now hints.file hints.rank mv) position.now mv }
+    ensures agrees { result ≡ (is_legal position.now mv.now
+        && spec.piece_move_fits position.now hints.file hints.rank mv.now) }
     ensures count { probes.new ≡ probes.old + 1 }
 {
-    let Some(next) = try_pair(position, mv, probes) else {
-        return None;
-    };
-    if hints.fit(mv.from) && !is_castling(position, &mv) {
-        Some(Played { mv, next })
-    } else {
-        None
+    if try_pair(position, *mv, probes).is_none() {
+        return false;
     }
+    hints.fit(mv.from) && !is_castling(position, mv)
 }
 
-// Tries the move from each origin, until a second one agrees.
+// The legal move, with the position after it.
+fn play(position: &Position, mv: Move) -> Played
+    requires { IsTrue (is_legal position.now mv) }
+    ensures { spec.with_next mv (legal position.now mv) ≡ Some result }
+{
+    let next = position_after(position, &mv);
+    Played { mv, next }
+}
+
+// Tries the move from each origin, until a second one agrees. The position after it is made once.
 fn resolve_piece_move(
     position: &Position,
     kind: Kind,
@@ -217,12 +218,15 @@ fn resolve_piece_move(
             to,
             promotion,
         };
-        if let Some(played) = try_piece_move(position, hints, mv, probes) {
+        if agrees(position, hints, &mv, probes) {
             if found.is_some() {
                 return Err(SanFault::Ambiguous);
             }
-            found = Some(played);
+            found = Some(mv);
         }
     }
-    found.ok_or(SanFault::NoMove)
+    match found {
+        None => Err(SanFault::NoMove),
+        Some(mv) => Ok(play(position, mv)),
+    }
 }

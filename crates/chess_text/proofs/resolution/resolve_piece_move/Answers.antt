@@ -1,81 +1,139 @@
-use Rattle.std.proofs.Common.{List, Option, sym, ◌∙◌, ap, subst, arith}
-use Rattle.std.specs.Option.{option_to_list}
+use Rattle.std.proofs.Common.{◌≡◌, List, length, sym, refl, ◌∙◌, ap, subst, arith}
+use Rattle.std.specs.Prelude.{Option, Some}
+use Rattle.std.specs.Option.{ok_or, option_to_list}
 use Rattle.std.specs.List.Sorted.{IsPermutation}
+use Rattle.std.proofs.lemmas.Bool.{and_parts}
 use Rattle.std.proofs.lemmas.List.Sorted.{length_permutation}
 use Rattle.chess_rules.specs.Square.{Square}
 use Rattle.chess_rules.specs.Candidate.{candidates}
+use Rattle.chess_rules.specs.Legal.{is_legal}
 use Rattle.chess_text.specs.declared.form.Form.TheVariants.{Man}
 use Rattle.chess_text.specs.declared.resolution.Played.{Played}
+use Rattle.chess_text.specs.declared.resolution.SanFault.TheVariants.{NoMove}
+use Rattle.chess_text.specs.MoveOfForm.{move_from, piece_move_fits, played}
+use Rattle.chess_text.proofs.forms.MoveKept.{with_position, IsLegalIfAny, kept_is_some, kept_next, fitting_is_played, other_is_not_played}
 use Rattle.chess_text.proofs.forms.OnlyElement.{still_none, first_one, second_one, not_at_once, at_the_end}
 use Rattle.chess_text.proofs.forms.PieceForms.{from_square, reads_candidates, tried_at}
 use Rattle.chess_text.proofs.resolution.resolve_piece_move.Goals as goal
-use Rattle.chess_text.proofs.resolution.resolve_piece_move.Goals.{in-Some+else-is_some, in_default}
+use Rattle.chess_text.proofs.resolution.resolve_piece_move.Goals.{then-agrees+else-is_some, else-agrees}
+
+permuted : (xs ys zs : List Square) → zs ≡ ys → IsPermutation xs ys → IsPermutation xs zs
+permuted xs ys zs same perm = subst (λ (us : List Square). IsPermutation xs us) (sym same) perm
 
 pub returns-then-is_some-clause-answer : goal.returns-then-is_some-clause-answer
 returns-then-is_some-clause-answer c =
     let p = c.args.position.now in
     let xs = c.as_slice-origin-items.result.now in
-    let perm = subst (λ (ys : List Square). IsPermutation (candidates p c.args.kind c.args.to) ys) (sym c.as_slice-origin-items.ensures.value) c.origins-origins.ensures.exactly in
-    second_one (from_square p (Man c.args.kind c.args.hints.file c.args.hints.rank c.args.to c.args.promotion) c.args.to c.args.promotion) xs c.loop-origin.origin-index c.loop-origin.found c.loop-origin.invariant.found
-    c.origin-item.result c.try_piece_move.result c.in-Some.played (omega arith)
-    (tried_at p c.args.kind c.args.hints.file c.args.hints.rank c.args.to c.args.promotion xs perm c.loop-origin.origin-index c.origin-item.result c.try_piece_move.result (omega arith) c.origin-item.is c.try_piece_move.ensures.played)
-    c.in-Some.is (sym c.is_some.ensures ∙ c.if-is_some.true)
+    let perm = permuted (candidates p c.args.kind c.args.to) _ xs c.as_slice-origin-items.ensures.value c.origins-origins.ensures.exactly in
+    let h = from_square p (Man c.args.kind c.args.hints.file c.args.hints.rank c.args.to c.args.promotion) c.args.to c.args.promotion in
+    let m = move_from c.args.to c.args.promotion c.origin-item.result in
+    let fits = piece_move_fits p c.args.hints.file c.args.hints.rank m in
+    let tried =
+    tried_at p c.args.kind c.args.hints.file c.args.hints.rank c.args.to c.args.promotion xs perm c.loop-origin.origin-index c.origin-item.result (played fits p m) (omega arith) c.origin-item.is refl in
+    let agreed = sym c.agrees.ensures.agrees ∙ c.if-agrees.true in
+    let (x, is) = kept_next p m (and_parts (is_legal p m) fits agreed).0 in
+    second_one h xs c.loop-origin.origin-index (with_position p c.loop-origin.found) c.loop-origin.invariant.found c.origin-item.result (played fits p m) x (omega arith) tried
+    (fitting_is_played p m fits agreed ∙ is)
+    (kept_is_some p c.loop-origin.found c.loop-origin.invariant.legal ∙ (sym c.is_some.ensures ∙ c.if-is_some.true))
     ∙ reads_candidates p c.args.kind c.args.hints.file c.args.hints.rank c.args.to c.args.promotion c.candidates_are_complete.ensures xs perm
 
 pub returns-then-is_some-clause-two : goal.returns-then-is_some-clause-two
-returns-then-is_some-clause-two c =
-    λ _.
-    let late = not_at_once (from_square c.args.position.now (Man c.args.kind c.args.hints.file c.args.hints.rank c.args.to c.args.promotion) c.args.to c.args.promotion) c.as_slice-origin-items.result.now c.loop-origin.origin-index c.loop-origin.found c.loop-origin.invariant.found
-    (sym c.is_some.ensures ∙ c.if-is_some.true) in
-    omega (arith, late, c.try_piece_move.ensures.count, c.loop-origin.invariant.tried)
+returns-then-is_some-clause-two c _ =
+    let p = c.args.position.now in
+    let h = from_square p (Man c.args.kind c.args.hints.file c.args.hints.rank c.args.to c.args.promotion) c.args.to c.args.promotion in
+    let late =
+    not_at_once h c.as_slice-origin-items.result.now c.loop-origin.origin-index (with_position p c.loop-origin.found) c.loop-origin.invariant.found
+    (kept_is_some p c.loop-origin.found c.loop-origin.invariant.legal ∙ (sym c.is_some.ensures ∙ c.if-is_some.true)) in
+    omega (arith, late, c.agrees.ensures.count, c.loop-origin.invariant.tried)
 
 pub returns-then-is_some-clause-most : goal.returns-then-is_some-clause-most
 returns-then-is_some-clause-most c =
     let p = c.args.position.now in
     let xs = c.as_slice-origin-items.result.now in
-    let perm = subst (λ (ys : List Square). IsPermutation (candidates p c.args.kind c.args.to) ys) (sym c.as_slice-origin-items.ensures.value) c.origins-origins.ensures.exactly in
-    omega (arith, length_permutation (candidates p c.args.kind c.args.to) xs perm, c.try_piece_move.ensures.count, c.loop-origin.invariant.tried)
+    let perm = permuted (candidates p c.args.kind c.args.to) _ xs c.as_slice-origin-items.ensures.value c.origins-origins.ensures.exactly in
+    omega (arith, length_permutation (candidates p c.args.kind c.args.to) xs perm, c.agrees.ensures.count, c.loop-origin.invariant.tried)
 
 pub loop-origin-preserved : goal.loop-origin-preserved
 loop-origin-preserved c =
     let p = c.args.position.now in
     let xs = c.as_slice-origin-items.result.now in
+    let perm = permuted (candidates p c.args.kind c.args.to) _ xs c.as_slice-origin-items.ensures.value c.origins-origins.ensures.exactly in
     let h = from_square p (Man c.args.kind c.args.hints.file c.args.hints.rank c.args.to c.args.promotion) c.args.to c.args.promotion in
-    let perm = subst (λ (ys : List Square). IsPermutation (candidates p c.args.kind c.args.to) ys) (sym c.as_slice-origin-items.ensures.value) c.origins-origins.ensures.exactly in
-    let tried = tried_at p c.args.kind c.args.hints.file c.args.hints.rank c.args.to c.args.promotion xs perm c.loop-origin.origin-index c.origin-item.result c.try_piece_move.result (omega arith) c.origin-item.is c.try_piece_move.ensures.played in
-    record {
-      found =
-          elim c.match-try_piece_move.branch [
-            | in-Some+else-is_some w ↦
-                first_one h xs c.loop-origin.origin-index c.loop-origin.found c.loop-origin.invariant.found c.origin-item.result c.try_piece_move.result w.in-Some.played (omega arith) tried w.in-Some.is (sym w.is_some.ensures ∙ w.if-is_some.false)
-                ∙ ap (λ (o : Option Played). option_to_list o) (sym w.found-is)
-            | in_default w ↦
-                still_none h xs c.loop-origin.origin-index c.loop-origin.found c.loop-origin.invariant.found c.origin-item.result c.try_piece_move.result (omega arith) tried w.in_default.is
-                ∙ ap (λ (o : Option Played). option_to_list o) (sym w.found-is)
-          ];
-      tried = omega (arith, c.try_piece_move.ensures.count, c.loop-origin.invariant.tried);
-    }
+    let m = move_from c.args.to c.args.promotion c.origin-item.result in
+    let fits = piece_move_fits p c.args.hints.file c.args.hints.rank m in
+    let tried =
+    tried_at p c.args.kind c.args.hints.file c.args.hints.rank c.args.to c.args.promotion xs perm c.loop-origin.origin-index c.origin-item.result (played fits p m) (omega arith) c.origin-item.is refl in
+    elim c.if-agrees.branch [
+      | then-agrees+else-is_some w ↦
+          let agreed = sym c.agrees.ensures.agrees ∙ w.if-agrees.true in
+          let legal = (and_parts (is_legal p m) fits agreed).0 in
+          let (x, is) = kept_next p m legal in
+          record {
+            found =
+                first_one h xs c.loop-origin.origin-index (with_position p c.loop-origin.found) c.loop-origin.invariant.found c.origin-item.result (played fits p m) x (omega arith) tried
+                (fitting_is_played p m fits agreed ∙ is)
+                (kept_is_some p c.loop-origin.found c.loop-origin.invariant.legal ∙ (sym w.is_some.ensures ∙ w.if-is_some.false))
+                ∙ (ap (λ (o : Option Played). option_to_list o) (sym is)
+                ∙ ap (λ o. option_to_list (with_position p o)) (sym w.found-is));
+            legal = subst (λ o. IsLegalIfAny p o) (sym w.found-is) legal;
+            tried = omega (arith, c.agrees.ensures.count, c.loop-origin.invariant.tried);
+          }
+      | else-agrees w ↦
+          record {
+            found =
+                still_none h xs c.loop-origin.origin-index (with_position p c.loop-origin.found) c.loop-origin.invariant.found c.origin-item.result (played fits p m) (omega arith) tried
+                (other_is_not_played p m fits (sym c.agrees.ensures.agrees ∙ w.if-agrees.false))
+                ∙ ap (λ o. option_to_list (with_position p o)) (sym w.found-is);
+            legal = subst (λ o. IsLegalIfAny p o) (sym w.found-is) c.loop-origin.invariant.legal;
+            tried = omega (arith, c.agrees.ensures.count, c.loop-origin.invariant.tried);
+          }
+    ]
 
-pub returns-clause-answer : goal.returns-clause-answer
-returns-clause-answer c =
+pub returns-in-None-clause-answer : goal.returns-in-None-clause-answer
+returns-in-None-clause-answer c =
     let p = c.args.position.now in
     let xs = c.as_slice-origin-items.result.now in
-    let perm = subst (λ (ys : List Square). IsPermutation (candidates p c.args.kind c.args.to) ys) (sym c.as_slice-origin-items.ensures.value) c.origins-origins.ensures.exactly in
-    c.ok_or.ensures.value
-    ∙ at_the_end (from_square p (Man c.args.kind c.args.hints.file c.args.hints.rank c.args.to c.args.promotion) c.args.to c.args.promotion) xs c.loop-origin.origin-index c.loop-origin.found c.loop-origin.invariant.found (omega arith)
-    ∙ reads_candidates p c.args.kind c.args.hints.file c.args.hints.rank c.args.to c.args.promotion c.candidates_are_complete.ensures xs perm
+    let perm = permuted (candidates p c.args.kind c.args.to) _ xs c.as_slice-origin-items.ensures.value c.origins-origins.ensures.exactly in
+    let h = from_square p (Man c.args.kind c.args.hints.file c.args.hints.rank c.args.to c.args.promotion) c.args.to c.args.promotion in
+    ap (λ o. ok_or (with_position p o) NoMove) (sym c.in-None.is)
+    ∙ (at_the_end h xs c.loop-origin.origin-index (with_position p c.loop-origin.found) c.loop-origin.invariant.found (omega (arith, c.loop-origin-test.false))
+    ∙ reads_candidates p c.args.kind c.args.hints.file c.args.hints.rank c.args.to c.args.promotion c.candidates_are_complete.ensures xs perm)
 
-pub returns-clause-each : goal.returns-clause-each
-returns-clause-each c =
-    λ _.
+pub returns-in-None-clause-each : goal.returns-in-None-clause-each
+returns-in-None-clause-each c _ =
     let p = c.args.position.now in
     let xs = c.as_slice-origin-items.result.now in
-    let perm = subst (λ (ys : List Square). IsPermutation (candidates p c.args.kind c.args.to) ys) (sym c.as_slice-origin-items.ensures.value) c.origins-origins.ensures.exactly in
-    omega (arith, length_permutation (candidates p c.args.kind c.args.to) xs perm, c.loop-origin.invariant.tried)
+    let perm = permuted (candidates p c.args.kind c.args.to) _ xs c.as_slice-origin-items.ensures.value c.origins-origins.ensures.exactly in
+    omega (arith, length_permutation (candidates p c.args.kind c.args.to) xs perm, c.loop-origin.invariant.tried, c.loop-origin-test.false, c.loop-origin.auto.origin-index-end)
 
-pub returns-clause-most : goal.returns-clause-most
-returns-clause-most c =
+pub returns-in-None-clause-most : goal.returns-in-None-clause-most
+returns-in-None-clause-most c =
     let p = c.args.position.now in
     let xs = c.as_slice-origin-items.result.now in
-    let perm = subst (λ (ys : List Square). IsPermutation (candidates p c.args.kind c.args.to) ys) (sym c.as_slice-origin-items.ensures.value) c.origins-origins.ensures.exactly in
-    omega (arith, length_permutation (candidates p c.args.kind c.args.to) xs perm, c.loop-origin.invariant.tried)
+    let perm = permuted (candidates p c.args.kind c.args.to) _ xs c.as_slice-origin-items.ensures.value c.origins-origins.ensures.exactly in
+    omega (arith, length_permutation (candidates p c.args.kind c.args.to) xs perm, c.loop-origin.invariant.tried, c.loop-origin.auto.origin-index-end)
+
+pub returns-in-Some-clause-answer : goal.returns-in-Some-clause-answer
+returns-in-Some-clause-answer c =
+    let p = c.args.position.now in
+    let xs = c.as_slice-origin-items.result.now in
+    let perm = permuted (candidates p c.args.kind c.args.to) _ xs c.as_slice-origin-items.ensures.value c.origins-origins.ensures.exactly in
+    let h = from_square p (Man c.args.kind c.args.hints.file c.args.hints.rank c.args.to c.args.promotion) c.args.to c.args.promotion in
+    ap (λ (o : Option Played). ok_or o NoMove) (sym c.play.ensures)
+    ∙ ap (λ o. ok_or (with_position p o) NoMove) (sym c.in-Some.is)
+    ∙ (at_the_end h xs c.loop-origin.origin-index (with_position p c.loop-origin.found) c.loop-origin.invariant.found (omega (arith, c.loop-origin-test.false))
+    ∙ reads_candidates p c.args.kind c.args.hints.file c.args.hints.rank c.args.to c.args.promotion c.candidates_are_complete.ensures xs perm)
+
+pub returns-in-Some-clause-each : goal.returns-in-Some-clause-each
+returns-in-Some-clause-each c _ =
+    let p = c.args.position.now in
+    let xs = c.as_slice-origin-items.result.now in
+    let perm = permuted (candidates p c.args.kind c.args.to) _ xs c.as_slice-origin-items.ensures.value c.origins-origins.ensures.exactly in
+    omega (arith, length_permutation (candidates p c.args.kind c.args.to) xs perm, c.loop-origin.invariant.tried, c.loop-origin-test.false, c.loop-origin.auto.origin-index-end)
+
+pub returns-in-Some-clause-most : goal.returns-in-Some-clause-most
+returns-in-Some-clause-most c =
+    let p = c.args.position.now in
+    let xs = c.as_slice-origin-items.result.now in
+    let perm = permuted (candidates p c.args.kind c.args.to) _ xs c.as_slice-origin-items.ensures.value c.origins-origins.ensures.exactly in
+    omega (arith, length_permutation (candidates p c.args.kind c.args.to) xs perm, c.loop-origin.invariant.tried, c.loop-origin.auto.origin-index-end)

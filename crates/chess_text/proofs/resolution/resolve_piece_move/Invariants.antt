@@ -2,13 +2,15 @@ use Rattle.std.proofs.Common.{◌≡◌, ◌+◌, take}
 use Rattle.std.specs.List.{filter_map}
 use Rattle.std.specs.Option.{option_to_list}
 use Rattle.chess_text.specs.declared.form.Form.TheVariants.{Man}
+use Rattle.chess_text.proofs.forms.MoveKept.{with_position, IsLegalIfAny}
 use Rattle.chess_text.proofs.forms.PieceForms.{from_square}
 use Rattle.chess_text.proofs.resolution.resolve_piece_move.Given as goal
 
--- what the origins so far gave, and how many pairs were tried
+-- what the origins so far gave, that it is legal, and how many pairs were tried
 abbrev pub invariant-loop-origin : goal.invariant-loop-origin
 invariant-loop-origin l =
     record {
-      found : filter_map (from_square l.position (Man l.fn.kind l.hints.file l.hints.rank l.to l.promotion) l.to l.promotion) (take l.origin-index l.origin-items) ≡ option_to_list l.found;
+      found : filter_map (from_square l.position (Man l.fn.kind l.hints.file l.hints.rank l.to l.promotion) l.to l.promotion) (take l.origin-index l.origin-items) ≡ option_to_list (with_position l.position l.found);
+      legal : IsLegalIfAny l.position l.found;
       tried : l.probes ≡ l.fn.probes + l.origin-index;
     }

@@ -1,0 +1,46 @@
+-- The move that a search has kept, with the position after it.
+use Rattle.std.proofs.Common.{◌≡◌, Bool, true, false, ◌&&◌, refl, sym, ◌∙◌, ap}
+use Rattle.std.specs.Prelude.{Option, None, Some, is_some}
+use Rattle.std.proofs.lemmas.Bool.{false≢true, and_parts}
+use Rattle.chess_rules.specs.declared.position.Move.{Move}
+use Rattle.chess_rules.specs.declared.position.Parts.{Parts}
+use Rattle.chess_rules.specs.Legal.{legal, is_legal}
+use Rattle.chess_text.specs.declared.resolution.Played.{Played}
+use Rattle.chess_text.specs.MoveOfForm.{with_next, played}
+
+abbrev pub with_position : Parts → Option Move → Option Played
+with_position p None = None
+with_position p (Some m) = with_next m (legal p m)
+
+-- such a move is legal
+abbrev pub IsLegalIfAny : Parts → Option Move → Type 0
+IsLegalIfAny p None = Unit {0}
+IsLegalIfAny p (Some m) = is_legal p m ≡ true
+
+some_next : (m : Move) (o : Option Parts) → is_some o ≡ true → is_some (with_next m o) ≡ true
+some_next m None h = absurd (false≢true h)
+some_next m (Some q) h = refl
+
+pub kept_is_some : (p : Parts) (o : Option Move) → IsLegalIfAny p o → is_some (with_position p o) ≡ is_some o
+kept_is_some p None h = refl
+kept_is_some p (Some m) h = some_next m (legal p m) h
+
+-- a legal move has a position after it
+pub kept_next : (p : Parts) (m : Move) → is_legal p m ≡ true → (x : Played) × (with_next m (legal p m) ≡ Some x)
+kept_next p m h = by_next (legal p m) h
+  where
+    by_next : (o : Option Parts) → is_some o ≡ true → (x : Played) × (with_next m o ≡ Some x)
+    by_next None g = absurd (false≢true g)
+    by_next (Some q) g = (record { mv = m; next = q }, refl)
+
+-- what is found from a move is it with that position, if it is legal and fits, and else nothing
+pub fitting_is_played : (p : Parts) (m : Move) (fits : Bool) → (is_legal p m && fits) ≡ true → played fits p m ≡ with_next m (legal p m)
+fitting_is_played p m fits h = ap (λ (b : Bool). played b p m) (and_parts (is_legal p m) fits h).1
+
+pub other_is_not_played : (p : Parts) (m : Move) (fits : Bool) → (is_legal p m && fits) ≡ false → played fits p m ≡ None
+other_is_not_played p m false h = refl
+other_is_not_played p m true h = by_next (legal p m) h
+  where
+    by_next : (o : Option Parts) → (is_some o && true) ≡ false → with_next m o ≡ None
+    by_next None g = refl
+    by_next (Some q) g = absurd (false≢true (sym g))
