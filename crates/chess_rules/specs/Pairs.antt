@@ -7,7 +7,7 @@ use Rattle.chess_rules.specs.declared.direction.TheConstants.{DIRECTIONS, JUMPS}
 use Rattle.chess_rules.specs.declared.direction.Direction.{Direction}
 use Rattle.chess_rules.specs.declared.direction.Jump.{Jump}
 use Rattle.chess_rules.specs.declared.piece.Kind.{Kind}
-use Rattle.chess_rules.specs.declared.piece.Kind.TheVariants.{King, Queen, Knight, Pawn}
+use Rattle.chess_rules.specs.declared.piece.Kind.TheVariants.{King, Knight, Pawn}
 use Rattle.chess_rules.specs.declared.piece.Promotion.{Promotion}
 use Rattle.chess_rules.specs.declared.piece.Promotion.TheVariants as promotions
 use Rattle.chess_rules.specs.declared.position.Move.{Move}

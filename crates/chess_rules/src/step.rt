@@ -1,6 +1,7 @@
 //! One step (pseudo-legal move) of the side to move: which pairs are one, and the board after it.
 
-ghost use Rattle.std.specs.Prelude.{◌≡◌, ◌<◌, IsTrue, Some, None, if◌then◌else◌, is_some};
+ghost use Rattle.std.specs.Prelude.{◌≡◌, ◌<◌, IsTrue, Some, None, if◌then◌else◌, is_some, false};
+ghost use Rattle.chess_rules.specs.Board.{at, has_colour};
 ghost use Rattle.chess_rules.specs.Plain as ways;
 ghost use Rattle.chess_rules.specs.declared.piece.Kind.TheVariants.{King, Pawn};
 ghost use Rattle.chess_rules.specs.Step as spec;
@@ -362,26 +363,24 @@ fn pawn_goes(position: &Position, mv: &Move) -> bool
     pawn_takes(position, mv)
 }
 
-// Whether a piece of this kind on the origin may go so; it is no pawn. (FIDE Laws 3.1)
+// Whether a piece of this kind on the origin may go so. It is no pawn, and the target has no piece of
+// its side. (FIDE Laws 3.1)
 fn piece_goes(position: &Position, kind: Kind, mv: &Move) -> bool
     requires own { IsTrue (spec.own position.now kind mv.now.from) }
     requires no_pawn { ¬ (kind ≡ Pawn) }
+    requires free { has_colour position.now.side (at position.now.board mv.now.to) ≡ false }
     ensures { result ≡ spec.is_piece_step position.now mv.now }
 {
-    let board = position.board();
-    let side = position.side();
     if mv.promotion.is_some() {
         return false;
     }
-    if board.has_colour(mv.to, side) {
-        return false;
-    }
-    piece_attacks(board, kind, side, mv.from, mv.to)
+    piece_attacks(position.board(), kind, position.side(), mv.from, mv.to)
 }
 
 // Whether this move of a king is a step to a neighbouring square, or castling (FIDE Laws 3.8).
 fn king_goes(position: &Position, mv: &Move) -> bool
-    requires { IsTrue (spec.own position.now King mv.now.from) }
+    requires own { IsTrue (spec.own position.now King mv.now.from) }
+    requires free { has_colour position.now.side (at position.now.board mv.now.to) ≡ false }
     ensures { result ≡ ways.king_goes position.now mv.now }
 {
     piece_goes(position, Kind::King, mv)
@@ -389,14 +388,19 @@ fn king_goes(position: &Position, mv: &Move) -> bool
         || castles_long(position, mv)
 }
 
-// Whether the move is a step of the side to move.
+// Whether the move is a step of the side to move. The cheapest tests are first.
 pub(crate) fn is_step(position: &Position, mv: &Move) -> bool
     ensures { result ≡ is_some (spec.board_after position.now mv.now) }
 {
-    let Some(piece) = position.board().at(mv.from) else {
+    let board = position.board();
+    let side = position.side();
+    if board.has_colour(mv.to, side) {
+        return false;
+    }
+    let Some(piece) = board.at(mv.from) else {
         return false;
     };
-    if !position.side().is(piece.colour) {
+    if !side.is(piece.colour) {
         return false;
     }
     match piece.kind {

@@ -432,20 +432,21 @@ castles_means p m right wing h =
     from : m.from ≡ home p 4
     from = squares_same m.from (home p 4) (first_true (same_square m.from (home p 4)) _ leads)
 
+pub castling_ends_empty : (p : Parts) (m : Move) (wing : Wing) → IsWing wing → Castles p m wing → is_empty p.board m.to ≡ true
+castling_ends_empty p m wing is_wing h =
+    subst (λ (s : Square). is_empty p.board s ≡ true) (sym h.to)
+    (between_empty p.board (home p 4) (home p wing.rook) (home p wing.end) h.clear (record { file = is_wing.end_below; rank = home_below p.side })
+    (is_wing.between_end p.side))
+
 pub castling_lands : (p : Parts) (m : Move) (wing : Wing) → IsWing wing → OnBoard m.from → OnBoard m.to → Castles p m wing → Lands p m
 castling_lands p m wing is_wing on_from on_to h =
     record {
       on_from = on_from;
       on_to = on_to;
-      free = λ c. empty_free c King (at p.board m.to) empty;
+      free = λ c. empty_free c King (at p.board m.to) (castling_ends_empty p m wing is_wing h);
       alike = λ c. ap (has_piece c King) (arrives_as p m h.plain);
       no_pawn = λ edge. ap is_pawn (arrives_as p m h.plain) ∙ king_is_no_pawn p.side (at p.board m.from) h.king;
     }
-  where
-    empty : is_empty p.board m.to ≡ true
-    empty =
-        between_empty p.board (home p 4) (home p wing.rook) m.to h.clear on_to
-        (subst (λ (s : Square). strictly_between (home p 4) s (home p wing.rook) ≡ true) (sym h.to) (is_wing.between_end p.side))
 
 pub castling_stays : (p : Parts) (m : Move) (wing : Wing) → Sound p → IsWing wing → OnBoard m.from → OnBoard m.to → Castles p m wing → Stays p m (castled p m wing.rook wing.crossing)
 castling_stays p m wing sound is_wing on_from on_to h =

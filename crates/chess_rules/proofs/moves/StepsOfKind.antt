@@ -1,5 +1,5 @@
 -- A piece steps only in the ways of its kind.
-use Rattle.std.proofs.Common.{◌≡◌, arith, Bool, true, false, not, ◌&&◌, ◌||◌, refl, sym, ◌∙◌, ap}
+use Rattle.std.proofs.Common.{◌≡◌, arith, Bool, true, false, not, ◌&&◌, ◌||◌, inl, inr, refl, sym, ◌∙◌, ap}
 use Rattle.std.specs.Prelude.{Option, None, Some, is_none, is_some, ◌==◌, if◌then◌else◌}
 use Rattle.std.proofs.lemmas.Bool.{false≢true}
 use Rattle.chess_rules.specs.declared.piece.Colour.{Colour}
@@ -10,13 +10,13 @@ use Rattle.chess_rules.specs.declared.position.Move.{Move}
 use Rattle.chess_rules.specs.declared.position.Parts.{Parts}
 use Rattle.chess_rules.specs.Square.{Square, gap}
 use Rattle.chess_rules.specs.Board.{Board, at, is_empty, other, has_colour, has_piece, kind_number, same_colour}
-use Rattle.chess_rules.specs.Attacks.{attacks, cell_attacks, kind_attacks}
-use Rattle.chess_rules.specs.Step.{own, is_target, is_piece_step, is_pawn_way, is_pawn_step, promotion_fits, is_advance, is_double_step, crossed, is_pawn_capture, captured_pawn, is_en_passant, castles_short, castles_long, short_right, long_right, short_wing, long_wing, board_after}
-use Rattle.chess_rules.proofs.squares.AllSquares.{first_true, second_true, both_true}
+use Rattle.chess_rules.specs.Attacks.{attacks, cell_attacks, is_ahead, kind_attacks}
+use Rattle.chess_rules.specs.Step.{own, pawn_rank, double_rank, is_target, is_piece_step, is_pawn_way, is_pawn_step, promotion_fits, is_advance, is_double_step, crossed, is_pawn_capture, captured_pawn, is_en_passant, castles_short, castles_long, short_right, long_right, short_wing, long_wing, board_after}
+use Rattle.chess_rules.proofs.squares.AllSquares.{split_or, first_true, second_true, both_true}
 use Rattle.chess_rules.proofs.rays.WalkToBetween.{equal_from, equal_tests}
 use Rattle.chess_rules.proofs.positions.RulesOfPosition.{to_false}
-use Rattle.chess_rules.proofs.rays.AttacksByRay.{kinds_same, colours_same}
-use Rattle.chess_rules.proofs.moves.StepsKeepBoard.{one_kind, colour_of_piece, castles_means, pawn_attack}
+use Rattle.chess_rules.proofs.rays.AttacksByRay.{kinds_same, colours_same, none_or_all}
+use Rattle.chess_rules.proofs.moves.StepsKeepBoard.{one_kind, colour_of_piece, not_both, short_is_wing, long_is_wing, castles_means, castling_ends_empty, pawn_attack}
 use Rattle.chess_rules.proofs.moves.OneWayToStep.{no_pawn_moves, pawn_of_step, pawn_of_en_passant}
 
 -- The five ways, one by one.
@@ -152,6 +152,40 @@ attack_is_step p m k stands no_pawn plain free =
     sym (attacks_by p.side k (at p.board m.from) p.board m.from m.to stands)
     ∙ left_open (has_colour p.side (at p.board m.from)) (own p Pawn m.from) (is_none m.promotion) (attacks p.board m.from m.to) (has_colour p.side (at p.board m.to))
     (colour_of_piece p.side k (at p.board m.from) stands) (no_way p m k Pawn (own p Pawn m.from) stands no_pawn (λ h. h)) plain free
+
+-- A target with a piece of the side to move.
+
+module _ (p : Parts) (m : Move) (mine : has_colour p.side (at p.board m.to) ≡ true) where
+  not_empty_there : is_empty p.board m.to ≡ true → ⊥
+  not_empty_there h = false≢true (sym (none_or_all p.side (at p.board m.to) mine) ∙ h)
+
+  no_way_there : is_pawn_way p m ≡ true → ⊥
+  no_way_there h =
+      elim (split_or (is_advance p m) (is_double_step p m || is_pawn_capture p m) h) [
+        | inl one ↦ not_empty_there (second_true ((m.from.file == m.to.file) && is_ahead p.side m.from.rank m.to.rank) (is_empty p.board m.to) one)
+        | inr more ↦ elim (split_or (is_double_step p m) (is_pawn_capture p m) more) [
+          | inl two ↦ not_empty_there (second_true (is_empty p.board (crossed m)) (is_empty p.board m.to)
+              (second_true ((m.from.file == m.to.file) && ((m.from.rank == pawn_rank p.side) && (m.to.rank == double_rank p.side))) _ two))
+          | inr takes ↦ not_both p.side (at p.board m.to) mine (second_true (attacks p.board m.from m.to) _ takes)
+        ]
+      ]
+
+  no_pawn_there : is_pawn_step p m ≡ true → ⊥
+  no_pawn_there h = no_way_there (first_true (is_pawn_way p m) (promotion_fits p m) (second_true (own p Pawn m.from) _ h))
+
+  no_passing_there : is_en_passant p m ≡ true → ⊥
+  no_passing_there h =
+      not_empty_there (second_true (is_target p.target m.to) _ (second_true (own p Pawn m.from && promotion_fits p m) _
+      (first_true _ (attacks p.board m.from m.to && has_piece (other p.side) Pawn (at p.board (captured_pawn m))) h)))
+
+  pub none_steps_there : false ≡ is_some (board_after p m)
+  none_steps_there =
+      no_own_piece_taken p m mine
+      ∙ piece_alone (is_piece_step p m) (is_pawn_step p m) (is_en_passant p m) (castles_short p m) (castles_long p m) _ _ _ _
+      (to_false (is_pawn_step p m) no_pawn_there)
+      (to_false (is_en_passant p m) no_passing_there)
+      (to_false (castles_short p m) (λ h. not_empty_there (castling_ends_empty p m short_wing short_is_wing (castles_means p m (short_right p.side p.rights) short_wing h))))
+      (to_false (castles_long p m) (λ h. not_empty_there (castling_ends_empty p m long_wing long_is_wing (castles_means p m (long_right p.side p.rights) long_wing h))))
 
 -- A pawn's step.
 
