@@ -87,7 +87,7 @@ fn reaching(kind: Kind, colour: Colour, to: Square) -> u64
 {
     match kind {
         Kind::King => adjacent(to),
-        Kind::Queen => lines(to) | diagonals(to),
+        Kind::Queen => aligned(to),
         Kind::Rook => lines(to),
         Kind::Bishop => diagonals(to),
         Kind::Knight => knights_to(to),
@@ -181,6 +181,13 @@ fn diagonals(target: Square) -> u64
     DIAGONALS[target.index()]
 }
 
+// The others of its rank, its file and its diagonals.
+pub(crate) fn aligned(target: Square) -> u64
+    ensures { Places result (λ s. walk.is_aligned s target) }
+{
+    lines(target) | diagonals(target)
+}
+
 // The squares from which a pawn of the colour attacks it.
 fn pawns_to(by: Colour, target: Square) -> u64
     ensures { Places result (λ s. walk.reaches Pawn by s target) }
@@ -217,7 +224,7 @@ pub(crate) fn sees(from: Square, to: Square) -> bool
     ensures { result ≡ walk.is_aligned from to }
 {
     from.recall_invariant();
-    has(lines(to) | diagonals(to), from.index())
+    has(aligned(to), from.index())
 }
 
 // Whether the piece on `from`, if there is one, attacks `to` if all squares between are empty.

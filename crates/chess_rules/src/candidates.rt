@@ -1,6 +1,6 @@
 //! The origins from which a piece may reach a square, seen from that square.
 
-ghost use Rattle.std.specs.Prelude.{◌≡◌, ◌<◌, ◌≤◌, ◌≢◌, AllPairs, length};
+ghost use Rattle.std.specs.Prelude.{◌≡◌, ◌<◌, ◌≤◌, ◌≢◌, AllPairs, false, length};
 ghost use Rattle.std.specs.List.Sorted.{IsPermutation};
 ghost use Rattle.arrayvec.specs.ArrayVec.{array_vec_len};
 ghost use Rattle.chess_rules.specs.Candidate.{candidates};
@@ -8,12 +8,12 @@ ghost use Rattle.chess_rules.specs.Pairs as spec;
 ghost use Rattle.chess_rules.specs.Walk.{jump_numbered};
 ghost use Rattle.chess_rules.specs.Words.{members};
 
-use crate::attack::{first_pieces, knights_to};
+use crate::attack::{aligned, first_pieces, knights_to};
 use crate::direction::landing;
 use crate::piece::Kind;
 use crate::position::Position;
 use crate::square::Square;
-use crate::word::{lowest, with};
+use crate::word::{has_several, lowest, with};
 use arrayvec::ArrayVec;
 
 /// Returns the squares from which a piece of the kind, of the side to move, sees the target.
@@ -32,6 +32,20 @@ pub fn origins(position: &Position, kind: Kind, target: Square) -> ArrayVec<Squa
     match kind {
         Kind::Knight => squares_of(own & knights_to(target)),
         _ => squares_of(own & first_pieces(position.board(), target)),
+    }
+}
+
+/// Returns `false` only if `origins` lists at most one square for the kind and the target.
+///
+/// This looks through pieces, so it may return `true` for one origin or none. It is cheaper than
+/// `origins`: for most moves it already says that no other piece can go there.
+pub fn may_have_two_origins(position: &Position, kind: Kind, target: Square) -> bool
+    ensures { result ≡ false → length (candidates position.now kind target) ≤ 1 }
+{
+    let own = position.board().pieces(position.side(), kind);
+    match kind {
+        Kind::Knight => has_several(own & knights_to(target)),
+        _ => has_several(own & aligned(target)),
     }
 }
 

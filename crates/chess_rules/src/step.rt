@@ -363,8 +363,8 @@ fn pawn_goes(position: &Position, mv: &Move) -> bool
     pawn_takes(position, mv)
 }
 
-// Whether a piece of this kind on the origin may go so. It is no pawn, and the target has no piece of
-// its side. (FIDE Laws 3.1)
+// Whether a piece of this kind on the origin may go so. It is no pawn, and no piece of its side is
+// on the target. (FIDE Laws 3.1)
 fn piece_goes(position: &Position, kind: Kind, mv: &Move) -> bool
     requires own { IsTrue (spec.own position.now kind mv.now.from) }
     requires no_pawn { ¬ (kind ≡ Pawn) }

@@ -1,6 +1,6 @@
 //! Words of 64 bits, each a set of squares: bit i belongs to the square with place i.
 
-ghost use Rattle.std.specs.Prelude.{◌≡◌, ◌<◌, ◌^◌};
+ghost use Rattle.std.specs.Prelude.{◌≡◌, ◌<◌, ◌≤◌, ◌^◌, false, length};
 ghost use Rattle.chess_rules.specs.Words as spec;
 ghost use Rattle.chess_rules.specs.Words.{Carries, IsHighest, IsLowest, Sets};
 
@@ -53,4 +53,11 @@ pub(crate) fn highest(word: u64) -> usize
     ensures { IsHighest word result }
 {
     63 - word.leading_zeros() as usize
+}
+
+// Whether the set has more than one place.
+pub(crate) fn has_several(word: u64) -> bool
+    ensures { result ≡ false → length (spec.members word) ≤ 1 }
+{
+    word != 0 && with(word, lowest(word), false) != 0
 }

@@ -1,21 +1,22 @@
 -- The sets of the code have exactly the candidates.
-use Rattle.std.proofs.Common.{◌≡◌, ℕ, ◌<◌, ◌≤◌, Bool, true, ◌&&◌, List, length, get_or, refl, sym, ◌∙◌, ap, ap₂, arith}
-use Rattle.std.specs.Prelude.{Option, None, Some, is_some, nat_lt}
+use Rattle.std.proofs.Common.{◌≡◌, ℕ, ◌<◌, ◌≤◌, Bool, true, false, ◌&&◌, List, [], ◌∷◌, length, cond, get_or, refl, sym, ◌∙◌, ap, ap₂, arith}
+use Rattle.std.specs.Prelude.{Option, None, Some, filter, is_some, nat_lt}
 use Rattle.std.specs.Int.Bits.{bit_and}
+use Rattle.std.proofs.lemmas.Bool.{false≢true}
 use Rattle.std.proofs.lemmas.Bool.Decides.{nat_tests}
 use Rattle.chess_rules.specs.declared.piece.Colour.{Colour}
 use Rattle.chess_rules.specs.declared.piece.Kind.{Kind}
 use Rattle.chess_rules.specs.declared.piece.Kind.TheVariants.{Knight}
 use Rattle.chess_rules.specs.declared.piece.Piece.{Piece}
 use Rattle.chess_rules.specs.declared.position.Parts.{Parts}
-use Rattle.chess_rules.specs.Square.{Square, is_jump}
+use Rattle.chess_rules.specs.Square.{Square, squares, is_jump}
 use Rattle.chess_rules.specs.Board.{Board, at, has_piece}
 use Rattle.chess_rules.specs.Step.{own}
 use Rattle.chess_rules.specs.Attacks.{is_clear}
 use Rattle.chess_rules.specs.Candidate.{candidates, is_candidate}
 use Rattle.chess_rules.specs.Walk.{is_aligned, is_first, square_at}
 use Rattle.chess_rules.specs.Words.{members, Marks, Places}
-use Rattle.chess_rules.proofs.squares.AllSquares.{both_true}
+use Rattle.chess_rules.proofs.squares.AllSquares.{first_true, second_true, both_true}
 use Rattle.chess_rules.proofs.positions.OneKing.{cell_of-square_at}
 use Rattle.chess_rules.proofs.trying.CandidatesFoundOnce.{few_candidates, is_rider, sees_by_way}
 use Rattle.chess_rules.proofs.rays.AttackersNearAndFar.{first_is}
@@ -58,3 +59,32 @@ pub few_there : (p : Parts) (k : Kind) (t : Square) (xs : List Square) → t.fil
 few_there p k t xs tf tr same =
     let few : length (candidates p k t) ≤ 8 = few_candidates p k t (both_true (nat_lt t.file 8) (nat_lt t.rank 8) (grind (arith, nat_tests)) (grind (arith, nat_tests))) in
     omega (arith, few, ap length same)
+
+-- Without looking at what stands between.
+
+-- a test that lets more through keeps more
+kept_more : (f g : Square → Bool) (xs : List Square) → ((s : Square) → f s ≡ true → g s ≡ true) → length (filter f xs) ≤ length (filter g xs)
+kept_more f g [] h = omega arith
+kept_more f g (x ∷ xs) h = by_tests (f x) (g x) (h x) (kept_more f g xs h)
+  where
+    by_tests : (v w : Bool) → (v ≡ true → w ≡ true) → length (filter f xs) ≤ length (filter g xs)
+        → length (cond v (x ∷ filter f xs) (filter f xs)) ≤ length (cond w (x ∷ filter g xs) (filter g xs))
+    by_tests true true more few = omega (arith, few)
+    by_tests true false more few = absurd (false≢true (more refl))
+    by_tests false true more few = omega (arith, few)
+    by_tests false false more few = few
+
+pub riders_few : (p : Parts) (k : Kind) (t : Square) (v w : ℕ) → is_rider k ≡ true → Places v (own p k) → Places w (λ s. is_aligned s t)
+    → length (members (bit_and v w)) ≤ 1 → length (candidates p k t) ≤ 1
+riders_few p k t v w rides h g few =
+    omega (
+      arith,
+      few,
+      ap length (members_are (bit_and v w) (λ s. own p k s && is_aligned s t) (places_and v w (own p k) (λ s. is_aligned s t) h g).of),
+      kept_more (is_candidate p k t) (λ s. own p k s && is_aligned s t) squares in_line_too,
+    )
+  where
+    in_line_too : (s : Square) → is_candidate p k t s ≡ true → (own p k s && is_aligned s t) ≡ true
+    in_line_too s c =
+        both_true _ _ (first_true (own p k s) _ c)
+        (first_true (is_aligned s t) (is_clear p.board s t) (sym (sees_by_way p k s t rides) ∙ second_true (own p k s) _ c))

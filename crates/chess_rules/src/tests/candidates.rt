@@ -1,6 +1,6 @@
 //! Candidates, move counts by way of them, mates and stalemates.
 
-use crate::candidates::origins;
+use crate::candidates::{may_have_two_origins, origins};
 use crate::legal::{has_legal_move, in_check, try_pair};
 use crate::piece::{Colour, Kind, Piece};
 use crate::position::{Move, Parts, Position, Rights};
@@ -38,6 +38,7 @@ fn assert_origins(
         return;
     };
     assert_eq!(rt; origins(position, kind, target).len(), names.len());
+    assert!(rt; names.len() <= 1 || may_have_two_origins(position, kind, target));
     for name in names {
         let Some(origin) = square(*name) else {
             assert!(rt; false);
@@ -70,6 +71,16 @@ fn finds_the_origin_of_en_passant(rt: HostRuntime) -> Result<(), Fail> {
         ..parts(b"4k3/8/8/8/3pP3/8/8/4K3")
     })?;
     assert_origins(&rt, &position, Kind::Pawn, b"e3", &[b"d4"]);
+    Ok(())
+}
+
+#[test]
+fn tells_a_lone_piece(rt: HostRuntime) -> Result<(), Fail> {
+    let first = Position::initial();
+    let f3 = square(b"f3").ok_or("f3")?;
+    assert!(rt; !may_have_two_origins(&first, Kind::Knight, f3));
+    assert!(rt; !may_have_two_origins(&first, Kind::Queen, f3));
+    assert!(rt; may_have_two_origins(&first, Kind::Pawn, f3));
     Ok(())
 }
 
