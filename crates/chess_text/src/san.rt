@@ -16,7 +16,8 @@ use crate::resolution::{Played, is_castling};
 use arrayvec::ArrayVec;
 use chess_rules::laws::candidates_are_complete;
 use chess_rules::{
-    Kind, Move, Position, Probes, Promotion, Square, has_legal_move, in_check, origins, try_pair,
+    Kind, Move, Position, Probes, Promotion, Square, has_legal_move, in_check,
+    may_have_two_origins, origins, try_pair,
 };
 
 /// Writes SAN: returns the text of a legal move, 1 to 7 bytes. (PGN 8.2.3)
@@ -181,6 +182,7 @@ fn disambiguated_text(
     mv: &Move,
     probes: &mut Probes,
 ) -> ArrayVec<u8, 7>
+    requires legal { IsTrue (is_legal position.now mv.now) }
     requires own { IsTrue (own position.now kind mv.now.from) }
     requires may_have_rivals { IsTrue (spec.has_rivals kind) }
     requires room { probes.old + 8 < 2 ^ 32 }
@@ -226,9 +228,11 @@ impl Rivals {
     }
 }
 
-// The rivals of the move.
+// The rivals of the move. Mostly there is one candidate alone, the move's own origin.
 fn rivals_of(position: &Position, kind: Kind, mv: &Move, probes: &mut Probes) -> Rivals
-    requires { probes.old + 8 < 2 ^ 32 }
+    requires legal { IsTrue (is_legal position.now mv.now) }
+    requires own { IsTrue (own position.now kind mv.now.from) }
+    requires room { probes.old + 8 < 2 ^ 32 }
     ensures any { result.any ≡ list_any (λ s. true) (spec.rivals position.now kind mv.now) }
     ensures file { result.on_file ≡ spec.on_file mv.now.from
         (spec.rivals position.now kind mv.now) }
@@ -238,17 +242,29 @@ fn rivals_of(position: &Position, kind: Kind, mv: &Move, probes: &mut Probes) ->
     ensures few { probes.new ≤ probes.old + 8 }
 {
     candidates_are_complete();
-    let origins = origins(position, kind, mv.to);
     let mut found = Rivals {
         any: false,
         on_file: false,
         on_rank: false,
     };
+    if !may_have_two_origins(position, kind, mv.to) {
+        count_own_pair(position, mv, probes);
+        return found;
+    }
+    let origins = origins(position, kind, mv.to);
     for origin in origins.as_slice() {
         let is_rival = is_rival(position, mv, *origin, probes);
         found = found.with(mv.from, *origin, is_rival);
     }
     found
+}
+
+// Counts the pair of a legal move: the compiler drops the rest of the call.
+fn count_own_pair(position: &Position, mv: &Move, probes: &mut Probes)
+    requires { probes.old + 1 < 2 ^ 32 }
+    ensures { probes.new ≡ probes.old + 1 }
+{
+    let _next = try_pair(position, *mv, probes);
 }
 
 // Whether the same move is legal from that square, and it is another than the move's own. Each pair
@@ -265,8 +281,7 @@ fn is_rival(position: &Position, mv: &Move, origin: Square, probes: &mut Probes)
     };
     let is_own = origin.file() == mv.from.file() && origin.rank() == mv.from.rank();
     if is_own {
-        // The move is legal, and its pair only counts: the compiler drops the rest of the call.
-        let _counted = try_pair(position, *mv, probes);
+        count_own_pair(position, mv, probes);
         return false;
     }
     try_pair(position, other, probes).is_some()

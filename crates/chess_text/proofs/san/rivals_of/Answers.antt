@@ -1,4 +1,4 @@
-use Rattle.std.proofs.Common.{◌≡◌, Bool, true, List, take, ◌∙◌, sym, subst, arith}
+use Rattle.std.proofs.Common.{◌≡◌, ◌≤◌, Bool, true, List, length, take, ◌∙◌, sym, ap, subst, arith}
 use Rattle.std.specs.Prelude.{◌==◌}
 use Rattle.std.specs.List.{list_any}
 use Rattle.std.specs.List.Sorted.{IsPermutation}
@@ -6,6 +6,7 @@ use Rattle.std.proofs.lemmas.List.Sorted.{length_permutation}
 use Rattle.chess_rules.specs.Square.{Square}
 use Rattle.chess_rules.specs.Candidate.{candidates}
 use Rattle.chess_text.specs.San.{rivals}
+use Rattle.chess_text.proofs.names.LonePiece.{lone_candidate, no_rivals}
 use Rattle.chess_text.proofs.names.RivalsAreCandidates.{seen, found_more, all_found, rivals_seen}
 use Rattle.chess_text.proofs.san.rivals_of.Goals as goal
 
@@ -17,6 +18,21 @@ loop-origin-preserved c =
           c.loop-origin.found.any c.loop-origin.found.on_file c.loop-origin.found.on_rank c.with-found.result.any c.with-found.result.on_file c.with-found.result.on_rank
           c.loop-origin-test.true c.origin-item.is c.is_rival-is_rival.ensures.rival c.loop-origin.invariant.found c.with-found.ensures.any c.with-found.ensures.file c.with-found.ensures.rank;
       tried = omega (arith, c.is_rival-is_rival.ensures.pairs, c.loop-origin.invariant.tried);
+    }
+
+-- the piece is alone
+pub returns-then-not-may_have_two_origins : goal.returns-then-not-may_have_two_origins
+returns-then-not-may_have_two_origins c =
+    let p = c.args.position.now in
+    let m = c.args.mv.now in
+    let few : length (candidates p c.args.kind m.to) ≤ 1 = c.may_have_two_origins.ensures c.if-not-may_have_two_origins.true in
+    let none = no_rivals c.candidates_are_complete.ensures p c.args.kind m c.requires.legal c.requires.own few in
+    record {
+      any = none (λ s. true);
+      file = none (λ s. s.file == m.from.file);
+      rank = none (λ s. s.rank == m.from.rank);
+      pairs = omega (arith, c.count_own_pair.ensures, ap length (lone_candidate c.candidates_are_complete.ensures p c.args.kind m c.requires.legal c.requires.own few));
+      few = omega (arith, c.count_own_pair.ensures);
     }
 
 -- the origins are the candidates

@@ -21,6 +21,7 @@ returns-in_default-clause-some c = absurd (mover_stands c.args.position.now c.ar
 pub disambiguated_text-requires : goal.disambiguated_text-requires
 disambiguated_text-requires c =
     record {
+      legal = c.requires.legal;
       own = mover c.args.position.now c.args.mv.now c.in-Some.piece c.requires.legal (sym c.at.ensures ∙ c.in-Some.is);
       may_have_rivals = may_have_rivals c.in-Some.piece.kind (λ e. c.in_default-kind.not-King e) (λ e. c.in_default-kind.not-Pawn e);
       room = c.requires.room;
