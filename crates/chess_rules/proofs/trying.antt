@@ -7,3 +7,4 @@ pub mod PairCounts
 pub mod PromotionsAlike
 pub mod SearchThatCounts
 pub mod SetsToCandidates
+pub mod SetsToPairs

@@ -1,9 +1,9 @@
 -- **Bookkeeping**: walking from square to square: the words that say what sets of squares hold.
 -- No rule of play rests on it. Letters: b is a board, c a colour, s, t and u are squares, d is a
 -- direction, j a jump, w a shift of a file or of a rank.
-use Rattle.std.specs.Prelude.{ℕ, zero, suc, ◌+◌, ◌-◌, ◌*◌, ◌/◌, ◌%◌, max, Bool, true, false, ◌&&◌, ◌||◌, Option, None, Some, position, unwrap_or, slice_index_or, ◌==◌, nat_lt, nat_le, if◌then◌else◌}
+use Rattle.std.specs.Prelude.{ℕ, zero, suc, ◌+◌, ◌-◌, ◌*◌, ◌/◌, ◌%◌, max, Bool, true, false, ◌&&◌, ◌||◌, Option, None, Some, position, unwrap_or, ◌==◌, nat_lt, nat_le, if◌then◌else◌}
 use Rattle.std.specs.List.{list_any}
-use Rattle.chess_rules.specs.declared.direction.TheConstants.{DIRECTIONS, JUMPS}
+use Rattle.chess_rules.specs.declared.direction.TheConstants.{DIRECTIONS}
 use Rattle.chess_rules.specs.declared.direction.Shift.{Shift}
 use Rattle.chess_rules.specs.declared.direction.Shift.TheVariants.{Down, Stay, Up}
 use Rattle.chess_rules.specs.declared.direction.Direction.{Direction}
@@ -14,16 +14,12 @@ use Rattle.chess_rules.specs.declared.piece.Kind.TheVariants.{King, Queen, Rook,
 use Rattle.chess_rules.specs.declared.piece.Piece.{Piece}
 use Rattle.chess_rules.specs.declared.position.Move.{Move}
 use Rattle.chess_rules.specs.Square.{Square, square, same_square, gap, is_adjacent, is_jump, in_line, on_diagonal}
-use Rattle.chess_rules.specs.Board.{Board, at, cell_of, is_empty, same_colour, has_piece}
+use Rattle.chess_rules.specs.Board.{Board, at, is_empty, same_colour, has_piece}
 use Rattle.chess_rules.specs.Attacks.{is_ahead}
 
 -- the square with that place among all, rank by rank from a1
 abbrev pub square_at : ℕ → Square
 square_at i = square (i % 8) (i / 8)
-
--- the square with that place, if there is one
-abbrev pub square_there : ℕ → Option Square
-square_there i = if nat_lt i 64 then Some (square_at i) else None
 
 -- k steps from a towards b, or a itself where they are one
 abbrev pub toward : ℕ → ℕ → ℕ → ℕ
@@ -103,11 +99,6 @@ shift_numbered (suc (suc n)) = Up
 abbrev pub direction_numbered : ℕ → Direction
 direction_numbered n = record { files = shift_numbered (n / 3); ranks = shift_numbered (n % 3) }
 
--- the number of the square among the 64, or 64 if there is no square
-abbrev pub place_or_64 : Option Square → ℕ
-place_or_64 None = 64
-place_or_64 (Some s) = cell_of s
-
 -- u lies in that direction from t, or it is t and the direction leads nowhere
 abbrev pub lies_on : Direction → Square → Square → Bool
 lies_on d t u = is_aligned_or_same t u && (direction_number (direction_between t u) == direction_number d)
@@ -122,20 +113,6 @@ rises Down Stay = false
 
 abbrev pub goes_up : Direction → Bool
 goes_up d = rises d.files d.ranks
-
--- The table of jumps: for each square, for each jump.
-
--- the jump of that number
-abbrev pub jump_numbered : ℕ → Jump
-jump_numbered n = slice_index_or JUMPS n (record { way = record { files = Up; ranks = Up }; files = 1; ranks = 2 })
-
--- the square that lies jump n away from s, if the board has it
-abbrev pub landing : Square → ℕ → Option Square
-landing s n = stepped (jump_numbered n).way s (jump_numbered n).files (jump_numbered n).ranks
-
--- its number, or 64: of jump n % 8 from square n / 8
-abbrev pub landing_place : ℕ → ℕ
-landing_place n = place_or_64 (landing (square_at (n / 8)) (n % 8))
 
 -- None where there is no square, the square if it is occupied, and else what comes further on
 abbrev pub go_on : Board → Option Square → (Square → Option Square) → Option Square

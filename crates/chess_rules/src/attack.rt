@@ -158,7 +158,7 @@ pub(crate) fn knights_to(target: Square) -> u64
 }
 
 // The squares side by side with it.
-fn adjacent(target: Square) -> u64
+pub(crate) fn adjacent(target: Square) -> u64
     ensures { Places result (λ s. square.is_adjacent s target) }
 {
     target.recall_invariant();

@@ -4,12 +4,9 @@ ghost use Rattle.std.specs.Prelude.{◌≡◌, ◌<◌, ◌≤◌, ◌≢◌, Al
 ghost use Rattle.std.specs.List.Sorted.{IsPermutation};
 ghost use Rattle.arrayvec.specs.ArrayVec.{array_vec_len};
 ghost use Rattle.chess_rules.specs.Candidate.{candidates};
-ghost use Rattle.chess_rules.specs.Pairs as spec;
-ghost use Rattle.chess_rules.specs.Walk.{jump_numbered};
 ghost use Rattle.chess_rules.specs.Words.{members};
 
 use crate::attack::{aligned, first_pieces, knights_to};
-use crate::direction::landing;
 use crate::piece::Kind;
 use crate::position::Position;
 use crate::square::Square;
@@ -62,25 +59,4 @@ fn squares_of(set: u64) -> ArrayVec<Square, 8>
         left = with(left, place, false);
     }
     squares
-}
-
-// The square, if it has a piece of the kind, of the side to move.
-fn if_own(position: &Position, kind: Kind, square: Option<Square>) -> Option<Square>
-    ensures { result ≡ spec.if_own position.now kind square }
-{
-    let origin = square?;
-    if position.board().has_piece(origin, position.side(), kind) {
-        Some(origin)
-    } else {
-        None
-    }
-}
-
-// The square that is the jump of that number away from the target, if it has a knight of the side
-// to move.
-pub(crate) fn origin_by(position: &Position, target: Square, jump: usize) -> Option<Square>
-    requires { jump < 8 }
-    ensures { result ≡ spec.origin_by position.now target (jump_numbered jump) }
-{
-    if_own(position, Kind::Knight, landing(target, jump))
 }

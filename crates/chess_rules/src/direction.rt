@@ -5,7 +5,7 @@ ghost use Rattle.chess_rules.specs.Walk as walk;
 ghost use Rattle.chess_rules.specs.Words.{Places};
 
 use crate::square::Square;
-use crate::tables::{LANDINGS, RAYS};
+use crate::tables::RAYS;
 
 // How a file or a rank changes on a way.
 #[derive(Clone, Copy)]
@@ -196,12 +196,3 @@ pub(crate) const JUMPS: [Jump; 8] = [
         ranks: 2,
     },
 ];
-
-// The square to which the jump of that number leads.
-pub(crate) fn landing(from: Square, jump: usize) -> Option<Square>
-    requires { jump < 8 }
-    ensures { result ≡ walk.landing from jump }
-{
-    from.recall_invariant();
-    Square::at_place(LANDINGS[8 * from.index() + jump])
-}

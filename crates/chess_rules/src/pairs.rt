@@ -1,11 +1,12 @@
 //! Trying all pairs of an origin and a target, until one is legal.
 
-ghost use Rattle.std.specs.Prelude.{◌≡◌, ◌+◌, ◌<◌, ◌^◌};
+ghost use Rattle.std.specs.Prelude.{◌≡◌, ◌+◌, ◌<◌, ◌^◌, length};
+ghost use Rattle.std.specs.List.{list_any};
 ghost use Rattle.chess_rules.specs.Pairs as spec;
 ghost use Rattle.chess_rules.specs.Pairs.{Counts};
+ghost use Rattle.chess_rules.specs.Words.{members};
 
-use crate::attack::{first_on, is_adjacent};
-use crate::candidates::origin_by;
+use crate::attack::{adjacent, first_on, is_adjacent, knights_to};
 use crate::direction::{DIRECTIONS, Direction};
 use crate::legal::is_legal;
 use crate::piece::{Kind, Promotion};
@@ -13,6 +14,7 @@ use crate::position::{Move, Position};
 use crate::probes::Probes;
 use crate::square::Square;
 use crate::step::last_rank;
+use crate::word::{lowest, with};
 
 // What a pawn becomes if the pair is tried: all four promotions are legal, or none.
 fn one_promotion(position: &Position, from: Square, to: Square) -> Option<Promotion>
@@ -58,18 +60,6 @@ fn is_legal_from(
     }
 }
 
-// The king of the side to move, if it is next to the target.
-fn king_step(position: &Position, target: Square) -> Option<Square>
-    ensures { result ≡ spec.king_step position.now target }
-{
-    let king = position.king();
-    if is_adjacent(king, target) {
-        Some(king)
-    } else {
-        None
-    }
-}
-
 // Whether the piece on the origin is still to be tried: it is of the side to move, no knight, and
 // no king with a step that was tried.
 fn is_untried(position: &Position, near: bool, origin: Square) -> bool
@@ -97,19 +87,49 @@ fn untried_on(position: &Position, near: bool, target: Square, way: Direction) -
     }
 }
 
+// Whether the pair of one of these origins and the target is legal.
+fn any_from(position: &Position, origins: u64, target: Square, probes: &mut Probes) -> bool
+    requires { probes.old + length (members origins) < 2 ^ 32 }
+    ensures found { result
+        ≡ list_any (λ s. spec.is_legal_pair position.now s target) (members origins) }
+    ensures count { Counts result probes.old probes.new (length (members origins)) }
+{
+    let mut left = origins;
+    while left != 0 {
+        let place = lowest(left);
+        left = with(left, place, false);
+        if is_legal_pair(position, Square::nth(place), target, probes) {
+            return true;
+        }
+    }
+    false
+}
+
+// Whether the pair of the origin and one of these targets is legal.
+fn any_to(position: &Position, from: Square, targets: u64, probes: &mut Probes) -> bool
+    requires { probes.old + length (members targets) < 2 ^ 32 }
+    ensures found { result ≡ list_any (spec.is_legal_pair position.now from) (members targets) }
+    ensures count { Counts result probes.old probes.new (length (members targets)) }
+{
+    let mut left = targets;
+    while left != 0 {
+        let place = lowest(left);
+        left = with(left, place, false);
+        if is_legal_pair(position, from, Square::nth(place), probes) {
+            return true;
+        }
+    }
+    false
+}
+
 // Whether a single step of the king is legal.
 pub(crate) fn any_king_step(position: &Position, probes: &mut Probes) -> bool
     requires { probes.old + spec.count_king_steps position.now < 2 ^ 32 }
     ensures found { result ≡ spec.any_king_step position.now }
     ensures count { Counts result probes.old probes.new (spec.count_king_steps position.now) }
 {
-    for index in 0..64 {
-        let target = Square::nth(index);
-        if is_legal_from(position, king_step(position, target), target, probes) {
-            return true;
-        }
-    }
-    false
+    let king = position.king();
+    any_to(position, king, adjacent(king), probes)
 }
 
 // Whether a pair is legal that is no single step of the king.
@@ -151,16 +171,13 @@ fn any_on_ways(position: &Position, near: bool, target: Square, probes: &mut Pro
     false
 }
 
+// Whether the pair of a knight and the target is legal.
 fn any_by_jumps(position: &Position, target: Square, probes: &mut Probes) -> bool
     requires { probes.old + spec.count_by_jumps position.now target < 2 ^ 32 }
     ensures found { result ≡ spec.any_by_jumps position.now target }
     ensures count { Counts result probes.old probes.new (spec.count_by_jumps position.now target) }
 {
-    for jump in 0..8 {
-        let origin = origin_by(position, target, jump);
-        if is_legal_from(position, origin, target, probes) {
-            return true;
-        }
-    }
-    false
+    target.recall_invariant();
+    let knights = position.board().pieces(position.side(), Kind::Knight);
+    any_from(position, knights & knights_to(target), target, probes)
 }

@@ -2,7 +2,7 @@
 
 ghost use Rattle.std.specs.Prelude.{◌≡◌, ◌<◌, ◌&&◌, nat_lt, Some, None, if◌then◌else◌};
 ghost use Rattle.chess_rules.specs.Board.{cell_of};
-ghost use Rattle.chess_rules.specs.Walk.{square_at, square_there};
+ghost use Rattle.chess_rules.specs.Walk.{square_at};
 ghost use Rattle.chess_rules.specs.Square as spec;
 
 use std::marker::Model;
@@ -83,17 +83,6 @@ impl Square {
         ensures { result ≡ square_at index }
     {
         Square { index: index as u8 }
-    }
-
-    // The square with that place, if there is one.
-    pub(crate) fn at_place(place: u8) -> Option<Square>
-        ensures { result ≡ square_there place }
-    {
-        if place < 64 {
-            Some(Square { index: place })
-        } else {
-            None
-        }
     }
 
     // Gives the proof of a body the invariant of every square; it does nothing when it runs.

@@ -105,7 +105,7 @@ range_of_any test a (suc n) k low high h =
       | inr above ↦ or_second _ _ (range_of_any test (a + 1) n k above (omega arith) h)
     ]
 
-list_any-map : {X Y : Type 0} (test : Y → Bool) (f : X → Y) (xs : List X) → list_any test (map f xs) ≡ list_any (λ x. test (f x)) xs
+pub list_any-map : {X Y : Type 0} (test : Y → Bool) (f : X → Y) (xs : List X) → list_any test (map f xs) ≡ list_any (λ x. test (f x)) xs
 list_any-map test f [] = refl
 list_any-map test f (x ∷ xs) = ap (λ v. test (f x) || v) (list_any-map test f xs)
 

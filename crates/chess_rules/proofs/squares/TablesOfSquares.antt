@@ -1,7 +1,6 @@
 -- The tables of squares hold what is said of each square.
-use Rattle.std.proofs.Common.{◌≡◌, ℕ, zero, suc, ◌+◌, ◌*◌, ◌/◌, ◌%◌, ◌<◌, Bool, true, false, List, [], ◌∷◌, refl, sym, ◌∙◌, ap, ap₂, arith, get_or}
-use Rattle.std.specs.Prelude.{◌==◌, map, None, Some, nat_lt, if◌then◌else◌}
-use Rattle.std.proofs.lemmas.Bool.Decides.{nat_tests}
+use Rattle.std.proofs.Common.{◌≡◌, ℕ, zero, suc, ◌+◌, ◌*◌, ◌/◌, ◌%◌, ◌<◌, Bool, true, false, List, [], ◌∷◌, refl, ◌∙◌, ap, ap₂, arith, get_or}
+use Rattle.std.specs.Prelude.{◌==◌, map}
 use Rattle.chess_rules.specs.declared.direction.Shift.{Shift}
 use Rattle.chess_rules.specs.declared.direction.Shift.TheVariants.{Down, Stay, Up}
 use Rattle.chess_rules.specs.declared.direction.Direction.{Direction}
@@ -12,11 +11,8 @@ use Rattle.chess_rules.specs.Board.{cell_of}
 use Rattle.chess_rules.specs.WordsAndCells.{digit, word_bit}
 use Rattle.chess_rules.specs.Masks.{ray_mask}
 use Rattle.chess_rules.specs.Words.{has, mask, Places}
-use Rattle.chess_rules.specs.Walk.{square_at, square_there, has_room, further, fits, stepped, shift_number, direction_number, shift_numbered, direction_numbered, place_or_64, lies_on, landing, landing_place}
-use Rattle.chess_rules.proofs.squares.AllSquares.{first_true, second_true}
+use Rattle.chess_rules.specs.Walk.{square_at, shift_number, direction_number, shift_numbered, direction_numbered, lies_on}
 use Rattle.chess_rules.proofs.positions.OneKing.{square_at-cell_of}
-use Rattle.chess_rules.proofs.rays.SeenToFirst.{gone_below}
-use Rattle.chess_rules.proofs.rays.AttacksByRay.{stepped_when, stepped_unless}
 
 -- n numbers from k on
 abbrev pub numbers : ℕ → ℕ → List ℕ
@@ -36,26 +32,7 @@ table_at f table n i are less =
     let same : 0 + i ≡ i = omega arith in
     ap (λ l. get_or l i 0) are ∙ (at_number f n 0 i 0 less ∙ ap f same)
 
--- A square and its place.
-
-below_all : (i : ℕ) → i < 64 → nat_lt i 64 ≡ true
-below_all i h = grind (arith, nat_tests)
-
-square_again : (s : Square) → s.file < 8 → s.rank < 8 → square_there (cell_of s) ≡ Some s
-square_again s file rank =
-    ap (λ v. if v then Some (square_at (cell_of s)) else None) (below_all (cell_of s) (omega arith)) ∙ ap Some (square_at-cell_of s file)
-
--- a place is read as the square that was stepped to
-pub step_again : (d : Direction) (s : Square) (i j : ℕ) → s.file < 8 → s.rank < 8 → square_there (place_or_64 (stepped d s i j)) ≡ stepped d s i j
-step_again d s i j file rank = by_room (fits d s i j) refl
-  where
-    by_room : (x : Bool) → fits d s i j ≡ x → square_there (place_or_64 (stepped d s i j)) ≡ stepped d s i j
-    by_room false none =
-        ap (λ o. square_there (place_or_64 o)) (stepped_unless d s i j none) ∙ sym (stepped_unless d s i j none)
-    by_room true room =
-        ap (λ o. square_there (place_or_64 o)) (stepped_when d s i j room)
-        ∙ (square_again (further d s i j) (gone_below d.files s.file i file (first_true _ _ room)) (gone_below d.ranks s.rank j rank (second_true (has_room d.files s.file i) _ room))
-        ∙ sym (stepped_when d s i j room))
+-- A direction and its number.
 
 shift_again : (w : Shift) → shift_numbered (shift_number w) ≡ w
 shift_again Down = refl
@@ -103,16 +80,3 @@ ray_mask_is d s file rank =
 
     rest : (m n : ℕ) → n < 64 → (64 * m + n) % 64 ≡ n
     rest m n h = omega arith
-
-pub landing_place_is : (s : Square) (n : ℕ) → s.file < 8 → s.rank < 8 → n < 8 → landing_place (8 * cell_of s + n) ≡ place_or_64 (landing s n)
-landing_place_is s n file rank low =
-    let first : (8 * cell_of s + n) / 8 ≡ cell_of s = quotient (cell_of s) n low in
-    let second : (8 * cell_of s + n) % 8 ≡ n = rest (cell_of s) n low in
-    ap₂ (λ m k. place_or_64 (landing (square_at m) k)) first second
-    ∙ ap (λ u. place_or_64 (landing u n)) (square_at-cell_of s file)
-  where
-    quotient : (m k : ℕ) → k < 8 → (8 * m + k) / 8 ≡ m
-    quotient m k h = omega arith
-
-    rest : (m k : ℕ) → k < 8 → (8 * m + k) % 8 ≡ k
-    rest m k h = omega arith

@@ -170,7 +170,7 @@ five_kinds_most p t =
     subst (λ (n : ℕ). n ≤ 8) (five_kinds_sum p t)
     (sum_by-le-sum_by (of_five p t) (λ d. 1) DIRECTIONS (λ d. way_most p (first_on p.board d t)))
 
-jumps_sum : (p : Parts) (t : Square) → length (by_jumps p t) ≡ count_by_jumps p t
+pub jumps_sum : (p : Parts) (t : Square) → length (by_jumps p t) ≡ count_by_jumps p t
 unfolding by_jumps count_by_jumps
 jumps_sum p t = length-found (origin_by p t) JUMPS
 
@@ -250,7 +250,7 @@ target_parts p t sound on =
 
 -- All targets.
 
-squares_are : squares ≡ map square_at indexes
+pub squares_are : squares ≡ map square_at indexes
 unfolding squares indexes
 squares_are = refl
 

@@ -1,5 +1,5 @@
 -- A search that counts, step by step.
-use Rattle.std.proofs.Common.{◌≡◌, ℕ, ◌+◌, ◌<◌, ◌≤◌, Bool, true, false, ◌||◌, List, length, get_or, drop, refl, sym, ◌∙◌, ap, arith}
+use Rattle.std.proofs.Common.{◌≡◌, ℕ, ◌+◌, ◌<◌, ◌≤◌, Bool, true, false, ◌||◌, List, ◌∷◌, length, get_or, drop, refl, sym, ◌∙◌, ap, arith}
 use Rattle.std.specs.Prelude.{Option, None, Some}
 use Rattle.std.specs.List.{list_any, sum_by}
 use Rattle.std.proofs.lemmas.List.{at_drop_more, at_drop_all}
@@ -7,6 +7,8 @@ use Rattle.std.proofs.lemmas.List.Sums.{sum_by-drop_more}
 use Rattle.std.proofs.lemmas.List.FromFn.{length-range_with_len, get_or-range_with_len}
 use Rattle.chess_rules.specs.declared.position.Parts.{Parts}
 use Rattle.chess_rules.specs.Square.{Square}
+use Rattle.chess_rules.specs.Words.{members}
+use Rattle.chess_rules.proofs.squares.SetsToSquares.{no_member}
 use Rattle.chess_rules.specs.Pairs.{Counts, is_legal_from, tried, indexes}
 
 pub counts_exactly : (found : Bool) (old new whole : ℕ) → (found ≡ true → 0 < whole) → new ≡ old + whole → Counts found old new whole
@@ -117,3 +119,44 @@ past_indexes i h = omega (arith, length_indexes)
 pub get_or_indexes : (i : ℕ) → i < 64 → get_or indexes i 0 ≡ i
 unfolding indexes
 get_or_indexes i low = get_or-range_with_len 0 64 i 0 low ∙ omega arith
+
+-- The members of a set, one by one.
+
+module _ (test : Square → Bool) (set : ℕ) where
+  -- no member so far passed, each was counted, and these are left
+  pub record LeftOf (left old now : ℕ) : Type 0 where
+    pub rises : old ≤ now
+    pub counted : now + length (members left) ≡ old + length (members set)
+    pub same : list_any test (members left) ≡ list_any test (members set)
+
+  pub all_left : (old : ℕ) → LeftOf set old old
+  all_left old = record { rises = omega arith; counted = refl; same = refl }
+
+  module _ (left rest old now : ℕ) (s : Square) (next : members left ≡ s ∷ members rest) (w : LeftOf left old now) where
+    pub left_fits : (limit : ℕ) → old + length (members set) < limit → now + 1 < limit
+    left_fits limit room = omega (arith, room, w.counted, ap length next)
+
+    pub fewer_left : (later : ℕ) → test s ≡ false → later ≡ now + 1 → LeftOf rest old later
+    fewer_left later misses one =
+        record {
+          rises = omega (arith, one, w.rises);
+          counted = omega (arith, one, w.counted, ap length next);
+          same = ap (λ v. v || list_any test (members rest)) (sym misses) ∙ (ap (list_any test) (sym next) ∙ w.same);
+        }
+
+    pub left_hit : (later : ℕ) → test s ≡ true → later ≡ now + 1 → (true ≡ list_any test (members set)) × Counts true old later (length (members set))
+    left_hit later passes one = (
+      ap (λ v. v || list_any test (members rest)) (sym passes) ∙ (ap (list_any test) (sym next) ∙ w.same),
+      record {
+        rises = omega (arith, one, w.rises);
+        most = omega (arith, one, w.counted, ap length next);
+        all = λ none. cc;
+        some = λ _. omega (arith, one, w.rises);
+      },
+    )
+
+  pub none_left : (left old now : ℕ) → LeftOf left old now → left ≡ 0 → (false ≡ list_any test (members set)) × Counts false old now (length (members set))
+  none_left left old now w none = (
+    ap (list_any test) (sym (no_member left none)) ∙ w.same,
+    counts_exactly false old now (length (members set)) (λ found. cc) (omega (arith, w.counted, ap length (no_member left none))),
+  )

@@ -1,46 +1,32 @@
-use Rattle.std.proofs.Common.{◌+◌, ◌<◌, ◌^◌, refl, sym, ◌∙◌, ap, subst, arith}
-use Rattle.chess_rules.specs.declared.direction.TheConstants.{JUMPS}
+use Rattle.std.proofs.Common.{◌≡◌, ◌+◌, ◌<◌, ◌^◌, length, sym, ◌∙◌, ap, subst}
+use Rattle.std.specs.Int.Bits.{bit_and}
+use Rattle.std.specs.List.{list_any}
+use Rattle.chess_rules.specs.declared.piece.Kind.TheVariants.{Knight}
+use Rattle.chess_rules.specs.Candidate.{candidates}
 use Rattle.chess_rules.specs.Pairs as spec
-use Rattle.chess_rules.specs.Pairs.{any_by_jumps, count_by_jumps}
-use Rattle.chess_rules.proofs.trying.SearchThatCounts.{counts_try, stands_fits, stands_more, stands_hit, stands_end}
+use Rattle.chess_rules.specs.Words.{members}
+use Rattle.chess_rules.proofs.trying.SetsToCandidates.{knights_are, own_places}
+use Rattle.chess_rules.proofs.trying.SetsToPairs.{any_jump, count_jumps}
 use Rattle.chess_rules.proofs.pairs.any_by_jumps.Goals as goal
+use Rattle.chess_rules.proofs.pairs.any_by_jumps.Goals.{After-knights_to}
 
-pub is_legal_from-requires : goal.is_legal_from-requires
-unfolding count_by_jumps
-is_legal_from-requires c =
-    subst (λ o. c.loop-jump.probes + spec.tried o < 2 ^ 32) (sym c.origin_by-origin.ensures)
-    (stands_fits (spec.is_legal_by c.args.position.now c.args.target) (spec.tried_by c.args.position.now c.args.target) JUMPS c.loop-jump.jump c.args.probes.now c.loop-jump.probes (2 ^ 32) _ _ c.loop-jump.invariant (omega arith) refl c.requires)
+knights : (c : After-knights_to) → members (bit_and c.pieces-knights.result c.knights_to.result) ≡ candidates c.args.position.now Knight c.args.target
+knights c =
+    knights_are c.args.position.now c.args.target c.pieces-knights.result c.knights_to.result
+    (own_places c.args.position.now Knight c.side.result c.board.result.now c.pieces-knights.result c.side.ensures c.board.ensures c.pieces-knights.ensures)
+    c.knights_to.ensures
 
-pub returns-then-is_legal_from-clause-found : goal.returns-then-is_legal_from-clause-found
-unfolding any_by_jumps
-returns-then-is_legal_from-clause-found c =
-    (stands_hit (spec.is_legal_by c.args.position.now c.args.target) (spec.tried_by c.args.position.now c.args.target) JUMPS c.loop-jump.jump c.args.probes.now c.loop-jump.probes c.is_legal_from.new.probes _ _ c.is_legal_from.result
-    c.loop-jump.invariant (omega arith) refl
-    (c.is_legal_from.ensures.found ∙ ap (spec.is_legal_from c.args.position.now c.args.target) c.origin_by-origin.ensures)
-    c.if-is_legal_from.true (counts_try _ _ _ _ _ _ (c.is_legal_from.ensures.found ∙ ap (spec.is_legal_from c.args.position.now c.args.target) c.origin_by-origin.ensures)
-    (c.is_legal_from.ensures.count ∙ ap (λ o. c.loop-jump.probes + spec.tried o) c.origin_by-origin.ensures))).0
+counted : (c : After-knights_to) → length (members (bit_and c.pieces-knights.result c.knights_to.result)) ≡ spec.count_by_jumps c.args.position.now c.args.target
+counted c = ap length (knights c) ∙ count_jumps c.args.position.now c.args.target c.recall_invariant.ensures.file c.recall_invariant.ensures.rank
 
-pub returns-then-is_legal_from-clause-count : goal.returns-then-is_legal_from-clause-count
-unfolding count_by_jumps
-returns-then-is_legal_from-clause-count c =
-    (stands_hit (spec.is_legal_by c.args.position.now c.args.target) (spec.tried_by c.args.position.now c.args.target) JUMPS c.loop-jump.jump c.args.probes.now c.loop-jump.probes c.is_legal_from.new.probes _ _ c.is_legal_from.result
-    c.loop-jump.invariant (omega arith) refl
-    (c.is_legal_from.ensures.found ∙ ap (spec.is_legal_from c.args.position.now c.args.target) c.origin_by-origin.ensures)
-    c.if-is_legal_from.true (counts_try _ _ _ _ _ _ (c.is_legal_from.ensures.found ∙ ap (spec.is_legal_from c.args.position.now c.args.target) c.origin_by-origin.ensures)
-    (c.is_legal_from.ensures.count ∙ ap (λ o. c.loop-jump.probes + spec.tried o) c.origin_by-origin.ensures))).1
-
-pub loop-jump-preserved : goal.loop-jump-preserved
-loop-jump-preserved c =
-    stands_more (spec.is_legal_by c.args.position.now c.args.target) (spec.tried_by c.args.position.now c.args.target) JUMPS c.loop-jump.jump c.args.probes.now c.loop-jump.probes c.is_legal_from.new.probes _ _ c.is_legal_from.result
-    c.loop-jump.invariant (omega arith) refl
-    (c.is_legal_from.ensures.found ∙ ap (spec.is_legal_from c.args.position.now c.args.target) c.origin_by-origin.ensures)
-    c.if-is_legal_from.false (counts_try _ _ _ _ _ _ (c.is_legal_from.ensures.found ∙ ap (spec.is_legal_from c.args.position.now c.args.target) c.origin_by-origin.ensures)
-    (c.is_legal_from.ensures.count ∙ ap (λ o. c.loop-jump.probes + spec.tried o) c.origin_by-origin.ensures))
+pub any_from-requires : goal.any_from-requires
+any_from-requires c = subst (λ n. c.args.probes.now + n < 2 ^ 32) (sym (counted c.before)) c.requires
 
 pub returns-clause-found : goal.returns-clause-found
-unfolding any_by_jumps
-returns-clause-found c = (stands_end (spec.is_legal_by c.args.position.now c.args.target) (spec.tried_by c.args.position.now c.args.target) JUMPS c.loop-jump.jump c.args.probes.now c.loop-jump.probes c.loop-jump.invariant (omega arith)).0
+returns-clause-found c =
+    c.any_from.ensures.found
+    ∙ (ap (list_any (λ s. spec.is_legal_pair c.args.position.now s c.args.target)) (knights c.before.before)
+    ∙ any_jump c.args.position.now c.args.target c.recall_invariant.ensures.file c.recall_invariant.ensures.rank)
 
 pub returns-clause-count : goal.returns-clause-count
-unfolding count_by_jumps
-returns-clause-count c = (stands_end (spec.is_legal_by c.args.position.now c.args.target) (spec.tried_by c.args.position.now c.args.target) JUMPS c.loop-jump.jump c.args.probes.now c.loop-jump.probes c.loop-jump.invariant (omega arith)).1
+returns-clause-count c = subst (λ n. spec.Counts c.any_from.result c.args.probes.now c.any_from.new.probes n) (counted c.before.before) c.any_from.ensures.count

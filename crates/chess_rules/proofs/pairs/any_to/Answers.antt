@@ -1,0 +1,46 @@
+use Rattle.std.proofs.Common.{◌≡◌, ◌∷◌, ◌^◌, length, sym, ◌∙◌, ap, arith}
+use Rattle.chess_rules.specs.Pairs as spec
+use Rattle.chess_rules.specs.Words.{members}
+use Rattle.chess_rules.proofs.squares.SetsToSquares.{next_member}
+use Rattle.chess_rules.proofs.trying.SearchThatCounts.{all_left, left_fits, fewer_left, left_hit, none_left}
+use Rattle.chess_rules.proofs.pairs.any_to.Goals as goal
+use Rattle.chess_rules.proofs.pairs.any_to.Goals.{After-nth}
+
+next : (c : After-nth) → members c.loop-left.left ≡ c.nth.result ∷ members c.with-left.result
+next c =
+    next_member c.loop-left.left c.with-left.result c.lowest-place.result c.lowest-place.ensures c.with-left.ensures
+    ∙ ap (λ s. s ∷ members c.with-left.result) (sym c.nth.ensures)
+
+pub loop-left-init : goal.loop-left-init
+loop-left-init c = all_left (spec.is_legal_pair c.args.position.now c.args.from) c.args.targets c.args.probes.now
+
+pub is_legal_pair-requires : goal.is_legal_pair-requires
+is_legal_pair-requires c =
+    left_fits (spec.is_legal_pair c.args.position.now c.args.from) c.args.targets c.loop-left.left c.with-left.result c.args.probes.now c.loop-left.probes c.nth.result
+    (next c.before) c.loop-left.invariant (2 ^ 32) c.requires
+
+pub returns-then-is_legal_pair-clause-found : goal.returns-then-is_legal_pair-clause-found
+returns-then-is_legal_pair-clause-found c =
+    (left_hit (spec.is_legal_pair c.args.position.now c.args.from) c.args.targets c.loop-left.left c.with-left.result c.args.probes.now c.loop-left.probes c.nth.result
+    (next c.before.before.before) c.loop-left.invariant c.is_legal_pair.new.probes (sym c.is_legal_pair.ensures.found ∙ c.if-is_legal_pair.true) c.is_legal_pair.ensures.count).0
+
+pub returns-then-is_legal_pair-clause-count : goal.returns-then-is_legal_pair-clause-count
+returns-then-is_legal_pair-clause-count c =
+    (left_hit (spec.is_legal_pair c.args.position.now c.args.from) c.args.targets c.loop-left.left c.with-left.result c.args.probes.now c.loop-left.probes c.nth.result
+    (next c.before.before.before) c.loop-left.invariant c.is_legal_pair.new.probes (sym c.is_legal_pair.ensures.found ∙ c.if-is_legal_pair.true) c.is_legal_pair.ensures.count).1
+
+pub loop-left-smaller : goal.loop-left-smaller
+loop-left-smaller c = omega (arith, ap length (next c.before.before.before))
+
+pub loop-left-preserved : goal.loop-left-preserved
+loop-left-preserved c =
+    fewer_left (spec.is_legal_pair c.args.position.now c.args.from) c.args.targets c.loop-left.left c.with-left.result c.args.probes.now c.loop-left.probes c.nth.result
+    (next c.before.before.before) c.loop-left.invariant c.is_legal_pair.new.probes (sym c.is_legal_pair.ensures.found ∙ c.if-is_legal_pair.false) c.is_legal_pair.ensures.count
+
+pub returns-clause-found : goal.returns-clause-found
+returns-clause-found c =
+    (none_left (spec.is_legal_pair c.args.position.now c.args.from) c.args.targets c.loop-left.left c.args.probes.now c.loop-left.probes c.loop-left.invariant c.loop-left-test.false).0
+
+pub returns-clause-count : goal.returns-clause-count
+returns-clause-count c =
+    (none_left (spec.is_legal_pair c.args.position.now c.args.from) c.args.targets c.loop-left.left c.args.probes.now c.loop-left.probes c.loop-left.invariant c.loop-left-test.false).1
