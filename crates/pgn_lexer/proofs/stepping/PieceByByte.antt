@@ -1,6 +1,6 @@
 -- A run over a piece, byte by byte.
 use Rattle.std.proofs.Common.{◌≡◌, ℕ, zero, suc, ◌+◌, ◌*◌, ◌<◌, ◌≤◌, inl, inr, List, [], ◌∷◌, ◌++◌, length, get_or, take, drop, refl, sym, ap, subst, ◌∙◌, append_assoc, add-one, arith}
-use Rattle.std.specs.Prelude.{◌⊎◌, Bool, true, false, nat_lt, if◌then◌else◌}
+use Rattle.std.specs.Prelude.{◌⊎◌, true, false, if◌then◌else◌}
 use Rattle.std.proofs.lemmas.Bool.{lt-ltb}
 use Rattle.std.proofs.lemmas.List.{take_all, take_more}
 use Rattle.std.proofs.Math.Seq.{drop-cons}
@@ -21,7 +21,7 @@ use Rattle.pgn_lexer.specs.declared.partial_token.Step.{Step}
 use Rattle.pgn_lexer.specs.declared.partial_token.Step.TheVariants.{Used, Ends, EndsBefore, Fault}
 use Rattle.pgn_lexer.specs.Tokens.{EndsAt}
 use Rattle.pgn_lexer.specs.PartialToken.{PartialToken, tokens_to_come, kind_in, token_of, IsSound, HasNotFailed, pending, fault_of_mode, fault_met}
-use Rattle.pgn_lexer.specs.ByteResult.{begin, begin_line, brace, word, string, fails, grown, into, symbol, after_byte, after_byte_in, IsAfterByte}
+use Rattle.pgn_lexer.specs.ByteResult.{begin, begin_line, brace, word, string, fails, grown, if_room, into, symbol, after_byte, after_byte_in, IsAfterByte}
 use Rattle.pgn_lexer.specs.RunResult.{IsOutside, Ran, RunsOn, StoodAt, RunGives, RunsToToken, RunsToFault, used_after, reached_after}
 use Rattle.pgn_lexer.specs.declared.partial_token.Reached.TheVariants as reached
 use Rattle.pgn_lexer.proofs.stepping.StepGives.{StepGives, Uses, EndsIn, EndsAhead, Fails, front_of}
@@ -161,14 +161,22 @@ pub takes_symbol : (place b : ℕ) (h new : PartialToken) (answer : Step) → h.
 unfolding after_byte
 takes_symbol place b h new answer e t = subst (λ m. IsAfterByte (after_byte_in m place h b) new answer) (sym e) t
 
-symbol_goes_on : (h new : PartialToken) (b : ℕ) (c d : Bool)
-    → IsAfterByte (if c then (if d then grown h Symbol b else fails h h.at SymbolTooLong) else into h Outside (EndsBefore forms.Symbol)) new Used → new.mode ≡ Symbol
-symbol_goes_on h new b true true t = ap (λ (h : PartialToken). h.mode) t.held
-symbol_goes_on h new b true false t = let e : Used ≡ Fault (record { at = h.at; reason = SymbolTooLong }) = t.step in absurd (cc)
-symbol_goes_on h new b false d t = let e : Used ≡ EndsBefore forms.Symbol = t.step in absurd (cc)
+pub takes_symbol_byte : (place b : ℕ) (h new : PartialToken) → h.mode ≡ Symbol → continues_symbol b ≡ true → length h.text < 255 → new ≡ record { mode = h.mode; at = h.at; text = h.text ++ b ∷ [] }
+    → IsAfterByte (after_byte place h b) new Used
+takes_symbol_byte place b h new e goes room grows =
+    takes_symbol place b h new Used e
+    (subst (λ t. IsAfterByte t new Used)
+    (sym (ap (λ c. if c then if_room 255 SymbolTooLong h (grown h Symbol b) else into h Outside (EndsBefore forms.Symbol)) goes
+    ∙ ap (λ d. if d then grown h Symbol b else fails h h.at SymbolTooLong) (lt-ltb _ _ room)))
+    (record { held = grows ∙ ap (λ m. record { mode = m; at = h.at; text = h.text ++ b ∷ [] }) e; step = refl }))
 
-pub still_symbol : (h new : PartialToken) (b : ℕ) → IsAfterByte (symbol h b) new Used → new.mode ≡ Symbol
-still_symbol h new b t = symbol_goes_on h new b (continues_symbol b) (nat_lt (length h.text) 255) t
+pub takes_symbol_end : (place b : ℕ) (h new : PartialToken) → h.mode ≡ Symbol → continues_symbol b ≡ false → new ≡ record { mode = Outside; at = h.at; text = h.text }
+    → IsAfterByte (after_byte place h b) new (EndsBefore forms.Symbol)
+takes_symbol_end place b h new e ends is =
+    takes_symbol place b h new (EndsBefore forms.Symbol) e
+    (subst (λ t. IsAfterByte t new (EndsBefore forms.Symbol))
+    (sym (ap (λ c. if c then if_room 255 SymbolTooLong h (grown h Symbol b) else into h Outside (EndsBefore forms.Symbol)) ends))
+    (record { held = is; step = refl }))
 
 -- a byte between tokens
 taken_outside : (m : Mode) (place at b : ℕ) (text : List ℕ) (c : Class) → IsOutside m → class b ≡ c
@@ -226,16 +234,23 @@ pub takes_word : (place b : ℕ) (h new : PartialToken) (answer : Step) → h.mo
 unfolding after_byte
 takes_word place b h new answer e t = subst (λ m. IsAfterByte (after_byte_in m place h b) new answer) (sym e) t
 
-word_goes_on : (h new : PartialToken) (b : ℕ) (d : Bool) → IsAfterByte (if d then grown h h.mode b else fails h h.at WordTooLong) new Used → new.mode ≡ h.mode
-word_goes_on h new b true t = ap (λ (h : PartialToken). h.mode) t.held
-word_goes_on h new b false t = let e : Used ≡ Fault (record { at = h.at; reason = WordTooLong }) = t.step in absurd (cc)
+pub takes_word_byte : (place b : ℕ) (h new : PartialToken) → h.mode ≡ BraceWord → comment_class b ≡ comments.WordByte → length h.text < 79
+    → new ≡ record { mode = h.mode; at = h.at; text = h.text ++ b ∷ [] } → IsAfterByte (after_byte place h b) new Used
+takes_word_byte place b h new e goes room grows =
+    takes_word place b h new Used e
+    (subst (λ t. IsAfterByte t new Used)
+    (sym (ap (word Brace h b) goes ∙ ap (λ d. if d then grown h h.mode b else fails h h.at WordTooLong) (lt-ltb _ _ room)))
+    (record { held = grows; step = refl }))
 
-still_in : (m : Mode) (h new : PartialToken) (b : ℕ) (c : CommentClass) → IsAfterByte (word m h b c) new Used → new.mode ≡ h.mode
-still_in m h new b comments.WordByte t = word_goes_on h new b (nat_lt (length h.text) 79) t
-still_in m h new b comments.LineEnd t = let e : Used ≡ EndsBefore forms.Word = t.step in absurd (cc)
-still_in m h new b comments.Space t = let e : Used ≡ EndsBefore forms.Word = t.step in absurd (cc)
-still_in m h new b comments.CloseBrace t = let e : Used ≡ EndsBefore forms.Word = t.step in absurd (cc)
-still_in m h new b comments.Control t = let e : Used ≡ EndsBefore forms.Word = t.step in absurd (cc)
+word_ends : (m : Mode) (h : PartialToken) (b : ℕ) (c : CommentClass) → (c ≡ comments.WordByte → ⊥) → word m h b c ≡ into h m (EndsBefore forms.Word)
+word_ends m h b comments.WordByte other = absurd (other refl)
+word_ends m h b comments.LineEnd other = refl
+word_ends m h b comments.Space other = refl
+word_ends m h b comments.CloseBrace other = refl
+word_ends m h b comments.Control other = refl
 
-pub still_word : (m : Mode) (h new : PartialToken) (b : ℕ) → IsAfterByte (word m h b (comment_class b)) new Used → new.mode ≡ h.mode
-still_word m h new b t = still_in m h new b (comment_class b) t
+pub takes_word_end : (place b : ℕ) (h new : PartialToken) (c : CommentClass) → h.mode ≡ BraceWord → comment_class b ≡ c → (c ≡ comments.WordByte → ⊥) → new ≡ record { mode = Brace; at = h.at; text = h.text }
+    → IsAfterByte (after_byte place h b) new (EndsBefore forms.Word)
+takes_word_end place b h new c e same other is =
+    takes_word place b h new (EndsBefore forms.Word) e
+    (subst (λ t. IsAfterByte t new (EndsBefore forms.Word)) (sym (ap (word Brace h b) same ∙ word_ends Brace h b c other)) (record { held = is; step = refl }))

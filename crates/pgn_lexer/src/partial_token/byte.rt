@@ -120,7 +120,7 @@ impl PartialToken {
         Step::Used
     }
 
-    pub(crate) fn symbol(&mut self, byte: u8) -> Step
+    fn symbol(&mut self, byte: u8) -> Step
         requires { self.old.mode ≡ Mode.Symbol }
         ensures { IsAfterByte (after.symbol self.old byte) self.new result }
     {
@@ -271,7 +271,7 @@ impl PartialToken {
     }
 
     /// One byte more of a word, or its end. `between` is the mode between the words.
-    pub(crate) fn word(&mut self, between: Mode, byte: u8) -> Step
+    fn word(&mut self, between: Mode, byte: u8) -> Step
         requires { HasMore between self.old.text }
         ensures { IsAfterByte (after.word between self.old byte (spelling.comment_class byte))
             self.new result }

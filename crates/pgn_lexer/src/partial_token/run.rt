@@ -3,7 +3,9 @@
 ghost use Rattle.std.specs.Prelude.{◌≡◌, ℕ, ◌+◌, ◌<◌, ◌≤◌, ◌^◌, length};
 ghost use Rattle.pgn_lexer.specs.RunResult.{used_after, reached_after};
 
-use crate::class::{Class, CommentClass, StringClass, class_of, comment_class_of, string_class_of};
+use crate::class::{
+    Class, CommentClass, StringClass, class_of, comment_class_of, continues_symbol, string_class_of,
+};
 use crate::partial_token::{Mode, PartialToken, Reached, Step, TokenForm};
 
 impl PartialToken {
@@ -43,7 +45,7 @@ impl PartialToken {
                 Class::SymbolStart => {
                     self.at = at;
                     self.begin_text(Mode::Symbol, byte);
-                    return self.run_symbol(piece, used + 1);
+                    return self.run_symbol(piece, used + 1, place);
                 }
                 Class::Quote => {
                     self.at = at;
@@ -65,19 +67,28 @@ impl PartialToken {
         (used, Reached::End)
     }
 
-    /// Reads on in a symbol.
+    /// Reads on in a symbol. The bytes that the buffer has room for are put into it with no test
+    /// of its length.
     #[inline(always)]
-    fn run_symbol(&mut self, piece: &[u8], from: usize) -> (usize, Reached)
+    fn run_symbol(&mut self, piece: &[u8], from: usize, place: u64) -> (usize, Reached)
+        requires room { place + length piece.now ≤ 2 ^ 62 }
         requires within { from ≤ length piece.now }
         requires symbol { self.old.mode ≡ Mode.Symbol }
-        ensures { (place : ℕ) → RunsOn place piece.now from self.old self.new result.0 result.1 }
+        ensures { RunsOn place piece.now from self.old self.new result.0 result.1 }
     {
+        let end = from + (piece.len() - from).min(255 - self.buffer.len());
         let mut used = from;
-        while used < piece.len() {
-            match self.symbol(piece[used]) {
-                Step::Used => used += 1,
-                step => return ended(step, used),
+        while used < end {
+            let byte = piece[used];
+            if !continues_symbol(byte) {
+                self.mode = Mode::Outside;
+                return (used, Reached::Token(TokenForm::Symbol));
             }
+            self.buffer.push(byte);
+            used += 1;
+        }
+        if used < piece.len() {
+            return self.run_on(piece, used, place);
         }
         (used, Reached::End)
     }
@@ -127,7 +138,7 @@ impl PartialToken {
                 CommentClass::WordByte => {
                     self.at = at;
                     self.begin_text(Mode::BraceWord, byte);
-                    return self.run_brace_word(piece, used + 1);
+                    return self.run_brace_word(piece, used + 1, place);
                 }
                 CommentClass::CloseBrace => {
                     self.pass(Mode::Outside, at);
@@ -140,19 +151,30 @@ impl PartialToken {
         (used, Reached::End)
     }
 
-    /// Reads on in a word of a comment in braces.
+    /// Reads on in a word of a comment in braces. The bytes that the longest word has room for are
+    /// put into the buffer with no test of its length.
     #[inline(always)]
-    fn run_brace_word(&mut self, piece: &[u8], from: usize) -> (usize, Reached)
+    fn run_brace_word(&mut self, piece: &[u8], from: usize, place: u64) -> (usize, Reached)
+        requires room { place + length piece.now ≤ 2 ^ 62 }
         requires within { from ≤ length piece.now }
         requires word { self.old.mode ≡ Mode.BraceWord }
-        ensures { (place : ℕ) → RunsOn place piece.now from self.old self.new result.0 result.1 }
+        ensures { RunsOn place piece.now from self.old self.new result.0 result.1 }
     {
+        let end = from + (piece.len() - from).min(79 - self.buffer.len());
         let mut used = from;
-        while used < piece.len() {
-            match self.word(Mode::Brace, piece[used]) {
-                Step::Used => used += 1,
-                step => return ended(step, used),
+        while used < end {
+            let byte = piece[used];
+            match comment_class_of(byte) {
+                CommentClass::WordByte => self.buffer.push(byte),
+                _ => {
+                    self.mode = Mode::Brace;
+                    return (used, Reached::Token(TokenForm::Word));
+                }
             }
+            used += 1;
+        }
+        if used < piece.len() {
+            return self.run_on(piece, used, place);
         }
         (used, Reached::End)
     }

@@ -7,7 +7,7 @@ use Rattle.pgn_lexer.proofs.partial_token.PartialToken.run_brace.Goals as goal
 pub returns-in-WordByte : goal.returns-in-WordByte
 returns-in-WordByte c = λ old ran.
     let here = c.loop-used.invariant in
-    c.run_brace_word.ensures c.args.place old (ran_uses _ old c.args.piece.now _ c.loop-used.used _ (omega arith) refl (here.ran old ran) _
+    c.run_brace_word.ensures old (ran_uses _ old c.args.piece.now _ c.loop-used.used _ (omega arith) refl (here.ran old ran) _
     (takes_brace _ _ _ _ _ WordByte here.brace (sym c.comment_class_of.ensures ∙ c.in-WordByte.is) (record { held = c.begin_text.ensures.held; step = refl })))
 
 pub returns-in-CloseBrace : goal.returns-in-CloseBrace

@@ -1,4 +1,4 @@
-use Rattle.std.proofs.Common.{◌≡◌, ℕ, ◌≤◌, ◌-◌, length}
+use Rattle.std.proofs.Common.{◌≡◌, ◌+◌, ◌<◌, ◌≤◌, ◌-◌, length}
 use Rattle.pgn_lexer.specs.declared.partial_token.Mode.TheVariants.{BraceWord}
 use Rattle.pgn_lexer.specs.PartialToken.{PartialToken}
 use Rattle.pgn_lexer.specs.RunResult.{Ran}
@@ -6,10 +6,14 @@ use Rattle.pgn_lexer.proofs.partial_token.PartialToken.run_brace_word.Given as g
 
 abbrev pub invariant-loop-used : goal.invariant-loop-used
 invariant-loop-used l = record {
-  within : l.used ≤ length l.piece;
-  word : l.self.mode ≡ BraceWord;
-  ran : (place : ℕ) (old : PartialToken) → Ran place old l.piece l.fn.self l.from → Ran place old l.piece l.self l.used;
+  within : l.used ≤ l.end;
+  piece : l.end ≤ length l.piece;
+  some : 0 < length l.self-inside.buffer;
+  room : length l.self-inside.buffer + (l.end - l.used) ≤ 79;
+  word : l.self-inside.mode ≡ BraceWord;
+  ran : (old : PartialToken) → Ran l.place old l.piece l.fn.self l.from
+      → Ran l.place old l.piece (record { mode = l.self-inside.mode; at = l.self-inside.at; text = l.self-inside.buffer }) l.used;
 }
 
 abbrev pub decreases-loop-used : goal.decreases-loop-used
-decreases-loop-used l = length l.piece - l.used
+decreases-loop-used l = l.end - l.used

@@ -9,7 +9,7 @@ use Rattle.pgn_lexer.proofs.partial_token.PartialToken.run_outside.Goals as goal
 pub returns-in-SymbolStart : goal.returns-in-SymbolStart
 returns-in-SymbolStart c = λ old ran.
     let here = c.loop-used.invariant in
-    c.run_symbol.ensures c.args.place old (ran_uses _ old c.args.piece.now _ c.loop-used.used _ (omega arith) refl (here.ran old ran) _
+    c.run_symbol.ensures old (ran_uses _ old c.args.piece.now _ c.loop-used.used _ (omega arith) refl (here.ran old ran) _
     (takes_outside _ _ _ _ _ SymbolStart here.outside (sym c.class_of.ensures ∙ c.in-SymbolStart.is) refl (record { held = c.begin_text.ensures.held; step = refl })))
 
 pub returns-in-Quote : goal.returns-in-Quote
