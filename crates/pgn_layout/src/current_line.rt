@@ -78,17 +78,39 @@ impl CurrentLine {
         ensures empty { OnErr result (self.new ≡ []) }
         ensures counted { Counts result (W.failures out.old) (W.failures out.new) }
     {
+        self.put_parts(token, b"", out)
+    }
+
+    /// Puts a movetext token that is given in two parts, as [`put`](CurrentLine::put) puts it whole.
+    ///
+    /// # Errors
+    ///
+    /// [`WriteFault`], as for each call of a [`CurrentLine`].
+    #[inline(always)]
+    pub fn put_parts<W: Sink>(
+        &mut self,
+        first: &[u8],
+        second: &[u8],
+        out: &mut W,
+    ) -> Result<(), WriteFault>
+        requires { IsToken (first.now ++ second.now) }
+        ensures text { Writes (W.taken out.old) (W.taken out.new) result
+            (text_at self.old (Put (first.now ++ second.now))) }
+        ensures line { OnOk result (self.new ≡ line_at self.old (Put (first.now ++ second.now))) }
+        ensures empty { OnErr result (self.new ≡ []) }
+        ensures counted { Counts result (W.failures out.old) (W.failures out.new) }
+    {
         if self.bytes.is_empty() {
-            append(&mut self.bytes, token);
+            append(&mut self.bytes, first, second);
             return Ok(());
         }
-        if self.bytes.len() + 1 + token.len() <= LINE_LENGTH {
+        if self.bytes.len() + 1 + first.len() + second.len() <= LINE_LENGTH {
             self.bytes.push(b' ');
-            append(&mut self.bytes, token);
+            append(&mut self.bytes, first, second);
             return Ok(());
         }
         write_line(&mut self.bytes, out)?;
-        append(&mut self.bytes, token);
+        append(&mut self.bytes, first, second);
         Ok(())
     }
 
@@ -114,13 +136,14 @@ impl CurrentLine {
     }
 }
 
-// Adds the bytes at the line's end.
+// Adds the two parts of a token at the line's end.
 #[inline(always)]
-fn append(line: &mut ArrayVec<u8, LINE_WITH_LF_LENGTH>, token: &[u8])
-    requires { length line.old.items + length token.now ≤ 79 }
-    ensures { line.new.items ≡ line.old.items ++ token.now }
+fn append(line: &mut ArrayVec<u8, LINE_WITH_LF_LENGTH>, first: &[u8], second: &[u8])
+    requires { length line.old.items + length (first.now ++ second.now) ≤ 79 }
+    ensures { line.new.items ≡ line.old.items ++ first.now ++ second.now }
 {
-    let _ = line.try_extend_from_slice(token);
+    let _ = line.try_extend_from_slice(first);
+    let _ = line.try_extend_from_slice(second);
 }
 
 // Gives the line and its LF to one `write_all`, and empties the line, also if that failed.
