@@ -4,6 +4,7 @@ pub mod ItemToMovetext
 pub mod ItemToReader
 pub mod ItemsAppended
 pub mod MarkerToReader
+pub mod NumberToTokens
 pub mod PairStepToReader
 pub mod PlayedMovesAreLegal
 pub mod WritesInTurn

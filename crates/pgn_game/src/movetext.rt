@@ -12,7 +12,7 @@ ghost use Rattle.pgn_game.specs.ItemResult.{number_due, tokens_due, writes};
 use crate::judged::Item;
 use crate::levels::Levels;
 use crate::mode::Mode;
-use crate::number::{black_number, glyph_text, white_number};
+use crate::number::{put_glyph, put_move_number};
 use chess_rules::{Colour, Position, Probes};
 use chess_text::{Played, write_san};
 use pgn_layout::{CurrentLine, Sink, WriteFault};
@@ -175,7 +175,7 @@ impl<const L: usize> Movetext<L> {
     {
         match item {
             Item::Move(played) => self.write_move(played, probes, line, out),
-            Item::Glyph(glyph) => line.put(glyph_text(*glyph).as_slice(), out),
+            Item::Glyph(glyph) => put_glyph(*glyph, line, out),
             Item::CommentOpen => line.put(b"{", out),
             Item::Word(word) => line.put(word, out),
             Item::CommentClose => line.put(b"}", out),
@@ -214,12 +214,12 @@ impl<const L: usize> Movetext<L> {
     {
         let position = self.levels.present();
         match position.side() {
-            Colour::White => line.put(white_number(position.full()).as_slice(), out),
+            Colour::White => put_move_number(position.full(), b".", line, out),
             Colour::Black => {
                 if self.is_after_move {
                     return Ok(());
                 }
-                line.put(black_number(position.full()).as_slice(), out)
+                put_move_number(position.full(), b"...", line, out)
             }
         }
     }

@@ -1,54 +1,32 @@
 //! Numbers in movetext.
-ghost use Rattle.std.specs.Prelude.{◌≡◌, ◌<◌, ◌≤◌, ◌++◌, ◌∷◌, decimal, codes, length};
-ghost use Rattle.pgn_layout.specs.Lines.{IsToken};
+ghost use Rattle.std.specs.Prelude.{◌≤◌, [], ◌++◌, ◌∷◌, decimal, length};
+ghost use Rattle.pgn_layout.specs.Device.{device};
+ghost use Rattle.pgn_game.specs.ItemResult.{PutsTokens};
 
-use arrayvec::ArrayVec;
 use itoa::Buffer;
+use pgn_layout::{CurrentLine, Sink, WriteFault};
 
-/// The most bytes of a move number with three periods: ten digits of 32 bits, and the periods.
-pub const NUMBER_LENGTH: usize = 13;
-
-/// Returns White's move number: `n.` (PGN 8.2.2.2).
-pub fn white_number(number: u32) -> ArrayVec<u8, NUMBER_LENGTH>
-    ensures text { result.items ≡ decimal number ++ codes "." }
-    ensures token { IsToken result.items }
-{
-    let mut text = ArrayVec::new();
-    append_number(&mut text, number);
-    text.push(b'.');
-    text
-}
-
-/// Returns Black's move number: `n...` (PGN 8.2.2.2).
-pub fn black_number(number: u32) -> ArrayVec<u8, NUMBER_LENGTH>
-    ensures text { result.items ≡ decimal number ++ codes "..." }
-    ensures token { IsToken result.items }
-{
-    let mut text = ArrayVec::new();
-    append_number(&mut text, number);
-    let _ = text.try_extend_from_slice(b"...");
-    text
-}
-
-/// Returns the text of a NAG: `$n` (PGN 8.2.4). The byte 36 is `$`.
-pub fn glyph_text(glyph: u8) -> ArrayVec<u8, NUMBER_LENGTH>
-    ensures text { result.items ≡ 36 ∷ decimal glyph }
-    ensures token { IsToken result.items }
-{
-    let mut text = ArrayVec::new();
-    text.push(b'$');
-    append_number(&mut text, glyph as u32);
-    text
-}
-
-// Adds the number's digits at the text's end: one to ten bytes.
+/// Puts a move number on the line: its digits, and at most three periods (PGN 8.2.2.2).
 #[inline(always)]
-fn append_number(text: &mut ArrayVec<u8, NUMBER_LENGTH>, number: u32)
-    requires { length text.old.items ≤ 1 }
-    ensures text { text.new.items ≡ text.old.items ++ decimal number }
-    ensures some { 0 < length (decimal number) }
-    ensures few { length (decimal number) ≤ 10 }
+pub fn put_move_number<W: Sink>(
+    number: u32,
+    periods: &[u8],
+    line: &mut CurrentLine,
+    out: &mut W,
+) -> Result<(), WriteFault>
+    requires { length periods.now ≤ 3 }
+    ensures { PutsTokens ((decimal number ++ periods.now) ∷ []) line.old line.new result
+        (device W.taken W.failures out.old out.new) }
 {
     let mut buffer = Buffer::new();
-    let _ = text.try_extend_from_slice(buffer.format(number).as_bytes());
+    line.put_parts(buffer.format(number).as_bytes(), periods, out)
+}
+
+/// Puts the text of a NAG on the line: `$n` (PGN 8.2.4). The byte 36 is `$`.
+pub fn put_glyph<W: Sink>(glyph: u8, line: &mut CurrentLine, out: &mut W) -> Result<(), WriteFault>
+    ensures { PutsTokens ((36 ∷ decimal glyph) ∷ []) line.old line.new result
+        (device W.taken W.failures out.old out.new) }
+{
+    let mut buffer = Buffer::new();
+    line.put_parts(b"$", buffer.format(glyph).as_bytes(), out)
 }

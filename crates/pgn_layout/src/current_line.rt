@@ -81,7 +81,7 @@ impl CurrentLine {
         self.put_parts(token, b"", out)
     }
 
-    /// Puts a movetext token that is given in two parts, as [`put`](CurrentLine::put) puts it whole.
+    /// Puts a movetext token on the line in two parts, as [`put`](CurrentLine::put) does in one.
     ///
     /// # Errors
     ///

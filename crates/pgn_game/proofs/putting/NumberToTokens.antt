@@ -1,0 +1,32 @@
+-- Numbers in movetext as tokens, and one token put in turn.
+use Rattle.std.proofs.Common.{◌≡◌, ℕ, ◌<◌, ◌≤◌, ◌^◌, List, [], ◌∷◌, ◌++◌, length, decimal, Result, OnOk, sym, subst, append-nil, length-append, arith}
+use Rattle.std.proofs.lemmas.Fmt.{decimal_nonempty, length-decimal-le}
+use Rattle.std.proofs.lemmas.List.Elements.{All-nil, All-cons}
+use Rattle.pgn_layout.specs.Device.{Counts, Device, Writes}
+use Rattle.pgn_layout.specs.Lines.{IsToken}
+use Rattle.pgn_layout.specs.Layout.{Put, text_at, line_at}
+use Rattle.pgn_game.specs.ItemResult.{PutsTokens}
+
+-- the digits of a move number, and its periods
+pub number_token : (n : ℕ) (periods : List ℕ) → n < 2 ^ 32 → length periods ≤ 3 → IsToken (decimal n ++ periods)
+number_token n periods fits short =
+    let some : 0 < length (decimal n) = decimal_nonempty n (omega (arith, fits)) in
+    let few : length (decimal n) ≤ 10 = length-decimal-le 10 n (omega arith) (omega (arith, fits)) (omega (arith, fits)) in
+    record { not_empty = omega (arith, length-append (decimal n) periods, some); fits = omega (arith, length-append (decimal n) periods, few, short) }
+
+-- `$` (36), and the digits of a NAG
+pub glyph_token : (n : ℕ) → n < 2 ^ 8 → IsToken (36 ∷ decimal n)
+glyph_token n fits =
+    let few : length (decimal n) ≤ 3 = length-decimal-le 3 n (omega arith) (omega (arith, fits)) (omega (arith, fits)) in
+    record { not_empty = omega arith; fits = omega (arith, few) }
+
+-- one token, put by one call
+pub puts_token : {A E : Type 0} (t line new_line : List ℕ) (r : Result A E) (d : Device) → IsToken t
+    → Writes d.before d.after r (text_at line (Put t)) → OnOk r (new_line ≡ line_at line (Put t)) → Counts r d.failures d.failures_after
+    → PutsTokens (t ∷ []) line new_line r d
+puts_token t line new_line r d token text held counted = record {
+  text = subst (Writes d.before d.after r) (sym (append-nil (text_at line (Put t)))) text;
+  held = held;
+  each = All-cons IsToken t [] token (All-nil IsToken);
+  counted = counted;
+}
