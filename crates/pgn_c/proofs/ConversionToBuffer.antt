@@ -5,6 +5,7 @@ use Rattle.pgn_lexer.specs.Tokens.{Token}
 use Rattle.pgn_lexer.specs.TokensOf.{tokens_of}
 use Rattle.pgn_lexer.specs.Decided.{decided}
 use Rattle.pgn_lexer.specs.Laws.{DecidedIsPrefix}
+use Rattle.pgn_layout.specs.Device.{Device}
 use Rattle.pgn_game.specs.declared.mode.Mode.{Mode}
 use Rattle.pgn_game.specs.declared.reason.Reason.{Reason}
 use Rattle.pgn_game.specs.declared.reason.Reason.TheVariants.{WriteFault}
@@ -14,7 +15,7 @@ use Rattle.pgn_game.specs.Profile.{Profile}
 use Rattle.pgn_game.specs.Progress.{due, output}
 use Rattle.pgn_game.specs.ConverterCalls.{StopsWriting}
 use Rattle.pgn_game.specs.Laws.{DueGrows, IsPrefix}
-use Rattle.pgn_game.specs.Conversion.{ConvertsSlice, FailsOn, refused, unwritten, too_long, CountsSink, CountsWriting}
+use Rattle.pgn_game.specs.Conversion.{AfterSlice, FailsOn, refused, unwritten, too_long, CountsSink, CountsWriting}
 use Rattle.pgn_c.specs.Results.{IsFilled, profile_in, result_of, status_of}
 
 -- ---- what is written is a front of the export text
@@ -55,7 +56,7 @@ front_on_fault p nothing text written _ grows prefix (too_long u rest is long mo
     (subst (λ s. IsPrefix (due p (decided u)) (output p s)) (sym is) (before_limit p u rest grows prefix))
 
 pub front : (mode : Mode) (text written : List ℕ) (outcome : Result Totals Fault) → DueGrows → DecidedIsPrefix
-    → ConvertsSlice (profile_in mode) text outcome (Some []) (Some written) → IsPrefix written (output (profile_in mode) text)
+    → AfterSlice (profile_in mode) text outcome (Some []) (Some written) → IsPrefix written (output (profile_in mode) text)
 front mode text written (Ok t) grows prefix total = all_of _ _ total.converted.1
 front mode text written (Err f) grows prefix fails =
     front_on_fault (profile_in mode) (nothing_due mode) text written f grows prefix fails
@@ -73,14 +74,14 @@ filled before after n within long behind =
 
 -- ---- a full buffer
 
-write_fault : (reason : Reason) (failures : ℕ) → CountsWriting reason 0 failures → status_of reason ≡ 2 → 0 < failures
-write_fault WriteFault failures counted is = omega (arith, counted)
-write_fault _ failures counted is = absurd (omega (arith, is))
+write_fault : (reason : Reason) (sink : Device) → CountsWriting reason sink → sink.failures ≡ 0 → status_of reason ≡ 2 → 0 < sink.failures_after
+write_fault WriteFault sink counted none is = omega (arith, counted, none)
+write_fault _ sink counted none is = absurd (omega (arith, is))
 
-pub is_full : (outcome : Result Totals Fault) (n failures : ℕ) → CountsSink outcome 0 failures
-    → (result_of outcome n).status ≡ 2 → 0 < failures
-is_full (Ok t) n failures counted is = absurd (omega (arith, is))
-is_full (Err f) n failures counted is = write_fault f.reason failures counted is
+pub is_full : (outcome : Result Totals Fault) (n : ℕ) (sink : Device) → CountsSink outcome sink → sink.failures ≡ 0
+    → (result_of outcome n).status ≡ 2 → 0 < sink.failures_after
+is_full (Ok t) n sink counted none is = absurd (omega (arith, is))
+is_full (Err f) n sink counted none is = write_fault f.reason sink counted none is
 
 -- ---- a result without a fault
 

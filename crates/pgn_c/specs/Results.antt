@@ -1,5 +1,6 @@
 -- **Definition**: the result of a conversion, as C gets it.
 use Rattle.std.specs.Prelude.{◌≡◌, ◌≢◌, ℕ, ◌+◌, ◌-◌, ◌^◌, ◌≤◌, ◌==◌, if◌then◌else◌, List, [], ◌++◌, length, drop, replicate, decimal, Option, Some, None, Result, Ok, Err}
+use Rattle.pgn_layout.specs.Device.{nowhere}
 use Rattle.pgn_game.specs.declared.mode.Mode.{Mode}
 use Rattle.pgn_game.specs.declared.mode.Mode.TheVariants.{Full, Reduced}
 use Rattle.pgn_game.specs.declared.reason.Reason.{Reason}
@@ -10,7 +11,7 @@ use Rattle.pgn_game.specs.Profile.{Profile}
 use Rattle.pgn_game.specs.Reason.{number_of, line_of}
 use Rattle.pgn_game.specs.Progress.{output}
 use Rattle.pgn_game.specs.ConverterCalls.{profile_of}
-use Rattle.pgn_game.specs.Conversion.{ConvertsSlice}
+use Rattle.pgn_game.specs.Conversion.{AfterSlice, ConvertsSlice}
 use Rattle.pgn_game.specs.Laws.{IsPrefix}
 use Rattle.pgn_c.specs.declared.pgn_result.PgnResult.{PgnResult}
 
@@ -39,7 +40,7 @@ profile_in mode = profile_of 64 32 mode
 -- that a buffer is full.
 pub record Checks (text : List ℕ) (result : PgnResult) : Type 0 where
   pub outcome : Result Totals Fault
-  pub converts : ConvertsSlice (profile_in Full) text outcome None None
+  pub converts : ConvertsSlice (profile_in Full) text outcome nowhere
   pub not_full : result.status ≢ 2
   pub short : result.status ≡ 0 → length text ≤ 2 ^ 62
   pub is_result : result ≡ result_of outcome 0
@@ -54,7 +55,7 @@ pub record IsFilled (before after written : List ℕ) : Type 0 where
 pub record Converts (mode : Mode) (text before after : List ℕ) (result : PgnResult) : Type 0 where
   pub outcome : Result Totals Fault
   pub written : List ℕ
-  pub converts : ConvertsSlice (profile_in mode) text outcome (Some []) (Some written)
+  pub converts : AfterSlice (profile_in mode) text outcome (Some []) (Some written)
   pub front : IsPrefix written (output (profile_in mode) text)
   pub filled : IsFilled before after written
   pub full : result.status ≡ 2 → length written ≡ length before

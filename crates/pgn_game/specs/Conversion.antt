@@ -1,10 +1,10 @@
 -- **Definition**: what a conversion of a whole input does.
 -- Letters: p is the profile, s a text, v a verdict, t the totals, f a fault, u the bytes read so
--- far. `before` and `after` are the bytes that the sink has taken, before the call and after it;
--- `left_old` and `left_new` are those that the source has left.
+-- far. `source` and `sink` are the devices before the call and after it. `before` and `after` are
+-- the bytes that the sink has taken, `left_old` and `left_new` those that the source has left.
 use Rattle.std.specs.Prelude.{◌≡◌, ℕ, ◌^◌, ◌<◌, ◌≤◌, IsTrue, List, [], ◌++◌, length, Option, None, Result, Ok, Err, IfSome}
 use Rattle.std.specs.Io.KnownBytes.{Appends, Consumes}
-use Rattle.pgn_layout.specs.Device.{one_more}
+use Rattle.pgn_layout.specs.Device.{Device, FailsOnce, IsStill, one_more}
 use Rattle.pgn_lexer.specs.Tokens.{Token}
 use Rattle.pgn_lexer.specs.TokensOf.{tokens_of}
 use Rattle.pgn_lexer.specs.Decided.{decided}
@@ -52,9 +52,13 @@ pub data FailsOn (p : Profile) (text : List ℕ) (before after : Option (List �
   too_long : (u rest : List ℕ) → text ≡ u ++ rest → length u ≡ 2 ^ 62 → 0 < length rest → ReadsNoMore p u before after
       → FailsOn p text before after (record { at = length u; reason = InputTooLong })
 
-abbrev pub ConvertsSlice : Profile → List ℕ → Result Totals Fault → Option (List ℕ) → Option (List ℕ) → Type 0
-ConvertsSlice p text (Ok t) before after = IsTotalled p text t before after
-ConvertsSlice p text (Err f) before after = FailsOn p text before after f
+abbrev pub AfterSlice : Profile → List ℕ → Result Totals Fault → Option (List ℕ) → Option (List ℕ) → Type 0
+AfterSlice p text (Ok t) before after = IsTotalled p text t before after
+AfterSlice p text (Err f) before after = FailsOn p text before after f
+
+-- What `convert_slice` does to its sink.
+abbrev pub ConvertsSlice : Profile → List ℕ → Result Totals Fault → Device → Type 0
+ConvertsSlice p text result sink = AfterSlice p text result sink.before sink.after
 
 -- How a conversion fails: by the input's own fault; because a read failed behind the bytes u;
 -- because a write failed when the bytes u were read; or since the byte at place 2^62 came.
@@ -67,9 +71,14 @@ pub data Fails (p : Profile) (left_old left_new : Option (List ℕ)) (before aft
       → Fails p left_old left_new before after (record { at = length u; reason = InputTooLong })
 
 -- What the source has left is converted, up to its end.
-abbrev pub Converts : Profile → Option (List ℕ) → Option (List ℕ) → Result Totals Fault → Option (List ℕ) → Option (List ℕ) → Type 0
-Converts p left_old left_new (Ok t) before after = IfSome left_old (λ s. IsTotalled p s t before after)
-Converts p left_old left_new (Err f) before after = Fails p left_old left_new before after f
+abbrev pub AfterConversion : Profile → Option (List ℕ) → Option (List ℕ) → Result Totals Fault → Option (List ℕ) → Option (List ℕ) → Type 0
+AfterConversion p left_old left_new (Ok t) before after = IfSome left_old (λ s. IsTotalled p s t before after)
+AfterConversion p left_old left_new (Err f) before after = Fails p left_old left_new before after f
+
+-- What `convert` does to its source and its sink.
+abbrev pub Converts : Profile → Device → Result Totals Fault → Device → Type 0
+Converts p source result sink =
+    AfterConversion p source.before source.after result sink.before sink.after
 
 -- 50 is answered where the source counts one failure more, 51 where the sink does, and nowhere else
 -- does one count.
@@ -78,23 +87,30 @@ CountsDevices ReadFault source_old source_new sink_old sink_new = (source_new �
 CountsDevices WriteFault source_old source_new sink_old sink_new = (source_new ≡ source_old) × (sink_new ≡ one_more sink_old)
 CountsDevices _ source_old source_new sink_old sink_new = (source_new ≡ source_old) × (sink_new ≡ sink_old)
 
-abbrev pub CountsResult : Result Totals Fault → ℕ → ℕ → ℕ → ℕ → Type 0
-CountsResult (Ok t) source_old source_new sink_old sink_new = (source_new ≡ source_old) × (sink_new ≡ sink_old)
-CountsResult (Err f) source_old source_new sink_old sink_new = CountsDevices f.reason source_old source_new sink_old sink_new
+abbrev pub CountsResult : Result Totals Fault → Device → Device → Type 0
+CountsResult (Ok t) source sink = IsStill source × IsStill sink
+CountsResult (Err f) source sink =
+    CountsDevices f.reason source.failures source.failures_after sink.failures sink.failures_after
 
 -- the same where there is no source
-abbrev pub CountsWriting : Reason → ℕ → ℕ → Type 0
-CountsWriting WriteFault old new = new ≡ one_more old
-CountsWriting _ old new = new ≡ old
+abbrev pub CountsWriting : Reason → Device → Type 0
+CountsWriting WriteFault sink = FailsOnce sink
+CountsWriting _ sink = IsStill sink
 
-abbrev pub CountsSink : {A : Type 0} → Result A Fault → ℕ → ℕ → Type 0
-CountsSink (Ok t) old new = new ≡ old
-CountsSink (Err f) old new = CountsWriting f.reason old new
+abbrev pub CountsSink : {A : Type 0} → Result A Fault → Device → Type 0
+CountsSink (Ok t) sink = IsStill sink
+CountsSink (Err f) sink = CountsWriting f.reason sink
 
 -- How a conversion ends behind the bytes u, which are then the whole input.
 abbrev pub AfterEnd : Profile → List ℕ → List Token → Result Totals Fault → Option (List ℕ) → Option (List ℕ) → Type 0
 AfterEnd p u given (Ok t) before after = (verdict p u ≡ verdict_in t) × MostProbes p u t.most_probes × Gains p given (tokens_of u) before after
 AfterEnd p u given (Err f) before after = Stops p given (tokens_of u) before after f
+
+-- What the end of the input does to a converter and its sink.
+abbrev pub Concludes : Converter → Result Totals Fault → Device → Type 0
+Concludes old result sink =
+    (p : Profile) (u : List ℕ) (given : List Token)
+    → Stands p old u None given → AfterEnd p u given result sink.before sink.after
 
 -- What was read of a source so far, and fed.
 pub record ReadSoFar (p : Profile) (left_old left_now : Option (List ℕ)) (now : Converter) (before after : Option (List ℕ)) : Type 0 where

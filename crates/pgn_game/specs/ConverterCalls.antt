@@ -1,13 +1,13 @@
 -- **Definition**: what a contract sees of a converter, and what each call does to it.
 -- Letters: p is the profile, u the bytes used so far, b the byte known to be next, if one is.
--- `given` are the tokens given so far, and f is a fault. `before` and `after` are the bytes that
--- the sink has taken, before the call and after it, if it reports them. A game is just finished
--- from the call that finished it to the next call of `feed` or `finish`.
+-- `given` are the tokens given so far, and f is a fault. `sink` is the sink before the call and
+-- after it, `before` and `after` are the bytes that it has taken, if it reports them. A game is just
+-- finished from the call that finished it to the next call of `feed` or `finish`.
 use Rattle.std.specs.Prelude.{◌≡◌, ℕ, ◌+◌, ◌*◌, ◌^◌, ◌<◌, ◌≤◌, ◌↔◌, Bool, true, false, ◌||◌, IsTrue, List, [], ◌∷◌, ◌++◌, length, take, drop, map, sum, codes, option_map, Option, None, Some, Result, Ok, Err}
 use Rattle.std.specs.List.{list_any}
 use Rattle.std.specs.Io.KnownBytes.{Appends}
 use Rattle.chess_rules.specs.declared.position.Parts.{Parts}
-use Rattle.pgn_layout.specs.Device.{one_more}
+use Rattle.pgn_layout.specs.Device.{Device, IsStill, one_more}
 use Rattle.pgn_lexer.specs.Tokens.{Token, EndsAt}
 use Rattle.pgn_lexer.specs.TokensOf.{tokens_of}
 use Rattle.pgn_lexer.specs.Decided.{decided}
@@ -229,9 +229,11 @@ AfterFeed p u b given piece new (Err f) before after =
     × (new.reading ≡ now.reading)) f
 
 -- What `feed` does to a converter that stands after any bytes.
-abbrev pub Feeds : Converter → List ℕ → Converter → Result Fed Fault → Option (List ℕ) → Option (List ℕ) → Type 0
-Feeds old piece new result before after =
-    (p : Profile) (u : List ℕ) (b : Option ℕ) (given : List Token) → Stands p old u b given → Follows b piece → AfterFeed p u b given piece new result before after
+abbrev pub Feeds : Converter → List ℕ → Converter → Result Fed Fault → Device → Type 0
+Feeds old piece new result sink =
+    (p : Profile) (u : List ℕ) (b : Option ℕ) (given : List Token)
+    → Stands p old u b given → Follows b piece
+    → AfterFeed p u b given piece new result sink.before sink.after
 
 -- Unless a game is finished no game is counted, and none is just finished.
 abbrev pub KeepsGames : Converter → Converter → Result Fed Fault → Type 0
@@ -265,12 +267,11 @@ AfterFeedAll p u given piece new (Err f) before after =
     (λ front. ReadsUpTo p given (u ++ front) before after) f
 
 -- What `feed_all` does to a converter that has read all that the bytes u decide.
-abbrev pub FeedsAll : Converter → List ℕ → Converter → Result Unit Fault
-    → Option (List ℕ) → Option (List ℕ) → Type 0
-FeedsAll old piece new result before after =
+abbrev pub FeedsAll : Converter → List ℕ → Converter → Result Unit Fault → Device → Type 0
+FeedsAll old piece new result sink =
     (p : Profile) (u : List ℕ) (given : List Token)
     → Stands p old u None given → given ≡ decided u
-    → AfterFeedAll p u given piece new result before after
+    → AfterFeedAll p u given piece new result sink.before sink.after
 
 -- how much of the piece was used
 abbrev pub used_of : Fed → List ℕ → ℕ
@@ -303,9 +304,10 @@ AfterFinish p u given new (Ok finished_game) before after = Finishes p u given n
 AfterFinish p u given new (Err f) before after = FinishesToFault p u given new f before after
 
 -- What `finish` does to a converter that stands after the bytes u, which are then the whole text.
-abbrev pub Ends : Converter → Converter → Result Bool Fault → Option (List ℕ) → Option (List ℕ) → Type 0
-Ends old new result before after =
-    (p : Profile) (u : List ℕ) (b : Option ℕ) (given : List Token) → Stands p old u b given → AfterFinish p u given new result before after
+abbrev pub Ends : Converter → Converter → Result Bool Fault → Device → Type 0
+Ends old new result sink =
+    (p : Profile) (u : List ℕ) (b : Option ℕ) (given : List Token)
+    → Stands p old u b given → AfterFinish p u given new result sink.before sink.after
 
 -- The fault that a call answers is kept, and no other call has one.
 abbrev pub KeepsFault : {A : Type 0} → Converter → Result A Fault → Type 0
@@ -325,6 +327,6 @@ CountsReason ReadFault old new = ⊥
 CountsReason Changed old new = ⊥
 CountsReason _ old new = new ≡ old
 
-abbrev pub CountsFault : {A : Type 0} → Result A Fault → ℕ → ℕ → Type 0
-CountsFault (Ok x) old new = new ≡ old
-CountsFault (Err f) old new = CountsReason f.reason old new
+abbrev pub CountsFault : {A : Type 0} → Result A Fault → Device → Type 0
+CountsFault (Ok x) sink = IsStill sink
+CountsFault (Err f) sink = CountsReason f.reason sink.failures sink.failures_after

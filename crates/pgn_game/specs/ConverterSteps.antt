@@ -1,9 +1,10 @@
 -- **Bookkeeping**: what one token does to a converter, in a piece and after the last one.
 -- Letters: p is the profile, u the bytes used so far, b the byte known to be next, if one is.
--- `given` are the tokens given so far, and f is a fault. `before` and `after` are the bytes that
--- the sink has taken, before the call and after it, if it reports them. The token of the step is t,
--- and g is a game.
+-- `given` are the tokens given so far, and f is a fault. `sink` is the sink before the call and
+-- after it, `before` and `after` are the bytes that it has taken, if it reports them. The token of
+-- the step is t, and g is a game.
 use Rattle.std.specs.Prelude.{◌≡◌, ℕ, ◌+◌, ◌*◌, ◌<◌, ◌≤◌, ◌^◌, ◌↔◌, Bool, true, false, IsTrue, List, [], ◌∷◌, ◌++◌, length, take, drop, Option, None, Some, Result, Ok, Err}
+use Rattle.pgn_layout.specs.Device.{Device}
 use Rattle.pgn_lexer.specs.Tokens.{Token, EndsAt}
 use Rattle.pgn_lexer.specs.TokensOf.{tokens_of}
 use Rattle.pgn_lexer.specs.Decided.{decided}
@@ -48,6 +49,12 @@ AfterStep p u given piece new used (Ok (Some Finished)) before after =
 AfterStep p u given piece new used (Err f) before after =
     FedToFault p u None given piece f new.reading.most_probes before after
 
+-- What `step` does to a converter.
+abbrev pub Steps : Converter → List ℕ → Converter → ℕ → Result (Option Accepted) Fault → Device → Type 0
+Steps old piece new used outcome sink =
+    (p : Profile) (u : List ℕ) (given : List Token) → Stands p old u (first piece) given
+    → AfterStep p u given piece new used outcome sink.before sink.after
+
 -- Where no game is begun after a token, nothing has changed with it.
 abbrev pub StaysBetween : Converter → Converter → Type 0
 StaysBetween old new = new.reading.stage ≡ Between → new.reading ≡ old.reading
@@ -84,6 +91,12 @@ AfterStepAtEnd p u given old new (Ok None) before after =
 AfterStepAtEnd p u given old new (Err f) before after =
     FaultAtEnd p given (tokens_of u) f new.reading.most_probes before after
 
+-- What `step_at_end` does to a converter.
+abbrev pub StepsAtEnd : Converter → Converter → Result (Option Accepted) Fault → Device → Type 0
+StepsAtEnd old new result sink =
+    (p : Profile) (u : List ℕ) (given : List Token) → HasLeft old.lexer u given → HasRead p old given
+    → AfterStepAtEnd p u given old new result sink.before sink.after
+
 -- What was read behind the last piece so far, and whether a game was finished there. It is still
 -- held while none is begun.
 pub record AtEndSoFar (p : Profile) (u : List ℕ) (given : List Token) (now : Converter) (finished_game : Bool) (before after : Option (List ℕ)) : Type 0 where
@@ -95,9 +108,10 @@ pub record AtEndSoFar (p : Profile) (u : List ℕ) (given : List Token) (now : C
   pub last : IsTrue finished_game → now.reading.stage ≡ Between → IsLast (Some (game_in_reader now.reading)) (read p tokens).progress.games
   pub gains : Gains p given tokens before after
 
-abbrev pub FinishesSoFar : Converter → Converter → Bool → Option (List ℕ) → Option (List ℕ) → Type 0
-FinishesSoFar old now finished_game before after =
-    (p : Profile) (u : List ℕ) (b : Option ℕ) (given : List Token) → Stands p old u b given → AtEndSoFar p u given now finished_game before after
+abbrev pub FinishesSoFar : Converter → Converter → Bool → Device → Type 0
+FinishesSoFar old now finished_game sink =
+    (p : Profile) (u : List ℕ) (b : Option ℕ) (given : List Token)
+    → Stands p old u b given → AtEndSoFar p u given now finished_game sink.before sink.after
 
 -- what an answer of the reader, to a token at this place, is for the converter
 abbrev pub outcome_at : ℕ → Result Accepted Reason → Result (Option Accepted) Fault
@@ -158,12 +172,11 @@ AfterFront p u b given piece new (Ok (GameEnd used)) before after =
 AfterFront p u b given piece new (Err f) before after =
     FedToFault p u b given piece f new.reading.most_probes before after
 
-abbrev pub FeedsFront : Converter → List ℕ → Converter → Result Fed Fault
-    → Option (List ℕ) → Option (List ℕ) → Type 0
-FeedsFront old piece new result before after =
+abbrev pub FeedsFront : Converter → List ℕ → Converter → Result Fed Fault → Device → Type 0
+FeedsFront old piece new result sink =
     (p : Profile) (u : List ℕ) (b : Option ℕ) (given : List Token)
     → Stands p old u b given → Follows b piece
-    → AfterFront p u b given piece new result before after
+    → AfterFront p u b given piece new result sink.before sink.after
 
 -- what was read of a piece up to a place, no game finished in it
 pub record SoFar (p : Profile) (u : List ℕ) (b : Option ℕ) (given : List Token) (piece : List ℕ) (at : ℕ) (now : Converter) (before after : Option (List ℕ)) : Type 0 where
@@ -174,9 +187,11 @@ pub record SoFar (p : Profile) (u : List ℕ) (b : Option ℕ) (given : List Tok
   pub no_game : SameGames p given tokens
   pub gains : Gains p given tokens before after
 
-abbrev pub FeedsSoFar : Converter → List ℕ → ℕ → Converter → Option (List ℕ) → Option (List ℕ) → Type 0
-FeedsSoFar old piece at now before after =
-    (p : Profile) (u : List ℕ) (b : Option ℕ) (given : List Token) → Stands p old u b given → Follows b piece → SoFar p u b given piece at now before after
+abbrev pub FeedsSoFar : Converter → List ℕ → ℕ → Converter → Device → Type 0
+FeedsSoFar old piece at now sink =
+    (p : Profile) (u : List ℕ) (b : Option ℕ) (given : List Token)
+    → Stands p old u b given → Follows b piece
+    → SoFar p u b given piece at now sink.before sink.after
 
 -- what was read of a piece up to a place, however many games were finished in it
 pub record AllSoFar (p : Profile) (u : List ℕ) (given : List Token) (piece : List ℕ) (at : ℕ)
@@ -187,8 +202,8 @@ pub record AllSoFar (p : Profile) (u : List ℕ) (given : List Token) (piece : L
   pub decided : IsDecided (u ++ take at piece) (drop at piece) tokens
   pub gains : Gains p given tokens before after
 
-abbrev pub FeedsAllSoFar : Converter → List ℕ → ℕ → Converter → Option (List ℕ) → Option (List ℕ) → Type 0
-FeedsAllSoFar old piece at now before after =
+abbrev pub FeedsAllSoFar : Converter → List ℕ → ℕ → Converter → Device → Type 0
+FeedsAllSoFar old piece at now sink =
     (p : Profile) (u : List ℕ) (given : List Token)
     → Stands p old u None given → given ≡ decided u
-    → AllSoFar p u given piece at now before after
+    → AllSoFar p u given piece at now sink.before sink.after

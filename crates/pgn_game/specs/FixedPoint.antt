@@ -15,7 +15,7 @@ use Rattle.pgn_game.specs.Levels.{plies_of}
 use Rattle.pgn_game.specs.Text.{text_of}
 use Rattle.pgn_game.specs.Progress.{Counted, read, output, verdict, totals}
 use Rattle.pgn_game.specs.Spells.{Spells}
-use Rattle.pgn_game.specs.Conversion.{Converts, ConvertsSlice}
+use Rattle.pgn_game.specs.Conversion.{AfterConversion, AfterSlice}
 use Rattle.pgn_game.specs.Filled.{exported_pairs, filled}
 
 -- The tag section that is written has no more lines than a game may have pairs.
@@ -73,14 +73,14 @@ SourceIsKept p gs (Err f) before after = (f.reason ≡ ReadFault) ⊎ (f.reason 
 abbrev pub ExportIsKept : Type 0
 ExportIsKept = (p : Profile) (gs : List Game) (r : Result Totals Fault)
     (before after : Option (List ℕ)) → AreExportable p gs → length (text_of p gs) ≤ 2 ^ 62
-    → ConvertsSlice p (text_of p gs) r before after → SliceIsKept p gs r before after
+    → AfterSlice p (text_of p gs) r before after → SliceIsKept p gs r before after
 
 -- What follows from the contract of `convert` if the source still has such a text to give.
 abbrev pub ExportIsKeptOfSource : Type 0
 ExportIsKeptOfSource = (p : Profile) (gs : List Game) (r : Result Totals Fault)
     (left_old left_new before after : Option (List ℕ))
     → AreExportable p gs → length (text_of p gs) ≤ 2 ^ 62 → left_old ≡ Some (text_of p gs)
-    → Converts p left_old left_new r before after → SourceIsKept p gs r before after
+    → AfterConversion p left_old left_new r before after → SourceIsKept p gs r before after
 
 -- The same, said of inputs.
 

@@ -94,7 +94,7 @@ pub record PutResult (old : ReaderState) (j : Judged) (new : ReaderState) (r : R
   pub keeps : Keeps old new
   pub stays : Stays old new r
   pub finished : FinishesFinal j new r
-  pub counted : CountsWrites r d.failures d.failures_after
+  pub counted : CountsWrites r d
 
 -- What is written of a game before its items: its tag section, where movetext begins. `result` is
 -- the value of a missing Result.

@@ -4,7 +4,7 @@
 use Rattle.std.specs.Prelude.{◌≡◌, ℕ, ◌+◌, ◌<◌, ◌≤◌, nat_le, false, IsTrue, is_some, Bool, true, List, [], length, Option, None, Some, IsSomeAnd, Result, Ok, Err}
 use Rattle.std.specs.List.{list_any}
 use Rattle.std.specs.Io.KnownBytes.{Appends}
-use Rattle.pgn_layout.specs.Device.{AppendsFront, one_more}
+use Rattle.pgn_layout.specs.Device.{AppendsFront, Device, IsStill, one_more}
 use Rattle.pgn_lexer.specs.Tokens.{Kind}
 use Rattle.pgn_game.specs.declared.reason.Reason.{Reason}
 use Rattle.pgn_game.specs.declared.reason.Reason.TheVariants.{WriteFault}
@@ -125,9 +125,9 @@ Answers old part k new (Ok accepted) before after = IsAccepted old part k new ac
 Answers old part k new (Err reason) before after = IsStopped old part k new before after reason
 
 -- so for every part
-abbrev pub Accepts : ReaderState → Kind → ReaderState → Result Accepted Reason → Option (List ℕ)
-    → Option (List ℕ) → Type 0
-Accepts old k new r before after = (part : Part) → Agrees old part → Answers old part k new r before after
+abbrev pub Accepts : ReaderState → Kind → ReaderState → Result Accepted Reason → Device → Type 0
+Accepts old k new r sink =
+    (part : Part) → Agrees old part → Answers old part k new r sink.before sink.after
 
 -- A token after which no game is begun, and that finished none, changes nothing.
 abbrev pub Stays : ReaderState → ReaderState → Result Accepted Reason → Type 0
@@ -152,6 +152,7 @@ abbrev pub CountsStop : Bool → Reason → ℕ → ℕ → Type 0
 CountsStop false reason old new = new ≡ old
 CountsStop true reason old new = (reason ≡ WriteFault) × (new ≡ one_more old)
 
-abbrev pub CountsWrites : Result Accepted Reason → ℕ → ℕ → Type 0
-CountsWrites (Ok accepted) old new = new ≡ old
-CountsWrites (Err reason) old new = CountsStop (is_outside_the_table reason) reason old new
+abbrev pub CountsWrites : Result Accepted Reason → Device → Type 0
+CountsWrites (Ok accepted) sink = IsStill sink
+CountsWrites (Err reason) sink =
+    CountsStop (is_outside_the_table reason) reason sink.failures sink.failures_after

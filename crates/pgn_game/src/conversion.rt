@@ -1,10 +1,9 @@
 //! Converts a whole input.
-ghost use Rattle.std.specs.Prelude.{◌≡◌, ◌-◌, ◌≤◌, ◌^◌, length, false, None, ℕ, List, OnOk, IfSome};
-ghost use Rattle.pgn_lexer.specs.Tokens.{Token};
-ghost use Rattle.pgn_game.specs.Profile.{Profile};
-ghost use Rattle.pgn_game.specs.ConverterCalls.{Stands, CountsFault, profile_of};
+ghost use Rattle.std.specs.Prelude.{◌≡◌, ◌-◌, ◌≤◌, ◌^◌, length, false, None, OnOk, IfSome};
+ghost use Rattle.pgn_layout.specs.Device.{device};
+ghost use Rattle.pgn_game.specs.ConverterCalls.{CountsFault, profile_of};
 ghost use Rattle.pgn_game.specs.Size.{Holds};
-ghost use Rattle.pgn_game.specs.Conversion.{Converts, ConvertsSlice, AfterEnd, CountsResult, CountsSink};
+ghost use Rattle.pgn_game.specs.Conversion.{Converts, ConvertsSlice, Concludes, CountsResult, CountsSink};
 
 use crate::converter::Converter;
 use crate::mode::Mode;
@@ -54,12 +53,12 @@ pub fn convert<const T: usize, const L: usize, R: Source, W: Sink>(
 ) -> Result<Totals, Fault>
     requires levels { 1 ≤ L }
     requires memory { Holds T.row L.row }
-    ensures converts { Converts (profile_of T (L - 1) mode) (R.left reader.old)
-        (R.left reader.new) result
-        (W.taken writer.old) (W.taken writer.new) }
+    ensures converts { Converts (profile_of T (L - 1) mode)
+        (device R.left R.failures reader.old reader.new) result
+        (device W.taken W.failures writer.old writer.new) }
     ensures short { OnOk result (IfSome (R.left reader.old) (λ s. length s ≤ 2 ^ 62)) }
-    ensures counted { CountsResult result (R.failures reader.old) (R.failures reader.new)
-        (W.failures writer.old) (W.failures writer.new) }
+    ensures counted { CountsResult result (device R.left R.failures reader.old reader.new)
+        (device W.taken W.failures writer.old writer.new) }
 {
     let mut buffer = [0; 4096];
     let mut converter = Converter::<T, L>::new(mode);
@@ -100,9 +99,9 @@ pub fn convert_slice<const T: usize, const L: usize, W: Sink>(
     requires levels { 1 ≤ L }
     requires memory { Holds T.row L.row }
     ensures converts { ConvertsSlice (profile_of T (L - 1) mode) text.now result
-        (W.taken writer.old) (W.taken writer.new) }
+        (device W.taken W.failures writer.old writer.new) }
     ensures short { OnOk result (length text.now ≤ 2 ^ 62) }
-    ensures counted { CountsSink result (W.failures writer.old) (W.failures writer.new) }
+    ensures counted { CountsSink result (device W.taken W.failures writer.old writer.new) }
 {
     let mut converter = Converter::<T, L>::new(mode);
     converter.feed_all(text, writer)?;
@@ -116,10 +115,8 @@ fn end<const T: usize, const L: usize, W: Sink>(
 ) -> Result<Totals, Fault>
     requires not_finished { converter.old.is_finished ≡ false }
     requires no_fault { converter.old.fault ≡ None }
-    ensures ends { (p : Profile) (u : List ℕ) (given : List Token)
-        → Stands p converter.old u None given
-        → AfterEnd p u given result (W.taken out.old) (W.taken out.new) }
-    ensures counted { CountsFault result (W.failures out.old) (W.failures out.new) }
+    ensures ends { Concludes converter.old result (device W.taken W.failures out.old out.new) }
+    ensures counted { CountsFault result (device W.taken W.failures out.old out.new) }
 {
     converter.finish(out)?;
     Ok(Totals {

@@ -1,16 +1,14 @@
 //! Converts games in pieces of any length.
-ghost use Rattle.std.specs.Prelude.{◌≡◌, ◌+◌, ◌-◌, ◌≤◌, ◌<◌, ◌^◌, ℕ, List, [], false};
+ghost use Rattle.std.specs.Prelude.{◌≡◌, ◌+◌, ◌-◌, ◌≤◌, ◌<◌, ◌^◌, [], false};
 ghost use Rattle.std.specs.Prelude.{None, Some, is_some, Err, is_ok, IfOk, OnOk, OnErr, length, take};
 ghost use Rattle.std.specs.Option.{option_copied};
-ghost use Rattle.pgn_lexer.specs.Tokens.{Token};
-ghost use Rattle.pgn_lexer.specs.Stands.{first, HasLeft};
+ghost use Rattle.pgn_layout.specs.Device.{device};
 ghost use Rattle.pgn_game.specs.declared.reason.Reason.TheVariants.{InputTooLong, Lexical};
-ghost use Rattle.pgn_game.specs.Profile.{Profile};
-ghost use Rattle.pgn_game.specs.ConverterSteps.{FeedsFront, AfterStep, AfterStepAtEnd};
+ghost use Rattle.pgn_game.specs.ConverterSteps.{FeedsFront, Steps, StepsAtEnd};
 ghost use Rattle.pgn_game.specs.ConverterSteps.{StepAdvances, StepAtEndAdvances, outcome_at, games_after};
 ghost use Rattle.pgn_game.specs.ConverterSteps.{fault_of_step};
 ghost use Rattle.pgn_game.specs.ConverterSteps as steps;
-ghost use Rattle.pgn_game.specs.ConverterCalls.{HasRead, Stands, Feeds, KeepsGames, FeedsAll, Ends};
+ghost use Rattle.pgn_game.specs.ConverterCalls.{Stands, Feeds, KeepsGames, FeedsAll, Ends};
 ghost use Rattle.pgn_game.specs.ConverterCalls.{Again, KeepsFault, CountsFault, Advances, profile_of};
 ghost use Rattle.pgn_game.specs.ConverterCalls.{used_of, finished_game_value};
 ghost use Rattle.pgn_game.specs.ConverterCalls.{finished_game_plies, finished_game_position};
@@ -130,7 +128,7 @@ impl<const T: usize, const L: usize> Converter<T, L> {
         requires not_finished { self.old.is_finished ≡ false }
         ensures used { IfOk result (λ fed. used_of fed piece.now ≤ length piece.now) }
         ensures feeds { Feeds self.old piece.now self.new result
-            (W.taken out.old) (W.taken out.new) }
+            (device W.taken W.failures out.old out.new) }
         ensures count { IfOk result (λ fed.
             self.new.lexer.count ≡ self.old.lexer.count + used_of fed piece.now) }
         ensures short { OnOk result (self.new.lexer.count ≤ 2 ^ 62) }
@@ -141,7 +139,7 @@ impl<const T: usize, const L: usize> Converter<T, L> {
         ensures probes { self.old.reading.most_probes ≤ self.new.reading.most_probes }
         ensures again { Again self.old self.new result out.old out.new }
         ensures counted { self.old.fault ≡ None
-            → CountsFault result (W.failures out.old) (W.failures out.new) }
+            → CountsFault result (device W.taken W.failures out.old out.new) }
     {
         if let Some(fault) = self.fault {
             return Err(fault);
@@ -163,13 +161,13 @@ impl<const T: usize, const L: usize> Converter<T, L> {
         requires not_finished { self.old.is_finished ≡ false }
         requires no_fault { self.old.fault ≡ None }
         ensures feeds { FeedsAll self.old piece.now self.new result
-            (W.taken out.old) (W.taken out.new) }
+            (device W.taken W.failures out.old out.new) }
         ensures count { OnOk result
             (self.new.lexer.count ≡ self.old.lexer.count + length piece.now) }
         ensures short { OnOk result (self.new.lexer.count ≤ 2 ^ 62) }
         ensures not_finished { self.new.is_finished ≡ false }
         ensures fault { KeepsFault self.new result }
-        ensures counted { CountsFault result (W.failures out.old) (W.failures out.new) }
+        ensures counted { CountsFault result (device W.taken W.failures out.old out.new) }
     {
         let mut at = 0;
         loop {
@@ -191,14 +189,14 @@ impl<const T: usize, const L: usize> Converter<T, L> {
     /// `Reason::ExpectedBracket`.
     pub fn finish<W: Sink>(&mut self, out: &mut W) -> Result<bool, Fault>
         requires not_finished { self.old.is_finished ≡ false }
-        ensures ends { Ends self.old self.new result (W.taken out.old) (W.taken out.new) }
+        ensures ends { Ends self.old self.new result (device W.taken W.failures out.old out.new) }
         ensures finished { self.new.is_finished ≡ is_ok result }
         ensures probes { self.old.reading.most_probes ≤ self.new.reading.most_probes }
         ensures fault { KeepsFault self.new result }
         ensures none_just_finished { OnErr result (self.new.just_finished ≡ None) }
         ensures again { Again self.old self.new result out.old out.new }
         ensures counted { self.old.fault ≡ None
-            → CountsFault result (W.failures out.old) (W.failures out.new) }
+            → CountsFault result (device W.taken W.failures out.old out.new) }
     {
         if let Some(fault) = self.fault {
             return Err(fault);
@@ -305,7 +303,7 @@ impl<const T: usize, const L: usize> Converter<T, L> {
         requires short { self.old.lexer.count + length piece.now ≤ 2 ^ 62 }
         ensures used { IfOk result (λ fed. used_of fed piece.now ≤ length piece.now) }
         ensures feeds { FeedsFront self.old piece.now self.new result
-            (W.taken out.old) (W.taken out.new) }
+            (device W.taken W.failures out.old out.new) }
         ensures count { IfOk result (λ fed.
             self.new.lexer.count ≡ self.old.lexer.count + used_of fed piece.now) }
         ensures advances { IfOk result (λ fed. Advances self.old.lexer self.new.lexer fed) }
@@ -313,7 +311,7 @@ impl<const T: usize, const L: usize> Converter<T, L> {
         ensures fault { KeepsFault self.new result }
         ensures games { KeepsGames self.old self.new result }
         ensures probes { self.old.reading.most_probes ≤ self.new.reading.most_probes }
-        ensures counted { CountsFault result (W.failures out.old) (W.failures out.new) }
+        ensures counted { CountsFault result (device W.taken W.failures out.old out.new) }
     {
         self.has_finished_game = false;
         let mut at = 0;
@@ -337,10 +335,8 @@ impl<const T: usize, const L: usize> Converter<T, L> {
         requires some { 0 < length piece.now }
         requires none_just_finished { self.old.just_finished ≡ None }
         ensures used { result.used ≤ length piece.now }
-        ensures after { (p : Profile) (u : List ℕ) (given : List Token)
-            → Stands p self.old u (first piece.now) given
-            → AfterStep p u given piece.now self.new result.used result.outcome
-            (W.taken out.old) (W.taken out.new) }
+        ensures after { Steps self.old piece.now self.new result.used result.outcome
+            (device W.taken W.failures out.old out.new) }
         ensures count { self.new.lexer.count ≡ self.old.lexer.count + result.used }
         ensures advances { StepAdvances self.old.lexer piece.now self.new.lexer result.used
             result.outcome }
@@ -350,7 +346,8 @@ impl<const T: usize, const L: usize> Converter<T, L> {
         ensures just_finished { is_some self.new.just_finished
             ≡ steps.finished_game result.outcome }
         ensures finished { self.new.is_finished ≡ self.old.is_finished }
-        ensures counted { CountsFault result.outcome (W.failures out.old) (W.failures out.new) }
+        ensures counted { CountsFault result.outcome
+            (device W.taken W.failures out.old out.new) }
     {
         let scan = self.lexer.next(piece);
         let used = scan.used;
@@ -378,17 +375,15 @@ impl<const T: usize, const L: usize> Converter<T, L> {
         requires no_fault { self.old.fault ≡ None }
         requires not_finished { self.old.is_finished ≡ false }
         requires none_just_finished { self.old.just_finished ≡ None }
-        ensures after { (p : Profile) (u : List ℕ) (given : List Token)
-            → HasLeft self.old.lexer u given → HasRead p self.old given
-            → AfterStepAtEnd p u given self.old self.new result (W.taken out.old)
-            (W.taken out.new) }
+        ensures after { StepsAtEnd self.old self.new result
+            (device W.taken W.failures out.old out.new) }
         ensures advances { StepAtEndAdvances self.old.lexer self.new.lexer result }
         ensures fault { self.new.fault ≡ fault_of_step result }
         ensures games { self.new.games ≡ games_after result self.old.games }
         ensures probes { self.old.reading.most_probes ≤ self.new.reading.most_probes }
         ensures none_just_finished { self.new.just_finished ≡ None }
         ensures finished { self.new.is_finished ≡ steps.is_ended result }
-        ensures counted { CountsFault result (W.failures out.old) (W.failures out.new) }
+        ensures counted { CountsFault result (device W.taken W.failures out.old out.new) }
     {
         match self.lexer.finish() {
             // Never: `finish` gives a token or a fault.

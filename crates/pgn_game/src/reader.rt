@@ -183,11 +183,11 @@ impl<const T: usize, const L: usize> Reader<T, L> {
         requires few { self.old.earlier_plies + self.old.text.plies < 2 ^ 64 - 1 }
         requires token { HasLength (kind_of kind) }
         ensures accepts { Accepts self.old (kind_of kind.entry) self.new result
-            (W.taken out.old) (W.taken out.new) }
+            (device W.taken W.failures out.old out.new) }
         ensures profile { self.new.profile ≡ self.old.profile }
         ensures stays { Stays self.old self.new result }
         ensures finished { FinishesAtMarker (kind_of kind.entry) self.new result }
-        ensures counted { CountsWrites result (W.failures out.old) (W.failures out.new) }
+        ensures counted { CountsWrites result (device W.taken W.failures out.old out.new) }
         ensures plies { self.new.earlier_plies + self.new.text.plies
             ≤ self.old.earlier_plies + self.old.text.plies + 1 }
         ensures probes { self.old.most_probes ≤ self.new.most_probes }

@@ -1,7 +1,7 @@
 //! The tag section of a game.
 ghost use Rattle.std.specs.Prelude.{◌≡◌, ◌+◌, ◌<◌, ◌≤◌, Some, None, IfSome, codes, length, slice_get, unwrap_or};
 ghost use Rattle.std.specs.Option.{option_copied};
-ghost use Rattle.pgn_layout.specs.Device.{Counts, Writes};
+ghost use Rattle.pgn_layout.specs.Device.{WritesText, device};
 ghost use Rattle.pgn_layout.specs.TagLine.{escaped};
 ghost use Rattle.pgn_game.specs.Markers.{marker_text};
 ghost use Rattle.pgn_game.specs.Pairs.{value_of, has_pair};
@@ -35,9 +35,8 @@ pub fn write_section<W: Sink>(
     pairs: &[TagPair],
     out: &mut W,
 ) -> Result<(), WriteFault>
-    ensures text { Writes (W.taken out.old) (W.taken out.new) result
+    ensures { WritesText (device W.taken W.failures out.old out.new) result
         (tag_section mode (marker_text missing_result) pairs.now) }
-    ensures counted { Counts result (W.failures out.old) (W.failures out.new) }
 {
     write_roster(missing_result, pairs, out)?;
     match mode {
@@ -99,9 +98,8 @@ fn write_roster<W: Sink>(
     pairs: &[TagPair],
     out: &mut W,
 ) -> Result<(), WriteFault>
-    ensures text { Writes (W.taken out.old) (W.taken out.new) result
+    ensures { WritesText (device W.taken W.failures out.old out.new) result
         (text_by (roster_line pairs.now) (roster (marker_text missing_result))) }
-    ensures counted { Counts result (W.failures out.old) (W.failures out.new) }
 {
     for index in 0..7 {
         let (name, unknown) = roster_pair(missing_result, index);
@@ -125,9 +123,8 @@ fn value_or<'a>(pairs: &'a [TagPair], name: &[u8], unknown: &'a [u8]) -> &'a [u8
 
 // Writes the pairs outside the roster, SetUp 1 among them if there is a FEN (PGN 9.7.1).
 fn write_others<W: Sink>(pairs: &[TagPair], out: &mut W) -> Result<(), WriteFault>
-    ensures text { Writes (W.taken out.old) (W.taken out.new) result
+    ensures { WritesText (device W.taken W.failures out.old out.new) result
         (tag_lines (other_pairs (with_set_up pairs.now))) }
-    ensures counted { Counts result (W.failures out.old) (W.failures out.new) }
 {
     if !has_fen(pairs) {
         return write_pairs(pairs, false, out);
@@ -147,9 +144,8 @@ fn has_fen(pairs: &[TagPair]) -> bool
 
 // Writes those of the pairs that are outside the roster, and no second SetUp beside a FEN.
 fn write_pairs<W: Sink>(pairs: &[TagPair], has_fen: bool, out: &mut W) -> Result<(), WriteFault>
-    ensures text { Writes (W.taken out.old) (W.taken out.new) result
+    ensures { WritesText (device W.taken W.failures out.old out.new) result
         (text_by (other_line has_fen) pairs.now) }
-    ensures counted { Counts result (W.failures out.old) (W.failures out.new) }
 {
     for pair in pairs {
         write_other(pair, has_fen, out)?;
@@ -159,8 +155,8 @@ fn write_pairs<W: Sink>(pairs: &[TagPair], has_fen: bool, out: &mut W) -> Result
 
 // Writes the pair, unless it is in the roster, or a second SetUp beside a FEN.
 fn write_other<W: Sink>(pair: &TagPair, has_fen: bool, out: &mut W) -> Result<(), WriteFault>
-    ensures text { Writes (W.taken out.old) (W.taken out.new) result (other_line has_fen pair.now) }
-    ensures counted { Counts result (W.failures out.old) (W.failures out.new) }
+    ensures { WritesText (device W.taken W.failures out.old out.new) result
+        (other_line has_fen pair.now) }
 {
     if is_in_roster(pair.name()) || (has_fen && pair.name() == SET_UP) {
         return Ok(());

@@ -1,6 +1,6 @@
 -- **Definition**: what a call does to the bytes of a device, and to its count of failures.
 -- A device is a source of bytes, or a sink.
-use Rattle.std.specs.Prelude.{◌≡◌, ℕ, ◌+◌, ◌-◌, ◌^◌, ◌<◌, min, List, length, take, Option, Result, MatchResult}
+use Rattle.std.specs.Prelude.{◌≡◌, ℕ, ◌+◌, ◌-◌, ◌^◌, ◌<◌, min, List, length, take, Option, None, Result, MatchResult}
 use Rattle.std.specs.Io.KnownBytes.{Appends}
 
 -- one more failure; the count stays at 2^64 - 1
@@ -31,9 +31,18 @@ pub record Device : Type 0 where
 abbrev pub device : {S : Type 0} → (S → Option (List ℕ)) → (S → ℕ) → S → S → Device
 device bytes failures old new = record { before = bytes old; after = bytes new; failures = failures old; failures_after = failures new }
 
+-- a sink that keeps no byte and never fails
+abbrev pub nowhere : Device
+nowhere = record { before = None; after = None; failures = 0; failures_after = 0 }
+
 -- the count of failures stayed
 abbrev pub IsStill : Device → Type 0
 IsStill d = d.failures_after ≡ d.failures
+
+-- A call writes this text: all of it, or if it fails a prefix and not all. Its failure is counted.
+pub record WritesText {A E : Type 0} (d : Device) (r : Result A E) (text : List ℕ) : Type 0 where
+  pub written : Writes d.before d.after r text
+  pub counted : Counts r d.failures d.failures_after
 
 -- the device counts one failure more
 abbrev pub FailsOnce : Device → Type 0

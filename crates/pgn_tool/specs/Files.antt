@@ -1,6 +1,6 @@
 -- **Definition**: the files that games are written to: what was done with them, step by step.
 use Rattle.std.specs.Prelude.{◌≡◌, ℕ, Bool, true, false, List, [], ◌∷◌, ◌++◌, Option, None, Some, Result, Ok, Err}
-use Rattle.pgn_layout.specs.Device.{one_more}
+use Rattle.pgn_layout.specs.Device.{Device, one_more}
 use Rattle.pgn_tool.specs.declared.files.CreateFault.{CreateFault}
 use Rattle.pgn_tool.specs.declared.files.CreateFault.TheVariants.{Refused, NoMemory}
 
@@ -35,6 +35,15 @@ abbrev pub open_text : {A : Type 0} → (A → Option (List ℕ)) → Option (Li
 open_text taken None file = None
 open_text taken (Some log) None = Some []
 open_text taken (Some log) (Some out) = taken out
+
+-- The open file as the sink of one call: its bytes, and how many writes failed in the call.
+abbrev pub open_file : {A : Type 0} → (A → Option (List ℕ)) → Option (List FileStep) → Option A → Option (List FileStep) → Option A → ℕ → Device
+open_file taken log file log_after file_after failed = record {
+  before = open_text taken log file;
+  after = open_text taken log_after file_after;
+  failures = 0;
+  failures_after = failed;
+}
 
 -- a new file has no bytes
 abbrev pub IsNew : Option (List FileStep) → Option (List ℕ) → Type 0

@@ -13,7 +13,7 @@ use Rattle.pgn_tool.specs.declared.split.Unsplit.{Unsplit}
 use Rattle.pgn_tool.specs.declared.split.Unsplit.TheVariants.{Refused, NoMemory}
 use Rattle.pgn_tool.specs.TaskRun.{IsUntouched, Tells, line}
 use Rattle.pgn_tool.specs.SplitGames.{SplitResult}
-use Rattle.pgn_tool.specs.Files.{FileStep, added, closed, failures_in, has_text, made, number_after, opening_steps, refused, steps, open_text, whole_files, without_memory}
+use Rattle.pgn_tool.specs.Files.{FileStep, added, closed, failures_in, has_text, made, number_after, opening_steps, refused, steps, open_file, whole_files, without_memory}
 
 -- the open file has no failure, and has bytes
 pub record IsWell {A : Type 0} (taken : A → Option (List ℕ)) (failures : A → ℕ)
@@ -58,9 +58,9 @@ pub record GameFed {A : Type 0} (taken : A → Option (List ℕ)) (failures : A 
   pub failed : ℕ
   pub settles : result ≡ settled refusal answer
   pub turned : TurnResult taken failures (one_more made) log file log_after file_after refusal failed
-  pub counted : CountsFault answer 0 failed
+  pub counted : CountsFault answer (open_file taken log file log_after file_after failed)
   pub fed : FeedResult old piece new answer
-  pub feeds : Feeds old piece new answer (open_text taken log file) (open_text taken log_after file_after)
+  pub feeds : Feeds old piece new answer (open_file taken log file log_after file_after failed)
 
 -- A game was finished with the end of the input.
 pub record GameEnded {A : Type 0} (taken : A → Option (List ℕ)) (failures : A → ℕ)
@@ -72,8 +72,8 @@ pub record GameEnded {A : Type 0} (taken : A → Option (List ℕ)) (failures : 
   pub failed : ℕ
   pub settles : result ≡ settled refusal answer
   pub turned : TurnResult taken failures (one_more made) log file log_after file_after refusal failed
-  pub counted : CountsFault answer 0 failed
-  pub ends : Ends old new answer (open_text taken log file) (open_text taken log_after file_after)
+  pub counted : CountsFault answer (open_file taken log file log_after file_after failed)
+  pub ends : Ends old new answer (open_file taken log file log_after file_after failed)
 
 -- ---- the files so far
 

@@ -1,7 +1,7 @@
 -- **Definition**: what a run of a task does to its devices, and the status that it ends with.
-use Rattle.std.specs.Prelude.{◌≡◌, ℕ, ◌-◌, ◌^◌, ◌<◌, ◌≤◌, ◌⊎◌, Bool, true, false, List, [], ◌∷◌, ◌++◌, length, take, codes, decimal, Option, None, Some, Result, Ok, Err}
+use Rattle.std.specs.Prelude.{◌≡◌, ℕ, ◌-◌, ◌^◌, ◌<◌, ◌≤◌, ◌⊎◌, Bool, true, false, List, [], ◌∷◌, ◌++◌, length, take, codes, decimal, Option, Some, Result, Ok, Err}
 use Rattle.std.specs.Io.KnownBytes.{Appends, Keeps}
-use Rattle.pgn_layout.specs.Device.{Device, IsStill, one_more}
+use Rattle.pgn_layout.specs.Device.{Device, IsStill, nowhere, one_more}
 use Rattle.pgn_game.specs.declared.mode.Mode.{Mode}
 use Rattle.pgn_game.specs.declared.mode.Mode.TheVariants.{Full, Reduced}
 use Rattle.pgn_game.specs.declared.reason.Reason.{Reason}
@@ -156,8 +156,8 @@ WritesCountingLine (Err f) out = Keeps out.before out.after
 
 -- what is converted, and where to
 abbrev pub Works : Job → Result Totals Fault → Device → Device → Type 0
-Works (exporting mode) answer source out = Converts (profile_of 64 32 mode) source.before source.after answer out.before out.after
-Works checking answer source out = Converts (profile_of 64 32 Full) source.before source.after answer None None × WritesCountingLine answer out
+Works (exporting mode) answer source out = Converts (profile_of 64 32 mode) source answer out
+Works checking answer source out = Converts (profile_of 64 32 Full) source answer nowhere × WritesCountingLine answer out
 Works listing answer source out = ⊥
 
 -- the flush at the end of a run may fail once, and is not called again
@@ -167,8 +167,8 @@ FlushCounts old new = (new ≡ old) ⊎ (new ≡ one_more old)
 -- The devices count what the conversion reports, and nothing after it but the flush.
 abbrev pub CountsWork : Job → Result Totals Fault → Device → Device → Type 0
 CountsWork (exporting mode) answer source out =
-    (converted : ℕ) × CountsResult answer source.failures source.failures_after out.failures converted × FlushCounts converted out.failures_after
-CountsWork checking answer source out = CountsResult answer source.failures source.failures_after 0 0
+    (converted : ℕ) × CountsResult answer source (record out { failures_after = converted }) × FlushCounts converted out.failures_after
+CountsWork checking answer source out = CountsResult answer source nowhere
 CountsWork listing answer source out = ⊥
 
 -- A run that converts: a conversion with its result, and how it ends. For an export, standard

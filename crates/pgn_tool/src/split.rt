@@ -2,7 +2,7 @@
 ghost use Rattle.std.specs.Prelude.{◌≡◌, ◌+◌, ◌^◌, ◌≤◌, false, None, List, Option, OnOk, is_some, length, if◌then◌else◌};
 ghost use Rattle.pgn_layout.specs.Device.{device, one_more};
 ghost use Rattle.pgn_game.specs.ConverterCalls.{CountsFault, Ends, Feeds};
-ghost use Rattle.pgn_tool.specs.Files.{FileStep, added, closing_steps, open_text};
+ghost use Rattle.pgn_tool.specs.Files.{FileStep, added, closing_steps, open_file};
 ghost use Rattle.pgn_tool.specs.SplitGames.{SplitResult};
 ghost use Rattle.pgn_tool.specs.SplitState.{AfterClosingFile, SplitEndResult, SplitPieceResult};
 ghost use Rattle.pgn_tool.specs.SplitFiles.{CountsSplit, FeedResult, FilesAfter, FilesSoFar, GameEnded, GameFed, IsWell, RunsSplit, TurnResult, settled};
@@ -235,11 +235,13 @@ fn feed_sink<'a, K: Before, F: GameFiles>(
     ensures same { result.files.ghost_name ≡ turn.entry.files.ghost_name }
     ensures turned { TurnResult F.Out.taken F.Out.failures K.number K.log file.old
         (F.log result.files.now) file.new result.refusal result.failures }
-    ensures counted { CountsFault answer.new 0 result.failures }
+    ensures counted { CountsFault answer.new
+        (open_file F.Out.taken K.log file.old (F.log result.files.now) file.new
+        result.failures) }
     ensures fed { FeedResult converter.old piece.now converter.new answer.new }
     ensures feeds { Feeds converter.old piece.now converter.new answer.new
-        (open_text F.Out.taken K.log file.old)
-        (open_text F.Out.taken (F.log result.files.now) file.new) }
+        (open_file F.Out.taken K.log file.old (F.log result.files.now) file.new
+        result.failures) }
 {
     let mut sink = GameSink::<'a, K, F> {
         turn,
@@ -274,10 +276,12 @@ fn finish_sink<'a, K: Before, F: GameFiles>(
     ensures same { result.files.ghost_name ≡ turn.entry.files.ghost_name }
     ensures turned { TurnResult F.Out.taken F.Out.failures K.number K.log file.old
         (F.log result.files.now) file.new result.refusal result.failures }
-    ensures counted { CountsFault answer.new 0 result.failures }
+    ensures counted { CountsFault answer.new
+        (open_file F.Out.taken K.log file.old (F.log result.files.now) file.new
+        result.failures) }
     ensures ends { Ends converter.old converter.new answer.new
-        (open_text F.Out.taken K.log file.old)
-        (open_text F.Out.taken (F.log result.files.now) file.new) }
+        (open_file F.Out.taken K.log file.old (F.log result.files.now) file.new
+        result.failures) }
 {
     let mut sink = GameSink::<'a, K, F> {
         turn,

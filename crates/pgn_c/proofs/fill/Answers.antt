@@ -1,6 +1,6 @@
 use Rattle.std.proofs.Common.{◌≡◌, ℕ, [], length, take, Some, ap, sym, subst, ◌∙◌}
 use Rattle.std.proofs.lemmas.List.{length-take-le}
-use Rattle.pgn_game.specs.Conversion.{ConvertsSlice, CountsSink}
+use Rattle.pgn_game.specs.Conversion.{AfterSlice}
 use Rattle.pgn_c.specs.Results.{profile_in, result_of}
 use Rattle.pgn_c.proofs.ConversionToBuffer.{front, filled, is_full, when_ok}
 use Rattle.pgn_c.proofs.fill.Goals as goal
@@ -12,18 +12,16 @@ returns-clause-converts g c =
     let text = c.args.text.now in
     let outcome = call.result in
     let is_count : length (take sink.room.written sink.room.buffer.now) ≡ sink.room.written = length-take-le _ _ sink.within in
-    let converts : ConvertsSlice (profile_in c.args.mode) text outcome (Some []) (Some (take sink.room.written sink.room.buffer.now)) =
-    subst (λ (n : ℕ). ConvertsSlice (profile_in c.args.mode) text outcome (Some (take n c.new.result.buffer.now)) (Some (take sink.room.written sink.room.buffer.now)))
+    let converts : AfterSlice (profile_in c.args.mode) text outcome (Some []) (Some (take sink.room.written sink.room.buffer.now)) =
+    subst (λ (n : ℕ). AfterSlice (profile_in c.args.mode) text outcome (Some (take n c.new.result.buffer.now)) (Some (take sink.room.written sink.room.buffer.now)))
     c.new.ensures.written call.ensures.converts in
-    let counted : CountsSink outcome 0 sink.room.failures =
-    subst (λ (n : ℕ). CountsSink outcome n sink.room.failures) c.new.ensures.failures call.ensures.counted in
     record {
       outcome = outcome;
       written = take sink.room.written sink.room.buffer.now;
       converts = converts;
       front = front _ _ _ outcome c.due_grows.ensures c.decided_is_prefix.ensures converts;
       filled = filled _ _ _ sink.within sink.long sink.behind;
-      full = λ is. is_count ∙ sink.full (is_full outcome _ _ counted (sym (ap (λ r. r.status) c.result_for.ensures) ∙ is)) ∙ sink.long;
+      full = λ is. is_count ∙ sink.full (is_full outcome _ _ call.ensures.counted c.new.ensures.failures (sym (ap (λ r. r.status) c.result_for.ensures) ∙ is)) ∙ sink.long;
       short = λ is. when_ok outcome _ call.ensures.short (sym (ap (λ r. r.status) c.result_for.ensures) ∙ is);
       is_result = c.result_for.ensures ∙ ap (result_of outcome) (sym is_count);
     }

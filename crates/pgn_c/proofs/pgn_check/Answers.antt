@@ -1,4 +1,5 @@
-use Rattle.std.proofs.Common.{ap, sym, ◌∙◌, arith}
+use Rattle.std.proofs.Common.{ap, refl, sym, ◌∙◌, arith}
+use Rattle.pgn_layout.specs.Device.{nowhere}
 use Rattle.pgn_c.proofs.ConversionToBuffer.{is_full, when_ok}
 use Rattle.pgn_c.proofs.pgn_check.Goals as goal
 
@@ -8,7 +9,7 @@ returns c =
     record {
       outcome = c.convert_slice.result;
       converts = call.converts;
-      not_full = λ is. absurd (omega (arith, is_full c.convert_slice.result 0 0 call.counted (sym (ap (λ r. r.status) c.result_for.ensures) ∙ is)));
+      not_full = λ is. absurd (omega (arith, is_full c.convert_slice.result 0 nowhere call.counted refl (sym (ap (λ r. r.status) c.result_for.ensures) ∙ is)));
       short = λ is. when_ok c.convert_slice.result 0 call.short (sym (ap (λ r. r.status) c.result_for.ensures) ∙ is);
       is_result = c.result_for.ensures;
     }

@@ -5,7 +5,7 @@ use Rattle.std.proofs.lemmas.List.{take-append-drop, take-append-le}
 use Rattle.std.proofs.lemmas.Option.{slice_get_within, get_or_from_slice_get}
 use Rattle.std.proofs.KnownBytes.{Appends-trans}
 use Rattle.std.specs.Io.KnownBytes.{Appends}
-use Rattle.pgn_layout.specs.Device.{AppendsFront, Writes}
+use Rattle.pgn_layout.specs.Device.{AppendsFront, Counts, Writes, one_more}
 use Rattle.pgn_game.specs.SectionLines.{text_by}
 
 -- a front of a text is one of a longer text
@@ -53,3 +53,8 @@ within_at xs i x e = (slice_get_within xs i x e, get_or_from_slice_get xs i x x 
 pub Writes-append : {A E : Type 0} (a b c : Option (List ℕ)) (text more : List ℕ) (r : Result A E) → Appends a b text → Writes b c r more → Writes a c r (text ++ more)
 Writes-append a b c text more (Ok x) done next = Appends-trans a b c _ _ done next
 Writes-append a b c text more (Err e) done next = front_after a b c text more done next
+
+-- a call that fails counts once, also behind calls that did not fail
+pub counts_behind : {A E : Type 0} (m n o : ℕ) (r : Result A E) → n ≡ m → Counts r n o → Counts r m o
+counts_behind m n o (Ok x) same counted = counted ∙ same
+counts_behind m n o (Err e) same counted = counted ∙ ap one_more same

@@ -1,5 +1,6 @@
 -- Steps behind the last piece.
 use Rattle.std.proofs.Common.{◌≡◌, ℕ, ◌+◌, ◌<◌, ◌≤◌, Bool, true, false, List, [], ◌∷◌, ◌++◌, length, Option, None, Some, Result, Ok, Err, refl, sym, ap, subst, ◌∙◌, append-nil, append_assoc, length-append, le_refl, arith, ◌*◌, ◌^◌, IsTrue, is_some, ◌↔◌}
+use Rattle.pgn_layout.specs.Device.{Device, IsStill}
 use Rattle.pgn_lexer.specs.declared.token.LexFault.{LexFault}
 use Rattle.pgn_lexer.specs.Tokens as tokens
 use Rattle.pgn_lexer.specs.TokensOf.{tokens_of}
@@ -163,26 +164,26 @@ games_of_closed k after at false (Ok accepted) games is_e marker = refl
 games_of_closed k after at e (Err reason) games is_e marker = refl
 
 -- an error of the reader counts as the fault that it is
-pub counts_reason : (r : Reason) (old new : ℕ) → CountsWrites (Err r) old new → CountsReason r old new
-counts_reason (Lexical x) old new h = by_test (is_outside_the_table (Lexical x)) h
+counts_reason : (r : Reason) (sink : Device) → CountsWrites (Err r) sink → CountsReason r sink.failures sink.failures_after
+counts_reason (Lexical x) sink h = by_test (is_outside_the_table (Lexical x)) h
   where
-    by_test : (b : Bool) → CountsStop b (Lexical x) old new → new ≡ old
+    by_test : (b : Bool) → CountsStop b (Lexical x) sink.failures sink.failures_after → IsStill sink
     by_test false h = h
     by_test true h = let is = h.0 in absurd (cc)
-counts_reason WriteFault old new h = h.1
-counts_reason ReadFault old new h = let is = h.0 in absurd (cc)
-counts_reason InputTooLong old new h = let is = h.0 in absurd (cc)
-counts_reason Changed old new h = let is = h.0 in absurd (cc)
-counts_reason _ old new h = h
+counts_reason WriteFault sink h = h.1
+counts_reason ReadFault sink h = let is = h.0 in absurd (cc)
+counts_reason InputTooLong sink h = let is = h.0 in absurd (cc)
+counts_reason Changed sink h = let is = h.0 in absurd (cc)
+counts_reason _ sink h = h
 
-pub counts_token : (at : ℕ) (r : Result Accepted Reason) (old new : ℕ) → CountsWrites r old new → CountsFault (outcome_at at r) old new
-counts_token at (Ok accepted) old new h = h
-counts_token at (Err reason) old new h = counts_reason reason old new h
+pub counts_token : (at : ℕ) (r : Result Accepted Reason) (sink : Device) → CountsWrites r sink → CountsFault (outcome_at at r) sink
+counts_token at (Ok accepted) sink h = h
+counts_token at (Err reason) sink h = counts_reason reason sink h
 
-pub counts_closed : (e : Bool) (outcome : Result (Option Accepted) Fault) (old new : ℕ) → CountsFault outcome old new → CountsFault (none_at_end e outcome) old new
-counts_closed true (Ok o) old new h = h
-counts_closed false (Ok o) old new h = h
-counts_closed e (Err f) old new h = h
+pub counts_closed : (e : Bool) (outcome : Result (Option Accepted) Fault) (sink : Device) → CountsFault outcome sink → CountsFault (none_at_end e outcome) sink
+counts_closed true (Ok o) sink h = h
+counts_closed false (Ok o) sink h = h
+counts_closed e (Err f) sink h = h
 
 -- after a fault a converter owes nothing
 pub sound_behind_fault : (lexer : Standing) (reading : ReaderState) (games : ℕ) (is_finished : Bool) (f : Fault) → IsSound lexer reading games false is_finished (Some f)

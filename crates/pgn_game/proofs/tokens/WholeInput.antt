@@ -13,7 +13,7 @@ use Rattle.pgn_game.specs.Progress.{no_progress, Read, read, written, due, refus
 use Rattle.pgn_game.specs.Due.{Gains}
 use Rattle.pgn_game.specs.MostTried.{MostTried}
 use Rattle.pgn_game.specs.ConverterCalls.{Converter, Stands, Stops, refused, unwritten, StopsWriting, StopsIn, at_token, too_long, FedFault, FedWhole, ReadsUpTo, Finishes}
-use Rattle.pgn_game.specs.Conversion.{IsConverted, IsTotalled, ReadsNoMore, FailsOn, Fails, AfterEnd, ReadSoFar, Converts, ConvertsSlice}
+use Rattle.pgn_game.specs.Conversion.{IsConverted, IsTotalled, ReadsNoMore, FailsOn, Fails, AfterEnd, ReadSoFar, AfterConversion, AfterSlice}
 use Rattle.pgn_game.specs.Conversion as conversion
 use Rattle.pgn_game.proofs.tokens.OneMoreToken.{torn-none, gains_none, gains_more, stops_more, stops_from}
 use Rattle.pgn_game.proofs.tokens.AcceptedToConverter.{in_games, still_none-none}
@@ -149,7 +149,7 @@ stops_in_piece p left_old left left_new now a c d piece f so consumed (too_long 
 
 -- the source's end
 pub ends_here : (p : Profile) (left_old left left_new : Option (List ℕ)) (now : Converter) (a c d : Option (List ℕ)) (r : Result Totals Fault) (so : ReadSoFar p left_old left now a c)
-    → Consumes left left_new [] → IsAtEnd left_new → AfterEnd p so.bytes so.tokens r c d → Converts p left_old left_new r a d
+    → Consumes left left_new [] → IsAtEnd left_new → AfterEnd p so.bytes so.tokens r c d → AfterConversion p left_old left_new r a d
 ends_here p left_old left left_new now a c d (Ok t) so consumed end (is_verdict, probes, gains) =
     let all = subst (Consumes left_old left_new) (append-nil so.bytes) (Consumes-trans left_old left left_new so.bytes [] so.consumed consumed) in
     known_whole left_old left_new so.bytes (λ s. IsTotalled p s t a d) all end
@@ -185,7 +185,7 @@ slice_stops p f text a c (too_long front rest cut place some before) =
     (conversion.FailsOn.too_long front rest cut place some (no_more p front before.tokens a c before.decided before.passes before.gains))
 
 pub slice_ends : (p : Profile) (text : List ℕ) (now : Converter) (a c d : Option (List ℕ)) (r : Result Totals Fault) (fed : FedWhole p [] [] text now a c) → AfterEnd p text fed.tokens r c d
-    → ConvertsSlice p text r a d
+    → AfterSlice p text r a d
 slice_ends p text now a c d (Ok t) fed (is_verdict, probes, gains) =
     record { converted = (is_verdict, appended p (tokens_of text) a d (gains_more p [] fed.tokens (tokens_of text) a c d fed.gains gains)); probes = probes }
 slice_ends p text now a c d (Err f) fed stops = by_stops (stops_more p [] fed.tokens (tokens_of text) f a c d fed.gains stops)

@@ -15,7 +15,7 @@ use Rattle.pgn_lexer.specs.TokensOf.{tokens_of}
 use Rattle.pgn_game.specs.Progress.{Read, read, refused as is_refused, totals, verdict_of}
 use Rattle.pgn_game.specs.Levels.{plies_of}
 use Rattle.pgn_game.specs.ConverterCalls.{profile_of}
-use Rattle.pgn_game.specs.Conversion.{Converts, CountsDevices, Fails, IsConverted, refused, unread, unwritten, too_long}
+use Rattle.pgn_game.specs.Conversion.{AfterConversion, CountsDevices, Fails, IsConverted, refused, unread, unwritten, too_long}
 use Rattle.pgn_tool.specs.declared.list.Stopped.{Stopped}
 use Rattle.pgn_tool.specs.declared.list.Stopped.TheVariants as stopped
 use Rattle.pgn_tool.specs.ListLines as list_lines
@@ -112,8 +112,8 @@ fails_on p left_old left_new a b c _ (unwritten u at consumed stops) keeps =
 fails_on p left_old left_new a b c _ (too_long u rest consumed long more reads) keeps =
     too_long u rest consumed long more (record { passes = reads.passes; appended = keeps_on a b c _ reads.appended keeps })
 
-pub converts_on : (p : Profile) (left_old left_new a b c : Option (List ℕ)) (r : Result Totals Fault) → Converts p left_old left_new r a b
-    → Keeps b c → Converts p left_old left_new r a c
+pub converts_on : (p : Profile) (left_old left_new a b c : Option (List ℕ)) (r : Result Totals Fault) → AfterConversion p left_old left_new r a b
+    → Keeps b c → AfterConversion p left_old left_new r a c
 converts_on p None left_new a b c (Ok t) converts keeps = tt
 converts_on p (Some s) left_new a b c (Ok t) converts keeps =
     record { converted = (converts.converted.0, keeps_on a b c _ converts.converted.1 keeps); probes = converts.probes }

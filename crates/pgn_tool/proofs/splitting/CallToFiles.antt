@@ -24,7 +24,7 @@ use Rattle.pgn_tool.specs.declared.files.CreateFault.TheVariants as creating
 use Rattle.pgn_tool.specs.declared.split.Unsplit.{Unsplit}
 use Rattle.pgn_tool.specs.declared.split.Unsplit.TheVariants as unsplit
 use Rattle.pgn_tool.specs.ListLines.{list_profile}
-use Rattle.pgn_tool.specs.Files.{FileStep, added, closed, closing_steps, refusal_step, made, number_after, opening_steps, open_text, whole_files}
+use Rattle.pgn_tool.specs.Files.{FileStep, added, closed, closing_steps, refusal_step, made, number_after, opening_steps, open_text, whole_files, open_file}
 use Rattle.pgn_tool.specs.SplitFiles.{IsOwn, TurnResult, settled}
 use Rattle.pgn_tool.specs.SplitGames as games
 use Rattle.pgn_tool.specs.SplitState as state
@@ -281,7 +281,7 @@ module _ {A : Type 0} (taken : A → Option (List ℕ)) (failures : A → ℕ) (
   write_stops f why refusal turned is more settles (calls.too_long front behind parts place some (c, fed, same_reading)) = absurd (cc)
 
   pub call_stops : (refusal : Option CreateFault) (answer : Result Fed Fault) (result : Result Fed Unsplit) (why : Unsplit)
-      → TurnResult taken failures (one_more count) log file after now refusal failed → calls.CountsFault answer 0 failed
+      → TurnResult taken failures (one_more count) log file after now refusal failed → calls.CountsFault answer (open_file taken log file after now failed)
       → result ≡ settled refusal answer → result ≡ Err why
       → calls.AfterFeed list_profile u (first rest) so.tokens rest new answer (open_text taken log file) (open_text taken after now)
       → SplitStopsInPiece u rest before closed_log why
@@ -299,9 +299,9 @@ module _ {A : Type 0} (taken : A → Option (List ℕ)) (failures : A → ℕ) (
 -- a call that went on: no file was refused, and no write failed
 pub calm : {A B : Type 0} → (taken : A → Option (List ℕ)) (failures : A → ℕ) (number : ℕ) (log after : Option (List FileStep)) (file now : Option A) (failed : ℕ)
     (refusal : Option CreateFault) (answer : Result B Fault) (x : B) → answer ≡ Ok x → TurnResult taken failures number log file after now refusal failed
-    → calls.CountsFault answer 0 failed → TurnResult taken failures number log file after now None failed × (failed ≡ 0)
+    → calls.CountsFault answer (open_file taken log file after now failed) → TurnResult taken failures number log file after now None failed × (failed ≡ 0)
 calm taken failures number log after file now failed refusal answer x is turned counts =
-    let zero : failed ≡ 0 = subst (λ r. calls.CountsFault r 0 failed) is counts in
+    let zero : failed ≡ 0 = subst (λ r. calls.CountsFault r (open_file taken log file after now failed)) is counts in
     (subst (λ r. TurnResult taken failures number log file after now r failed) (unrefused refusal failed turned.risen zero) turned, zero)
 
 -- how the rest of a piece stops is how the piece does

@@ -27,7 +27,7 @@ use Rattle.pgn_tool.specs.declared.files.CreateFault.{CreateFault}
 use Rattle.pgn_tool.specs.declared.split.Unsplit.{Unsplit}
 use Rattle.pgn_tool.specs.declared.split.Unsplit.TheVariants as unsplit
 use Rattle.pgn_tool.specs.ListLines.{list_profile}
-use Rattle.pgn_tool.specs.Files.{FileStep, added, closing_steps, number_after, open_text, whole_files}
+use Rattle.pgn_tool.specs.Files.{FileStep, added, closing_steps, number_after, open_text, whole_files, open_file}
 use Rattle.pgn_tool.specs.SplitFiles.{IsOwn, TurnResult, settled}
 use Rattle.pgn_tool.specs.SplitState as state
 use Rattle.pgn_tool.specs.SplitGames.{IsSplit, IsSplitWhole, Logs, files_of, texts_in, torn_file, torn_text}
@@ -312,7 +312,7 @@ module _ {A : Type 0} (taken : A → Option (List ℕ)) (failures : A → ℕ) (
   own_ends _ turned zero own (calls.unwritten at writing) = absurd own
 
   pub end_stops : (refusal : Option CreateFault) (answer : Result Bool Fault) (result : Result Bool Unsplit) (why : Unsplit) → DueGrows
-      → TurnResult taken failures (one_more count) log file after now refusal failed → calls.CountsFault answer 0 failed
+      → TurnResult taken failures (one_more count) log file after now refusal failed → calls.CountsFault answer (open_file taken log file after now failed)
       → result ≡ settled refusal answer → result ≡ Err why
       → calls.AfterFinish list_profile u so.tokens new answer (open_text taken log file) (open_text taken after now) → SplitStopsAtEnd u before closed_log why
   end_stops refusal (Ok x) result why grows turned counts settles is fed = absurd (split_not_both result x why (settles ∙ settled_ok refusal x) is)

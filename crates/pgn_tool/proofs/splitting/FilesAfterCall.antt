@@ -11,7 +11,7 @@ use Rattle.pgn_tool.specs.declared.files.CreateFault.{CreateFault}
 use Rattle.pgn_tool.specs.declared.files.CreateFault.TheVariants as creating
 use Rattle.pgn_tool.specs.declared.split.Unsplit.{Unsplit}
 use Rattle.pgn_tool.specs.declared.split.Unsplit.TheVariants as unsplit
-use Rattle.pgn_tool.specs.Files.{FileStep, added, closed, closing_steps, failures_in, is_text, made, number_after, opening_steps, refused, steps, whole_files, without_memory}
+use Rattle.pgn_tool.specs.Files.{FileStep, added, closed, closing_steps, failures_in, is_text, made, number_after, opening_steps, refused, steps, whole_files, without_memory, open_file}
 use Rattle.pgn_tool.specs.SplitFiles.{FilesAfter, FilesSoFar, FilesStop, IsOwn, IsWell, LastFile, SplitFiles, StopsBy, TurnResult, by_input, by_memory, by_refusal, by_write, settled}
 use Rattle.pgn_tool.specs.SplitFiles as split_files
 
@@ -132,7 +132,7 @@ module _ {A : Type 0} (taken : A → Option (List ℕ)) (failures : A → ℕ) (
       (by_memory shut)
 
   pub fed_stops : {B : Type 0} → (refusal : Option CreateFault) (answer : Result B Fault) (result : Result B Unsplit) (why : Unsplit)
-      → TurnResult taken failures (one_more count) log file after now refusal failed → calls.CountsFault answer 0 failed
+      → TurnResult taken failures (one_more count) log file after now refusal failed → calls.CountsFault answer (open_file taken log file after now failed)
       → result ≡ settled refusal answer → result ≡ Err why → FilesStop failures before after now why
   fed_stops None (Ok x) result why turned counts settles is = absurd (not_both result x why settles is)
   fed_stops (Some creating.Refused) (Ok x) result why turned counts settles is = absurd (not_both result x why settles is)
@@ -148,7 +148,7 @@ module _ {A : Type 0} (taken : A → Option (List ℕ)) (failures : A → ℕ) (
 
   -- the converter went on
   pub fed_well : {B : Type 0} → (refusal : Option CreateFault) (answer : Result B Fault) (result : Result B Unsplit) (x : B)
-      → TurnResult taken failures (one_more count) log file after now refusal failed → calls.CountsFault answer 0 failed
+      → TurnResult taken failures (one_more count) log file after now refusal failed → calls.CountsFault answer (open_file taken log file after now failed)
       → result ≡ settled refusal answer → result ≡ Ok x → FilesSoFar before after now count × IsWell taken failures after now
   fed_well refusal (Ok y) result x turned counts settles is = fed_on refusal turned counts
   fed_well None (Err f) result x turned counts settles is = absurd (not_both result x _ is settles)

@@ -2,7 +2,7 @@ use Rattle.std.proofs.Common.{◌≡◌, ◌<◌, length, take, refl, sym, ap, s
 use Rattle.std.proofs.lemmas.Result.{err_from_is_err_and}
 use Rattle.pgn_game.proofs.tokens.WholeInput.{read_none, read_more, unread, stops_in_piece, ends_here, short_input}
 use Rattle.pgn_layout.specs.Device.{one_more}
-use Rattle.pgn_game.specs.ConverterCalls.{CountsFault, CountsReason}
+use Rattle.pgn_game.specs.ConverterCalls.{CountsReason}
 use Rattle.pgn_game.proofs.ReasonToDevice.{devices_of, counts_end}
 use Rattle.pgn_game.proofs.conversion.convert.Goals as goal
 
@@ -44,8 +44,7 @@ returns-in-Ok-eq0-clause-short g c =
 
 pub returns-in-Ok-eq0-clause-counted : goal.returns-in-Ok-eq0-clause-counted
 returns-in-Ok-eq0-clause-counted g c =
-    counts_end c.end.result _ _ _ _ (c.in-Ok-eq0.ensures.failures ∙ c.loop-converter.invariant.source)
-    (subst (λ n. CountsFault c.end.result n (g.W.Sink.failures c.end.new.out)) c.loop-converter.invariant.sink c.end.ensures.counted)
+    counts_end c.end.result _ _ _ (c.in-Ok-eq0.ensures.failures ∙ c.loop-converter.invariant.source) c.loop-converter.invariant.sink refl c.end.ensures.counted
 
 pub loop-converter-smaller : goal.loop-converter-smaller
 loop-converter-smaller g c =

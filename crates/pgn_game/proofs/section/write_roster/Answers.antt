@@ -1,8 +1,8 @@
-use Rattle.std.proofs.Common.{◌≡◌, ℕ, ◌+◌, List, ◌∙◌, length, take, subst, arith, refl, Option, Some, slice_get, unwrap_or}
+use Rattle.std.proofs.Common.{◌≡◌, ℕ, ◌+◌, List, ◌∙◌, length, take, subst, arith, refl, Option, Some, slice_get, unwrap_or, ap}
 use Rattle.std.proofs.lemmas.Result.{err_from_is_err_and}
 use Rattle.std.proofs.lemmas.List.{take_all}
 use Rattle.std.specs.Io.KnownBytes.{Appends}
-use Rattle.pgn_layout.specs.Device.{AppendsFront}
+use Rattle.pgn_layout.specs.Device.{AppendsFront, one_more}
 use Rattle.pgn_layout.specs.TagLine.{tag_line}
 use Rattle.pgn_game.specs.Markers.{marker_text}
 use Rattle.pgn_game.specs.Pairs.{Pair, value_of}
@@ -30,12 +30,15 @@ seven : (result : List ℕ) → length (roster result) ≡ 7
 unfolding roster
 seven result = refl
 
-pub returns-in_err-write_tag-clause-text : goal.returns-in_err-write_tag-clause-text
-returns-in_err-write_tag-clause-text g c =
+pub returns-in_err-write_tag : goal.returns-in_err-write_tag
+returns-in_err-write_tag g c =
     let p = err_from_is_err_and c.from_residual.result c.from_residual.ensures.1 in
     rw p.1
-    (front_of_line (marker_text c.args.missing_result) c.args.pairs.now c.loop-index.index c.roster_pair.result.0.now c.roster_pair.result.1.now c.value_or-value.result.now _ _ _
-    c.roster_pair.ensures.pair c.value_or-value.ensures.value c.loop-index.invariant.1 c.in_err-write_tag.ensures.text)
+    (record {
+      written = front_of_line (marker_text c.args.missing_result) c.args.pairs.now c.loop-index.index c.roster_pair.result.0.now c.roster_pair.result.1.now c.value_or-value.result.now _ _ _
+          c.roster_pair.ensures.pair c.value_or-value.ensures.value c.loop-index.invariant.1 c.in_err-write_tag.ensures.text;
+      counted = c.in_err-write_tag.ensures.counted ∙ ap one_more c.loop-index.invariant.0;
+    })
 
 pub loop-index-preserved : goal.loop-index-preserved
 loop-index-preserved g c = (
@@ -44,8 +47,11 @@ loop-index-preserved g c = (
       c.roster_pair.ensures.pair c.value_or-value.ensures.value c.loop-index.invariant.1 c.in_ok-write_tag.ensures.text,
 )
 
-pub returns-clause-text : goal.returns-clause-text
-returns-clause-text g c =
+pub returns : goal.returns
+returns g c =
     let held = c.args.pairs.now in
     let all : take c.loop-index.index (roster (marker_text c.args.missing_result)) ≡ roster (marker_text c.args.missing_result) = take_all c.loop-index.index (roster (marker_text c.args.missing_result)) (omega (arith, seven (marker_text c.args.missing_result), c.loop-index-test.false)) in
-    subst (λ ps. Appends (g.W.Sink.taken c.args.out.now) (g.W.Sink.taken c.loop-index.out) (text_by (roster_line held) ps)) all c.loop-index.invariant.1
+    record {
+      written = subst (λ ps. Appends (g.W.Sink.taken c.args.out.now) (g.W.Sink.taken c.loop-index.out) (text_by (roster_line held) ps)) all c.loop-index.invariant.1;
+      counted = c.loop-index.invariant.0;
+    }

@@ -1,6 +1,6 @@
 use Rattle.std.proofs.Common.{rules, subst}
 use Rattle.pgn_game.specs.ConverterCalls.{Ends}
-use Rattle.pgn_tool.specs.Files.{open_text}
+use Rattle.pgn_tool.specs.Files.{open_file}
 use Rattle.pgn_tool.proofs.split.finish_game.Goals as goal
 
 pub returns : goal.returns
@@ -17,6 +17,6 @@ returns g c =
       counted = call.ensures.counted;
       ends =
           subst (λ files. Ends c.args.converter.now call.new.converter call.new.answer
-          (open_text taken (log c.args.files.now) c.args.file.now) (open_text taken (log files) call.new.file))
+          (open_file taken (log c.args.files.now) c.args.file.now (log files) call.new.file call.result.failures))
           (search rules) (rw c.new-lent.ensures.now at call.ensures.ends);
     }

@@ -1,5 +1,6 @@
 use Rattle.std.proofs.Common.{◌≡◌, ◌≤◌, ◌+◌, ◌-◌, ◌*◌, None, false, length}
 use Rattle.pgn_lexer.specs.Standing.{waiting}
+use Rattle.pgn_layout.specs.Device.{device}
 use Rattle.pgn_game.specs.ConverterSteps.{FeedsSoFar}
 use Rattle.pgn_game.proofs.converter.Converter.feed_front.Given as goal
 
@@ -15,7 +16,7 @@ invariant-loop-at g l =
       not_finished : l.self.is_finished ≡ false;
       probes : l.fn.self.reading.most_probes ≤ l.self.reading.most_probes;
       counted : g.W.Sink.failures l.out ≡ g.W.Sink.failures l.fn.out;
-      feeds : FeedsSoFar l.fn.self l.piece l.at l.self (g.W.Sink.taken l.fn.out) (g.W.Sink.taken l.out);
+      feeds : FeedsSoFar l.fn.self l.piece l.at l.self (device g.W.Sink.taken g.W.Sink.failures l.fn.out l.out);
     }
 
 abbrev pub decreases-loop-at : goal.decreases-loop-at

@@ -1,5 +1,6 @@
 use Rattle.std.proofs.Common.{◌≡◌, ◌≤◌, None, false}
 use Rattle.pgn_lexer.specs.Standing.{waiting}
+use Rattle.pgn_layout.specs.Device.{device}
 use Rattle.pgn_game.specs.ConverterSteps.{FinishesSoFar}
 use Rattle.pgn_game.proofs.converter.Converter.finish.Given as goal
 
@@ -11,7 +12,7 @@ invariant-loop-finished_game g l =
       not_finished : l.self.is_finished ≡ false;
       probes : l.fn.self.reading.most_probes ≤ l.self.reading.most_probes;
       counted : g.W.Sink.failures l.out ≡ g.W.Sink.failures l.fn.out;
-      closes : FinishesSoFar l.fn.self l.self l.finished_game (g.W.Sink.taken l.fn.out) (g.W.Sink.taken l.out);
+      closes : FinishesSoFar l.fn.self l.self l.finished_game (device g.W.Sink.taken g.W.Sink.failures l.fn.out l.out);
     }
 
 abbrev pub decreases-loop-finished_game : goal.decreases-loop-finished_game

@@ -73,7 +73,7 @@ returns-in-Token-clause-finished g c = ap (λ (s : Converter). s.is_finished) c.
 
 pub returns-in-Token-clause-counted : goal.returns-in-Token-clause-counted
 returns-in-Token-clause-counted g c =
-    rw c.settle-outcome.ensures.outcome (counts_token c.in-Token.token.at c.accept-accepted.result _ _ c.accept-accepted.ensures.counted)
+    rw c.settle-outcome.ensures.outcome (counts_token c.in-Token.token.at c.accept-accepted.result _ c.accept-accepted.ensures.counted)
 
 pub returns-in-Fault-clause-count : goal.returns-in-Fault-clause-count
 returns-in-Fault-clause-count g c = c.next-scan.follows.holds-at-none.count ∙ ap (λ (s : Converter). s.lexer.count + c.next-scan.result.used) c.self.view_is

@@ -31,7 +31,7 @@ returns-in-Token-clause-games g c =
 
 pub returns-in-Token-clause-counted : goal.returns-in-Token-clause-counted
 returns-in-Token-clause-counted g c =
-    rw (c.none_at_end-closed.ensures, c.settle-outcome.ensures.outcome) (counts_closed c.is_end-is_end.result _ _ _ (counts_token c.in-Token.token.at c.accept-accepted.result _ _ c.accept-accepted.ensures.counted))
+    rw (c.none_at_end-closed.ensures, c.settle-outcome.ensures.outcome) (counts_closed c.is_end-is_end.result _ _ (counts_token c.in-Token.token.at c.accept-accepted.result _ c.accept-accepted.ensures.counted))
 
 pub returns-in-Fault-clause-after : goal.returns-in-Fault-clause-after
 returns-in-Fault-clause-after g c p u given left has_read =
