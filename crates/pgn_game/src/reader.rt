@@ -38,7 +38,7 @@ use crate::section::{exported_value, write_section};
 use crate::stage::Stage;
 use crate::tags::TagPairs;
 use crate::token_tests::{
-    is_comment, is_end, is_number, is_number_or_period, is_result, is_score, is_tag_name,
+    is_comment, is_end, is_number_or_period, is_result, is_score, is_score_or_number, is_tag_name,
 };
 use chess_rules::{Position, Probes};
 use chess_text::{Played, read_fen};
@@ -259,7 +259,7 @@ impl<const T: usize, const L: usize> Reader<T, L> {
         let TokenKind::Symbol(text) = kind else {
             return None;
         };
-        if !self.may_have_movetext() || is_score(text) || is_number(text) {
+        if !self.may_have_movetext() || is_score_or_number(text) {
             return None;
         }
         let found = find_move(self.text.present(), text, probes);

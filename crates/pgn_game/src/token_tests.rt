@@ -1,5 +1,5 @@
 //! Tests of a token.
-ghost use Rattle.std.specs.Prelude.{◌≡◌};
+ghost use Rattle.std.specs.Prelude.{◌≡◌, ◌||◌, false};
 ghost use Rattle.std.specs.List.{list_all};
 ghost use Rattle.pgn_lexer.specs.Scanned.{kind_of};
 ghost use Rattle.pgn_game.specs.Judgement.{is_number_or_period as is_of_number};
@@ -66,14 +66,37 @@ pub fn is_number(text: &[u8]) -> bool
     text.iter().all(|byte| byte.is_ascii_digit())
 }
 
+/// Whether the text is one of the markers that are symbols, or digits alone: it names no move.
+#[inline(always)]
+pub fn is_score_or_number(text: &[u8]) -> bool
+    ensures { result ≡ (is_any_score text.now || is_any_number text.now) }
+{
+    may_be_score_or_number(text) && (is_score(text) || is_number(text))
+}
+
+// Whether the first byte of the text allows these: a digit, or no byte at all. Most symbols are
+// moves, and begin with a letter.
+#[inline(always)]
+fn may_be_score_or_number(text: &[u8]) -> bool
+    ensures score { result ≡ false → is_any_score text.now ≡ false }
+    ensures number { result ≡ false → is_any_number text.now ≡ false }
+{
+    match text.first() {
+        Some(byte) => byte.is_ascii_digit(),
+        None => true,
+    }
+}
+
 /// Whether the token is a move number or a period (PGN 8.2.2.1).
+#[tactic(auto, using(crate::proofs::reading::MovetextTokens::number_no_score))]
 #[inline(always)]
 pub fn is_number_or_period(kind: TokenKind<'_>) -> bool
     ensures { result ≡ is_of_number (kind_of kind.entry) }
 {
     match kind {
         TokenKind::Period => true,
-        TokenKind::Symbol(text) => is_number(text) && !is_score(text),
+        // Digits alone are no score.
+        TokenKind::Symbol(text) => may_be_score_or_number(text) && is_number(text),
         _ => false,
     }
 }
