@@ -1,8 +1,8 @@
 -- **Definition**: what a contract sees of a converter, and what each call does to it.
 -- Letters: p is the profile, u the bytes used so far, b the byte known to be next, if one is.
 -- `given` are the tokens given so far, and f is a fault. `sink` is the sink before the call and
--- after it, `before` and `after` are the bytes that it has taken, if it reports them. A game is just
--- finished from the call that finished it to the next call of `feed` or `finish`.
+-- after it; `before` and `after` are the bytes that it has taken, if it reports them. A game is
+-- just finished from the call that finished it to the next call of `feed` or `finish`.
 use Rattle.std.specs.Prelude.{◌≡◌, ℕ, ◌+◌, ◌*◌, ◌^◌, ◌<◌, ◌≤◌, ◌↔◌, Bool, true, false, ◌||◌, IsTrue, List, [], ◌∷◌, ◌++◌, length, take, drop, map, sum, codes, option_map, Option, None, Some, Result, Ok, Err}
 use Rattle.std.specs.List.{list_any}
 use Rattle.std.specs.Io.KnownBytes.{Appends}

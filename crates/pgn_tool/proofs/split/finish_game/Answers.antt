@@ -1,5 +1,5 @@
 use Rattle.std.proofs.Common.{rules, subst}
-use Rattle.pgn_game.specs.ConverterCalls.{Ends}
+use Rattle.pgn_game.specs.ConverterCalls.{CountsFault, Ends}
 use Rattle.pgn_tool.specs.Files.{open_file}
 use Rattle.pgn_tool.proofs.split.finish_game.Goals as goal
 
@@ -14,7 +14,10 @@ returns g c =
       failed = call.result.failures;
       settles = c.settle.ensures;
       turned = search rules;
-      counted = call.ensures.counted;
+      counted =
+          subst (λ files. CountsFault call.new.answer
+          (open_file taken (log c.args.files.now) c.args.file.now (log files) call.new.file call.result.failures))
+          (search rules) (rw c.new-lent.ensures.now at call.ensures.counted);
       ends =
           subst (λ files. Ends c.args.converter.now call.new.converter call.new.answer
           (open_file taken (log c.args.files.now) c.args.file.now (log files) call.new.file call.result.failures))
