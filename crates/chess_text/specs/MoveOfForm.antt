@@ -1,6 +1,7 @@
 -- **Definition**: which move a form means in a position (PGN 8.2.3).
 use Rattle.std.specs.Prelude.{ℕ, Bool, true, false, ◌&&◌, ◌||◌, not, List, [], ◌∷◌, Option, None, Some, Result, Ok, Err, length, map, ◌==◌, if◌then◌else◌}
 use Rattle.std.specs.List.{filter_map}
+use Rattle.std.specs.Option.{ok_or}
 use Rattle.chess_rules.specs.declared.piece.Colour.{Colour}
 use Rattle.chess_rules.specs.declared.piece.Promotion.{Promotion}
 use Rattle.chess_rules.specs.declared.position.Move.{Move}
@@ -88,6 +89,11 @@ only (x ∷ y ∷ more) = Err Ambiguous
 -- the one move that agrees, or the fault
 abbrev pub move_of_form : Parts → Form → Result Played SanFault
 move_of_form p f = only (agreeing p f)
+
+-- The answer of a function that makes no position: the same, with the position after the move.
+abbrev pub with_next_position : Parts → Result Move SanFault → Result Played SanFault
+with_next_position p (Ok m) = ok_or (with_next m (legal p m)) NoMove
+with_next_position p (Err fault) = Err fault
 
 -- How many pairs are tried to find it; if two moves agree, at most so many.
 abbrev pub form_pairs : Parts → Form → ℕ

@@ -16,5 +16,5 @@ mod tests;
 
 pub use fen::{FenFault, read_fen, write_fen};
 pub use form::{Form, read_form};
-pub use resolution::{Played, SanFault, resolve};
+pub use resolution::{Played, SanFault, resolve, resolve_move};
 pub use san::write_san;

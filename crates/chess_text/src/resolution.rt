@@ -1,7 +1,7 @@
 //! The move that a form names in a position. (PGN 8.2.3)
 
 ghost use Rattle.std.specs.Prelude.{◌≡◌, ◌≢◌, ◌+◌, ◌<◌, ◌≤◌, ◌^◌, ◌&&◌, Err, IsTrue, Some, length};
-ghost use Rattle.std.specs.Result.{OnOk};
+ghost use Rattle.std.specs.Prelude.{IfOk, OnOk};
 ghost use Rattle.chess_rules.specs.declared.piece.Kind.TheVariants.{King};
 ghost use Rattle.chess_rules.specs.Candidate.{candidates};
 ghost use Rattle.chess_rules.specs.Legal.{is_legal, legal};
@@ -73,6 +73,32 @@ pub fn resolve(position: &Position, form: &Form, probes: &mut Probes) -> Result<
     ensures some { OnOk result (probes.old < probes.new) }
     ensures bound { probes.new ≤ probes.old + 8 }
 {
+    match resolve_move(position, form, probes) {
+        Err(fault) => Err(fault),
+        Ok(mv) => Ok(play(position, mv)),
+    }
+}
+
+/// Returns the one legal move that agrees with the form, as `resolve` does, without the position
+/// after it. (PGN 8.2.3)
+///
+/// It counts what `resolve` counts.
+///
+/// # Errors
+///
+/// Those of `resolve`.
+pub fn resolve_move(position: &Position, form: &Form, probes: &mut Probes) -> Result<Move, SanFault>
+    requires { probes.old + 8 < 2 ^ 32 }
+    ensures answer { spec.with_next_position position.now result
+        ≡ spec.move_of_form position.now form.now }
+    ensures legal { IfOk result (λ mv. IsTrue (is_legal position.now mv)) }
+    ensures each { result ≢ Err Ambiguous
+        → probes.new ≡ probes.old + spec.form_pairs position.now form.now }
+    ensures two { result ≡ Err Ambiguous → probes.old + 2 ≤ probes.new }
+    ensures most { probes.new ≤ probes.old + spec.form_pairs position.now form.now }
+    ensures some { OnOk result (probes.old < probes.new) }
+    ensures bound { probes.new ≤ probes.old + 8 }
+{
     match *form {
         Form::Castle { long } => resolve_castling(position, long, probes),
         Form::Man {
@@ -121,22 +147,20 @@ pub(crate) fn is_castling(position: &Position, mv: &Move) -> bool
 }
 
 // Tries the one castling.
-fn resolve_castling(
-    position: &Position,
-    long: bool,
-    probes: &mut Probes,
-) -> Result<Played, SanFault>
+fn resolve_castling(position: &Position, long: bool, probes: &mut Probes) -> Result<Move, SanFault>
     requires { probes.old + 1 < 2 ^ 32 }
-    ensures answer { result ≡ spec.move_of_form position.now (Castle long) }
+    ensures answer { spec.with_next_position position.now result
+        ≡ spec.move_of_form position.now (Castle long) }
+    ensures legal { IfOk result (λ mv. IsTrue (is_legal position.now mv)) }
     ensures single { result ≢ Err Ambiguous }
     ensures count { probes.new ≡ probes.old + 1 }
 {
     let mv = castling_move(position.side(), long);
-    let Some(next) = try_pair(position, mv, probes) else {
+    if try_pair(position, mv, probes).is_none() {
         return Err(SanFault::NoMove);
-    };
+    }
     if is_castling(position, &mv) {
-        Ok(Played { mv, next })
+        Ok(mv)
     } else {
         Err(SanFault::NoMove)
     }
@@ -190,7 +214,7 @@ fn play(position: &Position, mv: Move) -> Played
     Played { mv, next }
 }
 
-// Tries the move from each origin, until a second one agrees. The position after it is made once.
+// Tries the move from each origin, until a second one agrees.
 fn resolve_piece_move(
     position: &Position,
     kind: Kind,
@@ -198,10 +222,11 @@ fn resolve_piece_move(
     to: Square,
     promotion: Option<Promotion>,
     probes: &mut Probes,
-) -> Result<Played, SanFault>
+) -> Result<Move, SanFault>
     requires { probes.old + 8 < 2 ^ 32 }
-    ensures answer { result ≡ spec.move_of_form position.now
-        (Man kind hints.file hints.rank to promotion) }
+    ensures answer { spec.with_next_position position.now result
+        ≡ spec.move_of_form position.now (Man kind hints.file hints.rank to promotion) }
+    ensures legal { IfOk result (λ mv. IsTrue (is_legal position.now mv)) }
     ensures each { result ≢ Err Ambiguous
         → probes.new ≡ probes.old + length (candidates position.now kind to) }
     ensures two { result ≡ Err Ambiguous → probes.old + 2 ≤ probes.new }
@@ -227,6 +252,6 @@ fn resolve_piece_move(
     }
     match found {
         None => Err(SanFault::NoMove),
-        Some(mv) => Ok(play(position, mv)),
+        Some(mv) => Ok(mv),
     }
 }

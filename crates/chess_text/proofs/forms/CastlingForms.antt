@@ -1,17 +1,18 @@
 -- What a form of castling names: the one move that is tried, or none.
 use Rattle.std.proofs.Common.{◌≡◌, Bool, true, false, ◌&&◌, ◌||◌, [], refl, sym, ◌∙◌, ap, subst, arith}
-use Rattle.std.specs.Prelude.{Option, None, Some, Ok, Err, is_none}
+use Rattle.std.specs.Prelude.{Option, None, Some, Ok, Err, is_none, is_some}
+use Rattle.std.specs.Option.{ok_or}
 use Rattle.std.specs.List.{cons_option}
 use Rattle.std.proofs.lemmas.Bool.{false≢true, and_parts}
 use Rattle.chess_rules.specs.declared.position.Move.{Move}
 use Rattle.chess_rules.specs.declared.position.Parts.{Parts}
 use Rattle.chess_rules.specs.Square.{Square, same_square}
 use Rattle.chess_rules.specs.Step.{home, Wing, short_wing, long_wing, short_right, long_right, is_king_move, stand_ready, is_unattacked, castles, castles_short, castles_long}
-use Rattle.chess_rules.specs.Legal.{legal}
+use Rattle.chess_rules.specs.Legal.{legal, is_legal}
 use Rattle.chess_text.specs.declared.form.Form.TheVariants.{Castle}
 use Rattle.chess_text.specs.declared.resolution.Played.{Played}
 use Rattle.chess_text.specs.declared.resolution.SanFault.TheVariants.{NoMove}
-use Rattle.chess_text.specs.MoveOfForm.{is_castling, describes, with_next, played, castling_move, agreeing, only, move_of_form}
+use Rattle.chess_text.specs.MoveOfForm.{is_castling, describes, with_next, with_next_position, played, castling_move, agreeing, only, move_of_form}
 use Rattle.chess_text.proofs.forms.CastlingMoves.{squares_same}
 
 -- where castling leads
@@ -61,19 +62,32 @@ played_some false p q m e h = absurd (false≢true e)
 pub played_not : (b : Bool) (p : Parts) (m : Move) → b ≡ false → played b p m ≡ None
 played_not b p m e = ap (λ (x : Bool). played x p m) e
 
+no_next : (o : Option Parts) → is_some o ≡ false → o ≡ None
+no_next None h = refl
+no_next (Some q) h = absurd (false≢true (sym h))
+
+next_of : (o : Option Parts) → is_some o ≡ true → (q : Parts) × (o ≡ Some q)
+next_of None h = absurd (false≢true h)
+next_of (Some q) h = (q, refl)
+
 module _ (p : Parts) (long : Bool) (m : Move) (is : m ≡ castling_move p.side long) where
   answer_of : (o : Option Played) → played (describes p (Castle long) (castling_move p.side long)) p (castling_move p.side long) ≡ o → only (cons_option o []) ≡ move_of_form p (Castle long)
   answer_of o h = ap (λ (x : Option Played). only (cons_option x [])) (sym h) ∙ sym (reads_one p long)
 
-  pub castling_illegal : legal p m ≡ None → Err NoMove ≡ move_of_form p (Castle long)
+  pub castling_illegal : is_legal p m ≡ false → Err NoMove ≡ move_of_form p (Castle long)
   castling_illegal h =
-      answer_of None (played_none _ p (castling_move p.side long) (subst (λ (n : Move). legal p n ≡ None) is h))
+      answer_of None (played_none _ p (castling_move p.side long) (subst (λ (n : Move). legal p n ≡ None) is (no_next (legal p m) h)))
 
-  pub castling_found : (q : Parts) → legal p m ≡ Some q → is_castling p m ≡ true → Ok (record { mv = m; next = q }) ≡ move_of_form p (Castle long)
-  castling_found q h named =
-      ap (λ (n : Move). Ok (record { mv = n; next = q })) is
-      ∙ answer_of (Some (record { mv = castling_move p.side long; next = q }))
-      (played_some _ p q (castling_move p.side long) (described p long ∙ subst (λ (n : Move). is_castling p n ≡ true) is named) (subst (λ (n : Move). legal p n ≡ Some q) is h))
+  pub castling_found : is_legal p m ≡ true → is_castling p m ≡ true → with_next_position p (Ok m) ≡ move_of_form p (Castle long)
+  castling_found h named =
+      let (q, leads) = next_of (legal p m) h in
+      ap (λ (o : Option Parts). ok_or (with_next m o) NoMove) leads ∙ found q leads
+    where
+      found : (q : Parts) → legal p m ≡ Some q → Ok (record { mv = m; next = q }) ≡ move_of_form p (Castle long)
+      found q leads =
+          ap (λ (n : Move). Ok (record { mv = n; next = q })) is
+          ∙ answer_of (Some (record { mv = castling_move p.side long; next = q }))
+          (played_some _ p q (castling_move p.side long) (described p long ∙ subst (λ (n : Move). is_castling p n ≡ true) is named) (subst (λ (n : Move). legal p n ≡ Some q) is leads))
 
   pub castling_other : is_castling p m ≡ false → Err NoMove ≡ move_of_form p (Castle long)
   castling_other named =

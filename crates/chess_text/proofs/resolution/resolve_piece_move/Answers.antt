@@ -1,5 +1,5 @@
 use Rattle.std.proofs.Common.{◌≡◌, List, length, sym, refl, ◌∙◌, ap, subst, arith}
-use Rattle.std.specs.Prelude.{Option, Some}
+use Rattle.std.specs.Prelude.{Option, Some, is_some}
 use Rattle.std.specs.Option.{ok_or, option_to_list}
 use Rattle.std.specs.List.Sorted.{IsPermutation}
 use Rattle.std.proofs.lemmas.Bool.{and_parts}
@@ -119,8 +119,7 @@ returns-in-Some-clause-answer c =
     let xs = c.as_slice-origin-items.result.now in
     let perm = permuted (candidates p c.args.kind c.args.to) _ xs c.as_slice-origin-items.ensures.value c.origins-origins.ensures.exactly in
     let h = from_square p (Man c.args.kind c.args.hints.file c.args.hints.rank c.args.to c.args.promotion) c.args.to c.args.promotion in
-    ap (λ (o : Option Played). ok_or o NoMove) (sym c.play.ensures)
-    ∙ ap (λ o. ok_or (with_position p o) NoMove) (sym c.in-Some.is)
+    ap (λ o. ok_or (with_position p o) NoMove) (sym c.in-Some.is)
     ∙ (at_the_end h xs c.loop-origin.origin-index (with_position p c.loop-origin.found) c.loop-origin.invariant.found (omega (arith, c.loop-origin-test.false))
     ∙ reads_candidates p c.args.kind c.args.hints.file c.args.hints.rank c.args.to c.args.promotion c.candidates_are_complete.ensures xs perm)
 
@@ -137,3 +136,12 @@ returns-in-Some-clause-most c =
     let xs = c.as_slice-origin-items.result.now in
     let perm = permuted (candidates p c.args.kind c.args.to) _ xs c.as_slice-origin-items.ensures.value c.origins-origins.ensures.exactly in
     omega (arith, length_permutation (candidates p c.args.kind c.args.to) xs perm, c.loop-origin.invariant.tried, c.loop-origin.auto.origin-index-end)
+
+pub returns-in-Some-clause-some : goal.returns-in-Some-clause-some
+returns-in-Some-clause-some c =
+    let p = c.args.position.now in
+    let h = from_square p (Man c.args.kind c.args.hints.file c.args.hints.rank c.args.to c.args.promotion) c.args.to c.args.promotion in
+    let late =
+    not_at_once h c.as_slice-origin-items.result.now c.loop-origin.origin-index (with_position p c.loop-origin.found) c.loop-origin.invariant.found
+    (kept_is_some p c.loop-origin.found c.loop-origin.invariant.legal ∙ ap (λ o. is_some o) c.in-Some.is) in
+    omega (arith, late, c.loop-origin.invariant.tried)
