@@ -1,9 +1,13 @@
 -- **Bookkeeping**: the move that a symbol means, or the row of the fault table that rejects it.
 use Rattle.std.specs.Prelude.{true, false, Option, None, Some, Result, Ok, Err}
+use Rattle.std.specs.Option.{ok_or}
+use Rattle.chess_rules.specs.declared.position.Move.{Move}
 use Rattle.chess_rules.specs.declared.position.Parts.{Parts}
+use Rattle.chess_rules.specs.Legal.{legal}
 use Rattle.chess_text.specs.declared.resolution.Played.{Played}
 use Rattle.chess_text.specs.declared.resolution.SanFault.{SanFault}
 use Rattle.chess_text.specs.declared.resolution.SanFault.TheVariants.{NoMove, Ambiguous}
+use Rattle.chess_text.specs.MoveOfForm.{with_next}
 use Rattle.pgn_game.specs.declared.reason.Reason.{Reason}
 use Rattle.pgn_game.specs.declared.reason.Reason.TheVariants.{NotAMove, IllegalMove, AmbiguousMove, MoveLimit}
 use Rattle.pgn_game.specs.FaultTable.{is_at_limit}
@@ -14,3 +18,8 @@ found_in p None = Err NotAMove
 found_in p (Some (Err NoMove)) = Err IllegalMove
 found_in p (Some (Err Ambiguous)) = Err AmbiguousMove
 found_in p (Some (Ok played)) = elim (is_at_limit p) [ true ↦ Err MoveLimit | false ↦ Ok played ]
+
+-- the answer of a function that makes no position: the same, with the position after the move
+abbrev pub with_position : Parts → Result Move Reason → Result Played Reason
+with_position p (Ok m) = ok_or (with_next m (legal p m)) IllegalMove
+with_position p (Err reason) = Err reason

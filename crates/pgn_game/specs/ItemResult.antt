@@ -2,11 +2,12 @@
 use Rattle.std.specs.Prelude.{◌≡◌, ℕ, ◌+◌, ◌≤◌, Bool, true, false, ◌&&◌, List, [], ◌∷◌, ◌++◌, ◌==◌, map, length, drop, Some, Option, IfSome, Result, MatchResult, OnOk, All}
 use Rattle.std.specs.Io.KnownBytes.{Appends}
 use Rattle.chess_rules.specs.declared.position.Parts.{Parts}
+use Rattle.chess_text.specs.declared.resolution.Played.{Played}
 use Rattle.pgn_layout.specs.Device.{AppendsFront, Counts, Device, Writes}
 use Rattle.pgn_layout.specs.Lines.{IsToken}
 use Rattle.pgn_layout.specs.Layout.{Put, laid_from}
 use Rattle.pgn_game.specs.declared.judged.Item.{Item as CodeItem}
-use Rattle.pgn_game.specs.declared.judged.Item.TheVariants.{Move, Open, Close}
+use Rattle.pgn_game.specs.declared.judged.Item.TheVariants.{Open, Close}
 use Rattle.pgn_game.specs.declared.mode.Mode.{Mode}
 use Rattle.pgn_game.specs.declared.mode.Mode.TheVariants.{Full, Reduced}
 use Rattle.pgn_game.specs.Chess.{is_black_to_move}
@@ -14,7 +15,6 @@ use Rattle.pgn_game.specs.Game.{Item}
 use Rattle.pgn_game.specs.Text.{is_move, number_before, tokens_at, full_text}
 use Rattle.pgn_game.specs.Movetext.{Movetext, StoredLevels, HoldsItems, ClosesLevel, level_at}
 use Rattle.pgn_game.specs.MostTried.{CostsToWrite}
-use Rattle.pgn_game.specs.Judgement.{model_item}
 
 -- tokens are put in turn: what goes out, and the line that is held then
 pub record PutsTokens {A E : Type 0} (tokens : List (List ℕ)) (line new_line : List ℕ)
@@ -60,11 +60,6 @@ plies_in i depth = elim (is_move i) [ true ↦ counted_at depth | false ↦ 0 ]
 
 -- the levels that it leads to
 abbrev pub LeadsLevels : CodeItem → StoredLevels → StoredLevels → Type 0
-LeadsLevels (Move played) old new =
-    new ≡ record {
-      present = record { present = played.now.next; before = Some old.present.present };
-      around = old.around;
-    }
 LeadsLevels Open old new =
     IfSome old.present.before
     (λ start. new ≡ record { present = level_at start; around = old.present ∷ old.around })
@@ -87,10 +82,19 @@ TriesItem mode text i old new =
 abbrev pub Rises : ℕ → ℕ → Type 0
 Rises old new = (old ≤ new) × (new ≤ old + 1032)
 
--- Movetext goes on with an item, which may be written before.
+-- Movetext goes on with a legal move, which may be written before.
+pub record Plays (x : Played) (old new : Movetext) : Type 0 where
+  pub levels : new.levels ≡ record {
+    present = record { present = x.next; before = Some old.levels.present.present };
+    around = old.levels.around;
+  }
+  pub plies : new.plies ≡ old.plies + counted_at (length old.levels.around)
+  pub is_after_move : new.is_after_move ≡ old.is_after_move
+
+-- Movetext goes on with another item, which may be written before.
 pub record GoesOn (i : CodeItem) (old new : Movetext) : Type 0 where
   pub levels : LeadsLevels i old.levels new.levels
-  pub plies : new.plies ≡ old.plies + plies_in (model_item i) (length old.levels.around)
+  pub plies : new.plies ≡ old.plies
   pub is_after_move : new.is_after_move ≡ old.is_after_move
 
 -- what an item adds to the lines that are full

@@ -1,7 +1,7 @@
 -- **Bookkeeping**: what the reader judges a token to mean, and where that leads.
 use Rattle.std.specs.Prelude.{◌≡◌, ℕ, ◌+◌, ◌<◌, ◌≤◌, ◌&&◌, ◌||◌, ◌==◌, not, nat_le, Bool, true, false, IsTrue, IsFalse, is_some, List, [], ◌∷◌, ◌++◌, length, codes, bytes_eq, Option, None, Some, IsSomeAnd, IfOk, IfSome, is_ok, Result, Ok, Err, MatchResult}
 use Rattle.chess_rules.specs.declared.position.Parts.{Parts}
-use Rattle.chess_rules.specs.Legal.{legal}
+use Rattle.chess_rules.specs.Legal.{is_legal, legal}
 use Rattle.chess_text.specs.declared.resolution.Played.{Played}
 use Rattle.pgn_layout.specs.Lines.{IsToken}
 use Rattle.pgn_layout.specs.TagLine.{escaped}
@@ -10,9 +10,11 @@ use Rattle.pgn_lexer.specs.Tokens.{Kind}
 use Rattle.pgn_game.specs.declared.judged.Judged.{Judged}
 use Rattle.pgn_game.specs.declared.judged.Judged.TheVariants.{Skipped, PairOpen, Name, Value, PairClose, Entry as InText}
 use Rattle.pgn_game.specs.declared.judged.Entry.{Entry}
-use Rattle.pgn_game.specs.declared.judged.Entry.TheVariants.{Number, Item as Put, Marker}
+use Rattle.pgn_game.specs.declared.judged.Entry.TheVariants.{Number, Move as Play, Item as Put, Marker}
+use Rattle.pgn_game.specs.declared.judged.Found.{Found}
+use Rattle.pgn_game.specs.declared.judged.Found.TheVariants.{Unsought, Rejected, Move as Named}
 use Rattle.pgn_game.specs.declared.judged.Item.{Item as CodeItem}
-use Rattle.pgn_game.specs.declared.judged.Item.TheVariants.{Move, Glyph, CommentOpen, Word, CommentClose, Open, Close}
+use Rattle.pgn_game.specs.declared.judged.Item.TheVariants.{Glyph, CommentOpen, Word, CommentClose, Open, Close}
 use Rattle.pgn_game.specs.declared.reason.Reason.{Reason}
 use Rattle.pgn_game.specs.declared.reason.Reason.TheVariants.{NotAMove, IllegalMove, AmbiguousMove, MoveLimit, NoMoveBefore, TooDeep, UnmatchedClose, MarkerInVariation, ResultDiffers}
 use Rattle.pgn_game.specs.declared.stage.Stage.{Stage}
@@ -20,7 +22,7 @@ use Rattle.pgn_game.specs.declared.stage.Stage.TheVariants.{AfterLeftBracket, Af
 use Rattle.pgn_game.specs.Profile.{Profile}
 use Rattle.pgn_game.specs.Pairs.{has_pair, insert_pair}
 use Rattle.pgn_game.specs.Chess.{move_of, position_of}
-use Rattle.pgn_game.specs.FoundMove.{found_in}
+use Rattle.pgn_game.specs.FoundMove.{found_in, with_position}
 use Rattle.pgn_game.specs.MostTried.{CostsIf}
 use Rattle.pgn_game.specs.Game as games
 use Rattle.pgn_game.specs.Game.{Item, Game, Part}
@@ -40,7 +42,6 @@ game_of part marker = record { pairs = part.pairs; items = part.items; marker = 
 
 -- an item of the code is one of the model
 abbrev pub model_item : CodeItem → Item
-model_item (Move played) = games.move played.now.mv
 model_item (Glyph n) = games.glyph n
 model_item CommentOpen = games.comment_open
 model_item (Word text) = games.word text.now
@@ -51,6 +52,7 @@ model_item Close = games.close_variation
 -- where a token leads that means this
 abbrev pub after_entry : Entry → Part → Next
 after_entry Number part = going (with_items part [])
+after_entry (Play m) part = going (with_items part (games.move m.now ∷ []))
 after_entry (Put i) part = going (with_items part (model_item i ∷ []))
 after_entry (Marker marker) part = whole (game_of part marker.now)
 
@@ -98,10 +100,9 @@ fen_position name value = elim (bytes_eq name (codes "FEN")) [
 abbrev pub IsLegal : Parts → Played → Type 0
 IsLegal here played = legal here played.mv ≡ Some played.next
 
--- An item can be put on movetext of at most so many levels: a legal move, a token, a variation that
--- can open or close.
+-- An item can be put on movetext of at most so many levels: a token, a variation that can open or
+-- close.
 abbrev pub ItemFits : ℕ → Movetext → CodeItem → Type 0
-ItemFits most text (Move played) = IsLegal text.levels.present.present played.now
 ItemFits most text (Word word) = IsToken word.now
 ItemFits most text Open =
     IsTrue (is_some text.levels.present.before) × (length text.levels.around + 1 < most)
@@ -110,6 +111,7 @@ ItemFits most text _ = Unit {0}
 
 abbrev pub EntryFits : ℕ → Movetext → Entry → Type 0
 EntryFits most text Number = Unit {0}
+EntryFits most text (Play m) = IsTrue (is_legal text.levels.present.present m.now)
 EntryFits most text (Put i) = ItemFits most text i
 EntryFits most text (Marker marker) = IsToken marker.now × (text.levels.around ≡ [])
 
@@ -120,7 +122,7 @@ pub record ValueFits (name value : List ℕ) : Type 0 where
 
 -- some pair was tried for a move
 abbrev pub IsProbed : Entry → ℕ → Type 0
-IsProbed (Put (Move played)) most = 0 < most
+IsProbed (Play m) most = 0 < most
 IsProbed e most = Unit {0}
 
 -- What was judged can be put on a reader of at most so many pairs of a game and levels.
@@ -151,10 +153,22 @@ is_number_or_period tokens.period = true
 is_number_or_period (tokens.symbol s) = is_number s && not (is_score s)
 is_number_or_period _ = false
 
+-- what the reader found, with the position after a move
+abbrev pub found_as : Parts → Found → Option (Result Played Reason)
+found_as here Unsought = None
+found_as here (Rejected reason) = Some (Err reason)
+found_as here (Named m) = Some (with_position here (Ok m))
+
+-- a move that was found is legal, and its pairs are counted
+abbrev pub IsFoundLegal : ReaderState → Found → Type 0
+IsFoundLegal r (Named m) =
+    IsTrue (is_legal r.text.levels.present.present m) × (0 < r.most_probes)
+IsFoundLegal r f = Unit {0}
+
 -- It was found, and its pairs are counted.
-pub record Finds (r : ReaderState) (k : Kind) (result : Option (Result Played Reason)) : Type 0 where
-  pub says : result ≡ found r k
-  pub legal : IfSome result (λ f. IfOk f (λ played. IsLegal r.text.levels.present.present played × (0 < r.most_probes)))
+pub record Finds (r : ReaderState) (k : Kind) (f : Found) : Type 0 where
+  pub says : found_as r.text.levels.present.present f ≡ found r k
+  pub legal : IsFoundLegal r f
 
 -- how many pairs were tried for it
 abbrev pub Seeks : ReaderState → Kind → ℕ → Type 0

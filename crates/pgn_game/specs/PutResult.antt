@@ -12,10 +12,11 @@ use Rattle.pgn_game.specs.declared.reason.Reason.{Reason}
 use Rattle.pgn_game.specs.declared.reason.Reason.TheVariants.{WriteFault}
 use Rattle.pgn_game.specs.declared.judged.Judged.{Judged}
 use Rattle.pgn_game.specs.declared.judged.Judged.TheVariants.{Entry as InText}
-use Rattle.pgn_game.specs.declared.judged.Entry.TheVariants.{Item as Put}
+use Rattle.pgn_game.specs.declared.judged.Entry.TheVariants.{Move as Play}
 use Rattle.pgn_game.specs.Profile.{Profile, counts_as, known_result}
 use Rattle.pgn_game.specs.Pairs.{Pair}
 use Rattle.pgn_game.specs.Chess.{first_position}
+use Rattle.pgn_game.specs.Game as games
 use Rattle.pgn_game.specs.Game.{Item, Part}
 use Rattle.pgn_game.specs.TagSection.{tag_section}
 use Rattle.pgn_game.specs.Text.{torn}
@@ -25,7 +26,7 @@ use Rattle.pgn_game.specs.Due.{text_next}
 use Rattle.pgn_game.specs.Movetext.{movetext_from}
 use Rattle.pgn_game.specs.ItemResult.{TriesItem}
 use Rattle.pgn_game.specs.ReaderState.{ReaderState, Agrees, Leads, Stays, CountsWrites, plies_next, whole_plies}
-use Rattle.pgn_game.specs.Judgement.{after, is_final, model_item}
+use Rattle.pgn_game.specs.Judgement.{after, is_final}
 
 -- A game begins.
 
@@ -81,10 +82,10 @@ pub data UnwrittenPairs (old : ReaderState) (i : Item) (before after : ℕ) : Ty
   in_section : old.stage ≡ AfterTags → after ≡ before → UnwrittenPairs old i before after
 
 abbrev pub TriesJudged : ReaderState → Judged → Result Accepted Reason → ℕ → ℕ → Type 0
-TriesJudged old (InText (Put i)) (Ok accepted) before after =
-    TriesItem old.profile.mode old.text (model_item i) before after
-TriesJudged old (InText (Put i)) (Err reason) before after =
-    UnwrittenPairs old (model_item i) before after
+TriesJudged old (InText (Play m)) (Ok accepted) before after =
+    TriesItem old.profile.mode old.text (games.move m.now) before after
+TriesJudged old (InText (Play m)) (Err reason) before after =
+    UnwrittenPairs old (games.move m.now) before after
 TriesJudged old j r before after = after ≡ before
 
 -- What putting comes to, for each part that the reader agrees with.

@@ -1,15 +1,14 @@
 //! The move that a symbol in movetext names.
-ghost use Rattle.std.specs.Prelude.{◌≡◌, ◌<◌, ◌≤◌, Some, IfOk, OnOk};
-ghost use Rattle.chess_rules.specs.Legal.{legal};
+ghost use Rattle.std.specs.Prelude.{◌≡◌, ◌<◌, ◌≤◌, Some, IfOk, IsTrue, OnOk};
+ghost use Rattle.chess_rules.specs.Legal.{is_legal, legal};
 ghost use Rattle.pgn_game.specs.Chess.{move_of};
 ghost use Rattle.pgn_game.specs.FaultTable.{is_at_limit as at_limit};
-ghost use Rattle.pgn_game.specs.FoundMove.{found_in};
+ghost use Rattle.pgn_game.specs.FoundMove.{found_in, with_position};
 ghost use Rattle.pgn_game.specs.Tried.{Costs};
 
 use crate::reason::Reason;
-use chess_rules::{Colour, Position, Probes};
-use chess_text::laws::the_one_move_is_read;
-use chess_text::{Played, SanFault, read_form, resolve};
+use chess_rules::{Colour, Move, Position, Probes, position_after};
+use chess_text::{Played, SanFault, read_form, resolve_move};
 
 /// Returns the one legal move that the text names in this position (PGN 8.2.3).
 ///
@@ -41,18 +40,45 @@ pub fn find_move(position: &Position, text: &[u8], probes: &mut Probes) -> Resul
     ensures bound { probes.new ≤ 8 }
     ensures some { OnOk result (0 < probes.new) }
 {
-    the_one_move_is_read();
+    match named_move(position, text, probes) {
+        Err(reason) => Err(reason),
+        Ok(mv) => {
+            let next = position_after(position, &mv);
+            Ok(Played { mv, next })
+        }
+    }
+}
+
+/// Returns the one legal move that the text names, as [`find_move`] does, without the position
+/// after it (PGN 8.2.3).
+///
+/// # Errors
+///
+/// Those of [`find_move`].
+pub(crate) fn named_move(
+    position: &Position,
+    text: &[u8],
+    probes: &mut Probes,
+) -> Result<Move, Reason>
+    requires { probes.old ≡ 0 }
+    ensures found { with_position position.now result
+        ≡ found_in position.now (move_of position.now text.now) }
+    ensures legal { IfOk result (λ mv. IsTrue (is_legal position.now mv)) }
+    ensures tried { Costs position.now text.now probes.new }
+    ensures bound { probes.new ≤ 8 }
+    ensures some { OnOk result (0 < probes.new) }
+{
     let Some(form) = read_form(text) else {
         return Err(Reason::NotAMove);
     };
-    match resolve(position, &form, probes) {
+    match resolve_move(position, &form, probes) {
         Err(SanFault::NoMove) => Err(Reason::IllegalMove),
         Err(SanFault::Ambiguous) => Err(Reason::AmbiguousMove),
-        Ok(played) => {
+        Ok(mv) => {
             if is_at_limit(position) {
                 return Err(Reason::MoveLimit);
             }
-            Ok(played)
+            Ok(mv)
         }
     }
 }

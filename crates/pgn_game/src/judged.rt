@@ -1,9 +1,17 @@
 //! What an accepted token means.
-ghost use Rattle.std.specs.Prelude.{◌≡◌};
-ghost use Rattle.pgn_game.specs.Text.{is_move as is_of_move};
-ghost use Rattle.pgn_game.specs.Judgement.{model_item};
+use crate::reason::Reason;
+use chess_rules::Move;
 
-use chess_text::Played;
+/// What a symbol names where movetext can begin or go on.
+#[derive(Clone, Copy)]
+pub enum Found {
+    /// Nothing was looked for: the token can be no move, or no move can come here.
+    Unsought,
+    /// No move that can be played, for this reason.
+    Rejected(Reason),
+    /// A legal move (PGN 8.2.3).
+    Move(Move),
+}
 
 /// What a token means: nothing, a step of a tag pair, or an entry of movetext.
 #[derive(Clone, Copy)]
@@ -27,16 +35,17 @@ pub enum Judged<'a> {
 pub enum Entry<'a> {
     /// A move number or a period, which begins movetext and decides nothing (PGN 8.2.2.1).
     Number,
+    /// A legal move (PGN 8.2.3).
+    Move(&'a Move),
+    /// Any other item.
     Item(Item<'a>),
     /// The termination marker of the game (PGN 8.2.6).
     Marker(&'a [u8]),
 }
 
-/// An item of movetext.
+/// An item of movetext other than a move.
 #[derive(Clone, Copy)]
 pub enum Item<'a> {
-    /// A legal move, and the position after it (PGN 8.2.3).
-    Move(&'a Played),
     /// A NAG (numeric annotation glyph, PGN 8.2.4).
     Glyph(u8),
     /// The brace before a comment (PGN 5).
@@ -49,16 +58,4 @@ pub enum Item<'a> {
     Open,
     /// The parenthesis after a variation.
     Close,
-}
-
-impl Item<'_> {
-    /// Whether this is a move.
-    pub fn is_move(&self) -> bool
-        ensures { result ≡ is_of_move (model_item self.now) }
-    {
-        match self {
-            Item::Move(_) => true,
-            _ => false,
-        }
-    }
 }

@@ -1,19 +1,21 @@
 //! The movetext of a game: each item is written when it is read.
-ghost use Rattle.std.specs.Prelude.{◌≡◌, ◌+◌, ◌-◌, ◌^◌, ◌<◌, ◌≤◌, true, is_some, length};
+ghost use Rattle.std.specs.Prelude.{◌≡◌, ◌+◌, ◌-◌, ◌^◌, ◌<◌, ◌≤◌, true, is_some, length, IsTrue};
 ghost use Rattle.pgn_layout.specs.Device.{device};
 ghost use Rattle.pgn_game.specs.Chess.{first_position};
 ghost use Rattle.pgn_game.specs.Game as games;
 ghost use Rattle.pgn_game.specs.Movetext.{movetext_from, movetext_after_fen};
 ghost use Rattle.pgn_game.specs.Judgement.{IsLegal, ItemFits, model_item};
 ghost use Rattle.pgn_game.specs.MostTried.{CostsToWrite};
-ghost use Rattle.pgn_game.specs.ItemResult.{Adds, GoesOn, PutsTokens, Rises, TriesItem, WritesItem};
+ghost use Rattle.chess_rules.specs.declared.position.Move.{Move as MoveSeen};
+ghost use Rattle.chess_rules.specs.Legal.{is_legal};
+ghost use Rattle.pgn_game.specs.ItemResult.{Adds, GoesOn, Plays, PutsTokens, Rises, TriesItem, WritesItem};
 ghost use Rattle.pgn_game.specs.ItemResult.{number_due, tokens_due, writes};
 
 use crate::judged::Item;
 use crate::levels::Levels;
 use crate::mode::Mode;
 use crate::number::{put_glyph, put_move_number};
-use chess_rules::{Colour, Position, Probes};
+use chess_rules::{Colour, Move, Position, Probes, position_after};
 use chess_text::{Played, write_san};
 use pgn_layout::{CurrentLine, Sink, WriteFault};
 use std::marker::Model;
@@ -99,28 +101,83 @@ impl<const L: usize> Movetext<L> {
         self.plies
     }
 
-    /// Writes an item, and moves the levels. A move is written with its number if it needs one. In
-    /// reduced mode only moves outside variations are written (PGN 3.2.4).
+    /// Plays a legal move: writes it with its number, if it needs one, and moves the levels. In
+    /// reduced mode a move is written only outside variations (PGN 3.2.4).
+    #[inline(always)]
+    pub fn put_move<W: Sink>(
+        &mut self,
+        mode: Mode,
+        mv: &Move,
+        probes: &mut Probes,
+        line: &mut CurrentLine,
+        out: &mut W,
+    ) -> Result<(), WriteFault>
+        requires legal { IsTrue (is_legal self.old.levels.present.present mv.now) }
+        requires few { self.old.plies < 2 ^ 64 - 1 }
+        requires room { probes.old + 1032 < 2 ^ 32 }
+        ensures adds { Adds mode (games.move mv.now) self.old line.old self.new line.new
+            result (device W.taken W.failures out.old out.new) }
+        ensures probes { Rises probes.old probes.new }
+        ensures tried { TriesItem mode self.old (games.move mv.now) probes.old probes.new }
+    {
+        let next = position_after(self.levels.present(), mv);
+        let played = Played { mv: *mv, next };
+        self.write_move(mode, &played, probes, line, out)?;
+        self.play(&played);
+        Ok(())
+    }
+
+    /// Writes an item other than a move, and moves the levels. In reduced mode it is left out
+    /// (PGN 3.2.4).
     #[inline(always)]
     pub fn put<W: Sink>(
         &mut self,
         mode: Mode,
         item: &Item<'_>,
+        line: &mut CurrentLine,
+        out: &mut W,
+    ) -> Result<(), WriteFault>
+        requires { ItemFits L self.old item.now }
+        ensures { Adds mode (model_item item.now) self.old line.old self.new line.new
+            result (device W.taken W.failures out.old out.new) }
+    {
+        self.write(mode, item, line, out)?;
+        self.go_on(item);
+        Ok(())
+    }
+
+    // Writes a legal move, unless the mode leaves it out.
+    #[inline(always)]
+    fn write_move<W: Sink>(
+        &mut self,
+        mode: Mode,
+        played: &Played,
         probes: &mut Probes,
         line: &mut CurrentLine,
         out: &mut W,
     ) -> Result<(), WriteFault>
-        requires fits { ItemFits L self.old item.now }
-        requires few { self.old.plies < 2 ^ 64 - 1 }
+        requires legal { IsLegal self.old.levels.present.present played.now }
         requires room { probes.old + 1032 < 2 ^ 32 }
-        ensures adds { Adds mode (model_item item.now) self.old line.old self.new line.new
-            result (device W.taken W.failures out.old out.new) }
+        ensures writes { WritesItem mode (games.move played.now.mv) self.old line.old self.new
+            line.new result (device W.taken W.failures out.old out.new) }
         ensures probes { Rises probes.old probes.new }
-        ensures tried { TriesItem mode self.old (model_item item.now) probes.old probes.new }
+        ensures tried { TriesItem mode self.old (games.move played.now.mv) probes.old probes.new }
     {
-        self.write(mode, item, probes, line, out)?;
-        self.go_on(item);
+        if !self.writes_move(mode) {
+            return Ok(());
+        }
+        self.write_tokens_of_move(played, probes, line, out)?;
+        self.is_after_move = true;
         Ok(())
+    }
+
+    // Whether the mode writes a move here: in reduced mode only outside variations.
+    #[inline(always)]
+    fn writes_move(&self, mode: Mode) -> bool
+        ensures { (m : MoveSeen)
+            → result ≡ writes mode (length self.now.levels.around) (games.move m) }
+    {
+        mode == Mode::Full || self.levels.depth() == 0
     }
 
     // Writes an item, unless the mode leaves it out.
@@ -129,64 +186,24 @@ impl<const L: usize> Movetext<L> {
         &mut self,
         mode: Mode,
         item: &Item<'_>,
-        probes: &mut Probes,
         line: &mut CurrentLine,
         out: &mut W,
     ) -> Result<(), WriteFault>
-        requires fits { ItemFits L self.old item.now }
-        requires room { probes.old + 1032 < 2 ^ 32 }
-        ensures writes { WritesItem mode (model_item item.now) self.old line.old self.new
+        requires { ItemFits L self.old item.now }
+        ensures { WritesItem mode (model_item item.now) self.old line.old self.new
             line.new result (device W.taken W.failures out.old out.new) }
-        ensures probes { Rises probes.old probes.new }
-        ensures tried { TriesItem mode self.old (model_item item.now) probes.old probes.new }
     {
-        if !self.is_written(mode, item) {
+        if mode == Mode::Reduced {
             return Ok(());
         }
-        self.write_tokens(item, probes, line, out)?;
-        self.is_after_move = item.is_move();
+        self.write_tokens(item, line, out)?;
+        self.is_after_move = false;
         Ok(())
     }
 
-    // Whether the mode writes an item here: in reduced mode only a move outside variations.
+    // Writes the tokens of a legal move: its number, if it needs one, and its text.
     #[inline(always)]
-    fn is_written(&self, mode: Mode, item: &Item<'_>) -> bool
-        ensures { result ≡ writes mode (length self.now.levels.around) (model_item item.now) }
-    {
-        mode == Mode::Full || (item.is_move() && self.levels.depth() == 0)
-    }
-
-    // Writes the tokens of an item.
-    #[inline(always)]
-    fn write_tokens<W: Sink>(
-        &self,
-        item: &Item<'_>,
-        probes: &mut Probes,
-        line: &mut CurrentLine,
-        out: &mut W,
-    ) -> Result<(), WriteFault>
-        requires fits { ItemFits L self.now item.now }
-        requires room { probes.old + 1032 < 2 ^ 32 }
-        ensures puts { PutsTokens (tokens_due self.now (model_item item.now)) line.old line.new
-            result (device W.taken W.failures out.old out.new) }
-        ensures probes { Rises probes.old probes.new }
-        ensures tried { CostsToWrite true self.now.levels.present.present (model_item item.now)
-            probes.old probes.new }
-    {
-        match item {
-            Item::Move(played) => self.write_move(played, probes, line, out),
-            Item::Glyph(glyph) => put_glyph(*glyph, line, out),
-            Item::CommentOpen => line.put(b"{", out),
-            Item::Word(word) => line.put(word, out),
-            Item::CommentClose => line.put(b"}", out),
-            Item::Open => line.put(b"(", out),
-            Item::Close => line.put(b")", out),
-        }
-    }
-
-    // Writes a legal move, with its number if it needs one.
-    #[inline(always)]
-    fn write_move<W: Sink>(
+    fn write_tokens_of_move<W: Sink>(
         &self,
         played: &Played,
         probes: &mut Probes,
@@ -204,6 +221,28 @@ impl<const L: usize> Movetext<L> {
         let san = write_san(self.levels.present(), played, probes);
         self.put_number(line, out)?;
         line.put(san.as_slice(), out)
+    }
+
+    // Writes the token of an item.
+    #[inline(always)]
+    fn write_tokens<W: Sink>(
+        &self,
+        item: &Item<'_>,
+        line: &mut CurrentLine,
+        out: &mut W,
+    ) -> Result<(), WriteFault>
+        requires { ItemFits L self.now item.now }
+        ensures { PutsTokens (tokens_due self.now (model_item item.now)) line.old line.new
+            result (device W.taken W.failures out.old out.new) }
+    {
+        match item {
+            Item::Glyph(glyph) => put_glyph(*glyph, line, out),
+            Item::CommentOpen => line.put(b"{", out),
+            Item::Word(word) => line.put(word, out),
+            Item::CommentClose => line.put(b"}", out),
+            Item::Open => line.put(b"(", out),
+            Item::Close => line.put(b")", out),
+        }
     }
 
     // Writes the number of the next move, if it needs one (PGN 8.2.2.2).
@@ -224,20 +263,25 @@ impl<const L: usize> Movetext<L> {
         }
     }
 
-    // Moves the levels by an item, and counts a move outside variations.
+    // Moves the levels by a legal move, and counts it outside variations.
+    #[inline(always)]
+    fn play(&mut self, played: &Played)
+        requires { self.old.plies < 2 ^ 64 - 1 }
+        ensures { Plays played.now self.old self.new }
+    {
+        if self.levels.depth() == 0 {
+            self.plies += 1;
+        }
+        self.levels.play(played.next);
+    }
+
+    // Moves the levels by an item other than a move.
     #[inline(always)]
     fn go_on(&mut self, item: &Item<'_>)
-        requires fits { ItemFits L self.old item.now }
-        requires few { self.old.plies < 2 ^ 64 - 1 }
+        requires { ItemFits L self.old item.now }
         ensures { GoesOn item.now self.old self.new }
     {
         match item {
-            Item::Move(played) => {
-                if self.levels.depth() == 0 {
-                    self.plies += 1;
-                }
-                self.levels.play(played.next);
-            }
             Item::Open => self.levels.open(),
             Item::Close => self.levels.close(),
             _ => {}

@@ -27,8 +27,8 @@ ghost use Rattle.pgn_game.specs.FaultTable.{is_result as is_any_result, is_reduc
 ghost use Rattle.pgn_game.specs.FaultTable.{lacks_fen as set_up_lacks_fen, marker_of};
 
 use crate::accepted::Accepted;
-use crate::find::find_move;
-use crate::judged::{Entry, Item, Judged};
+use crate::find::named_move;
+use crate::judged::{Entry, Found, Item, Judged};
 use crate::marker::Marker;
 use crate::mode::Mode;
 use crate::movetext::Movetext;
@@ -41,7 +41,7 @@ use crate::token_tests::{
     is_comment, is_end, is_number_or_period, is_result, is_score, is_score_or_number, is_tag_name,
 };
 use chess_rules::{Position, Probes};
-use chess_text::{Played, read_fen};
+use chess_text::read_fen;
 use pgn_layout::{CurrentLine, Sink, WriteFault, fits_tag_line};
 use pgn_lexer::TokenKind;
 use std::marker::Model;
@@ -245,10 +245,10 @@ impl<const T: usize, const L: usize> Reader<T, L> {
         }
     }
 
-    // Looks for the move of a symbol, if movetext can begin or go on here. Returns the move, or why
-    // there is none. A marker and a number name no move. Counts the pairs that were tried.
+    // Looks for the move of a symbol, if movetext can begin or go on here. A marker and a number
+    // name no move. Counts the pairs that were tried.
     #[inline(always)]
-    fn find(&mut self, kind: TokenKind<'_>, probes: &mut Probes) -> Option<Result<Played, Reason>>
+    fn find(&mut self, kind: TokenKind<'_>, probes: &mut Probes) -> Found
         requires none { probes.old ≡ 0 }
         ensures found { Finds self.new (kind_of kind.entry) result }
         ensures counted { OnlyProbesRise self.old self.new }
@@ -257,14 +257,17 @@ impl<const T: usize, const L: usize> Reader<T, L> {
         ensures most { self.new.most_probes ≡ max self.old.most_probes probes.new }
     {
         let TokenKind::Symbol(text) = kind else {
-            return None;
+            return Found::Unsought;
         };
         if !self.may_have_movetext() || is_score_or_number(text) {
-            return None;
+            return Found::Unsought;
         }
-        let found = find_move(self.text.present(), text, probes);
+        let named = named_move(self.text.present(), text, probes);
         self.count_probes(probes);
-        Some(found)
+        match named {
+            Err(reason) => Found::Rejected(reason),
+            Ok(mv) => Found::Move(mv),
+        }
     }
 
     // Whether movetext can begin or go on.
@@ -292,11 +295,7 @@ impl<const T: usize, const L: usize> Reader<T, L> {
 
     // Judges a token: what it means, or the row of the fault table that rejects it.
     #[inline(always)]
-    fn judge<'a>(
-        &self,
-        kind: TokenKind<'a>,
-        found: &'a Option<Result<Played, Reason>>,
-    ) -> Result<Judged<'a>, Reason>
+    fn judge<'a>(&self, kind: TokenKind<'a>, found: &'a Found) -> Result<Judged<'a>, Reason>
         requires found { Finds self.now (kind_of kind) found.now }
         requires ready { begins_game self.now.stage (kind_of kind) ≡ false }
         requires token { HasLength (kind_of kind) }
@@ -380,7 +379,7 @@ impl<const T: usize, const L: usize> Reader<T, L> {
     fn judge_after_tags<'a>(
         &self,
         kind: TokenKind<'a>,
-        found: &'a Option<Result<Played, Reason>>,
+        found: &'a Found,
     ) -> Result<Judged<'a>, Reason>
         requires found { Finds self.now (kind_of kind) found.now }
         requires stage { self.now.stage ≡ AfterTags }
@@ -418,7 +417,7 @@ impl<const T: usize, const L: usize> Reader<T, L> {
     fn judge_in_movetext<'a>(
         &self,
         kind: TokenKind<'a>,
-        found: &'a Option<Result<Played, Reason>>,
+        found: &'a Found,
     ) -> Result<Judged<'a>, Reason>
         requires found { Finds self.now (kind_of kind) found.now }
         requires stage { self.now.stage ≡ InMovetext }
@@ -434,11 +433,7 @@ impl<const T: usize, const L: usize> Reader<T, L> {
 
     // Judges a token of movetext. The callers have rejected or accepted `[` and the end before.
     #[inline(always)]
-    fn judge_entry<'a>(
-        &self,
-        kind: TokenKind<'a>,
-        found: &'a Option<Result<Played, Reason>>,
-    ) -> Result<Judged<'a>, Reason>
+    fn judge_entry<'a>(&self, kind: TokenKind<'a>, found: &'a Found) -> Result<Judged<'a>, Reason>
         requires found { Finds self.now (kind_of kind) found.now }
         requires stage { IsTrue (may_have_movetext self.now.stage) }
         requires token { HasLength (kind_of kind) }
@@ -460,21 +455,15 @@ impl<const T: usize, const L: usize> Reader<T, L> {
 
     // Judges a symbol in movetext: a marker, a move number (PGN 8.2.2.1), or a move (PGN 8.2.3).
     #[inline(always)]
-    fn judge_symbol<'a>(
-        &self,
-        text: &'a [u8],
-        found: &'a Option<Result<Played, Reason>>,
-    ) -> Result<Judged<'a>, Reason>
+    fn judge_symbol<'a>(&self, text: &'a [u8], found: &'a Found) -> Result<Judged<'a>, Reason>
         requires found { Finds self.now (symbol text.now) found.now }
         requires stage { IsTrue (may_have_movetext self.now.stage) }
         ensures { JudgesEntry T L self.now (symbol text.now) result }
     {
         match found {
-            Some(found) => match found {
-                Ok(played) => Ok(Judged::Entry(Entry::Item(Item::Move(played)))),
-                Err(reason) => Err(*reason),
-            },
-            None => {
+            Found::Move(mv) => Ok(Judged::Entry(Entry::Move(mv))),
+            Found::Rejected(reason) => Err(*reason),
+            Found::Unsought => {
                 if is_score(text) {
                     return self.judge_marker(text);
                 }
@@ -588,10 +577,16 @@ impl<const T: usize, const L: usize> Reader<T, L> {
         self.begin_movetext(out)?;
         match entry {
             Entry::Number => Ok(Accepted::More),
-            Entry::Item(item) => {
-                let put = self.text.put(self.mode, item, probes, &mut self.line, out);
+            Entry::Move(mv) => {
+                let put = self
+                    .text
+                    .put_move(self.mode, mv, probes, &mut self.line, out);
                 self.count_probes(probes);
                 put?;
+                Ok(Accepted::More)
+            }
+            Entry::Item(item) => {
+                self.text.put(self.mode, item, &mut self.line, out)?;
                 Ok(Accepted::More)
             }
             Entry::Marker(marker) => {

@@ -1,5 +1,5 @@
 -- What the tokens of movetext are rejected for, and where they lead, for a part that is open.
-use Rattle.std.proofs.Common.{◌≡◌, ℕ, Bool, true, false, ◌&&◌, ◌||◌, not, List, [], ◌∷◌, length, nat_le, Option, None, Some, Bor, refl, sym, ap, ◌∙◌, arith, is_some, ◌==◌, Result, Ok, Err, bytes_eq, codes, unwrap_or}
+use Rattle.std.proofs.Common.{◌≡◌, subst, IsFalse, ℕ, Bool, true, false, ◌&&◌, ◌||◌, not, List, [], ◌∷◌, length, nat_le, Option, None, Some, Bor, refl, sym, ap, ◌∙◌, arith, is_some, ◌==◌, Result, Ok, Err, bytes_eq, codes, unwrap_or}
 use Rattle.std.proofs.lemmas.List.{length-map}
 use Rattle.std.proofs.lemmas.Bool.{or_right, or_from}
 use Rattle.std.specs.Option.{option_copied}
@@ -16,7 +16,7 @@ use Rattle.pgn_game.specs.FaultTable.{marker_of, is_number, is_score, is_at_limi
 use Rattle.pgn_game.specs.FoundMove.{found_in}
 use Rattle.pgn_game.specs.Progress.{Next, going, whole, in_text, move_item, items_of}
 use Rattle.pgn_game.specs.Movetext.{StoredLevels, before_last, stored_level}
-use Rattle.pgn_game.specs.ReaderState.{ReaderState}
+use Rattle.pgn_game.specs.ReaderState.{ReaderState, is_outside_the_table}
 use Rattle.pgn_game.specs.Judgement.{IsOpen, found_of, may_have_movetext, game_of, or_else, text_refusal, with_items}
 use Rattle.pgn_game.proofs.judging.RowsByStage.{symbol_rows}
 use Rattle.pgn_game.proofs.judging.RefusalsByStage.{hit, pass}
@@ -103,6 +103,25 @@ found_free p (Some (Ok one)) played e = by_limit (is_at_limit p) refl
 found_free p (Some (Err NoMove)) played e = absurd (cc)
 found_free p _ played e = absurd (cc)
 
+-- a reason of the table is the one that was met
+met : (known reason : Reason) → is_outside_the_table known ≡ false → known ≡ reason → (Some known ≡ Some reason) × (is_outside_the_table reason ≡ false)
+met known reason inside is = (ap Some is, subst (λ (r : Reason). is_outside_the_table r ≡ false) is inside)
+
+found_refused : (p : Parts) (r : MoveReading) (reason : Reason) → found_in p r ≡ Err reason → (refused_as p r ≡ Some reason) × (is_outside_the_table reason ≡ false)
+found_refused p None reason e = met NotAMove reason refl (cc)
+found_refused p (Some (Err NoMove)) reason e = met IllegalMove reason refl (cc)
+found_refused p (Some (Err Ambiguous)) reason e = met AmbiguousMove reason refl (cc)
+found_refused p (Some (Ok one)) reason e = by_limit (is_at_limit p) refl
+  where
+    by_limit : (b : Bool) → is_at_limit p ≡ b → (refused_as p (one_move one) ≡ Some reason) × (is_outside_the_table reason ≡ false)
+    by_limit true is =
+        let h : limited true one ≡ Err reason = sym (ap (λ (b : Bool). limited b one) is) ∙ e in
+        let limit = met MoveLimit reason refl (cc) in
+        (hit (is_at_limit p) MoveLimit None is ∙ limit.0, limit.1)
+    by_limit false is =
+        let h : limited false one ≡ Err reason = sym (ap (λ (b : Bool). limited b one) is) ∙ e in
+        absurd (cc)
+
 -- what was found at the reader's position was found at the part's
 found_at : (old : ReaderState) (part : Part) (s : List ℕ) (here : Parts) (r : Result Played Reason) → IsOpen old part → here ≡ old.text.levels.present.present → r ≡ found_in here (move_of here s)
     → found_in (position_in part) (move_of (position_in part) s) ≡ r
@@ -112,6 +131,14 @@ pub move_free : (old : ReaderState) (part : Part) (s : List ℕ) (here : Parts) 
     → Ok played ≡ found_in here (move_of here s) → text_refusal old.profile part (symbol s) ≡ None
 move_free old part s here played number score is same found =
     move_refusal old.profile part s number score ∙ (found_free (position_in part) (move_of (position_in part) s) played (found_at old part s here (Ok played) is same found)).0
+
+pub move_refused : (old : ReaderState) (part : Part) (s : List ℕ) (here : Parts) (reason : Reason) → is_number s ≡ false → is_score s ≡ false → IsOpen old part → here ≡ old.text.levels.present.present
+    → Err reason ≡ found_in here (move_of here s) → text_refusal old.profile part (symbol s) ≡ Some reason
+move_refused old part s here reason number score is same found =
+    move_refusal old.profile part s number score ∙ (found_refused (position_in part) (move_of (position_in part) s) reason (found_at old part s here (Err reason) is same found)).0
+
+pub refused_inside : (here : Parts) (s : List ℕ) (reason : Reason) → Err reason ≡ found_in here (move_of here s) → IsFalse (is_outside_the_table reason)
+refused_inside here s reason found = (found_refused here (move_of here s) reason (sym found)).1
 
 pub move_leads : (old : ReaderState) (part : Part) (s : List ℕ) (here : Parts) (played : Played) → is_number s ≡ false → is_score s ≡ false → IsOpen old part → here ≡ old.text.levels.present.present
     → Ok played ≡ found_in here (move_of here s) → in_text part (symbol s) ≡ going (with_items part (games.move played.mv ∷ []))

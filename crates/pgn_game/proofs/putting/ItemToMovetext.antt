@@ -14,14 +14,14 @@ use Rattle.pgn_layout.specs.Lines.{IsToken, lines_of, full_lines, last_line, tex
 use Rattle.pgn_layout.specs.Layout.{Put, laid_from, text_put, line_put}
 use Rattle.pgn_game.specs.declared.judged.Item.{Item as CodeItem}
 use Rattle.pgn_game.specs.declared.judged.Item.TheVariants as code
-use Rattle.pgn_game.proofs.Words.{Parts, Mode, Full, Reduced}
+use Rattle.pgn_game.proofs.Words.{Parts, Played, Mode, Full, Reduced}
 use Rattle.pgn_game.specs.Chess.{play, text_of_move}
 use Rattle.pgn_game.specs.Game.{Item, move, open_variation, close_variation}
 use Rattle.pgn_game.specs.Levels.{Level as ModelLevel, Levels as ModelLevels, levels_after, levels_of, depth, here, outermost, main_moves}
 use Rattle.pgn_game.specs.Text.{Placed, is_move, tokens_at, tokens_from, tokens_out, full_text}
 use Rattle.pgn_game.specs.Movetext.{StoredLevels, Movetext, level_at, ClosesLevel, before_last, stored_level, stored_levels, ends_in_move, HoldsItems}
 use Rattle.pgn_game.specs.Judgement.{ItemFits, model_item}
-use Rattle.pgn_game.specs.ItemResult.{PutsTokens, GoesOn, LeadsLevels, writes, tokens_if, after_move_if, plies_in, item_text, Adds}
+use Rattle.pgn_game.specs.ItemResult.{PutsTokens, GoesOn, Plays, LeadsLevels, counted_at, writes, tokens_due, tokens_if, after_move_if, plies_in, item_text, Adds, WritesItem}
 use Rattle.pgn_game.proofs.reading.MovetextTokens.{levels_more}
 use Rattle.pgn_game.proofs.putting.WritesInTurn.{front_of_more, Writes-append}
 use Rattle.pgn_game.proofs.putting.ItemsAppended.{written_from_start, written_behind, written_more, tokens_behind, tokens_more, full_lines_put, last_line_put}
@@ -141,19 +141,49 @@ played_is p m next is = sym (ap (λ o. unwrap_or o p) is)
 abbrev then_at : StoredLevels → Parts → StoredLevels
 then_at ls next = record { present = record { present = next; before = Some ls.present.present }; around = ls.around }
 
-levels_lead : (most : ℕ) (i : CodeItem) (text : Movetext) (new : StoredLevels) (start : Parts) (ls : ModelLevels) → ItemFits most text i
-    → LeadsLevels i text.levels new → text.levels ≡ stored_levels start ls → new ≡ stored_levels start (levels_after ls (model_item i))
-levels_lead most (code.Move played) text new start ls fits leads e =
-    leads ∙ ap (then_at text.levels) (played_is text.levels.present.present played.now.mv played.now.next fits)
-    ∙ ap (λ (l : StoredLevels). then_at l (play l.present.present played.now.mv)) e
-levels_lead most code.Open text new start ls fits leads e =
-    opened start ls.present.trail ls.present.has_own_move ls.around new
-    (subst (λ (o : StoredLevels). IsTrue (is_some o.present.before)) e fits.0)
-    (subst (λ (o : StoredLevels). IfSome o.present.before (λ s. new ≡ record { present = level_at s; around = o.present ∷ o.around })) e leads)
-levels_lead most code.Close text new start ls fits leads e =
-    closed start ls.present ls.around new
-    (subst (λ (o : StoredLevels). 0 < length o.around) e fits) (subst (λ (o : StoredLevels). ClosesLevel o.around new) e leads)
-levels_lead most _ text new start ls fits leads e = leads ∙ e
+-- what an item of the model makes of movetext
+pub record Advances (i : Item) (text new : Movetext) : Type 0 where
+  pub levels : (start : Parts) (ls : ModelLevels) → text.levels ≡ stored_levels start ls → new.levels ≡ stored_levels start (levels_after ls i)
+  pub plies : new.plies ≡ text.plies + plies_in i (length text.levels.around)
+  pub is_after_move : new.is_after_move ≡ text.is_after_move
+
+pub plays_on : (x : Played) (text new : Movetext) → legal text.levels.present.present x.mv ≡ Some x.next → Plays x text new → Advances (move x.mv) text new
+plays_on x text new is on = record {
+  levels = λ start ls e.
+      on.levels ∙ ap (then_at text.levels) (played_is text.levels.present.present x.mv x.next is)
+      ∙ ap (λ (l : StoredLevels). then_at l (play l.present.present x.mv)) e;
+  plies = on.plies;
+  is_after_move = on.is_after_move;
+}
+
+-- no other item is a move
+pub no_move : (i : CodeItem) → is_move (model_item i) ≡ false
+no_move (code.Glyph n) = refl
+no_move code.CommentOpen = refl
+no_move (code.Word text) = refl
+no_move code.CommentClose = refl
+no_move code.Open = refl
+no_move code.Close = refl
+
+pub goes_on : (most : ℕ) (i : CodeItem) (text new : Movetext) → ItemFits most text i → GoesOn i text new → Advances (model_item i) text new
+goes_on most i text new fits on = record {
+  levels = λ start ls e. levels_lead i start ls fits on.levels e;
+  plies =
+      let none : plies_in (model_item i) (length text.levels.around) ≡ 0 = ap (λ (b : Bool). elim b as (λ x. ℕ) [ true ↦ counted_at (length text.levels.around) | false ↦ 0 ]) (no_move i) in
+      omega (arith, on.plies, none);
+  is_after_move = on.is_after_move;
+}
+  where
+    levels_lead : (i : CodeItem) (start : Parts) (ls : ModelLevels) → ItemFits most text i
+        → LeadsLevels i text.levels new.levels → text.levels ≡ stored_levels start ls → new.levels ≡ stored_levels start (levels_after ls (model_item i))
+    levels_lead code.Open start ls fits leads e =
+        opened start ls.present.trail ls.present.has_own_move ls.around new.levels
+        (subst (λ (o : StoredLevels). IsTrue (is_some o.present.before)) e fits.0)
+        (subst (λ (o : StoredLevels). IfSome o.present.before (λ s. new.levels ≡ record { present = level_at s; around = o.present ∷ o.around })) e leads)
+    levels_lead code.Close start ls fits leads e =
+        closed start ls.present ls.around new.levels
+        (subst (λ (o : StoredLevels). 0 < length o.around) e fits) (subst (λ (o : StoredLevels). ClosesLevel o.around new.levels) e leads)
+    levels_lead _ start ls fits leads e = leads ∙ e
 
 one_at_most : (moved main : Bool) → elim moved [ true ↦ elim main [ true ↦ 1 | false ↦ 0 ] | false ↦ 0 ] ≤ 1
 one_at_most true true = omega arith
@@ -161,24 +191,24 @@ one_at_most true false = omega arith
 one_at_most false main = omega arith
 
 -- An item's tokens were put where it is written, and the movetext went on with it.
-module _ (most : ℕ) (mode : Mode) (i : CodeItem) (text : Movetext) (line new_line : List ℕ) (d : Device) where
+module _ (mode : Mode) (i : Item) (text : Movetext) (line new_line : List ℕ) (d : Device) where
   abbrev written : Bool
-  written = writes mode (length text.levels.around) (model_item i)
+  written = writes mode (length text.levels.around) i
 
   abbrev between : Movetext
-  between = record text { is_after_move = after_move_if written text (model_item i) }
+  between = record text { is_after_move = after_move_if written text i }
 
   abbrev us : List (List ℕ)
-  us = tokens_if written text (model_item i)
+  us = tokens_if written text i
 
   tokens_then : (start : Parts) (items : List Item) → HoldsItems mode start items text line
-      → tokens_out mode start (items ++ model_item i ∷ []) ≡ tokens_out mode start items ++ us
+      → tokens_out mode start (items ++ i ∷ []) ≡ tokens_out mode start items ++ us
   tokens_then start items holds =
-      tokens_more mode start items (model_item i ∷ [])
-      ∙ ap (λ l. tokens_out mode start items ++ l) (tokens_are mode start items (model_item i) text line written holds refl)
+      tokens_more mode start items (i ∷ [])
+      ∙ ap (λ l. tokens_out mode start items ++ l) (tokens_are mode start items i text line written holds refl)
 
   item_text_is : (start : Parts) (items : List Item) → HoldsItems mode start items text line → All IsToken us
-      → (laid_from line (map Put us)).written ≡ item_text mode start items (model_item i)
+      → (laid_from line (map Put us)).written ≡ item_text mode start items i
   item_text_is start items holds each =
       let ts = tokens_out mode start items in
       ap (λ (l : List ℕ). (laid_from l (map Put us)).written) holds.last
@@ -186,46 +216,73 @@ module _ (most : ℕ) (mode : Mode) (i : CodeItem) (text : Movetext) (line new_l
       ∙ ap (drop (length (full_text mode start items))) (full_lines_laid ts us holds.tokens each)
       ∙ drop-append_seam (full_text mode start items) (laid_from (last_line (lines_of ts)) (map Put us)).written)
 
-  held_then : (start : Parts) (items : List Item) (new : Movetext) → ItemFits most text i → HoldsItems mode start items text line → All IsToken us
-      → new_line ≡ (laid_from line (map Put us)).line → GoesOn i between new
-      → HoldsItems mode start (items ++ model_item i ∷ []) new new_line
-  held_then start items new fits holds each held on =
+  held_then : (start : Parts) (items : List Item) (new : Movetext) → HoldsItems mode start items text line → All IsToken us
+      → new_line ≡ (laid_from line (map Put us)).line → Advances i between new
+      → HoldsItems mode start (items ++ i ∷ []) new new_line
+  held_then start items new holds each held on =
       let ts = tokens_out mode start items in
-      let behind = written_behind mode start items (model_item i ∷ []) in
+      let behind = written_behind mode start items (i ∷ []) in
       record {
-        levels = levels_lead most i text new.levels start (levels_of items) fits on.levels holds.levels
-            ∙ ap (stored_levels start) (sym (levels_more items (model_item i)));
+        levels = on.levels start (levels_of items) holds.levels
+            ∙ ap (stored_levels start) (sym (levels_more items i));
         plies = on.plies
-            ∙ ap (λ n. text.plies + plies_in (model_item i) n) (sym (same_depth mode start items (model_item i) text line written holds refl))
-            ∙ ap (λ n. n + plies_in (model_item i) (depth (levels_of items))) holds.plies ∙ sym (plies-snoc items (model_item i));
-        is_after_move = on.is_after_move ∙ ends_are mode start items (model_item i) text line written holds refl
+            ∙ ap (λ n. text.plies + plies_in i n) (sym (same_depth mode start items i text line written holds refl))
+            ∙ ap (λ n. n + plies_in i (depth (levels_of items))) holds.plies ∙ sym (plies-snoc items i);
+        is_after_move = on.is_after_move ∙ ends_are mode start items i text line written holds refl
             ∙ ap (λ b. ends_in_move b behind) holds.is_after_move
-            ∙ sym (ap (ends_in_move false) (written_more mode start items (model_item i ∷ []))
+            ∙ sym (ap (ends_in_move false) (written_more mode start items (i ∷ []))
             ∙ ends_in_move-append false (written_from_start mode start items) behind);
         tokens = subst (All IsToken) (sym (tokens_then start items holds)) (All-append IsToken ts us holds.tokens each);
         last = held ∙ ap (λ (l : List ℕ). (laid_from l (map Put us)).line) holds.last
             ∙ sym (ap (λ l. last_line (lines_of l)) (tokens_then start items holds) ∙ last_line_laid ts us holds.tokens each);
       }
 
-  pub adds_put : (new : Movetext) → ItemFits most text i → PutsTokens {A = Unit} {E = WriteFault} us line new_line (Ok tt) d
-      → GoesOn i between new → Adds {A = Unit} {E = WriteFault} mode (model_item i) text line new new_line (Ok tt) d
-  adds_put new fits puts on = record {
+  pub adds_put : (new : Movetext) → PutsTokens {A = Unit} {E = WriteFault} us line new_line (Ok tt) d
+      → Advances i between new → Adds {A = Unit} {E = WriteFault} mode i text line new new_line (Ok tt) d
+  adds_put new puts on = record {
     adds = λ start items holds. (
-      held_then start items new fits holds puts.each puts.held on,
+      held_then start items new holds puts.each puts.held on,
       subst (Appends d.before d.after) (item_text_is start items holds puts.each) puts.text,
     );
-    plies = omega (arith, on.plies, one_at_most (is_move (model_item i)) (length text.levels.around == 0));
+    plies = omega (arith, on.plies, one_at_most (is_move i) (length text.levels.around == 0));
     counted = puts.counted;
   }
 
   pub adds_front : {A E : Type 0} (new : Movetext) (e : E) (result : Result Unit WriteFault) → PutsTokens {A = A} us line new_line (Err e) d → new ≡ text
-      → IsErr result → Adds mode (model_item i) text line new new_line result d
+      → IsErr result → Adds mode i text line new new_line result d
   adds_front new e (Ok x) puts same err = absurd (cc)
   adds_front new e (Err f) puts same err = record {
     adds = λ start items holds. subst (AppendsFront d.before d.after) (item_text_is start items holds puts.each) puts.text;
     plies = omega (arith, ap (λ (t : Movetext). t.plies) same);
     counted = puts.counted;
   }
+
+-- Such an item was written, or left out.
+pub left_out : (mode : Mode) (i : Item) (text : Movetext) (line : List ℕ) (d : Device) → writes mode (length text.levels.around) i ≡ false
+    → Appends d.before d.after [] → d.failures_after ≡ d.failures → WritesItem {A = Unit} {E = WriteFault} mode i text line text line (Ok tt) d
+left_out mode i text line d none nothing counted = record {
+  puts = subst (λ (b : Bool). PutsTokens {A = Unit} {E = WriteFault} (tokens_if b text i) line line (Ok tt) d) (sym none)
+      (record { text = nothing; held = refl; each = All-nil IsToken; counted = counted });
+  ends = ap (λ (b : Bool). record text { is_after_move = after_move_if b text i }) (sym none);
+}
+
+pub written_out : (mode : Mode) (i : Item) (text : Movetext) (line new_line : List ℕ) (d : Device) → writes mode (length text.levels.around) i ≡ true
+    → PutsTokens {A = Unit} {E = WriteFault} (tokens_due text i) line new_line (Ok tt) d
+    → WritesItem {A = Unit} {E = WriteFault} mode i text line (record text { is_after_move = is_move i }) new_line (Ok tt) d
+written_out mode i text line new_line d is puts = record {
+  puts = subst (λ (b : Bool). PutsTokens {A = Unit} {E = WriteFault} (tokens_if b text i) line new_line (Ok tt) d) (sym is) puts;
+  ends = ap (λ (b : Bool). record text { is_after_move = after_move_if b text i }) (sym is);
+}
+
+pub not_written : {A E : Type 0} (mode : Mode) (i : Item) (text : Movetext) (line new_line : List ℕ) (e : E) (result : Result Unit WriteFault) (d : Device)
+    → writes mode (length text.levels.around) i ≡ true → PutsTokens {A = A} (tokens_due text i) line new_line (Err e) d → IsErr result
+    → WritesItem mode i text line text new_line result d
+not_written mode i text line new_line e (Ok x) d is puts err = absurd (cc)
+not_written mode i text line new_line e (Err f) d is puts err = record {
+  puts = subst (λ (b : Bool). PutsTokens {A = Unit} (tokens_if b text i) line new_line (Err f) d) (sym is)
+      (record { text = puts.text; held = tt; each = puts.each; counted = puts.counted });
+  ends = refl;
+}
 
 -- Tokens put after others.
 laid-written : (line : List ℕ) (xs ys : List (List ℕ))

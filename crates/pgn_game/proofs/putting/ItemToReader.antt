@@ -7,21 +7,20 @@ use Rattle.std.proofs.KnownBytes.{Appends-trans}
 use Rattle.std.specs.Io.KnownBytes.{Appends}
 use Rattle.pgn_layout.specs.declared.sink.WriteFault.{WriteFault}
 use Rattle.pgn_layout.specs.Device.{AppendsFront, Device, one_more}
-use Rattle.pgn_game.specs.declared.judged.Item.{Item as CodeItem}
-use Rattle.pgn_game.specs.declared.judged.Item.TheVariants as code
 use Rattle.pgn_game.specs.declared.judged.Judged.{Judged}
 use Rattle.pgn_game.specs.declared.judged.Judged.TheVariants.{Entry as InText}
-use Rattle.pgn_game.specs.declared.judged.Entry.TheVariants.{Number, Item as Put}
+use Rattle.pgn_game.specs.declared.judged.Entry.TheVariants.{Number}
+use Rattle.pgn_game.specs.declared.judged.Entry.{Entry}
 use Rattle.pgn_game.proofs.Words.{Parts, Mode, Full, Reduced, Stage, Between, AfterTags, InMovetext, Profile, Missing, counts_as, known_result, Pair, Item, Part}
 use Rattle.pgn_game.specs.declared.accepted.Accepted.TheVariants.{More}
 use Rattle.pgn_game.specs.declared.reason.Reason.TheVariants as reasons
 use Rattle.pgn_game.specs.Levels.{start_of}
 use Rattle.pgn_game.specs.TagSection.{tag_section}
 use Rattle.pgn_game.specs.Text.{is_move, full_text, torn_at, torn_for}
-use Rattle.pgn_game.specs.Progress.{going}
+use Rattle.pgn_game.specs.Progress.{Next, going}
 use Rattle.pgn_game.specs.Movetext.{HoldsItems}
 use Rattle.pgn_game.specs.ReaderState.{ReaderState, Agrees, HoldsPairs, HoldsText, has_move, plies_behind, whole_plies}
-use Rattle.pgn_game.specs.Judgement.{IsOpen, IsProbed, after, may_have_movetext, model_item, with_items}
+use Rattle.pgn_game.specs.Judgement.{IsOpen, after, after_entry, may_have_movetext, with_items}
 use Rattle.pgn_game.specs.ItemResult.{Adds}
 use Rattle.pgn_game.specs.PutResult.{BeginsText, Goes, Keeps, PutResult, gain_to, section_due, section_due_of}
 use Rattle.pgn_game.proofs.putting.WritesInTurn.{front_after}
@@ -174,56 +173,60 @@ number_passed old d at known nothing counted =
     })
 
 -- where a move was played, some pair was tried
-probed_with : (old : ReaderState) (part : Part) (i : CodeItem) (most : ℕ) → IsProbed (Put i) old.most_probes → old.most_probes ≤ most
-    → (IsTrue (has_move part.items) → 0 < old.most_probes) → IsTrue (has_move (part.items ++ model_item i ∷ [])) → 0 < most
-probed_with old part i most put rises before has = by_kind i put refl
+probed_with : (old : ReaderState) (part : Part) (i : Item) (most : ℕ) → (is_move i ≡ true → 0 < old.most_probes) → old.most_probes ≤ most
+    → (IsTrue (has_move part.items) → 0 < old.most_probes) → IsTrue (has_move (part.items ++ i ∷ [])) → 0 < most
+probed_with old part i most put rises before has = by_kind (is_move i) refl
   where
     or_left : (x y : Bool) → y ≡ false → (x || y) ≡ true → x ≡ true
     or_left true y e h = refl
     or_left false y e h = sym e ∙ h
 
-    earlier : list_any is_move (model_item i ∷ []) ≡ false → 0 < most
+    earlier : list_any is_move (i ∷ []) ≡ false → 0 < most
     earlier none =
-        let some = before (or_left (has_move part.items) (list_any is_move (model_item i ∷ [])) none (sym (list_any-append is_move part.items (model_item i ∷ [])) ∙ has)) in
+        let some = before (or_left (has_move part.items) (list_any is_move (i ∷ [])) none (sym (list_any-append is_move part.items (i ∷ [])) ∙ has)) in
         omega (arith, some, rises)
 
-    by_kind : (k : CodeItem) → IsProbed (Put k) old.most_probes → i ≡ k → 0 < most
-    by_kind (code.Move played) put is = omega (arith, put, rises)
-    by_kind _ put is = earlier (ap (λ (k : CodeItem). list_any is_move (model_item k ∷ [])) is)
+    by_kind : (b : Bool) → is_move i ≡ b → 0 < most
+    by_kind true is = omega (arith, put is, rises)
+    by_kind false is = earlier (ap (λ (b : Bool). b || false) is)
 
 -- the movetext that was held is held where its section is written
 begun_held : (old begun : ReaderState) (part : Part) → IsOpen old part → begun ≡ record old { stage = InMovetext }
     → HoldsItems begun.profile.mode (start_of part.pairs) part.items begun.text begun.line
 begun_held old begun part is begins = subst (λ (r : ReaderState). HoldsItems r.profile.mode (start_of part.pairs) part.items r.text r.line) (sym begins) is.held
 
--- The section was written, and then the item put.
-pub puts_item : (old begun new : ReaderState) (i : CodeItem) (a b c : Option (List ℕ)) (n m k : ℕ) → IsTrue (may_have_movetext old.stage)
-    → IsProbed (Put i) old.most_probes → BeginsText {A = Unit} {E = WriteFault} old begun (Ok tt) (from_to a b n m) → IsAfterItem begun new
-    → Adds {A = Unit} {E = WriteFault} begun.profile.mode (model_item i) begun.text begun.line new.text new.line (Ok tt) (from_to b c m k)
-    → PutResult old (InText (Put i)) new (Ok More) (from_to a c n k)
-puts_item old begun new i a b c n m k at put begins next adds =
+-- The section was written, and then the item put that the token means.
+pub puts_item : (old begun new : ReaderState) (e : Entry) (i : Item) (a b c : Option (List ℕ)) (n m k : ℕ) → IsTrue (may_have_movetext old.stage)
+    → ((part : Part) → going (with_items part (i ∷ [])) ≡ after_entry e part) → (is_move i ≡ true → 0 < old.most_probes)
+    → BeginsText {A = Unit} {E = WriteFault} old begun (Ok tt) (from_to a b n m) → IsAfterItem begun new
+    → Adds {A = Unit} {E = WriteFault} begun.profile.mode i begun.text begun.line new.text new.line (Ok tt) (from_to b c m k)
+    → PutResult old (InText e) new (Ok More) (from_to a c n k)
+puts_item old begun new e i a b c n m k at leads put begins next adds =
     let most : old.most_probes ≤ new.most_probes = omega (arith, next.probes, begins.probes) in
-    more_comes old new (InText (Put i)) (from_to a c n k)
+    more_comes old new (InText e) (from_to a c n k)
     (record { profile = next.profile ∙ begins.profile; plies = omega (arith, next.earlier, begins.earlier, begins.plies, adds.plies); probes = most })
     (not_between new.stage (next.stage ∙ ap (λ (r : ReaderState). r.stage) begins.begun)) (adds.counted ∙ begins.counted)
     (λ part agrees.
     let is = open_agrees old part agrees at in
     let added = adds.adds (start_of part.pairs) part.items (begun_held old begun part is begins.begun) in
-    goes_with old begun new part (model_item i ∷ []) (from_to a c n k) at is begins.begun next
-    (subst (λ (p : Profile). HoldsItems p.mode (start_of part.pairs) (part.items ++ model_item i ∷ []) new.text new.line) begins.profile added.0)
+    subst (λ (to : Next). Goes old part to new More (from_to a c n k)) (leads part)
+    (goes_with old begun new part (i ∷ []) (from_to a c n k) at is begins.begun next
+    (subst (λ (p : Profile). HoldsItems p.mode (start_of part.pairs) (part.items ++ i ∷ []) new.text new.line) begins.profile added.0)
     (probed_with old part i new.most_probes put most is.probed)
-    (subst (Appends a c) (ap (λ (p : Profile). section_due_of old ++ lines_gain p.mode part.pairs part.items (model_item i ∷ [])) begins.profile
-    ∙ gain_is old part (model_item i ∷ []) begins.known at is) (Appends-trans a b c _ _ begins.text added.1)))
+    (subst (Appends a c) (ap (λ (p : Profile). section_due_of old ++ lines_gain p.mode part.pairs part.items (i ∷ [])) begins.profile
+    ∙ gain_is old part (i ∷ []) begins.known at is) (Appends-trans a b c _ _ begins.text added.1))))
 
-pub fails_item : (old begun new : ReaderState) (i : CodeItem) (f : WriteFault) (a b c : Option (List ℕ)) (n m k : ℕ) → IsTrue (may_have_movetext old.stage)
+pub fails_item : (old begun new : ReaderState) (e : Entry) (i : Item) (f : WriteFault) (a b c : Option (List ℕ)) (n m k : ℕ) → IsTrue (may_have_movetext old.stage)
+    → ((part : Part) → going (with_items part (i ∷ [])) ≡ after_entry e part)
     → BeginsText {A = Unit} {E = WriteFault} old begun (Ok tt) (from_to a b n m) → IsAfterItem begun new
-    → Adds {A = Unit} begun.profile.mode (model_item i) begun.text begun.line new.text new.line (Err f) (from_to b c m k)
-    → PutResult old (InText (Put i)) new (Err reasons.WriteFault) (from_to a c n k)
-fails_item old begun new i f a b c n m k at begins next adds =
-    unwritten old new (InText (Put i)) (from_to a c n k)
+    → Adds {A = Unit} begun.profile.mode i begun.text begun.line new.text new.line (Err f) (from_to b c m k)
+    → PutResult old (InText e) new (Err reasons.WriteFault) (from_to a c n k)
+fails_item old begun new e i f a b c n m k at leads begins next adds =
+    unwritten old new (InText e) (from_to a c n k)
     (record { profile = next.profile ∙ begins.profile; plies = omega (arith, next.earlier, begins.earlier, begins.plies, adds.plies); probes = omega (arith, next.probes, begins.probes) })
     (adds.counted ∙ ap one_more begins.counted) (λ part agrees.
     let is = open_agrees old part agrees at in
-    subst (AppendsFront a c) (ap (λ (p : Profile). section_due_of old ++ lines_gain p.mode part.pairs part.items (model_item i ∷ [])) begins.profile
-    ∙ gain_is old part (model_item i ∷ []) begins.known at is)
-    (front_after a b c _ _ begins.text (adds.adds (start_of part.pairs) part.items (begun_held old begun part is begins.begun))))
+    subst (λ (to : Next). AppendsFront a c (gain_to old.profile part to)) (leads part)
+    (subst (AppendsFront a c) (ap (λ (p : Profile). section_due_of old ++ lines_gain p.mode part.pairs part.items (i ∷ [])) begins.profile
+    ∙ gain_is old part (i ∷ []) begins.known at is)
+    (front_after a b c _ _ begins.text (adds.adds (start_of part.pairs) part.items (begun_held old begun part is begins.begun)))))

@@ -12,8 +12,9 @@ use Rattle.pgn_game.specs.declared.accepted.Accepted.TheVariants.{Finished}
 use Rattle.pgn_game.specs.declared.reason.Reason.TheVariants as reasons
 use Rattle.pgn_game.specs.declared.judged.Judged.TheVariants.{Entry as InText}
 use Rattle.pgn_game.specs.declared.judged.Entry.{Entry}
-use Rattle.pgn_game.specs.declared.judged.Entry.TheVariants.{Number, Item as PutItem, Marker}
+use Rattle.pgn_game.specs.declared.judged.Entry.TheVariants.{Number, Move as Play, Item as PutItem, Marker}
 use Rattle.pgn_game.proofs.Words.{Mode, Stage, Between, AfterTags, InMovetext, Profile, Missing, counts_as, known_result, Pair, Item, Part}
+use Rattle.pgn_game.specs.Game as games
 use Rattle.pgn_game.specs.Levels.{Level as ModelLevel, Levels as ModelLevels, depth, start_of, outermost, replayed, last_position}
 use Rattle.pgn_game.specs.TagSection.{tag_section}
 use Rattle.pgn_game.specs.FaultTable.{levels_of_part, result_for}
@@ -103,12 +104,14 @@ behind old part marker outside is =
 -- what a token of movetext adds behind the section
 abbrev rest_of : ReaderState → Part → Entry → List ℕ
 rest_of old part Number = lines_gain old.profile.mode part.pairs part.items []
+rest_of old part (Play m) = lines_gain old.profile.mode part.pairs part.items (games.move m.now ∷ [])
 rest_of old part (PutItem i) = lines_gain old.profile.mode part.pairs part.items (model_item i ∷ [])
 rest_of old part (Marker marker) = ending old.line marker.now
 
 entry_gain : (levels : ℕ) (old : ReaderState) (part : Part) (e : Entry) → EntryFits levels old.text e → old.profile.missing_result ≡ counts_as (known_result old.profile.missing_result) → IsTrue (may_have_movetext old.stage)
     → IsOpen old part → section_due_of old ++ rest_of old part e ≡ gain_to old.profile part (after_entry e part)
 entry_gain levels old part Number fits known at is = gain_is old part [] known at is
+entry_gain levels old part (Play m) fits known at is = gain_is old part (games.move m.now ∷ []) known at is
 entry_gain levels old part (PutItem i) fits known at is = gain_is old part (model_item i ∷ []) known at is
 entry_gain levels old part (Marker marker) fits known at is = due_is old part marker.now known at fits.0 is
 

@@ -9,9 +9,11 @@ use Rattle.pgn_lexer.specs.declared.token.LexReason.{LexReason}
 use Rattle.pgn_lexer.specs.declared.token.TokenKind.{TokenKind}
 use Rattle.pgn_game.specs.declared.accepted.Accepted.{Accepted}
 use Rattle.pgn_game.specs.declared.accepted.Accepted.TheVariants.{More}
+use Rattle.pgn_game.specs.declared.judged.Item.{Item as CodeItem}
+use Rattle.pgn_game.specs.declared.judged.Item.TheVariants as code
 use Rattle.pgn_game.specs.declared.judged.Judged.{Judged}
 use Rattle.pgn_game.specs.declared.judged.Judged.TheVariants.{Entry as InText}
-use Rattle.pgn_game.specs.declared.judged.Entry.TheVariants.{Number, Item as Put, Marker}
+use Rattle.pgn_game.specs.declared.judged.Entry.TheVariants.{Number, Move as Play, Item as Put, Marker}
 use Rattle.pgn_game.proofs.Words.{Parts, Kind, Token, Mode, Full, Reduced, Reason, Stage, Between, InMovetext, Profile}
 use Rattle.pgn_game.specs.Game.{Item, Part, move}
 use Rattle.pgn_game.specs.Levels.{depth, here, levels_of, start_of}
@@ -139,6 +141,16 @@ item_held r to i n k is h =
     (ap (λ deep. writes r.profile.mode deep i) (depth_is r to is) ∙ written_alike r.profile.mode (depth (levels_of_part to)) i)
     (subst (λ (p : Parts). CostsToWrite (writes r.profile.mode (length r.text.levels.around) i) p i n k) (position_is r to is) h)
 
+-- for an item other than a move no pair is tried
+untried : (b : Bool) (place : Parts) (i : CodeItem) (n k : ℕ) → k ≡ n → CostsToWrite b place (model_item i) n k
+untried true place (code.Glyph glyph) n k h = h
+untried true place code.CommentOpen n k h = h
+untried true place (code.Word text) n k h = h
+untried true place code.CommentClose n k h = h
+untried true place code.Open n k h = h
+untried true place code.Close n k h = h
+untried false place i n k h = h
+
 abbrev AddsTo : ReaderState → Part → List Item → ℕ → ℕ → Type 0
 AddsTo r to items n k = CostsToAdd r.profile.mode (depth (levels_of_part to)) (position_in to) items n k
 
@@ -150,9 +162,12 @@ adds_judged : (tags levels : ℕ) (r : ReaderState) (to : Part) (j : Judged) (a 
     → TriesJudged r j (Ok a) n k → AddsTo r to (added to (after j to)) n k
 adds_judged tags levels r to (InText Number) a n k agrees fits h =
     subst (λ (l : List Item). AddsTo r to l n k) (sym (drop-append_seam to.items [])) h
+adds_judged tags levels r to (InText (Play m)) a n k agrees fits h =
+    subst (λ (l : List Item). AddsTo r to l n k) (sym (drop-append_seam to.items (move m.now ∷ [])))
+    (item_held r to (move m.now) n k (open_agrees r to agrees fits.0) h)
 adds_judged tags levels r to (InText (Put i)) a n k agrees fits h =
     subst (λ (l : List Item). AddsTo r to l n k) (sym (drop-append_seam to.items (model_item i ∷ [])))
-    (item_held r to (model_item i) n k (open_agrees r to agrees fits.0) h)
+    (untried (is_written r.profile.mode (depth (levels_of_part to)) (model_item i)) (position_in to) i n k h)
 adds_judged tags levels r to (InText (Marker marker)) a n k agrees fits h = h
 adds_judged tags levels r to _ a n k agrees fits h = adds_same r to n k h
 
@@ -167,8 +182,8 @@ unwritten_more r i n k (put_result.at_item h) = written_more (writes r.profile.m
 unwritten_more r i n k (put_result.in_section at same) = omega (arith, same)
 
 judged_more : (r : ReaderState) (j : Judged) (result : Result Accepted Reason) (n k : ℕ) → TriesJudged r j result n k → n ≤ k
-judged_more r (InText (Put i)) (Ok a) n k h = written_more (writes r.profile.mode (length r.text.levels.around) (model_item i)) r.text.levels.present.present (model_item i) n k h
-judged_more r (InText (Put i)) (Err reason) n k h = unwritten_more r (model_item i) n k h
+judged_more r (InText (Play m)) (Ok a) n k h = written_more (writes r.profile.mode (length r.text.levels.around) (move m.now)) r.text.levels.present.present (move m.now) n k h
+judged_more r (InText (Play m)) (Err reason) n k h = unwritten_more r (move m.now) n k h
 judged_more r _ result n k h = omega (arith, h)
 
 -- What was found and what was put of one token.
@@ -188,14 +203,15 @@ module _ (tags levels : ℕ) (old counted : ReaderState) (part : Part) (k : Kind
             (subst (λ (l : List Item). AddsTo counted m.to l n new) items there))));
       }
 
+  unwritten_item : (i : Item) (j : Judged) → Fits tags levels counted j → next part k ≡ after j m.to
+      → (TriesItem counted.profile.mode counted.text i n new → TriesJudged counted j (Ok More) n new) → UnwrittenPairs counted i n new → TriesUnwritten old.profile part k new
+  unwritten_item i j fits leads tries (put_result.at_item x) = tried.at_token (tries_met j More fits leads (tries x))
+  unwritten_item i j fits leads tries (put_result.in_section at same) =
+      tried.in_section (sym m.in_text ∙ ap (λ (x : Stage). stage_number InMovetext == stage_number x) (sym m.agrees.stage ∙ at))
+      (subst (CostsToFind part k) (sym same) (finds_met old counted part k n m ready seeks))
+
   unwritten_met : (reason : Reason) (j : Judged) → Fits tags levels counted j → next part k ≡ after j m.to → TriesJudged counted j (Err reason) n new → TriesUnwritten old.profile part k new
-  unwritten_met reason (InText (Put i)) fits leads h = by_write h
-    where
-      by_write : UnwrittenPairs counted (model_item i) n new → TriesUnwritten old.profile part k new
-      by_write (put_result.at_item x) = tried.at_token (tries_met (InText (Put i)) More fits leads x)
-      by_write (put_result.in_section at same) =
-          tried.in_section (sym m.in_text ∙ ap (λ (x : Stage). stage_number InMovetext == stage_number x) (sym m.agrees.stage ∙ at))
-          (subst (CostsToFind part k) (sym same) (finds_met old counted part k n m ready seeks))
+  unwritten_met reason (InText (Play mv)) fits leads h = unwritten_item (move mv.now) (InText (Play mv)) fits leads (λ x. x) h
   unwritten_met reason j fits leads h = tried.at_token (tries_met j More fits leads h)
 
 -- What the reader counts for a token that means something, once it is put.

@@ -1,94 +1,10 @@
-use Rattle.std.proofs.Common.{◌≡◌, Bool, true, false, List, ℕ, ◌+◌, None, Some, sym, ap, subst, ◌∙◌, arith, Option, Result, Ok, Err, option_map}
-use Rattle.chess_text.specs.declared.form.Form.{Form}
-use Rattle.chess_text.specs.Form.{form_of}
-use Rattle.chess_text.specs.MoveOfForm.{move_of_form}
-use Rattle.pgn_game.proofs.Words.{Parts, Played, SanFault, Reason, MoveLimit}
-use Rattle.pgn_game.specs.Chess.{move_of}
-use Rattle.pgn_game.specs.FaultTable.{is_at_limit}
-use Rattle.pgn_game.specs.FoundMove.{found_in}
-use Rattle.pgn_game.specs.Tried.{Costs, CostsForm, CostsAnswer}
+use Rattle.std.proofs.Common.{◌≡◌, Option, sym, ap, ◌∙◌}
+use Rattle.std.specs.Option.{ok_or}
+use Rattle.chess_text.specs.MoveOfForm.{with_next}
+use Rattle.pgn_game.proofs.Words.{Parts, IllegalMove}
 use Rattle.pgn_game.proofs.find.find_move.Goals as goal
 
-no_form : (p : Parts) (s : List ℕ) → None ≡ form_of s → move_of p s ≡ None
-unfolding move_of
-no_form p s e = ap (option_map (move_of_form p)) (sym e)
-
-of_form : (p : Parts) (s : List ℕ) (f : Form) (r : Result Played SanFault) → Some f ≡ form_of s → r ≡ move_of_form p f → move_of p s ≡ Some r
-unfolding move_of
-of_form p s f r e h = ap (option_map (move_of_form p)) (sym e) ∙ ap Some (sym h)
-
-limited : (p : Parts) (played : Played) (b : Bool) → is_at_limit p ≡ b
-    → (let r : Result Played Reason = elim b [ true ↦ Err MoveLimit | false ↦ Ok played ] in r) ≡ found_in p (Some (Ok played))
-limited p played b e = ap (λ (b : Bool). let r : Result Played Reason = elim b [ true ↦ Err MoveLimit | false ↦ Ok played ] in r) (sym e)
-
-pub returns-in_default-clause-found : goal.returns-in_default-clause-found
-returns-in_default-clause-found c = ap (found_in c.args.position.now) (sym (no_form c.args.position.now c.args.text.now c.in_default.ensures))
-
-pub returns-in-Err-NoMove-clause-found : goal.returns-in-Err-NoMove-clause-found
-returns-in-Err-NoMove-clause-found c =
-    ap (found_in c.args.position.now) (sym (of_form c.args.position.now c.args.text.now c.in-Some.form _ c.in-Some.ensures (rw c.in-Err-NoMove.field-0-is at c.in-Err-NoMove.ensures.answer)))
-
-pub returns-in-Err-Ambiguous-clause-found : goal.returns-in-Err-Ambiguous-clause-found
-returns-in-Err-Ambiguous-clause-found c =
-    ap (found_in c.args.position.now) (sym (of_form c.args.position.now c.args.text.now c.in-Some.form _ c.in-Some.ensures (rw c.in-Err-Ambiguous.field-0-is at c.in-Err-Ambiguous.ensures.answer)))
-
-pub returns-then-is_at_limit-clause-found : goal.returns-then-is_at_limit-clause-found
-returns-then-is_at_limit-clause-found c =
-    limited c.args.position.now c.in-Ok.played true (sym c.is_at_limit.ensures ∙ c.if-is_at_limit.true)
-    ∙ ap (found_in c.args.position.now) (sym (of_form c.args.position.now c.args.text.now c.in-Some.form _ c.in-Some.ensures c.in-Ok.ensures.answer))
-
-pub returns-else-is_at_limit-clause-found : goal.returns-else-is_at_limit-clause-found
-returns-else-is_at_limit-clause-found c =
-    limited c.args.position.now c.in-Ok.played false (sym c.is_at_limit.ensures ∙ c.if-is_at_limit.false)
-    ∙ ap (found_in c.args.position.now) (sym (of_form c.args.position.now c.args.text.now c.in-Some.form _ c.in-Some.ensures c.in-Ok.ensures.answer))
-
-pub returns-else-is_at_limit-clause-legal : goal.returns-else-is_at_limit-clause-legal
-returns-else-is_at_limit-clause-legal c =
-    ((c.the_one_move_is_read.ensures c.args.position.now c.in-Some.form c.in-Ok.played).0 (sym c.in-Ok.ensures.answer)).1
-
--- what resolving a form costs
-of_answer : (p : Parts) (s : List ℕ) (f : Form) (r : Result Played SanFault) (n : ℕ)
-    → Some f ≡ form_of s → r ≡ move_of_form p f → CostsAnswer p f r n → Costs p s n
-unfolding Costs
-of_answer p s f r n e h costs =
-    subst (λ (x : Option Form). CostsForm p x n) e
-    (subst (λ (y : Result Played SanFault). CostsAnswer p f y n) h costs)
-
--- and a text that is no form
-of_no_form : (p : Parts) (s : List ℕ) (n : ℕ) → None ≡ form_of s → n ≡ 0 → Costs p s n
-unfolding Costs
-of_no_form p s n e h = subst (λ (x : Option Form). CostsForm p x n) e h
-
--- all pairs counted are those of this form
-from_none : (before after pairs : ℕ) → before ≡ 0 → after ≡ before + pairs → after ≡ pairs
-from_none before after pairs none e = omega (arith, none, e)
-
-pub returns-in_default-clause-tried : goal.returns-in_default-clause-tried
-returns-in_default-clause-tried c =
-    of_no_form c.args.position.now c.args.text.now _ c.in_default.ensures c.requires
-
-pub returns-in-Err-NoMove-clause-tried : goal.returns-in-Err-NoMove-clause-tried
-returns-in-Err-NoMove-clause-tried c =
-    let f = c.in-Some.form in
-    let answer = rw c.in-Err-NoMove.field-0-is at c.in-Err-NoMove.ensures.answer in
-    of_answer c.args.position.now c.args.text.now f _ _ c.in-Some.ensures answer
-    (from_none _ _ _ c.requires (c.in-Err-NoMove.ensures.each (λ e. cc)))
-
-pub returns-in-Err-Ambiguous-clause-tried : goal.returns-in-Err-Ambiguous-clause-tried
-returns-in-Err-Ambiguous-clause-tried c =
-    let f = c.in-Some.form in
-    let answer = rw c.in-Err-Ambiguous.field-0-is at c.in-Err-Ambiguous.ensures.answer in
-    of_answer c.args.position.now c.args.text.now f _ _ c.in-Some.ensures answer
-    (omega (arith, c.in-Err-Ambiguous.ensures.two (cc), c.requires), omega (arith, c.in-Err-Ambiguous.ensures.most, c.requires))
-
-pub returns-then-is_at_limit-clause-tried : goal.returns-then-is_at_limit-clause-tried
-returns-then-is_at_limit-clause-tried c =
-    let f = c.in-Some.form in
-    of_answer c.args.position.now c.args.text.now f _ _ c.in-Some.ensures c.in-Ok.ensures.answer
-    (from_none _ _ _ c.requires (c.in-Ok.ensures.each (λ e. cc)))
-
-pub returns-else-is_at_limit-clause-tried : goal.returns-else-is_at_limit-clause-tried
-returns-else-is_at_limit-clause-tried c =
-    let f = c.in-Some.form in
-    of_answer c.args.position.now c.args.text.now f _ _ c.in-Some.ensures c.in-Ok.ensures.answer
-    (from_none _ _ _ c.requires (c.in-Ok.ensures.each (λ e. cc)))
+pub returns-in-Ok-clause-found : goal.returns-in-Ok-clause-found
+returns-in-Ok-clause-found c =
+    sym (ap (λ (o : Option Parts). ok_or (with_next c.in-Ok.mv o) IllegalMove) c.position_after-next.ensures)
+    ∙ c.in-Ok.ensures.found

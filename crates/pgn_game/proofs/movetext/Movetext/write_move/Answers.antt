@@ -1,39 +1,46 @@
-use Rattle.std.proofs.Common.{rules, ◌∷◌, [], List, ℕ, ap, subst, ◌∙◌}
+use Rattle.std.proofs.Common.{Bool, true, Ok, refl, sym, subst}
 use Rattle.pgn_layout.specs.Device.{device}
-use Rattle.pgn_game.specs.Chess.{text_of_move}
+use Rattle.std.proofs.KnownBytes.{Appends-nil}
+use Rattle.pgn_layout.specs.declared.sink.WriteFault.{WriteFault}
+use Rattle.pgn_game.specs.Game.{move}
+use Rattle.pgn_game.specs.MostTried.{CostsToWrite}
 use Rattle.pgn_game.specs.Movetext.{Movetext}
-use Rattle.pgn_game.specs.ItemResult.{PutsTokens, number_due}
-use Rattle.pgn_game.proofs.putting.ItemToMovetext.{puts_after, puts_fail, is_text, is_token, writes_move}
+use Rattle.pgn_game.specs.ItemResult.{WritesItem}
+use Rattle.pgn_game.proofs.putting.ItemToMovetext.{left_out, written_out, not_written}
 use Rattle.pgn_game.proofs.movetext.Movetext.write_move.Goals as goal
 
-pub returns-in_err-put_number-clause-puts : goal.returns-in_err-put_number-clause-puts
-returns-in_err-put_number-clause-puts g c =
-    let p = c.args.self.now.levels.present.present in
-    let same = c.present.ensures ∙ ap (λ (t : Movetext). t.levels.present.present) c.self.view_is in
-    let text = is_text p c.present.result.now c.args.played.now.mv c.write_san-san.result.items c.write_san-san.ensures.text same in
-    puts_fail (number_due c.args.self.now) (text_of_move p c.args.played.now.mv ∷ [])
-    c.args.line.now c.put_number.new.line c.put_number.new.line _ c.from_residual.result _
-    (is_token p c.args.played.now.mv c.write_san-san.result.items text c.write_san-san.ensures.some c.write_san-san.ensures.short)
-    c.in_err-put_number.ensures.puts c.from_residual.ensures.0
+pub returns-then-not-writes_move-clause-writes : goal.returns-then-not-writes_move-clause-writes
+returns-then-not-writes_move-clause-writes g c =
+    let m = c.args.played.now.mv in
+    left_out c.args.mode (move m) c.args.self.now c.args.line.now _ (sym (c.if-not-writes_move.ensures m)) (Appends-nil _) refl
 
-pub returns-clause-puts : goal.returns-clause-puts
-returns-clause-puts g c =
-    let p = c.args.self.now.levels.present.present in
-    let number = c.in_ok-put_number.ensures.puts in
-    let same = c.present.ensures ∙ ap (λ (t : Movetext). t.levels.present.present) c.self.view_is in
-    let text = is_text p c.present.result.now c.args.played.now.mv c.write_san-san.result.items c.write_san-san.ensures.text same in
-    let put : PutsTokens (c.as_slice.result.now ∷ []) c.put_number.new.line c.put.new.self c.put.result (device g.W.Sink.taken g.W.Sink.failures c.put_number.new.out c.put.new.out) =
-    search rules in
-    puts_after (number_due c.args.self.now) (text_of_move p c.args.played.now.mv ∷ []) c.args.line.now c.put_number.new.line c.put.new.self _ c.put.result _ _ _ _ _ _ number
-    (subst (λ (t : List ℕ). PutsTokens (t ∷ []) c.put_number.new.line c.put.new.self c.put.result (device g.W.Sink.taken g.W.Sink.failures c.put_number.new.out c.put.new.out))
-    (c.as_slice.ensures.value ∙ text) put)
+pub returns-then-not-writes_move-clause-tried : goal.returns-then-not-writes_move-clause-tried
+returns-then-not-writes_move-clause-tried g c =
+    let m = c.args.played.now.mv in
+    subst (λ (b : Bool). CostsToWrite b c.args.self.now.levels.present.present (move m) c.args.probes.now c.args.probes.now) (c.if-not-writes_move.ensures m) refl
 
-pub returns-in_err-put_number-clause-tried : goal.returns-in_err-put_number-clause-tried
-returns-in_err-put_number-clause-tried g c =
-    let same = c.present.ensures ∙ ap (λ (t : Movetext). t.levels.present.present) c.self.view_is in
-    writes_move _ c.present.result.now c.args.played.now.mv _ _ _ same c.requires.legal c.write_san-san.ensures.pairs
+pub returns-in_err-write_tokens_of_move-clause-writes : goal.returns-in_err-write_tokens_of_move-clause-writes
+returns-in_err-write_tokens_of_move-clause-writes g c =
+    let m = c.args.played.now.mv in
+    not_written c.args.mode (move m) c.args.self.now c.args.line.now c.write_tokens_of_move.new.line _ c.from_residual.result _ (sym (c.if-not-writes_move.ensures m))
+    c.in_err-write_tokens_of_move.ensures.puts c.from_residual.ensures.0
+
+pub returns-in_err-write_tokens_of_move-clause-tried : goal.returns-in_err-write_tokens_of_move-clause-tried
+returns-in_err-write_tokens_of_move-clause-tried g c =
+    let m = c.args.played.now.mv in
+    subst (λ (b : Bool). CostsToWrite b c.args.self.now.levels.present.present (move m) c.args.probes.now c.write_tokens_of_move.new.probes) (c.if-not-writes_move.ensures m)
+    c.in_err-write_tokens_of_move.ensures.tried
+
+pub returns-clause-writes : goal.returns-clause-writes
+returns-clause-writes g c =
+    let m = c.args.played.now.mv in
+    subst (λ (t : Movetext). WritesItem {A = Unit} {E = WriteFault} c.args.mode (move m) c.args.self.now c.args.line.now (record t { is_after_move = true }) c.write_tokens_of_move.new.line (Ok tt)
+    (device g.W.Sink.taken g.W.Sink.failures c.args.out.now c.write_tokens_of_move.new.out))
+    (sym c.self.view_is)
+    (written_out c.args.mode (move m) c.args.self.now c.args.line.now c.write_tokens_of_move.new.line _ (sym (c.if-not-writes_move.ensures m)) c.in_ok-write_tokens_of_move.ensures.puts)
 
 pub returns-clause-tried : goal.returns-clause-tried
 returns-clause-tried g c =
-    let same = c.present.ensures ∙ ap (λ (t : Movetext). t.levels.present.present) c.self.view_is in
-    writes_move _ c.present.result.now c.args.played.now.mv _ _ _ same c.requires.legal c.write_san-san.ensures.pairs
+    let m = c.args.played.now.mv in
+    subst (λ (b : Bool). CostsToWrite b c.args.self.now.levels.present.present (move m) c.args.probes.now c.write_tokens_of_move.new.probes) (c.if-not-writes_move.ensures m)
+    c.in_ok-write_tokens_of_move.ensures.tried

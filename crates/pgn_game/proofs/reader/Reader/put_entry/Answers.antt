@@ -6,16 +6,19 @@ use Rattle.pgn_layout.specs.Device.{AppendsFront, one_more}
 use Rattle.pgn_layout.specs.Layout.{Put, EndGame, text_at, line_at}
 use Rattle.pgn_game.specs.declared.judged.Entry.{Entry}
 use Rattle.pgn_game.specs.ReaderState.{ReaderState}
-use Rattle.pgn_game.specs.Judgement.{EntryFits, IsProbed}
+use Rattle.pgn_game.specs.Judgement.{EntryFits, IsProbed, model_item}
+use Rattle.pgn_game.specs.Game.{move}
+use Rattle.pgn_game.specs.declared.judged.Entry.TheVariants.{Move as Play, Item as PutItem}
 use Rattle.pgn_game.proofs.putting.WritesInTurn.{front_of_more, front_after}
+use Rattle.pgn_game.proofs.putting.ItemToMovetext.{no_move}
 use Rattle.pgn_game.proofs.putting.MarkerToReader.{puts_unbegun, ends_well, ends_ill}
 use Rattle.pgn_game.proofs.putting.ItemToReader.{IsAfterItem, begins_as, puts_number, puts_item, fails_item}
 use Rattle.pgn_game.proofs.reader.Reader.put_entry.Goals as goal
 
--- the reader after an item, once its probes are counted
-after_item : (begun between new : ReaderState) (probes : ℕ) → new ≡ record between { most_probes = max between.most_probes probes }
+-- the reader after a move, once its probes are counted
+after_move : (begun between new : ReaderState) (probes : ℕ) → new ≡ record between { most_probes = max between.most_probes probes }
     → IsAfterItem begun between → IsAfterItem begun new
-after_item begun between new probes is next = record {
+after_move begun between new probes is next = record {
   profile = ap (λ (r : ReaderState). r.profile) is ∙ next.profile;
   stage = ap (λ (r : ReaderState). r.stage) is ∙ next.stage;
   tags = ap (λ (r : ReaderState). r.tags) is ∙ next.tags;
@@ -34,25 +37,46 @@ returns-in-Number-clause-puts g c =
     rw c.in-Number.is
     (puts_number c.args.self.now c.begin_movetext.new.self _ c.requires.fits.0 c.in_ok-begin_movetext.ensures.begins)
 
+pub returns-in_err-put-in-Move-clause-puts : goal.returns-in_err-put-in-Move-clause-puts
+returns-in_err-put-in-Move-clause-puts g c =
+    let old = c.args.self.now in
+    let m = c.in-Move.mv in
+    let p = err_from_is_err_and c.from_residual-in_err-put-in-Move.result c.from_residual-in_err-put-in-Move.ensures.1 in
+    let begins = begins_as old _ _ _ c.self.view_is c.in_ok-begin_movetext.ensures.begins in
+    rw (c.in-Move.is, p.1 ∙ ap Err p.2)
+    (fails_item old _ c.count_probes.new.self (Play m) (move m.now) c.in_err-put-in-Move.field-0.0 _ _ _ _ _ _ c.requires.fits.0 (λ part. refl) begins
+    (after_move _ _ c.count_probes.new.self c.put_move-put.new.probes c.count_probes.ensures (record { profile = refl; stage = refl; tags = refl; earlier = refl; probes = omega arith }))
+    (rw c.count_probes.ensures c.in_err-put-in-Move.ensures.adds))
+
+pub returns-in_ok-put-in-Move-clause-puts : goal.returns-in_ok-put-in-Move-clause-puts
+returns-in_ok-put-in-Move-clause-puts g c =
+    let old = c.args.self.now in
+    let m = c.in-Move.mv in
+    let begins = begins_as old _ _ _ c.self.view_is c.in_ok-begin_movetext.ensures.begins in
+    let probed = subst (λ (e : Entry). IsProbed e old.most_probes) c.in-Move.is c.requires.fits.2 in
+    rw c.in-Move.is
+    (puts_item old _ c.count_probes.new.self (Play m) (move m.now) _ _ _ _ _ _ c.requires.fits.0 (λ part. refl) (λ is. probed) begins
+    (after_move _ _ c.count_probes.new.self c.put_move-put.new.probes c.count_probes.ensures (record { profile = refl; stage = refl; tags = refl; earlier = refl; probes = omega arith }))
+    (rw c.count_probes.ensures c.in_ok-put-in-Move.ensures.adds))
+
 pub returns-in_err-put-in-Item-clause-puts : goal.returns-in_err-put-in-Item-clause-puts
 returns-in_err-put-in-Item-clause-puts g c =
     let old = c.args.self.now in
+    let i = c.in-Item.item in
     let p = err_from_is_err_and c.from_residual-in_err-put-in-Item.result c.from_residual-in_err-put-in-Item.ensures.1 in
-    let begins = begins_as old _ _ _ c.self.view_is c.in_ok-begin_movetext.ensures.begins in
+    let begins = begins_as old _ _ _ c.self-in-Item.view_is c.in_ok-begin_movetext.ensures.begins in
     rw (c.in-Item.is, p.1 ∙ ap Err p.2)
-    (fails_item old _ c.count_probes.new.self c.in-Item.item c.in_err-put-in-Item.field-0.0 _ _ _ _ _ _ c.requires.fits.0 begins
-    (after_item _ _ c.count_probes.new.self c.put-put.new.probes c.count_probes.ensures (record { profile = refl; stage = refl; tags = refl; earlier = refl; probes = omega arith }))
-    (rw c.count_probes.ensures c.in_err-put-in-Item.ensures.adds))
+    (fails_item old _ _ (PutItem i) (model_item i) c.in_err-put-in-Item.field-0.0 _ _ _ _ _ _ c.requires.fits.0 (λ part. refl) begins
+    (record { profile = refl; stage = refl; tags = refl; earlier = refl; probes = omega arith }) c.in_err-put-in-Item.ensures)
 
 pub returns-in_ok-put-in-Item-clause-puts : goal.returns-in_ok-put-in-Item-clause-puts
 returns-in_ok-put-in-Item-clause-puts g c =
     let old = c.args.self.now in
-    let begins = begins_as old _ _ _ c.self.view_is c.in_ok-begin_movetext.ensures.begins in
-    let put = subst (λ (e : Entry). IsProbed e old.most_probes) c.in-Item.is c.requires.fits.2 in
+    let i = c.in-Item.item in
+    let begins = begins_as old _ _ _ c.self-in-Item.view_is c.in_ok-begin_movetext.ensures.begins in
     rw c.in-Item.is
-    (puts_item old _ c.count_probes.new.self c.in-Item.item _ _ _ _ _ _ c.requires.fits.0 put begins
-    (after_item _ _ c.count_probes.new.self c.put-put.new.probes c.count_probes.ensures (record { profile = refl; stage = refl; tags = refl; earlier = refl; probes = omega arith }))
-    (rw c.count_probes.ensures c.in_ok-put-in-Item.ensures.adds))
+    (puts_item old _ _ (PutItem i) (model_item i) _ _ _ _ _ _ c.requires.fits.0 (λ part. refl) (λ is. absurd (cc (no_move i))) begins
+    (record { profile = refl; stage = refl; tags = refl; earlier = refl; probes = omega arith }) c.in_ok-put-in-Item.ensures)
 
 pub returns-in_err-put-in-Marker-clause-puts : goal.returns-in_err-put-in-Marker-clause-puts
 returns-in_err-put-in-Marker-clause-puts g c =
@@ -61,7 +85,7 @@ returns-in_err-put-in-Marker-clause-puts g c =
     let p = err_from_is_err_and c.from_residual-in_err-put-in-Marker.result c.from_residual-in_err-put-in-Marker.ensures.1 in
     let begins = begins_as old _ _ _ c.self-in-Marker.view_is c.in_ok-begin_movetext.ensures.begins in
     let fits = subst (λ (e : Entry). EntryFits g.row.L old.text e) c.in-Marker.is c.requires.fits.1 in
-    let front = front_of_more (g.W.Sink.taken c.begin_movetext.new.out) (g.W.Sink.taken c.put.new.out) _ (text_at (line_at c.self-in-Marker.inside.line (Put marker.now)) EndGame) c.in_err-put-in-Marker.ensures.text in
+    let front = front_of_more (g.W.Sink.taken c.begin_movetext.new.out) (g.W.Sink.taken c.put-in-Marker.new.out) _ (text_at (line_at c.self-in-Marker.inside.line (Put marker.now)) EndGame) c.in_err-put-in-Marker.ensures.text in
     rw (c.in-Marker.is, p.1 ∙ ap Err p.2)
     (ends_ill old _ _ marker _ _ _ _ _ _ (record { begins = begins; outside = fits.1; token = fits.0; at = c.requires.fits.0 }) front refl c.in_err-put-in-Marker.ensures.counted)
 
@@ -73,8 +97,8 @@ returns-in_err-end_game-in-Marker-clause-puts g c =
     let begins = begins_as old _ _ _ c.self-in-Marker.view_is c.in_ok-begin_movetext.ensures.begins in
     let fits = subst (λ (e : Entry). EntryFits g.row.L old.text e) c.in-Marker.is c.requires.fits.1 in
     let held = c.in_ok-put-in-Marker.ensures.line in
-    let last = subst (AppendsFront (g.W.Sink.taken c.put.new.out) (g.W.Sink.taken c.end_game.new.out)) (ap (λ (l : List ℕ). text_at l EndGame) held) c.in_err-end_game-in-Marker.ensures.text in
-    let front = front_after (g.W.Sink.taken c.begin_movetext.new.out) (g.W.Sink.taken c.put.new.out) (g.W.Sink.taken c.end_game.new.out) _ _ c.in_ok-put-in-Marker.ensures.text last in
+    let last = subst (AppendsFront (g.W.Sink.taken c.put-in-Marker.new.out) (g.W.Sink.taken c.end_game.new.out)) (ap (λ (l : List ℕ). text_at l EndGame) held) c.in_err-end_game-in-Marker.ensures.text in
+    let front = front_after (g.W.Sink.taken c.begin_movetext.new.out) (g.W.Sink.taken c.put-in-Marker.new.out) (g.W.Sink.taken c.end_game.new.out) _ _ c.in_ok-put-in-Marker.ensures.text last in
     rw (c.in-Marker.is, p.1 ∙ ap Err p.2)
     (ends_ill old _ _ marker _ _ _ _ _ _ (record { begins = begins; outside = fits.1; token = fits.0; at = c.requires.fits.0 }) front refl
     (c.in_err-end_game-in-Marker.ensures.counted ∙ ap one_more c.in_ok-put-in-Marker.ensures.counted))
@@ -86,7 +110,7 @@ returns-in_ok-end_game-in-Marker-clause-puts g c =
     let begins = begins_as old _ _ _ c.self-in-Marker.view_is c.in_ok-begin_movetext.ensures.begins in
     let fits = subst (λ (e : Entry). EntryFits g.row.L old.text e) c.in-Marker.is c.requires.fits.1 in
     let held = c.in_ok-put-in-Marker.ensures.line in
-    let last = subst (Appends (g.W.Sink.taken c.put.new.out) (g.W.Sink.taken c.end_game.new.out)) (ap (λ (l : List ℕ). text_at l EndGame) held) c.in_ok-end_game-in-Marker.ensures.text in
+    let last = subst (Appends (g.W.Sink.taken c.put-in-Marker.new.out) (g.W.Sink.taken c.end_game.new.out)) (ap (λ (l : List ℕ). text_at l EndGame) held) c.in_ok-end_game-in-Marker.ensures.text in
     rw c.in-Marker.is
     (ends_well old _ _ marker _ _ _ _ _ _ _ (record { begins = begins; outside = fits.1; token = fits.0; at = c.requires.fits.0 }) c.in_ok-put-in-Marker.ensures.text last refl c.in_ok-end_game-in-Marker.ensures.line
     (c.in_ok-end_game-in-Marker.ensures.counted ∙ c.in_ok-put-in-Marker.ensures.counted))

@@ -1,0 +1,111 @@
+use Rattle.std.proofs.Common.{◌≡◌, is_some, Bool, true, false, List, ℕ, ◌+◌, None, Some, sym, ap, subst, ◌∙◌, arith, Option, Result, Ok, Err, option_map}
+use Rattle.chess_text.specs.declared.form.Form.{Form}
+use Rattle.chess_text.specs.Form.{form_of}
+use Rattle.chess_text.specs.MoveOfForm.{form_pairs, move_of_form, with_next}
+use Rattle.chess_text.specs.declared.resolution.SanFault.TheVariants.{NoMove}
+use Rattle.chess_rules.specs.declared.position.Move.{Move}
+use Rattle.chess_rules.specs.Legal.{legal}
+use Rattle.std.specs.Option.{ok_or}
+use Rattle.pgn_game.proofs.Words.{Parts, Played, SanFault, Reason, IllegalMove, MoveLimit}
+use Rattle.pgn_game.specs.Chess.{move_of}
+use Rattle.pgn_game.specs.FaultTable.{is_at_limit}
+use Rattle.pgn_game.specs.FoundMove.{found_in}
+use Rattle.pgn_game.specs.Tried.{Costs, CostsForm, CostsAnswer}
+use Rattle.pgn_game.proofs.find.named_move.Goals as goal
+
+no_form : (p : Parts) (s : List ℕ) → None ≡ form_of s → move_of p s ≡ None
+unfolding move_of
+no_form p s e = ap (option_map (move_of_form p)) (sym e)
+
+of_form : (p : Parts) (s : List ℕ) (f : Form) (r : Result Played SanFault) → Some f ≡ form_of s → r ≡ move_of_form p f → move_of p s ≡ Some r
+unfolding move_of
+of_form p s f r e h = ap (option_map (move_of_form p)) (sym e) ∙ ap Some (sym h)
+
+limited : (p : Parts) (played : Played) (b : Bool) → is_at_limit p ≡ b
+    → (let r : Result Played Reason = elim b [ true ↦ Err MoveLimit | false ↦ Ok played ] in r) ≡ found_in p (Some (Ok played))
+limited p played b e = ap (λ (b : Bool). let r : Result Played Reason = elim b [ true ↦ Err MoveLimit | false ↦ Ok played ] in r) (sym e)
+
+-- a legal move is found, or rejected at the limit
+module _ (p : Parts) where
+  free : (m : Move) (next : Option Parts) → is_some next ≡ true → is_at_limit p ≡ false → ok_or (with_next m next) IllegalMove ≡ found_in p (Some (ok_or (with_next m next) NoMove))
+  free m (Some q) legal limit = limited p (record { mv = m; next = q }) false limit
+  free m None legal limit = absurd (cc)
+
+  stopped : (m : Move) (next : Option Parts) → is_some next ≡ true → is_at_limit p ≡ true → Err MoveLimit ≡ found_in p (Some (ok_or (with_next m next) NoMove))
+  stopped m (Some q) legal limit = limited p (record { mv = m; next = q }) true limit
+  stopped m None legal limit = absurd (cc)
+
+pub returns-in_default-clause-found : goal.returns-in_default-clause-found
+returns-in_default-clause-found c = ap (found_in c.args.position.now) (sym (no_form c.args.position.now c.args.text.now c.in_default.ensures))
+
+pub returns-in-Err-NoMove-clause-found : goal.returns-in-Err-NoMove-clause-found
+returns-in-Err-NoMove-clause-found c =
+    ap (found_in c.args.position.now) (sym (of_form c.args.position.now c.args.text.now c.in-Some.form _ c.in-Some.ensures (rw c.in-Err-NoMove.field-0-is at c.in-Err-NoMove.ensures.answer)))
+
+pub returns-in-Err-Ambiguous-clause-found : goal.returns-in-Err-Ambiguous-clause-found
+returns-in-Err-Ambiguous-clause-found c =
+    ap (found_in c.args.position.now) (sym (of_form c.args.position.now c.args.text.now c.in-Some.form _ c.in-Some.ensures (rw c.in-Err-Ambiguous.field-0-is at c.in-Err-Ambiguous.ensures.answer)))
+
+pub returns-then-is_at_limit-clause-found : goal.returns-then-is_at_limit-clause-found
+returns-then-is_at_limit-clause-found c =
+    let p = c.args.position.now in
+    stopped p c.in-Ok.mv (legal p c.in-Ok.mv) c.in-Ok.ensures.legal (sym c.is_at_limit.ensures ∙ c.if-is_at_limit.true)
+    ∙ ap (found_in p) (sym (of_form p c.args.text.now c.in-Some.form _ c.in-Some.ensures c.in-Ok.ensures.answer))
+
+pub returns-else-is_at_limit-clause-found : goal.returns-else-is_at_limit-clause-found
+returns-else-is_at_limit-clause-found c =
+    let p = c.args.position.now in
+    free p c.in-Ok.mv (legal p c.in-Ok.mv) c.in-Ok.ensures.legal (sym c.is_at_limit.ensures ∙ c.if-is_at_limit.false)
+    ∙ ap (found_in p) (sym (of_form p c.args.text.now c.in-Some.form _ c.in-Some.ensures c.in-Ok.ensures.answer))
+
+-- what resolving a form costs
+of_answer : (p : Parts) (s : List ℕ) (f : Form) (r : Result Played SanFault) (n : ℕ)
+    → Some f ≡ form_of s → r ≡ move_of_form p f → CostsAnswer p f r n → Costs p s n
+unfolding Costs
+of_answer p s f r n e h costs =
+    subst (λ (x : Option Form). CostsForm p x n) e
+    (subst (λ (y : Result Played SanFault). CostsAnswer p f y n) h costs)
+
+-- and a text that is no form
+of_no_form : (p : Parts) (s : List ℕ) (n : ℕ) → None ≡ form_of s → n ≡ 0 → Costs p s n
+unfolding Costs
+of_no_form p s n e h = subst (λ (x : Option Form). CostsForm p x n) e h
+
+-- all pairs counted are those of this form
+from_none : (before after pairs : ℕ) → before ≡ 0 → after ≡ before + pairs → after ≡ pairs
+from_none before after pairs none e = omega (arith, none, e)
+
+-- what a legal move costs
+of_legal : (p : Parts) (f : Form) (m : Move) (next : Option Parts) (n : ℕ) → is_some next ≡ true → n ≡ form_pairs p f → CostsAnswer p f (ok_or (with_next m next) NoMove) n
+of_legal p f m (Some q) n legal e = e
+of_legal p f m None n legal e = absurd (cc)
+
+pub returns-in_default-clause-tried : goal.returns-in_default-clause-tried
+returns-in_default-clause-tried c =
+    of_no_form c.args.position.now c.args.text.now _ c.in_default.ensures c.requires
+
+pub returns-in-Err-NoMove-clause-tried : goal.returns-in-Err-NoMove-clause-tried
+returns-in-Err-NoMove-clause-tried c =
+    let f = c.in-Some.form in
+    let answer = rw c.in-Err-NoMove.field-0-is at c.in-Err-NoMove.ensures.answer in
+    of_answer c.args.position.now c.args.text.now f _ _ c.in-Some.ensures answer
+    (from_none _ _ _ c.requires (c.in-Err-NoMove.ensures.each (λ e. cc)))
+
+pub returns-in-Err-Ambiguous-clause-tried : goal.returns-in-Err-Ambiguous-clause-tried
+returns-in-Err-Ambiguous-clause-tried c =
+    let f = c.in-Some.form in
+    let answer = rw c.in-Err-Ambiguous.field-0-is at c.in-Err-Ambiguous.ensures.answer in
+    of_answer c.args.position.now c.args.text.now f _ _ c.in-Some.ensures answer
+    (omega (arith, c.in-Err-Ambiguous.ensures.two (cc), c.requires), omega (arith, c.in-Err-Ambiguous.ensures.most, c.requires))
+
+pub returns-then-is_at_limit-clause-tried : goal.returns-then-is_at_limit-clause-tried
+returns-then-is_at_limit-clause-tried c =
+    let f = c.in-Some.form in
+    of_answer c.args.position.now c.args.text.now f _ _ c.in-Some.ensures c.in-Ok.ensures.answer
+    (of_legal c.args.position.now f c.in-Ok.mv (legal c.args.position.now c.in-Ok.mv) _ c.in-Ok.ensures.legal (from_none _ _ _ c.requires (c.in-Ok.ensures.each (λ e. cc))))
+
+pub returns-else-is_at_limit-clause-tried : goal.returns-else-is_at_limit-clause-tried
+returns-else-is_at_limit-clause-tried c =
+    let f = c.in-Some.form in
+    of_answer c.args.position.now c.args.text.now f _ _ c.in-Some.ensures c.in-Ok.ensures.answer
+    (of_legal c.args.position.now f c.in-Ok.mv (legal c.args.position.now c.in-Ok.mv) _ c.in-Ok.ensures.legal (from_none _ _ _ c.requires (c.in-Ok.ensures.each (λ e. cc))))
