@@ -4,6 +4,7 @@
 -- 239 187 191 is the byte order mark EF BB BF.
 use Rattle.std.specs.Prelude.{◌≡◌, ℕ, ◌+◌, ◌<◌, ◌≤◌, true, false, List, [], ◌∷◌, ◌++◌, take_while, length}
 use Rattle.pgn_lexer.specs.declared.token.LexFault.{LexFault}
+use Rattle.pgn_lexer.specs.declared.token.LexReason.{LexReason}
 use Rattle.pgn_lexer.specs.declared.token.LexReason.TheVariants.{StrayByte}
 use Rattle.pgn_lexer.specs.declared.partial_token.Mode.{Mode}
 use Rattle.pgn_lexer.specs.declared.partial_token.Mode.TheVariants.{Start, AfterEf, AfterEfBb, LineStart, Outside, EscapeLine, Symbol, Str, AfterBackslash, Dollar, Glyph, Suffix, Brace, BraceWord, Line, LineWord, Failed}
@@ -71,7 +72,7 @@ tokens_to_come_in Brace place at text s = tokens_from place brace s
 tokens_to_come_in BraceWord place at text s = onto at (word_at at (text ++ take_while continues_word s)) (tokens_from place brace_word s)
 tokens_to_come_in Line place at text s = tokens_from place line s
 tokens_to_come_in LineWord place at text s = onto at (word_at at (text ++ take_while continues_word s)) (tokens_from place line_word s)
-tokens_to_come_in (Failed f) place at text s = refusal f ∷ []
+tokens_to_come_in (Failed reason) place at text s = refusal (record { at = at; reason = reason }) ∷ []
 
 abbrev pub tokens_to_come : ℕ → PartialToken → List ℕ → List Token
 tokens_to_come place h s = tokens_to_come_in h.mode place h.at h.text s
@@ -112,16 +113,16 @@ pub record IsSound (place : ℕ) (h : PartialToken) : Type 0 where
 
 -- no rejection was met
 abbrev pub HasNotFailed : Mode → Type 0
-HasNotFailed (Failed f) = ⊥
+HasNotFailed (Failed reason) = ⊥
 HasNotFailed _ = Unit {0}
 
--- the rejection that was met, in mode Failed
-abbrev pub fault_of_mode : Mode → ℕ → LexFault
-fault_of_mode (Failed f) at = f
-fault_of_mode _ at = record { at = at; reason = StrayByte }
+-- the reason of a rejection, in mode Failed; the place of the fault is that of the partial token
+abbrev pub reason_in_mode : Mode → LexReason
+reason_in_mode (Failed reason) = reason
+reason_in_mode _ = StrayByte
 
 abbrev pub fault_met : PartialToken → LexFault
-fault_met h = fault_of_mode h.mode h.at
+fault_met h = record { at = h.at; reason = reason_in_mode h.mode }
 
 -- how many tokens come with no byte more, but for the end
 abbrev pub pending_in : Mode → ℕ

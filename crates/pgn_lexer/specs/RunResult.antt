@@ -1,10 +1,10 @@
 -- **Bookkeeping**: what a run over a piece results in.
 -- `place` is the number of bytes used before the piece, and `used` how many of its bytes were used.
 -- Letters: s are any bytes that come after, t is a token, f a fault, h is what is held.
-use Rattle.std.specs.Prelude.{◌≡◌, true, false, ℕ, ◌+◌, ◌*◌, ◌<◌, ◌≤◌, ◌⊎◌, List, [], ◌∷◌, ◌++◌, length, take, drop}
+use Rattle.std.specs.Prelude.{◌≡◌, true, false, ℕ, ◌+◌, ◌*◌, ◌<◌, ◌≤◌, ◌⊎◌, List, [], ◌∷◌, ◌++◌, length, take, drop, Some}
 use Rattle.pgn_lexer.specs.declared.token.LexFault.{LexFault}
 use Rattle.pgn_lexer.specs.declared.partial_token.Mode.{Mode}
-use Rattle.pgn_lexer.specs.declared.partial_token.Mode.TheVariants.{LineStart, Outside, Failed}
+use Rattle.pgn_lexer.specs.declared.partial_token.Mode.TheVariants.{LineStart, Outside}
 use Rattle.pgn_lexer.specs.declared.partial_token.Step.{Step}
 use Rattle.pgn_lexer.specs.declared.partial_token.Step.TheVariants.{Used, Ends, EndsBefore, Fault}
 use Rattle.pgn_lexer.specs.declared.partial_token.Reached.{Reached}
@@ -12,6 +12,7 @@ use Rattle.pgn_lexer.specs.declared.partial_token.Reached.TheVariants as reached
 use Rattle.pgn_lexer.specs.Tokens.{Token, HasLength, EndsAt, is_run}
 use Rattle.pgn_lexer.specs.TokensOf.{Within, tokens_from}
 use Rattle.pgn_lexer.specs.PartialToken.{PartialToken, tokens_to_come, token_of, refusal, IsSound, HasNotFailed, pending, fault_met}
+use Rattle.pgn_lexer.specs.Standing.{fault_in_mode}
 
 -- the whole piece was used, and no token ends in it
 pub record RunsOut (place : ℕ) (old : PartialToken) (piece : List ℕ) (new : PartialToken) (used : ℕ) : Type 0 where
@@ -65,8 +66,8 @@ pub record RunsToToken (place : ℕ) (old : PartialToken) (piece : List ℕ) (t 
 pub record RunsToFault (place : ℕ) (old : PartialToken) (piece : List ℕ) (f : LexFault) (new : PartialToken) (used : ℕ) : Type 0 where
   pub within : used ≤ length piece
   pub sound : IsSound (place + used) new
-  pub fails : new.mode ≡ Failed f
-  pub stays : (g : LexFault) → old.mode ≡ Failed g → (used ≡ 0) × (f ≡ g) × (new ≡ old)
+  pub fails : fault_in_mode new.mode new.at ≡ Some f
+  pub stays : (g : LexFault) → fault_in_mode old.mode old.at ≡ Some g → (used ≡ 0) × (f ≡ g) × (new ≡ old)
   pub some : HasNotFailed old.mode → 0 < length piece
   pub comes : (s : List ℕ) → tokens_to_come place old (take used piece ++ s) ≡ refusal f ∷ []
 
@@ -102,4 +103,4 @@ abbrev pub reached_after : Step → Reached
 reached_after Used = reached.End
 reached_after (Ends form) = reached.Token form
 reached_after (EndsBefore form) = reached.Token form
-reached_after (Fault f) = reached.Fault
+reached_after Fault = reached.Fault

@@ -19,10 +19,10 @@ coming l s = tokens_to_come l.count l.held s
 abbrev pub waiting : Standing → ℕ
 waiting l = pending l.held
 
-abbrev pub fault_in_mode : Mode → Option LexFault
-fault_in_mode (Failed f) = Some f
-fault_in_mode _ = None
+abbrev pub fault_in_mode : Mode → ℕ → Option LexFault
+fault_in_mode (Failed reason) at = Some (record { at = at; reason = reason })
+fault_in_mode _ at = None
 
--- the error that it met
+-- the error that it met, at the place that is stored
 abbrev pub fault_of : Standing → Option LexFault
-fault_of l = fault_in_mode l.held.mode
+fault_of l = fault_in_mode l.held.mode l.held.at

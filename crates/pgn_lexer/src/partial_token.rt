@@ -52,7 +52,8 @@ pub(crate) enum Mode {
     /// Between the words of a comment that goes to the end of its line.
     Line,
     LineWord,
-    Failed(LexFault),
+    /// The text is rejected for this reason. The place of the fault is that of the partial token.
+    Failed(LexReason),
 }
 
 /// The kind of a token; its place and its text are in the partial token.
@@ -76,8 +77,8 @@ pub(crate) enum Step {
     Ends(TokenForm),
     /// It was not used: a token ends before it.
     EndsBefore(TokenForm),
-    /// The text is rejected.
-    Fault(LexFault),
+    /// The text is rejected, as the mode says.
+    Fault,
 }
 
 /// What is reached in a piece, or after the last one.
@@ -127,12 +128,13 @@ impl PartialToken {
     pub(crate) fn fault_met(&self) -> LexFault
         ensures { result ≡ fault_met self.now }
     {
-        match self.mode {
-            Mode::Failed(fault) => fault,
-            _ => LexFault {
-                at: self.at,
-                reason: LexReason::StrayByte,
-            },
+        let reason = match self.mode {
+            Mode::Failed(reason) => reason,
+            _ => LexReason::StrayByte,
+        };
+        LexFault {
+            at: self.at,
+            reason,
         }
     }
 

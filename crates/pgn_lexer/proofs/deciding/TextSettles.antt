@@ -9,7 +9,7 @@ use Rattle.pgn_lexer.specs.declared.partial_token.Step.TheVariants.{Used, Ends, 
 use Rattle.pgn_lexer.specs.Tokens.{Token}
 use Rattle.pgn_lexer.specs.TokensOf.{tokens_of}
 use Rattle.pgn_lexer.specs.Decided.{decided, known}
-use Rattle.pgn_lexer.specs.PartialToken.{PartialToken, tokens_to_come, token_of, refusal, IsSound, HasNotFailed, pending_in, pending}
+use Rattle.pgn_lexer.specs.PartialToken.{PartialToken, tokens_to_come, token_of, refusal, IsSound, HasNotFailed, pending_in, pending, fault_met}
 use Rattle.pgn_lexer.specs.ByteResult.{after_byte}
 use Rattle.pgn_lexer.specs.Laws.{IsPrefix, DecidedIsPrefix, KnownIsPrefix}
 use Rattle.pgn_lexer.proofs.stepping.StepGives.{StepGives, front_of}
@@ -68,8 +68,8 @@ settles (suc n) (b ∷ u) place h enough sound not_failed =
     by_step new (EndsBefore form) g on again =
         let less : pending new < pending h = g.less in
         after_token _ _ (token_of form new) (λ s. g.comes (u ++ s)) (again new (omega arith) g.sound g.not_failed)
-    by_step new (Fault f) g on again =
-        record { given = refusal f ∷ []; later = λ s. []; comes = λ s. g.comes (u ++ s); none = refl }
+    by_step new Fault g on again =
+        record { given = refusal (fault_met new) ∷ []; later = λ s. []; comes = λ s. g.comes (u ++ s); none = refl }
 
 -- before the first byte
 abbrev at_start : PartialToken

@@ -1,6 +1,6 @@
 -- Each byte, and the end of the text, gives the tokens that come.
 use Rattle.std.proofs.Common.{◌≡◌, ℕ, ◌+◌, ◌<◌, ◌≤◌, List, [], ◌∷◌, length, refl, sym, ap, subst, arith}
-use Rattle.std.specs.Prelude.{nat_lt, nat_le, ◌==◌, ◌-◌, ◌*◌}
+use Rattle.std.specs.Prelude.{nat_lt, nat_le, ◌==◌, ◌-◌, ◌*◌, Some}
 use Rattle.pgn_lexer.specs.declared.token.LexFault.{LexFault}
 use Rattle.pgn_lexer.specs.declared.partial_token.Mode.{Mode}
 use Rattle.pgn_lexer.specs.declared.partial_token.Mode.TheVariants as modes
@@ -12,6 +12,7 @@ use Rattle.pgn_lexer.specs.Tokens.{HasLength, symbol, glyph, word, end}
 use Rattle.pgn_lexer.specs.Spelling.{class, comment_class, string_class, symbol_at, word_at, suffix_at}
 use Rattle.pgn_lexer.specs.TokensOf.{in_glyph, onto, tokens_from}
 use Rattle.pgn_lexer.specs.PartialToken.{PartialToken, IsSound, HasNotFailed, tokens_to_come, kind_in, token_of, refusal, pending, spelling, fault_met}
+use Rattle.pgn_lexer.specs.Standing.{fault_in_mode}
 use Rattle.pgn_lexer.specs.ByteResult.{after_byte, after_byte_in, after_end, after_end_in, AfterByte, IsAfterEnd, glyph_of}
 use Rattle.pgn_lexer.specs.RunResult.{reached_after}
 use Rattle.pgn_lexer.proofs.stepping.StepGives.{Gives, front_of}
@@ -63,11 +64,11 @@ pub record ClosesToken (place : ℕ) (h : PartialToken) (form : TokenForm) (new 
   pub less : pending new < pending h
   pub comes : tokens_to_come place h [] ≡ token_of form new ∷ tokens_to_come place new []
 
-pub record ClosesFault (place : ℕ) (h : PartialToken) (fault : LexFault) (new : PartialToken) : Type 0 where
+pub record ClosesFault (place : ℕ) (h new : PartialToken) : Type 0 where
   pub sound : IsSound place new
-  pub fails : new.mode ≡ modes.Failed fault
-  pub stays : (g : LexFault) → h.mode ≡ modes.Failed g → (fault ≡ g) × (new ≡ h)
-  pub comes : tokens_to_come place h [] ≡ refusal fault ∷ []
+  pub fails : fault_in_mode new.mode new.at ≡ Some (fault_met new)
+  pub stays : (g : LexFault) → fault_in_mode h.mode h.at ≡ Some g → (fault_met new ≡ g) × (new ≡ h)
+  pub comes : tokens_to_come place h [] ≡ refusal (fault_met new) ∷ []
 
 pub record ClosesEnd (place : ℕ) (h new : PartialToken) : Type 0 where
   pub not_failed : HasNotFailed h.mode
@@ -77,7 +78,7 @@ pub record ClosesEnd (place : ℕ) (h new : PartialToken) : Type 0 where
 abbrev pub CloseGives : ℕ → PartialToken → PartialToken → Reached → Type 0
 CloseGives place h new reached.End = ClosesEnd place h new
 CloseGives place h new (reached.Token form) = ClosesToken place h form new
-CloseGives place h new reached.Fault = ClosesFault place h (fault_met new) new
+CloseGives place h new reached.Fault = ClosesFault place h new
 
 abbrev pub ClosedGives : ℕ → PartialToken → AfterByte → Type 0
 ClosedGives place h t = CloseGives place h t.held (reached_after t.step)

@@ -6,12 +6,12 @@ use Rattle.pgn_lexer.specs.declared.class.Single.TheVariants as singles
 use Rattle.pgn_lexer.specs.declared.partial_token.TokenForm.{TokenForm}
 use Rattle.pgn_lexer.specs.declared.partial_token.TokenForm.TheVariants as forms
 use Rattle.pgn_lexer.specs.Tokens.{Token, end}
-use Rattle.pgn_lexer.specs.PartialToken.{PartialToken, tokens_to_come, token_of, kind_in}
+use Rattle.pgn_lexer.specs.PartialToken.{PartialToken, tokens_to_come, token_of, kind_in, fault_met}
 use Rattle.pgn_lexer.specs.Scanned.{Scanned, token, fault}
 use Rattle.pgn_lexer.specs.Standing.{Standing, coming, waiting, fault_in_mode}
 use Rattle.pgn_lexer.specs.Stands.{FinishGivesToken, IsNext, HasLeft, Finishes}
 use Rattle.pgn_lexer.proofs.stepping.ByteGives.{ClosesToken, ClosesFault, ClosesEnd}
-use Rattle.pgn_lexer.proofs.stepping.StandsAfterCalls.{not_failed_fault, failed_mode, same_parts}
+use Rattle.pgn_lexer.proofs.stepping.StandsAfterCalls.{not_failed_fault, same_parts}
 
 -- a token of a form is no end
 gives_form : (form : TokenForm) (text : List ℕ) (old new : Standing) (t : Token) → coming old [] ≡ t ∷ coming new [] → waiting new < waiting old → new.count ≡ old.count
@@ -56,8 +56,8 @@ module _ (count : ℕ) (old new : PartialToken) where
         closes = (h.comes, ap (λ held. record { count = count; held = held }) h.same);
         lengths = tt;
         left = λ u given left. left ∙ ap (λ l. given ++ l) h.comes;
-        refused = ap (λ (held : PartialToken). fault_in_mode held.mode) h.same ∙ not_failed_fault old.mode h.not_failed;
-        stays = λ f failed. absurd (let none : fault_in_mode old.mode ≡ None = not_failed_fault old.mode h.not_failed in cc);
+        refused = ap (λ (held : PartialToken). fault_in_mode held.mode held.at) h.same ∙ not_failed_fault old h.not_failed;
+        stays = λ f failed. absurd (let none : fault_in_mode old.mode old.at ≡ None = not_failed_fault old h.not_failed in cc);
       }
 
   pub finishes_token : (form : TokenForm) (t : Token) → t.at ≡ new.at → t.kind ≡ kind_in form new.text → ClosesToken count old form new → Finishes before after (token t)
@@ -67,23 +67,23 @@ module _ (count : ℕ) (old new : PartialToken) where
         closes = gives_form form new.text before after (token_of form new) h.comes h.less refl;
         lengths = h.lengths;
         left = λ u given left. next_form form new.text u given after (token_of form new) (left ∙ ap (λ l. given ++ l) h.comes ∙ sym (append_assoc given (token_of form new ∷ []) (tokens_to_come count new [])));
-        refused = not_failed_fault new.mode h.not_failed;
-        stays = λ f failed. absurd (let none : fault_in_mode old.mode ≡ None = not_failed_fault old.mode h.fresh in cc);
+        refused = not_failed_fault new h.not_failed;
+        stays = λ f failed. absurd (let none : fault_in_mode old.mode old.at ≡ None = not_failed_fault old h.fresh in cc);
       })
 
-  pub finishes_fault : (f : LexFault) → ClosesFault count old f new → Finishes before after (fault f)
-  finishes_fault f h =
+  finishes_fault : ClosesFault count old new → Finishes before after (fault (fault_met new))
+  finishes_fault h =
       record {
         closes = h.comes;
         lengths = tt;
         left = λ u given left. left ∙ ap (λ l. given ++ l) h.comes;
-        refused = ap fault_in_mode h.fails;
-        stays = λ g failed. let same : (f ≡ g) × (new ≡ old) = h.stays g (failed_mode old.mode g failed) in (ap fault same.0, ap (λ held. record { count = count; held = held }) same.1);
+        refused = h.fails;
+        stays = λ g failed. let same : (fault_met new ≡ g) × (new ≡ old) = h.stays g failed in (ap fault same.0, ap (λ held. record { count = count; held = held }) same.1);
       }
 
   -- the fault that is told is the one that was met
-  pub finishes_told : (told f : LexFault) → told ≡ f → ClosesFault count old f new → Finishes before after (fault told)
-  finishes_told told f is h = subst (λ (g : LexFault). Finishes before after (fault g)) (sym is) (finishes_fault f h)
+  pub finishes_told : (told : LexFault) → told ≡ fault_met new → ClosesFault count old new → Finishes before after (fault told)
+  finishes_told told is h = subst (λ (f : LexFault). Finishes before after (fault f)) (sym is) (finishes_fault h)
 
 -- what is said of one view of a lexer, of the other
 pub finishes_of : (old old' new : Standing) (seen : Scanned) → old ≡ old' → Finishes old new seen → Finishes old' new seen

@@ -22,7 +22,7 @@ same_front f front same new Used g = record { sound = g.sound; not_failed = g.no
 same_front f front same new (Ends form) g = record { sound = g.sound; not_failed = g.not_failed; before = g.before; lengths = g.lengths; ends_at = g.ends_at; closed = g.closed; few = g.few; comes = λ s. same s ∙ g.comes s }
 same_front f front same new (EndsBefore form) g =
     record { sound = g.sound; not_failed = g.not_failed; before = g.before; lengths = g.lengths; ends_at = g.ends_at; runs = g.runs; few = g.few; less = g.less; within = g.within; settled = g.settled; comes = λ s. same s ∙ g.comes s; at_end = g.at_end }
-same_front f front same new (Fault fault) g = record { sound = g.sound; fails = g.fails; comes = λ s. same s ∙ g.comes s }
+same_front f front same new Fault g = record { sound = g.sound; fails = g.fails; comes = λ s. same s ∙ g.comes s }
 
 -- a text with no mark
 unmarked : (s : List ℕ) → has_mark s ≡ false → tokens_of s ≡ tokens_from 0 column s

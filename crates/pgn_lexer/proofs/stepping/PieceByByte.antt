@@ -1,11 +1,12 @@
 -- A run over a piece, byte by byte.
 use Rattle.std.proofs.Common.{◌≡◌, ℕ, zero, suc, ◌+◌, ◌*◌, ◌<◌, ◌≤◌, inl, inr, List, [], ◌∷◌, ◌++◌, length, get_or, take, drop, refl, sym, ap, subst, ◌∙◌, append_assoc, add-one, arith}
-use Rattle.std.specs.Prelude.{◌⊎◌, true, false, if◌then◌else◌}
+use Rattle.std.specs.Prelude.{◌⊎◌, true, false, if◌then◌else◌, Some}
 use Rattle.std.proofs.lemmas.Bool.{lt-ltb}
 use Rattle.std.proofs.lemmas.List.{take_all, take_more}
 use Rattle.std.proofs.Math.Seq.{drop-cons}
 use Rattle.pgn_lexer.specs.declared.token.LexFault.{LexFault}
 use Rattle.pgn_lexer.specs.declared.partial_token.Mode.{Mode}
+use Rattle.pgn_lexer.specs.declared.token.LexReason.{LexReason}
 use Rattle.pgn_lexer.specs.declared.token.LexReason.TheVariants.{StringTooLong, SymbolTooLong, WordTooLong}
 use Rattle.pgn_lexer.specs.declared.class.Class.{Class}
 use Rattle.pgn_lexer.specs.declared.class.CommentClass.{CommentClass}
@@ -20,7 +21,8 @@ use Rattle.pgn_lexer.specs.declared.partial_token.TokenForm.{TokenForm}
 use Rattle.pgn_lexer.specs.declared.partial_token.Step.{Step}
 use Rattle.pgn_lexer.specs.declared.partial_token.Step.TheVariants.{Used, Ends, EndsBefore, Fault}
 use Rattle.pgn_lexer.specs.Tokens.{EndsAt}
-use Rattle.pgn_lexer.specs.PartialToken.{PartialToken, tokens_to_come, kind_in, token_of, IsSound, HasNotFailed, pending, fault_of_mode, fault_met}
+use Rattle.pgn_lexer.specs.PartialToken.{PartialToken, tokens_to_come, kind_in, token_of, IsSound, HasNotFailed, pending, fault_met}
+use Rattle.pgn_lexer.specs.Standing.{fault_in_mode}
 use Rattle.pgn_lexer.specs.ByteResult.{begin, begin_line, brace, word, string, fails, grown, if_room, into, symbol, after_byte, after_byte_in, IsAfterByte}
 use Rattle.pgn_lexer.specs.RunResult.{IsOutside, Ran, RunsOn, StoodAt, RunGives, RunsToToken, RunsToFault, used_after, reached_after}
 use Rattle.pgn_lexer.specs.declared.partial_token.Reached.TheVariants as reached
@@ -59,8 +61,9 @@ ran_all place piece i h new used all goes old ran =
       comes = λ s. ap (λ l. tokens_to_come place old (l ++ s)) (sym (take_all used piece (omega (arith, all)))) ∙ r.comes s;
     }
 
-going_on : (m : Mode) (f : LexFault) → HasNotFailed m → m ≡ Failed f → ⊥
-going_on m f not_failed e = subst (λ m. HasNotFailed m) e not_failed
+going_on : (m : Mode) (at : ℕ) (f : LexFault) → HasNotFailed m → fault_in_mode m at ≡ Some f → ⊥
+going_on (Failed reason) at f not_failed e = absurd not_failed
+going_on _ at f not_failed e = absurd (cc)
 
 module _ (place : ℕ) (old : PartialToken) (piece : List ℕ) (h : PartialToken) (i b : ℕ) (here : i < length piece) (at_b : get_or piece i 0 ≡ b) (ran : Ran place old piece h i) where
   -- with the byte
@@ -137,24 +140,23 @@ module _ (place : ℕ) (old : PartialToken) (piece : List ℕ) (h : PartialToken
         });
       }
 
-  pub ran_fails : (f : LexFault) (new : PartialToken) → IsAfterByte (after_byte (place + i) h b) new (Fault f) → RunsToFault place old piece (fault_met new) new (i + 1)
-  ran_fails f new t =
-      let g : Fails (front_of (place + i) h b) f new = takes_gives (place + i) h b new (Fault f) ran.sound t in
-      subst (λ f. RunsToFault place old piece f new (i + 1)) (sym (ap (λ m. fault_of_mode m new.at) g.fails))
-      (record {
+  pub ran_fails : (new : PartialToken) → IsAfterByte (after_byte (place + i) h b) new Fault → RunsToFault place old piece (fault_met new) new (i + 1)
+  ran_fails new t =
+      let g : Fails (front_of (place + i) h b) new = takes_gives (place + i) h b new Fault ran.sound t in
+      record {
         within = omega arith;
         sound = subst (λ p. IsSound p new) next_place g.sound;
         fails = g.fails;
-        stays = λ f' e. absurd (going_on old.mode f' ran.fresh e);
+        stays = λ f e. absurd (going_on old.mode old.at f ran.fresh e);
         some = λ _. omega arith;
         comes = λ s. longer s ∙ g.comes s;
-      })
+      }
 
   pub ran_stops : (answer : Step) (new : PartialToken) → (answer ≡ Used → ⊥) → IsAfterByte (after_byte (place + i) h b) new answer → RunGives place old piece new (used_after answer i) (reached_after answer)
   ran_stops Used new other t = absurd (other refl)
   ran_stops (Ends form) new other t = ran_ends form new t
   ran_stops (EndsBefore form) new other t = ran_ends_before form new t
-  ran_stops (Fault f) new other t = ran_fails f new t
+  ran_stops Fault new other t = ran_fails new t
 
 -- a byte in a symbol
 pub takes_symbol : (place b : ℕ) (h new : PartialToken) (answer : Step) → h.mode ≡ Symbol → IsAfterByte (symbol h b) new answer → IsAfterByte (after_byte place h b) new answer
@@ -192,8 +194,8 @@ unfolding after_byte
 takes_outside place b h new answer c outside e same t = subst (λ x. IsAfterByte x new answer) (sym (taken_outside h.mode place h.at b h.text c outside e same)) t
 
 -- no rejection was met, in any other mode
-pub unless_failed : (m : Mode) → ((f : LexFault) → m ≡ Failed f → ⊥) → HasNotFailed m
-unless_failed (Failed f) other = other f refl
+pub unless_failed : (m : Mode) → ((reason : LexReason) → m ≡ Failed reason → ⊥) → HasNotFailed m
+unless_failed (Failed reason) other = other reason refl
 unless_failed _ other = tt
 
 pub in_mode : (m n : Mode) → HasNotFailed n → m ≡ n → HasNotFailed m

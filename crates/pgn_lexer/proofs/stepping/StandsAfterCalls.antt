@@ -50,63 +50,17 @@ cut : (used : ℕ) (piece s : List ℕ) → piece ++ s ≡ take used piece ++ (d
 cut used piece s = ap (λ l. l ++ s) (sym (take-append-drop used piece)) ∙ append_assoc (take used piece) (drop used piece) s
 
 -- no rejection was met
-pub not_failed_fault : (m : Mode) → HasNotFailed m → fault_in_mode m ≡ None
-not_failed_fault modes.Start not_failed = refl
-not_failed_fault modes.AfterEf not_failed = refl
-not_failed_fault modes.AfterEfBb not_failed = refl
-not_failed_fault modes.LineStart not_failed = refl
-not_failed_fault modes.Outside not_failed = refl
-not_failed_fault modes.EscapeLine not_failed = refl
-not_failed_fault modes.Symbol not_failed = refl
-not_failed_fault modes.Str not_failed = refl
-not_failed_fault modes.AfterBackslash not_failed = refl
-not_failed_fault modes.Dollar not_failed = refl
-not_failed_fault (modes.Glyph n) not_failed = refl
-not_failed_fault (modes.Suffix run) not_failed = refl
-not_failed_fault modes.Brace not_failed = refl
-not_failed_fault modes.BraceWord not_failed = refl
-not_failed_fault modes.Line not_failed = refl
-not_failed_fault modes.LineWord not_failed = refl
-not_failed_fault (modes.Failed f) not_failed = absurd not_failed
+no_fault_in_mode : (m : Mode) (at : ℕ) → HasNotFailed m → fault_in_mode m at ≡ None
+no_fault_in_mode (modes.Failed reason) at not_failed = absurd not_failed
+no_fault_in_mode _ at not_failed = refl
 
-pub failed_mode : (m : Mode) (f : LexFault) → fault_in_mode m ≡ Some f → m ≡ modes.Failed f
-failed_mode (modes.Failed g) f e = cc
-failed_mode modes.Start f e = cc
-failed_mode modes.AfterEf f e = cc
-failed_mode modes.AfterEfBb f e = cc
-failed_mode modes.LineStart f e = cc
-failed_mode modes.Outside f e = cc
-failed_mode modes.EscapeLine f e = cc
-failed_mode modes.Symbol f e = cc
-failed_mode modes.Str f e = cc
-failed_mode modes.AfterBackslash f e = cc
-failed_mode modes.Dollar f e = cc
-failed_mode (modes.Glyph n) f e = cc
-failed_mode (modes.Suffix run) f e = cc
-failed_mode modes.Brace f e = cc
-failed_mode modes.BraceWord f e = cc
-failed_mode modes.Line f e = cc
-failed_mode modes.LineWord f e = cc
+pub not_failed_fault : (h : PartialToken) → HasNotFailed h.mode → fault_in_mode h.mode h.at ≡ None
+not_failed_fault h not_failed = no_fault_in_mode h.mode h.at not_failed
 
 -- a mode is failed, or not
-failed_or_not : (m : Mode) → HasNotFailed m ⊎ ((f : LexFault) × (m ≡ modes.Failed f))
-failed_or_not (modes.Failed f) = inr (f, refl)
-failed_or_not modes.Start = inl tt
-failed_or_not modes.AfterEf = inl tt
-failed_or_not modes.AfterEfBb = inl tt
-failed_or_not modes.LineStart = inl tt
-failed_or_not modes.Outside = inl tt
-failed_or_not modes.EscapeLine = inl tt
-failed_or_not modes.Symbol = inl tt
-failed_or_not modes.Str = inl tt
-failed_or_not modes.AfterBackslash = inl tt
-failed_or_not modes.Dollar = inl tt
-failed_or_not (modes.Glyph n) = inl tt
-failed_or_not (modes.Suffix run) = inl tt
-failed_or_not modes.Brace = inl tt
-failed_or_not modes.BraceWord = inl tt
-failed_or_not modes.Line = inl tt
-failed_or_not modes.LineWord = inl tt
+failed_or_not : (m : Mode) (at : ℕ) → HasNotFailed m ⊎ ((f : LexFault) × (fault_in_mode m at ≡ Some f))
+failed_or_not (modes.Failed reason) at = inr (record { at = at; reason = reason }, refl)
+failed_or_not _ at = inl tt
 
 -- tokens before a place are before a later one
 before_more : (m n : ℕ) (ts : List Token) → m ≤ n → AllByRecursion (λ t. t.at < m) ts → AllByRecursion (λ t. t.at < n) ts
@@ -143,7 +97,7 @@ module _ (count : ℕ) (old new : PartialToken) (piece : List ℕ) (used : ℕ) 
         reads = (h.all, h.comes);
         lengths = tt;
         ends = tt;
-        refused = not_failed_fault new.mode h.not_failed;
+        refused = not_failed_fault new h.not_failed;
         empty = λ none. (same none, inl refl);
         stays = λ f failed. absurd (stuck f failed);
         carries = λ u b given stands starts.
@@ -162,7 +116,7 @@ module _ (count : ℕ) (old new : PartialToken) (piece : List ℕ) (used : ℕ) 
           ap (λ n. record { count = n; held = new }) here ∙ ap (λ held. record { count = count; held = held }) (h.empty none)
 
       stuck : (f : LexFault) → fault_of from_standing ≡ Some f → ⊥
-      stuck f failed = let none : fault_of from_standing ≡ None = not_failed_fault old.mode h.fresh in cc
+      stuck f failed = let none : fault_of from_standing ≡ None = not_failed_fault old h.fresh in cc
 
   pub scans_fault : (f : LexFault) → RunsToFault count old piece f new used → Scans from_standing piece to_standing used (fault f)
   scans_fault f h =
@@ -172,9 +126,9 @@ module _ (count : ℕ) (old new : PartialToken) (piece : List ℕ) (used : ℕ) 
         reads = whole;
         lengths = tt;
         ends = tt;
-        refused = ap fault_in_mode h.fails;
-        empty = λ none. nothing none (failed_or_not old.mode);
-        stays = λ g failed. stuck g (h.stays g (failed_mode old.mode g failed));
+        refused = h.fails;
+        empty = λ none. nothing none (failed_or_not old.mode old.at);
+        stays = λ g failed. stuck g (h.stays g failed);
         carries = λ u b given stands starts. (
           λ s goes. comes u b given stands s (follows_piece b piece s starts goes),
           λ some. known_decides (u ++ piece) given (refusal f ∷ [])
@@ -194,10 +148,10 @@ module _ (count : ℕ) (old new : PartialToken) (piece : List ℕ) (used : ℕ) 
           let here : count + used ≡ count = omega (arith, same.0) in
           (same.0, ap fault same.1, ap (λ n. record { count = n; held = new }) here ∙ ap (λ held. record { count = count; held = held }) same.2)
 
-      nothing : length piece ≡ 0 → HasNotFailed old.mode ⊎ ((g : LexFault) × (old.mode ≡ modes.Failed g))
+      nothing : length piece ≡ 0 → HasNotFailed old.mode ⊎ ((g : LexFault) × (fault_of from_standing ≡ Some g))
           → (to_standing ≡ from_standing) × ((fault f ≡ more) ⊎ ((g : LexFault) × (fault_of from_standing ≡ Some g)))
       nothing none (inl not_failed) = let some : 0 < length piece = h.some not_failed in absurd (omega arith)
-      nothing none (inr failed) = ((stuck failed.0 (h.stays failed.0 failed.1)).2, inr (failed.0, ap fault_in_mode failed.1))
+      nothing none (inr failed) = ((stuck failed.0 (h.stays failed.0 failed.1)).2, inr failed)
 
 abbrev ahead : ℕ → PartialToken → Standing
 ahead count old = record { count = count; held = old }
@@ -290,7 +244,7 @@ module _ (count : ℕ) (old new : PartialToken) (piece : List ℕ) (used : ℕ) 
     carries_token (inr e) = ahead_of_byte e
 
   no_fault : (f : LexFault) → fault_of (ahead count old) ≡ Some f → ⊥
-  no_fault f failed = let none : fault_of (ahead count old) ≡ None = not_failed_fault old.mode h.fresh in cc
+  no_fault f failed = let none : fault_of (ahead count old) ≡ None = not_failed_fault old h.fresh in cc
 
   pub scans_token : Scans (ahead count old) piece (behind count new used) used (token t)
   scans_token =
@@ -300,7 +254,7 @@ module _ (count : ℕ) (old new : PartialToken) (piece : List ℕ) (used : ℕ) 
         reads = reads_token h.ends;
         lengths = h.lengths;
         ends = h.ends_at;
-        refused = not_failed_fault new.mode h.not_failed;
+        refused = not_failed_fault new h.not_failed;
         empty = λ none. let some : 0 < length piece = h.some in absurd (omega arith);
         stays = λ f failed. absurd (no_fault f failed);
         carries = λ u b given stands starts. carries_token u b given stands starts h.ends;

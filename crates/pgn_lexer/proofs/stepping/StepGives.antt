@@ -1,13 +1,13 @@
 -- What a step must give, of the tokens that come.
 use Rattle.std.proofs.Common.{◌≡◌, ℕ, ◌+◌, ◌<◌, ◌≤◌, List, [], ◌∷◌, true, false}
-use Rattle.pgn_lexer.specs.declared.token.LexFault.{LexFault}
-use Rattle.pgn_lexer.specs.declared.partial_token.Mode.TheVariants.{Failed}
+use Rattle.std.specs.Prelude.{Some}
 use Rattle.pgn_lexer.specs.declared.partial_token.TokenForm.{TokenForm}
 use Rattle.pgn_lexer.specs.declared.partial_token.Step.{Step}
 use Rattle.pgn_lexer.specs.declared.partial_token.Step.TheVariants.{Used, Ends, EndsBefore, Fault}
 use Rattle.pgn_lexer.specs.Tokens.{Token, HasLength, EndsAt, is_run}
 use Rattle.pgn_lexer.specs.TokensOf.{Within, tokens_from}
-use Rattle.pgn_lexer.specs.PartialToken.{PartialToken, tokens_to_come, kind_in, token_of, refusal, IsSound, HasNotFailed, pending}
+use Rattle.pgn_lexer.specs.PartialToken.{PartialToken, tokens_to_come, kind_in, token_of, refusal, IsSound, HasNotFailed, pending, fault_met}
+use Rattle.pgn_lexer.specs.Standing.{fault_in_mode}
 use Rattle.pgn_lexer.specs.ByteResult.{AfterByte}
 
 -- What comes from a byte b at the place: `front s` where s follows b, and `ended` where the text
@@ -52,16 +52,16 @@ pub record EndsAhead (f : Front) (form : TokenForm) (new : PartialToken) : Type 
   pub at_end : f.ended ≡ token_of form new ∷ tokens_to_come f.place new []
 
 -- the byte is rejected
-pub record Fails (f : Front) (fault : LexFault) (new : PartialToken) : Type 0 where
+pub record Fails (f : Front) (new : PartialToken) : Type 0 where
   pub sound : IsSound (f.place + 1) new
-  pub fails : new.mode ≡ Failed fault
-  pub comes : (s : List ℕ) → f.front s ≡ refusal fault ∷ []
+  pub fails : fault_in_mode new.mode new.at ≡ Some (fault_met new)
+  pub comes : (s : List ℕ) → f.front s ≡ refusal (fault_met new) ∷ []
 
 abbrev pub StepGives : Front → PartialToken → Step → Type 0
 StepGives f new Used = Uses f new
 StepGives f new (Ends form) = EndsIn f form new
 StepGives f new (EndsBefore form) = EndsAhead f form new
-StepGives f new (Fault fault) = Fails f fault new
+StepGives f new Fault = Fails f new
 
 abbrev pub Gives : Front → AfterByte → Type 0
 Gives f t = StepGives f t.held t.step

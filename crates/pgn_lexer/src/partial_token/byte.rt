@@ -8,7 +8,7 @@ use crate::class::{
     is_line_end, is_suffix, string_class_of,
 };
 use crate::partial_token::{Mode, PartialToken, Step, SuffixRun, TokenForm, glyph_of};
-use crate::token::{LexFault, LexReason};
+use crate::token::LexReason;
 
 impl PartialToken {
     ghost use Rattle.pgn_lexer.specs.Spelling as spelling;
@@ -37,17 +37,16 @@ impl PartialToken {
             Mode::BraceWord => self.word(Mode::Brace, byte),
             Mode::Line => self.line(byte, place),
             Mode::LineWord => self.word(Mode::Line, byte),
-            Mode::Failed(fault) => Step::Fault(fault),
+            Mode::Failed(_) => Step::Fault,
         }
     }
 
     fn fail(&mut self, at: u64, reason: LexReason) -> Step
         ensures { IsAfterByte (after.fails self.old at reason) self.new result }
     {
-        let fault = LexFault { at, reason };
         self.at = at;
-        self.mode = Mode::Failed(fault);
-        Step::Fault(fault)
+        self.mode = Mode::Failed(reason);
+        Step::Fault
     }
 
     fn start(&mut self, byte: u8, place: u64) -> Step

@@ -4,7 +4,7 @@ ghost use Rattle.pgn_lexer.specs.ByteResult as after;
 ghost use Rattle.pgn_lexer.specs.declared.partial_token.Step.TheVariants.{EndsBefore};
 
 use crate::partial_token::{Mode, PartialToken, Reached, TokenForm, glyph_of};
-use crate::token::{LexFault, LexReason};
+use crate::token::LexReason;
 
 impl PartialToken {
     ghost use Rattle.pgn_lexer.specs.ByteResult.{IsAfterEnd};
@@ -41,9 +41,8 @@ impl PartialToken {
     fn fail_at_end(&mut self, at: u64, reason: LexReason) -> Reached
         ensures { IsAfterEnd (after.fails self.old at reason) self.new result }
     {
-        let fault = LexFault { at, reason };
         self.at = at;
-        self.mode = Mode::Failed(fault);
+        self.mode = Mode::Failed(reason);
         Reached::Fault
     }
 

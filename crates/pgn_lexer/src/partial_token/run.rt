@@ -208,6 +208,6 @@ fn ended(step: Step, used: usize) -> (usize, Reached)
         Step::Used => (used + 1, Reached::End),
         Step::Ends(form) => (used + 1, Reached::Token(form)),
         Step::EndsBefore(form) => (used, Reached::Token(form)),
-        Step::Fault(_) => (used + 1, Reached::Fault),
+        Step::Fault => (used + 1, Reached::Fault),
     }
 }

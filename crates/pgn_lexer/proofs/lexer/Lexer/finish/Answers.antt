@@ -15,7 +15,7 @@ invariant_of-self-in-Token c =
 
 pub invariant_of-self-in-Fault : goal.invariant_of-self-in-Fault
 invariant_of-self-in-Fault c =
-    let h : ClosesFault _ _ _ _ = closes_gives _ _ _ _ c.self.invariant c.in-Fault.ensures in h.sound
+    let h : ClosesFault _ _ _ = closes_gives _ _ _ _ c.self.invariant c.in-Fault.ensures in h.sound
 
 pub returns-in-End : goal.returns-in-End
 returns-in-End c =
@@ -29,5 +29,5 @@ returns-in-Token c =
 
 pub returns-in-Fault : goal.returns-in-Fault
 returns-in-Fault c =
-    let h : ClosesFault _ _ _ _ = closes_gives _ _ _ _ c.self.invariant c.in-Fault.ensures in
-    ((refl, λ _. tt, finishes_of _ _ _ _ c.self.view_is (finishes_told _ _ _ _ _ c.fault_met.ensures h)), record { after = tt })
+    let h : ClosesFault _ _ _ = closes_gives _ _ _ _ c.self.invariant c.in-Fault.ensures in
+    ((refl, λ _. tt, finishes_of _ _ _ _ c.self.view_is (finishes_told _ _ _ _ c.fault_met.ensures h)), record { after = tt })
