@@ -93,7 +93,8 @@ impl PartialToken {
         (used, Reached::End)
     }
 
-    /// Reads on in a string.
+    /// Reads on in a string. The bytes that the buffer has room for are put into it with no test of
+    /// its length.
     #[inline(always)]
     fn run_string(&mut self, piece: &[u8], from: usize, place: u64) -> (usize, Reached)
         requires room { place + length piece.now ≤ 2 ^ 62 }
@@ -101,16 +102,12 @@ impl PartialToken {
         requires string { self.old.mode ≡ Mode.Str }
         ensures { RunsOn place piece.now from self.old self.new result.0 result.1 }
     {
+        let end = from + (piece.len() - from).min(255 - self.buffer.len());
         let mut used = from;
-        while used < piece.len() {
+        while used < end {
             let byte = piece[used];
             match string_class_of(byte) {
-                StringClass::Plain => {
-                    if self.buffer.len() == 255 {
-                        return self.run_on(piece, used, place);
-                    }
-                    self.buffer.push(byte);
-                }
+                StringClass::Plain => self.buffer.push(byte),
                 StringClass::Quote => {
                     self.mode = Mode::Outside;
                     return (used + 1, Reached::Token(TokenForm::Str));
@@ -118,6 +115,9 @@ impl PartialToken {
                 _ => return self.run_on(piece, used, place),
             }
             used += 1;
+        }
+        if used < piece.len() {
+            return self.run_on(piece, used, place);
         }
         (used, Reached::End)
     }

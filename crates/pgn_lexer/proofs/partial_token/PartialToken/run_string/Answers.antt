@@ -1,11 +1,8 @@
-use Rattle.std.proofs.Common.{◌≡◌, ◌<◌, [], ◌∷◌, ◌++◌, length, get_or, refl, sym, ap, ◌∙◌, arith}
+use Rattle.std.proofs.Common.{◌≡◌, ◌+◌, [], ◌∷◌, ◌++◌, length, get_or, refl, sym, ap, ◌∙◌, arith, length-append}
 use Rattle.pgn_lexer.specs.declared.partial_token.Mode.TheVariants.{Outside}
 use Rattle.pgn_lexer.specs.PartialToken.{PartialToken}
 use Rattle.pgn_lexer.proofs.stepping.PieceByByte.{ran_all, ran_uses, ran_ends, takes_plain, takes_quote}
 use Rattle.pgn_lexer.proofs.partial_token.PartialToken.run_string.Goals as goal
-
-pub returns-then-len-eq255 : goal.returns-then-len-eq255
-returns-then-len-eq255 c = λ old ran. c.run_on.ensures old (c.loop-used.invariant.ran old ran)
 
 pub returns-in-Quote : goal.returns-in-Quote
 returns-in-Quote c = λ old ran.
@@ -14,21 +11,26 @@ returns-in-Quote c = λ old ran.
     (takes_quote _ _ _ _ here.string (sym c.string_class_of.ensures ∙ c.in-Quote.is) (ap (λ (h : PartialToken). record { mode = Outside; at = h.at; text = h.text }) c.self-in-Quote.view_is))
 
 pub returns-in_default : goal.returns-in_default
-returns-in_default c = λ old ran. c.run_on-in_default.ensures old (c.loop-used.invariant.ran old ran)
-
-pub returns : goal.returns
-returns c = ran_all _ c.args.piece.now _ _ _ _ (omega arith) c.loop-used.invariant.ran
+returns-in_default c = λ old ran. c.run_on.ensures old (c.loop-used.invariant.ran old ran)
 
 pub loop-used-preserved : goal.loop-used-preserved
 loop-used-preserved c =
     let here = c.loop-used.invariant in
-    let same : length c.self.inside.buffer ≡ length c.loop-used.self.text = ap (λ (h : PartialToken). length h.text) c.self.view_is in
-    let room : length c.loop-used.self.text < 255 = omega (arith, same, c.len.ensures.length, c.len.ensures.room, c.if-len-eq255.false) in
+    let same : length c.self-in-Plain.inside.buffer ≡ length c.loop-used.self.text = ap (λ (h : PartialToken). length h.text) c.self-in-Plain.view_is in
+    let grown : length c.push.new.self ≡ length c.self-in-Plain.inside.buffer + 1 = rw c.push.ensures (length-append _ _) in
     record {
       within = omega arith;
-      string = ap (λ (h : PartialToken). h.mode) c.self.view_is ∙ here.string;
+      piece = here.piece;
+      room = omega (arith, grown, same);
+      string = ap (λ (h : PartialToken). h.mode) c.self-in-Plain.view_is ∙ here.string;
       ran = λ old ran. ran_uses _ old c.args.piece.now _ c.loop-used.used _ (omega arith) refl (here.ran old ran) _
-          (takes_plain _ _ _ _ here.string (sym c.string_class_of.ensures ∙ c.in-Plain.is) room
-          (ap (λ text. record { mode = c.self.inside.mode; at = c.self.inside.at; text = text }) c.push.ensures
-          ∙ ap (λ (h : PartialToken). record { mode = h.mode; at = h.at; text = h.text ++ get_or c.args.piece.now c.loop-used.used 0 ∷ [] }) c.self.view_is));
+          (takes_plain _ _ _ _ here.string (sym c.string_class_of.ensures ∙ c.in-Plain.is) (omega arith)
+          (ap (λ text. record { mode = c.self-in-Plain.inside.mode; at = c.self-in-Plain.inside.at; text = text }) c.push.ensures
+          ∙ ap (λ (h : PartialToken). record { mode = h.mode; at = h.at; text = h.text ++ get_or c.args.piece.now c.loop-used.used 0 ∷ [] }) c.self-in-Plain.view_is));
     }
+
+pub returns-then-used-piece : goal.returns-then-used-piece
+returns-then-used-piece c = λ old ran. c.run_on-then-used-piece.ensures old (c.loop-used.invariant.ran old ran)
+
+pub returns : goal.returns
+returns c = ran_all _ c.args.piece.now _ _ _ _ (omega arith) c.loop-used.invariant.ran

@@ -1,4 +1,4 @@
-use Rattle.std.proofs.Common.{◌≡◌, ◌≤◌, ◌-◌, length}
+use Rattle.std.proofs.Common.{◌≡◌, ◌+◌, ◌≤◌, ◌-◌, length}
 use Rattle.pgn_lexer.specs.declared.partial_token.Mode.TheVariants.{Str}
 use Rattle.pgn_lexer.specs.PartialToken.{PartialToken}
 use Rattle.pgn_lexer.specs.RunResult.{Ran}
@@ -6,10 +6,12 @@ use Rattle.pgn_lexer.proofs.partial_token.PartialToken.run_string.Given as goal
 
 abbrev pub invariant-loop-used : goal.invariant-loop-used
 invariant-loop-used l = record {
-  within : l.used ≤ length l.piece;
+  within : l.used ≤ l.end;
+  piece : l.end ≤ length l.piece;
+  room : length l.self.text + (l.end - l.used) ≤ 255;
   string : l.self.mode ≡ Str;
   ran : (old : PartialToken) → Ran l.place old l.piece l.fn.self l.from → Ran l.place old l.piece l.self l.used;
 }
 
 abbrev pub decreases-loop-used : goal.decreases-loop-used
-decreases-loop-used l = length l.piece - l.used
+decreases-loop-used l = l.end - l.used
