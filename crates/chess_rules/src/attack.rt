@@ -1,23 +1,23 @@
 //! Which squares are attacked, seen from them outward.
 
-ghost use Rattle.std.specs.Prelude.{◌≡◌, ◌<◌, IsTrue, is_some, false};
+ghost use Rattle.std.specs.Prelude.{◌≡◌, ◌<◌, ◌&&◌, IsTrue, false};
 ghost use Rattle.std.specs.List.{list_any};
 ghost use Rattle.chess_rules.specs.Square as square;
 ghost use Rattle.chess_rules.specs.Square.{squares};
-ghost use Rattle.chess_rules.specs.Board.{at};
+ghost use Rattle.chess_rules.specs.Board.{cell_of};
 ghost use Rattle.chess_rules.specs.Position.{one_king};
 ghost use Rattle.chess_rules.specs.Attacks as spec;
 ghost use Rattle.chess_rules.specs.Walk as walk;
 ghost use Rattle.chess_rules.specs.Masks as masks;
-ghost use Rattle.chess_rules.specs.Words.{Places};
+ghost use Rattle.chess_rules.specs.Words.{Places, has};
 ghost use Rattle.chess_rules.specs.declared.piece.Kind.TheVariants.{Pawn};
 
 use crate::board::Board;
 use crate::direction::{DIRECTIONS, Direction};
 use crate::piece::{Colour, Kind};
 use crate::square::Square;
-use crate::tables::{ADJACENT, BLACK_PAWNS, DIAGONALS, JUMPS_TO, LINES, WHITE_PAWNS};
-use crate::word::{has, highest, lowest, single};
+use crate::tables::{ADJACENT, BETWEEN, BLACK_PAWNS, DIAGONALS, JUMPS_TO, LINES, WHITE_PAWNS};
+use crate::word::{has, highest, lowest, single, with};
 
 // The first occupied square on the way from `from`.
 pub(crate) fn first_on(board: &Board, direction: Direction, from: Square) -> Option<Square>
@@ -48,7 +48,7 @@ fn first_piece(board: &Board, direction: Direction, target: Square) -> u64
 }
 
 // The first occupied squares on the eight ways from the target.
-pub(crate) fn first_pieces(board: &Board, target: Square) -> u64
+fn first_pieces(board: &Board, target: Square) -> u64
     ensures { Places result (walk.is_first board.now target) }
 {
     first_piece(board, DIRECTIONS[0], target)
@@ -103,19 +103,36 @@ fn reaches(kind: Kind, colour: Colour, from: Square, to: Square) -> bool
     has(reaching(kind, colour, to), from.index())
 }
 
-// Whether all squares strictly between are empty; the two are on one rank, file or diagonal, and
-// the first is occupied.
-pub(crate) fn is_clear(board: &Board, from: Square, to: Square) -> bool
-    requires aligned { IsTrue (walk.is_aligned from to) }
-    requires occupied { IsTrue (is_some (at board.now from)) }
-    ensures { result ≡ spec.is_clear board.now from to }
+// The squares strictly between the two; none if they are not on one rank, file or diagonal.
+fn between(from: Square, to: Square) -> u64
+    ensures { Places result (λ s. square.strictly_between from s to) }
 {
     from.recall_invariant();
     to.recall_invariant();
-    match first_on(board, Direction::between(to, from), to) {
-        None => false,
-        Some(origin) => origin.is(from),
+    BETWEEN[64 * from.index() + to.index()]
+}
+
+// Whether all squares strictly between are empty.
+pub(crate) fn is_clear(board: &Board, from: Square, to: Square) -> bool
+    ensures { result ≡ spec.is_clear board.now from to }
+{
+    between(from, to) & board.occupied() == 0
+}
+
+// The squares of the set from which the way to the target is clear: all squares between are empty.
+pub(crate) fn clear_among(board: &Board, set: u64, target: Square) -> u64
+    ensures { Places result (λ s. has set (cell_of s) && spec.is_clear board.now s target) }
+{
+    let mut clear = set;
+    let mut left = set;
+    while left != 0 {
+        let place = lowest(left);
+        left = with(left, place, false);
+        if !is_clear(board, Square::nth(place), target) {
+            clear = with(clear, place, false);
+        }
     }
+    clear
 }
 
 // Whether a piece of the kind and colour on `from` attacks `to`.
@@ -127,7 +144,6 @@ pub(crate) fn piece_attacks(
     from: Square,
     to: Square,
 ) -> bool
-    requires { IsTrue (is_some (at board.now from)) }
     ensures { result ≡ spec.kind_attacks kind colour board.now from to }
 {
     if !reaches(kind, colour, from, to) {
@@ -244,16 +260,32 @@ pub(crate) fn has_sliders(board: &Board, by: Colour, target: Square) -> bool
     sliders(board, by, target) != 0
 }
 
+// Whether a rook, a bishop or a queen of the colour attacks the square.
+//
+// Mostly there is one at most that could. No loop goes over more of them: a test of legality whose
+// result nobody reads is dropped only if the compiler sees that it ends.
+fn has_clear_slider(board: &Board, by: Colour, target: Square) -> bool
+    ensures { result ≡ list_any (λ s. masks.slides board.now by target s
+        && spec.is_clear board.now s target) squares }
+{
+    target.recall_invariant();
+    let sliders = sliders(board, by, target);
+    if sliders == 0 {
+        return false;
+    }
+    let place = lowest(sliders);
+    if is_clear(board, Square::nth(place), target) {
+        return true;
+    }
+    let others = with(sliders, place, false);
+    others != 0 && others & first_pieces(board, target) != 0
+}
+
 // Whether a piece of the colour attacks the square.
 pub(crate) fn is_attacked(board: &Board, by: Colour, target: Square) -> bool
     ensures { result ≡ spec.is_attacked board.now by target }
 {
-    target.recall_invariant();
-    if near_attackers(board, by, target) != 0 {
-        return true;
-    }
-    let sliders = sliders(board, by, target);
-    sliders != 0 && sliders & first_pieces(board, target) != 0
+    near_attackers(board, by, target) != 0 || has_clear_slider(board, by, target)
 }
 
 // Whether the colour's one king, on that square, is attacked.

@@ -6,7 +6,7 @@ ghost use Rattle.arrayvec.specs.ArrayVec.{array_vec_len};
 ghost use Rattle.chess_rules.specs.Candidate.{candidates};
 ghost use Rattle.chess_rules.specs.Words.{members};
 
-use crate::attack::{aligned, first_pieces, knights_to};
+use crate::attack::{aligned, clear_among, knights_to};
 use crate::piece::Kind;
 use crate::position::Position;
 use crate::square::Square;
@@ -28,7 +28,7 @@ pub fn origins(position: &Position, kind: Kind, target: Square) -> ArrayVec<Squa
     let own = position.board().pieces(position.side(), kind);
     match kind {
         Kind::Knight => squares_of(own & knights_to(target)),
-        _ => squares_of(own & first_pieces(position.board(), target)),
+        _ => squares_of(clear_among(position.board(), own & aligned(target), target)),
     }
 }
 

@@ -193,8 +193,7 @@ fn is_king_move(position: &Position, mv: &Move, end: u8) -> bool
 
 // Whether king and rook are on their squares, and those between are empty.
 fn stand_ready(position: &Position, rook: u8) -> bool
-    requires below { rook < 8 }
-    requires apart { ¬ (rook ≡ 4) }
+    requires { rook < 8 }
     ensures { result ≡ spec.stand_ready position.now rook }
 {
     let board = position.board();

@@ -73,7 +73,7 @@ no_slide : (c : Colour) (cell : Option Piece) (a b : Board) (s t : Square) → s
 no_slide c cell a b s t none = on_board a ∙ sym (on_board b)
   where
     on_board : (d : Board) → (has_colour c cell && cell_attacks cell d s t) ≡ (near_with c cell s t || false)
-    on_board d = by_cell c cell d s t ∙ ap (λ x. near_with c cell s t || (x && (is_some cell && (is_aligned s t && is_clear d s t)))) none
+    on_board d = by_cell c cell d s t ∙ ap (λ x. near_with c cell s t || (x && is_clear d s t)) none
 
 -- Where a piece leaves no line to k, and the piece that arrives does not attack k, k is attacked no
 -- more than before.

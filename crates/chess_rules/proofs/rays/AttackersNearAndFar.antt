@@ -1,10 +1,8 @@
 -- The attackers of a square are those near it and those that slide to it over empty squares.
-use Rattle.std.proofs.Common.{◌≡◌, ℕ, ◌^◌, ◌<◌, get_or, Bool, true, false, not, ◌&&◌, ◌||◌, inl, inr, refl, sym, ◌∙◌, ap, ap₂, subst, arith}
-use Rattle.std.specs.Int.Bits.{bit_or}
-use Rattle.std.specs.Prelude.{◌==◌, Option, None, Some, is_none, is_some}
+use Rattle.std.proofs.Common.{◌≡◌, ℕ, ◌^◌, ◌<◌, get_or, Bool, true, false, not, ◌&&◌, ◌||◌, ◌⊎◌, inl, inr, refl, sym, ◌∙◌, ap, ap₂, subst, arith}
+use Rattle.std.specs.Int.Bits.{bit_and, bit_or}
+use Rattle.std.specs.Prelude.{◌==◌, Option, None, Some, is_none, is_some, if◌then◌else◌}
 use Rattle.std.specs.List.{list_any}
-use Rattle.std.proofs.lemmas.Bool.{false≢true}
-use Rattle.std.proofs.lemmas.Bool.Decides.{nat_tests}
 use Rattle.chess_rules.specs.declared.direction.TheConstants.{DIRECTIONS}
 use Rattle.chess_rules.specs.declared.direction.Direction.{Direction}
 use Rattle.chess_rules.specs.declared.direction.Shift.TheVariants.{Up}
@@ -17,12 +15,12 @@ use Rattle.chess_rules.specs.Board.{Board, at, cell_of, has_colour, is_empty, sa
 use Rattle.chess_rules.specs.Attacks.{attacks, cell_attacks, is_attacked, is_clear, kind_attacks}
 use Rattle.chess_rules.specs.Walk.{first_on, is_aligned, is_first, is_first_on, is_there, reaches, square_at}
 use Rattle.chess_rules.specs.Masks.{attacks_near, near_with, slides, slides_with}
-use Rattle.chess_rules.specs.Words.{has, Places}
+use Rattle.chess_rules.specs.Words.{has, Places, Sets}
 use Rattle.chess_rules.proofs.rays.WalkToBetween.{equal_from, equal_tests}
 use Rattle.chess_rules.proofs.positions.OneKing.{cell_of-square_at, square_at-cell_of}
-use Rattle.chess_rules.proofs.squares.SetsToSquares.{none_passes, one_passes, places_or}
-use Rattle.chess_rules.proofs.squares.WordsToCells.{has_single, has_zero}
-use Rattle.chess_rules.proofs.squares.AllSquares.{split_or, or_first, or_second, first_true, second_true, both_true, same_tests, Passes, some_square, any_square}
+use Rattle.chess_rules.proofs.squares.SetsToSquares.{places_or}
+use Rattle.chess_rules.proofs.squares.WordsToCells.{has_and, has_single, has_zero, same_or_apart}
+use Rattle.chess_rules.proofs.squares.AllSquares.{any_either, any_same, first_true, second_true, both_true, same_tests}
 use Rattle.chess_rules.proofs.rays.FirstToSeen.{Seen, seen_from_first}
 use Rattle.chess_rules.proofs.rays.SeenToFirst.{is_still, InSight, in_sight_from_seen}
 use Rattle.chess_rules.proofs.rays.AttacksByRay.{both_of_any, colours_same, not_empty, squares_same, way_there}
@@ -102,20 +100,14 @@ takes j a p = rw (and_no j, and_no a, and_yes p) refl
 none_near : (j a p : Bool) → (((j && false) || (a && false)) || (p && false)) ≡ false
 none_near j a p = rw (and_no j, and_no a, and_no p) refl
 
-along_lines : (l c clear : Bool) → (((l && true) || (c && false)) && ((l || c) && clear)) ≡ (l && clear)
-along_lines true c clear = refl
-along_lines false c clear = rw (and_no c) refl
+along_lines : (l c clear : Bool) → (((l && true) || (c && false)) && clear) ≡ (l && clear)
+along_lines l c clear = rw (and_yes l, and_no c, or_no l) refl
 
-along_cross : (l c clear : Bool) → (((l && false) || (c && true)) && ((l || c) && clear)) ≡ (c && clear)
-along_cross true true clear = refl
-along_cross true false clear = refl
-along_cross false true clear = refl
-along_cross false false clear = refl
+along_cross : (l c clear : Bool) → (((l && false) || (c && true)) && clear) ≡ (c && clear)
+along_cross l c clear = rw (and_no l, and_yes c) refl
 
-along_both : (l c clear : Bool) → (((l && true) || (c && true)) && ((l || c) && clear)) ≡ ((l || c) && clear)
-along_both true c clear = refl
-along_both false true clear = refl
-along_both false false clear = refl
+along_both : (l c clear : Bool) → (((l && true) || (c && true)) && clear) ≡ ((l || c) && clear)
+along_both l c clear = rw (and_yes l, and_yes c) refl
 
 -- what is near, if a piece of that kind stands there, and what slides
 abbrev near_kind : Kind → Bool → Bool → Bool → Bool
@@ -126,17 +118,17 @@ slide_kind k line cross = (line && (same_kind Rook k || same_kind Queen k)) || (
 
 by_kind : (k : Kind) (c : Colour) (b : Board) (s t : Square)
     → kind_attacks k c b s t
-    ≡ near_or_far (near_kind k (is_jump s t) (is_adjacent s t) (reaches Pawn c s t)) (slide_kind k (in_line s t) (on_diagonal s t)) true (is_aligned s t && is_clear b s t)
+    ≡ near_or_far (near_kind k (is_jump s t) (is_adjacent s t) (reaches Pawn c s t)) (slide_kind k (in_line s t) (on_diagonal s t)) true (is_clear b s t)
 by_kind k c b s t = of k
   where
-    near : (x m n : Bool) → m ≡ x → n ≡ false → x ≡ near_or_far m n true (is_aligned s t && is_clear b s t)
-    near x m n e h = sym (ap₂ (λ v w. near_or_far v w true (is_aligned s t && is_clear b s t)) e h ∙ near_alone x (is_aligned s t && is_clear b s t))
+    near : (x m n : Bool) → m ≡ x → n ≡ false → x ≡ near_or_far m n true (is_clear b s t)
+    near x m n e h = sym (ap₂ (λ v w. near_or_far v w true (is_clear b s t)) e h ∙ near_alone x (is_clear b s t))
 
-    far : (x m n : Bool) → m ≡ false → (n && (is_aligned s t && is_clear b s t)) ≡ x → x ≡ near_or_far m n true (is_aligned s t && is_clear b s t)
-    far x m n e h = sym (ap (λ v. near_or_far v n true (is_aligned s t && is_clear b s t)) e ∙ (far_alone n (is_aligned s t && is_clear b s t) ∙ h))
+    far : (x m n : Bool) → m ≡ false → (n && is_clear b s t) ≡ x → x ≡ near_or_far m n true (is_clear b s t)
+    far x m n e h = sym (ap (λ v. near_or_far v n true (is_clear b s t)) e ∙ (far_alone n (is_clear b s t) ∙ h))
 
     of : (l : Kind) → kind_attacks l c b s t
-        ≡ near_or_far (near_kind l (is_jump s t) (is_adjacent s t) (reaches Pawn c s t)) (slide_kind l (in_line s t) (on_diagonal s t)) true (is_aligned s t && is_clear b s t)
+        ≡ near_or_far (near_kind l (is_jump s t) (is_adjacent s t) (reaches Pawn c s t)) (slide_kind l (in_line s t) (on_diagonal s t)) true (is_clear b s t)
     of King = near (is_adjacent s t) _ _ (steps (is_jump s t) (is_adjacent s t) (reaches Pawn c s t)) (both_no (in_line s t) (on_diagonal s t))
     of Knight = near (is_jump s t) _ _ (jumps (is_jump s t) (is_adjacent s t) (reaches Pawn c s t)) (both_no (in_line s t) (on_diagonal s t))
     of Pawn = near (reaches Pawn c s t) _ _ (takes (is_jump s t) (is_adjacent s t) (reaches Pawn c s t)) (both_no (in_line s t) (on_diagonal s t))
@@ -145,94 +137,84 @@ by_kind k c b s t = of k
     of Queen = far ((in_line s t || on_diagonal s t) && is_clear b s t) _ _ (none_near (is_jump s t) (is_adjacent s t) (reaches Pawn c s t)) (along_both (in_line s t) (on_diagonal s t) (is_clear b s t))
 
 pub by_cell : (c : Colour) (cell : Option Piece) (b : Board) (s t : Square)
-    → (has_colour c cell && cell_attacks cell b s t) ≡ (near_with c cell s t || (slides_with c cell s t && (is_some cell && (is_aligned s t && is_clear b s t))))
+    → (has_colour c cell && cell_attacks cell b s t) ≡ (near_with c cell s t || (slides_with c cell s t && is_clear b s t))
 by_cell c None b s t =
-    no_colour (((is_jump s t && false) || (is_adjacent s t && false)) || (reaches Pawn c s t && false)) ((in_line s t && false) || (on_diagonal s t && false)) false
+    no_colour (((is_jump s t && false) || (is_adjacent s t && false)) || (reaches Pawn c s t && false)) ((in_line s t && false) || (on_diagonal s t && false)) (is_clear b s t)
 by_cell c (Some x) b s t = by_colour (same_colour c x.colour) refl
   where
     by_colour : (v : Bool) → same_colour c x.colour ≡ v
         → (same_colour c x.colour && kind_attacks x.kind x.colour b s t)
-        ≡ near_or_far (near_kind x.kind (is_jump s t) (is_adjacent s t) (reaches Pawn c s t)) (slide_kind x.kind (in_line s t) (on_diagonal s t)) (same_colour c x.colour) (is_aligned s t && is_clear b s t)
+        ≡ near_or_far (near_kind x.kind (is_jump s t) (is_adjacent s t) (reaches Pawn c s t)) (slide_kind x.kind (in_line s t) (on_diagonal s t)) (same_colour c x.colour) (is_clear b s t)
     by_colour false e =
         ap (λ v. v && kind_attacks x.kind x.colour b s t) e
-        ∙ (no_colour (near_kind x.kind (is_jump s t) (is_adjacent s t) (reaches Pawn c s t)) (slide_kind x.kind (in_line s t) (on_diagonal s t)) (is_aligned s t && is_clear b s t)
-        ∙ ap (λ v. near_or_far (near_kind x.kind (is_jump s t) (is_adjacent s t) (reaches Pawn c s t)) (slide_kind x.kind (in_line s t) (on_diagonal s t)) v (is_aligned s t && is_clear b s t)) (sym e))
+        ∙ (no_colour (near_kind x.kind (is_jump s t) (is_adjacent s t) (reaches Pawn c s t)) (slide_kind x.kind (in_line s t) (on_diagonal s t)) (is_clear b s t)
+        ∙ ap (λ v. near_or_far (near_kind x.kind (is_jump s t) (is_adjacent s t) (reaches Pawn c s t)) (slide_kind x.kind (in_line s t) (on_diagonal s t)) v (is_clear b s t)) (sym e))
     by_colour true e =
         ap (λ v. v && kind_attacks x.kind x.colour b s t) e
         ∙ (by_kind x.kind x.colour b s t
-        ∙ ap₂ (λ d v. near_or_far (near_kind x.kind (is_jump s t) (is_adjacent s t) (reaches Pawn d s t)) (slide_kind x.kind (in_line s t) (on_diagonal s t)) v (is_aligned s t && is_clear b s t))
+        ∙ ap₂ (λ d v. near_or_far (near_kind x.kind (is_jump s t) (is_adjacent s t) (reaches Pawn d s t)) (slide_kind x.kind (in_line s t) (on_diagonal s t)) v (is_clear b s t))
         (sym (colours_same c x.colour e)) (sym e))
 
--- All squares.
+-- All squares: near ones first.
 
-attack_there : (b : Board) (c : Colour) (t s : Square) → t.file < 8 → t.rank < 8 → s.file < 8 → s.rank < 8
-    → (has_colour c (at b s) && attacks b s t) ≡ (attacks_near b c t s || (slides b c t s && is_first b t s))
-attack_there b c t s tf tr sf sr =
-    by_cell c (at b s) b s t ∙ ap (λ v. attacks_near b c t s || (slides b c t s && v)) (sym (first_is b t s tf tr sf sr))
+pub attacked_is : (b : Board) (c : Colour) (t : Square)
+    → is_attacked b c t ≡ (list_any (attacks_near b c t) squares || list_any (λ s. slides b c t s && is_clear b s t) squares)
+attacked_is b c t =
+    any_same (λ s. has_colour c (at b s) && attacks b s t) (λ s. attacks_near b c t s || (slides b c t s && is_clear b s t)) squares (λ s. by_cell c (at b s) b s t)
+    ∙ any_either (attacks_near b c t) (λ s. slides b c t s && is_clear b s t) squares
 
-pub attacked_near : (b : Board) (c : Colour) (t : Square) → t.file < 8 → t.rank < 8 → list_any (attacks_near b c t) squares ≡ true → is_attacked b c t ≡ true
-attacked_near b c t tf tr h = there (some_square (attacks_near b c t) h)
+-- What slides has a piece, and is on a rank, a file or a diagonal.
+
+slides_alone : (c : Colour) (cell : Option Piece) (b : Board) (s t : Square) → slides_with c cell s t ≡ true → (is_some cell && (is_aligned s t && is_clear b s t)) ≡ is_clear b s t
+slides_alone c None b s t h = cc (sym h ∙ no_slider (in_line s t) (on_diagonal s t))
   where
-    there : Passes (attacks_near b c t) → is_attacked b c t ≡ true
-    there w =
-        any_square (λ s. has_colour c (at b s) && attacks b s t) w.on w.file w.rank
-        (attack_there b c t w.on tf tr w.file w.rank ∙ or_first _ _ w.holds)
-
-pub attacked_far : (b : Board) (c : Colour) (t : Square) → t.file < 8 → t.rank < 8 → list_any (λ s. slides b c t s && is_first b t s) squares ≡ true → is_attacked b c t ≡ true
-attacked_far b c t tf tr h = there (some_square (λ s. slides b c t s && is_first b t s) h)
+    no_slider : (l d : Bool) → (((l && false) || (d && false)) && false) ≡ false
+    no_slider l d = and_no ((l && false) || (d && false))
+slides_alone c (Some x) b s t h = ap (λ v. v && is_clear b s t) (lined (in_line s t) (on_diagonal s t) _ _ (first_true _ (same_colour c x.colour) h))
   where
-    there : Passes (λ s. slides b c t s && is_first b t s) → is_attacked b c t ≡ true
-    there w =
-        any_square (λ s. has_colour c (at b s) && attacks b s t) w.on w.file w.rank
-        (attack_there b c t w.on tf tr w.file w.rank ∙ or_second (attacks_near b c t w.on) _ w.holds)
+    lined : (l d v w : Bool) → ((l && v) || (d && w)) ≡ true → (l || d) ≡ true
+    lined true d v w h = refl
+    lined false true v w h = refl
+    lined false false v w h = h
 
-pub not_attacked : (b : Board) (c : Colour) (t : Square) → t.file < 8 → t.rank < 8 → list_any (attacks_near b c t) squares ≡ false
-    → list_any (λ s. slides b c t s && is_first b t s) squares ≡ false → is_attacked b c t ≡ false
-not_attacked b c t tf tr near far = by_any (is_attacked b c t) refl
+-- Of all that slide, one is known not to be clear.
+pub others_first : (b : Board) (c : Colour) (t : Square) (set others first n : ℕ) → t.file < 8 → t.rank < 8
+    → Places set (slides b c t) → Sets set others n false → Places first (is_first b t) → is_clear b (square_at n) t ≡ false
+    → Places (bit_and others first) (λ s. slides b c t s && is_clear b s t)
+others_first b c t set others first n tf tr slide sets way blocked =
+    record { of = λ i low. has_and others first i ∙ (ap₂ (λ x y. x && y) (sets.of i low) (way.of i low ∙ first_is b t (square_at i) tf tr (omega arith) (omega arith)) ∙ at_place i low (same_or_apart i n)) }
   where
-    there : Passes (λ s. has_colour c (at b s) && attacks b s t) → ⊥
-    there w =
-        elim (split_or (attacks_near b c t w.on) (slides b c t w.on && is_first b t w.on) (sym (attack_there b c t w.on tf tr w.file w.rank) ∙ w.holds)) [
-          | inl here ↦ false≢true (sym near ∙ any_square (attacks_near b c t) w.on w.file w.rank here)
-          | inr here ↦ false≢true (sym far ∙ any_square (λ s. slides b c t s && is_first b t s) w.on w.file w.rank here)
-        ]
+    none : (x : Bool) → (x && false) ≡ false
+    none x = and_no x
 
-    by_any : (x : Bool) → is_attacked b c t ≡ x → is_attacked b c t ≡ false
-    by_any false e = e
-    by_any true e = absurd (there (some_square (λ s. has_colour c (at b s) && attacks b s t) e))
+    by_slide : (x : Bool) (s : Square) → slides b c t s ≡ x → (x && in_view b t s) ≡ (x && is_clear b s t)
+    by_slide true s e = slides_alone c (at b s) b s t e
+    by_slide false s e = refl
 
--- no slider is there at all
-pub none_slides : (b : Board) (c : Colour) (t : Square) → list_any (slides b c t) squares ≡ false → list_any (λ s. slides b c t s && is_first b t s) squares ≡ false
-none_slides b c t none = by_any (list_any (λ s. slides b c t s && is_first b t s) squares) refl
+    at_place : (i : ℕ) → i < 64 → ((i ≡ n) × ((i == n) ≡ true)) ⊎ ((i ≡ n → ⊥) × ((i == n) ≡ false))
+        → ((if i == n then false else has set i) && in_view b t (square_at i)) ≡ (slides b c t (square_at i) && is_clear b (square_at i) t)
+    at_place i low (inl here) =
+        ap (λ x. (if x then false else has set i) && in_view b t (square_at i)) here.1
+        ∙ sym (ap (λ x. slides b c t (square_at i) && x) (ap (λ j. is_clear b (square_at j) t) here.0 ∙ blocked) ∙ none (slides b c t (square_at i)))
+    at_place i low (inr apart) =
+        ap (λ x. (if x then false else has set i) && in_view b t (square_at i)) apart.1
+        ∙ (ap (λ x. x && in_view b t (square_at i)) (slide.of i low)
+        ∙ by_slide (slides b c t (square_at i)) (square_at i) refl)
+
+pub no_others : (b : Board) (c : Colour) (t : Square) (set others n : ℕ)
+    → Places set (slides b c t) → Sets set others n false → is_clear b (square_at n) t ≡ false → others ≡ 0
+    → Places others (λ s. slides b c t s && is_clear b s t)
+no_others b c t set others n slide sets blocked none = record { of = λ i low. empty i ∙ sym (at_place i low (same_or_apart i n)) }
   where
-    there : Passes (λ s. slides b c t s && is_first b t s) → ⊥
-    there w = false≢true (sym none ∙ any_square (slides b c t) w.on w.file w.rank (first_true _ _ w.holds))
+    empty : (i : ℕ) → has others i ≡ false
+    empty i = ap (λ m. has m i) none ∙ has_zero i
 
-    by_any : (x : Bool) → list_any (λ s. slides b c t s && is_first b t s) squares ≡ x → list_any (λ s. slides b c t s && is_first b t s) squares ≡ false
-    by_any false e = e
-    by_any true e = absurd (there (some_square (λ s. slides b c t s && is_first b t s) e))
-
--- whether there is a slider at all
-pub slider_test : (b : Board) (c : Colour) (t : Square) (w : ℕ) → Places w (slides b c t) → w < 2 ^ 64 → not (w == 0) ≡ list_any (slides b c t) squares
-slider_test b c t w places fits = by_test (w == 0) refl
-  where
-    by_test : (x : Bool) → (w == 0) ≡ x → not (w == 0) ≡ list_any (slides b c t) squares
-    by_test true e = ap not e ∙ sym (none_passes w (slides b c t) places (equal_from w 0 e))
-    by_test false e =
-        let some : 0 < w = grind (arith, nat_tests) in
-        ap not e ∙ sym (one_passes w (slides b c t) places some fits)
-
--- whether one of the sliders is first on its way
-pub far_test : (b : Board) (c : Colour) (t : Square) (w : ℕ) → t.file < 8 → t.rank < 8 → list_any (attacks_near b c t) squares ≡ false
-    → Places w (λ s. slides b c t s && is_first b t s) → w < 2 ^ 64 → not (w == 0) ≡ is_attacked b c t
-far_test b c t w tf tr near places fits = by_test (w == 0) refl
-  where
-    by_test : (x : Bool) → (w == 0) ≡ x → not (w == 0) ≡ is_attacked b c t
-    by_test true e =
-        ap not e ∙ sym (not_attacked b c t tf tr near (none_passes w (λ s. slides b c t s && is_first b t s) places (equal_from w 0 e)))
-    by_test false e =
-        let some : 0 < w = grind (arith, nat_tests) in
-        ap not e ∙ sym (attacked_far b c t tf tr (one_passes w (λ s. slides b c t s && is_first b t s) places some fits))
+    at_place : (i : ℕ) → i < 64 → ((i ≡ n) × ((i == n) ≡ true)) ⊎ ((i ≡ n → ⊥) × ((i == n) ≡ false)) → (slides b c t (square_at i) && is_clear b (square_at i) t) ≡ false
+    at_place i low (inl here) =
+        ap (λ x. slides b c t (square_at i) && x) (ap (λ j. is_clear b (square_at j) t) here.0 ∙ blocked) ∙ and_no (slides b c t (square_at i))
+    at_place i low (inr apart) =
+        ap (λ x. x && is_clear b (square_at i) t)
+        (sym (slide.of i low) ∙ (sym (sets.of i low ∙ ap (λ x. if x then false else has set i) apart.1) ∙ empty i))
 
 -- The first squares on the eight ways, one way after another.
 

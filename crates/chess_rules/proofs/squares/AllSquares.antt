@@ -1,5 +1,5 @@
 -- What a test of all 64 squares says of each square.
-use Rattle.std.proofs.Common.{◌≡◌, ℕ, zero, suc, ◌+◌, ◌<◌, ◌≤◌, Bool, true, false, ◌&&◌, ◌||◌, ◌⊎◌, inl, inr, List, [], ◌∷◌, map, refl, sym, ◌∙◌, ap, subst, arith}
+use Rattle.std.proofs.Common.{◌≡◌, ℕ, zero, suc, ◌+◌, ◌<◌, ◌≤◌, Bool, true, false, ◌&&◌, ◌||◌, ◌⊎◌, inl, inr, List, [], ◌∷◌, map, refl, sym, ◌∙◌, ap, ap₂, subst, arith}
 use Rattle.std.specs.List.{list_all, range_with_len, list_any, flat_map}
 use Rattle.std.proofs.lemmas.List.Folds.{list_all-append, list_all-map, list_any-append}
 use Rattle.chess_rules.specs.Square.{Square, square, squares, lines}
@@ -108,6 +108,21 @@ range_of_any test a (suc n) k low high h =
 pub list_any-map : {X Y : Type 0} (test : Y → Bool) (f : X → Y) (xs : List X) → list_any test (map f xs) ≡ list_any (λ x. test (f x)) xs
 list_any-map test f [] = refl
 list_any-map test f (x ∷ xs) = ap (λ v. test (f x) || v) (list_any-map test f xs)
+
+pub any_same : {X : Type 0} (f g : X → Bool) (xs : List X) → ((x : X) → f x ≡ g x) → list_any f xs ≡ list_any g xs
+any_same f g [] h = refl
+any_same f g (x ∷ xs) h = ap₂ (λ v w. v || w) (h x) (any_same f g xs h)
+
+-- one that passes either of two tests
+pub any_either : {X : Type 0} (f g : X → Bool) (xs : List X) → list_any (λ x. f x || g x) xs ≡ (list_any f xs || list_any g xs)
+any_either f g [] = refl
+any_either f g (x ∷ xs) = ap (λ v. (f x || g x) || v) (any_either f g xs) ∙ in_turn (f x) (g x) (list_any f xs) (list_any g xs)
+  where
+    in_turn : (v w x y : Bool) → ((v || w) || (x || y)) ≡ ((v || x) || (w || y))
+    in_turn true w x y = refl
+    in_turn false true true y = refl
+    in_turn false true false y = refl
+    in_turn false false x y = refl
 
 list_any-flat_map : {X Y : Type 0} (test : Y → Bool) (f : X → List Y) (xs : List X) → list_any test (flat_map f xs) ≡ list_any (λ x. list_any test (f x)) xs
 list_any-flat_map test f [] = refl

@@ -1,10 +1,11 @@
 -- Sets of squares: what is in a meet or a union, whether a set is empty, and its members in turn.
-use Rattle.std.proofs.Common.{◌≡◌, ℕ, zero, suc, ◌+◌, ◌/◌, ◌%◌, ◌<◌, ◌≤◌, ◌^◌, Bool, true, false, ◌&&◌, ◌||◌, ◌⊎◌, inl, inr, List, [], ◌∷◌, length, map, cond, get_or, refl, sym, ◌∙◌, ap, ap₂, w64, arith}
+use Rattle.std.proofs.Common.{◌≡◌, ℕ, zero, suc, ◌+◌, ◌/◌, ◌%◌, ◌<◌, ◌≤◌, ◌^◌, Bool, true, false, not, ◌&&◌, ◌||◌, ◌⊎◌, inl, inr, List, [], ◌∷◌, length, map, cond, get_or, refl, sym, ◌∙◌, ap, ap₂, w64, arith}
 use Rattle.std.specs.Prelude.{◌==◌, Option, None, filter, if◌then◌else◌}
 use Rattle.std.specs.List.{list_any, range_with_len}
 use Rattle.std.specs.Int.Bits.{bit_and, bit_or}
 use Rattle.std.specs.Int.{trailing_zeros}
 use Rattle.std.proofs.lemmas.Bool.{false≢true}
+use Rattle.std.proofs.lemmas.Bool.Decides.{nat_tests}
 use Rattle.chess_rules.specs.declared.piece.Piece.{Piece}
 use Rattle.chess_rules.specs.Square.{Square, same_square, squares}
 use Rattle.chess_rules.specs.Board.{Board, at, cell_of}
@@ -14,7 +15,7 @@ use Rattle.chess_rules.proofs.squares.WordsToCells.{has_and, has_or, has_zero, s
 use Rattle.chess_rules.proofs.squares.LowestAndHighest.{lowest_place}
 use Rattle.chess_rules.proofs.positions.OneKing.{cell_of-square_at, square_at-cell_of}
 use Rattle.chess_rules.proofs.squares.AllSquares.{both_true, Passes, some_square, any_square}
-use Rattle.chess_rules.proofs.rays.WalkToBetween.{equal_tests}
+use Rattle.chess_rules.proofs.rays.WalkToBetween.{equal_from, equal_tests}
 use Rattle.chess_rules.proofs.trying.FoundLists.{list_any-filter}
 
 pub places_and : (v w : ℕ) (p q : Square → Bool) → Places v p → Places w q → Places (bit_and v w) (λ s. p s && q s)
@@ -49,6 +50,15 @@ one_passes w test h some fits =
   where
     at_place : (i : ℕ) → i < 64 → has w i ≡ true → list_any test squares ≡ true
     at_place i low here = any_square test (square_at i) (omega arith) (omega arith) (sym (h.of i low) ∙ here)
+
+pub set_test : (w : ℕ) (test : Square → Bool) → Places w test → w < 2 ^ 64 → not (w == 0) ≡ list_any test squares
+set_test w test places fits = by_test (w == 0) refl
+  where
+    by_test : (x : Bool) → (w == 0) ≡ x → not (w == 0) ≡ list_any test squares
+    by_test true e = ap not e ∙ sym (none_passes w test places (equal_from w 0 e))
+    by_test false e =
+        let some : 0 < w = grind (arith, nat_tests) in
+        ap not e ∙ sym (one_passes w test places some fits)
 
 -- The members in turn.
 

@@ -1,25 +1,23 @@
 -- The sets of the code have exactly the candidates.
 use Rattle.std.proofs.Common.{◌≡◌, ℕ, ◌<◌, ◌≤◌, Bool, true, false, ◌&&◌, List, [], ◌∷◌, length, cond, get_or, refl, sym, ◌∙◌, ap, ap₂, arith}
-use Rattle.std.specs.Prelude.{Option, None, Some, filter, is_some, nat_lt}
+use Rattle.std.specs.Prelude.{None, filter, nat_lt}
 use Rattle.std.specs.Int.Bits.{bit_and}
 use Rattle.std.proofs.lemmas.Bool.{false≢true}
 use Rattle.std.proofs.lemmas.Bool.Decides.{nat_tests}
 use Rattle.chess_rules.specs.declared.piece.Colour.{Colour}
 use Rattle.chess_rules.specs.declared.piece.Kind.{Kind}
 use Rattle.chess_rules.specs.declared.piece.Kind.TheVariants.{Knight}
-use Rattle.chess_rules.specs.declared.piece.Piece.{Piece}
 use Rattle.chess_rules.specs.declared.position.Parts.{Parts}
 use Rattle.chess_rules.specs.Square.{Square, squares, is_jump}
-use Rattle.chess_rules.specs.Board.{Board, at, has_piece}
+use Rattle.chess_rules.specs.Board.{Board, cell_of, has_piece}
 use Rattle.chess_rules.specs.Step.{own}
 use Rattle.chess_rules.specs.Attacks.{is_clear}
 use Rattle.chess_rules.specs.Candidate.{candidates, is_candidate}
-use Rattle.chess_rules.specs.Walk.{is_aligned, is_first, square_at}
-use Rattle.chess_rules.specs.Words.{members, Marks, Places}
+use Rattle.chess_rules.specs.Walk.{is_aligned, square_at}
+use Rattle.chess_rules.specs.Words.{has, members, Marks, Places}
 use Rattle.chess_rules.proofs.squares.AllSquares.{first_true, second_true, both_true}
 use Rattle.chess_rules.proofs.positions.OneKing.{cell_of-square_at}
 use Rattle.chess_rules.proofs.trying.CandidatesFoundOnce.{few_candidates, is_rider, sees_by_way}
-use Rattle.chess_rules.proofs.rays.AttackersNearAndFar.{first_is}
 use Rattle.chess_rules.proofs.squares.SetsToSquares.{members_are, places_and}
 
 pub own_places : (p : Parts) (k : Kind) (d : Colour) (b : Board) (w : ℕ) → d ≡ p.side → b ≡ p.board → Marks w (has_piece d k) b → Places w (own p k)
@@ -35,25 +33,21 @@ pub knights_are : (p : Parts) (t : Square) (v w : ℕ) → Places v (own p Knigh
 knights_are p t v w h g =
     members_are (bit_and v w) (is_candidate p Knight t) (λ i low. (places_and v w (own p Knight) (λ s. is_jump s t) h g).of i low)
 
-own_sees : (p : Parts) (k : Kind) (t s : Square) → is_rider k ≡ true → t.file < 8 → t.rank < 8 → s.file < 8 → s.rank < 8
-    → (own p k s && is_first p.board t s) ≡ is_candidate p k t s
-own_sees p k t s rides tf tr sf sr =
-    ap (λ v. own p k s && v) (first_is p.board t s tf tr sf sr)
-    ∙ (by_cell (at p.board s) (is_aligned s t && is_clear p.board s t)
-    ∙ ap (λ v. own p k s && v) (sym (sees_by_way p k s t rides)))
-  where
-    by_cell : (o : Option Piece) (x : Bool) → (has_piece p.side k o && (is_some o && x)) ≡ (has_piece p.side k o && x)
-    by_cell None x = refl
-    by_cell (Some y) x = refl
-
-pub riders_are : (p : Parts) (k : Kind) (t : Square) (b : Board) (v w : ℕ) → is_rider k ≡ true → t.file < 8 → t.rank < 8 → b ≡ p.board
-    → Places v (own p k) → Places w (is_first b t) → members (bit_and v w) ≡ candidates p k t
-riders_are p k t b v w rides tf tr board h g =
-    members_are (bit_and v w) (is_candidate p k t)
+pub riders_are : (p : Parts) (k : Kind) (t : Square) (b : Board) (v w clear : ℕ) → is_rider k ≡ true → b ≡ p.board
+    → Places v (own p k) → Places w (λ s. is_aligned s t) → Places clear (λ s. has (bit_and v w) (cell_of s) && is_clear b s t)
+    → members clear ≡ candidates p k t
+riders_are p k t b v w clear rides board h g f =
+    members_are clear (is_candidate p k t)
     (λ i low.
-    (places_and v w (own p k) (is_first b t) h g).of i low
-    ∙ (ap (λ (c : Board). own p k (square_at i) && is_first c t (square_at i)) board
-    ∙ own_sees p k t (square_at i) rides tf tr (omega arith) (omega arith)))
+    f.of i low
+    ∙ (ap₂ (λ x (c : Board). x && is_clear c (square_at i) t)
+    (ap (has (bit_and v w)) (cell_of-square_at i) ∙ (places_and v w (own p k) (λ s. is_aligned s t) h g).of i low) board
+    ∙ (in_turn (own p k (square_at i)) (is_aligned (square_at i) t) (is_clear p.board (square_at i) t)
+    ∙ ap (λ x. own p k (square_at i) && x) (sym (sees_by_way p k (square_at i) t rides)))))
+  where
+    in_turn : (x y z : Bool) → ((x && y) && z) ≡ (x && (y && z))
+    in_turn true y z = refl
+    in_turn false y z = refl
 
 pub few_there : (p : Parts) (k : Kind) (t : Square) (xs : List Square) → t.file < 8 → t.rank < 8 → xs ≡ candidates p k t → length xs ≤ 8
 few_there p k t xs tf tr same =

@@ -1,5 +1,5 @@
 -- The sets whose members are tried have the pairs of the king's steps and of the knights' jumps.
-use Rattle.std.proofs.Common.{◌≡◌, ℕ, ◌+◌, ◌<◌, Bool, true, false, not, cond, ◌&&◌, ◌||◌, List, [], ◌∷◌, map, length, refl, sym, ◌∙◌, ap, ap₂, arith}
+use Rattle.std.proofs.Common.{◌≡◌, ℕ, ◌+◌, ◌<◌, Bool, true, false, not, cond, ◌&&◌, List, [], ◌∷◌, map, length, refl, sym, ◌∙◌, ap, ap₂, arith}
 use Rattle.std.specs.Prelude.{Option, None, Some, filter, nat_le, if◌then◌else◌}
 use Rattle.std.specs.List.{list_any, sum_by}
 use Rattle.std.proofs.lemmas.List.Sums.{sum_by-cons}
@@ -12,16 +12,12 @@ use Rattle.chess_rules.specs.Candidate.{candidates}
 use Rattle.chess_rules.specs.Walk.{king_square, square_at}
 use Rattle.chess_rules.specs.Words.{members, Places}
 use Rattle.chess_rules.specs.Pairs.{is_legal_pair, is_legal_from, tried, origin_by, by_jumps, is_near, king_step, any_by_jumps, count_by_jumps, any_king_step, count_king_steps, king_step_is_legal_at, king_tried_at, indexes}
-use Rattle.chess_rules.proofs.squares.AllSquares.{list_any-map}
+use Rattle.chess_rules.proofs.squares.AllSquares.{any_same, list_any-map}
 use Rattle.chess_rules.proofs.squares.SetsToSquares.{members_are}
 use Rattle.chess_rules.proofs.rays.SeenToFirst.{gap_back}
 use Rattle.chess_rules.proofs.trying.FoundLists.{passes, list_any-filter, list_any-filter_map}
 use Rattle.chess_rules.proofs.trying.CandidatesFoundOnce.{square_laws, by_jumps_are}
 use Rattle.chess_rules.proofs.trying.PairCounts.{jumps_sum, squares_are}
-
-any_same : {X : Type 0} (f g : X → Bool) (xs : List X) → ((x : X) → f x ≡ g x) → list_any f xs ≡ list_any g xs
-any_same f g [] h = refl
-any_same f g (x ∷ xs) h = ap₂ (λ v w. v || w) (h x) (any_same f g xs h)
 
 -- The knights a jump away.
 

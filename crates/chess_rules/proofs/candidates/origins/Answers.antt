@@ -10,7 +10,7 @@ use Rattle.chess_rules.specs.Words.{members, Places}
 use Rattle.chess_rules.proofs.trying.CandidatesFoundOnce.{apart_there, candidates_apart, rides_unless}
 use Rattle.chess_rules.proofs.trying.SetsToCandidates.{few_there, knights_are, own_places, riders_are}
 use Rattle.chess_rules.proofs.candidates.origins.Goals as goal
-use Rattle.chess_rules.proofs.candidates.origins.Goals.{After-knights_to, After-first_pieces}
+use Rattle.chess_rules.proofs.candidates.origins.Goals.{After-knights_to, After-clear_among}
 
 knights : (c : After-knights_to) → members (bit_and c.pieces-own.result c.knights_to.result) ≡ candidates c.args.position.now c.args.kind c.args.target
 knights c =
@@ -21,13 +21,13 @@ knights c =
     c.knights_to.ensures
     ∙ ap (λ (k : Kind). candidates p k c.args.target) (sym c.in-Knight.is)
 
-riders : (c : After-first_pieces) → members (bit_and c.pieces-own.result c.first_pieces.result) ≡ candidates c.args.position.now c.args.kind c.args.target
+riders : (c : After-clear_among) → members c.clear_among.result ≡ candidates c.args.position.now c.args.kind c.args.target
 riders c =
     let p = c.args.position.now in
-    riders_are p c.args.kind c.args.target c.board-in_default.result.now c.pieces-own.result c.first_pieces.result
-    (rides_unless c.args.kind c.in_default.not-Knight) c.recall_invariant.ensures.file c.recall_invariant.ensures.rank c.board-in_default.ensures
+    riders_are p c.args.kind c.args.target c.board-in_default.result.now c.pieces-own.result c.aligned.result c.clear_among.result
+    (rides_unless c.args.kind c.in_default.not-Knight) c.board-in_default.ensures
     (own_places p c.args.kind c.side.result c.board.result.now c.pieces-own.result c.side.ensures c.board.ensures c.pieces-own.ensures)
-    c.first_pieces.ensures
+    c.aligned.ensures c.clear_among.ensures
 
 pub squares_of-requires : goal.squares_of-requires
 squares_of-requires c =
@@ -36,7 +36,7 @@ squares_of-requires c =
 
 pub squares_of-requires-in_default : goal.squares_of-requires-in_default
 squares_of-requires-in_default c =
-    few_there c.args.position.now c.args.kind c.args.target (members (bit_and c.pieces-own.result c.first_pieces.result))
+    few_there c.args.position.now c.args.kind c.args.target (members c.clear_among.result)
     c.recall_invariant.ensures.file c.recall_invariant.ensures.rank (riders c)
 
 same_list : (xs ys : List Square) → ys ≡ xs → IsPermutation xs ys
