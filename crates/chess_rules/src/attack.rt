@@ -244,9 +244,15 @@ pub(crate) fn sees(from: Square, to: Square) -> bool
 }
 
 // Whether the piece on `from`, if there is one, attacks `to` if all squares between are empty.
+//
+// From most squares no piece attacks it: these need no look at the board.
 pub(crate) fn may_attack(board: &Board, from: Square, to: Square) -> bool
     ensures { result ≡ false → spec.attacks board.now from to ≡ false }
 {
+    from.recall_invariant();
+    if !has(aligned(to) | knights_to(to), from.index()) {
+        return false;
+    }
     match board.at(from) {
         None => false,
         Some(piece) => reaches(piece.kind, piece.colour, from, to),

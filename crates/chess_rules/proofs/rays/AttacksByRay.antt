@@ -105,6 +105,22 @@ attack_seen Pawn c b s t h =
     let ranks : gap s.rank t.rank ≡ 1 = ahead_gap c _ _ (second_true (gap s.file t.file == 1) _ h) in
     inr (near b s t (omega arith) (omega arith) (apart_by_file s t files))
 
+-- no piece attacks from where none would on an empty board
+pub unreached : (b : Board) (s t : Square) → (is_aligned s t || is_jump s t) ≡ false → attacks b s t ≡ false
+unreached b s t out = by_attack (attacks b s t) refl
+  where
+    reached : (cell : Option Piece) → cell_attacks cell b s t ≡ true → (is_aligned s t || is_jump s t) ≡ true
+    reached None h = cc
+    reached (Some x) h =
+        elim (attack_seen x.kind x.colour b s t h) [
+          | inl knight ↦ or_second (is_aligned s t) (is_jump s t) (subst (λ (k : Kind). kind_attacks k x.colour b s t ≡ true) knight h)
+          | inr seen ↦ or_first (is_aligned s t) (is_jump s t) (first_true (is_aligned s t) _ seen)
+        ]
+
+    by_attack : (x : Bool) → attacks b s t ≡ x → attacks b s t ≡ false
+    by_attack false e = e
+    by_attack true e = cc (sym out ∙ reached (at b s) e)
+
 -- The eight ways and the eight jumps are all there are.
 
 pub in_directions : (test : Direction → Bool) (f r : Shift) → (stays f && stays r) ≡ false → test (record { files = f; ranks = r }) ≡ true → list_any test DIRECTIONS ≡ true
