@@ -27,7 +27,7 @@ PARTS = (
 # The main functions of the parts. If the compiler inlines one, its caller's part has its cost.
 MAIN_FUNCTIONS = {
     "lexer": ("pgn_lexer::lexer::Lexer::next",),
-    "find": ("pgn_game::find::find_move",),
+    "find": ("pgn_game::find::named_move",),
     "write_san": ("chess_text::san::write_san",),
     "layout and sinks": ("pgn_layout::current_line::CurrentLine::put", "pgn_layout::sink::write_all"),
     "reader and levels": ("pgn_game::reader::Reader::accept", "pgn_game::movetext::Movetext::put"),

@@ -16,7 +16,7 @@ sys.path.insert(0, ROOT + "/bench")
 import measure
 import tables
 
-# The loop has 100 instructions of its own, 30 in memcpy, and calls find_move, which has 50 of its
+# The loop has 100 instructions of its own, 30 in memcpy, and calls named_move, which has 50 of its
 # own and 20 in allows, of which 5 are in memcpy. The start has 7, and main 3.
 CALLGRIND = """# callgrind format
 version: 1
@@ -48,7 +48,7 @@ cfi=(1)
 cfn=(4) memcpy
 calls=3 5
 -1 30 4
-cfn=(5) pgn_game::find::find_move
+cfn=(5) pgn_game::find::named_move
 calls=1 0
 0 75 10 4 3 2
 
@@ -125,7 +125,7 @@ class Readers(unittest.TestCase):
         self.assertEqual(totals, {"Ir": 215, "Bc": 40, "Bcm": 6, "Bi": 3, "Bim": 2})
         loop = "pgn_game::converter::Converter::feed::<#12ab>"
         self.assertEqual(own, {"(below main)": 7, "main": 3, loop: 100, "memcpy": 35,
-                               "pgn_game::find::find_move": 50, "chess_rules::legal::allows": 20})
+                               "pgn_game::find::named_move": 50, "chess_rules::legal::allows": 20})
         self.assertEqual(sum(own.values()), totals["Ir"])
         self.assertEqual(by_call[loop, "memcpy"], 30)
         self.assertEqual(by_call["main", loop], 205)
