@@ -2,7 +2,7 @@
 -- Letters: p is the profile, s the text of `first`, r the text of `second`, t the totals, f a
 -- fault. u are the bytes that a source has given so far, ts and us the tokens of `first` and of
 -- `second`. `first`, `second` and `sink` are the devices, before the call and after it.
-use Rattle.std.specs.Prelude.{◌≡◌, ℕ, ◌^◌, ◌<◌, ◌≤◌, ◌⊎◌, max, IsTrue, List, [], ◌∷◌, ◌++◌, length, take, Option, None, Some, Result, Ok, Err, IfSome}
+use Rattle.std.specs.Prelude.{◌≡◌, ℕ, ◌^◌, ◌<◌, ◌≤◌, ◌⊎◌, max, IsTrue, List, [], ◌∷◌, ◌++◌, length, take, None, Result, Ok, Err, IfSome}
 use Rattle.std.specs.Io.KnownBytes.{Appends, Consumes}
 use Rattle.pgn_layout.specs.Device.{Device, FailsOnce, IsStill}
 use Rattle.pgn_lexer.specs.Tokens.{Token}
@@ -17,7 +17,7 @@ use Rattle.pgn_game.specs.Progress.{read, Verdict, refused as is_refused}
 use Rattle.pgn_game.specs.Conversion.{verdict_in}
 use Rattle.pgn_game.specs.ConverterCalls.{play_moves}
 use Rattle.pgn_game.specs.MostTried.{MostTried}
-use Rattle.pgn_game.specs.Checked.{Mark, marks, Comparison, compared, written_by, checked_verdict, checked_output}
+use Rattle.pgn_game.specs.Checked.{Mark, compared, written_by, checked_verdict, checked_output}
 
 -- the tokens begin with ts
 abbrev pub IsTokenPrefix : List Token → List Token → Type 0

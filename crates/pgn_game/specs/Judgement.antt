@@ -1,5 +1,5 @@
 -- **Bookkeeping**: what the reader judges a token to mean, and where that leads.
-use Rattle.std.specs.Prelude.{◌≡◌, ℕ, ◌+◌, ◌<◌, ◌≤◌, ◌&&◌, ◌||◌, ◌==◌, not, nat_le, Bool, true, false, IsTrue, IsFalse, is_some, List, [], ◌∷◌, ◌++◌, length, codes, bytes_eq, Option, None, Some, IsSomeAnd, IfOk, IfSome, is_ok, Result, Ok, Err, MatchResult}
+use Rattle.std.specs.Prelude.{◌≡◌, ℕ, ◌+◌, ◌<◌, ◌≤◌, ◌&&◌, ◌||◌, ◌==◌, not, nat_le, Bool, true, false, IsTrue, IsFalse, is_some, List, [], ◌∷◌, ◌++◌, length, codes, bytes_eq, Option, None, Some, IsSomeAnd, IfOk, is_ok, Result, Ok, Err, MatchResult}
 use Rattle.chess_rules.specs.declared.position.Parts.{Parts}
 use Rattle.chess_rules.specs.Legal.{is_legal, legal}
 use Rattle.chess_text.specs.declared.resolution.Played.{Played}

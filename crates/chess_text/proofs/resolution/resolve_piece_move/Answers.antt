@@ -1,5 +1,5 @@
-use Rattle.std.proofs.Common.{◌≡◌, List, length, sym, refl, ◌∙◌, ap, subst, arith}
-use Rattle.std.specs.Prelude.{Option, Some, is_some}
+use Rattle.std.proofs.Common.{◌≡◌, List, sym, refl, ◌∙◌, ap, subst, arith}
+use Rattle.std.specs.Prelude.{Option, is_some}
 use Rattle.std.specs.Option.{ok_or, option_to_list}
 use Rattle.std.specs.List.Sorted.{IsPermutation}
 use Rattle.std.proofs.lemmas.Bool.{and_parts}

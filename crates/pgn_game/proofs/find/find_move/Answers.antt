@@ -1,4 +1,4 @@
-use Rattle.std.proofs.Common.{◌≡◌, Option, sym, ap, ◌∙◌}
+use Rattle.std.proofs.Common.{Option, sym, ap, ◌∙◌}
 use Rattle.std.specs.Option.{ok_or}
 use Rattle.chess_text.specs.MoveOfForm.{with_next}
 use Rattle.pgn_game.proofs.Words.{Parts, IllegalMove}

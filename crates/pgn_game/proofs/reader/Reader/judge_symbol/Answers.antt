@@ -1,10 +1,10 @@
-use Rattle.std.proofs.Common.{is_some, ◌≡◌, ◌<◌, ℕ, Bool, true, false, List, Option, None, Some, refl, sym, ap, subst, ◌∙◌, Ok, Err}
+use Rattle.std.proofs.Common.{is_some, ◌≡◌, ℕ, Bool, true, false, List, Option, None, Some, refl, sym, ap, subst, ◌∙◌, Ok, Err}
 use Rattle.pgn_lexer.specs.Tokens.{symbol}
 use Rattle.pgn_lexer.specs.declared.token.TokenKind.TheVariants as variants
 use Rattle.std.specs.Option.{ok_or}
 use Rattle.chess_rules.specs.Legal.{legal}
 use Rattle.chess_text.specs.MoveOfForm.{with_next}
-use Rattle.pgn_game.proofs.Words.{Parts, Played, Reason, IllegalMove}
+use Rattle.pgn_game.proofs.Words.{Parts, IllegalMove}
 use Rattle.pgn_game.specs.declared.judged.Found.{Found}
 use Rattle.pgn_game.specs.FoundMove.{with_position}
 use Rattle.pgn_game.specs.FaultTable.{is_score, marker_of}
