@@ -61,13 +61,16 @@ class Edits(unittest.TestCase):
             rows = [re.findall(r"`([^` ]+)`", it) for it in file if it.startswith("|")]
         rows = [set(it) for it in rows if set(it) & set(gate + more)]
         tried = [it for it in rows if it & set(gate)]
+        with open(os.path.join(ROOT, "edits", "each_change.txt"), encoding="utf-8") as file:
+            each = gate + [os.path.basename(it) for it in file.read().split()]
+        guarded = "%d of the rows" % len([it for it in rows if it & set(each)])
         counted = "%d of the %d rows" % (len(tried), len(rows))
         for document, words in (
             ("docs/PROVED.md", [counted]),
             ("edits/README.md", [counted, "The other %d rows" % (len(rows) - len(tried))]),
             ("docs/ARCHITECTURE.md", [
                 "The gate tries %d must-fail edits" % len(gate), counted,
-                "has %d more" % len(more), "the other %d rows" % (len(rows) - len(tried))]),
+                "has %d more" % len(more), "the other %d rows" % (len(rows) - len(tried)), guarded]),
         ):
             with open(os.path.join(ROOT, document), encoding="utf-8") as file:
                 text = " ".join(file.read().split())
@@ -84,7 +87,14 @@ class Edits(unittest.TestCase):
         self.assertEqual(listed, "edits/pgn_layout/outlet-flush-counts-no-failure.edit\n")
         ran = call("--list", "--only", "no such text")
         self.assertEqual((ran.returncode, ran.stdout), (2, ""))
-        self.assertEqual(ran.stderr, "bin/try_edits: no edit has 'no such text' in its name\n")
+        self.assertEqual(ran.stderr, "bin/try_edits: there is no such edit\n")
+
+    def test_those_of_each_change(self):
+        with open(os.path.join(ROOT, "edits", "each_change.txt"), encoding="utf-8") as file:
+            named = file.read().split()
+        listed = call("--list", "--each-change").stdout.split()
+        self.assertEqual(listed, ["edits/%s.edit" % it for it in named])
+        self.assertTrue(named)
 
 
 class Fitting(unittest.TestCase):
