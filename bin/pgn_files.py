@@ -3,6 +3,7 @@
 Each function that reads a file keeps at most a few blocks of it in memory.
 """
 import argparse
+import contextlib
 import os
 import re
 import shutil
@@ -46,6 +47,10 @@ class Failure(Exception):
         self.status = status
 
 
+# the signals that ask a script to stop
+STOPPING = (signal.SIGTERM, signal.SIGHUP, signal.SIGINT)
+
+
 class Stopped(BaseException):
     """A signal asked the script to stop."""
 
@@ -62,12 +67,14 @@ def run_script(name, main):
     def stop(number, _frame):
         raise Stopped(number)
 
-    for number in (signal.SIGTERM, signal.SIGHUP, signal.SIGINT):
+    for number in STOPPING:
         signal.signal(number, stop)
     try:
         status = main()
         sys.stdout.flush()
     except Stopped as stopped:
+        for replacement in Replacement.made:
+            replacement.discard()
         signal.signal(stopped.args[0], signal.SIG_DFL)
         os.kill(os.getpid(), stopped.args[0])
         status = REFUSED
@@ -203,19 +210,34 @@ def line_ends(file, begin, end):
 # ---- files that are replaced whole
 
 
+@contextlib.contextmanager
+def signals_wait():
+    """Lets a signal that asks the script to stop wait for the end of the block."""
+    before = signal.pthread_sigmask(signal.SIG_BLOCK, STOPPING)
+    try:
+        yield
+    finally:
+        signal.pthread_sigmask(signal.SIG_SETMASK, before)
+
+
 class Replacement:
     """A temporary file beside a target, which takes its place once all went well.
 
     A symbolic link is followed, and a file that stands there keeps its mode.
     """
 
+    # all of this run, for a signal that comes before a caller has them
+    made = []
+
     def __init__(self, path):
         self.path = os.path.realpath(path)
         if os.path.exists(self.path) and not os.path.isfile(self.path):
             raise Failure(USAGE, "%s: is not a regular file" % path)
         folder, name = os.path.split(self.path)
-        handle, self.temporary = tempfile.mkstemp(prefix=".%s." % name[:40], dir=folder)
-        self.file = os.fdopen(handle, "w+b")
+        with signals_wait():
+            handle, self.temporary = tempfile.mkstemp(prefix=".%s." % name[:40], dir=folder)
+            self.file = os.fdopen(handle, "w+b")
+            self.made.append(self)
 
     def take_place(self):
         """Puts the new file in the place of the old one."""
@@ -232,15 +254,17 @@ class Replacement:
             mode = 0o666 & ~mask
         os.fchmod(self.file.fileno(), mode)
         self.file.close()
-        os.replace(self.temporary, self.path)
-        self.temporary = None
+        with signals_wait():
+            os.replace(self.temporary, self.path)
+            self.temporary = None
 
     def discard(self):
         """Removes the temporary file, if it has not taken its place."""
-        if self.temporary:
-            self.file.close()
-            os.unlink(self.temporary)
-            self.temporary = None
+        with signals_wait():
+            if self.temporary:
+                self.file.close()
+                os.unlink(self.temporary)
+                self.temporary = None
 
 
 def is_same_file(one, other):

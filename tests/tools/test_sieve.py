@@ -350,6 +350,25 @@ class StoppedTest(unittest.TestCase):
             self.assertEqual(started.wait(timeout=20), -number)
             self.check_untouched()
 
+    def test_a_signal_while_a_temporary_file_is_made_leaves_none(self):
+        script = """
+import os, signal, sys, tempfile
+sys.path.insert(0, sys.argv[1])
+import pgn_files
+made = tempfile.mkstemp
+def stopped(**more):
+    pair = made(**more)
+    os.kill(os.getpid(), signal.SIGTERM)
+    return pair
+tempfile.mkstemp = stopped
+pgn_files.run_script("script", lambda: pgn_files.Replacement(sys.argv[2]))
+"""
+        folder = tempfile.mkdtemp()
+        self.addCleanup(shutil.rmtree, folder)
+        words = [sys.executable, "-c", script, os.path.dirname(SIEVE), folder + "/good.pgn"]
+        self.assertEqual(subprocess.run(words).returncode, -signal.SIGTERM)
+        self.assertEqual(os.listdir(folder), [])
+
     def test_failures_of_the_program_leave_the_old_files(self):
         for script, status, text in (
                 ("echo 'out of memory' >&2; exit 3", 3, b"pgn_sieve: out of memory\n"),
