@@ -292,7 +292,7 @@ impl Position {
     }
 
     // The position after a legal move.
-    #[inline(never)]
+    #[inline(always)]
     pub(crate) fn after(&self, mv: &Move) -> Position
         requires on_board { IsTrue (step.is_on_board mv.now) }
         requires legal { IsTrue (is_legal self.now mv.now) }

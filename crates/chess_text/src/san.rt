@@ -1,6 +1,6 @@
 //! Moves as they are written: standard algebraic notation. (PGN 8.2.3)
 
-ghost use Rattle.std.specs.Prelude.{◌≡◌, ◌+◌, ◌<◌, ◌≤◌, ◌^◌, ◌++◌, ◌&&◌, ◌||◌, ◌==◌, not, true, length, Some, IsTrue};
+ghost use Rattle.std.specs.Prelude.{◌≡◌, ◌+◌, ◌<◌, ◌≤◌, ◌^◌, [], ◌++◌, ◌&&◌, ◌||◌, ◌==◌, not, true, length, Some, IsTrue};
 ghost use Rattle.std.specs.List.{list_any};
 ghost use Rattle.chess_rules.specs.declared.piece.Kind.TheVariants.{King, Pawn};
 ghost use Rattle.chess_rules.specs.Candidate.{candidates};
@@ -57,7 +57,8 @@ pub fn write_san(position: &Position, played: &Played, probes: &mut Probes) -> A
         (probes.old + spec.disambiguation_pairs position.now played.now.mv) probes.new }
     ensures bound { probes.new ≤ probes.old + 1032 }
 {
-    let mut text = unmarked(position, &played.mv, probes);
+    let mut text = ArrayVec::new();
+    push_unmarked(&mut text, position, &played.mv, probes);
     push_mark(&mut text, &played.next, probes);
     text
 }
@@ -79,44 +80,46 @@ fn push_mark(text: &mut ArrayVec<u8, 7>, next: &Position, probes: &mut Probes)
     }
 }
 
-// The text of the move without its mark.
-fn unmarked(position: &Position, mv: &Move, probes: &mut Probes) -> ArrayVec<u8, 7>
+// Adds to an empty text that of the move without its mark.
+//
+// The text is passed on and not returned: each return would copy its bytes.
+fn push_unmarked(text: &mut ArrayVec<u8, 7>, position: &Position, mv: &Move, probes: &mut Probes)
+    requires empty { text.old.items ≡ [] }
     requires legal { IsTrue (is_legal position.now mv.now) }
     requires room { probes.old + 8 < 2 ^ 32 }
-    ensures text { result.items ≡ spec.unmarked position.now mv.now }
-    ensures some { 0 < length result.items }
-    ensures short { length result.items ≤ 6 }
+    ensures text { text.new.items ≡ spec.unmarked position.now mv.now }
+    ensures some { 0 < length text.new.items }
+    ensures short { length text.new.items ≤ 6 }
     ensures pairs { probes.new ≡ probes.old + spec.disambiguation_pairs position.now mv.now }
     ensures few { probes.new ≤ probes.old + 8 }
 {
     let Some(piece) = position.at(mv.from) else {
         // No legal move begins on an empty square.
-        return ArrayVec::new();
+        return;
     };
     match piece.kind {
-        Kind::King => king_text(position, mv),
-        Kind::Pawn => pawn_text(position, mv),
-        kind => disambiguated_text(position, kind, mv, probes),
+        Kind::King => push_king_text(text, position, mv),
+        Kind::Pawn => push_pawn_text(text, position, mv),
+        kind => push_disambiguated_text(text, position, kind, mv, probes),
     }
 }
 
-// The text of a king's move. (PGN 8.2.3.3)
-fn king_text(position: &Position, mv: &Move) -> ArrayVec<u8, 7>
+// Adds to an empty text that of a king's move. (PGN 8.2.3.3)
+fn push_king_text(text: &mut ArrayVec<u8, 7>, position: &Position, mv: &Move)
+    requires empty { text.old.items ≡ [] }
     requires legal { IsTrue (is_legal position.now mv.now) }
     requires king { IsTrue (own position.now King mv.now.from) }
-    ensures text { result.items ≡ spec.king_text position.now mv.now }
-    ensures some { 0 < length result.items }
-    ensures short { length result.items ≤ 6 }
+    ensures text { text.new.items ≡ spec.king_text position.now mv.now }
+    ensures some { 0 < length text.new.items }
+    ensures short { length text.new.items ≤ 6 }
 {
-    let mut text = ArrayVec::new();
     if is_castling(position, mv) {
-        push_part(&mut text, castling_text(mv.to.file() == 2));
-        return text;
+        push_part(text, castling_text(mv.to.file() == 2));
+        return;
     }
     text.push(b'K');
-    push_capture(&mut text, position.at(mv.to).is_some());
-    push_square(&mut text, mv.to);
-    text
+    push_capture(text, position.at(mv.to).is_some());
+    push_square(text, mv.to);
 }
 
 // Adds the part.
@@ -135,19 +138,19 @@ fn castling_text(long: bool) -> &'static [u8]
     if long { b"O-O-O" } else { b"O-O" }
 }
 
-// The text of a pawn's move, which takes exactly if it changes its file. (PGN 8.2.3.3)
-fn pawn_text(position: &Position, mv: &Move) -> ArrayVec<u8, 7>
+// Adds to an empty text that of a pawn's move, which takes exactly if it changes its file. (PGN
+// 8.2.3.3)
+fn push_pawn_text(text: &mut ArrayVec<u8, 7>, position: &Position, mv: &Move)
+    requires empty { text.old.items ≡ [] }
     requires legal { IsTrue (is_legal position.now mv.now) }
     requires pawn { IsTrue (own position.now Pawn mv.now.from) }
-    ensures text { result.items ≡ spec.pawn_text position.now mv.now }
-    ensures some { 0 < length result.items }
-    ensures short { length result.items ≤ 6 }
+    ensures text { text.new.items ≡ spec.pawn_text position.now mv.now }
+    ensures some { 0 < length text.new.items }
+    ensures short { length text.new.items ≤ 6 }
 {
-    let mut text = ArrayVec::new();
-    push_pawn_capture(&mut text, mv);
-    push_square(&mut text, mv.to);
-    push_promotion(&mut text, mv.promotion);
-    text
+    push_pawn_capture(text, mv);
+    push_square(text, mv.to);
+    push_promotion(text, mv.promotion);
 }
 
 // Adds the origin's file and `x` of a pawn that changes its file. (PGN 8.2.3.3)
@@ -175,30 +178,30 @@ fn push_promotion(text: &mut ArrayVec<u8, 7>, promotion: Option<Promotion>)
     }
 }
 
-// The text of a queen's, a rook's, a bishop's or a knight's move. (PGN 8.2.3.4)
-fn disambiguated_text(
+// Adds to an empty text that of a queen's, a rook's, a bishop's or a knight's move. (PGN 8.2.3.4)
+fn push_disambiguated_text(
+    text: &mut ArrayVec<u8, 7>,
     position: &Position,
     kind: Kind,
     mv: &Move,
     probes: &mut Probes,
-) -> ArrayVec<u8, 7>
+)
+    requires empty { text.old.items ≡ [] }
     requires legal { IsTrue (is_legal position.now mv.now) }
     requires own { IsTrue (own position.now kind mv.now.from) }
     requires may_have_rivals { IsTrue (spec.has_rivals kind) }
     requires room { probes.old + 8 < 2 ^ 32 }
-    ensures text { result.items ≡ spec.disambiguated_text kind position.now mv.now }
-    ensures some { 0 < length result.items }
-    ensures short { length result.items ≤ 6 }
+    ensures text { text.new.items ≡ spec.disambiguated_text kind position.now mv.now }
+    ensures some { 0 < length text.new.items }
+    ensures short { length text.new.items ≤ 6 }
     ensures pairs { probes.new ≡ probes.old + length (candidates position.now kind mv.now.to) }
     ensures few { probes.new ≤ probes.old + 8 }
 {
     let rivals = rivals_of(position, kind, mv, probes);
-    let mut text = ArrayVec::new();
     text.push(letter(kind));
-    push_disambiguation(&mut text, mv.from, rivals);
-    push_capture(&mut text, position.at(mv.to).is_some());
-    push_square(&mut text, mv.to);
-    text
+    push_disambiguation(text, mv.from, rivals);
+    push_capture(text, position.at(mv.to).is_some());
+    push_square(text, mv.to);
 }
 
 // The other squares from which such a move is legal (disambiguation).

@@ -3,12 +3,12 @@ use Rattle.std.specs.Prelude.{◌==◌}
 use Rattle.chess_rules.specs.declared.piece.Kind.TheVariants.{King}
 use Rattle.chess_text.specs.San.{capture_if, castling_text}
 use Rattle.chess_text.proofs.forms.MoverOfMove.{castling_written, step_written, piece_takes, something}
-use Rattle.chess_text.proofs.san.king_text.Goals as goal
+use Rattle.chess_text.proofs.san.push_king_text.Goals as goal
 
 pub returns-then-is_castling-clause-text : goal.returns-then-is_castling-clause-text
 returns-then-is_castling-clause-text c =
     c.push_part.ensures
-    ∙ ap₂ (λ (s t : List ℕ). s ++ t) c.new-text.ensures
+    ∙ ap₂ (λ (s t : List ℕ). s ++ t) c.requires.empty
     (c.castling_text.ensures.text ∙ ap (λ n. castling_text (n == 2)) c.file.ensures.value)
     ∙ castling_written c.args.position.now c.args.mv.now (sym c.is_castling.ensures ∙ c.if-is_castling.true)
 
@@ -17,7 +17,7 @@ returns-clause-text c =
     c.push_square.ensures
     ∙ ap₂ (λ (s t : List ℕ). s ++ t)
     (c.push_capture.ensures
-    ∙ ap₂ (λ (s t : List ℕ). s ++ t) (c.push.ensures.items ∙ ap (λ (s : List ℕ). s ++ 75 ∷ []) c.new-text.ensures)
+    ∙ ap₂ (λ (s t : List ℕ). s ++ t) (c.push.ensures.items ∙ ap (λ (s : List ℕ). s ++ 75 ∷ []) c.requires.empty)
     (ap (λ b. capture_if b) (something c.args.position.now c.args.mv.now c.at.result c.is_some.result c.at.ensures c.is_some.ensures
     ∙ sym (piece_takes c.args.position.now c.args.mv.now King c.requires.king refl))))
     refl

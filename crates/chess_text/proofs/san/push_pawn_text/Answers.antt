@@ -1,7 +1,7 @@
 use Rattle.std.proofs.Common.{ℕ, List, ◌++◌, refl, sym, ◌∙◌, ap, ap₂}
 use Rattle.chess_text.specs.San.{pawn_capture}
 use Rattle.chess_text.proofs.forms.PawnWays.{pawn_takes}
-use Rattle.chess_text.proofs.san.pawn_text.Goals as goal
+use Rattle.chess_text.proofs.san.push_pawn_text.Goals as goal
 
 pub returns-clause-text : goal.returns-clause-text
 returns-clause-text c =
@@ -11,7 +11,7 @@ returns-clause-text c =
     (c.push_square.ensures
     ∙ ap₂ (λ (s t : List ℕ). s ++ t)
     (c.push_pawn_capture.ensures.text
-    ∙ ap₂ (λ (s t : List ℕ). s ++ t) c.new-text.ensures
+    ∙ ap₂ (λ (s t : List ℕ). s ++ t) c.requires.empty
     (sym (ap (λ b. pawn_capture b m) (pawn_takes c.args.position.now m c.requires.pawn c.requires.legal))))
     refl)
     refl
