@@ -1,5 +1,6 @@
 -- What a token means: the fault table, and where a token leads.
 pub mod HandlersToRows
+pub mod MovesInMovetext
 pub mod NumbersInMovetext
 pub mod PartsToJudgement
 pub mod RefusalsByStage

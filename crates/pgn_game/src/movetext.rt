@@ -127,6 +127,27 @@ impl<const L: usize> Movetext<L> {
         Ok(())
     }
 
+    /// The same for the move with which movetext begins. It is not inlined: most moves are others.
+    #[inline(never)]
+    pub fn put_first_move<W: Sink>(
+        &mut self,
+        mode: Mode,
+        mv: &Move,
+        probes: &mut Probes,
+        line: &mut CurrentLine,
+        out: &mut W,
+    ) -> Result<(), WriteFault>
+        requires legal { IsTrue (is_legal self.old.levels.present.present mv.now) }
+        requires few { self.old.plies < 2 ^ 64 - 1 }
+        requires room { probes.old + 1032 < 2 ^ 32 }
+        ensures adds { Adds mode (games.move mv.now) self.old line.old self.new line.new
+            result (device W.taken W.failures out.old out.new) }
+        ensures probes { Rises probes.old probes.new }
+        ensures tried { TriesItem mode self.old (games.move mv.now) probes.old probes.new }
+    {
+        self.put_move(mode, mv, probes, line, out)
+    }
+
     /// Writes an item other than a move, and moves the levels. In reduced mode it is left out
     /// (PGN 3.2.4).
     #[inline(always)]

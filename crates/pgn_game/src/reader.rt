@@ -14,6 +14,7 @@ ghost use Rattle.pgn_game.specs.declared.stage.Stage.TheVariants.{Between, After
 ghost use Rattle.pgn_game.specs.declared.stage.Stage.TheVariants.{AfterValue, AfterTags};
 ghost use Rattle.pgn_game.specs.declared.stage.Stage.TheVariants.{InMovetext};
 ghost use Rattle.pgn_game.specs.declared.judged.Judged.TheVariants.{Entry as InText};
+ghost use Rattle.pgn_game.specs.declared.judged.Entry.TheVariants.{Move as Play};
 ghost use Rattle.pgn_game.specs.Profile.{counts_as, known_result};
 ghost use Rattle.pgn_game.specs.Markers.{marker_text};
 ghost use Rattle.pgn_game.specs.Movetext.{movetext_from};
@@ -40,7 +41,7 @@ use crate::tags::TagPairs;
 use crate::token_tests::{
     is_comment, is_end, is_number_or_period, is_result, is_score, is_score_or_number, is_tag_name,
 };
-use chess_rules::{Position, Probes};
+use chess_rules::{Move, Position, Probes};
 use chess_text::read_fen;
 use pgn_layout::{CurrentLine, Sink, WriteFault, fits_tag_line};
 use pgn_lexer::TokenKind;
@@ -198,6 +199,11 @@ impl<const T: usize, const L: usize> Reader<T, L> {
         }
         let mut probes = Probes::new();
         let found = self.find(kind, &mut probes);
+        if let Found::Move(mv) = &found {
+            if self.is_in_movetext() {
+                return self.play(mv, &mut probes, out);
+            }
+        }
         match self.judge(kind, &found) {
             Ok(judged) => self.carry_out(&judged, &mut probes, out),
             Err(reason) => Err(reason),
@@ -280,6 +286,14 @@ impl<const T: usize, const L: usize> Reader<T, L> {
             Stage::InMovetext => true,
             _ => false,
         }
+    }
+
+    // Whether movetext has begun.
+    #[inline(always)]
+    fn is_in_movetext(&self) -> bool
+        ensures { IsTrue result ↔ (self.now.stage ≡ InMovetext) }
+    {
+        self.stage == Stage::InMovetext
     }
 
     // Keeps the highest number of probes.
@@ -580,7 +594,7 @@ impl<const T: usize, const L: usize> Reader<T, L> {
             Entry::Move(mv) => {
                 let put = self
                     .text
-                    .put_move(self.mode, mv, probes, &mut self.line, out);
+                    .put_first_move(self.mode, mv, probes, &mut self.line, out);
                 self.count_probes(probes);
                 put?;
                 Ok(Accepted::More)
@@ -598,6 +612,35 @@ impl<const T: usize, const L: usize> Reader<T, L> {
         }
     }
 
+    // Plays a legal move with which movetext goes on: what `judge` and `carry_out` come to. Most
+    // tokens that are written are such moves.
+    #[inline(always)]
+    fn play<W: Sink>(
+        &mut self,
+        mv: &Move,
+        probes: &mut Probes,
+        out: &mut W,
+    ) -> Result<Accepted, Reason>
+        requires counted { self.old.text.plies < 2 ^ 64 - 1 }
+        requires stage { self.old.stage ≡ InMovetext }
+        requires fits { Fits T L self.old (InText (Play mv)) }
+        requires few { probes.old ≤ 8 }
+        ensures puts { PutResult self.old (InText (Play mv.entry)) self.new result
+            (device W.taken W.failures out.old out.new) }
+        ensures tried { TriesJudged self.old (InText (Play mv.entry)) result probes.old probes.new }
+        ensures most { probes.old ≤ self.old.most_probes
+            → self.new.most_probes ≡ max self.old.most_probes probes.new }
+    {
+        // For the proof alone: the model of the reader has the text of this marker.
+        let _ = &self.missing_result;
+        let put = self
+            .text
+            .put_move(self.mode, mv, probes, &mut self.line, out);
+        self.count_probes(probes);
+        put?;
+        Ok(Accepted::More)
+    }
+
     // Writes the tag section, if movetext has not begun yet.
     #[inline(always)]
     fn begin_movetext<W: Sink>(&mut self, out: &mut W) -> Result<(), WriteFault>
@@ -605,7 +648,7 @@ impl<const T: usize, const L: usize> Reader<T, L> {
         ensures begins { BeginsText self.old self.new result
             (device W.taken W.failures out.old out.new) }
     {
-        if self.stage == Stage::InMovetext {
+        if self.is_in_movetext() {
             return Ok(());
         }
         write_section(self.mode, self.missing_result, self.tags.pairs(), out)?;

@@ -1,7 +1,8 @@
 -- What putting a token of movetext adds to what stands written of its game, and to the reader.
-use Rattle.std.proofs.Common.{◌≡◌, ℕ, ◌<◌, ◌≤◌, Bool, true, false, ◌||◌, List, [], ◌∷◌, ◌++◌, length, drop, Option, None, refl, sym, ap, subst, ◌∙◌, append-nil, length-append, arith, IsTrue, Ok, Err}
+use Rattle.std.proofs.Common.{◌≡◌, max, ℕ, ◌<◌, ◌≤◌, Bool, true, false, ◌||◌, List, [], ◌∷◌, ◌++◌, length, drop, Option, None, refl, sym, ap, subst, ◌∙◌, append-nil, length-append, arith, IsTrue, Ok, Err}
 use Rattle.std.specs.List.{list_any}
 use Rattle.std.proofs.lemmas.List.Folds.{list_any-append}
+use Rattle.std.proofs.Math.Nat.{le-max_left}
 use Rattle.std.proofs.Math.Seq.{drop-append-add, drop-length}
 use Rattle.std.proofs.KnownBytes.{Appends-trans}
 use Rattle.std.specs.Io.KnownBytes.{Appends}
@@ -121,6 +122,17 @@ pub record IsAfterItem (begun new : ReaderState) : Type 0 where
   pub earlier : new.earlier_plies ≡ begun.earlier_plies
   pub probes : begun.most_probes ≤ new.most_probes
 
+-- the reader after a move, once its probes are counted
+pub probes_counted : (begun between new : ReaderState) (probes : ℕ) → new ≡ record between { most_probes = max between.most_probes probes }
+    → IsAfterItem begun between → IsAfterItem begun new
+probes_counted begun between new probes is next = record {
+  profile = ap (λ (r : ReaderState). r.profile) is ∙ next.profile;
+  stage = ap (λ (r : ReaderState). r.stage) is ∙ next.stage;
+  tags = ap (λ (r : ReaderState). r.tags) is ∙ next.tags;
+  earlier = ap (λ (r : ReaderState). r.earlier_plies) is ∙ next.earlier;
+  probes = omega (arith, ap (λ (r : ReaderState). r.most_probes) is, next.probes, le-max_left between.most_probes probes);
+}
+
 -- the section was written, and then items or none
 goes_with : (old begun new : ReaderState) (part : Part) (more : List Item) (d : Device) → IsTrue (may_have_movetext old.stage) → IsOpen old part
     → begun ≡ record old { stage = InMovetext } → IsAfterItem begun new → HoldsItems old.profile.mode (start_of part.pairs) (part.items ++ more) new.text new.line
@@ -157,20 +169,25 @@ puts_number old new d at begins =
     (λ has. subst (λ (n : ℕ). 0 < n) (sym begins.probes) (is.probed (subst (λ (l : List Item). IsTrue (has_move l)) (append-nil items) has)))
     (subst (Appends d.before d.after) (sym (append-nil _) ∙ ap (λ l. section_due_of old ++ l) (sym nothing) ∙ gain_is old part [] begins.known at is) begins.text))
 
--- and in movetext it changes nothing at all
+-- In movetext nothing is due of the section.
+pub begun_before : (old : ReaderState) (d : Device) → old.stage ≡ InMovetext → old.profile.missing_result ≡ counts_as (known_result old.profile.missing_result)
+    → Appends d.before d.after [] → d.failures_after ≡ d.failures → BeginsText {A = Unit {0}} {E = WriteFault} old old (Ok tt) d
+begun_before old d at known nothing counted = record {
+  text = subst (λ (s : Stage). Appends d.before d.after (section_due s old.profile.mode (known_result old.profile.missing_result) old.tags.held)) (sym at) nothing;
+  begun = ap (λ (s : Stage). record old { stage = s }) at;
+  known = known;
+  profile = refl;
+  earlier = refl;
+  plies = refl;
+  probes = refl;
+  counted = counted;
+}
+
+-- and a number changes nothing at all there
 pub number_passed : (old : ReaderState) (d : Device) → old.stage ≡ InMovetext → old.profile.missing_result ≡ counts_as (known_result old.profile.missing_result)
     → Appends d.before d.after [] → d.failures_after ≡ d.failures → PutResult old (InText Number) old (Ok More) d
 number_passed old d at known nothing counted =
-    puts_number old old d (ap may_have_movetext at) (record {
-      text = subst (λ (s : Stage). Appends d.before d.after (section_due s old.profile.mode (known_result old.profile.missing_result) old.tags.held)) (sym at) nothing;
-      begun = ap (λ (s : Stage). record old { stage = s }) at;
-      known = known;
-      profile = refl;
-      earlier = refl;
-      plies = refl;
-      probes = refl;
-      counted = counted;
-    })
+    puts_number old old d (ap may_have_movetext at) (begun_before old d at known nothing counted)
 
 -- where a move was played, some pair was tried
 probed_with : (old : ReaderState) (part : Part) (i : Item) (most : ℕ) → (is_move i ≡ true → 0 < old.most_probes) → old.most_probes ≤ most

@@ -1,13 +1,20 @@
-use Rattle.std.proofs.Common.{◌∙◌, refl, arith, Ok}
+use Rattle.std.proofs.Common.{◌∙◌, refl, ap, subst, arith, Bor, Result, Ok}
+use Rattle.chess_rules.specs.declared.position.Move.{Move}
 use Rattle.std.proofs.KnownBytes.{Appends-nil}
 use Rattle.pgn_lexer.specs.Scanned.{kind_of}
 use Rattle.pgn_game.specs.ReaderState as reader_state
-use Rattle.pgn_game.specs.Judgement.{after}
+use Rattle.pgn_game.specs.declared.judged.Found.{Found}
+use Rattle.pgn_game.specs.Judgement.{Finds, after, may_have_movetext}
 use Rattle.pgn_game.proofs.ReaderFitsInMemory.{reader_alike}
 use Rattle.pgn_game.specs.declared.judged.Judged.TheVariants.{Entry as InText}
-use Rattle.pgn_game.specs.declared.judged.Entry.TheVariants.{Number}
+use Rattle.pgn_game.specs.declared.judged.Entry.TheVariants.{Number, Move as Play}
+use Rattle.pgn_game.specs.declared.accepted.Accepted.{Accepted}
 use Rattle.pgn_game.specs.declared.accepted.Accepted.TheVariants.{More}
-use Rattle.pgn_layout.specs.Device.{device}
+use Rattle.pgn_game.specs.declared.reason.Reason.{Reason}
+use Rattle.pgn_game.specs.ReaderState.{ReaderState}
+use Rattle.pgn_game.specs.PutResult.{PutResult}
+use Rattle.pgn_layout.specs.Device.{Device, device}
+use Rattle.pgn_game.proofs.judging.MovesInMovetext.{move_judged}
 use Rattle.pgn_game.proofs.judging.NumbersInMovetext.{number_judged, number_untried, no_probes_rise, most_with_none}
 use Rattle.pgn_game.proofs.putting.ItemToReader.{number_passed}
 use Rattle.pgn_game.proofs.tokens.JudgedToAccepted.{accepted, refused, counts_refused, keeps_found, stays_found, finishes_at_marker}
@@ -94,4 +101,40 @@ returns-then-passes_number g c =
       counted = refl;
       plies = omega (arith, keeps.plies);
       probes = keeps.probes;
+    }
+
+-- A move with which movetext goes on.
+
+-- the move that was put
+abbrev move_of : (old new : ReaderState) (m : Bor Move) (r : Result Accepted Reason) (d : Device) → PutResult old (InText (Play m)) new r d → Bor Move
+move_of old new m r d puts = m
+
+pub play-requires : goal.play-requires
+play-requires g c =
+    let keeps = keeps_found c.args.self.now c.make_ready.new.self c.find-found.new.self (kind_of c.args.kind) c.make_ready.ensures c.find-found.ensures.counted in
+    let at = c.is_in_movetext.ensures.0 c.if-is_in_movetext.true in
+    let finds = subst (λ (f : Found). Finds c.find-found.new.self (kind_of c.args.kind) f) c.in-Move.is c.find-found.ensures.found in
+    (search reader_alike, (omega (arith, keeps.plies, c.requires.few), (at, ((ap may_have_movetext at, finds.legal.0, finds.legal.1), c.find-found.ensures.few))))
+
+pub returns-then-is_in_movetext : goal.returns-then-is_in_movetext
+returns-then-is_in_movetext g c =
+    let keeps = keeps_found c.args.self.now c.make_ready.new.self c.find-found.new.self (kind_of c.args.kind) c.make_ready.ensures c.find-found.ensures.counted in
+    let at = c.is_in_movetext.ensures.0 c.if-is_in_movetext.true in
+    let finds = subst (λ (f : Found). Finds c.find-found.new.self (kind_of c.args.kind) f) c.in-Move.is c.find-found.ensures.found in
+    let puts = c.play.ensures.puts in
+    let m = move_of _ _ _ _ _ puts in
+    let judges = move_judged g.row.T g.row.L c.find-found.new.self c.args.kind m at finds in
+    record {
+      accepts = λ part agrees.
+          accepted c.args.self.now c.make_ready.new.self c.find-found.new.self c.play.new.self part c.args.kind (after (InText (Play m))) c.play.result _ agrees c.make_ready.ensures
+          c.find-found.ensures.counted judges.judges puts.goes
+          (raises g.row.T g.row.L c.args.self.now c.make_ready.new.self c.find-found.new.self part c.args.kind _ agrees c.make_ready.ensures c.find-found.ensures.counted keeps.ready
+          c.find-found.ensures.tried c.find-found.ensures.most c.play.new.self (InText (Play m)) c.play.result _ _ judges.judges judges.fits puts.goes
+          c.play.ensures.tried c.play.ensures.most);
+      profile = puts.keeps.profile ∙ keeps.profile;
+      stays = stays_found c.args.self.now c.find-found.new.self c.play.new.self (kind_of c.args.kind) c.play.result keeps puts.stays;
+      finished = finishes_at_marker (kind_of c.args.kind) (InText (Play m)) c.play.new.self c.play.result judges.final_is_marker puts.finished;
+      counted = puts.counted;
+      plies = omega (arith, puts.keeps.plies, keeps.plies);
+      probes = omega (arith, puts.keeps.probes, keeps.probes);
     }

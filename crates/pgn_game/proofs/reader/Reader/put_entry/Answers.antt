@@ -1,30 +1,17 @@
-use Rattle.std.proofs.Common.{◌≡◌, max, ℕ, List, refl, ap, subst, ◌∙◌, arith, Err}
-use Rattle.std.proofs.Math.Nat.{le-max_left}
+use Rattle.std.proofs.Common.{ℕ, List, refl, ap, subst, ◌∙◌, arith, Err}
 use Rattle.std.proofs.lemmas.Result.{err_from_is_err_and}
 use Rattle.std.specs.Io.KnownBytes.{Appends}
 use Rattle.pgn_layout.specs.Device.{AppendsFront, one_more}
 use Rattle.pgn_layout.specs.Layout.{Put, EndGame, text_at, line_at}
 use Rattle.pgn_game.specs.declared.judged.Entry.{Entry}
-use Rattle.pgn_game.specs.ReaderState.{ReaderState}
 use Rattle.pgn_game.specs.Judgement.{EntryFits, IsProbed, model_item}
 use Rattle.pgn_game.specs.Game.{move}
 use Rattle.pgn_game.specs.declared.judged.Entry.TheVariants.{Move as Play, Item as PutItem}
 use Rattle.pgn_game.proofs.putting.WritesInTurn.{front_of_more, front_after}
 use Rattle.pgn_game.proofs.putting.ItemToMovetext.{no_move}
 use Rattle.pgn_game.proofs.putting.MarkerToReader.{puts_unbegun, ends_well, ends_ill}
-use Rattle.pgn_game.proofs.putting.ItemToReader.{IsAfterItem, begins_as, puts_number, puts_item, fails_item}
+use Rattle.pgn_game.proofs.putting.ItemToReader.{begins_as, probes_counted, puts_number, puts_item, fails_item}
 use Rattle.pgn_game.proofs.reader.Reader.put_entry.Goals as goal
-
--- the reader after a move, once its probes are counted
-after_move : (begun between new : ReaderState) (probes : ℕ) → new ≡ record between { most_probes = max between.most_probes probes }
-    → IsAfterItem begun between → IsAfterItem begun new
-after_move begun between new probes is next = record {
-  profile = ap (λ (r : ReaderState). r.profile) is ∙ next.profile;
-  stage = ap (λ (r : ReaderState). r.stage) is ∙ next.stage;
-  tags = ap (λ (r : ReaderState). r.tags) is ∙ next.tags;
-  earlier = ap (λ (r : ReaderState). r.earlier_plies) is ∙ next.earlier;
-  probes = omega (arith, ap (λ (r : ReaderState). r.most_probes) is, next.probes, le-max_left between.most_probes probes);
-}
 
 pub returns-in_err-begin_movetext-clause-puts : goal.returns-in_err-begin_movetext-clause-puts
 returns-in_err-begin_movetext-clause-puts g c =
@@ -45,7 +32,7 @@ returns-in_err-put-in-Move-clause-puts g c =
     let begins = begins_as old _ _ _ c.self.view_is c.in_ok-begin_movetext.ensures.begins in
     rw (c.in-Move.is, p.1 ∙ ap Err p.2)
     (fails_item old _ c.count_probes.new.self (Play m) (move m.now) c.in_err-put-in-Move.field-0.0 _ _ _ _ _ _ c.requires.fits.0 (λ part. refl) begins
-    (after_move _ _ c.count_probes.new.self c.put_move-put.new.probes c.count_probes.ensures (record { profile = refl; stage = refl; tags = refl; earlier = refl; probes = omega arith }))
+    (probes_counted _ _ c.count_probes.new.self c.put_first_move-put.new.probes c.count_probes.ensures (record { profile = refl; stage = refl; tags = refl; earlier = refl; probes = omega arith }))
     (rw c.count_probes.ensures c.in_err-put-in-Move.ensures.adds))
 
 pub returns-in_ok-put-in-Move-clause-puts : goal.returns-in_ok-put-in-Move-clause-puts
@@ -56,7 +43,7 @@ returns-in_ok-put-in-Move-clause-puts g c =
     let probed = subst (λ (e : Entry). IsProbed e old.most_probes) c.in-Move.is c.requires.fits.2 in
     rw c.in-Move.is
     (puts_item old _ c.count_probes.new.self (Play m) (move m.now) _ _ _ _ _ _ c.requires.fits.0 (λ part. refl) (λ is. probed) begins
-    (after_move _ _ c.count_probes.new.self c.put_move-put.new.probes c.count_probes.ensures (record { profile = refl; stage = refl; tags = refl; earlier = refl; probes = omega arith }))
+    (probes_counted _ _ c.count_probes.new.self c.put_first_move-put.new.probes c.count_probes.ensures (record { profile = refl; stage = refl; tags = refl; earlier = refl; probes = omega arith }))
     (rw c.count_probes.ensures c.in_ok-put-in-Move.ensures.adds))
 
 pub returns-in_err-put-in-Item-clause-puts : goal.returns-in_err-put-in-Item-clause-puts
