@@ -1,7 +1,7 @@
 -- **Definition**: where a piece of a kind is looked for, when a legal move to a square is sought.
 -- No standard has this: it is our own way to find moves, and a law says that it misses none.
 -- Letters: p is a position, k a kind of piece, s an origin, t a target.
-use Rattle.std.specs.Prelude.{ℕ, Bool, ◌&&◌, ◌||◌, List, [], ◌∷◌, filter, length, sum_by}
+use Rattle.std.specs.Prelude.{ℕ, Bool, ◌&&◌, ◌||◌, List, [], ◌∷◌, Option, None, Some, filter, length, sum_by}
 use Rattle.chess_rules.specs.declared.piece.Kind.{Kind}
 use Rattle.chess_rules.specs.declared.piece.Kind.TheVariants.{King, Queen, Rook, Bishop, Knight, Pawn}
 use Rattle.chess_rules.specs.declared.position.Parts.{Parts}
@@ -23,6 +23,11 @@ is_candidate p k t s = own p k s && sees k p s t
 -- all candidates of a kind for a target
 abbrev pub candidates : Parts → Kind → Square → List Square
 candidates p k t = filter (is_candidate p k t) squares
+
+-- the only one of them, or nothing if there is none or there are several
+abbrev pub lone : List Square → Option Square
+lone (s ∷ []) = Some s
+lone _ = None
 
 abbrev pub kinds : List Kind
 kinds = King ∷ Queen ∷ Rook ∷ Bishop ∷ Knight ∷ Pawn ∷ []

@@ -21,7 +21,7 @@ mod tables;
 mod tests;
 mod word;
 
-pub use candidates::{may_have_two_origins, origins};
+pub use candidates::{may_have_two_origins, only_origin, origins};
 pub use legal::{has_legal_move, in_check, position_after, try_pair};
 pub use piece::{Colour, Kind, Piece, Promotion};
 pub use position::{Move, Parts, Position, PositionFault, Rights};

@@ -13,7 +13,8 @@ ghost use Rattle.chess_text.specs.MoveOfForm as spec;
 use crate::form::Form;
 use chess_rules::laws::candidates_are_complete;
 use chess_rules::{
-    Colour, Kind, Move, Position, Probes, Promotion, Square, origins, position_after, try_pair,
+    Colour, Kind, Move, Position, Probes, Promotion, Square, only_origin, origins, position_after,
+    try_pair,
 };
 
 /// A legal move, and the position after it.
@@ -214,7 +215,7 @@ fn play(position: &Position, mv: Move) -> Played
     Played { mv, next }
 }
 
-// Tries the move from each origin, until a second one agrees.
+// Tries the move from each origin, until a second one agrees. Mostly there is one origin alone.
 fn resolve_piece_move(
     position: &Position,
     kind: Kind,
@@ -235,6 +236,18 @@ fn resolve_piece_move(
     ensures bound { probes.new ≤ probes.old + 8 }
 {
     candidates_are_complete();
+    if let Some(origin) = only_origin(position, kind, to) {
+        let mv = Move {
+            from: origin,
+            to,
+            promotion,
+        };
+        return if agrees(position, hints, &mv, probes) {
+            Ok(mv)
+        } else {
+            Err(SanFault::NoMove)
+        };
+    }
     let origins = origins(position, kind, to);
     let mut found = None;
     for origin in origins.as_slice() {

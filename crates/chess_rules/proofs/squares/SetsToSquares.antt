@@ -139,3 +139,7 @@ some_member w n lowest = by_length (members w) (there lowest.inside)
     by_length : (xs : List Square) → list_any (same_square (square_at n)) xs ≡ true → 0 < length xs
     by_length [] h = cc
     by_length (x ∷ xs) h = omega arith
+
+-- the same of a word
+pub one_member : (w : ℕ) → 0 < w → w < 2 ^ 64 → 0 < length (members w)
+one_member w some fits = some_member w (trailing_zeros w64 w) (lowest_place w some fits)

@@ -1,6 +1,6 @@
 //! Candidates, move counts by way of them, mates and stalemates.
 
-use crate::candidates::{may_have_two_origins, origins};
+use crate::candidates::{may_have_two_origins, only_origin, origins};
 use crate::legal::{has_legal_move, in_check, try_pair};
 use crate::piece::{Colour, Kind, Piece};
 use crate::position::{Move, Parts, Position, Rights};
@@ -39,6 +39,11 @@ fn assert_origins(
     };
     assert_eq!(rt; origins(position, kind, target).len(), names.len());
     assert!(rt; names.len() <= 1 || may_have_two_origins(position, kind, target));
+    let only = match names {
+        [name] => square(*name),
+        _ => None,
+    };
+    assert_eq!(rt; only_origin(position, kind, target), only);
     for name in names {
         let Some(origin) = square(*name) else {
             assert!(rt; false);
