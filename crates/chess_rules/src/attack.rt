@@ -20,7 +20,7 @@ use crate::tables::{ADJACENT, BETWEEN, BLACK_PAWNS, DIAGONALS, JUMPS_TO, LINES, 
 use crate::word::{has, highest, lowest, single, with};
 
 // The first occupied square on the way from `from`.
-pub(crate) fn first_on(board: &Board, direction: Direction, from: Square) -> Option<Square>
+fn first_on(board: &Board, direction: Direction, from: Square) -> Option<Square>
     ensures { result ≡ walk.first_on board.now direction from }
 {
     from.recall_invariant();
@@ -59,14 +59,6 @@ fn first_pieces(board: &Board, target: Square) -> u64
         | first_piece(board, DIRECTIONS[5], target)
         | first_piece(board, DIRECTIONS[6], target)
         | first_piece(board, DIRECTIONS[7], target)
-}
-
-// Whether the two are side by side, on a rank, a file or a diagonal.
-pub(crate) fn is_adjacent(from: Square, to: Square) -> bool
-    ensures { result ≡ square.is_adjacent from to }
-{
-    from.recall_invariant();
-    has(adjacent(to), from.index())
 }
 
 // Whether a pawn of the colour goes from the first rank to the second one.
@@ -285,6 +277,17 @@ fn has_clear_slider(board: &Board, by: Colour, target: Square) -> bool
     }
     let others = with(sliders, place, false);
     others != 0 && others & first_pieces(board, target) != 0
+}
+
+// Where an attack of the colour on the square can be met: at each attacker, and between it and the
+// square.
+pub(crate) fn defences(board: &Board, by: Colour, target: Square) -> u64 {
+    let attackers = near_attackers(board, by, target)
+        | clear_among(board, sliders(board, by, target), target);
+    if attackers == 0 {
+        return 0;
+    }
+    attackers | between(Square::nth(lowest(attackers)), target)
 }
 
 // Whether a piece of the colour attacks the square.

@@ -1,20 +1,19 @@
 //! Trying all pairs of an origin and a target, until one is legal.
 
-ghost use Rattle.std.specs.Prelude.{◌≡◌, ◌+◌, ◌<◌, ◌^◌, length};
+ghost use Rattle.std.specs.Prelude.{◌≡◌, ◌+◌, ◌<◌, ◌^◌, length, sum_by};
 ghost use Rattle.std.specs.List.{list_any};
 ghost use Rattle.chess_rules.specs.Pairs as spec;
 ghost use Rattle.chess_rules.specs.Pairs.{Counts};
-ghost use Rattle.chess_rules.specs.Words.{members};
+ghost use Rattle.chess_rules.specs.Words.{Places, members};
 
-use crate::attack::{adjacent, first_on, is_adjacent, knights_to};
-use crate::direction::{DIRECTIONS, Direction};
+use crate::attack::{adjacent, aligned, clear_among, defences, knights_to};
 use crate::legal::is_legal;
 use crate::piece::{Kind, Promotion};
 use crate::position::{Move, Position};
 use crate::probes::Probes;
 use crate::square::Square;
 use crate::step::last_rank;
-use crate::word::{lowest, with};
+use crate::word::{has, lowest, with};
 
 // What a pawn becomes if the pair is tried: all four promotions are legal, or none.
 fn one_promotion(position: &Position, from: Square, to: Square) -> Option<Promotion>
@@ -41,50 +40,6 @@ fn is_legal_pair(position: &Position, from: Square, to: Square, probes: &mut Pro
         promotion,
     };
     is_legal(position, mv, probes)
-}
-
-// Tries the pair, if there is an origin, and returns whether it is legal.
-fn is_legal_from(
-    position: &Position,
-    origin: Option<Square>,
-    target: Square,
-    probes: &mut Probes,
-) -> bool
-    requires { probes.old + spec.tried origin < 2 ^ 32 }
-    ensures found { result ≡ spec.is_legal_from position.now target origin }
-    ensures count { probes.new ≡ probes.old + spec.tried origin }
-{
-    match origin {
-        None => false,
-        Some(origin) => is_legal_pair(position, origin, target, probes),
-    }
-}
-
-// Whether the piece on the origin is still to be tried: it is of the side to move, no knight, and
-// no king with a step that was tried.
-fn is_untried(position: &Position, near: bool, origin: Square) -> bool
-    ensures { result ≡ spec.is_untried position.now near origin }
-{
-    match position.board().at(origin) {
-        None => false,
-        Some(piece) => {
-            piece.colour == position.side()
-                && piece.kind != Kind::Knight
-                && !(near && piece.kind == Kind::King)
-        }
-    }
-}
-
-// The first piece in that direction from the target, if it is still to be tried.
-fn untried_on(position: &Position, near: bool, target: Square, way: Direction) -> Option<Square>
-    ensures { result ≡ spec.untried_on position.now near target way }
-{
-    let origin = first_on(position.board(), way, target)?;
-    if is_untried(position, near, origin) {
-        Some(origin)
-    } else {
-        None
-    }
 }
 
 // Whether the pair of one of these origins and the target is legal.
@@ -122,24 +77,47 @@ fn any_to(position: &Position, from: Square, targets: u64, probes: &mut Probes) 
     false
 }
 
-// Whether a single step of the king is legal.
+// The king's steps that are tried first: single steps to squares without a piece of its side.
+fn king_steps(position: &Position) -> u64
+    ensures { Places result (spec.is_king_step position.now) }
+{
+    adjacent(position.king()) & !position.board().of_colour(position.side())
+}
+
+// Whether one of the king's steps that are tried first is legal.
 pub(crate) fn any_king_step(position: &Position, probes: &mut Probes) -> bool
     requires { probes.old + spec.count_king_steps position.now < 2 ^ 32 }
     ensures found { result ≡ spec.any_king_step position.now }
     ensures count { Counts result probes.old probes.new (spec.count_king_steps position.now) }
 {
-    let king = position.king();
-    any_to(position, king, adjacent(king), probes)
+    any_to(position, position.king(), king_steps(position), probes)
 }
 
-// Whether a pair is legal that is no single step of the king.
+// Whether another pair is legal.
+//
+// The targets where a check can be met come first. The others are needed for the count, and for
+// en passant.
 pub(crate) fn any_other(position: &Position, probes: &mut Probes) -> bool
     requires { probes.old + spec.count_others position.now < 2 ^ 32 }
     ensures found { result ≡ spec.any_other position.now }
     ensures count { Counts result probes.old probes.new (spec.count_others position.now) }
 {
-    for index in 0..64 {
-        if any_untried(position, Square::nth(index), probes) {
+    let first = defences(position.board(), position.side().other(), position.king());
+    any_onto(position, first, probes) || any_onto(position, !first, probes)
+}
+
+// Whether a pair that is still to be tried for one of the targets is legal.
+fn any_onto(position: &Position, targets: u64, probes: &mut Probes) -> bool
+    requires { probes.old + sum_by (spec.count_untried position.now) (members targets) < 2 ^ 32 }
+    ensures found { result ≡ list_any (spec.any_untried position.now) (members targets) }
+    ensures count { Counts result probes.old probes.new
+        (sum_by (spec.count_untried position.now) (members targets)) }
+{
+    let mut left = targets;
+    while left != 0 {
+        let place = lowest(left);
+        left = with(left, place, false);
+        if any_untried(position, Square::nth(place), probes) {
             return true;
         }
     }
@@ -152,32 +130,30 @@ fn any_untried(position: &Position, target: Square, probes: &mut Probes) -> bool
     ensures found { result ≡ spec.any_untried position.now target }
     ensures count { Counts result probes.old probes.new (spec.count_untried position.now target) }
 {
-    let near = is_adjacent(position.king(), target);
-    any_on_ways(position, near, target, probes) || any_by_jumps(position, target, probes)
+    any_from(position, untried(position, target), target, probes)
 }
 
-fn any_on_ways(position: &Position, near: bool, target: Square, probes: &mut Probes) -> bool
-    requires { probes.old + spec.count_on_ways position.now near target < 2 ^ 32 }
-    ensures found { result ≡ spec.any_on_ways position.now near target }
-    ensures count { Counts result probes.old probes.new
-        (spec.count_on_ways position.now near target) }
-{
-    for way in DIRECTIONS.iter() {
-        let origin = untried_on(position, near, target, *way);
-        if is_legal_from(position, origin, target, probes) {
-            return true;
-        }
-    }
-    false
-}
-
-// Whether the pair of a knight and the target is legal.
-fn any_by_jumps(position: &Position, target: Square, probes: &mut Probes) -> bool
-    requires { probes.old + spec.count_by_jumps position.now target < 2 ^ 32 }
-    ensures found { result ≡ spec.any_by_jumps position.now target }
-    ensures count { Counts result probes.old probes.new (spec.count_by_jumps position.now target) }
+// The pieces that are still to be tried for the target: of the side to move, a jump away for a
+// knight and else in sight, and no king whose step was tried.
+fn untried(position: &Position, target: Square) -> u64
+    ensures { Places result (spec.is_untried position.now target) }
 {
     target.recall_invariant();
-    let knights = position.board().pieces(position.side(), Kind::Knight);
-    any_from(position, knights & knights_to(target), target, probes)
+    let board = position.board();
+    let side = position.side();
+    let knights = board.pieces(side, Kind::Knight);
+    let riders = board.of_colour(side) & !knights & aligned(target);
+    knights & knights_to(target) | clear_among(board, left_of(position, riders, target), target)
+}
+
+// The pieces without the king, if its step to the target was tried.
+fn left_of(position: &Position, pieces: u64, target: Square) -> u64
+    ensures { Places result (spec.is_left position.now pieces target) }
+{
+    target.recall_invariant();
+    if has(king_steps(position), target.index()) {
+        pieces & !position.board().pieces(position.side(), Kind::King)
+    } else {
+        pieces
+    }
 }

@@ -1,7 +1,7 @@
 -- Way by way and jump by jump, exactly the candidates are found, each once.
 use Rattle.std.proofs.Common.{◌≡◌, ℕ, ◌+◌, ◌-◌, ◌*◌, ◌<◌, ◌≤◌, Bool, true, false, not, eqb, ◌&&◌, ◌||◌, List, map, length, Decides, ◌⊎◌, inl, inr, refl, sym, ◌∙◌, ap, ap₂, subst, arith}
 use Rattle.std.specs.Prelude.{◌==◌, Option, None, Some, is_none, AllPairs, ◌≢◌, if◌then◌else◌, nat_lt}
-use Rattle.std.specs.List.{list_any, list_all, IsDistinct}
+use Rattle.std.specs.List.{list_any, list_all, filter_map, IsDistinct}
 use Rattle.std.specs.List.Sorted.{IsPermutation}
 use Rattle.std.specs.Cmp.{IsEquivalence}
 use Rattle.std.proofs.lemmas.Bool.Decides.{nat_tests}
@@ -23,13 +23,33 @@ use Rattle.chess_rules.specs.Attacks.{is_clear}
 use Rattle.chess_rules.specs.Step.{own}
 use Rattle.chess_rules.specs.Candidate.{sees, is_candidate, candidates}
 use Rattle.chess_rules.specs.Walk.{is_aligned, coordinate_after, has_room, further, fits, stepped, first_on, shift_between, direction_between, direction_number}
-use Rattle.chess_rules.specs.Pairs.{if_own, origin_on, origin_by, on_ways, by_jumps}
 use Rattle.chess_rules.specs.Laws.{FewCandidates}
 use Rattle.chess_rules.proofs.squares.AllSquares.{first_true, second_true, both_true, same_tests, Passes, some_square, any_square}
 use Rattle.chess_rules.proofs.rays.FirstToSeen.{Seen, seen_from_first}
 use Rattle.chess_rules.proofs.rays.SeenToFirst.{stays, is_still, gap_back, InSight, in_sight_from_seen, gone_below}
 use Rattle.chess_rules.proofs.rays.AttacksByRay.{both_of_any, is_leap, leap_reaches, gap_moved, stepped_unless, stepped_when, squares_same, jump_there, way_there}
 use Rattle.chess_rules.proofs.trying.FoundLists.{passes, keep, filter_as_map, list_any-filter, list_any-filter_map, length-filter_map, distinct_found, permutation_from_members}
+
+-- Origins of one kind. Letters: d is a direction, j a jump.
+
+-- the square, if a piece of the kind, of the side to move, stands there
+abbrev pub if_own : Parts → Kind → Option Square → Option Square
+if_own p k None = None
+if_own p k (Some s) = if own p k s then Some s else None
+
+-- the first piece in that direction from t, if it is of the kind and of the side to move
+abbrev pub origin_on : Parts → Kind → Square → Direction → Option Square
+origin_on p k t d = if_own p k (first_on p.board d t)
+
+-- a knight that jump away from t
+abbrev pub origin_by : Parts → Square → Jump → Option Square
+origin_by p t j = if_own p Knight (stepped j.way t j.files j.ranks)
+
+unfoldable pub on_ways : Parts → Kind → Square → List Square
+on_ways p k t = filter_map (origin_on p k t) DIRECTIONS
+
+unfoldable pub by_jumps : Parts → Square → List Square
+by_jumps p t = filter_map (origin_by p t) JUMPS
 
 -- One square.
 

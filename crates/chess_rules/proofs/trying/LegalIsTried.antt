@@ -1,6 +1,6 @@
 -- A move is legal exactly if one of the pairs that are tried is.
 use Rattle.std.proofs.Common.{◌≡◌, ◌<◌, Bool, true, false, not, ◌&&◌, ◌||◌, inl, inr, List, [], ◌∷◌, refl, sym, ◌∙◌, ap, ap₂, subst, arith}
-use Rattle.std.specs.Prelude.{Option, None, Some, is_none, if◌then◌else◌}
+use Rattle.std.specs.Prelude.{Option, None, Some, filter, is_none, if◌then◌else◌}
 use Rattle.std.specs.List.{list_any}
 use Rattle.chess_rules.specs.declared.direction.TheConstants.{DIRECTIONS, JUMPS}
 use Rattle.chess_rules.specs.declared.piece.Colour.{Colour}
@@ -18,9 +18,10 @@ use Rattle.chess_rules.specs.Step.{own, promotion_fits, is_target, short_right, 
 use Rattle.chess_rules.specs.Board.{is_empty}
 use Rattle.chess_rules.specs.Legal.{is_legal, every_promotion, has_legal_move}
 use Rattle.chess_rules.specs.Candidate.{sees}
-use Rattle.chess_rules.specs.Walk.{stepped, king_square, square_at}
+use Rattle.chess_rules.specs.Attacks.{is_clear}
+use Rattle.chess_rules.specs.Walk.{is_aligned, king_square}
 use Rattle.chess_rules.specs.Board.{cell_of}
-use Rattle.chess_rules.specs.Pairs.{origin_by, one_move, is_legal_pair, is_legal_from, is_near, king_step, is_untried, if_untried, untried_on, any_on_ways, any_by_jumps, any_untried, any_king_step, any_other, indexes, is_legal_on, is_legal_by, king_step_is_legal_at, any_untried_at}
+use Rattle.chess_rules.specs.Pairs.{one_move, is_legal_pair, is_king_step, is_untried, is_untried_rider, any_untried, any_king_step, any_other}
 use Rattle.chess_rules.proofs.squares.AllSquares.{split_or, or_first, or_second, first_true, second_true, both_true, same_tests, Passes, some_square, any_square, any_of_range, range_of_any}
 use Rattle.chess_rules.proofs.positions.OneKing.{king_stands, king_only_there, square_at-cell_of}
 use Rattle.chess_rules.proofs.moves.CellsAfterPut.{OnBoard}
@@ -29,8 +30,8 @@ use Rattle.chess_rules.proofs.moves.StepsKeepBoard.{one_kind, castles_means}
 use Rattle.chess_rules.proofs.moves.LegalToPosition.{on_board_means, way_of, Legal}
 use Rattle.chess_rules.proofs.trying.OriginsAreCandidates.{step_seen}
 use Rattle.chess_rules.proofs.rays.AttacksByRay.{both_of_any, jump_there, way_there}
-use Rattle.chess_rules.proofs.trying.FoundLists.{to_false}
-use Rattle.chess_rules.proofs.trying.CandidatesFoundOnce.{if_own_there, occupied, is_rider, kind_cases, sees_by_way}
+use Rattle.chess_rules.proofs.trying.FoundLists.{to_false, list_any-filter}
+use Rattle.chess_rules.proofs.trying.CandidatesFoundOnce.{is_rider, kind_cases, sees_by_way}
 use Rattle.chess_rules.proofs.trying.PromotionsAlike.{legal_after, one_will_do}
 
 -- What is hit is a legal move.
@@ -58,48 +59,27 @@ moves_when p m h = by_squares (legal_after p m h)
         (any_square (λ t. some_promotion p m.from t) m.to to.file to.rank
         (any_promotion (λ promotion. is_legal p (record { from = m.from; to = m.to; promotion = promotion })) m.promotion h))
 
-moves_when_hit : (p : Parts) (t : Square) (o : Option Square) → is_legal_from p t o ≡ true → has_legal_move p ≡ true
+moves_with_pair : (p : Parts) (s t : Square) → is_legal_pair p s t ≡ true → has_legal_move p ≡ true
 unfolding is_legal_pair
-moves_when_hit p t None h = cc
-moves_when_hit p t (Some s) h = moves_when p (one_move p s t) h
-
-moves_on_ways : (p : Parts) (near : Bool) (t : Square) → any_on_ways p near t ≡ true → has_legal_move p ≡ true
-unfolding any_on_ways
-moves_on_ways p near t h =
-    let (d, hit, _) = both_of_any (is_legal_on p near t) (λ d. true) DIRECTIONS h refl in
-    moves_when_hit p t (untried_on p near t d) hit
-
-moves_by_jumps : (p : Parts) (t : Square) → any_by_jumps p t ≡ true → has_legal_move p ≡ true
-unfolding any_by_jumps
-moves_by_jumps p t h =
-    let (j, hit, _) = both_of_any (is_legal_by p t) (λ j. true) JUMPS h refl in
-    moves_when_hit p t (origin_by p t j) hit
+moves_with_pair p s t h = moves_when p (one_move p s t) h
 
 moves_with_king : (p : Parts) → any_king_step p ≡ true → has_legal_move p ≡ true
-unfolding any_king_step indexes
+unfolding any_king_step
 moves_with_king p h =
-    let (i, _, _, hit) = any_of_range (king_step_is_legal_at p) 0 64 h in
-    moves_when_hit p (square_at i) (king_step p (square_at i)) hit
+    let king : Square = king_square p.side p.board in
+    let to : Passes (λ t. is_king_step p t && is_legal_pair p king t) = some_square (λ t. is_king_step p t && is_legal_pair p king t) (sym (list_any-filter (is_legal_pair p king) (is_king_step p) squares) ∙ h) in
+    moves_with_pair p king to.on (second_true (is_king_step p to.on) _ to.holds)
 
 moves_with_other : (p : Parts) → any_other p ≡ true → has_legal_move p ≡ true
-unfolding any_other indexes
-moves_with_other p h =
-    let (i, _, _, hit) = any_of_range (any_untried_at p) 0 64 h in
-    elim (split_or (any_on_ways p (is_near p (square_at i)) (square_at i)) (any_by_jumps p (square_at i)) hit) [
-      | inl ways ↦ moves_on_ways p (is_near p (square_at i)) (square_at i) ways
-      | inr jumps ↦ moves_by_jumps p (square_at i) jumps
-    ]
+unfolding any_other any_untried
+moves_with_other p h = by_target (some_square (λ t. list_any (λ s. is_legal_pair p s t) (filter (is_untried p t) squares)) h)
+  where
+    by_target : Passes (λ t. list_any (λ s. is_legal_pair p s t) (filter (is_untried p t) squares)) → has_legal_move p ≡ true
+    by_target to =
+        let from : Passes (λ s. is_untried p to.on s && is_legal_pair p s to.on) = some_square (λ s. is_untried p to.on s && is_legal_pair p s to.on) (sym (list_any-filter (λ s. is_legal_pair p s to.on) (is_untried p to.on) squares) ∙ to.holds) in
+        moves_with_pair p from.on to.on (second_true (is_untried p to.on from.on) _ from.holds)
 
 -- A legal move is hit.
-
-at_index : (test : Square → Bool) (t : Square) → OnBoard t → test t ≡ true → list_any (λ i. test (square_at i)) indexes ≡ true
-unfolding indexes
-at_index test t on h =
-    let f : t.file < 8 = on.file in let r : t.rank < 8 = on.rank in
-    range_of_any (λ i. test (square_at i)) 0 64 (cell_of t) (omega arith) (omega arith) (ap test (square_at-cell_of t on.file) ∙ h)
-
-hit_there : (p : Parts) (s t : Square) (o : Option Square) → o ≡ Some s → is_legal_pair p s t ≡ true → is_legal_from p t o ≡ true
-hit_there p s t o there h = ap (is_legal_from p t) there ∙ h
 
 -- the piece is one of some kind
 kind_there : (c : Colour) (cell : Option Piece) → has_colour c cell ≡ true → (k : Kind) × (has_piece c k cell ≡ true)
@@ -134,37 +114,43 @@ mover p q m l =
       ]
     ]
 
-king_hit : (p : Parts) (s t : Square) → Sound p → OnBoard s → OnBoard t → own p King s ≡ true → is_near p t ≡ true → is_legal_pair p s t ≡ true → any_king_step p ≡ true
+king_hit : (p : Parts) (s t : Square) → Sound p → OnBoard s → OnBoard t → own p King s ≡ true → is_king_step p t ≡ true → is_legal_pair p s t ≡ true → any_king_step p ≡ true
 unfolding any_king_step
-king_hit p s t sound on_s on_t owns near h =
-    at_index (λ u. is_legal_from p u (king_step p u)) t on_t (hit_there p s t (king_step p t) (ap (λ v. if v then Some (king_square p.side p.board) else None) near ∙ ap Some (sym one)) h)
+king_hit p s t sound on_s on_t owns step h =
+    list_any-filter (is_legal_pair p (king_square p.side p.board)) (is_king_step p) squares
+    ∙ any_square (λ u. is_king_step p u && is_legal_pair p (king_square p.side p.board) u) t on_t.file on_t.rank
+    (both_true (is_king_step p t) (is_legal_pair p (king_square p.side p.board) t) step (subst (λ (u : Square). is_legal_pair p u t ≡ true) one h))
   where
     one : s ≡ king_square p.side p.board
     one = king_only_there p.side p.board s (king_square p.side p.board) sound.long (sound.kings_of p.side)
         (record { file = on_s.file; rank = on_s.rank; king = owns }) (king_stands p.side p.board sound.long (sound.kings_of p.side))
 
-jump_hit : (p : Parts) (s t : Square) → OnBoard s → OnBoard t → own p Knight s ≡ true → is_jump s t ≡ true → is_legal_pair p s t ≡ true → any_other p ≡ true
-unfolding any_other any_by_jumps
-jump_hit p s t on_s on_t owns jumps h =
-    at_index (any_untried p) t on_t
-    (or_second (any_on_ways p (is_near p t) t) _
-    (jump_there (is_legal_by p t) s t on_s.file on_s.rank jumps
-    (λ j there. hit_there p s t (origin_by p t j) (if_own_there p Knight (stepped j.way t j.files j.ranks) s there owns) h)))
+other_hit : (p : Parts) (s t : Square) → OnBoard s → OnBoard t → is_untried p t s ≡ true → is_legal_pair p s t ≡ true → any_other p ≡ true
+unfolding any_other any_untried
+other_hit p s t on_s on_t left h =
+    any_square (λ u. list_any (λ q. is_legal_pair p q u) (filter (is_untried p u) squares)) t on_t.file on_t.rank
+    (list_any-filter (λ q. is_legal_pair p q t) (is_untried p t) squares
+    ∙ any_square (λ q. is_untried p t q && is_legal_pair p q t) s on_s.file on_s.rank (both_true (is_untried p t s) (is_legal_pair p s t) left h))
 
-way_hit : (p : Parts) (k : Kind) (s t : Square) → OnBoard s → OnBoard t → own p k s ≡ true → is_rider k ≡ true → sees k p s t ≡ true → (is_near p t && own p King s) ≡ false → is_legal_pair p s t ≡ true → any_other p ≡ true
-unfolding any_other any_on_ways
-way_hit p k s t on_s on_t owns rides seen far h =
-    at_index (any_untried p) t on_t
-    (or_first _ (any_by_jumps p t)
-    (way_there (is_legal_on p (is_near p t) t) p.board s t on_s.file on_s.rank on_t.file on_t.rank
-    (sym (sees_by_way p k s t rides) ∙ seen) (occupied p k s owns)
-    (λ d there. hit_there p s t (untried_on p (is_near p t) t d) (ap (if_untried p (is_near p t)) there ∙ ap (λ v. if v then Some s else None) stays_left) h)))
+jump_untried : (p : Parts) (s t : Square) → own p Knight s ≡ true → is_jump s t ≡ true → is_untried p t s ≡ true
+jump_untried p s t owns jumps = or_first (own p Knight s && is_jump s t) (is_untried_rider p t s) (both_true _ _ owns jumps)
+
+way_untried : (p : Parts) (k : Kind) (s t : Square) → own p k s ≡ true → is_rider k ≡ true → sees k p s t ≡ true → (is_king_step p t && own p King s) ≡ false → is_untried p t s ≡ true
+way_untried p k s t owns rides seen far =
+    or_second (own p Knight s && is_jump s t) (is_untried_rider p t s)
+    (both_true (((has_colour p.side (at p.board s) && not (own p Knight s)) && is_aligned s t) && not (is_king_step p t && own p King s)) (is_clear p.board s t)
+    (both_true ((has_colour p.side (at p.board s) && not (own p Knight s)) && is_aligned s t) (not (is_king_step p t && own p King s))
+    (both_true (has_colour p.side (at p.board s) && not (own p Knight s)) (is_aligned s t)
+    (both_true (has_colour p.side (at p.board s)) (not (own p Knight s)) (colour_there p.side k (at p.board s) owns) (ap not no_knight))
+    (first_true (is_aligned s t) (is_clear p.board s t) in_sight))
+    (ap not far))
+    (second_true (is_aligned s t) (is_clear p.board s t) in_sight))
   where
+    in_sight : (is_aligned s t && is_clear p.board s t) ≡ true
+    in_sight = sym (sees_by_way p k s t rides) ∙ seen
+
     no_knight : own p Knight s ≡ false
     no_knight = to_false (own p Knight s) (λ knight. cc (rides, ap is_rider (one_kind p.side p.side k Knight (at p.board s) owns knight)))
-
-    stays_left : is_untried p (is_near p t) s ≡ true
-    stays_left = both_true _ _ (both_true _ _ (colour_there p.side k (at p.board s) owns) (ap not no_knight)) (ap not far)
 
 hit_when : (p : Parts) (m : Move) → is_position p ≡ true → is_legal p m ≡ true → (any_king_step p || any_other p) ≡ true
 hit_when p m position h = by_legal (legal_after p m h)
@@ -178,15 +164,15 @@ hit_when p m position h = by_legal (legal_after p m h)
     by_kind : OnBoard m.from → OnBoard m.to → (k : Kind) → own p k m.from ≡ true → sees k p m.from m.to ≡ true → (any_king_step p || any_other p) ≡ true
     by_kind from to k owns seen =
         elim (kind_cases k) [
-          | inl rides ↦ by_near (is_near p m.to) refl (own p King m.from) refl rides
+          | inl rides ↦ by_step (is_king_step p m.to) refl (own p King m.from) refl rides
           | inr knight ↦ or_second (any_king_step p) _
-              (jump_hit p m.from m.to from to (subst (λ (l : Kind). own p l m.from ≡ true) knight owns) (subst (λ (l : Kind). sees l p m.from m.to ≡ true) knight seen) pair)
+              (other_hit p m.from m.to from to (jump_untried p m.from m.to (subst (λ (l : Kind). own p l m.from ≡ true) knight owns) (subst (λ (l : Kind). sees l p m.from m.to ≡ true) knight seen)) pair)
         ]
       where
-        by_near : (x : Bool) → is_near p m.to ≡ x → (y : Bool) → own p King m.from ≡ y → is_rider k ≡ true → (any_king_step p || any_other p) ≡ true
-        by_near true near true king rides = or_first _ (any_other p) (king_hit p m.from m.to sound from to king near pair)
-        by_near true near false other rides = or_second (any_king_step p) _ (way_hit p k m.from m.to from to owns rides seen (ap₂ (λ v w. v && w) near other) pair)
-        by_near false far y other rides = or_second (any_king_step p) _ (way_hit p k m.from m.to from to owns rides seen (ap₂ (λ v w. v && w) far other) pair)
+        by_step : (x : Bool) → is_king_step p m.to ≡ x → (y : Bool) → own p King m.from ≡ y → is_rider k ≡ true → (any_king_step p || any_other p) ≡ true
+        by_step true step true king rides = or_first _ (any_other p) (king_hit p m.from m.to sound from to king step pair)
+        by_step true step false other rides = or_second (any_king_step p) _ (other_hit p m.from m.to from to (way_untried p k m.from m.to owns rides seen (ap₂ (λ v w. v && w) step other)) pair)
+        by_step false far y other rides = or_second (any_king_step p) _ (other_hit p m.from m.to from to (way_untried p k m.from m.to owns rides seen (ap₂ (λ v w. v && w) far other)) pair)
 
     by_legal : ((q : Parts) × Legal p m q) → (any_king_step p || any_other p) ≡ true
     by_legal (q, l) =

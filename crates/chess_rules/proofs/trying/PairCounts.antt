@@ -1,7 +1,7 @@
 -- How many pairs there are: the king's single steps and the others, target by target, and at most
 -- sixteen for each.
-use Rattle.std.proofs.Common.{◌≡◌, ℕ, zero, suc, ◌+◌, ◌*◌, ◌<◌, ◌≤◌, Bool, true, false, not, cond, ◌&&◌, List, [], ◌∷◌, map, length, inl, inr, refl, sym, ◌∙◌, ap, ap₂, subst, arith}
-use Rattle.std.specs.Prelude.{Option, None, Some, if◌then◌else◌}
+use Rattle.std.proofs.Common.{◌≡◌, ℕ, zero, suc, ◌+◌, ◌*◌, ◌<◌, ◌≤◌, Bool, true, false, not, cond, ◌&&◌, ◌||◌, List, [], ◌∷◌, map, length, inl, inr, refl, sym, ◌∙◌, ap, ap₂, subst, arith}
+use Rattle.std.specs.Prelude.{Option, None, Some, filter, nat_le, if◌then◌else◌}
 use Rattle.std.specs.List.{list_any, sum_by, filter_map, cons_option, range_with_len, IsDistinct}
 use Rattle.std.proofs.lemmas.List.Folds.{fold-map}
 use Rattle.std.proofs.lemmas.List.Sums.{sum_by-cons, sum_by-le-sum_by}
@@ -13,19 +13,26 @@ use Rattle.chess_rules.specs.declared.piece.Kind.{Kind}
 use Rattle.chess_rules.specs.declared.piece.Kind.TheVariants.{King, Queen, Rook, Bishop, Knight, Pawn}
 use Rattle.chess_rules.specs.declared.piece.Piece.{Piece}
 use Rattle.chess_rules.specs.declared.position.Parts.{Parts}
-use Rattle.chess_rules.specs.Square.{Square, squares, same_square, is_adjacent}
+use Rattle.chess_rules.specs.Square.{Square, squares, same_square, is_adjacent, is_jump}
 use Rattle.chess_rules.specs.Board.{at, same_colour, same_kind, has_colour, has_piece}
+use Rattle.chess_rules.specs.Attacks.{is_clear}
 use Rattle.chess_rules.specs.Step.{own}
 use Rattle.chess_rules.specs.Candidate.{sees, is_candidate, candidates, kinds, pair_count}
-use Rattle.chess_rules.specs.Walk.{first_on, king_square, square_at}
-use Rattle.chess_rules.specs.Pairs.{if_own, origin_on, origin_by, on_ways, by_jumps, tried, is_near, king_step, if_untried, untried_on, count_on_ways, count_by_jumps, count_untried, count_king_steps, count_others, indexes}
+use Rattle.chess_rules.specs.Walk.{first_on, is_aligned, king_square, square_at}
+use Rattle.chess_rules.specs.Pairs.{is_king_step, is_untried, count_untried, count_king_steps, count_others}
 use Rattle.chess_rules.proofs.squares.AllSquares.{split_or, or_first, first_true, second_true, both_true, same_tests, Passes, some_square, any_square}
 use Rattle.chess_rules.proofs.positions.OneKing.{StandsAt, king_stands, king_only_there}
 use Rattle.chess_rules.proofs.positions.RulesOfPosition.{Sound}
 use Rattle.chess_rules.proofs.moves.CellsAfterPut.{OnBoard}
 use Rattle.chess_rules.proofs.rays.AttacksByRay.{attack_seen}
+use Rattle.chess_rules.proofs.rays.SeenToFirst.{gap_back}
 use Rattle.chess_rules.proofs.trying.FoundLists.{list_any-filter}
-use Rattle.chess_rules.proofs.trying.CandidatesFoundOnce.{square_laws, candidates_apart, is_rider, on_ways_are, by_jumps_are, length_by_jumps}
+use Rattle.chess_rules.proofs.trying.CandidatesFoundOnce.{if_own, origin_on, on_ways, by_jumps, square_laws, candidates_apart, is_rider, on_ways_are, by_jumps_are, length_by_jumps}
+
+-- How many squares an option has.
+abbrev tried : Option Square → ℕ
+tried None = 0
+tried (Some s) = 1
 
 -- Sums.
 
@@ -73,24 +80,6 @@ length-found h (x ∷ xs) = one_more (h x) (filter_map h xs) ∙ (ap (λ n. trie
 abbrev found_if : Bool → Square → ℕ
 found_if v s = tried (if v then Some s else None)
 
-one_kind_found : (v near : Bool) (k : Kind) (s : Square)
-    → found_if (v && same_kind King k) s + found_if (v && same_kind Queen k) s + found_if (v && same_kind Rook k) s + found_if (v && same_kind Bishop k) s + found_if (v && same_kind Pawn k) s
-    ≡ found_if ((v && not (v && same_kind Knight k)) && not (near && (v && same_kind King k))) s + cond near (found_if (v && same_kind King k) s) 0
-one_kind_found false false k s = refl
-one_kind_found false true k s = refl
-one_kind_found true false King s = refl
-one_kind_found true false Queen s = refl
-one_kind_found true false Rook s = refl
-one_kind_found true false Bishop s = refl
-one_kind_found true false Knight s = refl
-one_kind_found true false Pawn s = refl
-one_kind_found true true King s = refl
-one_kind_found true true Queen s = refl
-one_kind_found true true Rook s = refl
-one_kind_found true true Bishop s = refl
-one_kind_found true true Knight s = refl
-one_kind_found true true Pawn s = refl
-
 one_at_most : (v : Bool) (k : Kind) (s : Square)
     → found_if (v && same_kind King k) s + found_if (v && same_kind Queen k) s + found_if (v && same_kind Rook k) s + found_if (v && same_kind Bishop k) s + found_if (v && same_kind Pawn k) s ≤ 1
 one_at_most false k s = omega arith
@@ -100,20 +89,6 @@ one_at_most true Rook s = omega arith
 one_at_most true Bishop s = omega arith
 one_at_most true Knight s = omega arith
 one_at_most true Pawn s = omega arith
-
-way_found : (p : Parts) (near : Bool) (o : Option Square)
-    → tried (if_own p King o) + tried (if_own p Queen o) + tried (if_own p Rook o) + tried (if_own p Bishop o) + tried (if_own p Pawn o)
-    ≡ tried (if_untried p near o) + cond near (tried (if_own p King o)) 0
-way_found p true None = refl
-way_found p false None = refl
-way_found p near (Some s) = by_cell (at p.board s) near
-  where
-    by_cell : (cell : Option Piece) (close : Bool)
-        → found_if (has_piece p.side King cell) s + found_if (has_piece p.side Queen cell) s + found_if (has_piece p.side Rook cell) s + found_if (has_piece p.side Bishop cell) s + found_if (has_piece p.side Pawn cell) s
-        ≡ found_if ((has_colour p.side cell && not (has_piece p.side Knight cell)) && not (close && has_piece p.side King cell)) s + cond close (found_if (has_piece p.side King cell) s) 0
-    by_cell None true = refl
-    by_cell None false = refl
-    by_cell (Some x) close = one_kind_found (same_colour p.side x.colour) close x.kind s
 
 way_most : (p : Parts) (o : Option Square) → tried (if_own p King o) + tried (if_own p Queen o) + tried (if_own p Rook o) + tried (if_own p Bishop o) + tried (if_own p Pawn o) ≤ 1
 way_most p None = omega arith
@@ -151,28 +126,14 @@ five_kinds_sum p t =
     sum_five (on_way p t King) (on_way p t Queen) (on_way p t Rook) (on_way p t Bishop) (on_way p t Pawn) DIRECTIONS
     ∙ rw (of_kind p King t, of_kind p Queen t, of_kind p Rook t, of_kind p Bishop t, of_kind p Pawn t) refl
 
-sum_when : {X : Type 0} (near : Bool) (f : X → ℕ) (xs : List X) → sum_by (λ x. cond near (f x) 0) xs ≡ cond near (sum_by f xs) 0
-sum_when true f xs = refl
-sum_when false f [] = refl
-sum_when false f (x ∷ xs) = sum_by-cons (λ y. 0) x xs ∙ (ap (λ n. 0 + n) (sum_when false f xs))
-
-five_kinds_left : (p : Parts) (near : Bool) (t : Square) → five_kinds p t ≡ count_on_ways p near t + cond near (length (on_ways p King t)) 0
-unfolding count_on_ways
-five_kinds_left p near t =
-    sym (five_kinds_sum p t)
-    ∙ (sum_same (of_five p t) (λ d. tried (untried_on p near t d) + cond near (on_way p t King d) 0) DIRECTIONS (λ d. way_found p near (first_on p.board d t))
-    ∙ (sum_both (λ d. tried (untried_on p near t d)) (λ d. cond near (on_way p t King d) 0) DIRECTIONS
-    ∙ ap (λ n. sum_by (λ d. tried (untried_on p near t d)) DIRECTIONS + n)
-    (sum_when near (on_way p t King) DIRECTIONS ∙ ap (λ n. cond near n 0) (sym (of_kind p King t)))))
-
 five_kinds_most : (p : Parts) (t : Square) → five_kinds p t ≤ 8
 five_kinds_most p t =
     subst (λ (n : ℕ). n ≤ 8) (five_kinds_sum p t)
     (sum_by-le-sum_by (of_five p t) (λ d. 1) DIRECTIONS (λ d. way_most p (first_on p.board d t)))
 
-pub jumps_sum : (p : Parts) (t : Square) → length (by_jumps p t) ≡ count_by_jumps p t
-unfolding by_jumps count_by_jumps
-jumps_sum p t = length-found (origin_by p t) JUMPS
+adjacent_back : (s t : Square) → is_adjacent s t ≡ is_adjacent t s
+adjacent_back s t =
+    ap₂ (λ v w. v && not w) (ap₂ (λ i j. nat_le i 1 && nat_le j 1) (gap_back s.file t.file) (gap_back s.rank t.rank)) (square_laws.symm s t)
 
 -- The king is the one candidate of its kind where it stands side by side with the target.
 
@@ -180,7 +141,7 @@ one_apart : (s : Square) → IsDistinct same_square (s ∷ [])
 unfolding IsDistinct
 one_apart s = (tt, tt)
 
-one_king_near : (p : Parts) (t : Square) → Sound p → is_near p t ≡ true → length (candidates p King t) ≡ 1
+one_king_near : (p : Parts) (t : Square) → Sound p → is_adjacent (king_square p.side p.board) t ≡ true → length (candidates p King t) ≡ 1
 one_king_near p t sound near =
     length-from_same_keys square_laws (candidates p King t) (king ∷ []) (candidates_apart p King t) (one_apart king)
     (λ q. list_any-filter (same_square q) (is_candidate p King t) squares ∙ same_tests _ _ (λ h. found q (some_square (λ u. is_candidate p King t u && same_square q u) h)) (λ h. there q h))
@@ -233,24 +194,116 @@ target_most p t on =
     let c : length (by_jumps p t) ≤ 8 = length_by_jumps p t in
     omega arith
 
-king_part : (p : Parts) (t : Square) → Sound p → OnBoard t → cond (is_near p t) (length (on_ways p King t)) 0 ≡ tried (king_step p t)
-king_part p t sound on = by_near (is_near p t) refl
-  where
-    by_near : (near : Bool) → is_near p t ≡ near → cond near (length (on_ways p King t)) 0 ≡ tried (if near then Some (king_square p.side p.board) else None)
-    by_near true near = sym (same_length p King t refl on) ∙ one_king_near p t sound near
-    by_near false far = refl
+-- For one target, piece by piece: it is still to be tried, or it is a king whose step was tried.
 
-target_parts : (p : Parts) (t : Square) → Sound p → OnBoard t → of_target p t ≡ tried (king_step p t) + count_untried p t
-target_parts p t sound on =
-    let a : of_target p t ≡ five_kinds p t + length (by_jumps p t) = target_sum p t on in
-    let b : five_kinds p t ≡ count_on_ways p (is_near p t) t + cond (is_near p t) (length (on_ways p King t)) 0 = five_kinds_left p (is_near p t) t in
-    let c : cond (is_near p t) (length (on_ways p King t)) 0 ≡ tried (king_step p t) = king_part p t sound on in
-    let d : length (by_jumps p t) ≡ count_by_jumps p t = jumps_sum p t in
+abbrev bit : Bool → ℕ
+bit true = 1
+bit false = 0
+
+length_by_bits : {X : Type 0} (f : X → Bool) (xs : List X) → length (filter f xs) ≡ sum_by (λ x. bit (f x)) xs
+length_by_bits f [] = refl
+length_by_bits {X = X} f (x ∷ xs) = one_more (f x) (filter f xs) ∙ (ap (λ n. bit (f x) + n) (length_by_bits f xs) ∙ sym (sum_by-cons (λ y. bit (f y)) x xs))
+  where
+    one_more : (v : Bool) (ys : List X) → length (cond v (x ∷ ys) ys) ≡ bit v + length ys
+    one_more true ys = omega arith
+    one_more false ys = omega arith
+
+sum_none : {X : Type 0} (xs : List X) → sum_by (λ x. 0) xs ≡ 0
+sum_none [] = refl
+sum_none (x ∷ xs) = sum_by-cons (λ y. 0) x xs ∙ ap (λ n. 0 + n) (sum_none xs)
+
+rider_bits : (step aligned clear : Bool) → bit (aligned && clear) ≡ bit ((aligned && not (step && false)) && clear) + bit (step && false)
+rider_bits true true clear = omega arith
+rider_bits true false clear = refl
+rider_bits false true clear = omega arith
+rider_bits false false clear = refl
+
+king_bits : (step aligned clear : Bool) → bit (aligned && clear) ≡ bit ((aligned && not (step && true)) && clear) + bit (step && (aligned && clear))
+king_bits true true clear = omega arith
+king_bits true false clear = refl
+king_bits false true clear = omega arith
+king_bits false false clear = refl
+
+knight_bits : (step jumps : Bool) → bit jumps ≡ bit (jumps || false) + bit (step && false)
+knight_bits true true = refl
+knight_bits true false = refl
+knight_bits false true = refl
+knight_bits false false = refl
+
+abbrev kind_bit : Bool → Kind → Kind → Bool → ℕ
+kind_bit v k l sees = bit ((v && same_kind k l) && sees)
+
+one_kind : (v : Bool) (k : Kind) (step jumps aligned clear : Bool)
+    → kind_bit v King k (aligned && clear) + kind_bit v Queen k (aligned && clear) + kind_bit v Rook k (aligned && clear) + kind_bit v Bishop k (aligned && clear) + kind_bit v Knight k jumps + kind_bit v Pawn k (aligned && clear)
+    ≡ bit (((v && same_kind Knight k) && jumps) || ((((v && not (v && same_kind Knight k)) && aligned) && not (step && (v && same_kind King k))) && clear))
+      + bit (step && ((v && same_kind King k) && (aligned && clear)))
+one_kind false k true jumps aligned clear = refl
+one_kind false k false jumps aligned clear = refl
+one_kind true King step jumps aligned clear = omega (arith, king_bits step aligned clear)
+one_kind true Queen step jumps aligned clear = omega (arith, rider_bits step aligned clear)
+one_kind true Rook step jumps aligned clear = omega (arith, rider_bits step aligned clear)
+one_kind true Bishop step jumps aligned clear = omega (arith, rider_bits step aligned clear)
+one_kind true Knight step jumps aligned clear = omega (arith, knight_bits step jumps)
+one_kind true Pawn step jumps aligned clear = omega (arith, rider_bits step aligned clear)
+
+abbrev of_six : Parts → Square → Square → ℕ
+of_six p t s =
+    bit (is_candidate p King t s) + bit (is_candidate p Queen t s) + bit (is_candidate p Rook t s) + bit (is_candidate p Bishop t s) + bit (is_candidate p Knight t s) + bit (is_candidate p Pawn t s)
+
+one_piece : (p : Parts) (t s : Square) → of_six p t s ≡ bit (is_untried p t s) + bit (is_king_step p t && is_candidate p King t s)
+one_piece p t s = by_cell (at p.board s) (is_king_step p t) (is_jump s t) (is_aligned s t) (is_clear p.board s t)
+  where
+    by_cell : (cell : Option Piece) (step jumps aligned clear : Bool)
+        → bit (has_piece p.side King cell && (aligned && clear)) + bit (has_piece p.side Queen cell && (aligned && clear)) + bit (has_piece p.side Rook cell && (aligned && clear)) + bit (has_piece p.side Bishop cell && (aligned && clear)) + bit (has_piece p.side Knight cell && jumps) + bit (has_piece p.side Pawn cell && (aligned && clear))
+        ≡ bit ((has_piece p.side Knight cell && jumps) || ((((has_colour p.side cell && not (has_piece p.side Knight cell)) && aligned) && not (step && has_piece p.side King cell)) && clear))
+          + bit (step && (has_piece p.side King cell && (aligned && clear)))
+    by_cell None true jumps aligned clear = refl
+    by_cell None false jumps aligned clear = refl
+    by_cell (Some x) step jumps aligned clear = one_kind (same_colour p.side x.colour) x.kind step jumps aligned clear
+
+sum_six : {X : Type 0} (f g h i j k : X → ℕ) (xs : List X) → sum_by (λ x. f x + g x + h x + i x + j x + k x) xs ≡ sum_by f xs + sum_by g xs + sum_by h xs + sum_by i xs + sum_by j xs + sum_by k xs
+sum_six f g h i j k xs = sum_both (λ x. f x + g x + h x + i x + j x) k xs ∙ ap (λ n. n + sum_by k xs) (sum_five f g h i j xs)
+
+of_target_six : (p : Parts) (t : Square) → of_target p t ≡ sum_by (of_six p t) squares
+of_target_six p t =
+    let a : length (candidates p King t) ≡ sum_by (λ s. bit (is_candidate p King t s)) squares = length_by_bits (is_candidate p King t) squares in
+    let b : length (candidates p Queen t) ≡ sum_by (λ s. bit (is_candidate p Queen t s)) squares = length_by_bits (is_candidate p Queen t) squares in
+    let c : length (candidates p Rook t) ≡ sum_by (λ s. bit (is_candidate p Rook t s)) squares = length_by_bits (is_candidate p Rook t) squares in
+    let d : length (candidates p Bishop t) ≡ sum_by (λ s. bit (is_candidate p Bishop t s)) squares = length_by_bits (is_candidate p Bishop t) squares in
+    let e : length (candidates p Knight t) ≡ sum_by (λ s. bit (is_candidate p Knight t s)) squares = length_by_bits (is_candidate p Knight t) squares in
+    let f : length (candidates p Pawn t) ≡ sum_by (λ s. bit (is_candidate p Pawn t s)) squares = length_by_bits (is_candidate p Pawn t) squares in
+    let all : sum_by (of_six p t) squares
+        ≡ sum_by (λ s. bit (is_candidate p King t s)) squares + sum_by (λ s. bit (is_candidate p Queen t s)) squares + sum_by (λ s. bit (is_candidate p Rook t s)) squares + sum_by (λ s. bit (is_candidate p Bishop t s)) squares + sum_by (λ s. bit (is_candidate p Knight t s)) squares + sum_by (λ s. bit (is_candidate p Pawn t s)) squares =
+    sum_six (λ s. bit (is_candidate p King t s)) (λ s. bit (is_candidate p Queen t s)) (λ s. bit (is_candidate p Rook t s)) (λ s. bit (is_candidate p Bishop t s)) (λ s. bit (is_candidate p Knight t s)) (λ s. bit (is_candidate p Pawn t s)) squares in
     omega arith
+
+king_part : (p : Parts) (t : Square) → Sound p → sum_by (λ s. bit (is_king_step p t && is_candidate p King t s)) squares ≡ bit (is_king_step p t)
+king_part p t sound = by_step (is_king_step p t) refl
+  where
+    by_step : (step : Bool) → is_king_step p t ≡ step → sum_by (λ s. bit (step && is_candidate p King t s)) squares ≡ bit step
+    by_step true is =
+        sym (length_by_bits (is_candidate p King t) squares)
+        ∙ one_king_near p t sound
+        (adjacent_back (king_square p.side p.board) t ∙ first_true (is_adjacent t (king_square p.side p.board)) (not (has_colour p.side (at p.board t))) is)
+    by_step false is = sum_none squares
+
+target_parts : (p : Parts) (t : Square) → Sound p → of_target p t ≡ bit (is_king_step p t) + count_untried p t
+unfolding count_untried
+target_parts p t sound =
+    let a : of_target p t ≡ sum_by (of_six p t) squares = of_target_six p t in
+    let b : sum_by (of_six p t) squares ≡ sum_by (λ s. bit (is_untried p t s) + bit (is_king_step p t && is_candidate p King t s)) squares = sum_same _ _ squares (one_piece p t) in
+    let c : sum_by (λ s. bit (is_untried p t s) + bit (is_king_step p t && is_candidate p King t s)) squares ≡ sum_by (λ s. bit (is_untried p t s)) squares + sum_by (λ s. bit (is_king_step p t && is_candidate p King t s)) squares =
+    sum_both (λ s. bit (is_untried p t s)) (λ s. bit (is_king_step p t && is_candidate p King t s)) squares in
+    let d : sum_by (λ s. bit (is_king_step p t && is_candidate p King t s)) squares ≡ bit (is_king_step p t) = king_part p t sound in
+    let e : length (filter (is_untried p t) squares) ≡ sum_by (λ s. bit (is_untried p t s)) squares = length_by_bits (is_untried p t) squares in
+    omega (arith, a, b, c, d, e)
 
 -- All targets.
 
-pub squares_are : squares ≡ map square_at indexes
+unfoldable indexes : List ℕ
+indexes = range_with_len 0 64
+
+squares_are : squares ≡ map square_at indexes
 unfolding squares indexes
 squares_are = refl
 
@@ -262,12 +315,11 @@ unfolding pair_count
 pair_count_is p = ap (sum_by (of_target p)) squares_are ∙ fold-map (λ n t. n + of_target p t) square_at 0 indexes
 
 pub pair_count_parts : (p : Parts) → Sound p → count_king_steps p + count_others p ≡ pair_count p
-unfolding count_king_steps count_others indexes
+unfolding count_king_steps count_others pair_count
 pair_count_parts p sound =
-    sym (pair_count_is p
-    ∙ (sum_range_same (λ i. of_target p (square_at i)) (λ i. tried (king_step p (square_at i)) + count_untried p (square_at i)) 0 64 64 (omega arith)
-    (λ i low. target_parts p (square_at i) sound (on_board_at i low))
-    ∙ sum_both (λ i. tried (king_step p (square_at i))) (λ i. count_untried p (square_at i)) (range_with_len 0 64)))
+    sym (sum_same (of_target p) (λ t. bit (is_king_step p t) + count_untried p t) squares (λ t. target_parts p t sound)
+    ∙ (sum_both (λ t. bit (is_king_step p t)) (count_untried p) squares
+    ∙ ap (λ n. n + sum_by (count_untried p) squares) (sym (length_by_bits (is_king_step p) squares))))
 
 pub pair_count_most : (p : Parts) → pair_count p ≤ 1024
 unfolding indexes

@@ -1,73 +1,132 @@
--- The sets whose members are tried have the pairs of the king's steps and of the knights' jumps.
-use Rattle.std.proofs.Common.{◌≡◌, ℕ, ◌+◌, ◌<◌, Bool, true, false, not, cond, ◌&&◌, List, [], ◌∷◌, map, length, refl, sym, ◌∙◌, ap, ap₂, arith}
-use Rattle.std.specs.Prelude.{Option, None, Some, filter, nat_le, if◌then◌else◌}
+-- The sets whose members are tried have the pairs of the definitions.
+use Rattle.std.proofs.Common.{◌≡◌, ℕ, ◌+◌, ◌<◌, ◌^◌, Bool, true, false, not, cond, ◌&&◌, ◌||◌, List, [], ◌∷◌, refl, sym, ◌∙◌, ap, ap₂, get_or, w64, arith}
+use Rattle.std.specs.Prelude.{None, filter}
+use Rattle.std.specs.Int.{bit_not}
+use Rattle.std.specs.Int.Bits.{bit_and}
 use Rattle.std.specs.List.{list_any, sum_by}
 use Rattle.std.proofs.lemmas.List.Sums.{sum_by-cons}
-use Rattle.std.proofs.lemmas.List.Sorted.{length_permutation, list_any-IsPermutation}
-use Rattle.chess_rules.specs.declared.direction.TheConstants.{JUMPS}
-use Rattle.chess_rules.specs.declared.piece.Kind.TheVariants.{Knight}
+use Rattle.chess_rules.specs.declared.piece.Colour.{Colour}
+use Rattle.chess_rules.specs.declared.piece.Kind.TheVariants.{King, Knight}
 use Rattle.chess_rules.specs.declared.position.Parts.{Parts}
 use Rattle.chess_rules.specs.Square.{Square, squares, is_adjacent}
-use Rattle.chess_rules.specs.Candidate.{candidates}
-use Rattle.chess_rules.specs.Walk.{king_square, square_at}
-use Rattle.chess_rules.specs.Words.{members, Places}
-use Rattle.chess_rules.specs.Pairs.{is_legal_pair, is_legal_from, tried, origin_by, by_jumps, is_near, king_step, any_by_jumps, count_by_jumps, any_king_step, count_king_steps, king_step_is_legal_at, king_tried_at, indexes}
-use Rattle.chess_rules.proofs.squares.AllSquares.{any_same, list_any-map}
-use Rattle.chess_rules.proofs.squares.SetsToSquares.{members_are}
-use Rattle.chess_rules.proofs.rays.SeenToFirst.{gap_back}
-use Rattle.chess_rules.proofs.trying.FoundLists.{passes, list_any-filter, list_any-filter_map}
-use Rattle.chess_rules.proofs.trying.CandidatesFoundOnce.{square_laws, by_jumps_are}
-use Rattle.chess_rules.proofs.trying.PairCounts.{jumps_sum, squares_are}
+use Rattle.chess_rules.specs.Board.{Board, at, cell_of, has_colour}
+use Rattle.chess_rules.specs.Step.{own}
+use Rattle.chess_rules.specs.Attacks.{is_clear}
+use Rattle.chess_rules.specs.Walk.{is_aligned, king_square, square_at}
+use Rattle.chess_rules.specs.Words.{has, members, Marks, Places}
+use Rattle.chess_rules.specs.Pairs.{is_king_step, is_left, is_untried_rider}
+use Rattle.chess_rules.proofs.squares.SetsToSquares.{at_square, members_are}
+use Rattle.chess_rules.proofs.squares.WordsToCells.{has_and, has_not}
+use Rattle.chess_rules.proofs.positions.OneKing.{cell_of-square_at}
 
--- The knights a jump away.
+-- the pieces of the side to move
+pub colour_places : (p : Parts) (d : Colour) (b : Board) (w : ℕ) → d ≡ p.side → b ≡ p.board → Marks w (has_colour d) b → Places w (λ s. has_colour p.side (at p.board s))
+colour_places p d b w side board h =
+    record {
+      of = λ i low.
+          h.of i low
+          ∙ (ap₂ (λ (e : Colour) (c : Board). has_colour e (get_or c i None)) side board
+          ∙ ap (λ j. has_colour p.side (get_or p.board j None)) (sym (cell_of-square_at i)));
+    }
 
-pub any_jump : (p : Parts) (t : Square) → t.file < 8 → t.rank < 8 → list_any (λ s. is_legal_pair p s t) (candidates p Knight t) ≡ any_by_jumps p t
-unfolding any_by_jumps by_jumps
-any_jump p t file rank =
-    list_any-IsPermutation (λ s. is_legal_pair p s t) (candidates p Knight t) (by_jumps p t) (by_jumps_are p t file rank)
-    ∙ (list_any-filter_map (λ s. is_legal_pair p s t) (origin_by p t) JUMPS
-    ∙ any_same (λ j. passes (λ s. is_legal_pair p s t) (origin_by p t j)) (λ j. is_legal_from p t (origin_by p t j)) JUMPS (λ j. by_origin (origin_by p t j)))
+-- The king's steps that are tried first.
+
+pub steps_are : (p : Parts) (k : Square) (near owns : ℕ) → k ≡ king_square p.side p.board → owns < 2 ^ 64
+    → Places near (λ s. is_adjacent s k) → Places owns (λ s. has_colour p.side (at p.board s)) → Places (bit_and near (bit_not w64 owns)) (is_king_step p)
+steps_are p k near owns king fits h g =
+    record {
+      of = λ i low.
+          has_and near (bit_not w64 owns) i
+          ∙ ap₂ (λ x y. x && y) (h.of i low ∙ ap (is_adjacent (square_at i)) king) (has_not owns i fits low ∙ ap not (g.of i low));
+    }
+
+pub step_tried : (p : Parts) (t : Square) (w place : ℕ) (r : Bool) → Places w (is_king_step p) → place ≡ cell_of t → t.file < 8 → t.rank < 8 → r ≡ has w place → r ≡ is_king_step p t
+step_tried p t w place r h is file rank e = e ∙ (ap (has w) is ∙ at_square w (is_king_step p) t h file rank)
+
+-- The pieces that are still to be tried for a target.
+
+pub king_left_out : (p : Parts) (t : Square) (pieces kings : ℕ) → is_king_step p t ≡ true → kings < 2 ^ 64 → Places kings (own p King) → Places (bit_and pieces (bit_not w64 kings)) (is_left p pieces t)
+king_left_out p t pieces kings step fits h =
+    record {
+      of = λ i low.
+          has_and pieces (bit_not w64 kings) i
+          ∙ ap₂ (λ x y. x && y) (ap (has pieces) (sym (cell_of-square_at i)))
+          (has_not kings i fits low ∙ ap not (h.of i low ∙ ap (λ v. v && own p King (square_at i)) (sym step)));
+    }
+
+pub none_left_out : (p : Parts) (t : Square) (pieces : ℕ) → is_king_step p t ≡ false → Places pieces (is_left p pieces t)
+none_left_out p t pieces step =
+    record {
+      of = λ i low.
+          ap (has pieces) (sym (cell_of-square_at i))
+          ∙ (itself (has pieces (cell_of (square_at i)))
+          ∙ ap (λ v. has pieces (cell_of (square_at i)) && not (v && own p King (square_at i))) (sym step));
+    }
   where
-    by_origin : (o : Option Square) → passes (λ s. is_legal_pair p s t) o ≡ is_legal_from p t o
-    by_origin None = refl
-    by_origin (Some s) = refl
+    itself : (x : Bool) → x ≡ (x && true)
+    itself true = refl
+    itself false = refl
 
-pub count_jumps : (p : Parts) (t : Square) → t.file < 8 → t.rank < 8 → length (candidates p Knight t) ≡ count_by_jumps p t
-count_jumps p t file rank =
-    sym (length_permutation (candidates p Knight t) (by_jumps p t) (by_jumps_are p t file rank)) ∙ jumps_sum p t
+pub riders_left : (p : Parts) (t : Square) (b : Board) (owns knights lines left clear : ℕ) → b ≡ p.board → knights < 2 ^ 64
+    → Places owns (λ s. has_colour p.side (at p.board s)) → Places knights (own p Knight) → Places lines (λ s. is_aligned s t)
+    → Places left (is_left p (bit_and (bit_and owns (bit_not w64 knights)) lines) t)
+    → Places clear (λ s. has left (cell_of s) && is_clear b s t)
+    → Places clear (is_untried_rider p t)
+riders_left p t b owns knights lines left clear board fits of_owns of_knights of_lines of_left of_clear =
+    record {
+      of = λ i low.
+          of_clear.of i low
+          ∙ ap₂ (λ x (c : Board). x && is_clear c (square_at i) t)
+          (ap (has left) (cell_of-square_at i)
+          ∙ (of_left.of i low
+          ∙ ap (λ x. x && not (is_king_step p t && own p King (square_at i)))
+          (ap (has (bit_and (bit_and owns (bit_not w64 knights)) lines)) (cell_of-square_at i)
+          ∙ (has_and (bit_and owns (bit_not w64 knights)) lines i
+          ∙ ap₂ (λ x y. x && y)
+          (has_and owns (bit_not w64 knights) i
+          ∙ ap₂ (λ x y. x && y) (of_owns.of i low) (has_not knights i fits low ∙ ap not (of_knights.of i low)))
+          (of_lines.of i low)))))
+          board;
+    }
 
--- The squares beside the king.
+-- The members of a set, and then all other squares.
 
-adjacent_back : (s t : Square) → is_adjacent s t ≡ is_adjacent t s
-adjacent_back s t =
-    ap₂ (λ v w. v && not w) (ap₂ (λ i j. nat_le i 1 && nat_le j 1) (gap_back s.file t.file) (gap_back s.rank t.rank)) (square_laws.symm s t)
-
-pub near_members : (p : Parts) (k : Square) (w : ℕ) → k ≡ king_square p.side p.board → Places w (λ s. is_adjacent s k) → members w ≡ filter (is_near p) squares
-near_members p k w king h =
-    members_are w (is_near p) (λ i low. h.of i low ∙ (adjacent_back (square_at i) k ∙ ap (λ s. is_adjacent s (square_at i)) king))
-
-pub any_beside : (p : Parts) → list_any (is_legal_pair p (king_square p.side p.board)) (filter (is_near p) squares) ≡ any_king_step p
-unfolding any_king_step
-any_beside p =
-    list_any-filter (is_legal_pair p (king_square p.side p.board)) (is_near p) squares
-    ∙ (ap (list_any (λ t. is_near p t && is_legal_pair p (king_square p.side p.board) t)) squares_are
-    ∙ (list_any-map (λ t. is_near p t && is_legal_pair p (king_square p.side p.board) t) square_at indexes
-    ∙ any_same _ (king_step_is_legal_at p) indexes (λ i. by_near (is_near p (square_at i)) (square_at i))))
+any_parts : (test kept : Square → Bool) (xs : List Square) → (list_any test (filter kept xs) || list_any test (filter (λ s. not (kept s)) xs)) ≡ list_any test xs
+any_parts test kept [] = refl
+any_parts test kept (x ∷ xs) = by_test (kept x) (filter kept xs) (filter (λ s. not (kept s)) xs) ∙ ap (λ v. test x || v) (any_parts test kept xs)
   where
-    by_near : (v : Bool) (t : Square) → (v && is_legal_pair p (king_square p.side p.board) t) ≡ is_legal_from p t (if v then Some (king_square p.side p.board) else None)
-    by_near true t = refl
-    by_near false t = refl
+    in_turn : (x y z : Bool) → (x || (y || z)) ≡ ((x || y) || z)
+    in_turn true y z = refl
+    in_turn false y z = refl
 
-pub count_beside : (p : Parts) → length (filter (is_near p) squares) ≡ count_king_steps p
-unfolding count_king_steps
-count_beside p = ap (λ ss. length (filter (is_near p) ss)) squares_are ∙ by_places indexes
+    later : (x y z : Bool) → (x || (y || z)) ≡ (y || (x || z))
+    later true true z = refl
+    later true false z = refl
+    later false y z = refl
+
+    by_test : (v : Bool) (a b : List Square)
+        → (list_any test (cond v (x ∷ a) a) || list_any test (cond (not v) (x ∷ b) b)) ≡ (test x || (list_any test a || list_any test b))
+    by_test true a b = sym (in_turn (test x) (list_any test a) (list_any test b))
+    by_test false a b = later (list_any test a) (test x) (list_any test b)
+
+sum_parts : (cost : Square → ℕ) (kept : Square → Bool) (xs : List Square) → sum_by cost (filter kept xs) + sum_by cost (filter (λ s. not (kept s)) xs) ≡ sum_by cost xs
+sum_parts cost kept [] = refl
+sum_parts cost kept (x ∷ xs) = by_test (kept x) (filter kept xs) (filter (λ s. not (kept s)) xs) (sum_parts cost kept xs) ∙ sym (sum_by-cons cost x xs)
   where
-    one_more : (v : Bool) (t k : Square) (ts : List Square) → length (cond v (t ∷ ts) ts) ≡ tried (if v then Some k else None) + length ts
-    one_more true t k ts = omega arith
-    one_more false t k ts = omega arith
+    by_test : (v : Bool) (a b : List Square) → sum_by cost a + sum_by cost b ≡ sum_by cost xs
+        → sum_by cost (cond v (x ∷ a) a) + sum_by cost (cond (not v) (x ∷ b) b) ≡ cost x + sum_by cost xs
+    by_test true a b e = omega (arith, e, sum_by-cons cost x a)
+    by_test false a b e = omega (arith, e, sum_by-cons cost x b)
 
-    by_places : (is : List ℕ) → length (filter (is_near p) (map square_at is)) ≡ sum_by (king_tried_at p) is
-    by_places [] = refl
-    by_places (i ∷ is) =
-        one_more (is_near p (square_at i)) (square_at i) (king_square p.side p.board) (filter (is_near p) (map square_at is))
-        ∙ (ap (λ n. tried (king_step p (square_at i)) + n) (by_places is) ∙ sym (sum_by-cons (king_tried_at p) i is))
+others : (w : ℕ) → w < 2 ^ 64 → members (bit_not w64 w) ≡ filter (λ s. not (has w (cell_of s))) squares
+others w fits = members_are (bit_not w64 w) (λ s. not (has w (cell_of s))) (λ i low. has_not w i fits low ∙ ap (λ j. not (has w j)) (sym (cell_of-square_at i)))
+
+pub any_both : (test : Square → Bool) (w : ℕ) → w < 2 ^ 64 → (list_any test (members w) || list_any test (members (bit_not w64 w))) ≡ list_any test squares
+unfolding members
+any_both test w fits =
+    ap (λ xs. list_any test (members w) || list_any test xs) (others w fits) ∙ any_parts test (λ s. has w (cell_of s)) squares
+
+pub sum_both_sets : (cost : Square → ℕ) (w : ℕ) → w < 2 ^ 64 → sum_by cost (members w) + sum_by cost (members (bit_not w64 w)) ≡ sum_by cost squares
+unfolding members
+sum_both_sets cost w fits =
+    ap (λ xs. sum_by cost (members w) + sum_by cost xs) (others w fits) ∙ sum_parts cost (λ s. has w (cell_of s)) squares

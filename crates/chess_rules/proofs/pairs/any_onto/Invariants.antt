@@ -1,0 +1,11 @@
+use Rattle.std.proofs.Common.{length}
+use Rattle.chess_rules.specs.Pairs as spec
+use Rattle.chess_rules.specs.Words.{members}
+use Rattle.chess_rules.proofs.trying.SearchThatCounts.{TargetsLeft}
+use Rattle.chess_rules.proofs.pairs.any_onto.Given as goal
+
+abbrev pub invariant-loop-left : goal.invariant-loop-left
+invariant-loop-left l = TargetsLeft (spec.any_untried l.position) (spec.count_untried l.position) l.targets l.left l.fn.probes l.probes
+
+abbrev pub decreases-loop-left : goal.decreases-loop-left
+decreases-loop-left l = length (members l.left)

@@ -1,0 +1,26 @@
+use Rattle.std.proofs.Common.{◌≡◌, ◌+◌, ◌<◌, ◌^◌, length, sym, ◌∙◌, ap, subst}
+use Rattle.std.specs.Prelude.{filter}
+use Rattle.std.specs.List.{list_any}
+use Rattle.chess_rules.specs.Square.{squares}
+use Rattle.chess_rules.specs.Pairs as spec
+use Rattle.chess_rules.specs.Pairs.{any_untried, count_untried}
+use Rattle.chess_rules.specs.Words.{members}
+use Rattle.chess_rules.proofs.squares.SetsToSquares.{members_are}
+use Rattle.chess_rules.proofs.pairs.any_untried.Goals as goal
+use Rattle.chess_rules.proofs.pairs.any_untried.Goals.{After-untried}
+
+origins : (c : After-untried) → members c.untried.result ≡ filter (spec.is_untried c.args.position.now c.args.target) squares
+origins c = members_are c.untried.result (spec.is_untried c.args.position.now c.args.target) c.untried.ensures.of
+
+pub any_from-requires : goal.any_from-requires
+unfolding count_untried
+any_from-requires c = subst (λ n. c.args.probes.now + n < 2 ^ 32) (sym (ap length (origins c.before))) c.requires
+
+pub returns-clause-found : goal.returns-clause-found
+unfolding any_untried
+returns-clause-found c =
+    c.any_from.ensures.found ∙ ap (list_any (λ s. spec.is_legal_pair c.args.position.now s c.args.target)) (origins c.before.before)
+
+pub returns-clause-count : goal.returns-clause-count
+unfolding count_untried
+returns-clause-count c = subst (λ n. spec.Counts c.any_from.result c.args.probes.now c.any_from.new.probes n) (ap length (origins c.before.before)) c.any_from.ensures.count

@@ -1,0 +1,23 @@
+use Rattle.std.proofs.Common.{sym, ◌∙◌}
+use Rattle.chess_rules.specs.declared.piece.Kind.TheVariants.{King}
+use Rattle.chess_rules.proofs.trying.SetsToCandidates.{own_places}
+use Rattle.chess_rules.proofs.trying.SetsToPairs.{king_left_out, none_left_out, step_tried}
+use Rattle.chess_rules.proofs.pairs.left_of.Goals as goal
+
+pub returns-then-has : goal.returns-then-has
+returns-then-has c =
+    let p = c.args.position.now in
+    king_left_out p c.args.target c.args.pieces c.pieces.result
+    (sym (step_tried p c.args.target c.king_steps.result c.index.result c.has.result c.king_steps.ensures c.index.ensures.value
+    c.recall_invariant.ensures.file c.recall_invariant.ensures.rank c.has.ensures)
+    ∙ c.if-has.true)
+    c.pieces.type_inv
+    (own_places p King c.side.result c.board.result.now c.pieces.result c.side.ensures c.board.ensures c.pieces.ensures)
+
+pub returns-else-has : goal.returns-else-has
+returns-else-has c =
+    let p = c.args.position.now in
+    none_left_out p c.args.target c.args.pieces
+    (sym (step_tried p c.args.target c.king_steps.result c.index.result c.has.result c.king_steps.ensures c.index.ensures.value
+    c.recall_invariant.ensures.file c.recall_invariant.ensures.rank c.has.ensures)
+    ∙ c.if-has.false)
