@@ -279,8 +279,10 @@ fn has_clear_slider(board: &Board, by: Colour, target: Square) -> bool
     others != 0 && others & first_pieces(board, target) != 0
 }
 
-// Where an attack of the colour on the square can be met: at each attacker, and between it and the
-// square.
+// Where an attack of the colour on the square can be met: at the attacker, and between it and the
+// square. Where nothing attacks the square, there is none.
+//
+// A search uses this for its order alone, so no clause says it.
 pub(crate) fn defences(board: &Board, by: Colour, target: Square) -> u64 {
     let attackers = near_attackers(board, by, target)
         | clear_among(board, sliders(board, by, target), target);

@@ -77,14 +77,14 @@ fn any_to(position: &Position, from: Square, targets: u64, probes: &mut Probes) 
     false
 }
 
-// The king's steps that are tried first: single steps to squares without a piece of its side.
+// Where the king goes first: to the squares beside it that have no piece of its side.
 fn king_steps(position: &Position) -> u64
     ensures { Places result (spec.is_king_step position.now) }
 {
     adjacent(position.king()) & !position.board().of_colour(position.side())
 }
 
-// Whether one of the king's steps that are tried first is legal.
+// Whether one of these steps of the king is legal.
 pub(crate) fn any_king_step(position: &Position, probes: &mut Probes) -> bool
     requires { probes.old + spec.count_king_steps position.now < 2 ^ 32 }
     ensures found { result ≡ spec.any_king_step position.now }
@@ -95,8 +95,8 @@ pub(crate) fn any_king_step(position: &Position, probes: &mut Probes) -> bool
 
 // Whether another pair is legal.
 //
-// The targets where a check can be met come first. The others are needed for the count, and for
-// en passant.
+// The targets where a check can be met come first. Of the others only en passant can meet it, but
+// all are counted.
 pub(crate) fn any_other(position: &Position, probes: &mut Probes) -> bool
     requires { probes.old + spec.count_others position.now < 2 ^ 32 }
     ensures found { result ≡ spec.any_other position.now }
@@ -133,8 +133,8 @@ fn any_untried(position: &Position, target: Square, probes: &mut Probes) -> bool
     any_from(position, untried(position, target), target, probes)
 }
 
-// The pieces that are still to be tried for the target: of the side to move, a jump away for a
-// knight and else in sight, and no king whose step was tried.
+// The origins that are still to be tried for the target: the knights a jump away, and all other
+// pieces from which the way is clear. A king whose step was tried is not among them.
 fn untried(position: &Position, target: Square) -> u64
     ensures { Places result (spec.is_untried position.now target) }
 {
@@ -146,7 +146,7 @@ fn untried(position: &Position, target: Square) -> u64
     knights & knights_to(target) | clear_among(board, left_of(position, riders, target), target)
 }
 
-// The pieces without the king, if its step to the target was tried.
+// These pieces, without the king if its step to the target was tried.
 fn left_of(position: &Position, pieces: u64, target: Square) -> u64
     ensures { Places result (spec.is_left position.now pieces target) }
 {

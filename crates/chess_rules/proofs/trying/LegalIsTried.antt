@@ -1,8 +1,7 @@
 -- A move is legal exactly if one of the pairs that are tried is.
-use Rattle.std.proofs.Common.{◌≡◌, ◌<◌, Bool, true, false, not, ◌&&◌, ◌||◌, inl, inr, List, [], ◌∷◌, refl, sym, ◌∙◌, ap, ap₂, subst, arith}
-use Rattle.std.specs.Prelude.{Option, None, Some, filter, is_none, if◌then◌else◌}
+use Rattle.std.proofs.Common.{◌≡◌, Bool, true, false, not, ◌&&◌, ◌||◌, inl, inr, List, [], ◌∷◌, refl, sym, ◌∙◌, ap, ap₂, subst}
+use Rattle.std.specs.Prelude.{Option, None, Some, filter, is_none}
 use Rattle.std.specs.List.{list_any}
-use Rattle.chess_rules.specs.declared.direction.TheConstants.{DIRECTIONS, JUMPS}
 use Rattle.chess_rules.specs.declared.piece.Colour.{Colour}
 use Rattle.chess_rules.specs.declared.piece.Kind.{Kind}
 use Rattle.chess_rules.specs.declared.piece.Kind.TheVariants.{King, Queen, Rook, Bishop, Knight, Pawn}
@@ -20,16 +19,14 @@ use Rattle.chess_rules.specs.Legal.{is_legal, every_promotion, has_legal_move}
 use Rattle.chess_rules.specs.Candidate.{sees}
 use Rattle.chess_rules.specs.Attacks.{is_clear}
 use Rattle.chess_rules.specs.Walk.{is_aligned, king_square}
-use Rattle.chess_rules.specs.Board.{cell_of}
 use Rattle.chess_rules.specs.Pairs.{one_move, is_legal_pair, is_king_step, is_untried, is_untried_rider, any_untried, any_king_step, any_other}
-use Rattle.chess_rules.proofs.squares.AllSquares.{split_or, or_first, or_second, first_true, second_true, both_true, same_tests, Passes, some_square, any_square, any_of_range, range_of_any}
-use Rattle.chess_rules.proofs.positions.OneKing.{king_stands, king_only_there, square_at-cell_of}
+use Rattle.chess_rules.proofs.squares.AllSquares.{split_or, or_first, or_second, first_true, second_true, both_true, same_tests, Passes, some_square, any_square}
+use Rattle.chess_rules.proofs.positions.OneKing.{king_stands, king_only_there}
 use Rattle.chess_rules.proofs.moves.CellsAfterPut.{OnBoard}
 use Rattle.chess_rules.proofs.positions.RulesOfPosition.{Sound, sound_from_position}
 use Rattle.chess_rules.proofs.moves.StepsKeepBoard.{one_kind, castles_means}
 use Rattle.chess_rules.proofs.moves.LegalToPosition.{on_board_means, way_of, Legal}
 use Rattle.chess_rules.proofs.trying.OriginsAreCandidates.{step_seen}
-use Rattle.chess_rules.proofs.rays.AttacksByRay.{both_of_any, jump_there, way_there}
 use Rattle.chess_rules.proofs.trying.FoundLists.{to_false, list_any-filter}
 use Rattle.chess_rules.proofs.trying.CandidatesFoundOnce.{is_rider, kind_cases, sees_by_way}
 use Rattle.chess_rules.proofs.trying.PromotionsAlike.{legal_after, one_will_do}

@@ -7,7 +7,7 @@ use Rattle.std.proofs.lemmas.List.Folds.{fold-map}
 use Rattle.std.proofs.lemmas.List.Sums.{sum_by-cons, sum_by-le-sum_by}
 use Rattle.std.proofs.lemmas.List.Sorted.{length_permutation}
 use Rattle.std.proofs.lemmas.Map.Made.{length-from_same_keys}
-use Rattle.chess_rules.specs.declared.direction.TheConstants.{DIRECTIONS, JUMPS}
+use Rattle.chess_rules.specs.declared.direction.TheConstants.{DIRECTIONS}
 use Rattle.chess_rules.specs.declared.direction.Direction.{Direction}
 use Rattle.chess_rules.specs.declared.piece.Kind.{Kind}
 use Rattle.chess_rules.specs.declared.piece.Kind.TheVariants.{King, Queen, Rook, Bishop, Knight, Pawn}
@@ -236,7 +236,7 @@ kind_bit v k l sees = bit ((v && same_kind k l) && sees)
 one_kind : (v : Bool) (k : Kind) (step jumps aligned clear : Bool)
     → kind_bit v King k (aligned && clear) + kind_bit v Queen k (aligned && clear) + kind_bit v Rook k (aligned && clear) + kind_bit v Bishop k (aligned && clear) + kind_bit v Knight k jumps + kind_bit v Pawn k (aligned && clear)
     ≡ bit (((v && same_kind Knight k) && jumps) || ((((v && not (v && same_kind Knight k)) && aligned) && not (step && (v && same_kind King k))) && clear))
-      + bit (step && ((v && same_kind King k) && (aligned && clear)))
+    + bit (step && ((v && same_kind King k) && (aligned && clear)))
 one_kind false k true jumps aligned clear = refl
 one_kind false k false jumps aligned clear = refl
 one_kind true King step jumps aligned clear = omega (arith, king_bits step aligned clear)
@@ -256,7 +256,7 @@ one_piece p t s = by_cell (at p.board s) (is_king_step p t) (is_jump s t) (is_al
     by_cell : (cell : Option Piece) (step jumps aligned clear : Bool)
         → bit (has_piece p.side King cell && (aligned && clear)) + bit (has_piece p.side Queen cell && (aligned && clear)) + bit (has_piece p.side Rook cell && (aligned && clear)) + bit (has_piece p.side Bishop cell && (aligned && clear)) + bit (has_piece p.side Knight cell && jumps) + bit (has_piece p.side Pawn cell && (aligned && clear))
         ≡ bit ((has_piece p.side Knight cell && jumps) || ((((has_colour p.side cell && not (has_piece p.side Knight cell)) && aligned) && not (step && has_piece p.side King cell)) && clear))
-          + bit (step && (has_piece p.side King cell && (aligned && clear)))
+        + bit (step && (has_piece p.side King cell && (aligned && clear)))
     by_cell None true jumps aligned clear = refl
     by_cell None false jumps aligned clear = refl
     by_cell (Some x) step jumps aligned clear = one_kind (same_colour p.side x.colour) x.kind step jumps aligned clear
@@ -273,7 +273,7 @@ of_target_six p t =
     let e : length (candidates p Knight t) ≡ sum_by (λ s. bit (is_candidate p Knight t s)) squares = length_by_bits (is_candidate p Knight t) squares in
     let f : length (candidates p Pawn t) ≡ sum_by (λ s. bit (is_candidate p Pawn t s)) squares = length_by_bits (is_candidate p Pawn t) squares in
     let all : sum_by (of_six p t) squares
-        ≡ sum_by (λ s. bit (is_candidate p King t s)) squares + sum_by (λ s. bit (is_candidate p Queen t s)) squares + sum_by (λ s. bit (is_candidate p Rook t s)) squares + sum_by (λ s. bit (is_candidate p Bishop t s)) squares + sum_by (λ s. bit (is_candidate p Knight t s)) squares + sum_by (λ s. bit (is_candidate p Pawn t s)) squares =
+    ≡ sum_by (λ s. bit (is_candidate p King t s)) squares + sum_by (λ s. bit (is_candidate p Queen t s)) squares + sum_by (λ s. bit (is_candidate p Rook t s)) squares + sum_by (λ s. bit (is_candidate p Bishop t s)) squares + sum_by (λ s. bit (is_candidate p Knight t s)) squares + sum_by (λ s. bit (is_candidate p Pawn t s)) squares =
     sum_six (λ s. bit (is_candidate p King t s)) (λ s. bit (is_candidate p Queen t s)) (λ s. bit (is_candidate p Rook t s)) (λ s. bit (is_candidate p Bishop t s)) (λ s. bit (is_candidate p Knight t s)) (λ s. bit (is_candidate p Pawn t s)) squares in
     omega arith
 
