@@ -1,13 +1,24 @@
 -- Where a converter or one of two readings fits in memory, its reader does.
-use Rattle.std.proofs.Common.{rules}
+use Rattle.std.proofs.Common.{rules, arith, ℕ, ◌+◌, ◌<◌, ◌≤◌}
+use prog.Memory.{up}
 use Rattle.std.specs.Mem.{FitsInMemory}
 use Rattle.std.specs.Borrow.{RattleType}
 use Rattle.pgn_game.specs.contracts.converter.Converter.{the_row}
 use Rattle.pgn_game.specs.contracts.checked.Pass.{the_row as pass_row}
 use Rattle.pgn_game.specs.contracts.reader.Reader.{the_row as reader_row}
 
+le_up : (a n : ℕ) → n ≤ up a n
+le_up a n = search rules
+
+-- the parts of a size that fits do
+first : (a n k m : ℕ) → up a (n + k) < m → n < m
+first a n k m fits = omega (arith, fits, le_up a (n + k))
+
+second : (a n k m : ℕ) → up a (k + n) < m → n < m
+second a n k m fits = omega (arith, fits, le_up a (k + n))
+
 pub fits_reader : (T L : RattleType) → FitsInMemory (the_row T L) → FitsInMemory (reader_row T L)
-fits_reader T L fits = search rules
+fits_reader T L fits = second _ _ _ _ (first _ _ _ _ (first _ _ _ _ (first _ _ _ _ (first _ _ _ _ fits))))
 
 -- a converter of the same bounds fits too
 pub fits_alike : (T L : RattleType) → FitsInMemory (the_row T L) → FitsInMemory (the_row T L)

@@ -31,10 +31,12 @@ abbrev pub index_of : List ℕ → List Pair → ℕ
 index_of name [] = 0
 index_of name (p ∷ ps) = elim (comes_before name p.name) [ true ↦ 0 | false ↦ 1 + index_of name ps ]
 
--- how the pairs are held: at most so many, and one if a name has begun
-pub record FitsPairStore (most : ℕ) (ps : List Pair) (has_pending_name : Bool) : Type 0 where
+-- how the pairs are stored: at most so many, of which the first belong to the game, and one of
+-- these if a name has begun
+pub record FitsPairStore (most : ℕ) (ps : List Pair) (count : ℕ) (has_pending_name : Bool) : Type 0 where
   pub room : length ps ≤ most
-  pub some : IsTrue has_pending_name → 0 < length ps
+  pub within : count ≤ length ps
+  pub some : IsTrue has_pending_name → 0 < count
 
 -- the bytes of one pair, its name first: the name's length, and both fit on their line
 pub record FitsOnLine (name_length : ℕ) (text : List ℕ) : Type 0 where

@@ -32,17 +32,14 @@ impl Model for TagPair {
 }
 
 impl TagPair {
-    /// Returns a pair of this name, whose value is empty.
-    pub fn new(name: &[u8]) -> Self
+    /// Puts this name in place of the pair's, and empties its value.
+    pub fn set_name(&mut self, name: &[u8])
         requires { length name.now ≤ 249 }
-        ensures { result ≡ record { name = name.now; value = [] } }
+        ensures { self.new ≡ record { name = name.now; value = [] } }
     {
-        let mut text = ArrayVec::new();
-        let _ = text.try_extend_from_slice(name);
-        TagPair {
-            text,
-            name_length: name.len(),
-        }
+        self.text.clear();
+        let _ = self.text.try_extend_from_slice(name);
+        self.name_length = name.len();
     }
 
     /// Puts this value in place of the pair's.

@@ -1,5 +1,5 @@
 //! The tag pairs of one game, in the order of their names.
-ghost use Rattle.std.specs.Prelude.{◌≡◌, ◌+◌, ◌<◌, ◌≤◌, ◌↔◌, [], ◌∷◌, ◌++◌, List, IsTrue, IfSome, IsSome, IsSomeAnd, Some, None, insert, length};
+ghost use Rattle.std.specs.Prelude.{◌≡◌, ◌+◌, ◌<◌, ◌≤◌, ◌↔◌, [], ◌∷◌, ◌++◌, List, IsTrue, IfSome, IsSome, IsSomeAnd, Some, None, insert, length, take};
 ghost use Rattle.pgn_layout.specs.TagLine.{escaped};
 ghost use Rattle.pgn_game.specs.Pairs.{Pair, value_of, comes_before, insert_pair};
 ghost use Rattle.pgn_game.specs.StoredPairs as spec;
@@ -13,19 +13,22 @@ use std::marker::Model;
 /// The tag pairs of one game, at most `T`. A name that has no value yet is the last of them.
 #[derive(Drop)]
 pub struct TagPairs<const T: usize> {
+    // Those of the game, and behind them pairs of earlier games, to be written over.
     pairs: ArrayVec<TagPair, T>,
+    count: usize,
     has_pending_name: bool,
 }
 
 impl<const T: usize> Model for TagPairs<T> {
+    ghost use Rattle.std.specs.Prelude.{take};
     ghost use Rattle.pgn_game.specs.StoredPairs.{TagPairs as Seen};
     ghost use Rattle.pgn_game.specs.StoredPairs.{pairs_seen, FitsPairStore};
 
     ghost Value = { Seen };
 
-    ghost view = { λ t. pairs_seen (t.pairs.items) t.has_pending_name };
+    ghost view = { λ t. pairs_seen (take t.count t.pairs.items) t.has_pending_name };
 
-    ghost invariant = { λ t. FitsPairStore T t.pairs.items t.has_pending_name };
+    ghost invariant = { λ t. FitsPairStore T t.pairs.items t.count t.has_pending_name };
 }
 
 impl<const T: usize> TagPairs<T> {
@@ -35,6 +38,7 @@ impl<const T: usize> TagPairs<T> {
     {
         TagPairs {
             pairs: ArrayVec::new(),
+            count: 0,
             has_pending_name: false,
         }
     }
@@ -45,7 +49,7 @@ impl<const T: usize> TagPairs<T> {
         ensures full { IsTrue result ↔ (length self.now.held ≡ T) }
         ensures room { length self.now.held ≤ T }
     {
-        self.pairs.is_full()
+        self.count == T
     }
 
     /// Returns the value of a name, if it has one.
@@ -54,7 +58,7 @@ impl<const T: usize> TagPairs<T> {
         ensures value { option_copied result ≡ value_of self.now.held name.now }
         ensures fits { IfSome result (λ value. length name.now + length (escaped value.now) ≤ 249) }
     {
-        value_in(self.pairs.as_slice(), name)
+        value_in(self.pairs(), name)
     }
 
     /// Returns the pairs, in the order of their names.
@@ -62,7 +66,7 @@ impl<const T: usize> TagPairs<T> {
         requires { self.now.pending_name ≡ None }
         ensures { result.now ≡ self.now.held }
     {
-        self.pairs.as_slice()
+        &self.pairs.as_slice()[..self.count]
     }
 
     /// Adds a name that has no value yet.
@@ -72,7 +76,12 @@ impl<const T: usize> TagPairs<T> {
         requires fits { length name.now ≤ 249 }
         ensures { self.new ≡ record { held = self.old.held; pending_name = Some name.now } }
     {
-        self.pairs.push(TagPair::new(name));
+        if self.count == self.pairs.len() {
+            self.pairs.push(TagPair::default());
+        }
+        let pairs = self.pairs.as_mut_slice();
+        pairs[self.count].set_name(name);
+        self.count += 1;
         self.has_pending_name = true;
     }
 
@@ -81,10 +90,7 @@ impl<const T: usize> TagPairs<T> {
         requires { IsSome self.now.pending_name }
         ensures { self.now.pending_name ≡ Some result.now }
     {
-        match self.pairs.last() {
-            Some(pair) => pair.name(),
-            None => b"",
-        }
+        self.pairs.as_slice()[self.count - 1].name()
     }
 
     /// Adds the value of the name that has none yet.
@@ -97,7 +103,7 @@ impl<const T: usize> TagPairs<T> {
               pending_name = None;
             }) }
     {
-        complete_last(self.pairs.as_mut_slice(), value);
+        complete_one_of(self.pairs.as_mut_slice(), self.count, value);
         self.has_pending_name = false;
     }
 
@@ -105,7 +111,7 @@ impl<const T: usize> TagPairs<T> {
     pub fn clear(&mut self)
         ensures { self.new ≡ record { held = []; pending_name = None } }
     {
-        self.pairs.clear();
+        self.count = 0;
         self.has_pending_name = false;
     }
 }
@@ -134,6 +140,18 @@ pub fn index_of(pairs: &[TagPair], name: &[u8]) -> usize
         }
     }
     pairs.len()
+}
+
+// Does so for the last of the first pairs, and leaves the others.
+fn complete_one_of(pairs: &mut [TagPair], count: usize, value: &[u8])
+    requires within { count ≤ length pairs.old }
+    requires fits { IsSomeAnd (last_name (take count pairs.old))
+        (λ name. length name + length (escaped value.now) ≤ 249) }
+    ensures len { length pairs.new ≡ length pairs.old }
+    ensures pairs { IfSome (last_name (take count pairs.old)) (λ name. take count pairs.new
+        ≡ insert_pair (record { name = name; value = value.now }) (but_last (take count pairs.old))) }
+{
+    complete_last(&mut pairs[..count], value);
 }
 
 // Gives the last pair its value, and moves it to its place among the others.

@@ -1,11 +1,14 @@
 -- The order of names, and places in it.
-use Rattle.std.proofs.Common.{◌≡◌, ℕ, zero, suc, ◌+◌, ◌-◌, ◌<◌, ◌≤◌, Bool, true, false, List, [], ◌∷◌, ◌++◌, length, refl, sym, ap, subst, ◌∙◌, arith, Option, None, Some, insert, IsTrue, IsSome, is_some, IfSome, IsSomeAnd, slice_get}
+use Rattle.std.proofs.Common.{◌≡◌, ℕ, zero, suc, ◌+◌, ◌-◌, ◌<◌, ◌≤◌, Bool, true, false, List, [], ◌∷◌, ◌++◌, length, refl, sym, ap, subst, ◌∙◌, arith, Option, None, Some, insert, IsTrue, IsSome, is_some, IfSome, IsSomeAnd, take, drop, set, get_or}
+use Rattle.std.specs.List.{refill}
+use Rattle.std.proofs.Math.Seq.{take-append_seam, take-suc}
+use Rattle.std.proofs.lemmas.List.{length-take-le, length-set, length-append, take_more_set, take-append-le}
 use Rattle.std.specs.Ordering.{nat_cmp, is_lt, is_some_and}
 use Rattle.std.specs.Cmp.Lexicographic.{slice_partial_cmp}
 use Rattle.std.proofs.lemmas.Cmp.{same_from_slice_cmp_tested}
 use Rattle.std.proofs.lemmas.Bool.Decides.{nat_tests}
 use Rattle.pgn_game.specs.Pairs.{Pair, comes_before, insert_pair}
-use Rattle.pgn_game.specs.StoredPairs.{TagPairs, index_of, last_name, but_last, pairs_seen}
+use Rattle.pgn_game.specs.StoredPairs.{TagPairs, FitsPairStore, index_of, last_name, but_last, pairs_seen}
 
 pub is_comes_before : (xs ys : List ℕ) (r : Bool) → r ≡ is_some_and is_lt (slice_partial_cmp (λ x y. Some (nat_cmp x y)) xs ys) → r ≡ comes_before xs ys
 is_comes_before = same_from_slice_cmp_tested nat_cmp is_lt comes_before refl (λ _ _. refl) (λ _ _. refl) (λ x y xs ys o h. grind (arith, nat_tests))
@@ -55,6 +58,14 @@ whole-held ps false t e none some = ap (λ s. s.held) e
 whole-held [] true t e none some = absurd (omega (arith, some refl))
 whole-held (p ∷ ps) true t e none some = absurd (some_last p ps (ap (λ s. s.pending_name) e ∙ none))
 
+-- where no pair has begun, the first pairs stored are all that are held
+pub first-held : (most : ℕ) (ps : List Pair) (n : ℕ) (b : Bool) (t : TagPairs) → FitsPairStore most ps n b → pairs_seen (take n ps) b ≡ t → t.pending_name ≡ None → take n ps ≡ t.held
+first-held most ps n b t fits e none =
+    whole-held (take n ps) b t e none (λ h. omega (arith, fits.some h, length-take-le n ps fits.within))
+
+pub held-count : (most : ℕ) (ps : List Pair) (n : ℕ) (b : Bool) (t : TagPairs) → FitsPairStore most ps n b → pairs_seen (take n ps) b ≡ t → t.pending_name ≡ None → length t.held ≡ n
+held-count most ps n b t fits e none = ap (length {A = Pair}) (sym (first-held most ps n b t fits e none)) ∙ length-take-le n ps fits.within
+
 -- the name that has begun is the last pair's
 pub named-last : (ps : List Pair) (b : Bool) (t : TagPairs) (P : List ℕ → Type 0) → pairs_seen ps b ≡ t → IsSomeAnd t.pending_name P → IsSomeAnd (last_name ps) P
 named-last ps true t P e h = let Q : TagPairs → Type 0 = λ u. IsSomeAnd u.pending_name P in subst Q (sym e) h
@@ -89,16 +100,56 @@ completed ps false t value more e h =
     let Q : TagPairs → Type 0 = λ u. IfSome u.pending_name (λ name. seen more None ≡ seen (insert_pair (record { name = name; value = value }) u.held) None) in
     subst Q e tt
 
-last_name-at : (ps : List Pair) (n : ℕ) (p : Pair) → suc n ≡ length ps → slice_get ps n ≡ Some p → last_name ps ≡ Some p.name
-last_name-at (q ∷ []) zero p most e = ap (λ (o : Option Pair). elim o [ Some r ↦ Some r.name | None ↦ None ]) e
-last_name-at (q ∷ r ∷ ps) (suc n) p most e = last_name-at (r ∷ ps) n p (omega (arith, most)) e
-last_name-at _ _ p most e = absurd (omega (arith, most))
-
--- the name that has begun is the last pair's
-pub begun-last : (ps : List Pair) (b : Bool) (t : TagPairs) (p : Pair) → pairs_seen ps b ≡ t → (IsTrue b → 0 < length ps)
-    → slice_get ps (length ps - 1) ≡ Some p → IsSome t.pending_name → t.pending_name ≡ Some p.name
-begun-last ps true t p e some at begun = ap (λ s. s.pending_name) (sym e) ∙ last_name-at ps (length ps - 1) p (omega (arith, some refl)) at
-begun-last ps false t p e some at begun =
+-- the name that has begun is that of the last of the first pairs
+pub begun-last : (most : ℕ) (ps : List Pair) (n : ℕ) (b : Bool) (t : TagPairs) (p : Pair) → FitsPairStore most ps n b → pairs_seen (take n ps) b ≡ t
+    → p ≡ get_or ps (n - 1) p → IsSome t.pending_name → t.pending_name ≡ Some p.name
+begun-last most ps n true t p fits e at begun =
+    let more : n ≡ suc (n - 1) = omega (arith, fits.some refl) in
+    let split : take n ps ≡ take (n - 1) ps ++ p ∷ [] = ap (λ k. take k ps) more ∙ take-suc ps (n - 1) p (omega (arith, fits.some refl, fits.within))
+    ∙ ap (λ (q : Pair). take (n - 1) ps ++ q ∷ []) (sym at) in
+    ap (λ s. s.pending_name) (sym e) ∙ ap last_name split ∙ last_name-snoc (take (n - 1) ps) p
+begun-last most ps n false t p fits e at begun =
     let Q : TagPairs → Type 0 = λ u. IsSome u.pending_name in
-    let none : is_some (pairs_seen ps false).pending_name ≡ true = subst Q (sym e) begun in
+    let none : is_some (pairs_seen (take n ps) false).pending_name ≡ true = subst Q (sym e) begun in
     absurd (cc)
+
+-- a slice that is as long takes the place of all items
+pub refill-all : (items new : List Pair) → length new ≡ length items → refill (length items) items new ≡ new
+refill-all items new same =
+    ap (λ (n : ℕ). take n (new ++ drop (length new) items)) (sym same) ∙ take-append_seam new (drop (length new) items)
+
+-- of pairs that are stored, the first are those held, and there is a place behind them
+pub record HasPlace (most : ℕ) (ps : List Pair) (n : ℕ) (held : List Pair) : Type 0 where
+  pub same : take n ps ≡ held
+  pub place : n < length ps
+  pub room : length ps ≤ most
+
+pub place-of-old : (most : ℕ) (ps : List Pair) (n : ℕ) (held : List Pair) → length ps ≤ most → take n ps ≡ held → n < length ps → HasPlace most ps n held
+place-of-old most ps n held room same place = record { same = same; place = place; room = room }
+
+pub place-of-new : (most : ℕ) (ps more : List Pair) (n : ℕ) (held : List Pair) (p : Pair) → more ≡ ps ++ p ∷ [] → take n ps ≡ held → n ≡ length ps → n < most
+    → HasPlace most more n held
+place-of-new most ps more n held p is same all room =
+    let long : length more ≡ length ps + 1 = ap (length {A = Pair}) is ∙ length-append ps (p ∷ []) in
+    record {
+      same = ap (take n) is ∙ take-append-le n ps (p ∷ []) (omega (arith, all)) ∙ same;
+      place = omega (arith, long, all);
+      room = omega (arith, long, all, room);
+    }
+
+-- a pair is put there
+pub put-in-place : (most : ℕ) (ps : List Pair) (n : ℕ) (held : List Pair) (p : Pair) → HasPlace most ps n held
+    → take (n + 1) (refill (length ps) ps (set ps n p)) ≡ held ++ p ∷ []
+put-in-place most ps n held p has =
+    ap (take (n + 1)) (refill-all ps (set ps n p) (length-set ps n p)) ∙ take_more_set ps n p has.place ∙ ap (λ h. h ++ p ∷ []) has.same
+
+pub stays-in-place : (most : ℕ) (ps : List Pair) (n : ℕ) (held : List Pair) (p : Pair) → HasPlace most ps n held
+    → FitsPairStore most (refill (length ps) ps (set ps n p)) (n + 1) true
+stays-in-place most ps n held p has =
+    let long : length (refill (length ps) ps (set ps n p)) ≡ length ps =
+    ap (length {A = Pair}) (refill-all ps (set ps n p) (length-set ps n p)) ∙ length-set ps n p in
+    record {
+      room = omega (arith, long, has.room);
+      within = omega (arith, long, has.place);
+      some = λ _. omega arith;
+    }

@@ -1,22 +1,39 @@
-use Rattle.std.proofs.Common.{[], length, arith, rules, ap}
-use Rattle.pgn_game.specs.Pairs.{Pair}
-use Rattle.pgn_game.proofs.pairs.SortedPairs.{whole-held, pairs_seen-snoc}
+use Rattle.std.proofs.Common.{[], arith, rules}
+use Rattle.pgn_game.proofs.pairs.SortedPairs.{first-held, held-count, pairs_seen-snoc, HasPlace, place-of-new, place-of-old, put-in-place, stays-in-place}
 use Rattle.pgn_game.proofs.tags.TagPairs.begin.Goals as goal
+use Rattle.pgn_game.proofs.tags.TagPairs.begin.Goals.{then-self-len, else-self-len}
 
 pub push-requires : goal.push-requires
 push-requires g c =
-    let same = whole-held c.self.inside.pairs.items c.self.inside.has_pending_name c.args.self.now c.self.view_is c.requires.whole c.self.invariant.some in
-    (search rules, omega (arith, c.requires.room, ap (length {A = Pair}) same))
+    let count = held-count g.row.T c.self.inside.pairs.items c.self.inside.count c.self.inside.has_pending_name c.args.self.now c.self.invariant c.self.view_is c.requires.whole in
+    (search rules, omega (arith, c.requires.room, count))
 
 pub returns : goal.returns
 returns g c =
-    let same = whole-held c.self.inside.pairs.items c.self.inside.has_pending_name c.args.self.now c.self.view_is c.requires.whole c.self.invariant.some in
-    rw (c.push.ensures.items, same, c.new.ensures) (pairs_seen-snoc c.args.self.now.held (record { name = c.args.name.now; value = [] }))
+    let same = first-held g.row.T c.self.inside.pairs.items c.self.inside.count c.self.inside.has_pending_name c.args.self.now c.self.invariant c.self.view_is c.requires.whole in
+    let count = held-count g.row.T c.self.inside.pairs.items c.self.inside.count c.self.inside.has_pending_name c.args.self.now c.self.invariant c.self.view_is c.requires.whole in
+    let has : HasPlace g.row.T c.if-self-len.self-inside.pairs.items c.if-self-len.self-inside.count c.args.self.now.held =
+    elim c.if-self-len.branch [
+      | then-self-len w ↦
+          rw w.self-inside-is (place-of-new g.row.T c.self.inside.pairs.items w.push.new.self.items c.self.inside.count c.args.self.now.held w.default.result w.push.ensures.items same
+          (omega arith) (omega (arith, count, c.requires.room)))
+      | else-self-len w ↦
+          rw w.self-inside-is (place-of-old g.row.T c.self.inside.pairs.items c.self.inside.count c.args.self.now.held c.self.invariant.room same (omega (arith, c.self.invariant.within)))
+    ] in
+    rw (c.as_mut_slice-pairs.ensures.value, put-in-place g.row.T c.if-self-len.self-inside.pairs.items c.if-self-len.self-inside.count c.args.self.now.held c.set_name.new.self has, c.set_name.ensures)
+    (pairs_seen-snoc c.args.self.now.held (record { name = c.args.name.now; value = [] }))
 
 pub invariant_of-self : goal.invariant_of-self
 invariant_of-self g c =
-    let same = whole-held c.self.inside.pairs.items c.self.inside.has_pending_name c.args.self.now c.self.view_is c.requires.whole c.self.invariant.some in
-    record {
-      room = omega (arith, c.push.ensures.len, c.requires.room, ap (length {A = Pair}) same);
-      some = λ _. omega (arith, c.push.ensures.len);
-    }
+    let same = first-held g.row.T c.self.inside.pairs.items c.self.inside.count c.self.inside.has_pending_name c.args.self.now c.self.invariant c.self.view_is c.requires.whole in
+    let count = held-count g.row.T c.self.inside.pairs.items c.self.inside.count c.self.inside.has_pending_name c.args.self.now c.self.invariant c.self.view_is c.requires.whole in
+    let has : HasPlace g.row.T c.if-self-len.self-inside.pairs.items c.if-self-len.self-inside.count c.args.self.now.held =
+    elim c.if-self-len.branch [
+      | then-self-len w ↦
+          rw w.self-inside-is (place-of-new g.row.T c.self.inside.pairs.items w.push.new.self.items c.self.inside.count c.args.self.now.held w.default.result w.push.ensures.items same
+          (omega arith) (omega (arith, count, c.requires.room)))
+      | else-self-len w ↦
+          rw w.self-inside-is (place-of-old g.row.T c.self.inside.pairs.items c.self.inside.count c.args.self.now.held c.self.invariant.room same (omega (arith, c.self.invariant.within)))
+    ] in
+    rw c.as_mut_slice-pairs.ensures.value
+    (stays-in-place g.row.T c.if-self-len.self-inside.pairs.items c.if-self-len.self-inside.count c.args.self.now.held c.set_name.new.self has)

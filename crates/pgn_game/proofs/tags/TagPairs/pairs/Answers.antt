@@ -1,6 +1,9 @@
-use Rattle.std.proofs.Common.{◌∙◌}
-use Rattle.pgn_game.proofs.pairs.SortedPairs.{whole-held}
+use Rattle.std.proofs.Common.{List, ap, ◌∙◌, take}
+use Rattle.pgn_game.specs.Pairs.{Pair}
+use Rattle.pgn_game.proofs.pairs.SortedPairs.{first-held}
 use Rattle.pgn_game.proofs.tags.TagPairs.pairs.Goals as goal
 
 pub returns : goal.returns
-returns g c = c.as_slice.ensures.value ∙ whole-held c.self.inside.pairs.items c.self.inside.has_pending_name c.args.self.now c.self.view_is c.requires c.self.invariant.some
+returns g c =
+    ap (λ (ps : List Pair). take c.self.inside.count ps) c.as_slice.ensures.value
+    ∙ first-held g.row.T c.self.inside.pairs.items c.self.inside.count c.self.inside.has_pending_name c.args.self.now c.self.invariant c.self.view_is c.requires
