@@ -1,5 +1,6 @@
 -- **Bookkeeping**: how tag pairs are stored.
 -- Those that are complete come first, in order. The one whose value is still to come is last.
+-- Behind these may be pairs of earlier games, which no contract sees.
 use Rattle.std.specs.Prelude.{ℕ, ◌+◌, ◌≤◌, ◌<◌, IsTrue, Bool, true, false, List, [], ◌∷◌, length, drop, Option, None, Some}
 use Rattle.pgn_layout.specs.TagLine.{escaped}
 use Rattle.pgn_game.specs.Pairs.{Pair, comes_before}

@@ -13,7 +13,8 @@ use std::marker::Model;
 /// The tag pairs of one game, at most `T`. A name that has no value yet is the last of them.
 #[derive(Drop)]
 pub struct TagPairs<const T: usize> {
-    // Those of the game, and behind them pairs of earlier games, to be written over.
+    // The first `count` are those of the game. Those behind them are of earlier games, and are
+    // written over.
     pairs: ArrayVec<TagPair, T>,
     count: usize,
     has_pending_name: bool,
@@ -103,7 +104,7 @@ impl<const T: usize> TagPairs<T> {
               pending_name = None;
             }) }
     {
-        complete_one_of(self.pairs.as_mut_slice(), self.count, value);
+        complete_last_of(self.pairs.as_mut_slice(), self.count, value);
         self.has_pending_name = false;
     }
 
@@ -142,14 +143,15 @@ pub fn index_of(pairs: &[TagPair], name: &[u8]) -> usize
     pairs.len()
 }
 
-// Does so for the last of the first pairs, and leaves the others.
-fn complete_one_of(pairs: &mut [TagPair], count: usize, value: &[u8])
+// Gives the last of the first pairs its value, and moves it to its place among these.
+fn complete_last_of(pairs: &mut [TagPair], count: usize, value: &[u8])
     requires within { count ≤ length pairs.old }
     requires fits { IsSomeAnd (last_name (take count pairs.old))
         (λ name. length name + length (escaped value.now) ≤ 249) }
     ensures len { length pairs.new ≡ length pairs.old }
     ensures pairs { IfSome (last_name (take count pairs.old)) (λ name. take count pairs.new
-        ≡ insert_pair (record { name = name; value = value.now }) (but_last (take count pairs.old))) }
+        ≡ insert_pair (record { name = name; value = value.now })
+        (but_last (take count pairs.old))) }
 {
     complete_last(&mut pairs[..count], value);
 }
