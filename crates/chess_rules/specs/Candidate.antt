@@ -24,7 +24,7 @@ is_candidate p k t s = own p k s && sees k p s t
 abbrev pub candidates : Parts → Kind → Square → List Square
 candidates p k t = filter (is_candidate p k t) squares
 
--- the only one of them, or nothing if there is none or there are several
+-- the square of a list that has exactly one, and else nothing
 abbrev pub lone : List Square → Option Square
 lone (s ∷ []) = Some s
 lone _ = None

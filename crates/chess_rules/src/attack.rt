@@ -279,10 +279,11 @@ fn has_clear_slider(board: &Board, by: Colour, target: Square) -> bool
     others != 0 && others & first_pieces(board, target) != 0
 }
 
-// Where an attack of the colour on the square can be met: at the attacker, and between it and the
-// square. Where nothing attacks the square, there is none.
+// The squares of the pieces of the colour that attack the target, and those between the target and
+// the lowest of these; no square if nothing attacks it. Against one attacker, a move goes there
+// unless it is a king's or en passant.
 //
-// A search uses this for its order alone, so no clause says it.
+// The caller chooses an order by this and nothing else, so it has no contract.
 pub(crate) fn defences(board: &Board, by: Colour, target: Square) -> u64 {
     let attackers = near_attackers(board, by, target)
         | clear_among(board, sliders(board, by, target), target);

@@ -31,7 +31,7 @@ pub fn origins(position: &Position, kind: Kind, target: Square) -> ArrayVec<Squa
 /// Returns the one square that `origins` lists for the kind and the target, or `None` if it lists
 /// none or several.
 ///
-/// It is cheaper than `origins`. For most moves there is one origin.
+/// For most moves the kind has one origin, and this is then cheaper than `origins`.
 #[inline(always)]
 pub fn only_origin(position: &Position, kind: Kind, target: Square) -> Option<Square>
     ensures { result ≡ lone (candidates position.now kind target) }

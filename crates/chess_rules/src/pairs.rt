@@ -77,14 +77,14 @@ fn any_to(position: &Position, from: Square, targets: u64, probes: &mut Probes) 
     false
 }
 
-// Where the king goes first: to the squares beside it that have no piece of its side.
+// The squares beside the king of the side to move without a piece of its side.
 fn king_steps(position: &Position) -> u64
     ensures { Places result (spec.is_king_step position.now) }
 {
     adjacent(position.king()) & !position.board().of_colour(position.side())
 }
 
-// Whether one of these steps of the king is legal.
+// Whether a single step of the king is legal.
 pub(crate) fn any_king_step(position: &Position, probes: &mut Probes) -> bool
     requires { probes.old + spec.count_king_steps position.now < 2 ^ 32 }
     ensures found { result ≡ spec.any_king_step position.now }
@@ -93,10 +93,10 @@ pub(crate) fn any_king_step(position: &Position, probes: &mut Probes) -> bool
     any_to(position, position.king(), king_steps(position), probes)
 }
 
-// Whether another pair is legal.
+// Whether a pair is legal that `any_king_step` has not tried.
 //
-// The targets where a check can be met come first. Of the others only en passant can meet it, but
-// all are counted.
+// In check, the targets of `defences` come first. To the others only en passant can meet the check,
+// but if no pair is legal, all of them are counted.
 pub(crate) fn any_other(position: &Position, probes: &mut Probes) -> bool
     requires { probes.old + spec.count_others position.now < 2 ^ 32 }
     ensures found { result ≡ spec.any_other position.now }
@@ -133,8 +133,9 @@ fn any_untried(position: &Position, target: Square, probes: &mut Probes) -> bool
     any_from(position, untried(position, target), target, probes)
 }
 
-// The origins that are still to be tried for the target: the knights a jump away, and all other
-// pieces from which the way is clear. A king whose step was tried is not among them.
+// The origins still to be tried for the target: the side's knights a jump away, and its other
+// pieces on a rank, a file or a diagonal with the target, if the way is clear. A king whose step
+// was tried is not among them.
 fn untried(position: &Position, target: Square) -> u64
     ensures { Places result (spec.is_untried position.now target) }
 {

@@ -80,9 +80,9 @@ fn push_mark(text: &mut ArrayVec<u8, 7>, next: &Position, probes: &mut Probes)
     }
 }
 
-// Adds to an empty text that of the move without its mark.
+// Pushes the text of the move without its mark. `text` is empty before.
 //
-// The text is passed on and not returned: each return would copy its bytes.
+// The caller passes the vector, since each return of one would copy its bytes.
 fn push_unmarked(text: &mut ArrayVec<u8, 7>, position: &Position, mv: &Move, probes: &mut Probes)
     requires empty { text.old.items ≡ [] }
     requires legal { IsTrue (is_legal position.now mv.now) }
@@ -104,7 +104,7 @@ fn push_unmarked(text: &mut ArrayVec<u8, 7>, position: &Position, mv: &Move, pro
     }
 }
 
-// Adds to an empty text that of a king's move. (PGN 8.2.3.3)
+// Pushes the text of a king's move. `text` is empty before. (PGN 8.2.3.3)
 fn push_king_text(text: &mut ArrayVec<u8, 7>, position: &Position, mv: &Move)
     requires empty { text.old.items ≡ [] }
     requires legal { IsTrue (is_legal position.now mv.now) }
@@ -138,8 +138,8 @@ fn castling_text(long: bool) -> &'static [u8]
     if long { b"O-O-O" } else { b"O-O" }
 }
 
-// Adds to an empty text that of a pawn's move, which takes exactly if it changes its file. (PGN
-// 8.2.3.3)
+// Pushes the text of a pawn's move, which takes exactly if it changes its file. `text` is empty
+// before. (PGN 8.2.3.3)
 fn push_pawn_text(text: &mut ArrayVec<u8, 7>, position: &Position, mv: &Move)
     requires empty { text.old.items ≡ [] }
     requires legal { IsTrue (is_legal position.now mv.now) }
@@ -178,7 +178,8 @@ fn push_promotion(text: &mut ArrayVec<u8, 7>, promotion: Option<Promotion>)
     }
 }
 
-// Adds to an empty text that of a queen's, a rook's, a bishop's or a knight's move. (PGN 8.2.3.4)
+// Pushes the text of a queen's, a rook's, a bishop's or a knight's move. `text` is empty before.
+// (PGN 8.2.3.4)
 fn push_disambiguated_text(
     text: &mut ArrayVec<u8, 7>,
     position: &Position,

@@ -32,8 +32,8 @@ abbrev pub index_of : List ℕ → List Pair → ℕ
 index_of name [] = 0
 index_of name (p ∷ ps) = elim (comes_before name p.name) [ true ↦ 0 | false ↦ 1 + index_of name ps ]
 
--- how the pairs are stored: at most so many, of which the first belong to the game, and one of
--- these if a name has begun
+-- How the pairs are stored: at most so many. The first `count` belong to the game, and there is one
+-- of these if a name has no value yet.
 pub record FitsPairStore (most : ℕ) (ps : List Pair) (count : ℕ) (has_pending_name : Bool) : Type 0 where
   pub room : length ps ≤ most
   pub within : count ≤ length ps

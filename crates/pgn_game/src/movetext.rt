@@ -127,7 +127,8 @@ impl<const L: usize> Movetext<L> {
         Ok(())
     }
 
-    /// The same for the move with which movetext begins. It is not inlined: most moves are others.
+    /// Does what `put_move` does, in a call that is not inlined. It is for a move that is the first
+    /// token of movetext, which is rare.
     #[inline(never)]
     pub fn put_first_move<W: Sink>(
         &mut self,

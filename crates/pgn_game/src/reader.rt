@@ -612,8 +612,8 @@ impl<const T: usize, const L: usize> Reader<T, L> {
         }
     }
 
-    // Plays a legal move with which movetext goes on: what `judge` and `carry_out` come to. Most
-    // tokens that are written are such moves.
+    // Plays a legal move in movetext that has begun, with the result that `judge` and `carry_out`
+    // would have. In a plain game, nearly all tokens that reach this point are such moves.
     #[inline(always)]
     fn play<W: Sink>(
         &mut self,

@@ -108,7 +108,7 @@ impl<const T: usize> TagPairs<T> {
         self.has_pending_name = false;
     }
 
-    /// Drops all pairs.
+    /// Leaves no pairs. Their room is kept, and later pairs use it again.
     pub fn clear(&mut self)
         ensures { self.new ≡ record { held = []; pending_name = None } }
     {
@@ -143,7 +143,7 @@ pub fn index_of(pairs: &[TagPair], name: &[u8]) -> usize
     pairs.len()
 }
 
-// Gives the last of the first pairs its value, and moves it to its place among these.
+// Gives pair `count - 1` its value, and moves it to its place among the first `count` pairs.
 fn complete_last_of(pairs: &mut [TagPair], count: usize, value: &[u8])
     requires within { count ≤ length pairs.old }
     requires fits { IsSomeAnd (last_name (take count pairs.old))
