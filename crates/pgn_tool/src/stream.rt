@@ -69,7 +69,9 @@ pub fn export_mode(reduced: bool) -> Mode
     if reduced { Mode::Reduced } else { Mode::Full }
 }
 
-// Writes the games in export format.
+// Writes the games in export format. No task is inlined into `run_stream`: the stack would hold a
+// converter of each.
+#[inline(never)]
 fn export<R: Source, O: Sink, E: Sink>(mode: Mode, source: &mut R, out: &mut O, err: &mut E) -> u8
     ensures { Runs (exporting mode) (device R.left R.failures source.old source.new)
         (device O.taken O.failures out.old out.new)
@@ -84,6 +86,7 @@ fn export<R: Source, O: Sink, E: Sink>(mode: Mode, source: &mut R, out: &mut O, 
 }
 
 // Writes how many games and moves there are.
+#[inline(never)]
 fn check<R: Source, O: Sink, E: Sink>(source: &mut R, out: &mut O, err: &mut E) -> u8
     ensures { Runs checking (device R.left R.failures source.old source.new)
         (device O.taken O.failures out.old out.new)
@@ -102,6 +105,7 @@ fn check<R: Source, O: Sink, E: Sink>(source: &mut R, out: &mut O, err: &mut E) 
 }
 
 // Writes a line for each game.
+#[inline(never)]
 fn list<R: Source, O: Sink, E: Sink>(source: &mut R, out: &mut O, err: &mut E) -> u8
     ensures { Runs listing (device R.left R.failures source.old source.new)
         (device O.taken O.failures out.old out.new)
