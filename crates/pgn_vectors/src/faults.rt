@@ -4,7 +4,7 @@ use crate::{Vector, Verdict};
 use pgn_game::{Fault, LexReason, Mode, Reason};
 
 /// Inputs that are rejected; a name begins with the number of the reason.
-pub const FAULTS: &[Vector] = &[
+pub static FAULTS: &[Vector] = &[
     refused!("1", " % *", 1, Reason::Lexical(LexReason::StrayByte)),
     refused!(
         "2",

@@ -5,7 +5,7 @@ use pgn_game::{Fault, LexReason, Mode, Reason};
 
 /// Inputs at the limits, and one byte or token above them. Where a letter is repeated, a whole line
 /// has 64 of it.
-pub const LIMITS: &[Vector] = &[
+pub static LIMITS: &[Vector] = &[
     refused!(
         "a symbol of 255 bytes",
         concat!(

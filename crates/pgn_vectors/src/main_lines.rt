@@ -4,7 +4,7 @@ use crate::{Vector, Verdict};
 use pgn_game::Mode;
 
 /// Games from the usual first position, without variations, and inputs of no game.
-pub const MAIN_LINES: &[Vector] = &[
+pub static MAIN_LINES: &[Vector] = &[
     converted!(
         "sample-game",
         concat!(

@@ -5,7 +5,7 @@ use pgn_game::{Fault, Mode, Reason};
 
 /// Inputs that are rejected at the first move from the position of a FEN pair, or at the pair; a
 /// name begins with the number of the reason.
-pub const POSITION_FAULTS: &[Vector] = &[
+pub static POSITION_FAULTS: &[Vector] = &[
     refused_from_position!(
         "35, three-queens",
         "1k6/8/8/8/4Q2Q/8/8/K6Q w - - 0 1",

@@ -4,7 +4,7 @@ use crate::{Vector, Verdict};
 use pgn_game::Mode;
 
 /// Games that begin at the position of a FEN pair.
-pub const POSITIONS: &[Vector] = &[
+pub static POSITIONS: &[Vector] = &[
     from_position!("no move", "4k3/8/8/8/8/8/8/4K3 w - - 0 1", "*", 0, "*"),
     from_position!(
         "pinned-rival",

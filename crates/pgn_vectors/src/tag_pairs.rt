@@ -4,7 +4,7 @@ use crate::{Vector, Verdict};
 use pgn_game::Mode;
 
 /// Games with tag pairs, from the usual first position.
-pub const TAG_PAIRS: &[Vector] = &[
+pub static TAG_PAIRS: &[Vector] = &[
     pairs!(
         "fools-mate",
         "[Result \"0-1\"]\nf3 e5 g4 Qh4 0-1",

@@ -4,7 +4,7 @@ use crate::{Vector, Verdict};
 use pgn_game::{Fault, Mode, Reason};
 
 /// Games with variations, in full and reduced, and those that are rejected in them.
-pub const VARIATIONS: &[Vector] = &[
+pub static VARIATIONS: &[Vector] = &[
     game!(
         "sibling-variations",
         "1. e4 (1. d4 d5) (1. c4) e5 *",
