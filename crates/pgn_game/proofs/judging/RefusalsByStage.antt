@@ -1,5 +1,6 @@
 -- Which tokens are rejected at a stage, and where the others lead.
 use Rattle.std.proofs.Common.{◌≡◌, ℕ, Bool, true, false, ◌&&◌, List, [], length, nat_le, Option, None, Some, refl, sym, ap, subst, ◌∙◌, Bor, IsTrue, Ok}
+use Rattle.std.proofs.lemmas.Bool.{false≢true}
 use Rattle.pgn_lexer.specs.Tokens as tokens
 use Rattle.pgn_lexer.specs.Tokens.{left_bracket, right_bracket, symbol, str}
 use Rattle.pgn_lexer.specs.Scanned.{kind_of}
@@ -35,7 +36,10 @@ expected_name_at : (p : Profile) (part : Part) (k : TokenKind) → false ≡ is_
     → refusal p (at_stage AfterLeftBracket part) (kind_of k) ≡ Some ExpectedName
 unfolding refusal
 expected_name_at p part (variants.Symbol t) is other = absurd (other t refl)
-expected_name_at p part _ is other = cc
+expected_name_at p part variants.CommentOpen is other = absurd (false≢true is)
+expected_name_at p part (variants.Word t) is other = absurd (false≢true is)
+expected_name_at p part variants.CommentClose is other = absurd (false≢true is)
+expected_name_at p part _ is other = refl
 
 pub expected_name : (p : Profile) (part : Part) (k : TokenKind) → part.stage ≡ AfterLeftBracket → false ≡ is_comment (kind_of k) → ((text : Bor (List ℕ)) → k ≡ variants.Symbol text → ⊥)
     → refusal p part (kind_of k) ≡ Some ExpectedName
@@ -45,7 +49,10 @@ expected_value_at : (p : Profile) (part : Part) (k : TokenKind) → false ≡ is
     → refusal p (at_stage AfterName part) (kind_of k) ≡ Some ExpectedValue
 unfolding refusal
 expected_value_at p part (variants.Str t) is other = absurd (other t refl)
-expected_value_at p part _ is other = cc
+expected_value_at p part variants.CommentOpen is other = absurd (false≢true is)
+expected_value_at p part (variants.Word t) is other = absurd (false≢true is)
+expected_value_at p part variants.CommentClose is other = absurd (false≢true is)
+expected_value_at p part _ is other = refl
 
 pub expected_value : (p : Profile) (part : Part) (k : TokenKind) → part.stage ≡ AfterName → false ≡ is_comment (kind_of k) → ((text : Bor (List ℕ)) → k ≡ variants.Str text → ⊥)
     → refusal p part (kind_of k) ≡ Some ExpectedValue
@@ -55,7 +62,10 @@ expected_bracket_at : (p : Profile) (part : Part) (k : TokenKind) → false ≡ 
     → refusal p (at_stage AfterValue part) (kind_of k) ≡ Some ExpectedBracket
 unfolding refusal
 expected_bracket_at p part variants.RightBracket is other = absurd (other refl)
-expected_bracket_at p part _ is other = cc
+expected_bracket_at p part variants.CommentOpen is other = absurd (false≢true is)
+expected_bracket_at p part (variants.Word t) is other = absurd (false≢true is)
+expected_bracket_at p part variants.CommentClose is other = absurd (false≢true is)
+expected_bracket_at p part _ is other = refl
 
 pub expected_bracket : (p : Profile) (part : Part) (k : TokenKind) → part.stage ≡ AfterValue → false ≡ is_comment (kind_of k) → (k ≡ variants.RightBracket → ⊥)
     → refusal p part (kind_of k) ≡ Some ExpectedBracket
@@ -99,14 +109,16 @@ open_next part at = at_the_stage (λ q. next q left_bracket ≡ going (at_stage 
 
 -- a token that is neither a `[` nor the end may be one of movetext
 textual : (k : TokenKind) → is_left_bracket (kind_of k) ≡ false → is_end (kind_of k) ≡ false → IsTrue (is_textual (kind_of k))
-textual variants.LeftBracket bracket over = absurd (cc)
-textual _ bracket over = cc
+textual variants.LeftBracket bracket over = absurd (false≢true (sym bracket))
+textual variants.End bracket over = absurd (false≢true (sym over))
+textual _ bracket over = refl
 
 text_in_movetext : (p : Profile) (part : Part) (k : TokenKind) → is_left_bracket (kind_of k) ≡ false → is_end (kind_of k) ≡ false
     → refusal p (at_stage InMovetext part) (kind_of k) ≡ text_refusal p part (kind_of k)
 unfolding refusal
-text_in_movetext p part variants.LeftBracket bracket over = absurd (cc)
-text_in_movetext p part _ bracket over = cc
+text_in_movetext p part variants.LeftBracket bracket over = absurd (false≢true (sym bracket))
+text_in_movetext p part variants.End bracket over = absurd (false≢true (sym over))
+text_in_movetext p part _ bracket over = refl
 
 text_refusal_at : (p : Profile) (part : Part) (stage : Stage) (k : TokenKind) → IsTrue (may_have_movetext stage) → is_left_bracket (kind_of k) ≡ false
     → is_end (kind_of k) ≡ false → (is_at AfterTags (at_stage stage part) && lacks_fen part.pairs) ≡ false
@@ -115,7 +127,7 @@ text_refusal_at p part AfterTags k at bracket over free =
     after_tags p part.pairs part.name part.items (kind_of k) (textual k bracket over) ∙ pass (lacks_fen part.pairs) SetUpWithoutFen _ free
     ∙ text_in_movetext p part k bracket over
 text_refusal_at p part InMovetext k at bracket over free = text_in_movetext p part k bracket over
-text_refusal_at p part _ k at bracket over free = absurd (cc)
+text_refusal_at p part _ k at bracket over free = absurd (false≢true at)
 
 -- a token of movetext, from a part at its stage
 pub record IsMovetext (part : Part) (k : TokenKind) : Type 0 where
@@ -128,7 +140,7 @@ text_next_at : (part : Part) (stage : Stage) (k : TokenKind) → IsTrue (may_hav
     → is_end (kind_of k) ≡ false → next (at_stage stage part) (kind_of k) ≡ in_text part (kind_of k)
 text_next_at part AfterTags k at bracket over = leads_after_tags part.pairs part.name part.items (kind_of k) (textual k bracket over)
 text_next_at part InMovetext k at bracket over = refl
-text_next_at part _ k at bracket over = absurd (cc)
+text_next_at part _ k at bracket over = absurd (false≢true at)
 
 -- the table of movetext is the one for it
 pub judged_in_text : (p : Profile) (part : Part) (k : TokenKind) → IsMovetext part k
@@ -145,14 +157,20 @@ passes_between p part k at is = at_the_stage (λ q. judged p q (kind_of k) ≡ O
   where
     by_kind : (k : TokenKind) → begins_game Between (kind_of k) ≡ false → judged p (at_stage Between part) (kind_of k) ≡ Ok (going (at_stage Between part))
     by_kind variants.End is = refl
-    by_kind _ is = cc
+    by_kind variants.CommentOpen is = refl
+    by_kind (variants.Word t) is = refl
+    by_kind variants.CommentClose is = refl
+    by_kind _ is = absurd (false≢true (sym is))
 
 -- A token that begins a game means what it means after pairs, of which there is none.
 pub begins_alike : (p : Profile) (k : TokenKind) → IsTrue (begins_game Between (kind_of k))
     → judged p no_part (kind_of k) ≡ judged p (at_stage AfterTags no_part) (kind_of k)
 unfolding refusal
-begins_alike p variants.End is = absurd (cc)
-begins_alike p _ is = cc
+begins_alike p variants.End is = absurd (false≢true is)
+begins_alike p variants.CommentOpen is = absurd (false≢true is)
+begins_alike p (variants.Word t) is = absurd (false≢true is)
+begins_alike p variants.CommentClose is = absurd (false≢true is)
+begins_alike p _ is = refl
 
 -- the end after the pairs of a game
 pub end_after_tags : (p : Profile) (part : Part) → part.stage ≡ AfterTags → refusal p part tokens.end ≡ Some UnexpectedEnd

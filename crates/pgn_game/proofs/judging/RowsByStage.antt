@@ -1,7 +1,7 @@
 -- What is asked of a token at each stage, row by row, and where it then leads.
-use Rattle.std.proofs.Common.{◌≡◌, ℕ, ◌+◌, Bool, true, false, ◌&&◌, ◌||◌, not, List, length, nat_lt, nat_le, Option, None, Some, refl, ap, ◌∙◌, ◌==◌, codes, bytes_eq, is_some, IsTrue, IsFalse, Result}
+use Rattle.std.proofs.Common.{◌≡◌, ℕ, ◌+◌, Bool, true, false, ◌&&◌, ◌||◌, not, List, length, nat_lt, nat_le, Option, None, Some, refl, sym, ap, ◌∙◌, ◌==◌, codes, bytes_eq, is_some, IsTrue, IsFalse, Result}
 use Rattle.std.specs.List.{list_all}
-use Rattle.std.proofs.lemmas.Bool.{and_right}
+use Rattle.std.proofs.lemmas.Bool.{and_right, false≢true}
 use Rattle.pgn_layout.specs.TagLine.{escaped}
 use Rattle.pgn_lexer.specs.Tokens as tokens
 use Rattle.pgn_game.proofs.Words.{Played, SanFault, Kind, Reason, BadTagName, DuplicateTag, TooManyTags, BadResult, BadFen, TagLineTooLong, SetUpWithoutFen, ReducedFen, NotAMove, IllegalMove, AmbiguousMove, MoveLimit, NoMoveBefore, TooDeep, UnmatchedClose, MarkerInVariation, ResultDiffers, Stage, Between, AfterLeftBracket, AfterName, AfterValue, AfterTags, InMovetext, Profile, Pair, has_pair, Item}
@@ -42,23 +42,33 @@ reduced_row p = pass (is_reduced p.mode && false) ReducedFen None (and_right (is
 pub comment_free : (p : Profile) (stage : Stage) (ps : List Pair) (name : List ℕ) (items : List Item) (k : Kind) → IsTrue (drops_comments stage) → IsTrue (is_comment k)
     → refusal p (at stage ps name items) k ≡ None
 unfolding refusal
+comment_free p AfterTags ps name items k drops is = absurd (false≢true drops)
+comment_free p InMovetext ps name items k drops is = absurd (false≢true drops)
 comment_free p Between ps name items tokens.comment_open drops is = refl
+comment_free p Between ps name items (tokens.word s) drops is = refl
+comment_free p Between ps name items tokens.comment_close drops is = refl
 comment_free p AfterLeftBracket ps name items tokens.comment_open drops is = reduced_row p
+comment_free p AfterLeftBracket ps name items (tokens.word s) drops is = reduced_row p
+comment_free p AfterLeftBracket ps name items tokens.comment_close drops is = reduced_row p
 comment_free p AfterName ps name items tokens.comment_open drops is = no_value_rows p name
+comment_free p AfterName ps name items (tokens.word s) drops is = no_value_rows p name
+comment_free p AfterName ps name items tokens.comment_close drops is = no_value_rows p name
 comment_free p AfterValue ps name items tokens.comment_open drops is = refl
-comment_free p _ ps name items _ drops is = cc (reduced_row p, no_value_rows p name)
+comment_free p AfterValue ps name items (tokens.word s) drops is = refl
+comment_free p AfterValue ps name items tokens.comment_close drops is = refl
+comment_free p _ ps name items _ drops is = absurd (false≢true is)
 
 pub comment_stays : (stage : Stage) (ps : List Pair) (name : List ℕ) (items : List Item) (k : Kind) → IsTrue (drops_comments stage) → IsTrue (is_comment k)
     → next (at stage ps name items) k ≡ going (at stage ps name items)
-comment_stays AfterTags ps name items k drops is = absurd (cc)
-comment_stays InMovetext ps name items k drops is = absurd (cc)
+comment_stays AfterTags ps name items k drops is = absurd (false≢true drops)
+comment_stays InMovetext ps name items k drops is = absurd (false≢true drops)
 comment_stays _ ps name items tokens.comment_open drops is = refl
 comment_stays _ ps name items (tokens.word s) drops is = refl
 comment_stays _ ps name items tokens.comment_close drops is = refl
-comment_stays _ ps name items _ drops is = absurd (cc)
+comment_stays _ ps name items _ drops is = absurd (false≢true is)
 
 pub comment_goes : (k : Kind) → IsTrue (is_comment k) → is_end k ≡ false
-comment_goes tokens.end is = absurd (cc)
+comment_goes tokens.end is = absurd (false≢true is)
 comment_goes _ is = refl
 
 -- Pairs.
@@ -111,25 +121,39 @@ is_textual _ = true
 pub after_tags : (p : Profile) (ps : List Pair) (name : List ℕ) (items : List Item) (k : Kind) → IsTrue (is_textual k)
     → refusal p (at AfterTags ps name items) k ≡ or_else (lacks_fen ps) SetUpWithoutFen (refusal p (at InMovetext ps name items) k)
 unfolding refusal
-after_tags p ps name items tokens.left_bracket is = absurd (cc)
-after_tags p ps name items _ is = cc
+after_tags p ps name items tokens.left_bracket is = absurd (false≢true is)
+after_tags p ps name items tokens.end is = absurd (false≢true is)
+after_tags p ps name items (tokens.refused r) is = absurd (false≢true is)
+after_tags p ps name items _ is = refl
 
 pub leads_after_tags : (ps : List Pair) (name : List ℕ) (items : List Item) (k : Kind) → IsTrue (is_textual k)
     → next (at AfterTags ps name items) k ≡ next (at InMovetext ps name items) k
-leads_after_tags ps name items tokens.left_bracket is = absurd (cc)
-leads_after_tags ps name items _ is = cc
+leads_after_tags ps name items tokens.left_bracket is = absurd (false≢true is)
+leads_after_tags ps name items tokens.end is = absurd (false≢true is)
+leads_after_tags ps name items (tokens.refused r) is = absurd (false≢true is)
+leads_after_tags ps name items _ is = refl
 
 -- without pairs
 pub between : (p : Profile) (ps : List Pair) (name : List ℕ) (items : List Item) (k : Kind) → IsTrue (is_textual k) → IsFalse (is_comment k)
     → refusal p (at Between ps name items) k ≡ refusal p (at InMovetext ps name items) k
 unfolding refusal
-between p ps name items tokens.left_bracket is bare = absurd (cc)
-between p ps name items _ is bare = cc
+between p ps name items tokens.left_bracket is bare = absurd (false≢true is)
+between p ps name items tokens.end is bare = absurd (false≢true is)
+between p ps name items (tokens.refused r) is bare = absurd (false≢true is)
+between p ps name items tokens.comment_open is bare = absurd (false≢true (sym bare))
+between p ps name items (tokens.word s) is bare = absurd (false≢true (sym bare))
+between p ps name items tokens.comment_close is bare = absurd (false≢true (sym bare))
+between p ps name items _ is bare = refl
 
 pub leads_between : (ps : List Pair) (name : List ℕ) (items : List Item) (k : Kind) → IsTrue (is_textual k) → IsFalse (is_comment k)
     → next (at Between ps name items) k ≡ next (at InMovetext ps name items) k
-leads_between ps name items tokens.left_bracket is bare = absurd (cc)
-leads_between ps name items _ is bare = cc
+leads_between ps name items tokens.left_bracket is bare = absurd (false≢true is)
+leads_between ps name items tokens.end is bare = absurd (false≢true is)
+leads_between ps name items (tokens.refused r) is bare = absurd (false≢true is)
+leads_between ps name items tokens.comment_open is bare = absurd (false≢true (sym bare))
+leads_between ps name items (tokens.word s) is bare = absurd (false≢true (sym bare))
+leads_between ps name items tokens.comment_close is bare = absurd (false≢true (sym bare))
+leads_between ps name items _ is bare = refl
 
 -- what a variation and its end are rejected for
 pub varying : (p : Profile) (ps : List Pair) (name : List ℕ) (items : List Item)

@@ -2,7 +2,8 @@
 use Rattle.std.proofs.Common.{◌≡◌, ℕ, ◌+◌, ◌<◌, ◌≤◌, Bool, true, false, ◌&&◌, not, List, [], ◌∷◌, ◌++◌, length, nat_lt, nat_le, refl, sym, ap, subst, ◌∙◌, arith, append_assoc, append-nil, Option, None, Some, ◌==◌, codes, bytes_eq, is_some, unwrap_or, IsTrue, IsFalse, Result, Ok, Err}
 use Rattle.std.specs.List.{list_all}
 use Rattle.std.proofs.lemmas.Slice.Eq.{bytes_eq-Decides}
-use Rattle.std.proofs.lemmas.Bool.{not-false, leb-false, ltb-false}
+use Rattle.std.proofs.lemmas.Bool.{false≢true, not-false, leb-false, ltb-false}
+use Rattle.std.proofs.lemmas.Option.{none-some}
 use Rattle.std.proofs.lemmas.Bool.Decides.{nat_tests}
 use Rattle.chess_text.specs.declared.fen.FenFault.{FenFault}
 use Rattle.chess_text.specs.declared.resolution.SanFault.TheVariants.{NoMove, Ambiguous}
@@ -221,7 +222,7 @@ close_at : (p : Profile) (first : Parts) (l : Level) (around : List Level) (text
     → Closes p first (levels_after (record { present = l; around = around }) games.close_variation).present
     (levels_after (record { present = l; around = around }) games.close_variation).around text more
     → Closes p first l around (tokens.right_paren ∷ text) (games.close_variation ∷ more)
-close_at p first l [] text more some c = absurd (cc)
+close_at p first l [] text more some c = absurd (false≢true (sym some))
 close_at p first l (m ∷ around) text more some c = add_close p first l m around text more c
 
 adds_close : (p : Profile) (ps : List Pair) (items : List Item) → (depth (levels_of items) == 0) ≡ false → Adds p ps items tokens.right_paren (games.close_variation ∷ [])
@@ -288,9 +289,9 @@ symbol_step p ps name items s ks gs false false (Some (Ok played)) digits is_mar
     text_more p ps items (games.move played.mv ∷ []) (tokens.symbol s) ks gs
     (adds_move p ps items s played
     (record { no_number = digits; no_marker = is_marker; one = one; within = test_failed (is_at_limit (here (start_of ps) (levels_of items))) MoveLimit _ free })) (after tt)
-symbol_step p ps name items s ks gs false false None digits is_marker one free after = absurd (cc)
-symbol_step p ps name items s ks gs false false (Some (Err NoMove)) digits is_marker one free after = absurd (cc)
-symbol_step p ps name items s ks gs false false (Some (Err Ambiguous)) digits is_marker one free after = absurd (cc)
+symbol_step p ps name items s ks gs false false None digits is_marker one free after = absurd (none-some _ (sym free))
+symbol_step p ps name items s ks gs false false (Some (Err NoMove)) digits is_marker one free after = absurd (none-some _ (sym free))
+symbol_step p ps name items s ks gs false false (Some (Err Ambiguous)) digits is_marker one free after = absurd (none-some _ (sym free))
 symbol_step p ps name items s ks gs true true o digits is_marker one free after =
     marker_step p ps items (tokens.symbol s) s ks gs (ap (λ (b : Bool). marked b s) is_marker)
     (test_failed (nat_le 1 (depth (levels_of items))) MarkerInVariation _ free)
@@ -323,7 +324,8 @@ text_step p ps name items tokens.asterisk ks gs free end after =
 text_step p ps name items (tokens.symbol s) ks gs free end after =
     let place = here (start_of ps) (levels_of items) in
     symbol_step p ps name items s ks gs (is_number s) (is_score s) (move_of place s) refl refl refl (sym (symbolic p ps name items s) ∙ free) after
-text_step p ps name items _ ks gs free end after = absurd (cc)
+text_step p ps name items tokens.end ks gs free end after = absurd (false≢true (sym end))
+text_step p ps name items _ ks gs free end after = absurd (none-some _ (sym free))
 
 -- Pairs, token by token.
 dropped_more : (k : Kind) (ks : List Kind) → IsTrue (is_comment k) → AreDropped ks → AreDropped (k ∷ ks)
@@ -360,7 +362,7 @@ bracket_step p ps name items tokens.comment_close ks gs none free after =
     one_dropped (Bracket p ps gs) tokens.comment_close ks refl (after none)
 bracket_step p ps name items tokens.right_bracket ks gs none free after =
     none_dropped (Bracket p ps gs) (tokens.right_bracket ∷ ks) (record { behind = ks; kinds = refl; tags = after none })
-bracket_step p ps name items _ ks gs none free after = absurd (cc)
+bracket_step p ps name items _ ks gs none free after = absurd (none-some _ (sym free))
 
 value_given : (p : Profile) (ps : List Pair) (name : List ℕ) (items : List Item) (s : List ℕ) (ks : List Kind) (gs : List Game)
     → refusal p (at AfterName ps name items) (tokens.str s) ≡ None → Bracket_left p (insert_pair (record { name = name; value = s }) ps) ks gs
@@ -393,7 +395,7 @@ value_step p ps name items (tokens.word s) ks gs none free after = one_dropped (
 value_step p ps name items tokens.comment_close ks gs none free after =
     one_dropped (Value p ps name gs) tokens.comment_close ks refl (after none)
 value_step p ps name items (tokens.str s) ks gs none free after = value_given p ps name items s ks gs free (after none)
-value_step p ps name items _ ks gs none free after = absurd (cc)
+value_step p ps name items _ ks gs none free after = absurd (none-some _ (sym free))
 
 name_given : (p : Profile) (ps : List Pair) (name : List ℕ) (items : List Item) (s : List ℕ) (ks : List Kind) (gs : List Game)
     → refusal p (at AfterLeftBracket ps name items) (tokens.symbol s) ≡ None → Value_left p ps s ks gs → Name_left p ps (tokens.symbol s ∷ ks) gs
@@ -422,7 +424,7 @@ name_step p ps name items (tokens.word s) ks gs none free after = one_dropped (N
 name_step p ps name items tokens.comment_close ks gs none free after =
     one_dropped (Name p ps gs) tokens.comment_close ks refl (after none)
 name_step p ps name items (tokens.symbol s) ks gs none free after = name_given p ps name items s ks gs free (after none)
-name_step p ps name items _ ks gs none free after = absurd (cc)
+name_step p ps name items _ ks gs none free after = absurd (none-some _ (sym free))
 
 -- a `[`, and a pair
 pair_step : (p : Profile) (ps : List Pair) (ks : List Kind) (gs : List Game) → nat_le p.tags (length ps) ≡ false → Name_left p ps ks gs
@@ -488,8 +490,8 @@ tags_step : (p : Profile) (ps : List Pair) (name : List ℕ) (items : List Item)
 unfolding refusal
 tags_step p ps name items tokens.left_bracket ks gs none free end after =
     (pair_step p ps ks gs (test_failed (nat_le p.tags (length ps)) TooManyTags None (sym (opening p ps name items) ∙ free)) (after none)).0
-tags_step p ps name items tokens.end ks gs none free end after = absurd (cc)
-tags_step p ps name items (tokens.refused r) ks gs none free end after = absurd (cc)
+tags_step p ps name items tokens.end ks gs none free end after = absurd (false≢true (sym end))
+tags_step p ps name items (tokens.refused r) ks gs none free end after = absurd (none-some _ (sym free))
 tags_step p ps name items k ks gs none free end after = tags_text p ps name items k ks gs none refl free end after
 
 -- Games.
@@ -568,8 +570,8 @@ between_step p ps name items tokens.comment_close ks gs no_pairs none free end a
 between_step p ps name items tokens.left_bracket ks gs no_pairs none free end after =
     let t = pair_step p ps ks gs (test_failed (nat_le p.tags (length ps)) TooManyTags None (sym (opening_between p ps name items) ∙ free)) (after none) in
     game_begins p ps (tokens.left_bracket ∷ ks) gs no_pairs t.0 (λ e. absurd (t.1 e))
-between_step p ps name items tokens.end ks gs no_pairs none free end after = absurd (cc)
-between_step p ps name items (tokens.refused r) ks gs no_pairs none free end after = absurd (cc)
+between_step p ps name items tokens.end ks gs no_pairs none free end after = absurd (false≢true (sym end))
+between_step p ps name items (tokens.refused r) ks gs no_pairs none free end after = absurd (none-some _ (sym free))
 between_step p ps name items k ks gs no_pairs none free end after = between_text p ps name items k ks gs no_pairs none refl refl free end after
 
 -- one token more, at any stage
@@ -587,7 +589,7 @@ at_end : (p : Profile) (stage : Stage) (ps : List Pair) (name : List ℕ) (items
     → Left p stage ps name items (tokens.end ∷ []) []
 unfolding refusal
 at_end p Between ps name items free = no_game [] refl
-at_end p _ ps name items free = absurd (cc)
+at_end p _ ps name items free = absurd (none-some _ (sym free))
 
 left : (p : Profile) (part : Part) (ks : List Kind) (gs : List Game) → Runs p part ks gs → Fits part.stage part.pairs part.items
     → Left p part.stage part.pairs part.name part.items ks gs
