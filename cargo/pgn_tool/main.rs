@@ -5,7 +5,6 @@
 //! `main`, `run`, `machine`, `standard`, `arguments` and `folder`. The other modules are those of
 //! the proved program, without their contracts.
 
-mod arguments;
 mod checked;
 mod files;
 mod folder;
@@ -15,12 +14,12 @@ mod replies;
 mod split;
 mod stream;
 
-use crate::arguments::{parse, Task};
 use crate::checked::run_checked;
 use crate::folder::Folder;
 use crate::replies::{answer_fault, out_of_memory, refuse_words};
 use crate::split::split_to;
 use crate::stream::{refuse, run_stream};
+use pgn_arguments::{parse, Task};
 use pgn_game::{Fault, Inlet, Outlet, Reason, Sink};
 use std::fs::File;
 use std::io::{BufWriter, ErrorKind, Read};

@@ -168,8 +168,8 @@ class Written(unittest.TestCase):
 
     def test_what_is_not_proved_says_so(self):
         out, _, _ = self.write()
-        for name in ("main", "arguments", "folder"):
-            text = read("%s/crates/pgn_tool/src/%s.rs" % (out, name))
+        for name in ("pgn_tool/src/main", "pgn_arguments/src/lib", "pgn_tool/src/folder"):
+            text = read("%s/crates/%s.rs" % (out, name))
             self.assertIn("**Not proved.**", "".join(text.split("\n\n")[0:1]))
         self.assertIn("**Nothing in this folder is proved", read(out + "/README.md"))
 

@@ -1,5 +1,4 @@
--- Lemmas on the program's command line.
-mod commands
+-- Lemmas on the program.
 mod rows
 mod runs
 mod splitting

@@ -1,4 +1,3 @@
 -- Worked rows.
-pub mod CommandRows
 pub mod RunRows
 pub mod SplitRows

@@ -14,8 +14,8 @@ use Rattle.pgn_game.specs.Reason.{line_of}
 use Rattle.pgn_game.specs.Progress.{output, verdict}
 use Rattle.pgn_game.specs.Checked.{checked_output, checked_profile, checked_verdict}
 use Rattle.pgn_game.specs.CheckedConversion.{TwoReadingsConvert, TwoReadingsCount}
-use Rattle.pgn_tool.specs.declared.arguments.Task.{Task}
-use Rattle.pgn_tool.specs.declared.arguments.Task.TheVariants.{Checked}
+use Rattle.pgn_arguments.specs.declared.arguments.Task.{Task}
+use Rattle.pgn_arguments.specs.declared.arguments.Task.TheVariants.{Checked}
 use Rattle.pgn_tool.specs.TaskRun.{Concludes, FlushCounts, HasFailed, HasFront, Tells, TellsVerdict, line, mode_for, status_of}
 
 -- ---- what is asked for

@@ -1,6 +1,4 @@
 -- **Bookkeeping**: the list of this crate's files of definitions.
-pub mod CommandLine
-pub mod Requests
 pub mod ListLines
 pub mod ListState
 pub mod TaskRun

@@ -6,15 +6,15 @@ use Rattle.pgn_layout.specs.Device.{Device}
 use Rattle.pgn_game.specs.declared.reason.Reason.TheVariants.{ReadFault}
 use Rattle.pgn_game.specs.declared.mode.Mode.{Mode}
 use Rattle.pgn_game.specs.Reason.{line_of}
-use Rattle.pgn_tool.specs.declared.arguments.Task.{Task}
-use Rattle.pgn_tool.specs.declared.arguments.Task.TheVariants.{Checked, Split}
-use Rattle.pgn_tool.specs.declared.arguments.ParseFault.{ParseFault}
+use Rattle.pgn_arguments.specs.declared.arguments.Task.{Task}
+use Rattle.pgn_arguments.specs.declared.arguments.Task.TheVariants.{Checked, Split}
+use Rattle.pgn_arguments.specs.declared.arguments.ParseFault.{ParseFault}
 use Rattle.pgn_tool.specs.declared.machine.SystemFault.{SystemFault}
 use Rattle.pgn_tool.specs.declared.machine.SystemFault.TheVariants.{Refused, NoMemory}
 use Rattle.pgn_tool.specs.Files.{FileStep, added, entered}
 use Rattle.pgn_tool.specs.Machine.{Holding, Machine, Opens, Reading, holds, missing}
 use Rattle.pgn_tool.specs.Replies.{AnswersFault}
-use Rattle.pgn_tool.specs.Requests.{AnswersBy, file_of, refusals, request_in, request_of}
+use Rattle.pgn_arguments.specs.Requests.{AnswersBy, file_of, refusals, request_in, request_of}
 use Rattle.pgn_tool.specs.TaskRun.{Answers, IsSmooth, IsUntouched, Job, Runs, Tells, job_of, line, mode_for}
 use Rattle.pgn_tool.specs.CheckedRun.{AnswersSame, AnswersTwice, RunsTwice}
 use Rattle.pgn_tool.specs.SplitFiles.{RunsSplit}

@@ -3,8 +3,8 @@ use Rattle.std.specs.Prelude.{◌≡◌, ℕ, ◌≤◌, List, codes, string_byt
 use Rattle.std.specs.Io.KnownBytes.{Appends}
 use Rattle.pgn_layout.specs.Device.{Device, IsStill}
 use Rattle.pgn_tool.specs.TaskRun.{HasFailed, IsUntouched, Tells, line}
-use Rattle.pgn_tool.specs.declared.arguments.ParseFault.{ParseFault}
-use Rattle.pgn_tool.specs.declared.arguments.ParseFault.TheVariants.{Help, Bad, NoMemory}
+use Rattle.pgn_arguments.specs.declared.arguments.ParseFault.{ParseFault}
+use Rattle.pgn_arguments.specs.declared.arguments.ParseFault.TheVariants.{Help, Bad, NoMemory}
 
 -- the text is written to standard output; or that failed, which is reported
 pub record Shows (text : List ℕ) (out err : Device) (status : ℕ) : Type 0 where

@@ -13,8 +13,8 @@ use Rattle.pgn_game.specs.Reason.{line_of}
 use Rattle.pgn_game.specs.Progress.{Verdict, refused, totals, output, verdict}
 use Rattle.pgn_game.specs.ConverterCalls.{profile_of}
 use Rattle.pgn_game.specs.Conversion.{Converts, CountsResult}
-use Rattle.pgn_tool.specs.declared.arguments.Task.{Task}
-use Rattle.pgn_tool.specs.declared.arguments.Task.TheVariants.{Export, Checked, Check, List as ListGames, Split}
+use Rattle.pgn_arguments.specs.declared.arguments.Task.{Task}
+use Rattle.pgn_arguments.specs.declared.arguments.Task.TheVariants.{Export, Checked, Check, List as ListGames, Split}
 use Rattle.pgn_tool.specs.declared.list.Stopped.{Stopped}
 use Rattle.pgn_tool.specs.declared.list.Stopped.TheVariants as stopped
 use Rattle.pgn_tool.specs.ListLines.{CountsList, ListResult, list_text}

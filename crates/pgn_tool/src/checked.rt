@@ -5,8 +5,8 @@ ghost use Rattle.pgn_tool.specs.TaskRun.{IsSmooth, mode_for};
 ghost use Rattle.pgn_tool.specs.CheckedRun.{AnswersSame, AnswersTwice, Gives, RunsTwice, WritesFront};
 ghost use Rattle.pgn_tool.specs.CheckedRun.{checked_mode, is_checked};
 
-use crate::arguments::Task;
 use crate::stream::{LEVELS, TAGS, conclude, export_mode, refuse};
+use pgn_arguments::Task;
 use pgn_game::laws::{due_grows, equal_readings, interrupted_readings};
 use pgn_game::{Mode, Sink, Source, convert_checked};
 use pgn_lexer::laws::decided_is_prefix;

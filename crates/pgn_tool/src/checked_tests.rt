@@ -2,10 +2,10 @@
 ghost use Rattle.std.specs.Prelude.{◌≡◌, true};
 ghost use Rattle.pgn_tool.specs.CheckedRun.{is_checked};
 
-use crate::arguments::Task;
 use crate::checked::run_checked;
 use crate::devices::{Page, Reader, Trouble, memory, whole};
 use crate::stream_tests::{Ran, UNKNOWN, UNWRITTEN, WON};
+use pgn_arguments::Task;
 use pgn_game::{Inlet, Outlet};
 use std::alloc::Global;
 use std::io::ErrorKind;

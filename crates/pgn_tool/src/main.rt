@@ -2,7 +2,6 @@
 //! or splits them.
 #![tactic(auto)]
 
-mod arguments;
 mod checked;
 #[cfg(test)]
 mod checked_tests;
@@ -24,8 +23,6 @@ mod standard;
 mod stream;
 #[cfg(test)]
 mod stream_tests;
-#[cfg(test)]
-mod tests;
 
 use crate::folder::Folder;
 use crate::machine::SystemFault;

@@ -4,8 +4,8 @@ ghost use Rattle.pgn_layout.specs.Device.{device};
 ghost use Rattle.pgn_tool.specs.TaskRun.{Tells, line};
 ghost use Rattle.pgn_tool.specs.Replies.{AnswersFault, Shows};
 
-use crate::arguments::ParseFault;
 use crate::stream::{conclude, tell};
+use pgn_arguments::ParseFault;
 use pgn_game::Sink;
 use pgn_layout::write_all;
 

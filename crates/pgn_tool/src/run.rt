@@ -2,18 +2,18 @@
 ghost use Rattle.std.specs.Prelude.{◌≡◌, ℕ, ◌≤◌, false, true, List, Some};
 ghost use Rattle.pgn_layout.specs.Device.{device};
 ghost use Rattle.pgn_tool.specs.Machine.{machine, missing, reading};
-ghost use Rattle.pgn_tool.specs.Requests.{file_of, request_of};
+ghost use Rattle.pgn_arguments.specs.Requests.{file_of, request_of};
 ghost use Rattle.pgn_tool.specs.TaskRun.{is_for_stream, job_of};
 ghost use Rattle.pgn_tool.specs.CheckedRun.{checked_mode, is_checked};
 ghost use Rattle.pgn_tool.specs.Program.{Carries, EndsUnopened, IsMissing, Ran, RunsAgain, RunsBoth};
 ghost use Rattle.pgn_tool.specs.Program.{RunsOpened, RunsStream, RunsToOutput, StartsFrom, makes_files};
 
-use crate::arguments::{Task, parse};
 use crate::checked::run_checked;
 use crate::machine::{GameFolder, Input, Output, SystemFault};
 use crate::replies::{answer_fault, out_of_memory, refuse_words};
 use crate::split::split_to;
 use crate::stream::{refuse, run_stream};
+use pgn_arguments::{Task, parse};
 use pgn_game::{Fault, Reason, Sink};
 use std::alloc::{AllocError, Global};
 

@@ -5,10 +5,10 @@ ghost use Rattle.pgn_layout.specs.Device.{device};
 ghost use Rattle.pgn_game.specs.Reason.{line_of};
 ghost use Rattle.pgn_tool.specs.TaskRun.{Answers, HasFailed, HasFront, IsSmooth, Runs, Tells, checking, counting_line, exporting, is_for_stream, job_of, line, listing, mode_for};
 
-use crate::arguments::Task;
 use crate::list::{Stopped, list_games};
 use arrayvec::ArrayVec;
 use itoa::Buffer;
+use pgn_arguments::Task;
 use pgn_game::{Fault, Mode, Nowhere, Sink, Source, Totals, convert};
 use pgn_layout::write_all;
 

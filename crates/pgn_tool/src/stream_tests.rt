@@ -2,9 +2,9 @@
 ghost use Rattle.std.specs.Prelude.{◌≡◌, true};
 ghost use Rattle.pgn_tool.specs.TaskRun.{is_for_stream};
 
-use crate::arguments::Task;
 use crate::devices::{Page, Reader, Trouble, memory, whole};
 use crate::stream::run_stream;
+use pgn_arguments::Task;
 use pgn_game::{Inlet, Outlet};
 use std::alloc::Global;
 use std::io::ErrorKind;

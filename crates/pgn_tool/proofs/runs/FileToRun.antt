@@ -4,14 +4,14 @@ use Rattle.std.specs.Prelude.{String, Vec, string_bytes}
 use Rattle.std.specs.Global.{Global}
 use Rattle.pgn_layout.specs.Device.{Device}
 use Rattle.pgn_game.specs.declared.mode.Mode.{Mode}
-use Rattle.pgn_tool.specs.declared.arguments.Task.{Task}
-use Rattle.pgn_tool.specs.declared.arguments.Task.TheVariants.{Export, Checked, Check, List as ListGames, Split}
-use Rattle.pgn_tool.specs.declared.arguments.ParseFault.{ParseFault}
+use Rattle.pgn_arguments.specs.declared.arguments.Task.{Task}
+use Rattle.pgn_arguments.specs.declared.arguments.Task.TheVariants.{Export, Checked, Check, List as ListGames, Split}
+use Rattle.pgn_arguments.specs.declared.arguments.ParseFault.{ParseFault}
 use Rattle.pgn_tool.specs.declared.machine.SystemFault.{SystemFault}
 use Rattle.pgn_tool.specs.Machine.{Holding, IsOpened, Machine, Opens, Reading, holds, missing}
 use Rattle.pgn_tool.specs.Program.{Carries, EndsUnopened, IsIdle, IsMissing, Ran, RunsAgain, RunsOpened, RunsToOutput, RunsWords, StartsFrom, by_fault, by_task, file_source, makes_files, opened, source_of, unopened, unopened_again}
 use Rattle.pgn_tool.specs.Replies.{AnswersFault}
-use Rattle.pgn_tool.specs.Requests.{AnswersBy, file_of, refusals, request_in, request_of}
+use Rattle.pgn_arguments.specs.Requests.{AnswersBy, file_of, refusals, request_in, request_of}
 use Rattle.pgn_tool.specs.TaskRun.{IsUntouched, mode_for}
 use Rattle.pgn_tool.specs.CheckedRun.{checked_mode}
 use Rattle.pgn_tool.specs.Files.{FileStep}

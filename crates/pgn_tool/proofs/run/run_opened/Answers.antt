@@ -1,5 +1,5 @@
 use Rattle.std.proofs.Common.{rules, ◌≡◌, false, refl, subst}
-use Rattle.pgn_tool.specs.declared.arguments.Task.{Task}
+use Rattle.pgn_arguments.specs.declared.arguments.Task.{Task}
 use Rattle.pgn_tool.specs.Program.{makes_files}
 use Rattle.pgn_tool.proofs.runs.FileToRun.{opened_to_output}
 use Rattle.pgn_tool.proofs.run.run_opened.Goals as goal

@@ -1,0 +1,3 @@
+-- Lemmas on the command line of the program.
+mod commands
+mod rows

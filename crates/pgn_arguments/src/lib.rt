@@ -1,0 +1,8 @@
+//! The command line of `pgn_tool`: which task its words ask for, or what is replied to them.
+#![tactic(auto)]
+
+mod arguments;
+#[cfg(test)]
+mod tests;
+
+pub use arguments::{ParseFault, Task, parse};
