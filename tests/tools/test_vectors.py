@@ -115,7 +115,7 @@ class Writer(unittest.TestCase):
             ("main_lines.rt", row, '    game!("marker-alone", "*", 0),'),
             ("main_lines.rt", row, row + " " + row.strip()),
             ("main_lines.rt", row, row + "\n    MORE,"),
-            ("main_lines.rt", "pub const MAIN_LINES", "const MORE: u8 = 1;\npub const MAIN_LINES"),
+            ("main_lines.rt", "pub static MAIN_LINES", "const MORE: u8 = 1;\npub static MAIN_LINES"),
             ("lib.rt", "mod faults;", "mod faults;\nmod more;"),
             ("lib.rt", "pub use faults::FAULTS;", ""),
             ("rows.rt", "$name:literal, $input:expr, $games", "$name:tt, $input:expr, $games"),
