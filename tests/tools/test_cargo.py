@@ -55,15 +55,21 @@ class Built(unittest.TestCase):
         need_cargo()
         write_out()
 
-    def test_the_tests_of_the_vectors_pass(self):
-        files = glob.glob(ROOT + "/crates/pgn_vectors/src/tests/*.rt")
+    def check_tests(self, package, least):
+        files = glob.glob("%s/crates/%s/src/tests/*.rt" % (ROOT, package))
         wanted = sum(read(it).count("#[test]") for it in files)
-        self.assertGreater(wanted, 30)
-        ran = cargo("test", "--package", "pgn_vectors", "--lib")
+        self.assertGreaterEqual(wanted, least)
+        ran = cargo("test", "--package", package, "--lib")
         said = (ran.stdout + ran.stderr).decode()
         self.assertEqual(ran.returncode, 0, said)
         self.assertIn("test result: ok. %d passed; 0 failed" % wanted, said)
         self.assertNotIn("warning", said)
+
+    def test_the_tests_of_the_vectors_pass(self):
+        self.check_tests("pgn_vectors", 28)
+
+    def test_the_tests_of_devices_pass(self):
+        self.check_tests("pgn_device_tests", 18)
 
     def built(self):
         ran = cargo("build", "--package", "pgn_tool")

@@ -108,16 +108,18 @@ class Writer(unittest.TestCase):
         self.assertIn("other.in: extra", copy.check()[1])
 
     def test_source_that_is_not_understood_stops_it(self):
-        row = '    game!("marker-alone", "*", 0, "*"),'
+        row = '        game!("marker-alone", "*", 0, "*"),'
         changes = [
-            ("main_lines.rt", row, '    other!("marker-alone", "*", 0, "*"),'),
-            ("main_lines.rt", row, '    game!("marker-alone", "*", 0 + 0, "*"),'),
-            ("main_lines.rt", row, '    game!("marker-alone", "*", 0),'),
+            ("main_lines.rt", row, '        other!("marker-alone", "*", 0, "*"),'),
+            ("main_lines.rt", row, '        game!("marker-alone", "*", 0 + 0, "*"),'),
+            ("main_lines.rt", row, '        game!("marker-alone", "*", 0),'),
             ("main_lines.rt", row, row + " " + row.strip()),
-            ("main_lines.rt", row, row + "\n    MORE,"),
-            ("main_lines.rt", "pub static MAIN_LINES", "const MORE: u8 = 1;\npub static MAIN_LINES"),
+            ("main_lines.rt", row, row + "\n        MORE,"),
+            ("main_lines.rt", "pub fn comments", "const MORE: u8 = 1;\npub fn comments"),
             ("lib.rt", "mod faults;", "mod faults;\nmod more;"),
-            ("lib.rt", "pub use faults::FAULTS;", ""),
+            ("themes.rt", "        limits::words(),\n", ""),
+            ("themes.rt", "        limits::words(),\n", "        limits::values(),\n"),
+            ("themes.rt", "pub fn fault_tables", "pub fn faults"),
             ("rows.rt", "$name:literal, $input:expr, $games", "$name:tt, $input:expr, $games"),
         ]
         for file, old, new in changes:

@@ -1,189 +1,208 @@
 //! Inputs at the limits, and one byte or token above them.
+//!
+//! Where a letter is repeated, a whole line has 64 of it.
 use crate::rows::{converted, game, pairs, reduced, refused, torn, unknown};
 use crate::{Vector, Verdict};
 use pgn_game::{Fault, LexReason, Mode, Reason};
 
-/// Inputs at the limits, and one byte or token above them. Where a letter is repeated, a whole line
-/// has 64 of it.
-pub static LIMITS: &[Vector] = &[
-    refused!(
-        "a symbol of 255 bytes",
-        concat!(
-            "aaaaaaaaaaaaaaaaaaaaaaaaaaaaaaaaaaaaaaaaaaaaaaaaaaaaaaaaaaaaaaaa",
-            "aaaaaaaaaaaaaaaaaaaaaaaaaaaaaaaaaaaaaaaaaaaaaaaaaaaaaaaaaaaaaaaa",
-            "aaaaaaaaaaaaaaaaaaaaaaaaaaaaaaaaaaaaaaaaaaaaaaaaaaaaaaaaaaaaaaaa",
-            "aaaaaaaaaaaaaaaaaaaaaaaaaaaaaaaaaaaaaaaaaaaaaaaaaaaaaaaaaaaaaaa",
+/// Symbols and tag names.
+pub fn symbols_and_names() -> &'static [Vector] {
+    &[
+        refused!(
+            "a symbol of 255 bytes",
+            concat!(
+                "aaaaaaaaaaaaaaaaaaaaaaaaaaaaaaaaaaaaaaaaaaaaaaaaaaaaaaaaaaaaaaaa",
+                "aaaaaaaaaaaaaaaaaaaaaaaaaaaaaaaaaaaaaaaaaaaaaaaaaaaaaaaaaaaaaaaa",
+                "aaaaaaaaaaaaaaaaaaaaaaaaaaaaaaaaaaaaaaaaaaaaaaaaaaaaaaaaaaaaaaaa",
+                "aaaaaaaaaaaaaaaaaaaaaaaaaaaaaaaaaaaaaaaaaaaaaaaaaaaaaaaaaaaaaaa",
+            ),
+            0,
+            Reason::NotAMove
         ),
-        0,
-        Reason::NotAMove
-    ),
-    refused!(
-        "a symbol of 256 bytes",
-        concat!(
-            "aaaaaaaaaaaaaaaaaaaaaaaaaaaaaaaaaaaaaaaaaaaaaaaaaaaaaaaaaaaaaaaa",
-            "aaaaaaaaaaaaaaaaaaaaaaaaaaaaaaaaaaaaaaaaaaaaaaaaaaaaaaaaaaaaaaaa",
-            "aaaaaaaaaaaaaaaaaaaaaaaaaaaaaaaaaaaaaaaaaaaaaaaaaaaaaaaaaaaaaaaa",
-            "aaaaaaaaaaaaaaaaaaaaaaaaaaaaaaaaaaaaaaaaaaaaaaaaaaaaaaaaaaaaaaaa",
+        refused!(
+            "a symbol of 256 bytes",
+            concat!(
+                "aaaaaaaaaaaaaaaaaaaaaaaaaaaaaaaaaaaaaaaaaaaaaaaaaaaaaaaaaaaaaaaa",
+                "aaaaaaaaaaaaaaaaaaaaaaaaaaaaaaaaaaaaaaaaaaaaaaaaaaaaaaaaaaaaaaaa",
+                "aaaaaaaaaaaaaaaaaaaaaaaaaaaaaaaaaaaaaaaaaaaaaaaaaaaaaaaaaaaaaaaa",
+                "aaaaaaaaaaaaaaaaaaaaaaaaaaaaaaaaaaaaaaaaaaaaaaaaaaaaaaaaaaaaaaaa",
+            ),
+            0,
+            Reason::Lexical(LexReason::SymbolTooLong)
         ),
-        0,
-        Reason::Lexical(LexReason::SymbolTooLong)
-    ),
-    pairs!(
-        "a name of 249 bytes",
-        concat!(
-            "[",
+        pairs!(
+            "a name of 249 bytes",
+            concat!(
+                "[",
+                "aaaaaaaaaaaaaaaaaaaaaaaaaaaaaaaaaaaaaaaaaaaaaaaaaaaaaaaaaaaaaaaa",
+                "aaaaaaaaaaaaaaaaaaaaaaaaaaaaaaaaaaaaaaaaaaaaaaaaaaaaaaaaaaaaaaaa",
+                "aaaaaaaaaaaaaaaaaaaaaaaaaaaaaaaaaaaaaaaaaaaaaaaaaaaaaaaaaaaaaaaa",
+                "aaaaaaaaaaaaaaaaaaaaaaaaaaaaaaaaaaaaaaaaaaaaaaaaaaaaaaaaa",
+                " \"\"] *",
+            ),
+            0,
+            "[Result \"*\"]\n[",
             "aaaaaaaaaaaaaaaaaaaaaaaaaaaaaaaaaaaaaaaaaaaaaaaaaaaaaaaaaaaaaaaa",
             "aaaaaaaaaaaaaaaaaaaaaaaaaaaaaaaaaaaaaaaaaaaaaaaaaaaaaaaaaaaaaaaa",
             "aaaaaaaaaaaaaaaaaaaaaaaaaaaaaaaaaaaaaaaaaaaaaaaaaaaaaaaaaaaaaaaa",
             "aaaaaaaaaaaaaaaaaaaaaaaaaaaaaaaaaaaaaaaaaaaaaaaaaaaaaaaaa",
-            " \"\"] *",
+            " \"\"]\n\n*"
         ),
-        0,
-        "[Result \"*\"]\n[",
-        "aaaaaaaaaaaaaaaaaaaaaaaaaaaaaaaaaaaaaaaaaaaaaaaaaaaaaaaaaaaaaaaa",
-        "aaaaaaaaaaaaaaaaaaaaaaaaaaaaaaaaaaaaaaaaaaaaaaaaaaaaaaaaaaaaaaaa",
-        "aaaaaaaaaaaaaaaaaaaaaaaaaaaaaaaaaaaaaaaaaaaaaaaaaaaaaaaaaaaaaaaa",
-        "aaaaaaaaaaaaaaaaaaaaaaaaaaaaaaaaaaaaaaaaaaaaaaaaaaaaaaaaa",
-        " \"\"]\n\n*"
-    ),
-    refused!(
-        "a name of 250 bytes",
-        concat!(
-            "[",
-            "aaaaaaaaaaaaaaaaaaaaaaaaaaaaaaaaaaaaaaaaaaaaaaaaaaaaaaaaaaaaaaaa",
-            "aaaaaaaaaaaaaaaaaaaaaaaaaaaaaaaaaaaaaaaaaaaaaaaaaaaaaaaaaaaaaaaa",
-            "aaaaaaaaaaaaaaaaaaaaaaaaaaaaaaaaaaaaaaaaaaaaaaaaaaaaaaaaaaaaaaaa",
-            "aaaaaaaaaaaaaaaaaaaaaaaaaaaaaaaaaaaaaaaaaaaaaaaaaaaaaaaaaa",
-            " \"\"] *",
+        refused!(
+            "a name of 250 bytes",
+            concat!(
+                "[",
+                "aaaaaaaaaaaaaaaaaaaaaaaaaaaaaaaaaaaaaaaaaaaaaaaaaaaaaaaaaaaaaaaa",
+                "aaaaaaaaaaaaaaaaaaaaaaaaaaaaaaaaaaaaaaaaaaaaaaaaaaaaaaaaaaaaaaaa",
+                "aaaaaaaaaaaaaaaaaaaaaaaaaaaaaaaaaaaaaaaaaaaaaaaaaaaaaaaaaaaaaaaa",
+                "aaaaaaaaaaaaaaaaaaaaaaaaaaaaaaaaaaaaaaaaaaaaaaaaaaaaaaaaaa",
+                " \"\"] *",
+            ),
+            1,
+            Reason::TagLineTooLong
         ),
-        1,
-        Reason::TagLineTooLong
-    ),
-    pairs!(
-        "a value of 248 bytes",
-        concat!(
-            "[A \"",
+    ]
+}
+
+/// Values of tags.
+pub fn values() -> &'static [Vector] {
+    &[
+        pairs!(
+            "a value of 248 bytes",
+            concat!(
+                "[A \"",
+                "xxxxxxxxxxxxxxxxxxxxxxxxxxxxxxxxxxxxxxxxxxxxxxxxxxxxxxxxxxxxxxxx",
+                "xxxxxxxxxxxxxxxxxxxxxxxxxxxxxxxxxxxxxxxxxxxxxxxxxxxxxxxxxxxxxxxx",
+                "xxxxxxxxxxxxxxxxxxxxxxxxxxxxxxxxxxxxxxxxxxxxxxxxxxxxxxxxxxxxxxxx",
+                "xxxxxxxxxxxxxxxxxxxxxxxxxxxxxxxxxxxxxxxxxxxxxxxxxxxxxxxx",
+                "\"] *",
+            ),
+            0,
+            "[Result \"*\"]\n[A \"",
             "xxxxxxxxxxxxxxxxxxxxxxxxxxxxxxxxxxxxxxxxxxxxxxxxxxxxxxxxxxxxxxxx",
             "xxxxxxxxxxxxxxxxxxxxxxxxxxxxxxxxxxxxxxxxxxxxxxxxxxxxxxxxxxxxxxxx",
             "xxxxxxxxxxxxxxxxxxxxxxxxxxxxxxxxxxxxxxxxxxxxxxxxxxxxxxxxxxxxxxxx",
             "xxxxxxxxxxxxxxxxxxxxxxxxxxxxxxxxxxxxxxxxxxxxxxxxxxxxxxxx",
-            "\"] *",
+            "\"]\n\n*"
         ),
-        0,
-        "[Result \"*\"]\n[A \"",
-        "xxxxxxxxxxxxxxxxxxxxxxxxxxxxxxxxxxxxxxxxxxxxxxxxxxxxxxxxxxxxxxxx",
-        "xxxxxxxxxxxxxxxxxxxxxxxxxxxxxxxxxxxxxxxxxxxxxxxxxxxxxxxxxxxxxxxx",
-        "xxxxxxxxxxxxxxxxxxxxxxxxxxxxxxxxxxxxxxxxxxxxxxxxxxxxxxxxxxxxxxxx",
-        "xxxxxxxxxxxxxxxxxxxxxxxxxxxxxxxxxxxxxxxxxxxxxxxxxxxxxxxx",
-        "\"]\n\n*"
-    ),
-    refused!(
-        "a value of 249 bytes",
-        concat!(
-            "[A \"",
-            "xxxxxxxxxxxxxxxxxxxxxxxxxxxxxxxxxxxxxxxxxxxxxxxxxxxxxxxxxxxxxxxx",
-            "xxxxxxxxxxxxxxxxxxxxxxxxxxxxxxxxxxxxxxxxxxxxxxxxxxxxxxxxxxxxxxxx",
-            "xxxxxxxxxxxxxxxxxxxxxxxxxxxxxxxxxxxxxxxxxxxxxxxxxxxxxxxxxxxxxxxx",
-            "xxxxxxxxxxxxxxxxxxxxxxxxxxxxxxxxxxxxxxxxxxxxxxxxxxxxxxxxx",
-            "\"] *",
+        refused!(
+            "a value of 249 bytes",
+            concat!(
+                "[A \"",
+                "xxxxxxxxxxxxxxxxxxxxxxxxxxxxxxxxxxxxxxxxxxxxxxxxxxxxxxxxxxxxxxxx",
+                "xxxxxxxxxxxxxxxxxxxxxxxxxxxxxxxxxxxxxxxxxxxxxxxxxxxxxxxxxxxxxxxx",
+                "xxxxxxxxxxxxxxxxxxxxxxxxxxxxxxxxxxxxxxxxxxxxxxxxxxxxxxxxxxxxxxxx",
+                "xxxxxxxxxxxxxxxxxxxxxxxxxxxxxxxxxxxxxxxxxxxxxxxxxxxxxxxxx",
+                "\"] *",
+            ),
+            3,
+            Reason::TagLineTooLong
         ),
-        3,
-        Reason::TagLineTooLong
-    ),
-    refused!(
-        "a value of 255 bytes",
-        concat!(
-            "[A \"",
-            "xxxxxxxxxxxxxxxxxxxxxxxxxxxxxxxxxxxxxxxxxxxxxxxxxxxxxxxxxxxxxxxx",
-            "xxxxxxxxxxxxxxxxxxxxxxxxxxxxxxxxxxxxxxxxxxxxxxxxxxxxxxxxxxxxxxxx",
-            "xxxxxxxxxxxxxxxxxxxxxxxxxxxxxxxxxxxxxxxxxxxxxxxxxxxxxxxxxxxxxxxx",
-            "xxxxxxxxxxxxxxxxxxxxxxxxxxxxxxxxxxxxxxxxxxxxxxxxxxxxxxxxxxxxxxx",
-            "\"] *",
+        refused!(
+            "a value of 255 bytes",
+            concat!(
+                "[A \"",
+                "xxxxxxxxxxxxxxxxxxxxxxxxxxxxxxxxxxxxxxxxxxxxxxxxxxxxxxxxxxxxxxxx",
+                "xxxxxxxxxxxxxxxxxxxxxxxxxxxxxxxxxxxxxxxxxxxxxxxxxxxxxxxxxxxxxxxx",
+                "xxxxxxxxxxxxxxxxxxxxxxxxxxxxxxxxxxxxxxxxxxxxxxxxxxxxxxxxxxxxxxxx",
+                "xxxxxxxxxxxxxxxxxxxxxxxxxxxxxxxxxxxxxxxxxxxxxxxxxxxxxxxxxxxxxxx",
+                "\"] *",
+            ),
+            3,
+            Reason::TagLineTooLong
         ),
-        3,
-        Reason::TagLineTooLong
-    ),
-    refused!(
-        "a value of 256 bytes",
-        concat!(
-            "[A \"",
-            "xxxxxxxxxxxxxxxxxxxxxxxxxxxxxxxxxxxxxxxxxxxxxxxxxxxxxxxxxxxxxxxx",
-            "xxxxxxxxxxxxxxxxxxxxxxxxxxxxxxxxxxxxxxxxxxxxxxxxxxxxxxxxxxxxxxxx",
-            "xxxxxxxxxxxxxxxxxxxxxxxxxxxxxxxxxxxxxxxxxxxxxxxxxxxxxxxxxxxxxxxx",
-            "xxxxxxxxxxxxxxxxxxxxxxxxxxxxxxxxxxxxxxxxxxxxxxxxxxxxxxxxxxxxxxxx",
-            "\"] *",
+        refused!(
+            "a value of 256 bytes",
+            concat!(
+                "[A \"",
+                "xxxxxxxxxxxxxxxxxxxxxxxxxxxxxxxxxxxxxxxxxxxxxxxxxxxxxxxxxxxxxxxx",
+                "xxxxxxxxxxxxxxxxxxxxxxxxxxxxxxxxxxxxxxxxxxxxxxxxxxxxxxxxxxxxxxxx",
+                "xxxxxxxxxxxxxxxxxxxxxxxxxxxxxxxxxxxxxxxxxxxxxxxxxxxxxxxxxxxxxxxx",
+                "xxxxxxxxxxxxxxxxxxxxxxxxxxxxxxxxxxxxxxxxxxxxxxxxxxxxxxxxxxxxxxxx",
+                "\"] *",
+            ),
+            3,
+            Reason::Lexical(LexReason::StringTooLong)
         ),
-        3,
-        Reason::Lexical(LexReason::StringTooLong)
-    ),
-    pairs!(
-        "124 escaped quotes",
-        concat!(
-            "[A \"",
+    ]
+}
+
+/// Values with escaped bytes, and the longest line of a pair.
+pub fn escaped_values() -> &'static [Vector] {
+    &[
+        pairs!(
+            "124 escaped quotes",
+            concat!(
+                "[A \"",
+                "\\\"\\\"\\\"\\\"\\\"\\\"\\\"\\\"\\\"\\\"\\\"\\\"\\\"\\\"\\\"\\\"\\\"\\\"\\\"\\\"\\\"\\\"\\\"\\\"\\\"\\\"\\\"\\\"\\\"\\\"\\\"",
+                "\\\"\\\"\\\"\\\"\\\"\\\"\\\"\\\"\\\"\\\"\\\"\\\"\\\"\\\"\\\"\\\"\\\"\\\"\\\"\\\"\\\"\\\"\\\"\\\"\\\"\\\"\\\"\\\"\\\"\\\"\\\"",
+                "\\\"\\\"\\\"\\\"\\\"\\\"\\\"\\\"\\\"\\\"\\\"\\\"\\\"\\\"\\\"\\\"\\\"\\\"\\\"\\\"\\\"\\\"\\\"\\\"\\\"\\\"\\\"\\\"\\\"\\\"\\\"",
+                "\\\"\\\"\\\"\\\"\\\"\\\"\\\"\\\"\\\"\\\"\\\"\\\"\\\"\\\"\\\"\\\"\\\"\\\"\\\"\\\"\\\"\\\"\\\"\\\"\\\"\\\"\\\"\\\"\\\"\\\"\\\"",
+                "\"] *",
+            ),
+            0,
+            "[Result \"*\"]\n[A \"",
             "\\\"\\\"\\\"\\\"\\\"\\\"\\\"\\\"\\\"\\\"\\\"\\\"\\\"\\\"\\\"\\\"\\\"\\\"\\\"\\\"\\\"\\\"\\\"\\\"\\\"\\\"\\\"\\\"\\\"\\\"\\\"",
             "\\\"\\\"\\\"\\\"\\\"\\\"\\\"\\\"\\\"\\\"\\\"\\\"\\\"\\\"\\\"\\\"\\\"\\\"\\\"\\\"\\\"\\\"\\\"\\\"\\\"\\\"\\\"\\\"\\\"\\\"\\\"",
             "\\\"\\\"\\\"\\\"\\\"\\\"\\\"\\\"\\\"\\\"\\\"\\\"\\\"\\\"\\\"\\\"\\\"\\\"\\\"\\\"\\\"\\\"\\\"\\\"\\\"\\\"\\\"\\\"\\\"\\\"\\\"",
             "\\\"\\\"\\\"\\\"\\\"\\\"\\\"\\\"\\\"\\\"\\\"\\\"\\\"\\\"\\\"\\\"\\\"\\\"\\\"\\\"\\\"\\\"\\\"\\\"\\\"\\\"\\\"\\\"\\\"\\\"\\\"",
-            "\"] *",
+            "\"]\n\n*"
         ),
-        0,
-        "[Result \"*\"]\n[A \"",
-        "\\\"\\\"\\\"\\\"\\\"\\\"\\\"\\\"\\\"\\\"\\\"\\\"\\\"\\\"\\\"\\\"\\\"\\\"\\\"\\\"\\\"\\\"\\\"\\\"\\\"\\\"\\\"\\\"\\\"\\\"\\\"",
-        "\\\"\\\"\\\"\\\"\\\"\\\"\\\"\\\"\\\"\\\"\\\"\\\"\\\"\\\"\\\"\\\"\\\"\\\"\\\"\\\"\\\"\\\"\\\"\\\"\\\"\\\"\\\"\\\"\\\"\\\"\\\"",
-        "\\\"\\\"\\\"\\\"\\\"\\\"\\\"\\\"\\\"\\\"\\\"\\\"\\\"\\\"\\\"\\\"\\\"\\\"\\\"\\\"\\\"\\\"\\\"\\\"\\\"\\\"\\\"\\\"\\\"\\\"\\\"",
-        "\\\"\\\"\\\"\\\"\\\"\\\"\\\"\\\"\\\"\\\"\\\"\\\"\\\"\\\"\\\"\\\"\\\"\\\"\\\"\\\"\\\"\\\"\\\"\\\"\\\"\\\"\\\"\\\"\\\"\\\"\\\"",
-        "\"]\n\n*"
-    ),
-    refused!(
-        "125 escaped quotes",
-        concat!(
-            "[A \"",
-            "\\\"\\\"\\\"\\\"\\\"\\\"\\\"\\\"\\\"\\\"\\\"\\\"\\\"\\\"\\\"\\\"\\\"\\\"\\\"\\\"\\\"\\\"\\\"\\\"\\\"",
-            "\\\"\\\"\\\"\\\"\\\"\\\"\\\"\\\"\\\"\\\"\\\"\\\"\\\"\\\"\\\"\\\"\\\"\\\"\\\"\\\"\\\"\\\"\\\"\\\"\\\"",
-            "\\\"\\\"\\\"\\\"\\\"\\\"\\\"\\\"\\\"\\\"\\\"\\\"\\\"\\\"\\\"\\\"\\\"\\\"\\\"\\\"\\\"\\\"\\\"\\\"\\\"",
-            "\\\"\\\"\\\"\\\"\\\"\\\"\\\"\\\"\\\"\\\"\\\"\\\"\\\"\\\"\\\"\\\"\\\"\\\"\\\"\\\"\\\"\\\"\\\"\\\"\\\"",
-            "\\\"\\\"\\\"\\\"\\\"\\\"\\\"\\\"\\\"\\\"\\\"\\\"\\\"\\\"\\\"\\\"\\\"\\\"\\\"\\\"\\\"\\\"\\\"\\\"\\\"",
-            "\"] *",
+        refused!(
+            "125 escaped quotes",
+            concat!(
+                "[A \"",
+                "\\\"\\\"\\\"\\\"\\\"\\\"\\\"\\\"\\\"\\\"\\\"\\\"\\\"\\\"\\\"\\\"\\\"\\\"\\\"\\\"\\\"\\\"\\\"\\\"\\\"",
+                "\\\"\\\"\\\"\\\"\\\"\\\"\\\"\\\"\\\"\\\"\\\"\\\"\\\"\\\"\\\"\\\"\\\"\\\"\\\"\\\"\\\"\\\"\\\"\\\"\\\"",
+                "\\\"\\\"\\\"\\\"\\\"\\\"\\\"\\\"\\\"\\\"\\\"\\\"\\\"\\\"\\\"\\\"\\\"\\\"\\\"\\\"\\\"\\\"\\\"\\\"\\\"",
+                "\\\"\\\"\\\"\\\"\\\"\\\"\\\"\\\"\\\"\\\"\\\"\\\"\\\"\\\"\\\"\\\"\\\"\\\"\\\"\\\"\\\"\\\"\\\"\\\"\\\"",
+                "\\\"\\\"\\\"\\\"\\\"\\\"\\\"\\\"\\\"\\\"\\\"\\\"\\\"\\\"\\\"\\\"\\\"\\\"\\\"\\\"\\\"\\\"\\\"\\\"\\\"",
+                "\"] *",
+            ),
+            3,
+            Reason::TagLineTooLong
         ),
-        3,
-        Reason::TagLineTooLong
-    ),
-    converted!(
-        "tag-limits",
-        concat!(
-            "[Event \"",
-            "vvvvvvvvvvvvvvvvvvvvvvvvvvvvvvvvvvvvvvvvvvvvvvvvvvvvvvvvvvvvvvvv",
-            "vvvvvvvvvvvvvvvvvvvvvvvvvvvvvvvvvvvvvvvvvvvvvvvvvvvvvvvvvvvvvvvv",
-            "vvvvvvvvvvvvvvvvvvvvvvvvvvvvvvvvvvvvvvvvvvvvvvvvvvvvvvvvvvvvvvvv",
-            "vvvvvvvvvvvvvvvvvvvvvvvvvvvvvvvvvvvvvvvvvvvvvvvvvvvv",
-            "\"] *",
+        converted!(
+            "tag-limits",
+            concat!(
+                "[Event \"",
+                "vvvvvvvvvvvvvvvvvvvvvvvvvvvvvvvvvvvvvvvvvvvvvvvvvvvvvvvvvvvvvvvv",
+                "vvvvvvvvvvvvvvvvvvvvvvvvvvvvvvvvvvvvvvvvvvvvvvvvvvvvvvvvvvvvvvvv",
+                "vvvvvvvvvvvvvvvvvvvvvvvvvvvvvvvvvvvvvvvvvvvvvvvvvvvvvvvvvvvvvvvv",
+                "vvvvvvvvvvvvvvvvvvvvvvvvvvvvvvvvvvvvvvvvvvvvvvvvvvvv",
+                "\"] *",
+            ),
+            1,
+            0,
+            concat!(
+                "[Event \"",
+                "vvvvvvvvvvvvvvvvvvvvvvvvvvvvvvvvvvvvvvvvvvvvvvvvvvvvvvvvvvvvvvvv",
+                "vvvvvvvvvvvvvvvvvvvvvvvvvvvvvvvvvvvvvvvvvvvvvvvvvvvvvvvvvvvvvvvv",
+                "vvvvvvvvvvvvvvvvvvvvvvvvvvvvvvvvvvvvvvvvvvvvvvvvvvvvvvvvvvvvvvvv",
+                "vvvvvvvvvvvvvvvvvvvvvvvvvvvvvvvvvvvvvvvvvvvvvvvvvvvv",
+                "\"]\n[Site \"?\"]\n[Date \"????.??.??\"]\n[Round \"?\"]\n[White \"?\"]\n[Black \"?\"]\n",
+                "[Result \"*\"]\n\n*\n\n",
+            )
         ),
-        1,
-        0,
-        concat!(
-            "[Event \"",
-            "vvvvvvvvvvvvvvvvvvvvvvvvvvvvvvvvvvvvvvvvvvvvvvvvvvvvvvvvvvvvvvvv",
-            "vvvvvvvvvvvvvvvvvvvvvvvvvvvvvvvvvvvvvvvvvvvvvvvvvvvvvvvvvvvvvvvv",
-            "vvvvvvvvvvvvvvvvvvvvvvvvvvvvvvvvvvvvvvvvvvvvvvvvvvvvvvvvvvvvvvvv",
-            "vvvvvvvvvvvvvvvvvvvvvvvvvvvvvvvvvvvvvvvvvvvvvvvvvvvv",
-            "\"]\n[Site \"?\"]\n[Date \"????.??.??\"]\n[Round \"?\"]\n[White \"?\"]\n[Black \"?\"]\n",
-            "[Result \"*\"]\n\n*\n\n",
-        )
-    ),
-    refused!(
-        "tag-limits, one byte more",
-        concat!(
-            "[Event \"",
-            "vvvvvvvvvvvvvvvvvvvvvvvvvvvvvvvvvvvvvvvvvvvvvvvvvvvvvvvvvvvvvvvv",
-            "vvvvvvvvvvvvvvvvvvvvvvvvvvvvvvvvvvvvvvvvvvvvvvvvvvvvvvvvvvvvvvvv",
-            "vvvvvvvvvvvvvvvvvvvvvvvvvvvvvvvvvvvvvvvvvvvvvvvvvvvvvvvvvvvvvvvv",
-            "vvvvvvvvvvvvvvvvvvvvvvvvvvvvvvvvvvvvvvvvvvvvvvvvvvvvv",
-            "\"] *",
+        refused!(
+            "tag-limits, one byte more",
+            concat!(
+                "[Event \"",
+                "vvvvvvvvvvvvvvvvvvvvvvvvvvvvvvvvvvvvvvvvvvvvvvvvvvvvvvvvvvvvvvvv",
+                "vvvvvvvvvvvvvvvvvvvvvvvvvvvvvvvvvvvvvvvvvvvvvvvvvvvvvvvvvvvvvvvv",
+                "vvvvvvvvvvvvvvvvvvvvvvvvvvvvvvvvvvvvvvvvvvvvvvvvvvvvvvvvvvvvvvvv",
+                "vvvvvvvvvvvvvvvvvvvvvvvvvvvvvvvvvvvvvvvvvvvvvvvvvvvvv",
+                "\"] *",
+            ),
+            7,
+            Reason::TagLineTooLong
         ),
-        7,
-        Reason::TagLineTooLong
-    ),
-    pairs!(
+    ]
+}
+
+/// As many tag pairs as there is room for.
+pub fn pairs() -> &'static [Vector] {
+    &[pairs!(
         "64 pairs",
         concat!(
             "[T10 \"v\"][T11 \"v\"][T12 \"v\"][T13 \"v\"][T14 \"v\"][T15 \"v\"][T16 \"v\"][T17 \"v\"]",
@@ -207,8 +226,12 @@ pub static LIMITS: &[Vector] = &[
         "[T58 \"v\"]\n[T59 \"v\"]\n[T60 \"v\"]\n[T61 \"v\"]\n[T62 \"v\"]\n[T63 \"v\"]\n[T64 \"v\"]\n[T65 \"v\"]\n",
         "[T66 \"v\"]\n[T67 \"v\"]\n[T68 \"v\"]\n[T69 \"v\"]\n[T70 \"v\"]\n[T71 \"v\"]\n[T72 \"v\"]\n[T73 \"v\"]\n",
         "\n*"
-    ),
-    refused!(
+    )]
+}
+
+/// One tag pair more.
+pub fn more_pairs() -> &'static [Vector] {
+    &[refused!(
         "65 pairs",
         concat!(
             "[T10 \"v\"][T11 \"v\"][T12 \"v\"][T13 \"v\"][T14 \"v\"][T15 \"v\"][T16 \"v\"][T17 \"v\"]",
@@ -223,120 +246,132 @@ pub static LIMITS: &[Vector] = &[
         ),
         576,
         Reason::TooManyTags
-    ),
-    game!(
-        "32 variations",
-        concat!(
-            "e4",
-            " (d4 (d4 (d4 (d4 (d4 (d4 (d4 (d4 (d4 (d4 (d4 (d4 (d4 (d4 (d4 (d4",
-            " (d4 (d4 (d4 (d4 (d4 (d4 (d4 (d4 (d4 (d4 (d4 (d4 (d4 (d4 (d4 (d4",
-            ")))))))))))))))))))))))))))))))) *",
+    )]
+}
+
+/// The depth of variations.
+pub fn depth() -> &'static [Vector] {
+    &[
+        game!(
+            "32 variations",
+            concat!(
+                "e4",
+                " (d4 (d4 (d4 (d4 (d4 (d4 (d4 (d4 (d4 (d4 (d4 (d4 (d4 (d4 (d4 (d4",
+                " (d4 (d4 (d4 (d4 (d4 (d4 (d4 (d4 (d4 (d4 (d4 (d4 (d4 (d4 (d4 (d4",
+                ")))))))))))))))))))))))))))))))) *",
+            ),
+            1,
+            "1. e4 ( 1. d4 ( 1. d4 ( 1. d4 ( 1. d4 ( 1. d4 ( 1. d4 ( 1. d4 ( 1. d4 ( 1. d4 (\n",
+            "1. d4 ( 1. d4 ( 1. d4 ( 1. d4 ( 1. d4 ( 1. d4 ( 1. d4 ( 1. d4 ( 1. d4 ( 1. d4 (\n",
+            "1. d4 ( 1. d4 ( 1. d4 ( 1. d4 ( 1. d4 ( 1. d4 ( 1. d4 ( 1. d4 ( 1. d4 ( 1. d4 (\n",
+            "1. d4 ( 1. d4 ( 1. d4 ) ) ) ) ) ) ) ) ) ) ) ) ) ) ) ) ) ) ) ) ) ) ) ) ) ) ) ) )\n",
+            ") ) ) *"
         ),
-        1,
-        "1. e4 ( 1. d4 ( 1. d4 ( 1. d4 ( 1. d4 ( 1. d4 ( 1. d4 ( 1. d4 ( 1. d4 ( 1. d4 (\n",
-        "1. d4 ( 1. d4 ( 1. d4 ( 1. d4 ( 1. d4 ( 1. d4 ( 1. d4 ( 1. d4 ( 1. d4 ( 1. d4 (\n",
-        "1. d4 ( 1. d4 ( 1. d4 ( 1. d4 ( 1. d4 ( 1. d4 ( 1. d4 ( 1. d4 ( 1. d4 ( 1. d4 (\n",
-        "1. d4 ( 1. d4 ( 1. d4 ) ) ) ) ) ) ) ) ) ) ) ) ) ) ) ) ) ) ) ) ) ) ) ) ) ) ) ) )\n",
-        ") ) ) *"
-    ),
-    reduced!(
-        "32 variations, reduced",
-        concat!(
-            "e4",
-            " (d4 (d4 (d4 (d4 (d4 (d4 (d4 (d4 (d4 (d4 (d4 (d4 (d4 (d4 (d4 (d4",
-            " (d4 (d4 (d4 (d4 (d4 (d4 (d4 (d4 (d4 (d4 (d4 (d4 (d4 (d4 (d4 (d4",
-            ")))))))))))))))))))))))))))))))) *",
+        reduced!(
+            "32 variations, reduced",
+            concat!(
+                "e4",
+                " (d4 (d4 (d4 (d4 (d4 (d4 (d4 (d4 (d4 (d4 (d4 (d4 (d4 (d4 (d4 (d4",
+                " (d4 (d4 (d4 (d4 (d4 (d4 (d4 (d4 (d4 (d4 (d4 (d4 (d4 (d4 (d4 (d4",
+                ")))))))))))))))))))))))))))))))) *",
+            ),
+            1,
+            "1. e4 *"
         ),
-        1,
-        "1. e4 *"
-    ),
-    torn!(
-        "33 variations",
-        concat!(
-            "e4",
-            " (d4 (d4 (d4 (d4 (d4 (d4 (d4 (d4 (d4 (d4 (d4",
-            " (d4 (d4 (d4 (d4 (d4 (d4 (d4 (d4 (d4 (d4 (d4",
-            " (d4 (d4 (d4 (d4 (d4 (d4 (d4 (d4 (d4 (d4 (d4",
+        torn!(
+            "33 variations",
+            concat!(
+                "e4",
+                " (d4 (d4 (d4 (d4 (d4 (d4 (d4 (d4 (d4 (d4 (d4",
+                " (d4 (d4 (d4 (d4 (d4 (d4 (d4 (d4 (d4 (d4 (d4",
+                " (d4 (d4 (d4 (d4 (d4 (d4 (d4 (d4 (d4 (d4 (d4",
+            ),
+            131,
+            Reason::TooDeep,
+            "1. e4 ( 1. d4 ( 1. d4 ( 1. d4 ( 1. d4 ( 1. d4 ( 1. d4 ( 1. d4 ( 1. d4 ( 1. d4 (\n",
+            "1. d4 ( 1. d4 ( 1. d4 ( 1. d4 ( 1. d4 ( 1. d4 ( 1. d4 ( 1. d4 ( 1. d4 ( 1. d4 (\n",
+            "1. d4 ( 1. d4 ( 1. d4 ( 1. d4 ( 1. d4 ( 1. d4 ( 1. d4 ( 1. d4 ( 1. d4 ( 1. d4 (\n"
         ),
-        131,
-        Reason::TooDeep,
-        "1. e4 ( 1. d4 ( 1. d4 ( 1. d4 ( 1. d4 ( 1. d4 ( 1. d4 ( 1. d4 ( 1. d4 ( 1. d4 (\n",
-        "1. d4 ( 1. d4 ( 1. d4 ( 1. d4 ( 1. d4 ( 1. d4 ( 1. d4 ( 1. d4 ( 1. d4 ( 1. d4 (\n",
-        "1. d4 ( 1. d4 ( 1. d4 ( 1. d4 ( 1. d4 ( 1. d4 ( 1. d4 ( 1. d4 ( 1. d4 ( 1. d4 (\n"
-    ),
-    game!(
-        "long-word",
-        concat!(
-            "1. e4 {",
+    ]
+}
+
+/// Words of comments, and lines that are full.
+pub fn words() -> &'static [Vector] {
+    &[
+        game!(
+            "long-word",
+            concat!(
+                "1. e4 {",
+                "wwwwwwwwwwwwwwwwwwwwwwwwwwwwwwwwwwwwwwwwwwwwwwwwwwwwwwwwwwwwwwww",
+                "wwwwwwwwwwwwwww",
+                "} *",
+            ),
+            1,
+            "1. e4 {\n",
             "wwwwwwwwwwwwwwwwwwwwwwwwwwwwwwwwwwwwwwwwwwwwwwwwwwwwwwwwwwwwwwww",
             "wwwwwwwwwwwwwww",
-            "} *",
+            "\n} *"
         ),
-        1,
-        "1. e4 {\n",
-        "wwwwwwwwwwwwwwwwwwwwwwwwwwwwwwwwwwwwwwwwwwwwwwwwwwwwwwwwwwwwwwww",
-        "wwwwwwwwwwwwwww",
-        "\n} *"
-    ),
-    torn!(
-        "long-word, one byte more",
-        concat!(
-            "1. e4 {",
-            "wwwwwwwwwwwwwwwwwwwwwwwwwwwwwwwwwwwwwwwwwwwwwwwwwwwwwwwwwwwwwwww",
-            "wwwwwwwwwwwwwwww",
-            "} *",
+        torn!(
+            "long-word, one byte more",
+            concat!(
+                "1. e4 {",
+                "wwwwwwwwwwwwwwwwwwwwwwwwwwwwwwwwwwwwwwwwwwwwwwwwwwwwwwwwwwwwwwww",
+                "wwwwwwwwwwwwwwww",
+                "} *",
+            ),
+            7,
+            Reason::Lexical(LexReason::WordTooLong)
         ),
-        7,
-        Reason::Lexical(LexReason::WordTooLong)
-    ),
-    torn!(
-        "a line that is full before the fault",
-        concat!(
-            "e4 {",
+        torn!(
+            "a line that is full before the fault",
+            concat!(
+                "e4 {",
+                "wwwwwwwwwwwwwwwwwwwwwwwwwwwwwwwwwwwwwwwwwwwwwwwwwwwwwwwwwwwwwwww",
+                "wwwwwwww",
+                " x} e5 Ke3 *",
+            ),
+            83,
+            Reason::IllegalMove,
+            "1. e4 {\n",
             "wwwwwwwwwwwwwwwwwwwwwwwwwwwwwwwwwwwwwwwwwwwwwwwwwwwwwwwwwwwwwwww",
             "wwwwwwww",
-            " x} e5 Ke3 *",
+            " x }\n"
         ),
-        83,
-        Reason::IllegalMove,
-        "1. e4 {\n",
-        "wwwwwwwwwwwwwwwwwwwwwwwwwwwwwwwwwwwwwwwwwwwwwwwwwwwwwwwwwwwwwwww",
-        "wwwwwwww",
-        " x }\n"
-    ),
-    torn!(
-        "a word that ends with the input",
-        concat!(
-            "1. e4 {",
-            "wwwwwwwwwwwwwwwwwwwwwwwwwwwwwwwwwwwwwwwwwwwwwwwwwwwwwwwwwwwwwwww",
-            "wwwwwwwwwwwwwww",
+        torn!(
+            "a word that ends with the input",
+            concat!(
+                "1. e4 {",
+                "wwwwwwwwwwwwwwwwwwwwwwwwwwwwwwwwwwwwwwwwwwwwwwwwwwwwwwwwwwwwwwww",
+                "wwwwwwwwwwwwwww",
+            ),
+            86,
+            Reason::Lexical(LexReason::UnclosedComment),
+            "1. e4 {\n"
         ),
-        86,
-        Reason::Lexical(LexReason::UnclosedComment),
-        "1. e4 {\n"
-    ),
-    torn!(
-        "a word before a control byte",
-        concat!(
-            "1. e4 {",
-            "wwwwwwwwwwwwwwwwwwwwwwwwwwwwwwwwwwwwwwwwwwwwwwwwwwwwwwwwwwwwwwww",
-            "wwwwwwwwwwwwwww",
-            "\x01} *",
+        torn!(
+            "a word before a control byte",
+            concat!(
+                "1. e4 {",
+                "wwwwwwwwwwwwwwwwwwwwwwwwwwwwwwwwwwwwwwwwwwwwwwwwwwwwwwwwwwwwwwww",
+                "wwwwwwwwwwwwwww",
+                "\x01} *",
+            ),
+            86,
+            Reason::Lexical(LexReason::ControlByte),
+            "1. e4 {\n"
         ),
-        86,
-        Reason::Lexical(LexReason::ControlByte),
-        "1. e4 {\n"
-    ),
-    torn!(
-        "a word before a closing brace in a line comment",
-        concat!(
-            "1. e4 ;",
-            "wwwwwwwwwwwwwwwwwwwwwwwwwwwwwwwwwwwwwwwwwwwwwwwwwwwwwwwwwwwwwwww",
-            "wwwwwwwwwwwwwww",
-            "}",
+        torn!(
+            "a word before a closing brace in a line comment",
+            concat!(
+                "1. e4 ;",
+                "wwwwwwwwwwwwwwwwwwwwwwwwwwwwwwwwwwwwwwwwwwwwwwwwwwwwwwwwwwwwwwww",
+                "wwwwwwwwwwwwwww",
+                "}",
+            ),
+            86,
+            Reason::Lexical(LexReason::BraceInLineComment),
+            "1. e4 {\n"
         ),
-        86,
-        Reason::Lexical(LexReason::BraceInLineComment),
-        "1. e4 {\n"
-    ),
-];
+    ]
+}

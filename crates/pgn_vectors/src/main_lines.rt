@@ -1,11 +1,11 @@
-//! Games from the usual first position, without variations.
+//! Games from the usual first position, without variations, and inputs of no game.
 use crate::rows::{converted, game, pairs, two_games, unknown};
 use crate::{Vector, Verdict};
 use pgn_game::Mode;
 
-/// Games from the usual first position, without variations, and inputs of no game.
-pub static MAIN_LINES: &[Vector] = &[
-    converted!(
+/// The sample game of the standard (PGN 2.3).
+pub fn sample_game() -> &'static [Vector] {
+    &[converted!(
         "sample-game",
         concat!(
             "[Event \"F/S Return Match\"]\n",
@@ -40,83 +40,107 @@ pub static MAIN_LINES: &[Vector] = &[
             "f3 Bc8 34. Kf2 Bf5 35. Ra7 g6 36. Ra6+ Kc5 37. Ke1 Nf4 38. g3 Nxh3 39. Kd2 Kb5\n",
             "40. Rd6 Kc5 41. Ra6 Nf2 42. g4 Bd3 43. Re6 1/2-1/2\n\n",
         )
-    ),
-    converted!("empty-input", "", 0, 0, ""),
-    converted!("an escape alone", "% *", 0, 0, ""),
-    converted!("comments alone", " {a}\r\n;b", 0, 0, ""),
-    game!("marker-alone", "*", 0, "*"),
-    two_games!("split-two", "* *", 0, "*", "*"),
-    two_games!("two games", "1. e4 *1. d4 d5 *", 3, "1. e4 *", "1. d4 d5 *"),
-    game!("one move", "1. e4 *", 1, "1. e4 *"),
-    game!("suffix-glyph", "1.e4! e5 *", 2, "1. e4 $1 1... e5 *"),
-    game!(
-        "all suffixes",
-        "e4! e5? d4!! d5?? c4!? c5?! *",
-        6,
-        "1. e4 $1 1... e5 $2 2. d4 $3 2... d5 $4 3. c4 $5 3... c5 $6 *"
-    ),
-    game!(
-        "an empty comment",
-        "1. e4 {} e5 *",
-        2,
-        "1. e4 { } 1... e5 *"
-    ),
-    game!("a glyph before a move", "$7 e4 *", 1, "$7 1. e4 *"),
-    game!(
-        "clock comments",
-        "1. e4 {[%clk 0:03:00]} 1... e5 {[%clk 0:03:00]} *",
-        2,
-        "1. e4 { [%clk 0:03:00] } 1... e5 { [%clk 0:03:00] } *"
-    ),
-    game!(
-        "noisy-numbers",
-        "7. e4 ... d5 9 ed5 *",
-        3,
-        "1. e4 d5 2. exd5 *"
-    ),
-    game!("digits and periods alone", "1 ... . 22 *", 0, "*"),
-    game!("a rank joined to a move", "2e4 *", 1, "1. e4 *"),
-    game!(
-        "a letter for pawns",
-        "Pe4 e7e5 Ng1f3 *",
-        3,
-        "1. e4 e5 2. Nf3 *"
-    ),
-    game!("marks decide nothing", "exe4+# e5# *", 2, "1. e4 e5 *"),
-    game!(
-        "a glyph with zeros in front",
-        "e4 $00255 *",
-        1,
-        "1. e4 $255 *"
-    ),
-    game!(
-        "a comment to the end of a line",
-        "e4 ;a b\r\n e5 *",
-        2,
-        "1. e4 { a b } 1... e5 *"
-    ),
-    game!(
-        "no move stands in a comment",
-        "e4 {Nf3 (d4) 1-0 [A]} e5 *",
-        2,
-        "1. e4 { Nf3 (d4) 1-0 [A] } 1... e5 *"
-    ),
-    game!(
-        "bytes from 128 in a comment",
-        "e4 {schön} *",
-        1,
-        "1. e4 { schön } *"
-    ),
-    game!(
-        "comments about a game",
-        "; a comment between games\n{ another } e4 { w } *",
-        1,
-        "1. e4 { w } *"
-    ),
-    game!(
-        "scholar's mate",
-        "1. e4 e5 2. Bc4 Nc6 3. Qh5 Nf6 4. Qxf7 *",
-        7,
-        "1. e4 e5 2. Bc4 Nc6 3. Qh5 Nf6 4. Qxf7# *"
-    ),
-];
+    )]
+}
+
+/// Inputs of a few tokens, and none.
+pub fn few_tokens() -> &'static [Vector] {
+    &[
+        converted!("empty-input", "", 0, 0, ""),
+        converted!("an escape alone", "% *", 0, 0, ""),
+        converted!("comments alone", " {a}\r\n;b", 0, 0, ""),
+        game!("marker-alone", "*", 0, "*"),
+        two_games!("split-two", "* *", 0, "*", "*"),
+        two_games!("two games", "1. e4 *1. d4 d5 *", 3, "1. e4 *", "1. d4 d5 *"),
+        game!("one move", "1. e4 *", 1, "1. e4 *"),
+    ]
+}
+
+/// Suffixes, NAGs and move numbers.
+pub fn glyphs_and_numbers() -> &'static [Vector] {
+    &[
+        game!("suffix-glyph", "1.e4! e5 *", 2, "1. e4 $1 1... e5 *"),
+        game!(
+            "all suffixes",
+            "e4! e5? d4!! d5?? c4!? c5?! *",
+            6,
+            "1. e4 $1 1... e5 $2 2. d4 $3 2... d5 $4 3. c4 $5 3... c5 $6 *"
+        ),
+        game!(
+            "an empty comment",
+            "1. e4 {} e5 *",
+            2,
+            "1. e4 { } 1... e5 *"
+        ),
+        game!("a glyph before a move", "$7 e4 *", 1, "$7 1. e4 *"),
+        game!(
+            "clock comments",
+            "1. e4 {[%clk 0:03:00]} 1... e5 {[%clk 0:03:00]} *",
+            2,
+            "1. e4 { [%clk 0:03:00] } 1... e5 { [%clk 0:03:00] } *"
+        ),
+        game!(
+            "noisy-numbers",
+            "7. e4 ... d5 9 ed5 *",
+            3,
+            "1. e4 d5 2. exd5 *"
+        ),
+        game!("digits and periods alone", "1 ... . 22 *", 0, "*"),
+    ]
+}
+
+/// Moves and marks that are spelled in another way than they are written.
+pub fn spellings() -> &'static [Vector] {
+    &[
+        game!("a rank joined to a move", "2e4 *", 1, "1. e4 *"),
+        game!(
+            "a letter for pawns",
+            "Pe4 e7e5 Ng1f3 *",
+            3,
+            "1. e4 e5 2. Nf3 *"
+        ),
+        game!("marks decide nothing", "exe4+# e5# *", 2, "1. e4 e5 *"),
+        game!(
+            "a glyph with zeros in front",
+            "e4 $00255 *",
+            1,
+            "1. e4 $255 *"
+        ),
+    ]
+}
+
+/// Comments, and a game that ends in mate.
+pub fn comments() -> &'static [Vector] {
+    &[
+        game!(
+            "a comment to the end of a line",
+            "e4 ;a b\r\n e5 *",
+            2,
+            "1. e4 { a b } 1... e5 *"
+        ),
+        game!(
+            "no move stands in a comment",
+            "e4 {Nf3 (d4) 1-0 [A]} e5 *",
+            2,
+            "1. e4 { Nf3 (d4) 1-0 [A] } 1... e5 *"
+        ),
+        game!(
+            "bytes from 128 in a comment",
+            "e4 {schön} *",
+            1,
+            "1. e4 { schön } *"
+        ),
+        game!(
+            "comments about a game",
+            "; a comment between games\n{ another } e4 { w } *",
+            1,
+            "1. e4 { w } *"
+        ),
+        game!(
+            "scholar's mate",
+            "1. e4 e5 2. Bc4 Nc6 3. Qh5 Nf6 4. Qxf7 *",
+            7,
+            "1. e4 e5 2. Bc4 Nc6 3. Qh5 Nf6 4. Qxf7# *"
+        ),
+    ]
+}

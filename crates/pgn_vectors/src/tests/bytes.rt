@@ -1,6 +1,5 @@
 //! Each byte as the whole input.
-use crate::Verdict;
-use crate::tests::runs::{HEAD, LONE_MARKER, converted, verdict_of};
+use crate::{HEAD, LONE_MARKER, Verdict, converted, verdict_of};
 use pgn_game::{Fault, LexReason, Mode, Reason};
 use std::test::Fail;
 

@@ -1,6 +1,5 @@
 //! How many pairs of squares are tried for a move.
-use crate::Vector;
-use crate::tests::runs::{converted, tables};
+use crate::{Vector, converted, tables};
 use chess_rules::{Kind, Position, Square, origins};
 use chess_text::read_fen;
 use pgn_game::Mode;

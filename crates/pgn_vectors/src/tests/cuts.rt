@@ -1,6 +1,6 @@
 //! Each vector, ended and cut at each of its bytes.
-use crate::tests::runs::{Usual, agrees, converted, feed, finish, tables};
-use crate::{Vector, Verdict};
+use crate::tests::tables::assert_agrees;
+use crate::{Usual, Vector, Verdict, converted, feed, finish, tables};
 use pgn_game::{Fault, Outlet, Totals};
 use std::process::Abort;
 use std::test::Fail;
@@ -109,7 +109,7 @@ fn cuts(rt: &impl Abort, table: &[Vector], text: &mut Vec<u8>) {
         for cut in 0..=vector.input.len() {
             let mut converter = Usual::new(vector.mode);
             let run = cut_at(&mut converter, vector.input.as_bytes(), cut, text);
-            agrees(rt, vector, run, text.as_slice());
+            assert_agrees(rt, vector, run, text.as_slice());
         }
     }
 }

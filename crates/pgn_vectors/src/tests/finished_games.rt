@@ -1,5 +1,5 @@
 //! The game just finished, and faults that stay.
-use crate::tests::runs::{HEAD, LONE_MARKER, Usual, feed, feed_once, finish_once};
+use crate::{HEAD, LONE_MARKER, Usual, feed, feed_once, finish_once};
 use chess_text::write_fen;
 use pgn_game::{Fault, Fed, Mode, Nowhere, Outlet, Reason, Sink};
 use std::process::Abort;

@@ -1,5 +1,5 @@
 //! Inputs with room for fewer pairs and variations.
-use crate::tests::runs::{HEAD, LONE_MARKER};
+use crate::{HEAD, LONE_MARKER};
 use pgn_game::{Fault, Mode, Nowhere, Outlet, Reason, convert_slice};
 use std::test::Fail;
 

@@ -1,14 +1,20 @@
 //! Each vector, in each way to convert it.
-use crate::tests::runs::{LONE_MARKER, Usual, agrees, converted, faults, feed, finish, tables};
-use crate::{Vector, Verdict};
+use crate::{
+    LONE_MARKER, Usual, Vector, Verdict, agrees, converted, fault_tables, feed, finish, tables,
+};
 use pgn_game::{Fault, Inlet, Mode, Outlet, Reason, Totals, convert};
 use std::process::Abort;
 use std::test::Fail;
 
+/// The run gave the vector's verdict and output.
+pub fn assert_agrees(rt: &impl Abort, vector: &Vector, run: Result<Totals, Fault>, text: &[u8]) {
+    assert!(rt; agrees(vector, run, text), "{}: {run:?}", vector.name);
+}
+
 fn converts(rt: &impl Abort, table: &[Vector], text: &mut Vec<u8>) {
     for vector in table {
         let run = converted(vector.input.as_bytes(), vector.mode, text);
-        agrees(rt, vector, run, text.as_slice());
+        assert_agrees(rt, vector, run, text.as_slice());
     }
 }
 
@@ -26,7 +32,7 @@ fn reads(rt: &impl Abort, table: &[Vector], text: &mut Vec<u8>) {
         let mut source = Inlet::new(vector.input.as_bytes());
         let mut out = Outlet::new(&mut *text);
         let run = convert::<64, 33, _, _>(&mut source, &mut out, vector.mode);
-        agrees(rt, vector, run, text.as_slice());
+        assert_agrees(rt, vector, run, text.as_slice());
     }
 }
 
@@ -53,7 +59,7 @@ fn takes_bytes(rt: &impl Abort, table: &[Vector], text: &mut Vec<u8>) {
     for vector in table {
         let mut converter = Usual::new(vector.mode);
         let run = drip(&mut converter, vector.input.as_bytes(), text);
-        agrees(rt, vector, run, text.as_slice());
+        assert_agrees(rt, vector, run, text.as_slice());
     }
 }
 
@@ -77,7 +83,7 @@ fn gives_itself(rt: &impl Abort, table: &[Vector], text: &mut Vec<u8>) {
             let reason = Reason::TooManyTags;
             assert_eq!(rt; run, Err(Fault { at: 662, reason }));
         } else {
-            agrees(rt, vector, run, text.as_slice());
+            assert_agrees(rt, vector, run, text.as_slice());
         }
     }
 }
@@ -122,15 +128,28 @@ fn refuses_behind(rt: &impl Abort, vector: &Vector, input: &[u8], text: &mut Vec
     assert!(rt; rest == Some(vector.output.as_bytes()), "{}", vector.name);
 }
 
+/// Converts each vector of the table behind a game.
+fn refuses_all_behind(
+    rt: &impl Abort,
+    table: &[Vector],
+    input: &mut Vec<u8>,
+    text: &mut Vec<u8>,
+) -> Result<(), Fail> {
+    for vector in table {
+        input.clear();
+        input.extend_from_slice(b"* ")?;
+        input.extend_from_slice(vector.input.as_bytes())?;
+        refuses_behind(rt, vector, input.as_slice(), text);
+    }
+    Ok(())
+}
+
 #[test]
 fn refuses_each_fault_behind_a_game(rt: HostRuntime) -> Result<(), Fail> {
     let mut input = Vec::new(rt.alloc());
     let mut text = Vec::new(rt.alloc());
-    for vector in faults() {
-        input.clear();
-        input.extend_from_slice(b"* ")?;
-        input.extend_from_slice(vector.input.as_bytes())?;
-        refuses_behind(&rt, vector, input.as_slice(), &mut text);
+    for table in fault_tables() {
+        refuses_all_behind(&rt, table, &mut input, &mut text)?;
     }
     Ok(())
 }

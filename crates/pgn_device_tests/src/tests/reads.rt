@@ -1,9 +1,8 @@
 //! Readers of which each read fails in turn.
 use crate::tests::devices::{Gauge, Meter};
-use crate::tests::outlines::{Outline, outlines};
-use crate::tests::runs::{HEAD, agrees, tables};
-use crate::{Vector, Verdict};
+use crate::tests::outlines::{Outline, assert_agrees, outlines};
 use pgn_game::{Fault, Mode, Reason, Totals, convert};
+use pgn_vectors::{HEAD, Vector, Verdict, tables};
 use std::io::ErrorKind;
 use std::process::Abort;
 
@@ -79,7 +78,7 @@ fn meets_each(rt: &impl Abort, outline: &Outline, drip: Drip, text: &mut Vec<u8>
     for fails_at in 0..10_000usize {
         let ran = run(vector, fails_at, drip, &mut *text);
         if ran.failures == 0 {
-            agrees(rt, vector, ran.result, text.as_slice());
+            assert_agrees(rt, vector, ran.result, text.as_slice());
             is_read(rt, (outline, vector), ran, fails_at, drip.1);
             return;
         }
@@ -112,7 +111,7 @@ fn cuts(rt: &impl Abort, vector: &'static Vector, text: &mut Vec<u8>) {
             vector.name
         );
         if ran.failures == 0 {
-            agrees(rt, vector, ran.result, written);
+            assert_agrees(rt, vector, ran.result, written);
             if let Verdict::Refused(fault) = vector.verdict {
                 assert!(rt; fault.at <= ran.given as u64, "{}", vector.name);
             }

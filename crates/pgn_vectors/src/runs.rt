@@ -1,9 +1,6 @@
 //! Runs of the converter, and what they have to give.
-use crate::{
-    FAULTS, LIMITS, MAIN_LINES, POSITION_FAULTS, POSITIONS, TAG_PAIRS, VARIATIONS, Vector, Verdict,
-};
+use crate::{Vector, Verdict};
 use pgn_game::{Converter, Fault, Fed, Mode, Outlet, Reason, Sink, Totals, convert_slice};
-use std::process::Abort;
 
 /// The section of a game without pairs.
 pub const HEAD: &[u8] =
@@ -16,61 +13,15 @@ pub const LONE_MARKER: &[u8] =
 /// A converter with the limits of the program: 64 pairs, and variations to depth 32.
 pub type Usual = Converter<64, 33>;
 
-/// The tables; each behind a call of its own, so that no proof of a loop sees all their bytes.
-pub fn tables() -> [&'static [Vector]; 7] {
-    [
-        main_lines(),
-        tag_pairs(),
-        variations(),
-        positions(),
-        position_faults(),
-        faults(),
-        limits(),
-    ]
-}
-
-fn main_lines() -> &'static [Vector] {
-    MAIN_LINES
-}
-
-fn tag_pairs() -> &'static [Vector] {
-    TAG_PAIRS
-}
-
-fn variations() -> &'static [Vector] {
-    VARIATIONS
-}
-
-fn positions() -> &'static [Vector] {
-    POSITIONS
-}
-
-fn position_faults() -> &'static [Vector] {
-    POSITION_FAULTS
-}
-
-pub fn faults() -> &'static [Vector] {
-    FAULTS
-}
-
-fn limits() -> &'static [Vector] {
-    LIMITS
-}
-
 /// Converts the input to the text, which is emptied first.
 pub fn converted(input: &[u8], mode: Mode, text: &mut Vec<u8>) -> Result<Totals, Fault> {
     text.clear();
     convert_slice::<64, 33, _>(input, &mut Outlet::new(text), mode)
 }
 
-/// The run gave the vector's verdict and output.
-pub fn agrees(rt: &impl Abort, vector: &Vector, run: Result<Totals, Fault>, text: &[u8]) {
-    assert_eq!(rt; verdict_of(run), vector.verdict, "{}", vector.name);
-    assert!(rt;
-        text == vector.output.as_bytes(),
-        "{}: the text",
-        vector.name
-    );
+/// Whether the run gave the vector's verdict and output.
+pub fn agrees(vector: &Vector, run: Result<Totals, Fault>, text: &[u8]) -> bool {
+    verdict_of(run) == vector.verdict && text == vector.output.as_bytes()
 }
 
 /// The verdict that a run's result is.

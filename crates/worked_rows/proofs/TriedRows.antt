@@ -14,7 +14,7 @@ use Rattle.pgn_game.specs.FaultTable.{refusal}
 use Rattle.pgn_game.specs.Progress.{read}
 use Rattle.pgn_game.specs.Tried.{Costs}
 use Rattle.pgn_game.specs.MostTried.{MostTried, Tries, none, refused, passes}
-use Rattle.pgn_vectors.proofs.WorkedRows.{plain, reduced}
+use Rattle.worked_rows.proofs.WorkedRows.{plain, reduced}
 
 -- a move that gives no check has no pairs for its mark
 quiet : (q : Parts) (n : ℕ) → is_check q ≡ false → MarkPairs q n n

@@ -14,7 +14,7 @@ use Rattle.pgn_game.specs.FaultTable.{refusal}
 use Rattle.pgn_game.specs.TagSection.{roster}
 use Rattle.pgn_game.specs.Progress.{Verdict, totals, due, output}
 use Rattle.pgn_game.specs.Checked.{checked_profile, compared, written_by, checked_verdict, checked_output}
-use Rattle.pgn_vectors.proofs.WorkedRows.{counted, fault, head, unknown}
+use Rattle.worked_rows.proofs.WorkedRows.{counted, fault, head, unknown}
 
 abbrev twice : Profile
 twice = checked_profile 64 32 Full

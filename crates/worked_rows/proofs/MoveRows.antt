@@ -12,7 +12,7 @@ use Rattle.pgn_game.specs.Chess.{first_position, position_of, move_of, text_of_m
 use Rattle.pgn_game.specs.FaultTable.{refusal}
 use Rattle.pgn_game.specs.TagSection.{roster}
 use Rattle.pgn_game.specs.Progress.{Verdict, totals}
-use Rattle.pgn_vectors.proofs.WorkedRows.{plain, reduced, Gives, fault, unknown, head}
+use Rattle.worked_rows.proofs.WorkedRows.{plain, reduced, Gives, fault, unknown, head}
 
 abbrev not_deep : Profile
 not_deep = record { tags = 64; depth = 0; mode = Full; missing_result = counts_as (codes "*") }

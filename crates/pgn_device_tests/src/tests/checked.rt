@@ -1,8 +1,8 @@
 //! Inputs that are read twice.
 use crate::tests::devices::{Gauge, Meter, Trouble};
-use crate::tests::runs::{agrees, tables, verdict_of};
-use crate::{Vector, Verdict};
+use crate::tests::outlines::assert_agrees;
 use pgn_game::{Fault, Mode, Reason, Totals, convert_checked};
+use pgn_vectors::{Vector, Verdict, tables, verdict_of};
 use std::io::ErrorKind;
 use std::process::Abort;
 
@@ -250,7 +250,7 @@ fn agrees_twice(rt: &impl Abort, vector: &'static Vector, text: &mut Vec<u8>) {
         assert_eq!(rt; verdict_of(result), vector.verdict, "{}", vector.name);
         return;
     }
-    agrees(rt, vector, result, text.as_slice());
+    assert_agrees(rt, vector, result, text.as_slice());
 }
 
 fn agrees_on_all(rt: &impl Abort, table: &'static [Vector], text: &mut Vec<u8>) {

@@ -1,9 +1,8 @@
 //! Writers of which each write fails in turn.
 use crate::tests::devices::{Calls, Meter, Trouble};
-use crate::tests::outlines::{Outline, outlines};
-use crate::tests::runs::{LONE_MARKER, Usual, agrees, feed, finish, tables, verdict_of};
-use crate::{Vector, Verdict};
+use crate::tests::outlines::{Outline, assert_agrees, outlines};
 use pgn_game::{Fault, Inlet, Mode, Nowhere, Outlet, Reason, Sink, Totals, convert, convert_slice};
+use pgn_vectors::{LONE_MARKER, Usual, Vector, Verdict, feed, finish, tables, verdict_of};
 use std::process::Abort;
 
 /// How an input is given to the converter.
@@ -99,7 +98,7 @@ fn run(rt: &impl Abort, way: Way, vector: &Vector, mut out: Meter<'_>) -> Ran {
 
 /// The run met no failure: it gave the vector's verdict and its output. Nothing is flushed.
 fn is_whole(rt: &impl Abort, vector: &Vector, ran: Ran, text: &[u8]) {
-    agrees(rt, vector, ran.result, text);
+    assert_agrees(rt, vector, ran.result, text);
     assert_eq!(rt; (ran.failures, ran.flushes), (0, 0));
 }
 

@@ -23,8 +23,8 @@ use Rattle.pgn_game.specs.Pairs.{Pair}
 use Rattle.pgn_game.specs.Spells.{Spells, no_pair, no_game, next_game, no_more, new_level}
 use Rattle.pgn_game.specs.TagSection.{roster}
 use Rattle.pgn_game.specs.Text.{text_of}
-use Rattle.pgn_vectors.proofs.MoveRows.{played}
-use Rattle.pgn_vectors.proofs.WorkedRows.{plain, reduced, Gives, counted, fault, unknown, head}
+use Rattle.worked_rows.proofs.MoveRows.{played}
+use Rattle.worked_rows.proofs.WorkedRows.{plain, reduced, Gives, counted, fault, unknown, head}
 
 abbrev pair : List ℕ → List ℕ → Pair
 pair name value = record { name = name; value = value }

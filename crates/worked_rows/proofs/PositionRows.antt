@@ -11,7 +11,7 @@ use Rattle.chess_rules.specs.Square.{square, squares}
 use Rattle.chess_rules.specs.Position.{position_fault, is_position, initial}
 use Rattle.chess_rules.specs.Legal.{legal, is_legal, is_check, is_mate, has_legal_move, every_promotion}
 use Rattle.chess_rules.specs.Candidate.{candidates}
-use Rattle.pgn_vectors.proofs.Drawn.{position, sq, promoting, move}
+use Rattle.worked_rows.proofs.Drawn.{position, sq, promoting, move}
 
 -- Positions, and the first rule that other parts break.
 

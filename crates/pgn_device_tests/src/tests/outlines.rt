@@ -1,6 +1,6 @@
 //! Vectors whose output is told part by part: which token writes it, and which bytes decide that.
-use crate::tests::runs::tables;
-use crate::{Vector, Verdict};
+use pgn_game::{Fault, Totals};
+use pgn_vectors::{Vector, Verdict, agrees, tables};
 use std::process::Abort;
 
 /// A part of an output.
@@ -181,6 +181,11 @@ impl Part {
     fn is_behind(&self, other: &Part) -> bool {
         other.end < self.end && other.read <= self.read && other.at <= self.at
     }
+}
+
+/// The run gave the vector's verdict and output.
+pub fn assert_agrees(rt: &impl Abort, vector: &Vector, run: Result<Totals, Fault>, text: &[u8]) {
+    assert!(rt; agrees(vector, run, text), "{}: {run:?}", vector.name);
 }
 
 // The parts are in order. Returns the last one.
