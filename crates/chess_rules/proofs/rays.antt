@@ -5,4 +5,5 @@ pub mod ClearWays
 pub mod FirstToPlace
 pub mod FirstToSeen
 pub mod SeenToFirst
+pub mod WalkAsSet
 pub mod WalkToBetween

@@ -4,12 +4,12 @@ use Rattle.std.specs.Prelude.{◌==◌, map}
 use Rattle.chess_rules.specs.declared.direction.Shift.{Shift}
 use Rattle.chess_rules.specs.declared.direction.Shift.TheVariants.{Down, Stay, Up}
 use Rattle.chess_rules.specs.declared.direction.Direction.{Direction}
-use Rattle.chess_rules.specs.Square.{Square, strictly_between}
+use Rattle.chess_rules.specs.Square.{Square}
 use Rattle.std.specs.List.{range_with_len}
 use Rattle.std.proofs.lemmas.List.FromFn.{get_or-range_with_len, length-range_with_len}
 use Rattle.chess_rules.specs.Board.{cell_of}
 use Rattle.chess_rules.specs.WordsAndCells.{digit, word_bit}
-use Rattle.chess_rules.specs.Masks.{between_mask, ray_mask}
+use Rattle.chess_rules.specs.Masks.{ray_mask}
 use Rattle.chess_rules.specs.Words.{has, mask, Places}
 use Rattle.chess_rules.specs.Walk.{square_at, shift_number, direction_number, shift_numbered, direction_numbered, lies_on}
 use Rattle.chess_rules.proofs.positions.OneKing.{square_at-cell_of}
@@ -81,9 +81,9 @@ ray_mask_is d s file rank =
     ap₂ (λ m n. mask (lies_on (direction_numbered m) (square_at n))) (quotient (direction_number d) (cell_of s) low) (rest (direction_number d) (cell_of s) low)
     ∙ ap₂ (λ e u. mask (lies_on e u)) (direction_again d) (square_at-cell_of s file)
 
-pub between_mask_is : (s t : Square) → s.file < 8 → t.file < 8 → t.rank < 8 → between_mask (64 * cell_of s + cell_of t) ≡ mask (λ u. strictly_between s u t)
-unfolding between_mask
-between_mask_is s t sf tf tr =
-    let low : cell_of t < 64 = omega arith in
-    ap₂ (λ m n. mask (λ u. strictly_between (square_at m) u (square_at n))) (quotient (cell_of s) (cell_of t) low) (rest (cell_of s) (cell_of t) low)
-    ∙ ap₂ (λ v w. mask (λ u. strictly_between v u w)) (square_at-cell_of s sf) (square_at-cell_of t tf)
+-- two squares again from the number of their pair
+pub first_of_pair : (s t : Square) → s.file < 8 → t.file < 8 → t.rank < 8 → square_at ((64 * cell_of s + cell_of t) / 64) ≡ s
+first_of_pair s t sf tf tr = ap square_at (quotient (cell_of s) (cell_of t) (omega arith)) ∙ square_at-cell_of s sf
+
+pub second_of_pair : (s t : Square) → t.file < 8 → t.rank < 8 → square_at ((64 * cell_of s + cell_of t) % 64) ≡ t
+second_of_pair s t tf tr = ap square_at (rest (cell_of s) (cell_of t) (omega arith)) ∙ square_at-cell_of t tf
