@@ -61,3 +61,12 @@ pub pawn_capture : (c a b file : ℕ) (moved : Option Form) → file_of c ≡ So
 pawn_capture c a b file moved named is =
     let origin : (c ≡ 97 + file) × (nat_lt file 8 ≡ true) = file_byte c file named in
     reads Pawn (Some file) a b moved is (c ∷ 120 ∷ a ∷ b ∷ []) [] (codes "x") refl refl origin.1 (λ to e. ap₂ (λ d t. d ∷ 120 ∷ t) origin.0 e)
+
+-- a text of four bytes with an x in it
+pub with_x : (s : List ℕ) (moved : Option Form) → length s ≡ 4 → get_or s 1 0 ≡ 120 → IfSome moved (λ f. form_of (get_or s 0 0 ∷ 120 ∷ get_or s 2 0 ∷ get_or s 3 0 ∷ []) ≡ Some f) → IfSome moved (λ f. form_of s ≡ Some f)
+with_x (c ∷ x ∷ a ∷ b ∷ []) moved four is h = subst (λ (n : ℕ). IfSome moved (λ f. form_of (c ∷ n ∷ a ∷ b ∷ []) ≡ Some f)) (sym is) h
+with_x [] moved four is h = absurd (omega (arith, four))
+with_x (c ∷ []) moved four is h = absurd (omega (arith, four))
+with_x (c ∷ x ∷ []) moved four is h = absurd (omega (arith, four))
+with_x (c ∷ x ∷ a ∷ []) moved four is h = absurd (omega (arith, four))
+with_x (c ∷ x ∷ a ∷ b ∷ d ∷ s) moved four is h = absurd (omega (arith, four))
