@@ -1,0 +1,39 @@
+use Rattle.std.proofs.Common.{◌≡◌, ℕ, ◌+◌, ◌≤◌, Bool, true, false, [], ◌++◌, length, sym, ◌∙◌, ap, ap₂, subst, arith, length-append}
+use Rattle.std.specs.Prelude.{is_some, codes, if◌then◌else◌}
+use Rattle.chess_rules.specs.Legal.{is_check, is_mate}
+use Rattle.chess_text.specs.San.{MarkPairs, mark, mark_after}
+use Rattle.chess_text.proofs.san.write_san.Goals as goal
+
+pub push_unmarked-requires : goal.push_unmarked-requires
+push_unmarked-requires c = record { empty = c.new-text.ensures; legal = ap is_some c.requires.legal; room = omega (arith, c.requires.room) }
+
+pub push_mark-requires : goal.push_mark-requires
+push_mark-requires c =
+    record { space = c.push_unmarked.ensures.short; room = omega (arith, c.push_unmarked.ensures.few, c.requires.room) }
+
+pub returns-clause-text : goal.returns-clause-text
+returns-clause-text c = c.push_mark.ensures.text ∙ ap₂ (λ s o. s ++ mark o) c.push_unmarked.ensures.text (sym c.requires.legal)
+
+-- a mark is one byte, or none
+mark_short : (mates checks : Bool) → length (if mates then codes "#" else if checks then codes "+" else []) ≤ 1
+mark_short true checks = omega arith
+mark_short false true = omega arith
+mark_short false false = omega arith
+
+joined : (c : goal.After-push_mark) → length c.push_mark.new.text.items ≡ length c.push_unmarked.new.text.items + length (mark_after c.args.played.now.next)
+joined c = ap (λ t. length t) c.push_mark.ensures.text ∙ length-append c.push_unmarked.new.text.items (mark_after c.args.played.now.next)
+
+pub returns-clause-some : goal.returns-clause-some
+returns-clause-some c = omega (arith, joined c, c.push_unmarked.ensures.some)
+
+pub returns-clause-short : goal.returns-clause-short
+returns-clause-short c =
+    let q = c.args.played.now.next in
+    omega (arith, joined c, c.push_unmarked.ensures.short, mark_short (is_mate q) (is_check q))
+
+pub returns-clause-pairs : goal.returns-clause-pairs
+returns-clause-pairs c =
+    subst (λ (n : ℕ). MarkPairs c.args.played.now.next n c.push_mark.new.probes) c.push_unmarked.ensures.pairs c.push_mark.ensures.pairs
+
+pub returns-clause-bound : goal.returns-clause-bound
+returns-clause-bound c = omega (arith, c.push_mark.ensures.pairs.most, c.push_unmarked.ensures.few)
