@@ -149,7 +149,7 @@ fn text_without_full(position: &Position) -> ArrayVec<u8, 93>
 {
     let mut buffer = Buffer::new();
     let mut text = ArrayVec::new();
-    let _ = text.try_extend_from_slice(board_text(position).as_slice());
+    push_part(&mut text, board_text(position).as_slice());
     push_field(&mut text, &[side_letter(position.side())]);
     push_field(&mut text, rights_text(position.rights()).as_slice());
     push_field(&mut text, target_text(position.target()).as_slice());
@@ -163,5 +163,13 @@ fn push_field(text: &mut ArrayVec<u8, 93>, field: &[u8])
     ensures { text.new.items ≡ text.old.items ++ 32 ∷ field.now }
 {
     text.push(b' ');
-    let _ = text.try_extend_from_slice(field);
+    push_part(text, field);
+}
+
+// Adds the part.
+fn push_part(text: &mut ArrayVec<u8, 93>, part: &[u8])
+    requires { length text.old.items + length part.now ≤ 93 }
+    ensures { text.new.items ≡ text.old.items ++ part.now }
+{
+    let _ = text.try_extend_from_slice(part);
 }

@@ -1,9 +1,7 @@
-use Rattle.std.proofs.Common.{◌≡◌, ◌≤◌, ◌+◌, List, ℕ, [], ◌∷◌, ◌++◌, length, sym, ◌∙◌, ap, ap₂, arith}
+use Rattle.std.proofs.Common.{◌≡◌, ◌≤◌, List, ℕ, ◌∷◌, ◌++◌, sym, ◌∙◌, ap, ap₂, arith}
 use Rattle.std.specs.Prelude.{decimal}
 use Rattle.chess_text.specs.Placement.{placement_text}
 use Rattle.chess_text.specs.Field.{side_text, rights_text, target_text}
-use Rattle.chess_text.proofs.positions.BytesOfRank.{when_ok}
-use Rattle.chess_text.proofs.positions.BoardToText.{length-placement_text}
 use Rattle.chess_text.proofs.positions.SixFieldsJoined.{FiveWritten, five_written, six_written, length-five}
 use Rattle.chess_text.proofs.fen.text_without_full.Goals as goal
 
@@ -11,20 +9,14 @@ use Rattle.chess_text.proofs.fen.text_without_full.Goals as goal
 half_low : (c : goal.After-buffer-2-1) → c.args.position.now.half ≤ 99999
 half_low c = omega (arith, c.half.ensures.value, c.half.ensures.limit)
 
-board : (c : goal.After-buffer-2-1) → c.try_extend_from_slice.new.self.items ≡ placement_text c.args.position.now.board
-board c =
-    let told : c.as_slice.result.now ≡ placement_text c.args.position.now.board = c.as_slice.ensures.value ∙ c.board_text.ensures.text in
-    let empty : c.new-text.result.items ≡ [] = c.new-text.ensures in
-    let room : length c.new-text.result.items + length c.as_slice.result.now ≤ 93 =
-    omega (arith, ap (λ (t : List ℕ). length t) told, length-placement_text c.args.position.now.board, ap (λ (t : List ℕ). length t) empty) in
-    when_ok c.try_extend_from_slice.result (c.try_extend_from_slice.ensures.variant.1 room) c.try_extend_from_slice.ensures.ok
-    ∙ ap₂ (λ (s t : List ℕ). s ++ t) empty told
+board : (c : goal.After-buffer-2-1) → c.push_part.new.text.items ≡ placement_text c.args.position.now.board
+board c = c.push_part.ensures ∙ ap₂ (λ (s t : List ℕ). s ++ t) c.new-text.ensures (c.as_slice.ensures.value ∙ c.board_text.ensures.text)
 
 five : (c : goal.After-buffer-2-1) → FiveWritten c.args.position.now c.push_field-4.new.text.items
 five c =
-    five_written c.args.position.now c.try_extend_from_slice.new.self.items c.push_field.new.text.items c.push_field-2.new.text.items c.push_field-3.new.text.items c.push_field-4.new.text.items
+    five_written c.args.position.now c.push_part.new.text.items c.push_field.new.text.items c.push_field-2.new.text.items c.push_field-3.new.text.items c.push_field-4.new.text.items
     (board c)
-    (c.push_field.ensures ∙ ap (λ (t : List ℕ). c.try_extend_from_slice.new.self.items ++ 32 ∷ t) (sym c.side_letter.ensures ∙ ap (λ s. side_text s) c.side.ensures))
+    (c.push_field.ensures ∙ ap (λ (t : List ℕ). c.push_part.new.text.items ++ 32 ∷ t) (sym c.side_letter.ensures ∙ ap (λ s. side_text s) c.side.ensures))
     (c.push_field-2.ensures ∙ ap (λ (t : List ℕ). c.push_field.new.text.items ++ 32 ∷ t) (c.as_slice-2.ensures.value ∙ c.rights_text.ensures ∙ ap (λ r. rights_text r) c.rights.ensures))
     (c.push_field-3.ensures ∙ ap (λ (t : List ℕ). c.push_field-2.new.text.items ++ 32 ∷ t) (c.as_slice-3.ensures.value ∙ c.target_text.ensures ∙ ap (λ t. target_text t) c.target.ensures))
     (c.push_field-4.ensures ∙ ap (λ (t : List ℕ). c.push_field-3.new.text.items ++ 32 ∷ t) (c.as_bytes.ensures.value ∙ c.format.ensures.text ∙ ap (λ n. decimal n) c.half.ensures.value))
