@@ -122,9 +122,10 @@ fn is_pawn_step(position: &Position, mv: &Move) -> bool
     ensures { result ≡ spec.is_pawn_step position.now mv.now }
 {
     let board = position.board();
-    board.has_piece(mv.from, position.side(), Kind::Pawn)
-        && promotion_fits(position, mv)
-        && is_pawn_way(position, mv)
+    if !board.has_piece(mv.from, position.side(), Kind::Pawn) {
+        return false;
+    }
+    promotion_fits(position, mv) && is_pawn_way(position, mv)
 }
 
 // The square of the pawn that is taken in passing.
