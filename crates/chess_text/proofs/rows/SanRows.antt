@@ -1,5 +1,5 @@
 -- The texts of worked moves.
-use Rattle.std.proofs.Common.{◌≡◌, ℕ, ◌-◌, List, [], ◌∷◌, Option, None, Some, refl}
+use Rattle.std.proofs.Common.{◌≡◌, ℕ, ◌-◌, List, [], ◌∷◌, Option, None, Some, refl, ◌∙◌}
 use Rattle.std.specs.Prelude.{codes, Result, Ok, Err}
 use Rattle.chess_rules.specs.declared.piece.Promotion.{Promotion}
 use Rattle.chess_rules.specs.declared.piece.Promotion.TheVariants.{Queen, Knight}
@@ -10,6 +10,7 @@ use Rattle.chess_rules.specs.Legal.{legal}
 use Rattle.chess_text.specs.declared.fen.FenFault.{FenFault}
 use Rattle.chess_text.specs.Fen.{read}
 use Rattle.chess_text.specs.San.{san}
+use Rattle.chess_text.proofs.rows.MovesOfPieces.{san_is_tried, san_tried}
 
 -- a square by its letter and its digit
 abbrev pub named : List ℕ → Square
@@ -37,6 +38,15 @@ abbrev text_of : Option Parts → Move → List ℕ
 text_of None m = []
 text_of (Some p) m = san p m
 
+-- a text with a mark is computed by the moves of pieces alone
+abbrev text_tried : Option Parts → Move → List ℕ
+text_tried None m = []
+text_tried (Some p) m = san_tried p m
+
+tried : (o : Option Parts) (m : Move) (s : List ℕ) → text_tried o m ≡ s → text_of o m ≡ s
+tried None m s h = h
+tried (Some p) m s h = san_is_tried p m ∙ h
+
 pinned_rival : text_of (fen (codes "4k3/8/8/8/1b6/2N5/8/4K1N1 w - - 0 1")) (go (codes "g1") (codes "e2")) ≡ codes "Ne2"
 unfolding squares
 pinned_rival = refl
@@ -53,17 +63,26 @@ rank_at_end : text_of (fen (codes "1k6/8/8/8/4Q2Q/8/8/K6Q w - - 0 1")) (go (code
 unfolding squares
 rank_at_end = refl
 
-en_passant_answer : text_of (fen (codes "3R1R2/4K3/8/4k3/4p3/8/3P4/8 w - - 0 1")) (go (codes "d2") (codes "d4")) ≡ codes "d4+"
-unfolding squares
-en_passant_answer = refl
+abbrev before_en_passant : Option Parts
+before_en_passant = fen (codes "3R1R2/4K3/8/4k3/4p3/8/3P4/8 w - - 0 1")
 
-pinned_answer : text_of (fen (codes "7k/6np/8/8/8/8/1B6/K3R3 w - - 0 1")) (go (codes "e1") (codes "e8")) ≡ codes "Re8#"
+en_passant_answer : text_of before_en_passant (go (codes "d2") (codes "d4")) ≡ codes "d4+"
 unfolding squares
-pinned_answer = refl
+en_passant_answer = tried before_en_passant (go (codes "d2") (codes "d4")) _ refl
 
-promoting_answer : text_of (fen (codes "7K/3P4/7k/8/8/8/8/4r3 b - - 0 1")) (go (codes "e1") (codes "e8")) ≡ codes "Re8+"
+abbrev before_pinned : Option Parts
+before_pinned = fen (codes "7k/6np/8/8/8/8/1B6/K3R3 w - - 0 1")
+
+pinned_answer : text_of before_pinned (go (codes "e1") (codes "e8")) ≡ codes "Re8#"
 unfolding squares
-promoting_answer = refl
+pinned_answer = tried before_pinned (go (codes "e1") (codes "e8")) _ refl
+
+abbrev before_promoting : Option Parts
+before_promoting = fen (codes "7K/3P4/7k/8/8/8/8/4r3 b - - 0 1")
+
+promoting_answer : text_of before_promoting (go (codes "e1") (codes "e8")) ≡ codes "Re8+"
+unfolding squares
+promoting_answer = tried before_promoting (go (codes "e1") (codes "e8")) _ refl
 
 stalemate : text_of (fen (codes "7k/5K2/8/8/8/8/8/6Q1 w - - 0 1")) (go (codes "g1") (codes "g6")) ≡ codes "Qg6"
 unfolding squares
@@ -98,4 +117,4 @@ before_mate = then_play (then_play (then_play (fen (codes "rnbqkbnr/pppppppp/8/8
 
 fools_mate : text_of before_mate (go (codes "d8") (codes "h4")) ≡ codes "Qh4#"
 unfolding squares
-fools_mate = refl
+fools_mate = tried before_mate (go (codes "d8") (codes "h4")) _ refl

@@ -1,0 +1,62 @@
+-- A legal move is one of a piece of the side to move, so a mark can be computed by the moves of
+-- these pieces alone.
+use Rattle.std.proofs.Common.{◌≡◌, ℕ, Bool, true, false, ◌&&◌, not, inl, inr, List, [], ◌∷◌, ◌++◌, refl, ◌∙◌, ap, ap₂}
+use Rattle.std.specs.Prelude.{Option, None, Some, codes, if◌then◌else◌, ◌||◌}
+use Rattle.std.specs.List.{list_any}
+use Rattle.std.proofs.lemmas.Bool.{false≢true, or_cases}
+use Rattle.chess_rules.specs.declared.position.Move.{Move}
+use Rattle.chess_rules.specs.declared.position.Parts.{Parts}
+use Rattle.chess_rules.specs.Square.{Square, squares}
+use Rattle.chess_rules.specs.Board.{at, has_colour}
+use Rattle.chess_rules.specs.Legal.{every_promotion, has_legal_move, is_check, is_legal, legal}
+use Rattle.chess_text.specs.San.{mark, san, unmarked}
+use Rattle.chess_text.proofs.forms.MoverOfMove.{mover_colour}
+
+-- some move from the square is legal, or some one to that target
+abbrev has_move_to : Parts → Square → Square → Bool
+has_move_to p from to = list_any (λ promotion. is_legal p (record { from = from; to = to; promotion = promotion })) every_promotion
+
+abbrev has_move_from : Parts → Square → Bool
+has_move_from p from = list_any (has_move_to p from) squares
+
+-- the same, with no trial of a move unless a piece of the side to move is there
+abbrev piece_has_move : Parts → Square → Bool
+piece_has_move p from = has_colour p.side (at p.board from) && has_move_from p from
+
+if_any : {X P : Type 0} (test : X → Bool) (xs : List X) → ((x : X) → test x ≡ true → P) → list_any test xs ≡ true → P
+if_any test [] found h = absurd (false≢true h)
+if_any test (x ∷ xs) found h = elim (or_cases (test x) (list_any test xs) h) [ inl here ↦ found x here | inr later ↦ if_any test xs found later ]
+
+any_same : {X : Type 0} (f g : X → Bool) (xs : List X) → ((x : X) → f x ≡ g x) → list_any f xs ≡ list_any g xs
+any_same f g [] h = refl
+any_same f g (x ∷ xs) h = ap₂ (λ v w. v || w) (h x) (any_same f g xs h)
+
+from_piece : (p : Parts) (from : Square) → has_move_from p from ≡ piece_has_move p from
+from_piece p from =
+    only_if (has_colour p.side (at p.board from)) (has_move_from p from)
+    (if_any (has_move_to p from) squares (λ to.
+    if_any (λ promotion. is_legal p (record { from = from; to = to; promotion = promotion })) every_promotion
+    (λ promotion. mover_colour p (record { from = from; to = to; promotion = promotion }))))
+  where
+    only_if : (x y : Bool) → (y ≡ true → x ≡ true) → y ≡ (x && y)
+    only_if true y h = refl
+    only_if false true h = absurd (false≢true (h refl))
+    only_if false false h = refl
+
+-- the mark, by these moves
+abbrev mark_tried : Option Parts → List ℕ
+mark_tried None = []
+mark_tried (Some q) =
+    if is_check q && not (list_any (piece_has_move q) squares) then codes "#" else if is_check q then codes "+" else []
+
+abbrev pub san_tried : Parts → Move → List ℕ
+san_tried p m = unmarked p m ++ mark_tried (legal p m)
+
+pub san_is_tried : (p : Parts) (m : Move) → san p m ≡ san_tried p m
+san_is_tried p m = ap (λ s. unmarked p m ++ s) (by_next (legal p m))
+  where
+    by_next : (o : Option Parts) → mark o ≡ mark_tried o
+    by_next None = refl
+    by_next (Some q) =
+        ap (λ b. if is_check q && not b then codes "#" else if is_check q then codes "+" else [])
+        (any_same (has_move_from q) (piece_has_move q) squares (from_piece q))
