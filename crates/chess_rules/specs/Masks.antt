@@ -6,7 +6,7 @@ use Rattle.chess_rules.specs.declared.piece.Colour.TheVariants.{White, Black}
 use Rattle.chess_rules.specs.declared.piece.Kind.TheVariants.{King, Queen, Rook, Bishop, Knight, Pawn}
 use Rattle.chess_rules.specs.declared.piece.Piece.{Piece}
 use Rattle.chess_rules.specs.Board.{Board, at, has_colour}
-use Rattle.chess_rules.specs.Square.{Square, is_adjacent, is_jump, in_line, on_diagonal, strictly_between}
+use Rattle.chess_rules.specs.Square.{Square, is_adjacent, is_jump, in_line, on_diagonal}
 use Rattle.chess_rules.specs.Walk.{square_at, direction_numbered, lies_on, reaches}
 use Rattle.chess_rules.specs.Words.{has_kind, mask}
 
@@ -33,10 +33,6 @@ white_pawn_mask n = mask (λ s. reaches Pawn White s (square_at n))
 
 unfoldable pub black_pawn_mask : ℕ → ℕ
 black_pawn_mask n = mask (λ s. reaches Pawn Black s (square_at n))
-
--- for each square, for each square: the squares strictly between the two
-unfoldable pub between_mask : ℕ → ℕ
-between_mask n = mask (λ u. strictly_between (square_at (n / 64)) u (square_at (n % 64)))
 
 -- Attackers, as the code finds them.
 

@@ -1,5 +1,5 @@
 use Rattle.std.proofs.Common.{◌≡◌, length, true, ◌&&◌, refl, sym, ◌∙◌, ap, arith}
-use Rattle.std.specs.Prelude.{Option, None, Some, Result, Ok, Err, ◌==◌, is_none, if◌then◌else◌}
+use Rattle.std.specs.Prelude.{Option, None, Some, Ok, Err, ◌==◌, is_none, if◌then◌else◌}
 use Rattle.std.proofs.lemmas.Bool.Decides.{nat_tests}
 use Rattle.chess_rules.specs.declared.position.Parts.{Parts}
 use Rattle.chess_rules.specs.declared.position.PositionFault.{PositionFault}
