@@ -15,6 +15,7 @@ use Rattle.chess_text.specs.Form.{form_of}
 use Rattle.chess_text.specs.MoveOfForm.{agreeing, move_of_form}
 use Rattle.chess_text.specs.San.{san}
 use Rattle.chess_text.specs.WrittenMove.{begins_with_letter, IsMoveSymbol, WrittenMoveIsSymbol, WrittenMoveIsRead}
+use Rattle.chess_text.proofs.rows.MovesOfPieces.{san_is_tried}
 use Rattle.chess_text.proofs.rows.TextLawRows.{knights, queens, rooks, promoting, kings, g1e2, c3e2, h4e1}
 use Rattle.chess_text.proofs.rows.SanRows.{named, becoming, go}
 
@@ -39,7 +40,9 @@ promotion_by_law law =
 
 check_by_law : WrittenMoveIsSymbol → IsMoveSymbol (codes "Q1h2+")
 unfolding squares
-check_by_law law = law queens (go (codes "h1") (codes "h2")) refl
+check_by_law law =
+    let m = go (codes "h1") (codes "h2") in
+    subst IsMoveSymbol (san_is_tried queens m) (law queens m refl)
 
 -- ---- texts that are none: of no legal move by the law
 

@@ -49,14 +49,14 @@ mark_tried None = []
 mark_tried (Some q) =
     if is_check q && not (list_any (piece_has_move q) squares) then codes "#" else if is_check q then codes "+" else []
 
+pub mark_is_tried : (o : Option Parts) → mark o ≡ mark_tried o
+mark_is_tried None = refl
+mark_is_tried (Some q) =
+    ap (λ b. if is_check q && not b then codes "#" else if is_check q then codes "+" else [])
+    (any_same (has_move_from q) (piece_has_move q) squares (from_piece q))
+
 abbrev pub san_tried : Parts → Move → List ℕ
 san_tried p m = unmarked p m ++ mark_tried (legal p m)
 
 pub san_is_tried : (p : Parts) (m : Move) → san p m ≡ san_tried p m
-san_is_tried p m = ap (λ s. unmarked p m ++ s) (by_next (legal p m))
-  where
-    by_next : (o : Option Parts) → mark o ≡ mark_tried o
-    by_next None = refl
-    by_next (Some q) =
-        ap (λ b. if is_check q && not b then codes "#" else if is_check q then codes "+" else [])
-        (any_same (has_move_from q) (piece_has_move q) squares (from_piece q))
+san_is_tried p m = ap (λ s. unmarked p m ++ s) (mark_is_tried (legal p m))

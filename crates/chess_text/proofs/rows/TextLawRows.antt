@@ -1,7 +1,7 @@
 -- The laws of texts at worked examples.
 -- A row that takes a law applies it exactly as it is stated. The rows beside it compute what the
 -- law says there, or show that this is false where one premise is missing.
-use Rattle.std.proofs.Common.{◌≡◌, ◌≢◌, ℕ, ◌<◌, ◌≤◌, true, false, List, [], ◌∷◌, Option, None, Some, Result, Ok, Err, length, refl, sym, ◌∙◌, ap, subst, arith}
+use Rattle.std.proofs.Common.{◌≡◌, ◌≢◌, ℕ, ◌<◌, ◌≤◌, true, false, List, [], ◌∷◌, ◌++◌, Option, None, Some, Result, Ok, Err, length, refl, sym, ◌∙◌, ap, subst, arith}
 use Rattle.std.specs.Prelude.{codes, slice_index_or}
 use Rattle.std.specs.Fmt.{digits}
 use Rattle.std.proofs.lemmas.Bool.{false≢true}
@@ -13,7 +13,7 @@ use Rattle.chess_rules.specs.declared.position.Parts.{Parts}
 use Rattle.chess_rules.specs.Square.{squares}
 use Rattle.chess_rules.specs.Position.{is_position, initial}
 use Rattle.chess_rules.specs.Step.{own}
-use Rattle.chess_rules.specs.Legal.{is_legal}
+use Rattle.chess_rules.specs.Legal.{is_legal, legal}
 use Rattle.chess_text.specs.declared.fen.FenFault.{FenFault}
 use Rattle.chess_text.specs.declared.form.Form.{Form}
 use Rattle.chess_text.specs.declared.form.Form.TheVariants.{Man}
@@ -23,6 +23,7 @@ use Rattle.chess_text.specs.MoveOfForm.{agrees}
 use Rattle.chess_text.specs.San.{rivals, disambiguation, has_rivals, san}
 use Rattle.chess_text.specs.Laws.{CanonicalIsShortest, Names, SingleReading, ShorterIsAmbiguous, disambiguations, text_with}
 use Rattle.chess_text.proofs.forms.SpellingToForm.{form_read}
+use Rattle.chess_text.proofs.rows.MovesOfPieces.{mark_is_tried}
 use Rattle.chess_text.proofs.rows.SanRows.{named, becoming, go}
 
 -- the parts that the six fields spell, whether they are a position or not
@@ -214,8 +215,11 @@ file_for_a_capture law =
 nothing_for_a_check : ShorterIsAmbiguous → Names queens (codes "Qh2+") (go (codes "h1") (codes "h2")) × NamesAnother queens (codes "Qh2+") (go (codes "h1") (codes "h2"))
 unfolding squares
 nothing_for_a_check law =
+    let m = go (codes "h1") (codes "h2") in
     let earlier : 0 < 2 = omega arith in
-    let high : 2 < 4 = omega arith in law queens Queen (go (codes "h1") (codes "h2")) 0 2 refl refl refl earlier high refl
+    let high : 2 < 4 = omega arith in
+    subst (λ (s : List ℕ). Names queens (codes "Qh2" ++ s) m × NamesAnother queens (codes "Qh2" ++ s) m) (mark_is_tried (legal queens m))
+    (law queens Queen m 0 2 refl refl refl earlier high refl)
 
 -- The same computed: the queens on h4 and h1 share a file, and those on h4 and e4 share a rank.
 
