@@ -1,29 +1,33 @@
 -- What putting a token of movetext adds to what stands written of its game, and to the reader.
-use Rattle.std.proofs.Common.{◌≡◌, max, ℕ, ◌<◌, ◌≤◌, Bool, true, false, ◌||◌, List, [], ◌∷◌, ◌++◌, length, drop, Option, None, refl, sym, ap, subst, ◌∙◌, append-nil, length-append, arith, IsTrue, Ok, Err}
+use Rattle.std.proofs.Common.{◌≡◌, max, ℕ, ◌<◌, ◌≤◌, Bool, true, false, ◌||◌, List, [], ◌∷◌, ◌++◌, length, drop, Option, None, Bor, Result, refl, sym, ap, subst, ◌∙◌, append-nil, length-append, arith, IsTrue, Ok, Err}
 use Rattle.std.specs.List.{list_any}
 use Rattle.std.proofs.lemmas.List.Folds.{list_any-append}
 use Rattle.std.proofs.Math.Nat.{le-max_left}
 use Rattle.std.proofs.Math.Seq.{drop-append-add, drop-length}
 use Rattle.std.proofs.KnownBytes.{Appends-trans}
 use Rattle.std.specs.Io.KnownBytes.{Appends}
+use Rattle.chess_rules.specs.declared.position.Move.{Move}
 use Rattle.pgn_layout.specs.declared.sink.WriteFault.{WriteFault}
 use Rattle.pgn_layout.specs.Device.{AppendsFront, Device, one_more}
 use Rattle.pgn_game.specs.declared.judged.Judged.{Judged}
 use Rattle.pgn_game.specs.declared.judged.Judged.TheVariants.{Entry as InText}
-use Rattle.pgn_game.specs.declared.judged.Entry.TheVariants.{Number}
+use Rattle.pgn_game.specs.declared.judged.Entry.TheVariants.{Number, Move as Play}
 use Rattle.pgn_game.specs.declared.judged.Entry.{Entry}
 use Rattle.pgn_game.proofs.Words.{Parts, Mode, Full, Reduced, Stage, Between, AfterTags, InMovetext, Profile, Missing, counts_as, known_result, Pair, Item, Part}
+use Rattle.pgn_game.specs.declared.accepted.Accepted.{Accepted}
 use Rattle.pgn_game.specs.declared.accepted.Accepted.TheVariants.{More}
+use Rattle.pgn_game.specs.declared.reason.Reason.{Reason}
 use Rattle.pgn_game.specs.declared.reason.Reason.TheVariants as reasons
 use Rattle.pgn_game.specs.Levels.{start_of}
 use Rattle.pgn_game.specs.TagSection.{tag_section}
 use Rattle.pgn_game.specs.Text.{is_move, full_text, torn_at, torn_for}
 use Rattle.pgn_game.specs.Progress.{Next, going}
-use Rattle.pgn_game.specs.Movetext.{HoldsItems}
+use Rattle.pgn_game.specs.Game.{move}
+use Rattle.pgn_game.specs.Movetext.{Movetext, HoldsItems}
 use Rattle.pgn_game.specs.ReaderState.{ReaderState, Agrees, HoldsPairs, HoldsText, has_move, plies_behind, whole_plies}
-use Rattle.pgn_game.specs.Judgement.{IsOpen, after, after_entry, may_have_movetext, with_items}
-use Rattle.pgn_game.specs.ItemResult.{Adds}
-use Rattle.pgn_game.specs.PutResult.{BeginsText, Goes, Keeps, PutResult, gain_to, section_due, section_due_of}
+use Rattle.pgn_game.specs.Judgement.{EntryFits, IsOpen, after, after_entry, may_have_movetext, with_items}
+use Rattle.pgn_game.specs.ItemResult.{Adds, TriesItem}
+use Rattle.pgn_game.specs.PutResult.{BeginsText, Goes, Keeps, PutResult, TriesJudged, at_item, gain_to, section_due, section_due_of}
 use Rattle.pgn_game.proofs.putting.WritesInTurn.{front_after}
 use Rattle.pgn_game.proofs.putting.ItemToMovetext.{from_to}
 use Rattle.pgn_game.proofs.judging.PartsToJudgement.{open_agrees}
@@ -247,3 +251,48 @@ fails_item old begun new e i f a b c n m k at leads begins next adds =
     (subst (AppendsFront a c) (ap (λ (p : Profile). section_due_of old ++ lines_gain p.mode part.pairs part.items (i ∷ [])) begins.profile
     ∙ gain_is old part (i ∷ []) begins.known at is)
     (front_after a b c _ _ begins.text (adds.adds (start_of part.pairs) part.items (begun_held old begun part is begins.begun)))))
+
+-- what fits before the section is written fits behind it
+pub fits_begun : (levels : ℕ) (old begun : ReaderState) (e f : Entry) → begun ≡ record old { stage = InMovetext } → e ≡ f → EntryFits levels old.text e → EntryFits levels begun.text f
+fits_begun levels old begun e f is same fits = subst (λ (r : ReaderState). EntryFits levels r.text f) (sym is) (subst (EntryFits levels old.text) same fits)
+
+-- What `put_entry` ensures, with these pairs tried before and after.
+abbrev pub EntryResult : ReaderState → Entry → ReaderState → Result Accepted Reason → Device → ℕ → ℕ → Type 0
+EntryResult old e new r d before after = record {
+  puts : PutResult old (InText e) new r d;
+  tried : TriesJudged old (InText e) r before after;
+  most : before ≤ old.most_probes → new.most_probes ≡ max old.most_probes after;
+}
+
+-- where no pair is tried, the most stays
+pub most_stays : (old new n : ℕ) → new ≡ old → n ≤ old → new ≡ max old n
+most_stays old new n same few = omega (arith, same, few)
+
+after_move : (begun new : ReaderState) (text : Movetext) (line : List ℕ) (n : ℕ) → new ≡ record begun { text = text; line = line; most_probes = max begun.most_probes n } → IsAfterItem begun new
+after_move begun new text line n is = record {
+  profile = ap (λ (r : ReaderState). r.profile) is;
+  stage = ap (λ (r : ReaderState). r.stage) is;
+  tags = ap (λ (r : ReaderState). r.tags) is;
+  earlier = ap (λ (r : ReaderState). r.earlier_plies) is;
+  probes = omega (arith, ap (λ (r : ReaderState). r.most_probes) is, le-max_left begun.most_probes n);
+}
+
+-- The section was written, and then a move put, whose pairs were counted.
+module _ (old begun new : ReaderState) (mv : Bor Move) (before after : ℕ) {text : Movetext} {line : List ℕ} {a b c : Option (List ℕ)} {n m k : ℕ} (at : IsTrue (may_have_movetext old.stage))
+    (begins : BeginsText {A = Unit} {E = WriteFault} old begun (Ok tt) (from_to a b n m)) (is : new ≡ record begun { text = text; line = line; most_probes = max begun.most_probes after })
+    (tries : TriesItem begun.profile.mode begun.text (move mv.now) before after) where
+  pub puts_move : 0 < old.most_probes → Adds {A = Unit} {E = WriteFault} begun.profile.mode (move mv.now) begun.text begun.line text line (Ok tt) (from_to b c m k)
+      → EntryResult old (Play mv) new (Ok More) (from_to a c n k) before after
+  puts_move probed adds = record {
+    puts = puts_item old begun new (Play mv) (move mv.now) a b c n m k at (λ part. refl) (λ is. probed) begins (after_move begun new text line after is) (rw is adds);
+    tried = subst (λ (r : ReaderState). TriesItem r.profile.mode r.text (move mv.now) before after) begins.begun tries;
+    most = λ few. ap (λ (r : ReaderState). r.most_probes) is ∙ ap (λ n. max n after) begins.probes;
+  }
+
+  pub fails_move : (f : WriteFault) → Adds {A = Unit} begun.profile.mode (move mv.now) begun.text begun.line text line (Err f) (from_to b c m k)
+      → EntryResult old (Play mv) new (Err reasons.WriteFault) (from_to a c n k) before after
+  fails_move f adds = record {
+    puts = fails_item old begun new (Play mv) (move mv.now) f a b c n m k at (λ part. refl) begins (after_move begun new text line after is) (rw is adds);
+    tried = at_item (subst (λ (r : ReaderState). TriesItem r.profile.mode r.text (move mv.now) before after) begins.begun tries);
+    most = λ few. ap (λ (r : ReaderState). r.most_probes) is ∙ ap (λ n. max n after) begins.probes;
+  }

@@ -21,9 +21,9 @@ use Rattle.pgn_game.proofs.judging.NumbersInMovetext.{most_with_none, no_probes_
 use Rattle.pgn_game.proofs.reader.Reader.find.Goals as goal
 use Rattle.pgn_game.proofs.reader.Reader.find.Goals.{then-not-may_have_movetext-via-then-not-may_have_movetext, then-not-may_have_movetext-via-else-not-may_have_movetext+then-is_score_or_number}
 
--- what is owed where this was found, with so many pairs tried
-abbrev Owed : ReaderState → ReaderState → Kind → Found → ℕ → Type 0
-Owed old new k f n = record {
+-- what `find` ensures where it found this, with n pairs tried
+abbrev FindResult : ReaderState → ReaderState → Kind → Found → ℕ → Type 0
+FindResult old new k f n = record {
   found : Finds new k f;
   counted : OnlyProbesRise old new;
   few : n ≤ 8;
@@ -32,7 +32,7 @@ Owed old new k f n = record {
 }
 
 -- nothing is sought
-unsought : (r : ReaderState) (k : Kind) (n : ℕ) → found r k ≡ None → Seeks r k 0 → n ≡ 0 → Owed r r k Unsought n
+unsought : (r : ReaderState) (k : Kind) (n : ℕ) → found r k ≡ None → Seeks r k 0 → n ≡ 0 → FindResult r r k Unsought n
 unsought r k n none seeks zero = record {
   found = record { says = sym none; legal = tt };
   counted = no_probes_rise r;
@@ -41,7 +41,7 @@ unsought r k n none seeks zero = record {
   most = most_with_none r.most_probes ∙ ap (max r.most_probes) (sym zero);
 }
 
-no_symbol : (r : ReaderState) (k : TokenKind) (n : ℕ) → ((s : Bor (List ℕ)) → k ≡ Symbol s → ⊥) → n ≡ 0 → Owed r r (kind_of k) Unsought n
+no_symbol : (r : ReaderState) (k : TokenKind) (n : ℕ) → ((s : Bor (List ℕ)) → k ≡ Symbol s → ⊥) → n ≡ 0 → FindResult r r (kind_of k) Unsought n
 no_symbol r (Symbol s) n other zero = absurd (other s refl)
 no_symbol r k n other zero = unsought r (kind_of k) n refl refl zero
 
@@ -49,7 +49,7 @@ no_symbol r k n other zero = unsought r (kind_of k) n refl refl zero
 abbrev is_sought : ReaderState → List ℕ → Bool
 is_sought r s = may_have_movetext r.stage && not (is_score s || is_number s)
 
-no_move : (r : ReaderState) (s : List ℕ) (n : ℕ) → is_sought r s ≡ false → n ≡ 0 → Owed r r (symbol s) Unsought n
+no_move : (r : ReaderState) (s : List ℕ) (n : ℕ) → is_sought r s ≡ false → n ≡ 0 → FindResult r r (symbol s) Unsought n
 no_move r s n none =
     let here = r.text.levels.present.present in
     unsought r (symbol s) n (ap (λ b. found_of b here s) none) (subst (λ b. CostsIf b here s 0) (sym none) refl)
@@ -57,7 +57,7 @@ no_move r s n none =
 -- a move is sought, and the count of probes kept
 sought : (old new : ReaderState) (s : List ℕ) (f : Found) (n : ℕ) (here : Parts) → may_have_movetext old.stage ≡ true → (is_score s || is_number s) ≡ false → here ≡ old.text.levels.present.present
     → new ≡ record old { most_probes = max old.most_probes n } → found_as here f ≡ Some (found_in here (move_of here s))
-    → ((r : ReaderState) → here ≡ r.text.levels.present.present → n ≤ r.most_probes → IsFoundLegal r f) → n ≤ 8 → Costs here s n → Owed old new (symbol s) f n
+    → ((r : ReaderState) → here ≡ r.text.levels.present.present → n ≤ r.most_probes → IsFoundLegal r f) → n ≤ 8 → Costs here s n → FindResult old new (symbol s) f n
 sought old new s f n here may plain at counted says legal few costs =
     let is : is_sought new s ≡ true = ap (λ (r : ReaderState). is_sought r s) counted ∙ ap (λ b. b && not (is_score s || is_number s)) may ∙ ap not plain in
     let same : here ≡ new.text.levels.present.present = at ∙ ap (λ (r : ReaderState). r.text.levels.present.present) (sym counted) in
