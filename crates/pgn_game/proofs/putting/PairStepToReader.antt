@@ -1,17 +1,18 @@
 -- What putting a step of the tag section does, or nothing.
 use Rattle.std.proofs.Common.{◌≡◌, ℕ, ◌≤◌, false, List, [], length, drop, Option, None, Some, Bor, refl, sym, ap, subst, ◌∙◌, le_refl, arith, IfSome, IsSomeAnd, IsTrue, Result, Ok, Err, is_ok}
 use Rattle.std.specs.Result.{result_unwrap_or}
+use Rattle.std.proofs.Math.Seq.{drop-length}
 use Rattle.std.proofs.Math.ListN.{drop_of_length-le}
 use Rattle.std.specs.Io.KnownBytes.{Appends}
 use Rattle.std.proofs.KnownBytes.{Appends-nil}
 use Rattle.pgn_game.specs.declared.judged.Judged.{Judged}
-use Rattle.pgn_game.specs.declared.judged.Judged.TheVariants.{Value}
-use Rattle.pgn_game.proofs.Words.{Parts, Stage, Between, AfterName, AfterValue, InMovetext, Profile, Missing, counts_as, takes_the_marker, Pair, has_pair, Item, Part}
+use Rattle.pgn_game.specs.declared.judged.Judged.TheVariants.{Skipped, PairOpen, PairClose, Name, Value}
+use Rattle.pgn_game.proofs.Words.{Parts, Stage, Between, AfterLeftBracket, AfterTags, AfterName, AfterValue, InMovetext, Profile, Missing, counts_as, takes_the_marker, Pair, has_pair, Item, Part}
 use Rattle.pgn_game.specs.declared.accepted.Accepted.TheVariants.{More}
 use Rattle.pgn_game.specs.Levels.{start_of}
 use Rattle.pgn_game.specs.StoredPairs.{TagPairs}
 use Rattle.pgn_game.specs.Text.{torn, torn_for}
-use Rattle.pgn_game.specs.Progress.{Next, going}
+use Rattle.pgn_game.specs.Progress.{Next, at_stage, going}
 use Rattle.pgn_game.specs.Movetext.{Movetext, movetext_from, movetext_after_fen}
 use Rattle.pgn_game.specs.ReaderState.{ReaderState, Agrees, plies_behind}
 use Rattle.pgn_game.specs.Judgement.{Fits, ValueFits, after, fen_position}
@@ -105,3 +106,43 @@ puts_value tags levels old new value name start held o n fits completes begun st
     told_start : (r : Result (Option Parts) ℕ) (s : Option Parts) → IsTrue (is_ok r) → s ≡ result_unwrap_or r None → r ≡ Ok s
     told_start (Ok x) s fine e = ap (λ y. Ok y) (sym e)
     told_start (Err f) s fine e = absurd (cc)
+
+-- nothing changes at a comment in the tag section, or at a token between games
+pub puts_nothing : (old : ReaderState) (o : Option (List ℕ)) (n : ℕ) → PutResult old Skipped old (Ok More) (from_to o o n n)
+puts_nothing old o n =
+    more_comes old old Skipped (from_to o o n n) (record { profile = refl; plies = omega arith; probes = le_refl old.most_probes }) (λ e. refl) refl
+    (λ part agrees. record { leads = agrees; plies = omega arith; appended = subst (Appends o o) (sym (drop-length (torn old.profile part))) (Appends-nil o) })
+
+-- a bracket changes the stage alone
+pub puts_left_bracket : (tags levels : ℕ) (old new : ReaderState) (o : Option (List ℕ)) (n : ℕ) → Fits tags levels old PairOpen → new ≡ record old { stage = AfterLeftBracket }
+    → PutResult old PairOpen new (Ok More) (from_to o o n n)
+puts_left_bracket tags levels old new o n fits is =
+    steps old new PairOpen AfterTags AfterLeftBracket old.tags None o n is fits.0 (λ e. absurd (cc)) (λ e. absurd (cc)) (λ e. absurd (cc)) (λ part agrees. record {
+      to = at_stage AfterLeftBracket part;
+      leads = refl;
+      agrees = record { stage = refl; pairs = held_at old part AfterTags agrees fits.0; text = text_at old part AfterTags agrees fits.0 };
+    })
+
+pub puts_right_bracket : (tags levels : ℕ) (old new : ReaderState) (o : Option (List ℕ)) (n : ℕ) → Fits tags levels old PairClose → new ≡ record old { stage = AfterTags }
+    → PutResult old PairClose new (Ok More) (from_to o o n n)
+puts_right_bracket tags levels old new o n fits is =
+    steps old new PairClose AfterValue AfterTags old.tags None o n is fits (λ e. absurd (cc)) (λ e. absurd (cc)) (λ e. absurd (cc)) (λ part agrees. record {
+      to = at_stage AfterTags part;
+      leads = refl;
+      agrees = record { stage = refl; pairs = held_at old part AfterValue agrees fits; text = text_at old part AfterValue agrees fits };
+    })
+
+pub puts_name : (tags levels : ℕ) (old new : ReaderState) (name : Bor (List ℕ)) (held : TagPairs) (o : Option (List ℕ)) (n : ℕ) → Fits tags levels old (Name name)
+    → held ≡ record old.tags { pending_name = Some name.now } → new ≡ record old { stage = AfterName; tags = held } → PutResult old (Name name) new (Ok More) (from_to o o n n)
+puts_name tags levels old new name held o n fits begins is =
+    steps old new (Name name) AfterLeftBracket AfterName held None o n is fits.0 (λ e. absurd (cc)) (λ e. absurd (cc)) (λ e. absurd (cc)) (λ part agrees.
+    let pairs = held_at old part AfterLeftBracket agrees fits.0 in
+    record {
+      to = record { stage = AfterName; pairs = part.pairs; name = name.now; items = part.items };
+      leads = refl;
+      agrees = record {
+        stage = refl;
+        pairs = (begins ∙ ap (λ (t : TagPairs). record t { pending_name = Some name.now }) pairs, subst (λ (t : TagPairs). has_pair t.held name.now ≡ false) pairs fits.2);
+        text = text_at old part AfterLeftBracket agrees fits.0;
+      };
+    })
