@@ -77,3 +77,18 @@ pub invariant_of-self-in-Ok-2 : goal.invariant_of-self-in-Ok-2
 invariant_of-self-in-Ok-2 g c =
     let short : c.in-Ok.field-0 ≤ 4096 = omega (arith, c.in-Ok.ensures.bound.0, c.read_some.auto.buffer, c.bytes_to_read.ensures.fits) in
     (omega arith, short, still_full c.bytes_to_read.result c.read_some.new.buffer c.self.inside.buffer c.read_some.auto.buffer c.bytes_to_read.ensures.fits c.self.told)
+
+pub slice_bounds-read_some-end : goal.slice_bounds-read_some-end
+slice_bounds-read_some-end g c = omega (arith, c.bytes_to_read.ensures.fits, c.self.invariant.2)
+
+pub returns-in-Err-clause-counted : goal.returns-in-Err-clause-counted
+returns-in-Err-clause-counted g c = c.in-Err.ensures.failures
+
+pub returns-in-Ok-eq0-clause-counted : goal.returns-in-Ok-eq0-clause-counted
+returns-in-Ok-eq0-clause-counted g c = c.in-Ok-eq0.ensures.failures
+
+pub returns-in-Ok-clause-counted : goal.returns-in-Ok-clause-counted
+returns-in-Ok-clause-counted g c = c.in-Ok.ensures.failures
+
+pub returns-in-Ok-2-clause-counted : goal.returns-in-Ok-2-clause-counted
+returns-in-Ok-2-clause-counted g c = c.in-Ok.ensures.failures

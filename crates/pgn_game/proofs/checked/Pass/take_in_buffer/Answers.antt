@@ -1,4 +1,4 @@
-use Rattle.std.proofs.Common.{rules, ◌+◌, ◌-◌, ◌<◌, length, drop, inl, refl, sym, ap, subst, ◌∙◌, arith, length-take, Ok}
+use Rattle.std.proofs.Common.{rules, ◌≡◌, ℕ, ◌+◌, ◌-◌, ◌^◌, ◌<◌, ◌≤◌, List, length, drop, inl, refl, sym, ap, subst, ◌∙◌, arith, length-take, Ok}
 use Rattle.std.proofs.KnownBytes.{Appends-nil}
 use Rattle.pgn_lexer.specs.Scanned.{kind_of}
 use Rattle.pgn_lexer.specs.Tokens.{Token}
@@ -91,3 +91,36 @@ pub invariant_of-self-in-Fault : goal.invariant_of-self-in-Fault
 invariant_of-self-in-Fault g c =
     let within = rw c.as_slice-buffer.ensures at c.next-scan.ensures.used in
     (omega (arith, within, length-take (c.self.inside.end - c.self.inside.start) (drop c.self.inside.start c.self.inside.buffer), c.self.invariant.0), c.self.invariant.1, c.self.told)
+
+fits_memory : 4096 < 2 ^ 63
+fits_memory = omega arith
+
+pub as_slice-buffer-requires : goal.as_slice-buffer-requires
+as_slice-buffer-requires g c = fits_memory
+
+pub slice_bounds-next-count : goal.slice_bounds-next-count
+slice_bounds-next-count g c = c.self.invariant.0
+
+pub slice_bounds-next-start : goal.slice_bounds-next-start
+slice_bounds-next-start g c = c.self.invariant.0
+
+in_slice : (n : ℕ) (xs ys : List ℕ) → ys ≡ xs → length xs ≡ 4096 → n ≤ 4096 → n ≤ length ys
+in_slice n xs ys is full within = omega (arith, ap (length {A = ℕ}) is, full, within)
+
+pub slice_bounds-next-end : goal.slice_bounds-next-end
+slice_bounds-next-end g c = in_slice c.self.inside.end c.self.inside.buffer c.as_slice-buffer.result.now c.as_slice-buffer.ensures c.self.told c.self.invariant.1
+
+pub part_none-self : goal.part_none-self
+part_none-self g c = (refl, refl)
+
+pub returns-in-NeedMore-clause-counted : goal.returns-in-NeedMore-clause-counted
+returns-in-NeedMore-clause-counted g c = refl
+
+pub returns-in-Token-clause-counted : goal.returns-in-Token-clause-counted
+returns-in-Token-clause-counted g c = c.take_token.ensures.counted
+
+pub returns-in-Fault-clause-keeps : goal.returns-in-Fault-clause-keeps
+returns-in-Fault-clause-keeps g c = subst (λ (x : Pass). IsTold c.args.told x.reading) (sym c.self.view_is) c.requires.told
+
+pub returns-in-Fault-clause-counted : goal.returns-in-Fault-clause-counted
+returns-in-Fault-clause-counted g c = rw c.lexical.ensures refl
