@@ -45,3 +45,10 @@ pub second_counts : (r : Reason) (first second sink : Device) (s o : ℕ) → Is
 second_counts ReadFault first second sink s o still here there h = (inr (still, h.0 ∙ ap one_more here), h.1 ∙ there)
 second_counts WriteFault first second sink s o still here there h = (still, h.0 ∙ here, h.1 ∙ ap one_more there)
 second_counts _ first second sink s o still here there h = (still, h.0 ∙ here, h.1 ∙ there)
+
+-- and where the first one stops
+pub first_counts : (r : Reason) (first second sink : Device) (s : ℕ) → s ≡ first.failures → IsStill second → IsStill sink
+    → CountsReading r s first.failures_after → CountsThree r first second sink
+first_counts ReadFault first second sink s here still none h = (inl (h ∙ ap one_more here, still), none)
+first_counts WriteFault first second sink s here still none h = absurd h
+first_counts _ first second sink s here still none h = (h ∙ here, still, none)

@@ -3,7 +3,7 @@ use Rattle.std.proofs.lemmas.Result.{err_from_is_err_and}
 use Rattle.pgn_layout.specs.Device.{device, one_more}
 use Rattle.pgn_game.specs.Checked.{checked_profile}
 use Rattle.pgn_game.specs.Pass.{Pass, model_mark}
-use Rattle.pgn_game.proofs.twice.FailuresOfSteps.{read_fails, second_counts, source_fails}
+use Rattle.pgn_game.proofs.twice.FailuresOfSteps.{first_counts, read_fails, second_counts, source_fails}
 use Rattle.pgn_game.proofs.twice.MarksInTurn.{matched_mark}
 use Rattle.pgn_game.proofs.twice.ReadingsToConversion.{both_end, both_more, both_none, first_stops, second_stops}
 use Rattle.pgn_game.proofs.ReaderFitsInMemory.{pass_alike, pass_fits_reader}
@@ -111,3 +111,22 @@ most_probes-requires g c = search pass_fits_reader
 
 pub totals-requires : goal.totals-requires
 totals-requires g c = (search pass_alike, (search rules, search rules))
+
+pub returns-in_err-mark-clause-counted : goal.returns-in_err-mark-clause-counted
+returns-in_err-mark-clause-counted g c =
+    let so = c.loop-mark.invariant in
+    let e = err_from_is_err_and c.from_residual.result c.from_residual.ensures.1 in
+    rw (e.1, e.2)
+    (first_counts c.in_err-mark.field-0.0.reason (device g.Q.Source.left g.Q.Source.failures c.args.first.now c.read_game.new.source)
+    (device g.R.Source.left g.R.Source.failures c.args.second.now c.loop-mark.second) (device g.W.Sink.taken g.W.Sink.failures c.args.writer.now c.loop-mark.writer) _
+    so.first so.second so.sink c.in_err-mark.ensures.counted)
+
+pub returns-in_default-clause-counted : goal.returns-in_default-clause-counted
+returns-in_default-clause-counted g c =
+    let so = c.loop-mark.invariant in
+    (c.in_ok-mark.ensures.counted ∙ so.first, so.second, so.sink)
+
+pub loop-mark-smaller : goal.loop-mark-smaller
+loop-mark-smaller g c =
+    let goes_on = rw c.in-Some.is at c.in_ok-mark.ensures.going in
+    goes_on.1
