@@ -1,4 +1,4 @@
-use Rattle.std.proofs.Common.{arith, refl, drop, ◌∙◌, length-drop}
+use Rattle.std.proofs.Common.{arith, refl, drop, length, ◌∙◌, length-drop, le_refl}
 use Rattle.std.proofs.lemmas.List.{take_rest}
 use Rattle.std.proofs.lemmas.Result.{err_from_is_err_and}
 use Rattle.pgn_game.proofs.ReaderFitsInMemory.{fits_alike}
@@ -107,3 +107,9 @@ overflow_add-at g c =
 
 pub slice_bounds-feed-count : goal.slice_bounds-feed-count
 slice_bounds-feed-count g c = c.loop-used.invariant.within
+
+pub slice_bounds-feed-start : goal.slice_bounds-feed-start
+slice_bounds-feed-start g c = c.loop-used.invariant.within
+
+pub slice_bounds-feed-end : goal.slice_bounds-feed-end
+slice_bounds-feed-end g c = le_refl (length c.args.piece.now)

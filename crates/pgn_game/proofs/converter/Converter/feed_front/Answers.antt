@@ -178,3 +178,9 @@ overflow_add-at g c =
 
 pub slice_bounds-step-count : goal.slice_bounds-step-count
 slice_bounds-step-count g c = c.loop-at.invariant.within
+
+pub slice_bounds-step-start : goal.slice_bounds-step-start
+slice_bounds-step-start g c = c.loop-at.invariant.within
+
+pub slice_bounds-step-end : goal.slice_bounds-step-end
+slice_bounds-step-end g c = le_refl (length c.args.piece.now)
