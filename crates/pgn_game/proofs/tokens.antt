@@ -5,6 +5,7 @@ pub mod JudgedToAccepted
 pub mod NextGrows
 pub mod OneMoreToken
 pub mod PairsTriedForToken
+pub mod SoundAtStart
 pub mod StepsAtEnd
 pub mod StepsInPiece
 pub mod WholeInput

@@ -1,8 +1,5 @@
 -- The counts of a reading stay small, and fewer steps are left after each.
 use Rattle.std.proofs.Common.{◌≡◌, ℕ, ◌+◌, ◌-◌, ◌*◌, ◌<◌, ◌≤◌, zero, suc, Bool, true, false, List, [], ◌∷◌, length, Option, Result, Ok, Err, refl, sym, ap, subst, ◌∙◌, arith, ◌^◌, IfOk}
-use Rattle.pgn_lexer.specs.declared.partial_token.Mode.{Mode as LexerMode}
-use Rattle.pgn_lexer.specs.declared.partial_token.Mode.TheVariants.{Symbol, Glyph, Suffix, BraceWord, Line, LineWord}
-use Rattle.pgn_lexer.specs.PartialToken.{pending_in}
 use Rattle.pgn_lexer.specs.Standing.{Standing, waiting}
 use Rattle.pgn_game.specs.declared.checked.Mark.{Mark as CodeMark}
 use Rattle.pgn_game.specs.declared.checked.Taken.{Taken}
@@ -10,20 +7,9 @@ use Rattle.pgn_game.specs.declared.checked.Taken.TheVariants.{More, Game as Game
 use Rattle.pgn_game.specs.FaultTable.{is_end}
 use Rattle.pgn_game.proofs.Words.{Kind, Fault}
 use Rattle.pgn_game.specs.ReaderState.{ReaderState}
+use Rattle.pgn_game.proofs.tokens.SoundAtStart.{few_waiting}
 use Rattle.pgn_game.proofs.tokens.StepsAtEnd.{Nearer}
 use Rattle.pgn_game.specs.Pass.{GoesBehind, IsGoing, IsTold, Keeps, KeepsGoing, LeavesReader, Pass, games_with, steps_left, until_read}
-
-few_waiting_in : (m : LexerMode) → pending_in m ≤ 2
-few_waiting_in Symbol = omega arith
-few_waiting_in (Glyph n) = omega arith
-few_waiting_in (Suffix run) = omega arith
-few_waiting_in BraceWord = omega arith
-few_waiting_in Line = omega arith
-few_waiting_in LineWord = omega arith
-few_waiting_in _ = omega arith
-
-few_waiting : (l : Standing) → waiting l ≤ 2
-few_waiting l = few_waiting_in l.held.mode
 
 one_until : (b : Bool) (xs : List ℕ) → until_read b xs ≤ 1
 one_until true xs = omega arith

@@ -1,4 +1,4 @@
-use Rattle.std.proofs.Common.{◌-◌, [], refl, sym, ap, subst, inl, codes}
+use Rattle.std.proofs.Common.{◌-◌, ◌≤◌, [], refl, sym, ap, subst, inl, codes, arith}
 use Rattle.std.proofs.KnownBytes.{Consumes-nil}
 use Rattle.pgn_game.specs.Progress.{no_progress}
 use Rattle.pgn_game.specs.Game.{no_part}
@@ -6,6 +6,8 @@ use Rattle.pgn_game.specs.MostTried.{MostTried, none}
 use Rattle.pgn_game.specs.ReaderState.{ReaderState, Agrees, whole_plies}
 use Rattle.pgn_game.specs.Checked.{checked_profile}
 use Rattle.pgn_game.specs.Pass.{reading_under}
+use Rattle.pgn_game.proofs.ReaderFitsInMemory.{pass_fits_reader}
+use Rattle.pgn_game.proofs.tokens.SoundAtStart.{sound_at_start}
 use Rattle.pgn_game.proofs.checked.Pass.new.Goals as goal
 
 pub returns-clause-given : goal.returns-clause-given
@@ -29,4 +31,22 @@ returns-clause-given g c left =
         just_finished = tt;
       };
       profile = (codes "*", ap (λ (r : ReaderState). r.profile) is);
+    }
+
+pub new-requires-2 : goal.new-requires-2
+new-requires-2 g c = (search pass_fits_reader, c.requires)
+
+within_buffer : (0 ≤ 0) × (0 ≤ 4096)
+within_buffer = (omega arith, omega arith)
+
+pub invariant_of-result : goal.invariant_of-result
+invariant_of-result g c = (within_buffer.0, within_buffer.1, refl)
+
+pub returns-clause-going : goal.returns-clause-going
+returns-clause-going g c =
+    let is = c.new-2.ensures in
+    let count = c.new.ensures.stands.count in
+    record {
+      sound = sound_at_start c.new.result c.new-2.result count (ap (λ (r : ReaderState). r.earlier_plies) is) (ap (λ (r : ReaderState). r.text.plies) is);
+      room = omega (arith, count);
     }

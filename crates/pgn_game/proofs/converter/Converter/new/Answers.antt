@@ -4,6 +4,8 @@ use Rattle.pgn_game.specs.Game.{no_part}
 use Rattle.pgn_game.specs.MostTried.{MostTried, none}
 use Rattle.pgn_game.specs.ReaderState.{ReaderState, Agrees, whole_plies}
 use Rattle.pgn_game.specs.ConverterCalls.{profile_of}
+use Rattle.pgn_game.proofs.ReaderFitsInMemory.{fits_reader}
+use Rattle.pgn_game.proofs.tokens.SoundAtStart.{sound_at_start}
 use Rattle.pgn_game.proofs.converter.Converter.new.Goals as goal
 
 pub returns-clause-stands : goal.returns-clause-stands
@@ -23,3 +25,14 @@ returns-clause-stands g c =
         just_finished = tt;
       };
     }
+
+pub new-requires-2 : goal.new-requires-2
+new-requires-2 g c = (search fits_reader, c.requires)
+
+pub invariant_of-result : goal.invariant_of-result
+invariant_of-result g c =
+    let is = c.new-2.ensures in
+    sound_at_start c.new.result c.new-2.result c.new.ensures.stands.count (ap (λ (r : ReaderState). r.earlier_plies) is) (ap (λ (r : ReaderState). r.text.plies) is)
+
+pub returns-clause-not_finished : goal.returns-clause-not_finished
+returns-clause-not_finished g c = refl

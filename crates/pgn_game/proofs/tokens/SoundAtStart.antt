@@ -1,0 +1,32 @@
+-- How many tokens come without another byte, and the counts before the first byte.
+use Rattle.std.proofs.Common.{◌≡◌, ℕ, ◌≤◌, false, None, arith}
+use Rattle.pgn_lexer.specs.declared.partial_token.Mode.{Mode}
+use Rattle.pgn_lexer.specs.declared.partial_token.Mode.TheVariants.{LineWord, Symbol, Glyph, Suffix, BraceWord, Line}
+use Rattle.pgn_lexer.specs.PartialToken.{pending_in}
+use Rattle.pgn_lexer.specs.Standing.{Standing, waiting}
+use Rattle.pgn_game.specs.ReaderState.{ReaderState}
+use Rattle.pgn_game.specs.ConverterCalls.{IsSound}
+
+few_waiting_in : (m : Mode) → pending_in m ≤ 2
+few_waiting_in Symbol = omega arith
+few_waiting_in (Glyph n) = omega arith
+few_waiting_in (Suffix run) = omega arith
+few_waiting_in BraceWord = omega arith
+few_waiting_in Line = omega arith
+few_waiting_in LineWord = omega arith
+few_waiting_in _ = omega arith
+
+pub few_waiting : (l : Standing) → waiting l ≤ 2
+few_waiting l = few_waiting_in l.held.mode
+
+pub sound_at_start : (l : Standing) (r : ReaderState) → l.count ≡ 0 → r.earlier_plies ≡ 0 → r.text.plies ≡ 0 → IsSound l r 0 false false None
+sound_at_start l r count earlier plies =
+    let few = few_waiting l in
+    record {
+      count = λ none. omega (arith, count);
+      few = λ none. omega (arith, few);
+      few_plies = λ none. omega (arith, few, earlier, plies);
+      fewer_plies = λ none is. omega (arith, few, earlier, plies);
+      between = λ is. absurd (cc);
+      no_fault = λ is. absurd (cc);
+    }
