@@ -51,15 +51,15 @@ fn first_piece(board: &Board, direction: Direction, target: Square) -> u64
 fn first_pieces(board: &Board, target: Square) -> u64
     ensures { Places result (walk.is_first board.now target) }
 {
-    let ways = DIRECTIONS;
-    first_piece(board, ways[0], target)
-        | first_piece(board, ways[1], target)
-        | first_piece(board, ways[2], target)
-        | first_piece(board, ways[3], target)
-        | first_piece(board, ways[4], target)
-        | first_piece(board, ways[5], target)
-        | first_piece(board, ways[6], target)
-        | first_piece(board, ways[7], target)
+    let directions = DIRECTIONS;
+    first_piece(board, directions[0], target)
+        | first_piece(board, directions[1], target)
+        | first_piece(board, directions[2], target)
+        | first_piece(board, directions[3], target)
+        | first_piece(board, directions[4], target)
+        | first_piece(board, directions[5], target)
+        | first_piece(board, directions[6], target)
+        | first_piece(board, directions[7], target)
 }
 
 // Whether a pawn of the colour goes from the first rank to the second one.

@@ -14,12 +14,12 @@ use Rattle.chess_rules.proofs.squares.AllSquares.{first_true, or_first, or_secon
 use Rattle.chess_rules.proofs.squares.TablesOfSquares.{first_of_pair, second_of_pair}
 use Rattle.chess_rules.proofs.squares.WordsToCells.{has_or, has_single, has_zero, same_or_apart}
 
--- the first n squares after s, on the way to t
+-- the first n squares of the walk from s to t
 abbrev steps_set : Square → Square → ℕ → ℕ
 steps_set s t zero = 0
 steps_set s t (suc n) = bit_or (steps_set s t n) (2 ^ cell_of (along s t (suc n)))
 
--- those before t, if the way leads there
+-- those before t, if the two are on a line
 abbrev pub walk_set : Square → Square → ℕ
 walk_set s t = if is_aligned s t then steps_set s t (distance s t - 1) else 0
 
