@@ -1,4 +1,4 @@
-use Rattle.std.proofs.Common.{◌≡◌, IsTrue, List, refl, sym, ap, subst, ◌∙◌, Ok, Err}
+use Rattle.std.proofs.Common.{◌≡◌, ℕ, IsTrue, List, None, refl, sym, ap, subst, ◌∙◌, Ok, Err, rules}
 use Rattle.std.proofs.KnownBytes.{Appends-nil}
 use Rattle.std.proofs.lemmas.Bool.{false≢true}
 use Rattle.std.proofs.lemmas.Result.{err_from_is_err_and}
@@ -6,9 +6,11 @@ use Rattle.pgn_layout.specs.declared.sink.WriteFault.{WriteFault}
 use Rattle.pgn_layout.specs.Device.{Device, WritesText, device}
 use Rattle.pgn_game.proofs.Words.{Stage, AfterTags, InMovetext, Pair, counts_as, known_result}
 use Rattle.pgn_game.specs.TagSection.{tag_section}
-use Rattle.pgn_game.specs.ReaderState.{ReaderState}
+use Rattle.pgn_game.specs.StoredPairs.{TagPairs}
+use Rattle.pgn_game.specs.ReaderState.{ReaderState, AreSound}
 use Rattle.pgn_game.specs.Judgement.{may_have_movetext}
 use Rattle.pgn_game.specs.PutResult.{BeginsText, section_due, section_due_of}
+use Rattle.pgn_game.proofs.ReaderFitsInMemory.{reader_alike}
 use Rattle.pgn_game.proofs.putting.ItemToReader.{begun_before}
 use Rattle.pgn_game.proofs.reader.Reader.begin_movetext.Goals as goal
 
@@ -17,6 +19,9 @@ after_tags : (stage : Stage) → IsTrue (may_have_movetext stage) → (stage ≡
 after_tags AfterTags may before = refl
 after_tags InMovetext may before = absurd (before refl)
 after_tags _ may before = absurd (cc)
+
+no_name : (most : ℕ) (stage : Stage) (tags : TagPairs) → stage ≡ AfterTags → AreSound most stage tags → tags.pending_name ≡ None
+no_name most stage tags at = subst (λ (s : Stage). AreSound most s tags) at
 
 -- The section is that of the reader, whose fields are `held`.
 module _ (old held : ReaderState) (pairs : List Pair) (d : Device) (is : held ≡ old) (at : old.stage ≡ AfterTags) (same : pairs ≡ held.tags.held)
@@ -54,6 +59,19 @@ module _ (old held : ReaderState) (pairs : List Pair) (d : Device) (is : held �
     probes = ap (λ (r : ReaderState). r.most_probes) is;
     counted = writes.counted;
   }
+
+pub is_in_movetext-requires : goal.is_in_movetext-requires
+is_in_movetext-requires g c = search reader_alike
+
+pub pairs-requires : goal.pairs-requires
+pairs-requires g c =
+    let at = after_tags c.args.self.now.stage c.requires.stage (λ e. false≢true (sym c.if-is_in_movetext.false ∙ c.is_in_movetext.ensures.1 e)) in
+    (search rules, no_name g.row.T c.self.inside.stage c.self.inside.tags (ap (λ (r : ReaderState). r.stage) c.self.view_is ∙ at) c.self.invariant.0)
+
+pub invariant_of-self : goal.invariant_of-self
+invariant_of-self g c =
+    let at = after_tags c.args.self.now.stage c.requires.stage (λ e. false≢true (sym c.if-is_in_movetext.false ∙ c.is_in_movetext.ensures.1 e)) in
+    (no_name g.row.T c.self.inside.stage c.self.inside.tags (ap (λ (r : ReaderState). r.stage) c.self.view_is ∙ at) c.self.invariant.0, c.self.invariant.1)
 
 pub returns-then-is_in_movetext : goal.returns-then-is_in_movetext
 returns-then-is_in_movetext g c =
