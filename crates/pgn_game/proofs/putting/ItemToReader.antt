@@ -252,9 +252,19 @@ fails_item old begun new e i f a b c n m k at leads begins next adds =
     ∙ gain_is old part (i ∷ []) begins.known at is)
     (front_after a b c _ _ begins.text (adds.adds (start_of part.pairs) part.items (begun_held old begun part is begins.begun)))))
 
--- what fits before the section is written fits behind it
-pub fits_begun : (levels : ℕ) (old begun : ReaderState) (e f : Entry) → begun ≡ record old { stage = InMovetext } → e ≡ f → EntryFits levels old.text e → EntryFits levels begun.text f
-fits_begun levels old begun e f is same fits = subst (λ (r : ReaderState). EntryFits levels r.text f) (sym is) (subst (EntryFits levels old.text) same fits)
+-- Behind the section the stage is that of movetext, and what fitted before it fits.
+module _ (old begun held : ReaderState) (d : Device) (same : held ≡ begun) (begins : BeginsText {A = Unit} {E = WriteFault} old begun (Ok tt) d) where
+  held_begun : held ≡ record old { stage = InMovetext }
+  held_begun = same ∙ begins.begun
+
+  pub stage_begun : held.stage ≡ InMovetext
+  stage_begun = ap (λ (r : ReaderState). r.stage) held_begun
+
+  pub plies_begun : held.text.plies ≡ old.text.plies
+  plies_begun = ap (λ (r : ReaderState). r.text.plies) held_begun
+
+  pub fits_begun : (levels : ℕ) (e f : Entry) → e ≡ f → EntryFits levels old.text e → EntryFits levels held.text f
+  fits_begun levels e f is fits = subst (λ (r : ReaderState). EntryFits levels r.text f) (sym held_begun) (subst (EntryFits levels old.text) is fits)
 
 -- What `put_entry` ensures, with these pairs tried before and after.
 abbrev pub EntryResult : ReaderState → Entry → ReaderState → Result Accepted Reason → Device → ℕ → ℕ → Type 0

@@ -16,7 +16,7 @@ use Rattle.pgn_game.proofs.ReaderFitsInMemory.{reader_alike}
 use Rattle.pgn_game.proofs.putting.WritesInTurn.{front_of_more, front_after}
 use Rattle.pgn_game.proofs.putting.ItemToMovetext.{no_move}
 use Rattle.pgn_game.proofs.putting.MarkerToReader.{puts_unbegun, ends_well, ends_ill}
-use Rattle.pgn_game.proofs.putting.ItemToReader.{begins_as, fits_begun, most_stays, puts_number, puts_item, puts_move, fails_item, fails_move}
+use Rattle.pgn_game.proofs.putting.ItemToReader.{begins_as, fits_begun, most_stays, plies_begun, stage_begun, puts_number, puts_item, puts_move, fails_item, fails_move}
 use Rattle.pgn_game.proofs.reader.Reader.put_entry.Goals as goal
 
 -- the tag section could not be written, so movetext had not begun
@@ -38,9 +38,9 @@ begin_movetext-requires g c = (search reader_alike, c.requires.fits.0)
 
 pub put_first_move-put-requires : goal.put_first_move-put-requires
 put_first_move-put-requires g c =
-    let begun = c.self.view_is ∙ c.in_ok-begin_movetext.ensures.begins.begun in
-    let legal = fits_begun g.row.L c.args.self.now _ _ _ begun c.in-Move.is c.requires.fits.1 in
-    (search rules, (legal, (omega (arith, c.requires.counted, ap (λ (r : ReaderState). r.text.plies) begun), omega (arith, c.requires.few))))
+    let begins = c.in_ok-begin_movetext.ensures.begins in
+    let legal = fits_begun c.args.self.now _ _ _ c.self.view_is begins g.row.L _ _ c.in-Move.is c.requires.fits.1 in
+    (search rules, (legal, (omega (arith, c.requires.counted, plies_begun c.args.self.now _ _ _ c.self.view_is begins), omega (arith, c.requires.few))))
 
 pub invariant_of-self : goal.invariant_of-self
 invariant_of-self g c = c.self.invariant
@@ -50,8 +50,7 @@ count_probes-requires g c = (search reader_alike, omega (arith, c.put_first_move
 
 pub put-requires : goal.put-requires
 put-requires g c =
-    let begun = c.self-in-Item.view_is ∙ c.in_ok-begin_movetext.ensures.begins.begun in
-    (search rules, fits_begun g.row.L c.args.self.now _ _ _ begun c.in-Item.is c.requires.fits.1)
+    (search rules, fits_begun c.args.self.now _ _ _ c.self-in-Item.view_is c.in_ok-begin_movetext.ensures.begins g.row.L _ _ c.in-Item.is c.requires.fits.1)
 
 pub invariant_of-self-in_err-put-in-Item : goal.invariant_of-self-in_err-put-in-Item
 invariant_of-self-in_err-put-in-Item g c = c.self-in-Item.invariant
@@ -70,8 +69,8 @@ invariant_of-self-in_err-end_game-in-Marker g c = c.self-in-Marker.invariant
 
 pub invariant_of-self-in-Marker : goal.invariant_of-self-in-Marker
 invariant_of-self-in-Marker g c =
-    let begun = c.self-in-Marker.view_is ∙ c.in_ok-begin_movetext.ensures.begins.begun in
-    (subst (λ (s : Stage). AreSound g.row.T s c.self-in-Marker.inside.tags) (ap (λ (r : ReaderState). r.stage) begun) c.self-in-Marker.invariant.0, c.self-in-Marker.invariant.1)
+    let at = stage_begun c.args.self.now _ _ _ c.self-in-Marker.view_is c.in_ok-begin_movetext.ensures.begins in
+    (subst (λ (s : Stage). AreSound g.row.T s c.self-in-Marker.inside.tags) at c.self-in-Marker.invariant.0, c.self-in-Marker.invariant.1)
 
 pub returns-in_err-begin_movetext : goal.returns-in_err-begin_movetext
 returns-in_err-begin_movetext g c =
