@@ -2,6 +2,7 @@ mod AllOfJoined
 mod EqualReadings
 mod InterruptedReadings
 mod ReaderFitsInMemory
+mod ReaderPartsFitInMemory
 mod ReasonToDevice
 mod Words
 mod exporting

@@ -1,4 +1,4 @@
-use Rattle.std.proofs.Common.{◌≡◌, ℕ, IsTrue, List, None, refl, sym, ap, subst, ◌∙◌, Ok, Err, rules}
+use Rattle.std.proofs.Common.{◌≡◌, ℕ, IsTrue, List, None, refl, sym, ap, subst, ◌∙◌, Ok, Err}
 use Rattle.std.proofs.KnownBytes.{Appends-nil}
 use Rattle.std.proofs.lemmas.Bool.{false≢true}
 use Rattle.std.proofs.lemmas.Result.{err_from_is_err_and}
@@ -11,6 +11,7 @@ use Rattle.pgn_game.specs.ReaderState.{ReaderState, AreSound}
 use Rattle.pgn_game.specs.Judgement.{may_have_movetext}
 use Rattle.pgn_game.specs.PutResult.{BeginsText, section_due, section_due_of}
 use Rattle.pgn_game.proofs.ReaderFitsInMemory.{reader_alike}
+use Rattle.pgn_game.proofs.ReaderPartsFitInMemory.{tags_fit}
 use Rattle.pgn_game.proofs.putting.ItemToReader.{begun_before}
 use Rattle.pgn_game.proofs.reader.Reader.begin_movetext.Goals as goal
 
@@ -66,7 +67,7 @@ is_in_movetext-requires g c = search reader_alike
 pub pairs-requires : goal.pairs-requires
 pairs-requires g c =
     let at = after_tags c.args.self.now.stage c.requires.stage (λ e. false≢true (sym c.if-is_in_movetext.false ∙ c.is_in_movetext.ensures.1 e)) in
-    (search rules, no_name g.row.T c.self.inside.stage c.self.inside.tags (ap (λ (r : ReaderState). r.stage) c.self.view_is ∙ at) c.self.invariant.0)
+    (search tags_fit, no_name g.row.T c.self.inside.stage c.self.inside.tags (ap (λ (r : ReaderState). r.stage) c.self.view_is ∙ at) c.self.invariant.0)
 
 pub invariant_of-self : goal.invariant_of-self
 invariant_of-self g c =

@@ -1,4 +1,4 @@
-use Rattle.std.proofs.Common.{◌≡◌, ◌∙◌, ◌≤◌, ℕ, Bool, max, true, false, ◌&&◌, ◌||◌, not, List, Bor, IsTrue, None, Some, refl, sym, ap, subst, arith, rules}
+use Rattle.std.proofs.Common.{◌≡◌, ◌∙◌, ◌≤◌, ℕ, Bool, max, true, false, ◌&&◌, ◌||◌, not, List, Bor, IsTrue, None, Some, refl, sym, ap, subst, arith}
 use Rattle.std.proofs.Math.Nat.{le-max_left, le-max_right}
 use Rattle.std.proofs.lemmas.Bool.{false≢true}
 use Rattle.chess_rules.specs.Legal.{is_legal}
@@ -17,6 +17,7 @@ use Rattle.pgn_game.specs.Tried.{Costs}
 use Rattle.pgn_game.specs.ReaderState.{ReaderState}
 use Rattle.pgn_game.specs.Judgement.{Finds, IsFoundLegal, OnlyProbesRise, Seeks, found, found_as, found_of, may_have_movetext}
 use Rattle.pgn_game.proofs.ReaderFitsInMemory.{reader_alike}
+use Rattle.pgn_game.proofs.ReaderPartsFitInMemory.{text_fits}
 use Rattle.pgn_game.proofs.judging.NumbersInMovetext.{most_with_none, no_probes_rise}
 use Rattle.pgn_game.proofs.reader.Reader.find.Goals as goal
 use Rattle.pgn_game.proofs.reader.Reader.find.Goals.{then-not-may_have_movetext-via-then-not-may_have_movetext, then-not-may_have_movetext-via-else-not-may_have_movetext+then-is_score_or_number}
@@ -84,7 +85,7 @@ pub is_score_or_number-requires : goal.is_score_or_number-requires
 is_score_or_number-requires g c = tt
 
 pub present-requires : goal.present-requires
-present-requires g c = search rules
+present-requires g c = search text_fits
 
 pub named_move-named-requires : goal.named_move-named-requires
 named_move-named-requires g c = c.requires.none

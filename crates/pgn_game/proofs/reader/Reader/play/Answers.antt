@@ -1,4 +1,4 @@
-use Rattle.std.proofs.Common.{◌≡◌, IsTrue, refl, sym, ap, subst, ◌∙◌, Err, arith, rules}
+use Rattle.std.proofs.Common.{◌≡◌, IsTrue, refl, sym, ap, subst, ◌∙◌, Err, arith}
 use Rattle.std.proofs.KnownBytes.{Appends-nil}
 use Rattle.std.proofs.lemmas.Result.{err_from_is_err_and}
 use Rattle.chess_rules.specs.Legal.{is_legal}
@@ -10,6 +10,7 @@ use Rattle.pgn_game.specs.Profile.{counts_as, known_result}
 use Rattle.pgn_game.specs.ReaderState.{ReaderState}
 use Rattle.pgn_game.specs.Judgement.{may_have_movetext}
 use Rattle.pgn_game.proofs.ReaderFitsInMemory.{reader_alike}
+use Rattle.pgn_game.proofs.ReaderPartsFitInMemory.{text_fits}
 use Rattle.pgn_game.proofs.putting.ItemToReader.{begins_as, begun_before, fails_move, puts_move}
 use Rattle.pgn_game.proofs.reader.Reader.play.Goals as goal
 
@@ -23,7 +24,7 @@ pub put_move-put-requires : goal.put_move-put-requires
 put_move-put-requires g c =
     let v = c.self.view_is in
     let legal = subst (λ (r : ReaderState). IsTrue (is_legal r.text.levels.present.present c.args.mv.now)) (sym v) c.requires.fits.1 in
-    (search rules, (legal, (omega (arith, c.requires.counted, ap (λ (r : ReaderState). r.text.plies) v), omega (arith, c.requires.few))))
+    (search text_fits, (legal, (omega (arith, c.requires.counted, ap (λ (r : ReaderState). r.text.plies) v), omega (arith, c.requires.few))))
 
 pub invariant_of-self : goal.invariant_of-self
 invariant_of-self g c = c.self.invariant

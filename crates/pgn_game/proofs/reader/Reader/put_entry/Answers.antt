@@ -1,4 +1,4 @@
-use Rattle.std.proofs.Common.{◌≡◌, ℕ, List, IsTrue, refl, sym, ap, subst, ◌∙◌, arith, rules, Err}
+use Rattle.std.proofs.Common.{◌≡◌, ℕ, List, IsTrue, refl, sym, ap, subst, ◌∙◌, arith, Err}
 use Rattle.std.proofs.lemmas.Result.{err_from_is_err_and}
 use Rattle.std.specs.Io.KnownBytes.{Appends}
 use Rattle.pgn_layout.specs.declared.sink.WriteFault.{WriteFault}
@@ -13,6 +13,7 @@ use Rattle.pgn_game.specs.PutResult.{BeginsText, TriesJudged, in_section, sectio
 use Rattle.pgn_game.proofs.Words.{Stage, AfterTags, InMovetext, known_result}
 use Rattle.pgn_game.specs.declared.judged.Entry.TheVariants.{Move as Play, Item as PutItem}
 use Rattle.pgn_game.proofs.ReaderFitsInMemory.{reader_alike}
+use Rattle.pgn_game.proofs.ReaderPartsFitInMemory.{text_fits}
 use Rattle.pgn_game.proofs.putting.WritesInTurn.{front_of_more, front_after}
 use Rattle.pgn_game.proofs.putting.ItemToMovetext.{no_move}
 use Rattle.pgn_game.proofs.putting.MarkerToReader.{puts_unbegun, ends_well, ends_ill}
@@ -40,7 +41,7 @@ pub put_first_move-put-requires : goal.put_first_move-put-requires
 put_first_move-put-requires g c =
     let begins = c.in_ok-begin_movetext.ensures.begins in
     let legal = fits_begun c.args.self.now _ _ _ c.self.view_is begins g.row.L _ _ c.in-Move.is c.requires.fits.1 in
-    (search rules, (legal, (omega (arith, c.requires.counted, plies_begun c.args.self.now _ _ _ c.self.view_is begins), omega (arith, c.requires.few))))
+    (search text_fits, (legal, (omega (arith, c.requires.counted, plies_begun c.args.self.now _ _ _ c.self.view_is begins), omega (arith, c.requires.few))))
 
 pub invariant_of-self : goal.invariant_of-self
 invariant_of-self g c = c.self.invariant
@@ -50,7 +51,7 @@ count_probes-requires g c = (search reader_alike, omega (arith, c.put_first_move
 
 pub put-requires : goal.put-requires
 put-requires g c =
-    (search rules, fits_begun c.args.self.now _ _ _ c.self-in-Item.view_is c.in_ok-begin_movetext.ensures.begins g.row.L _ _ c.in-Item.is c.requires.fits.1)
+    (search text_fits, fits_begun c.args.self.now _ _ _ c.self-in-Item.view_is c.in_ok-begin_movetext.ensures.begins g.row.L _ _ c.in-Item.is c.requires.fits.1)
 
 pub invariant_of-self-in_err-put-in-Item : goal.invariant_of-self-in_err-put-in-Item
 invariant_of-self-in_err-put-in-Item g c = c.self-in-Item.invariant
