@@ -126,17 +126,6 @@ pub record IsAfterItem (begun new : ReaderState) : Type 0 where
   pub earlier : new.earlier_plies ≡ begun.earlier_plies
   pub probes : begun.most_probes ≤ new.most_probes
 
--- the reader after a move, once its probes are counted
-pub probes_counted : (begun between new : ReaderState) (probes : ℕ) → new ≡ record between { most_probes = max between.most_probes probes }
-    → IsAfterItem begun between → IsAfterItem begun new
-probes_counted begun between new probes is next = record {
-  profile = ap (λ (r : ReaderState). r.profile) is ∙ next.profile;
-  stage = ap (λ (r : ReaderState). r.stage) is ∙ next.stage;
-  tags = ap (λ (r : ReaderState). r.tags) is ∙ next.tags;
-  earlier = ap (λ (r : ReaderState). r.earlier_plies) is ∙ next.earlier;
-  probes = omega (arith, ap (λ (r : ReaderState). r.most_probes) is, next.probes, le-max_left between.most_probes probes);
-}
-
 -- the section was written, and then items or none
 goes_with : (old begun new : ReaderState) (part : Part) (more : List Item) (d : Device) → IsTrue (may_have_movetext old.stage) → IsOpen old part
     → begun ≡ record old { stage = InMovetext } → IsAfterItem begun new → HoldsItems old.profile.mode (start_of part.pairs) (part.items ++ more) new.text new.line
@@ -278,6 +267,7 @@ EntryResult old e new r d before after = record {
 pub most_stays : (old new n : ℕ) → new ≡ old → n ≤ old → new ≡ max old n
 most_stays old new n same few = omega (arith, same, few)
 
+-- the reader after a move, once its probes are counted
 after_move : (begun new : ReaderState) (text : Movetext) (line : List ℕ) (n : ℕ) → new ≡ record begun { text = text; line = line; most_probes = max begun.most_probes n } → IsAfterItem begun new
 after_move begun new text line n is = record {
   profile = ap (λ (r : ReaderState). r.profile) is;

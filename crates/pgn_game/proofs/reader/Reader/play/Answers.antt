@@ -3,9 +3,6 @@ use Rattle.std.proofs.KnownBytes.{Appends-nil}
 use Rattle.std.proofs.lemmas.Result.{err_from_is_err_and}
 use Rattle.chess_rules.specs.Legal.{is_legal}
 use Rattle.pgn_layout.specs.Device.{device}
-use Rattle.pgn_game.specs.declared.marker.Marker.{Marker}
-use Rattle.pgn_game.specs.declared.marker.Marker.TheVariants as markers
-use Rattle.pgn_game.specs.Markers.{marker_text}
 use Rattle.pgn_game.specs.Profile.{counts_as, known_result}
 use Rattle.pgn_game.specs.ReaderState.{ReaderState}
 use Rattle.pgn_game.specs.Judgement.{may_have_movetext}
@@ -13,12 +10,6 @@ use Rattle.pgn_game.proofs.ReaderFitsInMemory.{reader_alike}
 use Rattle.pgn_game.proofs.ReaderPartsFitInMemory.{text_fits}
 use Rattle.pgn_game.proofs.putting.ItemToReader.{begins_as, begun_before, fails_move, puts_move}
 use Rattle.pgn_game.proofs.reader.Reader.play.Goals as goal
-
-known_marker : (m : Marker) → counts_as (marker_text m) ≡ counts_as (known_result (counts_as (marker_text m)))
-known_marker markers.WhiteWins = refl
-known_marker markers.BlackWins = refl
-known_marker markers.Draw = refl
-known_marker markers.Unknown = refl
 
 pub put_move-put-requires : goal.put_move-put-requires
 put_move-put-requires g c =
@@ -36,7 +27,7 @@ pub returns-in_err-put : goal.returns-in_err-put
 returns-in_err-put g c =
     let old = c.args.self.now in
     let p = err_from_is_err_and c.from_residual.result c.from_residual.ensures.1 in
-    let known = subst (λ (r : ReaderState). r.profile.missing_result ≡ counts_as (known_result r.profile.missing_result)) c.self.view_is (known_marker c.self.inside.missing_result) in
+    let known = subst (λ (r : ReaderState). r.profile.missing_result ≡ counts_as (known_result r.profile.missing_result)) c.self.view_is refl in
     let d = device g.W.Sink.taken g.W.Sink.failures c.args.out.now c.args.out.now in
     let begun = begins_as old old _ d c.self.view_is (begun_before old d c.requires.stage known (Appends-nil _) refl) in
     let put = c.in_err-put.ensures in
@@ -46,7 +37,7 @@ returns-in_err-put g c =
 pub returns : goal.returns
 returns g c =
     let old = c.args.self.now in
-    let known = subst (λ (r : ReaderState). r.profile.missing_result ≡ counts_as (known_result r.profile.missing_result)) c.self.view_is (known_marker c.self.inside.missing_result) in
+    let known = subst (λ (r : ReaderState). r.profile.missing_result ≡ counts_as (known_result r.profile.missing_result)) c.self.view_is refl in
     let d = device g.W.Sink.taken g.W.Sink.failures c.args.out.now c.args.out.now in
     let begun = begins_as old old _ d c.self.view_is (begun_before old d c.requires.stage known (Appends-nil _) refl) in
     let put = c.in_ok-put.ensures in
