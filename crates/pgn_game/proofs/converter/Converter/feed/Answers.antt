@@ -1,4 +1,4 @@
-use Rattle.std.proofs.Common.{◌≡◌, ℕ, ◌≤◌, ◌-◌, ◌^◌, None, length, arith, sym, ap, ◌∙◌, le_refl, length-take}
+use Rattle.std.proofs.Common.{◌≡◌, ℕ, ◌+◌, ◌≤◌, ◌-◌, ◌^◌, List, None, length, take, arith, sym, ap, ◌∙◌, le_refl, length-take}
 use Rattle.std.proofs.lemmas.Option.{none-some}
 use Rattle.std.proofs.lemmas.Result.{err_from_is_err_and}
 use Rattle.pgn_game.specs.ConverterCalls.{Converter, at_token}
@@ -6,6 +6,16 @@ use Rattle.pgn_game.proofs.ReaderFitsInMemory.{fits_alike}
 use Rattle.pgn_game.proofs.tokens.StepsAtEnd.{not_just_finished, sound_behind_fault}
 use Rattle.pgn_game.proofs.tokens.StepsInPiece.{follows_front, front_all, front_game, front_fault, front_too_long, limit_left, front_used}
 use Rattle.pgn_game.proofs.converter.Converter.feed.Goals as goal
+
+-- counts of bytes in the front of a piece
+in_piece : (n k : ℕ) (piece : List ℕ) → n ≤ length (take k piece) → n ≤ length piece
+in_piece n k piece within = omega (arith, within, length-take k piece)
+
+whole_count : (new old k : ℕ) (piece : List ℕ) → new ≡ old + length (take k piece) → length piece ≤ k → new ≡ old + length piece
+whole_count new old k piece count whole = omega (arith, count, whole, length-take k piece)
+
+stays_short : (new old used now held : ℕ) → new ≡ old + used → used ≤ 2 ^ 62 - now → now ≡ held → held ≤ 2 ^ 62 → held ≡ old → new ≤ 2 ^ 62
+stays_short new old used now held count room is within view = omega (arith, count, room, is, within, view)
 
 pub returns-in_err-used : goal.returns-in_err-used
 returns-in_err-used g c =
@@ -37,23 +47,18 @@ returns-in-Game g c =
     let feeds = rw (c.in-Game.is, c.within_limit-front.ensures) at fed.feeds in
     let within = rw (c.in-Game.is, c.within_limit-front.ensures) at fed.used in
     let count = rw c.in-Game.is at fed.count in
-    let room = front_used piece _ _ within in
+    let used = c.in-Game.used in
+    let room = front_used piece (2 ^ 62 - c.count.result) used within in
     let none : c.args.self.now.fault ≡ None =
     ap (λ (s : Converter). s.fault) (sym c.self.view_is) ∙ c.in_default.is in
     record {
-      used = omega (arith, within, length-take (2 ^ 62 - c.count.result) piece);
+      used = in_piece used (2 ^ 62 - c.count.result) piece within;
       feeds = λ p u b given stands follows.
           front_game p u b given piece _ _ _ c.feed_front.new.self _ room
           (feeds p u b given stands (follows_front b piece _ follows));
       count = count;
-      short = omega (
-        arith,
-        count,
-        room,
-        c.count.ensures,
-        c.self.invariant.count c.in_default.is,
-        ap (λ (s : Converter). s.lexer.count) c.self.view_is,
-      );
+      short = stays_short c.feed_front.new.self.lexer.count c.args.self.now.lexer.count used c.count.result c.self.inside.lexer.count count room c.count.ensures
+          (c.self.invariant.count c.in_default.is) (ap (λ (s : Converter). s.lexer.count) c.self.view_is);
       advances = rw c.in-Game.is at fed.advances;
       not_finished = c.feed_front.ensures.not_finished;
       fault = fed.fault;
@@ -107,10 +112,10 @@ returns-else-front-piece g c =
     let piece = c.args.piece.now in
     let fed = c.in_ok-used.ensures in
     let feeds = rw (c.in-All.is, c.within_limit-front.ensures) at fed.feeds in
-    let all = rw c.within_limit-front.ensures at c.if-front-piece.false in
-    let whole : length piece ≤ 2 ^ 62 - c.count.result =
-    front_used piece (2 ^ 62 - c.count.result) (length piece) (omega (arith, all)) in
+    let more = rw c.within_limit-front.ensures at c.if-front-piece.false in
+    let whole = front_used piece (2 ^ 62 - c.count.result) (length piece) more in
     let count = rw (c.in-All.is, c.within_limit-front.ensures) at fed.count in
+    let all = whole_count c.feed_front.new.self.lexer.count c.args.self.now.lexer.count (2 ^ 62 - c.count.result) piece count whole in
     let none : c.args.self.now.fault ≡ None =
     ap (λ (s : Converter). s.fault) (sym c.self.view_is) ∙ c.in_default.is in
     record {
@@ -118,16 +123,9 @@ returns-else-front-piece g c =
       feeds = λ p u b given stands follows.
           front_all p u b given piece _ _ _ c.feed_front.new.self whole
           (feeds p u b given stands (follows_front b piece _ follows));
-      count = omega (arith, count, whole, length-take (2 ^ 62 - c.count.result) piece);
-      short = omega (
-        arith,
-        count,
-        whole,
-        length-take (2 ^ 62 - c.count.result) piece,
-        c.count.ensures,
-        c.self.invariant.count c.in_default.is,
-        ap (λ (s : Converter). s.lexer.count) c.self.view_is,
-      );
+      count = all;
+      short = stays_short c.feed_front.new.self.lexer.count c.args.self.now.lexer.count (length piece) c.count.result c.self.inside.lexer.count all whole c.count.ensures
+          (c.self.invariant.count c.in_default.is) (ap (λ (s : Converter). s.lexer.count) c.self.view_is);
       advances = tt;
       not_finished = c.feed_front.ensures.not_finished;
       fault = fed.fault;
