@@ -1,4 +1,4 @@
-use Rattle.std.proofs.Common.{rules, ◌≡◌, ℕ, ◌+◌, ◌-◌, ◌^◌, ◌<◌, ◌≤◌, List, length, drop, inl, refl, sym, ap, subst, ◌∙◌, arith, length-take, Ok}
+use Rattle.std.proofs.Common.{rules, ◌≡◌, ℕ, ◌+◌, ◌-◌, ◌^◌, ◌<◌, ◌≤◌, List, length, take, drop, inl, refl, sym, ap, subst, ◌∙◌, arith, length-take, Ok}
 use Rattle.std.proofs.KnownBytes.{Appends-nil}
 use Rattle.pgn_lexer.specs.Scanned.{kind_of}
 use Rattle.pgn_lexer.specs.Tokens.{Token}
@@ -72,25 +72,29 @@ next-scan-requires g c =
     let going = subst IsGoing (sym c.self.view_is) c.requires.going in
     rw c.as_slice-buffer.ensures going.room
 
+-- the bytes used are within those not used yet
+up_to_end : (start end used : ℕ) (xs : List ℕ) → used ≤ length (take (end - start) (drop start xs)) → start ≤ end → start + used ≤ end
+up_to_end start end used xs within order = omega (arith, within, length-take (end - start) (drop start xs), order)
+
 pub overflow_add-self : goal.overflow_add-self
 overflow_add-self g c =
     let within = rw c.as_slice-buffer.ensures at c.next-scan.ensures.used in
-    omega (arith, within, length-take (c.self.inside.end - c.self.inside.start) (drop c.self.inside.start c.self.inside.buffer), c.self.invariant.0, c.self.invariant.1)
+    omega (arith, up_to_end c.self.inside.start c.self.inside.end c.next-scan.result.used c.self.inside.buffer within c.self.invariant.0, c.self.invariant.1)
 
 pub invariant_of-self : goal.invariant_of-self
 invariant_of-self g c =
     let within = rw c.as_slice-buffer.ensures at c.next-scan.ensures.used in
-    (omega (arith, within, length-take (c.self.inside.end - c.self.inside.start) (drop c.self.inside.start c.self.inside.buffer), c.self.invariant.0), c.self.invariant.1, c.self.told)
+    (up_to_end c.self.inside.start c.self.inside.end c.next-scan.result.used c.self.inside.buffer within c.self.invariant.0, c.self.invariant.1, c.self.told)
 
 pub invariant_of-self-in-Token : goal.invariant_of-self-in-Token
 invariant_of-self-in-Token g c =
     let within = rw c.as_slice-buffer.ensures at c.next-scan.ensures.used in
-    (omega (arith, within, length-take (c.self.inside.end - c.self.inside.start) (drop c.self.inside.start c.self.inside.buffer), c.self.invariant.0), c.self.invariant.1, c.self.told)
+    (up_to_end c.self.inside.start c.self.inside.end c.next-scan.result.used c.self.inside.buffer within c.self.invariant.0, c.self.invariant.1, c.self.told)
 
 pub invariant_of-self-in-Fault : goal.invariant_of-self-in-Fault
 invariant_of-self-in-Fault g c =
     let within = rw c.as_slice-buffer.ensures at c.next-scan.ensures.used in
-    (omega (arith, within, length-take (c.self.inside.end - c.self.inside.start) (drop c.self.inside.start c.self.inside.buffer), c.self.invariant.0), c.self.invariant.1, c.self.told)
+    (up_to_end c.self.inside.start c.self.inside.end c.next-scan.result.used c.self.inside.buffer within c.self.invariant.0, c.self.invariant.1, c.self.told)
 
 fits_memory : 4096 < 2 ^ 63
 fits_memory = omega arith
@@ -109,9 +113,6 @@ in_slice n xs ys is full within = omega (arith, ap (length {A = ℕ}) is, full, 
 
 pub slice_bounds-next-end : goal.slice_bounds-next-end
 slice_bounds-next-end g c = in_slice c.self.inside.end c.self.inside.buffer c.as_slice-buffer.result.now c.as_slice-buffer.ensures c.self.told c.self.invariant.1
-
-pub part_none-self : goal.part_none-self
-part_none-self g c = (refl, refl)
 
 pub returns-in-NeedMore-clause-counted : goal.returns-in-NeedMore-clause-counted
 returns-in-NeedMore-clause-counted g c = refl

@@ -1,4 +1,4 @@
-use Rattle.std.proofs.Common.{rules, arith, refl, sym, ap, subst, ◌∙◌, Ok, None, Some}
+use Rattle.std.proofs.Common.{rules, arith, le_refl, le_trans, refl, sym, ap, subst, ◌∙◌, Ok, None, Some}
 use Rattle.std.proofs.lemmas.Option.{none-some}
 use Rattle.pgn_game.specs.ConverterCalls.{Converter, Stands}
 use Rattle.pgn_game.proofs.ReaderFitsInMemory.{fits_reader}
@@ -34,7 +34,7 @@ loop-finished_game-preserved-in-Ok-Some-More g c =
       fault = rw is at c.step_at_end.ensures.fault;
       none_just_finished = c.step_at_end.ensures.none_just_finished;
       not_finished = rw is at c.step_at_end.ensures.finished;
-      probes = omega (arith, c.step_at_end.ensures.probes, c.loop-finished_game.invariant.probes);
+      probes = le_trans c.loop-finished_game.invariant.probes c.step_at_end.ensures.probes;
       counted = counted ∙ c.loop-finished_game.invariant.counted;
       closes = λ p u b given stands.
           let so = c.loop-finished_game.invariant.closes p u b given stands in
@@ -53,7 +53,7 @@ loop-finished_game-preserved g c =
       fault = rw is at c.step_at_end.ensures.fault;
       none_just_finished = c.step_at_end.ensures.none_just_finished;
       not_finished = rw is at c.step_at_end.ensures.finished;
-      probes = omega (arith, c.step_at_end.ensures.probes, c.loop-finished_game.invariant.probes);
+      probes = le_trans c.loop-finished_game.invariant.probes c.step_at_end.ensures.probes;
       counted = counted ∙ c.loop-finished_game.invariant.counted;
       closes = λ p u b given stands.
           let so = c.loop-finished_game.invariant.closes p u b given stands in
@@ -93,7 +93,7 @@ returns-in-Ok-None-clause-probes g c =
     omega (arith, ap (λ (s : Converter). s.reading.most_probes) c.self-in-loop-finished_game.view_is, c.step_at_end.ensures.probes, c.loop-finished_game.invariant.probes)
 
 pub returns-in-Err-clause-probes : goal.returns-in-Err-clause-probes
-returns-in-Err-clause-probes g c = omega (arith, c.step_at_end.ensures.probes, c.loop-finished_game.invariant.probes)
+returns-in-Err-clause-probes g c = le_trans c.loop-finished_game.invariant.probes c.step_at_end.ensures.probes
 
 pub invariant_of-self : goal.invariant_of-self
 invariant_of-self g c =
@@ -137,4 +137,4 @@ pub returns-in-Some-clause-counted : goal.returns-in-Some-clause-counted
 returns-in-Some-clause-counted g c = λ none. absurd (none-some c.in-Some.fault (sym none ∙ ap (λ (s : Converter). s.fault) (sym c.self.view_is) ∙ c.in-Some.is))
 
 pub returns-in-Some-clause-probes : goal.returns-in-Some-clause-probes
-returns-in-Some-clause-probes g c = omega arith
+returns-in-Some-clause-probes g c = le_refl _
