@@ -1,5 +1,5 @@
 -- How many tokens come without another byte, and the counts before the first byte.
-use Rattle.std.proofs.Common.{◌≡◌, ℕ, ◌≤◌, false, None, arith}
+use Rattle.std.proofs.Common.{◌≡◌, ◌≤◌, false, None, arith}
 use Rattle.pgn_lexer.specs.declared.partial_token.Mode.{Mode}
 use Rattle.pgn_lexer.specs.declared.partial_token.Mode.TheVariants.{LineWord, Symbol, Glyph, Suffix, BraceWord, Line}
 use Rattle.pgn_lexer.specs.PartialToken.{pending_in}

@@ -139,3 +139,12 @@ module _ (told : Option CodeMark) (old new : Pass) (going : IsGoing old) where
 
 pub keeps_by : (told : Option CodeMark) (a b new : Pass) (r : Result Taken Fault) → a ≡ b → Keeps told a new r → Keeps told b new r
 keeps_by told a b new r is = subst (λ s. Keeps told s new r) is
+
+-- the counts fit, with one more
+pub small_counts : (s : Pass) → IsGoing s → (s.reading.earlier_plies + s.reading.text.plies < 2 ^ 64 - 1) × (s.games < 2 ^ 64 - 1)
+small_counts s going =
+    let so = going.sound in
+    let count = so.count refl in
+    let plies = so.fewer_plies refl refl in
+    let games = so.few refl in
+    (omega (arith, count, plies), omega (arith, count, games))

@@ -1,6 +1,6 @@
 -- What a token that the reader took leaves for the next one: while a mark is told, a missing Result
 -- counts as its marker, and the counts grow by one at most.
-use Rattle.std.proofs.Common.{◌≡◌, ℕ, ◌+◌, ◌≤◌, false, List, ◌==◌, bytes_eq, Option, None, Some, Err, refl, ap, subst, ◌∙◌, arith}
+use Rattle.std.proofs.Common.{◌≡◌, ℕ, ◌+◌, ◌≤◌, false, ◌==◌, bytes_eq, Option, None, Some, Err, refl, ap, subst, ◌∙◌}
 use Rattle.std.proofs.lemmas.Bool.{and_parts, not-false}
 use Rattle.std.proofs.lemmas.Slice.Eq.{bytes_eq-Decides}
 use Rattle.pgn_layout.specs.Device.{Device}

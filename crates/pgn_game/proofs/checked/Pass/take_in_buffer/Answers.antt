@@ -5,7 +5,7 @@ use Rattle.pgn_lexer.specs.Tokens.{Token}
 use Rattle.pgn_game.specs.declared.checked.Taken.TheVariants.{More}
 use Rattle.pgn_game.specs.Pass.{HasGiven, IsGoing, IsTold, Pass}
 use Rattle.pgn_game.proofs.tokens.AcceptedToConverter.{follows_own}
-use Rattle.pgn_game.proofs.twice.CountsStaySmall.{games_of, going_on, keeps_by, keeps_in_buffer}
+use Rattle.pgn_game.proofs.twice.CountsStaySmall.{games_of, going_on, keeps_by, keeps_in_buffer, small_counts}
 use Rattle.pgn_game.proofs.twice.TokensOfReading.{fails_in_buffer, in_buffer_before, more_in_buffer, none_of, rest_length, rest_of, token_in_buffer}
 use Rattle.pgn_game.proofs.ReaderFitsInMemory.{pass_fits_reader}
 use Rattle.pgn_game.proofs.checked.Pass.take_in_buffer.Goals as goal
@@ -65,7 +65,10 @@ returns-in-Fault-clause-takes g c q left_old left_now given takes has =
     (carries here.bytes _ given (in_buffer_before q left_old left_now c.args.told given _ c.next-scan.follows.lender-at-none takes here not_ended c.next-scan.result.used) (follows_own _)))
 
 pub take_token-requires : goal.take_token-requires
-take_token-requires g c = (search pass_fits_reader, (search rules, (search rules, search rules)))
+take_token-requires g c =
+    let going = subst IsGoing (sym c.self.view_is) c.requires.going in
+    let told = subst (λ (x : Pass). IsTold c.args.told x.reading) (sym c.self.view_is) c.requires.told in
+    (search pass_fits_reader, (small_counts _ going, (search rules, told)))
 
 pub next-scan-requires : goal.next-scan-requires
 next-scan-requires g c =
