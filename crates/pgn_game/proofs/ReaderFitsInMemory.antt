@@ -11,10 +11,10 @@ le_up : (a n : ℕ) → n ≤ up a n
 le_up a n = search rules
 
 -- the parts of a size that fits do
-first : (a n k m : ℕ) → up a (n + k) < m → n < m
+pub first : (a n k m : ℕ) → up a (n + k) < m → n < m
 first a n k m fits = omega (arith, fits, le_up a (n + k))
 
-second : (a n k m : ℕ) → up a (k + n) < m → n < m
+pub second : (a n k m : ℕ) → up a (k + n) < m → n < m
 second a n k m fits = omega (arith, fits, le_up a (k + n))
 
 pub fits_reader : (T L : RattleType) → FitsInMemory (the_row T L) → FitsInMemory (reader_row T L)
