@@ -3,7 +3,7 @@ pub mod AcceptedToTaken
 pub mod BytesOfReading
 pub mod CountsStaySmall
 pub mod FailuresOfSteps
-pub mod MarkStaysTold
+pub mod MarkAfterToken
 pub mod MarkerCounts
 pub mod MarksInTurn
 pub mod ReadingsToConversion

@@ -8,7 +8,7 @@ use Rattle.pgn_game.specs.Pass.{IsTold, LeavesReader, games_with, marks_differ}
 use Rattle.pgn_game.proofs.pairs.ValuesByName.{no_value}
 use Rattle.pgn_game.proofs.tokens.StepsAtEnd.{marker_or_end}
 use Rattle.pgn_game.proofs.twice.AcceptedToTaken.{agrees_set, counting_new, fails, fails_at_end, fails_marks, taken_end, taken_game, taken_more, with_marker}
-use Rattle.pgn_game.proofs.twice.MarkStaysTold.{counts_taking, leaves, stays_told}
+use Rattle.pgn_game.proofs.twice.MarkAfterToken.{counts_taking, leaves, stays_told}
 use Rattle.pgn_game.proofs.ReaderFitsInMemory.{reader_alike}
 use Rattle.pgn_game.proofs.checked.take_token.Goals as goal
 use Rattle.pgn_game.proofs.checked.take_token.Given.{Over}

@@ -1,5 +1,5 @@
--- What a token that the reader took leaves for the next one: while a mark is told, a missing Result
--- counts as its marker, and the counts grow by one at most.
+-- What a token that the reader took leaves for the next one. If a mark was given, a missing Result
+-- still counts as its marker, and the counts grow by one at most.
 use Rattle.std.proofs.Common.{◌≡◌, ℕ, ◌+◌, ◌≤◌, false, ◌==◌, bytes_eq, Option, None, Some, Err, refl, ap, subst, ◌∙◌}
 use Rattle.std.proofs.lemmas.Bool.{and_parts, not-false}
 use Rattle.std.proofs.lemmas.Slice.Eq.{bytes_eq-Decides}
