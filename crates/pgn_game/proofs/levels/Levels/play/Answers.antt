@@ -1,4 +1,4 @@
-use Rattle.std.proofs.Common.{◌≡◌, ◌-◌, List, length, set, get_or, ap, ◌∙◌, Some}
+use Rattle.std.proofs.Common.{◌≡◌, ◌-◌, List, length, set, get_or, ap, ◌∙◌, Some, arith}
 use Rattle.std.proofs.lemmas.List.{length-set}
 use Rattle.chess_rules.specs.declared.position.Parts.{Parts}
 use Rattle.pgn_game.specs.declared.levels.Level.{Level as CodeLevel}
@@ -20,3 +20,9 @@ returns g c =
     ∙ ap (λ (xs : List CodeLevel). code_levels (set xs (n - 1) l)) same
     ∙ last-set items c.args.self.now n l c.self.view_is c.self.invariant.some c.len-last.ensures.value
     ∙ ap (λ (p : Parts). let ls : StoredLevels = record { present = record { present = c.args.next; before = Some p }; around = c.args.self.now.around } in ls) present
+
+pub overflow_sub-last : goal.overflow_sub-last
+overflow_sub-last g c = omega (arith, c.len-last.ensures.value, c.self.invariant.some)
+
+pub bounds-deref_mut-last : goal.bounds-deref_mut-last
+bounds-deref_mut-last g c = rw c.deref_mut.ensures.value (omega (arith, c.len-last.ensures.value, c.self.invariant.some))
