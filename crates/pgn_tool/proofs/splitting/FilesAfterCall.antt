@@ -12,7 +12,7 @@ use Rattle.pgn_tool.specs.declared.files.CreateFault.TheVariants as creating
 use Rattle.pgn_tool.specs.declared.split.Unsplit.{Unsplit}
 use Rattle.pgn_tool.specs.declared.split.Unsplit.TheVariants as unsplit
 use Rattle.pgn_tool.specs.Files.{FileStep, added, closed, closing_steps, failures_in, is_text, made, number_after, opening_steps, refused, steps, whole_files, without_memory, open_file}
-use Rattle.pgn_tool.specs.SplitFiles.{FilesAfter, FilesSoFar, FilesStop, IsOwn, IsWell, LastFile, SplitFiles, StopsBy, TurnResult, by_input, by_memory, by_refusal, by_write, settled}
+use Rattle.pgn_tool.specs.SplitFiles.{CountsSource, CountsSplit, FilesAfter, FilesSoFar, FilesStop, IsOwn, IsWell, LastFile, SplitFiles, StopsBy, TurnResult, by_input, by_memory, by_refusal, by_write, settled}
 use Rattle.pgn_tool.specs.SplitFiles as split_files
 
 -- ---- logs
@@ -72,6 +72,40 @@ not_both r x w ok err = cc
 pub same_error : {B : Type 0} → (r : Result B Unsplit) (v w : Unsplit) → r ≡ Err v → r ≡ Err w → v ≡ w
 same_error r v w one other = cc
 
+pub turned_well : {A : Type 0} → (taken : A → Option (List ℕ)) (failures : A → ℕ) (number : ℕ) (log after : Option (List FileStep)) (file now : Option A)
+    (failed : ℕ) (refusal : Option CreateFault) → TurnResult taken failures number log file after now refusal failed → failed ≡ 0 → IsWell taken failures after now
+turned_well taken failures number log after file now failed refusal turned zero =
+    record { clean = sym (turned.clean (unrefused refusal failed turned.risen zero)) ∙ zero; begun = turned.begun zero }
+
+-- the converter blames no source
+never_read : (reason : Reason) (failed : ℕ) → calls.CountsReason reason 0 failed → CountsSource reason 0 0
+never_read ReadFault failed counts = absurd counts
+never_read _ failed counts = refl
+
+pub fed_counts : {A B : Type 0} → (taken : A → Option (List ℕ)) (log after : Option (List FileStep)) (file now : Option A) (failed : ℕ)
+    (refusal : Option CreateFault) (answer : Result B Fault) (result : Result B Unsplit) (why : Unsplit)
+    → calls.CountsFault answer (open_file taken log file after now failed) → result ≡ settled refusal answer → result ≡ Err why
+    → CountsSplit {A = Unit} (Err why) 0 0
+fed_counts taken log after file now failed None (Ok x) result why counts settles is = absurd (not_both result x why settles is)
+fed_counts taken log after file now failed (Some creating.Refused) (Ok x) result why counts settles is = absurd (not_both result x why settles is)
+fed_counts taken log after file now failed (Some creating.NoMemory) (Ok x) result why counts settles is = absurd (not_both result x why settles is)
+fed_counts taken log after file now failed None (Err f) result why counts settles is =
+    subst (λ w. CountsSplit {A = Unit} (Err w) 0 0) (same_error result _ why settles is) (never_read f.reason failed counts)
+fed_counts taken log after file now failed (Some creating.Refused) (Err f) result why counts settles is =
+    subst (λ w. CountsSplit {A = Unit} (Err w) 0 0) (same_error result _ why settles is) (never_read f.reason failed counts)
+fed_counts taken log after file now failed (Some creating.NoMemory) (Err f) result why counts settles is =
+    subst (λ w. CountsSplit {A = Unit} (Err w) 0 0) (same_error result _ why settles is) refl
+
+-- a source that is not to blame, and did not fail
+unblamed : (reason : Reason) (old new : ℕ) → new ≡ old → CountsSource reason 0 0 → CountsSource reason old new
+unblamed ReadFault old new same counts = absurd (omega (arith, counts))
+unblamed _ old new same counts = same
+
+pub counts_unblamed : (r : Result Unit Unsplit) (old new : ℕ) → new ≡ old → CountsSplit r 0 0 → CountsSplit r old new
+counts_unblamed (Ok done) old new same counts = same
+counts_unblamed (Err unsplit.NoMemory) old new same counts = same
+counts_unblamed (Err (unsplit.Refused f)) old new same counts = unblamed f.reason old new same counts
+
 module _ {A : Type 0} (taken : A → Option (List ℕ)) (failures : A → ℕ) (before log after : Option (List FileStep)) (file now : Option A)
     (count failed : ℕ) (so : FilesSoFar before log file count) where
   pub fed_on : (refusal : Option CreateFault) → TurnResult taken failures (one_more count) log file after now refusal failed → failed ≡ 0
@@ -85,7 +119,7 @@ module _ {A : Type 0} (taken : A → Option (List ℕ)) (failures : A → ℕ) (
               (subst (λ r. after ≡ added log (steps (is_some file) (is_some now) r (one_more count))) none turned.logged)
               (opens (is_some file) (is_some now) count turned.stays);
         },
-        record { clean = sym (turned.clean none) ∙ zero; begun = turned.begun zero },
+        turned_well taken failures (one_more count) log after file now failed refusal turned zero,
       )
 
   -- the files stop at a write fault, or at another one

@@ -1,7 +1,9 @@
-use Rattle.std.proofs.Common.{◌∙◌, ◌<◌, arith, refl, length}
+use Rattle.std.proofs.Common.{◌≡◌, ◌∙◌, ◌<◌, ap, arith, refl, sym, length, take, length-take-le}
+use Rattle.pgn_layout.specs.Device.{one_more}
+use Rattle.std.specs.Prelude.{Err}
 use Rattle.std.proofs.lemmas.Result.{err_from_is_err_and}
 use Rattle.pgn_tool.proofs.splitting.SourceToFiles.{read_ends, read_fails, read_on, read_stops_at}
-use Rattle.pgn_tool.proofs.splitting.FilesAfterCall.{read_stops}
+use Rattle.pgn_tool.proofs.splitting.FilesAfterCall.{counts_unblamed, read_stops}
 use Rattle.pgn_tool.proofs.split.split_source.Goals as goal
 
 pub returns-in-Err-clause-files : goal.returns-in-Err-clause-files
@@ -45,3 +47,59 @@ loop-converter-preserved g c =
           (split.splits so.bytes _ so.split);
       well = files.1;
     }
+
+pub slice_bounds-read_some-end : goal.slice_bounds-read_some-end
+slice_bounds-read_some-end g c = sym c.loop-converter.invariant.room
+
+pub slice_bounds-buffer-end : goal.slice_bounds-buffer-end
+slice_bounds-buffer-end g c = c.in-Ok.ensures.bound.0
+
+pub slice_bounds-split_piece-end : goal.slice_bounds-split_piece-end
+slice_bounds-split_piece-end g c = c.in-Ok.ensures.bound.1
+
+pub returns-in-Err-clause-counted : goal.returns-in-Err-clause-counted
+returns-in-Err-clause-counted g c = c.in-Err.ensures.failures ∙ ap one_more c.loop-converter.invariant.source
+
+pub split_last-requires-clause-not_finished : goal.split_last-requires-clause-not_finished
+split_last-requires-clause-not_finished g c = c.loop-converter.invariant.not_finished
+
+pub split_last-requires-clause-no_fault : goal.split_last-requires-clause-no_fault
+split_last-requires-clause-no_fault g c = c.loop-converter.invariant.fault
+
+pub split_last-requires-clause-well : goal.split_last-requires-clause-well
+split_last-requires-clause-well g c = c.loop-converter.invariant.well
+
+pub returns-in-Ok-eq0-clause-files : goal.returns-in-Ok-eq0-clause-files
+returns-in-Ok-eq0-clause-files g c = c.split_last.ensures.files _ c.loop-converter.invariant.so
+
+pub returns-in-Ok-eq0-clause-counted : goal.returns-in-Ok-eq0-clause-counted
+returns-in-Ok-eq0-clause-counted g c =
+    counts_unblamed c.split_last.result _ _ (c.in-Ok-eq0.ensures.failures ∙ c.loop-converter.invariant.source) c.split_last.ensures.counted
+
+pub split_piece-requires-clause-not_finished : goal.split_piece-requires-clause-not_finished
+split_piece-requires-clause-not_finished g c = c.loop-converter.invariant.not_finished
+
+pub split_piece-requires-clause-no_fault : goal.split_piece-requires-clause-no_fault
+split_piece-requires-clause-no_fault g c = c.loop-converter.invariant.fault
+
+pub split_piece-requires-clause-well : goal.split_piece-requires-clause-well
+split_piece-requires-clause-well g c = c.loop-converter.invariant.well
+
+pub loop-converter-smaller : goal.loop-converter-smaller
+loop-converter-smaller g c =
+    let split = c.in_ok-split_piece-in-Ok.ensures in
+    let long : length (take c.in-Ok.n c.read_some.new.buffer) ≡ c.in-Ok.n = length-take-le c.in-Ok.n c.read_some.new.buffer c.in-Ok.ensures.bound.0 in
+    let some : 0 < c.in-Ok.n = grind (arith, c.in-Ok.n-test) in
+    omega (arith, long, some, split.count, split.short)
+
+pub returns-in_err-split_piece-in-Ok-clause-files :
+    goal.returns-in_err-split_piece-in-Ok-clause-files
+returns-in_err-split_piece-in-Ok-clause-files g c =
+    let e = err_from_is_err_and c.from_residual.result c.from_residual.ensures.1 in
+    rw (e.1, e.2) (c.in_err-split_piece-in-Ok.ensures.files _ c.loop-converter.invariant.so)
+
+pub returns-in_err-split_piece-in-Ok-clause-counted :
+    goal.returns-in_err-split_piece-in-Ok-clause-counted
+returns-in_err-split_piece-in-Ok-clause-counted g c =
+    let e = err_from_is_err_and c.from_residual.result c.from_residual.ensures.1 in
+    rw (e.1, e.2) (counts_unblamed (Err c.in_err-split_piece-in-Ok.field-0.0) _ _ (c.in-Ok.ensures.failures ∙ c.loop-converter.invariant.source) c.in_err-split_piece-in-Ok.ensures.counted)
