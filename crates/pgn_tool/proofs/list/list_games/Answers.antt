@@ -1,4 +1,5 @@
-use Rattle.std.proofs.Common.{◌∙◌, ◌<◌, arith, refl, length}
+use Rattle.std.proofs.Common.{◌≡◌, ◌∙◌, ◌<◌, ap, arith, refl, sym, length, take, length-take-le}
+use Rattle.pgn_layout.specs.Device.{one_more}
 use Rattle.std.proofs.lemmas.Result.{err_from_is_err_and}
 use Rattle.pgn_tool.proofs.runs.CallToLines.{read_ends, read_fails, read_on, read_stops_at}
 use Rattle.pgn_tool.proofs.list.list_games.Goals as goal
@@ -35,3 +36,35 @@ loop-converter-preserved g c =
       sink = listed.counted.1 ∙ c.loop-converter.invariant.sink;
       read = read_on _ _ c.loop-converter.converter _ _ so _ _ c.list_piece.new.converter _ c.in-Ok.ensures.bytes.0 (listed.lists so.bytes _ so.listed);
     }
+
+pub slice_bounds-read_some-end : goal.slice_bounds-read_some-end
+slice_bounds-read_some-end g c = sym c.loop-converter.invariant.room
+
+pub slice_bounds-buffer-end : goal.slice_bounds-buffer-end
+slice_bounds-buffer-end g c = c.in-Ok.ensures.bound.0
+
+pub slice_bounds-list_piece-end : goal.slice_bounds-list_piece-end
+slice_bounds-list_piece-end g c = c.in-Ok.ensures.bound.1
+
+pub returns-in-Err-clause-counted : goal.returns-in-Err-clause-counted
+returns-in-Err-clause-counted g c =
+    (c.in-Err.ensures.failures ∙ ap one_more c.loop-converter.invariant.source, c.loop-converter.invariant.sink)
+
+pub list_last-requires-clause-not_finished : goal.list_last-requires-clause-not_finished
+list_last-requires-clause-not_finished g c = c.loop-converter.invariant.not_finished
+
+pub list_last-requires-clause-no_fault : goal.list_last-requires-clause-no_fault
+list_last-requires-clause-no_fault g c = c.loop-converter.invariant.fault
+
+pub list_piece-requires-clause-not_finished : goal.list_piece-requires-clause-not_finished
+list_piece-requires-clause-not_finished g c = c.loop-converter.invariant.not_finished
+
+pub list_piece-requires-clause-no_fault : goal.list_piece-requires-clause-no_fault
+list_piece-requires-clause-no_fault g c = c.loop-converter.invariant.fault
+
+pub loop-converter-smaller : goal.loop-converter-smaller
+loop-converter-smaller g c =
+    let listed = c.in_ok-list_piece-in-Ok.ensures in
+    let long : length (take c.in-Ok.n c.read_some.new.buffer) ≡ c.in-Ok.n = length-take-le c.in-Ok.n c.read_some.new.buffer c.in-Ok.ensures.bound.0 in
+    let some : 0 < c.in-Ok.n = grind (arith, c.in-Ok.n-test) in
+    omega (arith, long, some, listed.count, listed.short)
