@@ -1,7 +1,8 @@
 -- The text in the file of a game.
-use Rattle.std.proofs.Common.{◌≡◌, ℕ, true, List, [], ◌∷◌, Option, None, Some, refl, ap}
+use Rattle.std.proofs.Common.{◌≡◌, ℕ, ◌<◌, arith, true, List, [], ◌∷◌, Option, None, Some, refl, ap}
 use Rattle.std.proofs.lemmas.Bool.{false≢true}
 use Rattle.std.specs.Io.KnownBytes.{Appends}
+use Rattle.pgn_layout.specs.Device.{one_more}
 use Rattle.pgn_tool.specs.Files.{FileStep, has_text, is_text}
 
 -- what has text still has it when more is written
@@ -15,3 +16,10 @@ pub file_keeps_text : {A : Type 0} → (taken : A → Option (List ℕ)) (log : 
     → Appends (taken old) (taken new) bytes → has_text taken log (Some old) ≡ true → has_text taken log (Some new) ≡ true
 file_keeps_text taken None old new bytes appends has = refl
 file_keeps_text taken (Some log) old new bytes appends has = keeps_text (taken old) (taken new) bytes appends has
+
+-- a count that was raised
+pub some_more : (r n : ℕ) → r ≡ one_more n → 0 < r
+some_more r n is = omega (arith, is)
+
+pub none_more : (r n : ℕ) → r ≡ one_more n → r ≡ 0 → ⊥
+none_more r n is zero = omega (arith, is, zero)
