@@ -1,8 +1,9 @@
 -- Runs of a task, and the lines of a list.
+pub mod BytesLeft
 pub mod CallToLines
-pub mod ConversionToRun
 pub mod CheckedConversionToFront
 pub mod CheckedConversionToRun
+pub mod ConversionToRun
 pub mod FileToRun
 pub mod PartsOfText
 pub mod TokensInTwoParts

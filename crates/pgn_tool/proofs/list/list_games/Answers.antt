@@ -1,6 +1,7 @@
-use Rattle.std.proofs.Common.{◌≡◌, ◌∙◌, ◌<◌, ap, arith, refl, sym, length, take, length-take-le}
+use Rattle.std.proofs.Common.{◌∙◌, ◌<◌, ap, arith, refl, sym, length}
 use Rattle.pgn_layout.specs.Device.{one_more}
 use Rattle.std.proofs.lemmas.Result.{err_from_is_err_and}
+use Rattle.pgn_tool.proofs.runs.BytesLeft.{fewer_left}
 use Rattle.pgn_tool.proofs.runs.CallToLines.{read_ends, read_fails, read_on, read_stops_at}
 use Rattle.pgn_tool.proofs.list.list_games.Goals as goal
 
@@ -65,6 +66,4 @@ list_piece-requires-clause-no_fault g c = c.loop-converter.invariant.fault
 pub loop-converter-smaller : goal.loop-converter-smaller
 loop-converter-smaller g c =
     let listed = c.in_ok-list_piece-in-Ok.ensures in
-    let long : length (take c.in-Ok.n c.read_some.new.buffer) ≡ c.in-Ok.n = length-take-le c.in-Ok.n c.read_some.new.buffer c.in-Ok.ensures.bound.0 in
-    let some : 0 < c.in-Ok.n = grind (arith, c.in-Ok.n-test) in
-    omega (arith, long, some, listed.count, listed.short)
+    fewer_left c.in-Ok.n c.read_some.new.buffer _ _ c.in-Ok.ensures.bound.0 (grind (arith, c.in-Ok.n-test)) listed.count listed.short

@@ -1,7 +1,8 @@
-use Rattle.std.proofs.Common.{◌≡◌, ◌∙◌, ◌<◌, ap, arith, refl, sym, length, take, length-take-le}
+use Rattle.std.proofs.Common.{◌∙◌, ◌<◌, ap, arith, refl, sym, length}
 use Rattle.pgn_layout.specs.Device.{one_more}
 use Rattle.std.specs.Prelude.{Err}
 use Rattle.std.proofs.lemmas.Result.{err_from_is_err_and}
+use Rattle.pgn_tool.proofs.runs.BytesLeft.{fewer_left}
 use Rattle.pgn_tool.proofs.splitting.SourceToFiles.{read_ends, read_fails, read_on, read_stops_at}
 use Rattle.pgn_tool.proofs.splitting.FilesAfterCall.{counts_unblamed, read_stops}
 use Rattle.pgn_tool.proofs.split.split_source.Goals as goal
@@ -88,9 +89,7 @@ split_piece-requires-clause-well g c = c.loop-converter.invariant.well
 pub loop-converter-smaller : goal.loop-converter-smaller
 loop-converter-smaller g c =
     let split = c.in_ok-split_piece-in-Ok.ensures in
-    let long : length (take c.in-Ok.n c.read_some.new.buffer) ≡ c.in-Ok.n = length-take-le c.in-Ok.n c.read_some.new.buffer c.in-Ok.ensures.bound.0 in
-    let some : 0 < c.in-Ok.n = grind (arith, c.in-Ok.n-test) in
-    omega (arith, long, some, split.count, split.short)
+    fewer_left c.in-Ok.n c.read_some.new.buffer _ _ c.in-Ok.ensures.bound.0 (grind (arith, c.in-Ok.n-test)) split.count split.short
 
 pub returns-in_err-split_piece-in-Ok-clause-files :
     goal.returns-in_err-split_piece-in-Ok-clause-files
