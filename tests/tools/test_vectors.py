@@ -1,5 +1,6 @@
 #!/usr/bin/env python3
-"""Tests of bin/write_vectors, of the files in vectors/, and of bin/pgn_conform."""
+"""Tests of bin/write_vectors, of what it writes, and of bin/pgn_conform."""
+import glob
 import json
 import os
 import re
@@ -12,122 +13,231 @@ sys.path.insert(0, os.path.dirname(os.path.realpath(__file__)))
 import programs
 from programs import ROOT, run
 
-SOURCES = ("crates/pgn_vectors/src", "crates/pgn_game/src/reason.rt")
+DATA = ("vectors", "crates/pgn_vectors/src", "crates/pgn_game/src/reason.rt", "bin/write_vectors")
 # PGN 3.2.4: the export of the game of the standard, as its printed text has it.
-SAMPLE_END = b"40. Rd6 Kc5 41. Ra6 Nf2 42. g4 Bd3 43. Re6 1/2-1/2\n\n"
-
-
-def read(name):
-    with open(os.path.join(ROOT, "vectors", name), "rb") as file:
-        return file.read()
+SAMPLE_END = "40. Rd6 Kc5 41. Ra6 Nf2 42. g4 Bd3 43. Re6 1/2-1/2\n\n"
+HEAD = (
+    '[Event "?"]\n[Site "?"]\n[Date "????.??.??"]\n[Round "?"]\n[White "?"]\n[Black "?"]\n'
+    '[Result "*"]\n'
+)
+# A row of main_lines.toml, and one that a test adds behind it.
+ROW = '[[few_tokens.rows]]\nname = "%s"\ninput = "%s"\nplies = %d\nmovetext = "%s"\n'
+MARKER = ROW % ("marker-alone", "*", 0, "*")
+ONE_MORE = ROW % ("one more", "d4 *", 1, "1. d4 *")
 
 
 def by_file():
-    return {it["file"]: it for it in json.loads(read("vectors.json"))["vectors"]}
+    return {it["file"]: it for it in programs.vectors()}
+
+
+def of_theme(*themes):
+    return [it for it in programs.vectors() if it["theme"] in themes]
 
 
 class Copy:
-    """A copy of the sources of the vectors, to be changed."""
+    """A copy of the data and of what is written from it, to be changed."""
 
     def __init__(self, test):
         self.root = tempfile.mkdtemp()
         test.addCleanup(shutil.rmtree, self.root)
-        os.makedirs(self.root + "/bin")
-        shutil.copy(ROOT + "/bin/write_vectors", self.root + "/bin")
-        shutil.copytree(ROOT + "/vectors", self.root + "/vectors")
-        for source in SOURCES:
-            to = os.path.join(self.root, source)
+        for path in DATA:
+            to = os.path.join(self.root, path)
             os.makedirs(os.path.dirname(to), exist_ok=True)
-            copy = shutil.copytree if os.path.isdir(os.path.join(ROOT, source)) else shutil.copy
-            copy(os.path.join(ROOT, source), to)
+            copy = shutil.copytree if os.path.isdir(os.path.join(ROOT, path)) else shutil.copy
+            copy(os.path.join(ROOT, path), to)
+
+    def text(self, file):
+        with open(os.path.join(self.root, file), encoding="utf-8") as lines:
+            return lines.read()
 
     def change(self, file, old, new):
-        path = os.path.join(self.root, file)
-        with open(path, encoding="utf-8") as lines:
-            text = lines.read()
+        text = self.text(file)
         assert old in text, (file, old)
-        with open(path, "w", encoding="utf-8") as lines:
+        with open(os.path.join(self.root, file), "w", encoding="utf-8") as lines:
             lines.write(text.replace(old, new, 1))
 
-    def check(self):
-        ran = run([sys.executable, self.root + "/bin/write_vectors", "--check"], cwd=self.root)
+    def run(self, *words):
+        ran = run([sys.executable, self.root + "/bin/write_vectors", *words], cwd=self.root)
         return ran.returncode, (ran.stdout + ran.stderr).decode()
+
+    def check(self):
+        return self.run("--check")
+
+    def vectors(self):
+        return {it["file"]: it for it in json.loads(self.text("vectors/vectors.json"))["vectors"]}
 
 
 class Files(unittest.TestCase):
-    def test_the_files_are_those_of_the_constants(self):
+    def test_what_is_written_is_what_the_data_gives(self):
         ran = run(["bin/write_vectors", "--check"])
-        self.assertEqual((ran.returncode, ran.stderr), (0, b""), ran.stdout)
+        wanted = b"%d vectors\n" % len(programs.vectors())
+        self.assertEqual((ran.returncode, ran.stdout, ran.stderr), (0, wanted, b""))
+
+    def test_each_row_of_the_data_is_there(self):
+        rows = []
+        for file in glob.glob(ROOT + "/vectors/*.toml"):
+            theme = os.path.basename(file)[:-5]
+            with open(file, encoding="utf-8") as lines:
+                rows += [theme] * lines.read().count(".rows]]\nname = ")
+        self.assertGreater(len(rows), 250)
+        self.assertEqual(sorted(rows), sorted(it["theme"] for it in programs.vectors()))
 
     def test_numbers_and_words_are_those_of_the_fault_table(self):
         with open(ROOT + "/docs/PROFILE.md", encoding="utf-8") as lines:
             rows = re.findall(r"^\| (\d+) \|.*?\|.*?\| `([^`]+)` \|", lines.read(), re.MULTILINE)
         words = {int(number): text for number, text in rows}
         self.assertGreater(len(words), 35)
-        faults = [it["fault"] for it in by_file().values() if "fault" in it]
+        faults = [it["fault"] for it in programs.vectors() if "fault" in it]
         for fault in faults:
             text = re.sub("N$", str(fault.get("field", "")), words[fault["number"]])
             self.assertEqual(fault["message"], "byte %d: %s" % (fault["place"], text))
 
     def test_worked_rows(self):
         vectors = by_file()
-        sample = vectors["main-lines.sample-game"]
+        sample = vectors["main_lines.sample-game"]
         self.assertEqual((sample["games"], sample["plies"]), (1, 85))
-        output = read("main-lines.sample-game.out")
-        self.assertTrue(output.endswith(SAMPLE_END))
-        movetext = output.split(b"\n\n")[1].split(b"\n")
+        self.assertTrue(sample["output"].endswith(SAMPLE_END))
+        movetext = sample["output"].split("\n\n")[1].split("\n")
         self.assertEqual([len(line) for line in movetext], [77, 76, 76, 78, 77, 78, 50])
         self.assertEqual(vectors["variations.reduced-mode"]["mode"], "reduced")
-        mark = read("tag-pairs.byte-order-mark.in")
+        mark = vectors["tag_pairs.byte-order-mark"]["input"].encode()
         self.assertTrue(mark.startswith(b"\xef\xbb\xbf%x\r\n;c\r\n"))
-        self.assertEqual(read("faults.2-in-movetext.in"), b"e4 \x01")
-        name = vectors["position-faults.26-field-6-4k3-8-8-8-8-8-8-4k3-w-0-1"]["name"]
+        self.assertEqual(vectors["faults.2-in-movetext"]["input"], "e4 \x01")
+        name = vectors["position_faults.26-field-6-4k3-8-8-8-8-8-8-4k3-w-0-1"]["name"]
         self.assertTrue(name.endswith("0 1 "))
 
-    def test_each_vector_has_its_files(self):
-        names = {it for it in os.listdir(ROOT + "/vectors") if it.endswith((".in", ".out"))}
-        wanted = {stem + end for stem in by_file() for end in (".in", ".out")}
-        self.assertEqual(names, wanted)
+    def test_each_short_form(self):
+        vectors = by_file()
+        rows = {
+            "main_lines.empty-input": ("", "", 0, 0),
+            "main_lines.two-games": ("1. e4 *1. d4 d5 *", HEAD + "\n1. e4 *\n\n" + HEAD +
+                                     "\n1. d4 d5 *\n\n", 2, 3),
+            "tag_pairs.tag-order": ('[b "2"][Site "x\\"y\\\\z\\q"][A "1"] *', HEAD.replace(
+                '[Site "?"]', '[Site "x\\"y\\\\z\\\\q"]') + '[A "1"]\n[b "2"]\n\n*\n\n', 1, 0),
+            "positions.stalemate": (
+                '[FEN "7k/5K2/8/8/8/8/8/6Q1 w - - 0 1"]\nQg6 *', HEAD +
+                '[FEN "7k/5K2/8/8/8/8/8/6Q1 w - - 0 1"]\n[SetUp "1"]\n\n1. Qg6 *\n\n', 1, 1),
+            "limits.long-word": ("1. e4 {%s} *" % (79 * "w"),
+                                 HEAD + "\n1. e4 {\n%s\n} *\n\n" % (79 * "w"), 1, 1),
+        }
+        for name, row in rows.items():
+            found = [vectors[name][it] for it in ("input", "output", "games", "plies")]
+            self.assertEqual(tuple(found), row, name)
+        refused = {
+            "faults.1": (" % *", ""),
+            "faults.3-in-movetext": ("e4 <1> *", HEAD + "\n"),
+            "faults.34-in-a-second-game": ("* 1. e4 e5 2. Ke3 *", HEAD + "\n*\n\n" + HEAD + "\n"),
+            "faults.41-in-a-second-game": ("* 1-0", HEAD + "\n*\n\n"),
+            "limits.a-line-that-is-full-before-the-fault": (
+                "e4 {%s x} e5 Ke3 *" % (72 * "w"), HEAD + "\n1. e4 {\n%s x }\n" % (72 * "w")),
+        }
+        for name, row in refused.items():
+            self.assertEqual((vectors[name]["input"], vectors[name]["output"]), row, name)
+            self.assertNotIn("games", vectors[name])
 
 
 class Writer(unittest.TestCase):
-    def test_a_changed_constant_is_noticed(self):
+    def test_one_row_is_added_in_one_place(self):
         copy = Copy(self)
+        before = copy.vectors()
+        copy.change("vectors/main_lines.toml", MARKER, MARKER + "\n" + ONE_MORE)
+        self.assertEqual(copy.run(), (0, "%d vectors\n" % (len(before) + 1)))
         self.assertEqual(copy.check()[0], 0)
-        copy.change("crates/pgn_vectors/src/main_lines.rt", '"1. e4 *1. d4', '"1. e4 *1. c4')
-        self.assertEqual(copy.check(), (1, "main-lines.two-games.in: different\n259 vectors\n"))
+        more = copy.vectors()
+        row = more.pop("main_lines.one-more")
+        self.assertEqual(more, before)
+        self.assertEqual((row["output"], row["plies"]), (HEAD + "\n1. d4 *\n\n", 1))
+        table = copy.text("crates/pgn_vectors/src/themes/main_lines.rt")
+        self.assertIn('            name: "one more",\n', table)
 
-    def test_a_changed_number_is_noticed(self):
+    def test_a_theme_and_a_table_are_added_in_one_place(self):
         copy = Copy(self)
-        copy.change(SOURCES[1], "Reason::TooDeep => 38", "Reason::TooDeep => 98")
-        self.assertEqual(copy.check()[0], 1)
+        text = 'shows = "More."\n\n[words]\nshows = "Words."\n\n' + ONE_MORE
+        with open(copy.root + "/vectors/more.toml", "w", encoding="utf-8") as file:
+            file.write(text.replace("few_tokens", "words"))
+        self.assertEqual(copy.run()[0], 0)
+        self.assertIn("more.one-more", copy.vectors())
+        themes = copy.text("crates/pgn_vectors/src/themes.rt")
+        self.assertIn("mod more;\n", themes)
+        self.assertIn("        more::words(),\n", themes)
+        wanted = len(re.findall(r"^ {8}\w+::\w+\(\),$", themes, re.MULTILINE))
+        self.assertIn("pub fn tables() -> [&'static [Vector]; %d] {" % wanted, themes)
+        os.remove(copy.root + "/vectors/more.toml")
+        file = "crates/pgn_vectors/src/themes/more.rt"
+        self.assertIn(file + ": not what the data gives\n", copy.check()[1])
+        self.assertEqual(copy.run()[0], 0)
+        self.assertFalse(os.path.exists(os.path.join(copy.root, file)))
 
-    def test_a_file_too_many_is_noticed(self):
-        copy = Copy(self)
-        open(copy.root + "/vectors/other.in", "wb").close()
-        self.assertIn("other.in: extra", copy.check()[1])
-
-    def test_source_that_is_not_understood_stops_it(self):
-        row = '        game!("marker-alone", "*", 0, "*"),'
+    def test_each_file_that_differs_is_named(self):
         changes = [
-            ("main_lines.rt", row, '        other!("marker-alone", "*", 0, "*"),'),
-            ("main_lines.rt", row, '        game!("marker-alone", "*", 0 + 0, "*"),'),
-            ("main_lines.rt", row, '        game!("marker-alone", "*", 0),'),
-            ("main_lines.rt", row, row + " " + row.strip()),
-            ("main_lines.rt", row, row + "\n        MORE,"),
-            ("main_lines.rt", "pub fn comments", "const MORE: u8 = 1;\npub fn comments"),
-            ("lib.rt", "mod faults;", "mod faults;\nmod more;"),
-            ("themes.rt", "        limits::words(),\n", ""),
-            ("themes.rt", "        limits::words(),\n", "        limits::values(),\n"),
-            ("themes.rt", "pub fn fault_tables", "pub fn faults"),
-            ("rows.rt", "$name:literal, $input:expr, $games", "$name:tt, $input:expr, $games"),
+            ("vectors/main_lines.toml", '"1. e4 *1. d4', '"1. e4 *1. c4',
+             ["crates/pgn_vectors/src/themes/main_lines.rt", "vectors/vectors.json"]),
+            ("crates/pgn_game/src/reason.rt", "Reason::TooDeep => 38", "Reason::TooDeep => 98",
+             ["vectors/vectors.json"]),
+            ("crates/pgn_vectors/src/runs.rt", "Converter<64, 33>", "Converter<64, 34>",
+             ["vectors/vectors.json"]),
+            ("vectors/vectors.json", '"plies": 85', '"plies": 84', ["vectors/vectors.json"]),
+            ("crates/pgn_vectors/src/themes.rt", "        faults::tokens(),\n", "",
+             ["crates/pgn_vectors/src/themes.rt"]),
+            ("crates/pgn_vectors/src/themes/faults.rt", "at: 1,", "at: 2,",
+             ["crates/pgn_vectors/src/themes/faults.rt"]),
         ]
-        for file, old, new in changes:
+        count = len(programs.vectors())
+        for file, old, new, differ in changes:
             copy = Copy(self)
-            copy.change("crates/pgn_vectors/src/" + file, old, new)
-            status, said = copy.check()
+            copy.change(file, old, new)
+            lines = ["%s: not what the data gives\n" % it for it in differ]
+            self.assertEqual(copy.check(), (1, "".join(lines) + "%d vectors\n" % count))
+            self.assertEqual(copy.run()[0], 0)
+            self.assertEqual(copy.check()[0], 0)
+
+    def test_a_row_that_is_not_understood_stops_it(self):
+        more = MARKER.replace("marker-alone", "one more")
+        changes = [
+            (more.replace("plies = 0\n", ""), "no 'plies'"),
+            (more.replace('input = "*"\n', ""), "no 'input'"),
+            (more.replace('name = "one more"\n', ""), "no 'name'"),
+            (more.replace("plies", "moves"), "no 'plies'"),
+            (more + "moves = 1\n", "not expected here: moves"),
+            (more + "at = 1\n", "not expected here: at"),
+            (more + "games = 1\n", "not expected here: games"),
+            (more + "lines = []\n", "not expected here: lines"),
+            (more + 'output = "*"\ngames = 1\n', "not expected here: movetext"),
+            (more.replace("movetext", "output"), "no 'games'"),
+            (more.replace("movetext", "games = 1\noutput").replace(
+                "plies = 0", 'fault = "NotAMove"\nat = 0'), "not expected here: games"),
+            (more.replace("plies = 0", 'plies = "0"'), "plies is a number"),
+            (more + 'fault = "NoSuchFault"\nat = 0\n', "no 'NoSuchFault'"),
+            (more + 'fault = "NotAMove"\nat = 0\n', "not expected here: plies"),
+            (more.replace("plies = 0", 'fault = "NotAMove"'), "no 'at'"),
+            (more.replace("plies = 0", 'fault = "BadFen"\nat = 0'), "no 'field'"),
+            (more.replace('movetext = "*"', 'tags = []'), "not expected here: tags"),
+            (more.replace('input = "*"', 'input = "*"\nmode = "short"'), "full or reduced"),
+            (more.replace('input = "*"', 'input = 1'), "not iterable"),
+            (more.replace("one more", "one-move"), "another row has this name"),
+            (more.replace("one more", "Stalemate!"), "not understood: positions.toml: en_passant"),
+            (15 * more, "1 to 15 rows"),
+            (more + "plies = 1\n", "Cannot overwrite a value"),
+            ("[[few_tokens.rows]\n", "main_lines.toml"),
+        ]
+        for new, why in changes:
+            copy = Copy(self)
+            copy.change("vectors/main_lines.toml", MARKER, MARKER + "\n" + new)
+            before = copy.text("vectors/vectors.json")
+            status, said = copy.run()
             self.assertEqual(status, 1, (new, said))
-            self.assertIn("not understood", said, new)
+            self.assertIn("not understood: ", said)
+            self.assertIn(why, said, new)
+            self.assertEqual(copy.text("vectors/vectors.json"), before)
+
+    def test_reasons_that_are_not_understood_stop_it(self):
+        for old, new in (("Reason::TooDeep => 38", "Reason::TooDeep => deep()"),
+                         ('Reason::TooDeep => b"', 'Reason::TooDeep => "')):
+            copy = Copy(self)
+            copy.change("crates/pgn_game/src/reason.rt", old, new)
+            status, said = copy.check()
+            self.assertEqual(status, 1)
+            self.assertIn("not each reason has a number and words", said)
 
 
 class Conform(unittest.TestCase):
@@ -143,7 +253,8 @@ class Conform(unittest.TestCase):
         words = ["--counts", program + " check", program, "export"]
         status, totals, ran = self.conform(*words)
         self.assertEqual(status, 0, ran.stdout)
-        self.assertEqual(totals[0], (259, 259, 0, 0, 0))
+        count = len(programs.vectors())
+        self.assertEqual(totals[0], (count, count, 0, 0, 0))
         self.assertEqual(totals[1][0], totals[1][1])
         self.assertGreater(totals[1][0], 240)
 
@@ -151,35 +262,52 @@ class Conform(unittest.TestCase):
         program = programs.need_program()
         words = ["--full", program + " export {}", "--reduced", program + " export --reduced {}"]
         found = self.conform("--theme", "variations", *words)
-        self.assertEqual(found[:2], (0, [(39, 39, 0, 0, 0)]))
+        count = len(of_theme("variations"))
+        self.assertEqual(found[:2], (0, [(count, count, 0, 0, 0)]))
 
     def test_other_lines_are_layout(self):
         program = programs.need_program()
         script = '%s export "$@" | sed "/^[^[]/s/ /  /g;s/( /(/g"' % program
-        words = ["--theme", "main-lines", "--", "bash", "-o", "pipefail", "-c", script, "sh"]
+        words = ["--theme", "main_lines", "--", "bash", "-o", "pipefail", "-c", script, "sh"]
         status, totals, _ = self.conform(*words)
-        self.assertEqual((status, totals[0][0], totals[0][4]), (1, 24, 0))
+        count = len(of_theme("main_lines"))
+        self.assertEqual((status, totals[0][0], totals[0][4]), (1, count, 0))
         # Outputs without a blank between two words are not changed: of no game, and of no move.
-        plain = [it for it in by_file().values() if it["theme"] == "main-lines" and not it["plies"]]
-        self.assertEqual(totals[0][1:3], (len(plain), 24 - len(plain)))
+        plain = [it for it in of_theme("main_lines") if not it["plies"]]
+        self.assertEqual(totals[0][1:3], (len(plain), count - len(plain)))
 
     def test_a_copy_of_the_input_fails(self):
-        found = self.conform("--full", "cat", "--reduced", "", "--theme", "main-lines",
+        found = self.conform("--full", "cat", "--reduced", "", "--theme", "main_lines",
                              "--theme", "faults")
-        full = [it for it in by_file().values() if it["theme"] in ("main-lines", "faults")]
-        full = [it for it in full if it["mode"] == "full"]
+        full = [it for it in of_theme("main_lines", "faults") if it["mode"] == "full"]
         # An empty input alone is its own export.
         self.assertEqual(found[:2], (1, [(len(full), 1, 0, 0, len(full) - 1)]))
 
     def test_a_program_that_refuses_all(self):
-        vectors = [it for it in by_file().values() if it["theme"] == "variations"]
+        vectors = of_theme("variations")
         faults = sum("fault" in it for it in vectors)
         self.assertGreater(faults, 10)
-        wanted = [(39, 0, 0, faults, 39 - faults)]
+        wanted = [(len(vectors), 0, 0, faults, len(vectors) - faults)]
         self.assertEqual(self.conform("--theme", "variations", "false")[1], wanted)
         # A refusal by a line on standard error, with status 0.
         words = ["--refusal", "^bad", "sh", "-c", 'cat >/dev/null; echo "bad thing" >&2']
         self.assertEqual(self.conform("--theme", "variations", *words)[1], wanted)
+
+    def test_the_files(self):
+        folder = tempfile.mkdtemp()
+        self.addCleanup(shutil.rmtree, folder)
+        ran = run(["bin/pgn_conform", "--files", folder])
+        self.assertEqual((ran.returncode, ran.stdout, ran.stderr), (0, b"", b""))
+        wanted = {}
+        for vector in programs.vectors():
+            wanted[vector["file"] + ".in"] = vector["input"].encode()
+            wanted[vector["file"] + ".out"] = vector["output"].encode()
+        found = {}
+        for name in os.listdir(folder):
+            with open(os.path.join(folder, name), "rb") as file:
+                found[name] = file.read()
+        self.assertEqual(found, wanted)
+        self.assertEqual(found["faults.2-in-movetext.in"], b"e4 \x01")
 
     def test_the_table_of_pgn_extract(self):
         programs.need("pgn-extract")
@@ -191,11 +319,34 @@ class Conform(unittest.TestCase):
         command = re.search(r"^bin/pgn_conform --refusal (?:.*\\\n)*.*$", text, re.MULTILINE)[0]
         ran = run(["sh", "-c", command])
         self.assertEqual(ran.returncode, 1)
-        self.assertIn("| all | 259 |", ran.stdout.decode())
+        self.assertIn("| all | %d |" % len(programs.vectors()), ran.stdout.decode())
         self.assertIn("\n\n" + ran.stdout.decode() + "\n", text)
 
+    def test_one_vector_is_shown(self):
+        vector = by_file()["main_lines.two-games"]
+        for words in (["cat"], ["--theme", "main_lines", "cat"]):
+            said = self.conform("--show", vector["file"], *words)[2].stdout.decode()
+            self.assertIn("%s: fails\n  input %r\n  wanted %r\n  output %r\n" % (
+                vector["file"], vector["input"].encode(), vector["output"].encode(),
+                vector["input"].encode()), said)
+
+    def test_a_vector_that_is_not_there(self):
+        for name, words in (("main_lines.x", []), ("main-lines.two-games", []), ("", []),
+                            ("main_lines.two-games", ["--theme", "faults"])):
+            status, _, ran = self.conform("--show", name, *words, "cat")
+            self.assertEqual((status, ran.stdout, ran.stderr.decode()),
+                             (2, b"", "bin/pgn_conform: there is no vector %s\n" % name))
+
+    def test_a_closed_pipe_ends_it_quietly(self):
+        ours, its = os.pipe()
+        os.close(ours)
+        with open(its, "wb") as closed:
+            ran = run(["bin/pgn_conform", "--theme", "limits", "cat"], stdout=closed)
+        self.assertEqual((ran.returncode, ran.stderr), (1, b""))
+
     def test_the_words_of_the_call(self):
-        for words in ([], ["--full", "cat", "cat"], ["no-such-converter"], ["--theme", "x", "cat"]):
+        for words in ([], ["--full", "cat", "cat"], ["no-such-converter"], ["--theme", "x", "cat"],
+                      ["--files", "out", "cat"]):
             self.assertEqual(self.conform(*words)[0], 2, words)
 
 

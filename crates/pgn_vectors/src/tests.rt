@@ -5,4 +5,5 @@ mod cuts;
 mod finished_games;
 mod limits;
 mod reasons;
+mod runs;
 mod tables;

@@ -1,7 +1,5 @@
 //! Each vector, in each way to convert it.
-use crate::{
-    LONE_MARKER, Usual, Vector, Verdict, agrees, converted, fault_tables, feed, finish, tables,
-};
+use crate::{LONE_MARKER, Usual, Vector, Verdict, agrees, converted, feed, finish, tables};
 use pgn_game::{Fault, Inlet, Mode, Outlet, Reason, Totals, convert};
 use std::process::Abort;
 use std::test::Fail;
@@ -108,27 +106,23 @@ fn converts_two_exported_results_to_themselves(rt: HostRuntime) {
     assert!(rt; run.is_ok());
 }
 
-/// The result for the vector behind `* ` is a fault at the same token.
-fn is_refused_behind(rt: &impl Abort, vector: &Vector, run: Result<Totals, Fault>) {
-    match vector.verdict {
-        Verdict::Refused(fault) => {
-            let at = fault.at.saturating_add(2);
-            let reason = fault.reason;
-            assert_eq!(rt; run, Err(Fault { at, reason }), "{}", vector.name);
-        }
-        Verdict::Converted { .. } => assert!(rt; false, "{}", vector.name),
-    }
-}
-
-/// Converts the bytes, which are a game and the vector.
-fn refuses_behind(rt: &impl Abort, vector: &Vector, input: &[u8], text: &mut Vec<u8>) {
-    let result = converted(input, vector.mode, text);
-    is_refused_behind(rt, vector, result);
+/// Converts the bytes, which are a game and the vector. The fault is at the same token.
+fn refuses_behind(
+    rt: &impl Abort,
+    vector: &Vector,
+    fault: Fault,
+    input: &[u8],
+    text: &mut Vec<u8>,
+) {
+    let run = converted(input, vector.mode, text);
+    let at = fault.at.saturating_add(2);
+    let reason = fault.reason;
+    assert_eq!(rt; run, Err(Fault { at, reason }), "{}", vector.name);
     let rest = text.as_slice().strip_prefix(LONE_MARKER);
     assert!(rt; rest == Some(vector.output.as_bytes()), "{}", vector.name);
 }
 
-/// Converts each vector of the table behind a game.
+/// Converts each vector of the table that is rejected behind a game.
 fn refuses_all_behind(
     rt: &impl Abort,
     table: &[Vector],
@@ -136,10 +130,13 @@ fn refuses_all_behind(
     text: &mut Vec<u8>,
 ) -> Result<(), Fail> {
     for vector in table {
+        let Verdict::Refused(fault) = vector.verdict else {
+            continue;
+        };
         input.clear();
         input.extend_from_slice(b"* ")?;
         input.extend_from_slice(vector.input.as_bytes())?;
-        refuses_behind(rt, vector, input.as_slice(), text);
+        refuses_behind(rt, vector, fault, input.as_slice(), text);
     }
     Ok(())
 }
@@ -148,7 +145,7 @@ fn refuses_all_behind(
 fn refuses_each_fault_behind_a_game(rt: HostRuntime) -> Result<(), Fail> {
     let mut input = Vec::new(rt.alloc());
     let mut text = Vec::new(rt.alloc());
-    for table in fault_tables() {
+    for table in tables() {
         refuses_all_behind(&rt, table, &mut input, &mut text)?;
     }
     Ok(())
