@@ -1,5 +1,5 @@
-"""The wrong bodies of edits/ fit the sources, docs/PROVED.md names each, and bin/try_edits reads
-what a check says of them."""
+"""The wrong bodies of edits/ fit the sources, docs/PROVED.md names each where it guards a row, and
+bin/try_edits reads what a check says of them."""
 import glob
 import importlib.machinery
 import importlib.util
@@ -14,10 +14,6 @@ from programs import ROOT
 SCRIPT = os.path.join(ROOT, "bin", "try_edits")
 
 
-def names(pattern):
-    return [os.path.basename(it)[: -len(".edit")] for it in glob.glob(os.path.join(ROOT, pattern))]
-
-
 def loaded():
     """The script as a module."""
     loader = importlib.machinery.SourceFileLoader("try_edits", SCRIPT)
@@ -30,103 +26,228 @@ def call(*words):
     return subprocess.run([SCRIPT, *words], capture_output=True, text=True)
 
 
+def text_of(*path):
+    with open(os.path.join(ROOT, *path), encoding="utf-8") as file:
+        return file.read()
+
+
 class Edits(unittest.TestCase):
+    def setUp(self):
+        script = loaded()
+        self.by_crate, self.others = script.edits_by_crate(), script.edits_of_toolchain()
+        self.edits = [it for them in self.by_crate.values() for it in them]
+
     def test_each_fits_its_source(self):
+        for it in self.edits + self.others:
+            why = loaded().edited(it, os.path.join(ROOT, "crates", it.crate))[1]
+            self.assertEqual(why, None, it.name)
+
+    def test_each_is_listed(self):
         ran = call("--list")
         self.assertEqual((ran.returncode, ran.stderr), (0, ""))
-        listed = sorted(os.path.basename(it)[: -len(".edit")] for it in ran.stdout.split("\n") if it)
-        self.assertEqual(listed, sorted(names("edits/*/*.edit")))
-        self.assertTrue(listed)
+        self.assertEqual(ran.stdout.split("\n")[: len(self.edits)],
+                         ["%s/%s" % (it.crate, it.name) for it in self.edits])
+        self.assertGreater(len(self.edits), 200)
 
     def test_each_has_a_name_of_its_own(self):
-        tried = names("crates/*/must-fail/*.edit")
-        self.assertEqual(set(tried) & set(names("edits/*/*.edit")), set())
+        names = [it.name for it in self.edits + self.others]
+        self.assertEqual(sorted(set(names)), sorted(names))
 
-    def test_the_folders_have_edits_alone(self):
-        for file in glob.glob(os.path.join(ROOT, "edits", "*", "*")):
-            self.assertRegex(os.path.basename(file), r"\A[a-z_]+-[a-z0-9_]+-[a-zA-Z0-9_-]+\.edit\Z")
+    def test_a_file_has_the_edits_of_a_crate_by_function(self):
+        files = {os.path.basename(it) for it in glob.glob(os.path.join(ROOT, "edits", "*"))}
+        self.assertEqual(files, {"README.md"} | {it + ".edits" for it in self.by_crate})
+        for crate, edits in self.by_crate.items():
+            self.assertTrue(os.path.isdir(os.path.join(ROOT, "crates", crate)), crate)
+            # the second one of a function costs less right after the first
+            groups = [them[0].name.split("-")[:2] for them in loaded().by_function(edits)]
+            self.assertEqual([it for it in groups if groups.count(it) > 1], [], crate)
 
-    def test_proved_names_each_and_no_other(self):
-        with open(os.path.join(ROOT, "docs", "PROVED.md"), encoding="utf-8") as file:
-            text = file.read()
-        there = set(names("crates/*/must-fail/*.edit") + names("edits/*/*.edit"))
-        # an edit's name is a file, a function and what is wrong, with hyphens between them
-        said = set(re.findall(r"`([a-z_]+-[a-z0-9_]+-[a-zA-Z0-9_-]+)`", text))
-        self.assertEqual(sorted(there - said), [])
-        self.assertEqual(sorted(said - there), [])
+    def test_the_rows_of_the_ledger_name_those_that_guard_them(self):
+        ran = call("--ledger", "--check")
+        self.assertEqual((ran.returncode, ran.stdout, ran.stderr), (0, "", ""))
 
-    def test_the_documents_count_them(self):
-        gate, more = names("crates/*/must-fail/*.edit"), names("edits/*/*.edit")
-        with open(os.path.join(ROOT, "docs", "PROVED.md"), encoding="utf-8") as file:
-            rows = [re.findall(r"`([^` ]+)`", it) for it in file if it.startswith("|")]
-        rows = [set(it) for it in rows if set(it) & set(gate + more)]
-        tried = [it for it in rows if it & set(gate)]
-        with open(os.path.join(ROOT, "edits", "each_change.txt"), encoding="utf-8") as file:
-            each = gate + [os.path.basename(it) for it in file.read().split()]
-        guarded = "%d of the rows" % len([it for it in rows if it & set(each)])
-        counted = "%d of the %d rows" % (len(tried), len(rows))
-        for document, words in (
-            ("docs/PROVED.md", [counted]),
-            ("edits/README.md", [counted, "The other %d rows" % (len(rows) - len(tried))]),
-            ("docs/ARCHITECTURE.md", [
-                "The gate tries %d must-fail edits" % len(gate), counted,
-                "has %d more" % len(more), "the other %d rows" % (len(rows) - len(tried)), guarded]),
-        ):
-            with open(os.path.join(ROOT, document), encoding="utf-8") as file:
-                text = " ".join(file.read().split())
-            for it in words:
-                self.assertTrue(it in text, "%s does not say %r" % (document, it))
+    def test_documents_name_no_other(self):
+        names = {it.name for it in self.edits + self.others}
+        for document in (("docs", "PROVED.md"), ("edits", "README.md")):
+            said = set(re.findall("`(%s)`" % loaded().NAME, text_of(*document)))
+            self.assertEqual(sorted(said - names), [], document)
+            self.assertTrue(said, document)
 
-    def test_a_crate_without_a_folder_is_a_mistake(self):
+    def test_the_mistakes_that_matter_most_are_tried_on_each_change(self):
+        tried = {it.name for it in self.others + [it for it in self.edits if it.each_change]}
+        table = text_of("edits", "README.md").partition("## The mistakes that matter most")[2]
+        rows = [it for it in table.split("\n") if it.startswith("|")][2:]
+        self.assertGreater(len(rows), 20)
+        folder = os.path.join("crates", "pgn_vectors", "src", "tests")
+        sources = "".join(text_of(folder, it) for it in os.listdir(os.path.join(ROOT, folder)))
+        for row in rows:
+            said = set(re.findall("`(%s)`" % loaded().NAME, row))
+            files = re.findall("`(crates/[^`]+)`", row)
+            self.assertTrue(said or files, row)
+            self.assertEqual(sorted(said - tried), [], row)
+            for it in files:
+                self.assertTrue(os.path.isfile(os.path.join(ROOT, it)), it)
+            for it in re.findall("`([a-z]+_[a-z_]+)`", row):
+                self.assertTrue("fn %s(" % it in sources, it)
+
+    def test_counts(self):
+        each = [it for it in self.edits if it.each_change]
+        last = call("--list").stdout.rstrip("\n").split("\n")[len(self.edits):]
+        self.assertEqual(last[0], "%d edits, %d of them tried on each change; %d more are in "
+                         "must-fail/" % (len(self.edits), len(each), len(self.others)))
+        rows = [set(re.findall("`(%s)`" % loaded().NAME, it.rsplit("|", 2)[1]))
+                for it in text_of("docs", "PROVED.md").split("\n") if it.startswith("|")]
+        names = {it.name for it in each + self.others}
+        self.assertEqual(last[1], "%d rows of docs/PROVED.md name edits, %d of them one that is "
+                         "tried on each change" % (sum(1 for it in rows if it),
+                                                   sum(1 for it in rows if it & names)))
+
+    def test_a_crate_without_edits_is_a_mistake(self):
         ran = call("no_such_crate")
         self.assertEqual(ran.returncode, 2)
-        self.assertEqual(ran.stderr, "bin/try_edits: there is no folder edits/no_such_crate\n")
+        self.assertEqual(ran.stderr, "bin/try_edits: there is no file edits/no_such_crate.edits\n")
 
     def test_only_those_with_a_text_in_their_name(self):
-        listed = call("--list", "--only", "flush-counts").stdout
-        self.assertEqual(listed, "edits/pgn_layout/outlet-flush-counts-no-failure.edit\n")
+        listed = call("--list", "--only", "flush-counts").stdout.split("\n")
+        self.assertEqual(listed[0], "pgn_layout/outlet-flush-counts-no-failure")
+        self.assertRegex(listed[1], r"^\d+ edits, ")
         ran = call("--list", "--only", "no such text")
         self.assertEqual((ran.returncode, ran.stdout), (2, ""))
         self.assertEqual(ran.stderr, "bin/try_edits: there is no such edit\n")
 
     def test_those_of_each_change(self):
-        with open(os.path.join(ROOT, "edits", "each_change.txt"), encoding="utf-8") as file:
-            named = file.read().split()
-        listed = call("--list", "--each-change").stdout.split()
-        self.assertEqual(listed, ["edits/%s.edit" % it for it in named])
-        self.assertTrue(named)
+        listed = call("--list", "--each-change").stdout.split("\n")
+        each = ["%s/%s" % (it.crate, it.name) for it in self.edits if it.each_change]
+        self.assertEqual(listed[: len(each)], each)
+        self.assertRegex(listed[len(each)], r"^\d+ edits, ")
+        self.assertTrue(each)
+
+
+HEAD = "edit: lib-f-is-wrong\nguards: f, text\nfile: src/lib.rt\n"
+
+
+class Reading(unittest.TestCase):
+    """How an edit is written."""
+
+    def read(self, text, name="low.edits"):
+        with tempfile.TemporaryDirectory() as room:
+            with open(os.path.join(room, name), "w", encoding="utf-8") as file:
+                file.write(text)
+            return loaded().read_edits(os.path.join(room, name), "low")
+
+    def test_lines_of_an_edit(self):
+        edits = self.read("# low\n\n" + HEAD + "# a reason\nold:  a\nnew:  b: c\nold: d\nnew:\n\n\n"
+                          + HEAD + "guards: g\ntried: on each change\nold: e\nnew: f")
+        self.assertEqual([it.changes for it in edits], [
+            [("src/lib.rt", " a", " b: c"), ("src/lib.rt", "d", "")], [("src/lib.rt", "e", "f")]])
+        self.assertEqual([it.guards for it in edits], [[{"f", "text"}], [{"f", "text"}, {"g"}]])
+        self.assertEqual([it.each_change for it in edits], [False, True])
+        self.assertEqual([it.name for it in edits], ["lib-f-is-wrong"] * 2)
+        self.assertRegex(edits[1].place, r"low\.edits:13$")
+
+    def test_those_of_the_toolchain(self):
+        text = "# guards: f, text\nfile: src/lib.rt\nold: a\nnew: b\n"
+        edit, = self.read(text, "lib-f-is-wrong.edit")
+        self.assertEqual((edit.name, edit.guards), ("lib-f-is-wrong", [{"f", "text"}]))
+        self.assertEqual(edit.changes, [("src/lib.rt", "a", "b")])
+
+    def test_what_cannot_be_read(self):
+        pair = "an `old:` line is followed by its `new:` line"
+        for text, number, why in (
+            (HEAD + "old: a\n", 5, pair),
+            (HEAD + "old: a\n\nnew: b\n", 5, pair),
+            (HEAD + "new: a\n", 4, pair),
+            (HEAD + "old: a\nold: b\nnew: c\n", 5, pair),
+            (HEAD, 1, "an edit has a `guards:` line and changes something"),
+            ("edit: lib-f-is-wrong\nfile: a\nold: a\nnew: b\n", 1,
+             "an edit has a `guards:` line and changes something"),
+            ("edit: is wrong\n", 1, "a name is a file, a function and what is wrong"),
+            ("guards: f\n", 1, "this line cannot stand here: guards: f"),
+            (HEAD + "edit: lib-g\n", 4, "this line cannot stand here: edit: lib-g"),
+            ("edit: lib-f-is-wrong\nold: a\n", 2, "this line cannot stand here: old: a"),
+            (HEAD + "old:\n", 4, "this line cannot stand here: old:"),
+            (HEAD + "tried: now\n", 4, "this line cannot stand here: tried: now"),
+        ):
+            with self.assertRaises(Exception) as raised:
+                self.read(text)
+            self.assertEqual(type(raised.exception).__name__, "Mistake", text)
+            self.assertRegex(str(raised.exception), "low.edits:%d: " % number, text)
+            self.assertTrue(str(raised.exception).endswith(": " + why), text)
+
+
+class Ledger(unittest.TestCase):
+    """The last column of docs/PROVED.md."""
+
+    TABLES = """| For all .. | Function | Clause | Noticed by |
+|---|---|---|---|
+| text | `put`, `g` | `text` (`Puts`) |%s|
+| line | `put` | `text` |%s|
+
+| Column | Noticed by |
+| `put`, `text` | a test |
+
+| For all .. | Function and clause | Noticed by |
+|---|---|---|
+| last | `end` (`all`) |%s|
+"""
+
+    def written(self, cells, *edits):
+        script, found = loaded(), []
+        for name, *guards in edits:
+            found.append(script.Edit("low", name, "low.edits:1"))
+            found[-1].guards = [frozenset(it.split(", ")) for it in guards]
+        return script.ledger_with(self.TABLES % cells, found)
+
+    def test_a_row_names_its_edits_before_what_is_written_by_hand(self):
+        old = (" `lib-put-old`, `lib-put-older`, test `t` ", " ", " `lib-end-c`; all tests ")
+        new = self.written(old, ("lib-put-b", "put, Puts", "put, text"), ("lib-put-a", "g, text"),
+                           ("lib-end-d", "end, all"))
+        self.assertEqual(new, self.TABLES % (
+            " `lib-put-a`, `lib-put-b`, test `t` ", " `lib-put-b` ", " `lib-end-d`; all tests "))
+        self.assertEqual(self.written(old), self.TABLES % (" test `t` ", " ", " all tests "))
+
+    def test_what_is_written_by_hand_names_no_edit(self):
+        with self.assertRaises(Exception) as raised:
+            self.written((" the same, `lib-put-old` ", " ", " "))
+        self.assertEqual(str(raised.exception),
+                         "docs/PROVED.md:3: an edit stands behind other words")
+
+    def test_a_guard_names_one_row(self):
+        for guard, count in (("Puts, all", 0), ("text, put, other", 0), ("text", 2)):
+            with self.assertRaises(Exception) as raised:
+                self.written((" ", " ", " "), ("lib-put-a", guard))
+            said = ", ".join(sorted(guard.split(", ")))
+            self.assertEqual(str(raised.exception), "low.edits:1: %d rows of docs/PROVED.md have %s"
+                             " as function and clause" % (count, said))
 
 
 class Fitting(unittest.TestCase):
     """What an edit makes of the files of a crate."""
 
-    def edited(self, edit):
+    def edited(self, *changes):
+        script = loaded()
+        edit = script.Edit("low", "lib-f-is-wrong", "low.edits:1")
+        edit.changes = list(changes)
         with tempfile.TemporaryDirectory() as room:
             os.mkdir(os.path.join(room, "src"))
-            for name, text in (("src/lib.rt", "one\ntwo\ntwo\n"), ("other", "one\n"), ("e", edit)):
+            for name, text in (("src/lib.rt", "one\ntwo\ntwo\n"), ("other", "one\n")):
                 with open(os.path.join(room, name), "w", encoding="utf-8") as file:
                     file.write(text)
-            return loaded().edited(os.path.join(room, "e"), room)
+            return script.edited(edit, room)
 
     def test_pairs_apply_in_turn(self):
-        edit = "file: src/lib.rt\nold: one\nnew: three\nold: three\nnew:\n"
-        self.assertEqual(self.edited(edit), ({"src/lib.rt": "\ntwo\ntwo\n"}, None))
-        edit = "file: src/lib.rt\nold: one\nnew:  a\n"
-        self.assertEqual(self.edited(edit), ({"src/lib.rt": " a\ntwo\ntwo\n"}, None))
+        self.assertEqual(self.edited(("src/lib.rt", "one", "three"), ("src/lib.rt", "three", "")),
+                         ({"src/lib.rt": "\ntwo\ntwo\n"}, None))
 
     def test_what_does_not_fit(self):
-        head = "file: src/lib.rt\n"
-        for edit, why in (
-            (head + "old: two\nnew: x\n", "the text 'two' is there 2 times"),
-            (head + "old: four\nnew: x\n", "the text 'four' is there 0 times"),
-            (head + "new: x\n", "a `new:` line comes before a `file:` or an `old:` line"),
-            ("old: one\nnew: x\n", "a `new:` line comes before a `file:` or an `old:` line"),
-            (head, "it changes nothing"),
-            ("file: other\nold: one\nnew: x\n", "there is no file other in src/, specs/ or proofs/"),
-            ("file: src/../other\n", "there is no file src/../other in src/, specs/ or proofs/"),
-            ("file: src/a.rt\n", "there is no file src/a.rt in src/, specs/ or proofs/"),
+        for path, old, why in (
+            ("src/lib.rt", "two", "the text 'two' is there 2 times"),
+            ("src/lib.rt", "four", "the text 'four' is there 0 times"),
+            ("other", "one", "there is no file other in src/, specs/ or proofs/"),
+            ("src/../other", "one", "there is no file src/../other in src/, specs/ or proofs/"),
+            ("src/a.rt", "one", "there is no file src/a.rt in src/, specs/ or proofs/"),
         ):
-            self.assertEqual(self.edited(edit), ({}, why), edit)
+            self.assertEqual(self.edited((path, old, "x")), ({}, why), path)
 
 
 class Verdicts(unittest.TestCase):
@@ -165,7 +286,8 @@ class Verdicts(unittest.TestCase):
         self.check("refused", 1, "./specs/A.antt:1:1: error: `f`: expected type `a`", refused)
         stale = "error: module `Rattle-low-a` has changed. Run the lower steps again"
         self.check("BAD EDIT", 1, stale, refused)
-        for status, last in ((1, proved), (2, refused), (-9, refused), (1, "error[E0308]"), (0, "")):
+        for status, last in ((1, proved), (2, refused), (-9, refused), (1, "error[E0308]"),
+                             (0, "")):
             self.check("BAD EDIT", status, last)
 
 
@@ -177,8 +299,9 @@ class Lanes(unittest.TestCase):
         self.assertEqual(lanes(4, 1000000), 1)
 
     def test_edits_of_one_function_stay_together(self):
-        edits = ["/e/%s.edit" % it for it in ("a-f-x", "a-f-y", "a-g-x", "b-g-x")]
-        self.assertEqual(loaded().by_function(edits), [edits[:2], edits[2:3], edits[3:]])
+        script = loaded()
+        edits = [script.Edit("low", it, "") for it in ("a-f-x", "a-f-y", "a-g-x", "b-g-x")]
+        self.assertEqual(script.by_function(edits), [edits[:2], edits[2:3], edits[3:]])
 
     def test_a_copy_has_the_work_that_a_check_needs(self):
         files = (
