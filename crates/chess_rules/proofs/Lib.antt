@@ -1,5 +1,5 @@
+mod lines
 mod moves
 mod positions
-mod rays
 mod squares
 mod trying

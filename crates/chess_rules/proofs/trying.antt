@@ -1,5 +1,5 @@
 -- The candidates of a move, and the pairs that are tried.
-pub mod CandidatesFoundOnce
+pub mod CandidatesAreFew
 pub mod FoundLists
 pub mod LegalIsTried
 pub mod OriginsAreCandidates

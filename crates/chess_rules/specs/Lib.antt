@@ -11,7 +11,7 @@ pub mod Step
 pub mod Legal
 pub mod Candidate
 pub mod Laws
-pub mod Walk
+pub mod Reach
 pub mod Plain
 pub mod StoredPosition
 pub mod Pairs

@@ -12,7 +12,7 @@ use Rattle.chess_rules.specs.Board.{at, cell_of, has_colour}
 use Rattle.chess_rules.specs.Attacks.{is_clear}
 use Rattle.chess_rules.specs.Step.{own, last_rank}
 use Rattle.chess_rules.specs.Legal.{is_legal}
-use Rattle.chess_rules.specs.Walk.{is_aligned, king_square}
+use Rattle.chess_rules.specs.Reach.{is_aligned, king_square}
 use Rattle.chess_rules.specs.Words.{has}
 
 -- One pair.

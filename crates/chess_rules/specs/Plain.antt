@@ -5,9 +5,7 @@ use Rattle.chess_rules.specs.declared.piece.Kind.TheVariants.{King}
 use Rattle.chess_rules.specs.declared.position.Move.{Move}
 use Rattle.chess_rules.specs.declared.position.Parts.{Parts}
 use Rattle.chess_rules.specs.Square.{gap}
-use Rattle.chess_rules.specs.Step.{own, is_target, is_piece_step, is_pawn_step}
-use Rattle.chess_rules.specs.Step.{is_advance, is_double_step, is_pawn_capture, is_en_passant}
-use Rattle.chess_rules.specs.Step.{castles_short, castles_long}
+use Rattle.chess_rules.specs.Step.{own, is_target, is_piece_step, is_pawn_step, is_advance, is_double_step, is_pawn_capture, is_en_passant, castles_short, castles_long}
 
 -- a king goes further than to the next file
 abbrev pub king_goes_far : Parts → Move → Bool

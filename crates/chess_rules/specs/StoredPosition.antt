@@ -6,7 +6,7 @@ use Rattle.chess_rules.specs.declared.piece.Colour.TheVariants.{White, Black}
 use Rattle.chess_rules.specs.declared.position.Parts.{Parts}
 use Rattle.chess_rules.specs.declared.position.Position.TheInside.{Inside}
 use Rattle.chess_rules.specs.Legal.{is_check}
-use Rattle.chess_rules.specs.Walk.{king_square}
+use Rattle.chess_rules.specs.Reach.{king_square}
 use Rattle.chess_rules.specs.Position.{is_position}
 
 abbrev pub parts_of : Inside → Parts

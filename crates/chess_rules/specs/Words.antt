@@ -10,59 +10,70 @@ use Rattle.chess_rules.specs.declared.piece.Kind.TheVariants.{King, Queen, Rook,
 use Rattle.chess_rules.specs.declared.piece.Piece.{Piece}
 use Rattle.chess_rules.specs.declared.board.Board.TheInside.{Inside}
 use Rattle.chess_rules.specs.Square.{Square, squares}
-use Rattle.chess_rules.specs.Board.{cell_of, some_piece, same_kind}
-use Rattle.chess_rules.specs.Walk.{square_at}
+use Rattle.chess_rules.specs.Board.{cell_of, some_piece}
+use Rattle.chess_rules.specs.Reach.{square_at}
 
 -- a word as a set of places: whether it has place i
 unfoldable pub has : ℕ → ℕ → Bool
 has word i = bit_at word i == 1
 
--- A piece's code: pawn 1, knight 2, bishop 3, rook 4, queen 5, king 6; no piece 0.
+-- Three words tell the kinds apart. A rook is in the first, `straight`, a bishop in `diagonal`, and
+-- a queen in both. What does not slide is in `near`: a pawn there alone, a knight in `straight` too,
+-- a king in `diagonal` too.
 
 abbrev pub colour_of : Bool → Colour
 colour_of true = Black
 colour_of false = White
 
--- what a square holds, by the three bits of the code and by whether it is black
+-- what a square holds, by the three bits and by whether it is black
 abbrev pub coded : Bool → Bool → Bool → Bool → Option Piece
 coded false false false black = None
-coded true false false black = some_piece (colour_of black) Pawn
-coded false true false black = some_piece (colour_of black) Knight
-coded true true false black = some_piece (colour_of black) Bishop
-coded false false true black = some_piece (colour_of black) Rook
-coded true false true black = some_piece (colour_of black) Queen
+coded true false false black = some_piece (colour_of black) Rook
+coded false true false black = some_piece (colour_of black) Bishop
+coded true true false black = some_piece (colour_of black) Queen
+coded false false true black = some_piece (colour_of black) Pawn
+coded true false true black = some_piece (colour_of black) Knight
 coded false true true black = some_piece (colour_of black) King
 coded true true true black = some_piece (colour_of black) King
 
--- seven is no code, and no piece is not black
+-- no square is in all three, and no piece is not black
 abbrev pub is_code : Bool → Bool → Bool → Bool → Bool
-is_code one two four black = not (one && (two && four)) && (not black || (one || (two || four)))
+is_code straight diagonal near black = not (straight && (diagonal && near)) && (not black || (straight || (diagonal || near)))
 
--- The code of what a square holds, bit by bit.
+-- a piece of the kind is there, by the three bits
+abbrev pub kind_in : Kind → Bool → Bool → Bool → Bool
+kind_in King straight diagonal near = near && diagonal
+kind_in Queen straight diagonal near = straight && diagonal
+kind_in Rook straight diagonal near = (straight && not diagonal) && not near
+kind_in Bishop straight diagonal near = (diagonal && not straight) && not near
+kind_in Knight straight diagonal near = near && straight
+kind_in Pawn straight diagonal near = (near && not straight) && not diagonal
 
-abbrev pub kind_one : Kind → Bool
-kind_one King = false
-kind_one Queen = true
-kind_one Rook = false
-kind_one Bishop = true
-kind_one Knight = false
-kind_one Pawn = true
+-- The bits of what a square holds.
 
-abbrev pub kind_two : Kind → Bool
-kind_two King = true
-kind_two Queen = false
-kind_two Rook = false
-kind_two Bishop = true
-kind_two Knight = true
-kind_two Pawn = false
+abbrev pub is_straight : Kind → Bool
+is_straight King = false
+is_straight Queen = true
+is_straight Rook = true
+is_straight Bishop = false
+is_straight Knight = true
+is_straight Pawn = false
 
-abbrev pub kind_four : Kind → Bool
-kind_four King = true
-kind_four Queen = true
-kind_four Rook = true
-kind_four Bishop = false
-kind_four Knight = false
-kind_four Pawn = false
+abbrev pub is_diagonal : Kind → Bool
+is_diagonal King = true
+is_diagonal Queen = true
+is_diagonal Rook = false
+is_diagonal Bishop = true
+is_diagonal Knight = false
+is_diagonal Pawn = false
+
+abbrev pub is_near : Kind → Bool
+is_near King = true
+is_near Queen = false
+is_near Rook = false
+is_near Bishop = false
+is_near Knight = true
+is_near Pawn = true
 
 abbrev pub is_black : Colour → Bool
 is_black White = false
@@ -72,26 +83,22 @@ abbrev pub if_piece : (Piece → Bool) → Option Piece → Bool
 if_piece test None = false
 if_piece test (Some x) = test x
 
-abbrev pub one_of : Option Piece → Bool
-one_of = if_piece (λ x. kind_one x.kind)
+abbrev pub straight_of : Option Piece → Bool
+straight_of = if_piece (λ x. is_straight x.kind)
 
-abbrev pub two_of : Option Piece → Bool
-two_of = if_piece (λ x. kind_two x.kind)
+abbrev pub diagonal_of : Option Piece → Bool
+diagonal_of = if_piece (λ x. is_diagonal x.kind)
 
-abbrev pub four_of : Option Piece → Bool
-four_of = if_piece (λ x. kind_four x.kind)
+abbrev pub near_of : Option Piece → Bool
+near_of = if_piece (λ x. is_near x.kind)
 
 abbrev pub black_of : Option Piece → Bool
 black_of = if_piece (λ x. is_black x.colour)
 
--- a piece of the kind is there, of either colour
-abbrev pub has_kind : Kind → Option Piece → Bool
-has_kind k = if_piece (λ x. same_kind k x.kind)
-
 -- The words and the cells.
 
 abbrev pub cell_in : Inside → ℕ → Option Piece
-cell_in w i = coded (has w.ones i) (has w.twos i) (has w.fours i) (has w.black i)
+cell_in w i = coded (has w.straight i) (has w.diagonal i) (has w.near i) (has w.black i)
 
 unfoldable pub cells : Inside → List (Option Piece)
 cells w = map (cell_in w) (range_with_len 0 64)
@@ -102,14 +109,14 @@ word test [] = 0
 word test (x ∷ xs) = (if test x then 1 else 0) + 2 * word test xs
 
 abbrev pub words : List (Option Piece) → Inside
-words b = record { ones = word one_of b; twos = word two_of b; fours = word four_of b; black = word black_of b }
+words b = record { straight = word straight_of b; diagonal = word diagonal_of b; near = word near_of b; black = word black_of b }
 
 pub record AreWords (w : Inside) : Type 0 where
-  pub ones : w.ones < 2 ^ 64
-  pub twos : w.twos < 2 ^ 64
-  pub fours : w.fours < 2 ^ 64
+  pub straight : w.straight < 2 ^ 64
+  pub diagonal : w.diagonal < 2 ^ 64
+  pub near : w.near < 2 ^ 64
   pub black : w.black < 2 ^ 64
-  pub codes : (i : ℕ) → i < 64 → is_code (has w.ones i) (has w.twos i) (has w.fours i) (has w.black i) ≡ true
+  pub codes : (i : ℕ) → i < 64 → is_code (has w.straight i) (has w.diagonal i) (has w.near i) (has w.black i) ≡ true
 
 -- the word has exactly the places whose cells pass
 pub record Marks (word : ℕ) (test : Option Piece → Bool) (b : List (Option Piece)) : Type 0 where
@@ -124,6 +131,10 @@ pub record Sets (old new : ℕ) (place : ℕ) (value : Bool) : Type 0 where
 pub record Carries (old new : ℕ) (from to : ℕ) : Type 0 where
   pub fits : new < 2 ^ 64
   pub of : (i : ℕ) → i < 64 → has new i ≡ (if i == to then has old from else (if i == from then false else has old i))
+
+-- the set has exactly the places with a piece of the kind, by the three words
+pub record HasKinds (kinds : ℕ) (kind : Kind) (straight diagonal near : ℕ) : Type 0 where
+  pub of : (i : ℕ) → i < 64 → has kinds i ≡ kind_in kind (has straight i) (has diagonal i) (has near i)
 
 -- the places whose bit is of that value
 abbrev pub is_it : Bool → Bool → Bool
@@ -151,6 +162,15 @@ pub record IsHighest (word place : ℕ) : Type 0 where
   pub inside : place < 64
   pub here : has word place ≡ true
   pub none : (i : ℕ) → place < i → i < 64 → has word i ≡ false
+
+-- the first place of a word, or the last, alone: none if the word has none
+pub record IsOnlyLowest (word only : ℕ) : Type 0 where
+  pub here : (i : ℕ) → i < 64 → has only i ≡ true → IsLowest word i
+  pub there : (i : ℕ) → IsLowest word i → has only i ≡ true
+
+pub record IsOnlyHighest (word only : ℕ) : Type 0 where
+  pub here : (i : ℕ) → i < 64 → has only i ≡ true → IsHighest word i
+  pub there : (i : ℕ) → IsHighest word i → has only i ≡ true
 
 -- the squares of a set, in the order of their places
 unfoldable pub members : ℕ → List Square

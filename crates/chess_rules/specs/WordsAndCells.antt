@@ -7,7 +7,7 @@ use Rattle.std.proofs.lemmas.List.FromFn.{get_or-map-range_with_len, length-map-
 use Rattle.std.proofs.lemmas.Nat.Bits.{bit_at_lowest, bit_at-suc, bit_at-lt, same_from_bits_below}
 use Rattle.chess_rules.specs.declared.piece.Piece.{Piece}
 use Rattle.chess_rules.specs.declared.board.Board.TheInside.{Inside}
-use Rattle.chess_rules.specs.Words.{has, coded, is_code, cell_in, cells, word, words, one_of, two_of, four_of, black_of, AreWords}
+use Rattle.chess_rules.specs.Words.{has, coded, is_code, cell_in, cells, word, words, straight_of, diagonal_of, near_of, black_of, AreWords}
 
 pub cell_at : (w : Inside) (i : ℕ) → i < 64 → get_or (cells w) i None ≡ cell_in w i
 unfolding cells
@@ -65,7 +65,7 @@ word_again test w n fits same =
     word_bit test (cells w) i None (omega (arith, cells_long w))
     ∙ (ap (λ x. digit (test x)) (cell_at w i low) ∙ (ap digit (same i low) ∙ digit_again n i)))
 
-one_again : (a b c d : Bool) → is_code a b c d ≡ true → one_of (coded a b c d) ≡ a
+one_again : (a b c d : Bool) → is_code a b c d ≡ true → straight_of (coded a b c d) ≡ a
 one_again true true true d h = cc
 one_again true true false d h = refl
 one_again true false true d h = refl
@@ -75,7 +75,7 @@ one_again false true false d h = refl
 one_again false false true d h = refl
 one_again false false false d h = refl
 
-two_again : (a b c d : Bool) → is_code a b c d ≡ true → two_of (coded a b c d) ≡ b
+two_again : (a b c d : Bool) → is_code a b c d ≡ true → diagonal_of (coded a b c d) ≡ b
 two_again true true true d h = cc
 two_again true true false d h = refl
 two_again true false true d h = refl
@@ -85,7 +85,7 @@ two_again false true false d h = refl
 two_again false false true d h = refl
 two_again false false false d h = refl
 
-four_again : (a b c d : Bool) → is_code a b c d ≡ true → four_of (coded a b c d) ≡ c
+four_again : (a b c d : Bool) → is_code a b c d ≡ true → near_of (coded a b c d) ≡ c
 four_again true true true d h = cc
 four_again true true false d h = refl
 four_again true false true d h = refl
@@ -114,9 +114,9 @@ black_again false false false false h = refl
 
 pub words_again : (a : Inside) → AreWords a → words (cells a) ≡ a
 words_again a h =
-    ap₂ (λ x y. record { ones = x; twos = y; fours = word four_of (cells a); black = word black_of (cells a) })
-    (word_again one_of a a.ones h.ones (λ i low. one_again (has a.ones i) (has a.twos i) (has a.fours i) (has a.black i) (h.codes i low)))
-    (word_again two_of a a.twos h.twos (λ i low. two_again (has a.ones i) (has a.twos i) (has a.fours i) (has a.black i) (h.codes i low)))
-    ∙ ap₂ (λ x y. record { ones = a.ones; twos = a.twos; fours = x; black = y })
-    (word_again four_of a a.fours h.fours (λ i low. four_again (has a.ones i) (has a.twos i) (has a.fours i) (has a.black i) (h.codes i low)))
-    (word_again black_of a a.black h.black (λ i low. black_again (has a.ones i) (has a.twos i) (has a.fours i) (has a.black i) (h.codes i low)))
+    ap₂ (λ x y. record { straight = x; diagonal = y; near = word near_of (cells a); black = word black_of (cells a) })
+    (word_again straight_of a a.straight h.straight (λ i low. one_again (has a.straight i) (has a.diagonal i) (has a.near i) (has a.black i) (h.codes i low)))
+    (word_again diagonal_of a a.diagonal h.diagonal (λ i low. two_again (has a.straight i) (has a.diagonal i) (has a.near i) (has a.black i) (h.codes i low)))
+    ∙ ap₂ (λ x y. record { straight = a.straight; diagonal = a.diagonal; near = x; black = y })
+    (word_again near_of a a.near h.near (λ i low. four_again (has a.straight i) (has a.diagonal i) (has a.near i) (has a.black i) (h.codes i low)))
+    (word_again black_of a a.black h.black (λ i low. black_again (has a.straight i) (has a.diagonal i) (has a.near i) (has a.black i) (h.codes i low)))

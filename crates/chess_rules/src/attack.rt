@@ -1,109 +1,22 @@
-//! Which squares are attacked, seen from them outward.
+//! Which squares are attacked on a board.
 
-ghost use Rattle.std.specs.Prelude.{◌≡◌, ◌<◌, ◌&&◌, IsTrue, false};
+ghost use Rattle.std.specs.Prelude.{◌≡◌, ◌&&◌, IsTrue, false, is_some};
 ghost use Rattle.std.specs.List.{list_any};
-ghost use Rattle.chess_rules.specs.Square as square;
 ghost use Rattle.chess_rules.specs.Square.{squares};
-ghost use Rattle.chess_rules.specs.Board.{cell_of};
+ghost use Rattle.chess_rules.specs.Board.{at, cell_of};
 ghost use Rattle.chess_rules.specs.Position.{one_king};
 ghost use Rattle.chess_rules.specs.Attacks as spec;
-ghost use Rattle.chess_rules.specs.Walk as walk;
-ghost use Rattle.chess_rules.specs.Masks as masks;
+ghost use Rattle.chess_rules.specs.Reach as reach;
+ghost use Rattle.chess_rules.specs.Reach.{IsLine};
 ghost use Rattle.chess_rules.specs.Words.{Places, has};
-ghost use Rattle.chess_rules.specs.declared.piece.Kind.TheVariants.{Pawn};
 
 use crate::board::Board;
-use crate::direction::{DIRECTIONS, Direction};
+use crate::geometry::{
+    adjacent, aligned, between, diagonals, knights_to, lines, pawns_to, reaches, steep,
+};
 use crate::piece::{Colour, Kind};
 use crate::square::Square;
-use crate::tables::{ADJACENT, BETWEEN, BLACK_PAWNS, DIAGONALS, JUMPS_TO, LINES, WHITE_PAWNS};
-use crate::word::{has, highest, lowest, single, with};
-
-// The first occupied square on the way from `from`.
-fn first_on(board: &Board, direction: Direction, from: Square) -> Option<Square>
-    ensures { result ≡ walk.first_on board.now direction from }
-{
-    from.recall_invariant();
-    let pieces = direction.ray(from) & board.occupied();
-    if pieces == 0 {
-        return None;
-    }
-    if direction.goes_up() {
-        return Some(Square::nth(lowest(pieces)));
-    }
-    Some(Square::nth(highest(pieces)))
-}
-
-// The first occupied square on that way, as a set.
-fn first_piece(board: &Board, direction: Direction, target: Square) -> u64
-    ensures { Places result (λ s. walk.is_first_on board.now target s direction) }
-{
-    match first_on(board, direction, target) {
-        None => 0,
-        Some(origin) => {
-            origin.recall_invariant();
-            single(origin.index())
-        }
-    }
-}
-
-// The first occupied squares on the eight ways from the target.
-fn first_pieces(board: &Board, target: Square) -> u64
-    ensures { Places result (walk.is_first board.now target) }
-{
-    let directions = DIRECTIONS;
-    first_piece(board, directions[0], target)
-        | first_piece(board, directions[1], target)
-        | first_piece(board, directions[2], target)
-        | first_piece(board, directions[3], target)
-        | first_piece(board, directions[4], target)
-        | first_piece(board, directions[5], target)
-        | first_piece(board, directions[6], target)
-        | first_piece(board, directions[7], target)
-}
-
-// Whether a pawn of the colour goes from the first rank to the second one.
-pub(crate) fn is_ahead(colour: Colour, rank: u8, ahead: u8) -> bool
-    requires low { rank < 8 }
-    requires high { ahead < 8 }
-    ensures { result ≡ spec.is_ahead colour rank ahead }
-{
-    match colour {
-        Colour::White => ahead == rank + 1,
-        Colour::Black => rank == ahead + 1,
-    }
-}
-
-// The squares from which such a piece attacks `to`, if all squares between are empty.
-fn reaching(kind: Kind, colour: Colour, to: Square) -> u64
-    ensures { Places result (λ s. walk.reaches kind colour s to) }
-{
-    match kind {
-        Kind::King => adjacent(to),
-        Kind::Queen => aligned(to),
-        Kind::Rook => lines(to),
-        Kind::Bishop => diagonals(to),
-        Kind::Knight => knights_to(to),
-        Kind::Pawn => pawns_to(colour, to),
-    }
-}
-
-// Whether such a piece on `from` attacks `to`, if all squares between are empty.
-fn reaches(kind: Kind, colour: Colour, from: Square, to: Square) -> bool
-    ensures { result ≡ walk.reaches kind colour from to }
-{
-    from.recall_invariant();
-    has(reaching(kind, colour, to), from.index())
-}
-
-// The squares strictly between the two; none if they are not on one rank, file or diagonal.
-fn between(from: Square, to: Square) -> u64
-    ensures { Places result (λ s. square.strictly_between from s to) }
-{
-    from.recall_invariant();
-    to.recall_invariant();
-    BETWEEN[64 * from.index() + to.index()]
-}
+use crate::word::{below, has, lowest, only_highest, only_lowest, with};
 
 // Whether all squares strictly between are empty.
 pub(crate) fn is_clear(board: &Board, from: Square, to: Square) -> bool
@@ -126,6 +39,31 @@ pub(crate) fn clear_among(board: &Board, set: u64, target: Square) -> u64
         }
     }
     clear
+}
+
+// The pieces nearest to the target on a line through it, on either side of it.
+fn nearest(board: &Board, line: u64, target: Square) -> u64
+    requires { IsLine (λ s. has line (cell_of s)) target }
+    ensures { Places result (λ s. has line (cell_of s) && reach.is_open board.now target s) }
+{
+    target.recall_invariant();
+    let pieces = line & board.occupied();
+    let first = below(target.index());
+    only_lowest(pieces & !first) | only_highest(pieces & first)
+}
+
+// The pieces nearest to the target on the four lines through it.
+fn pieces_in_view(board: &Board, target: Square) -> u64
+    ensures { Places result (reach.is_in_view board.now target) }
+{
+    target.recall_invariant();
+    let lines = lines(target);
+    let diagonals = diagonals(target);
+    let steep = steep(target);
+    nearest(board, lines & steep, target)
+        | nearest(board, lines & !steep, target)
+        | nearest(board, diagonals & steep, target)
+        | nearest(board, diagonals & !steep, target)
 }
 
 // Whether a piece of the kind and colour on `from` attacks `to`.
@@ -158,84 +96,6 @@ pub(crate) fn attacks(board: &Board, from: Square, to: Square) -> bool
     }
 }
 
-// The squares a knight's jump away.
-pub(crate) fn knights_to(target: Square) -> u64
-    ensures { Places result (λ s. square.is_jump s target) }
-{
-    target.recall_invariant();
-    JUMPS_TO[target.index()]
-}
-
-// The squares side by side with it.
-pub(crate) fn adjacent(target: Square) -> u64
-    ensures { Places result (λ s. square.is_adjacent s target) }
-{
-    target.recall_invariant();
-    ADJACENT[target.index()]
-}
-
-// The others of its rank and its file.
-fn lines(target: Square) -> u64
-    ensures { Places result (λ s. square.in_line s target) }
-{
-    target.recall_invariant();
-    LINES[target.index()]
-}
-
-// The others of its diagonals.
-fn diagonals(target: Square) -> u64
-    ensures { Places result (λ s. square.on_diagonal s target) }
-{
-    target.recall_invariant();
-    DIAGONALS[target.index()]
-}
-
-// The others of its rank, its file and its diagonals.
-pub(crate) fn aligned(target: Square) -> u64
-    ensures { Places result (λ s. walk.is_aligned s target) }
-{
-    lines(target) | diagonals(target)
-}
-
-// The squares from which a pawn of the colour attacks it.
-fn pawns_to(by: Colour, target: Square) -> u64
-    ensures { Places result (λ s. walk.reaches Pawn by s target) }
-{
-    target.recall_invariant();
-    match by {
-        Colour::White => WHITE_PAWNS[target.index()],
-        Colour::Black => BLACK_PAWNS[target.index()],
-    }
-}
-
-// The pieces of the colour, but for rooks, bishops and queens, that attack the target.
-fn near_attackers(board: &Board, by: Colour, target: Square) -> u64
-    ensures { Places result (masks.attacks_near board.now by target) }
-{
-    (knights_to(target) & board.of_kind(Kind::Knight)
-        | adjacent(target) & board.of_kind(Kind::King)
-        | pawns_to(by, target) & board.of_kind(Kind::Pawn))
-        & board.of_colour(by)
-}
-
-// The rooks, bishops and queens of the colour that would reach the target if all squares between
-// were empty.
-fn sliders(board: &Board, by: Colour, target: Square) -> u64
-    ensures { Places result (masks.slides board.now by target) }
-{
-    (lines(target) & (board.of_kind(Kind::Rook) | board.of_kind(Kind::Queen))
-        | diagonals(target) & (board.of_kind(Kind::Bishop) | board.of_kind(Kind::Queen)))
-        & board.of_colour(by)
-}
-
-// Whether the two are on one rank, file or diagonal.
-pub(crate) fn sees(from: Square, to: Square) -> bool
-    ensures { result ≡ walk.is_aligned from to }
-{
-    from.recall_invariant();
-    has(aligned(to), from.index())
-}
-
 // Whether the piece on `from`, if there is one, attacks `to` if all squares between are empty.
 //
 // From most squares no piece attacks it: these need no look at the board.
@@ -252,32 +112,61 @@ pub(crate) fn may_attack(board: &Board, from: Square, to: Square) -> bool
     }
 }
 
-// Whether a rook, a bishop or a queen of the colour would reach the target on an empty board.
+// The rooks, bishops and queens of the colour that would attack the target if all squares between
+// were empty.
+fn sliders(board: &Board, by: Colour, target: Square) -> u64
+    ensures { Places result (reach.slides board.now by target) }
+{
+    (lines(target) & (board.of_kind(Kind::Rook) | board.of_kind(Kind::Queen))
+        | diagonals(target) & (board.of_kind(Kind::Bishop) | board.of_kind(Kind::Queen)))
+        & board.of_colour(by)
+}
+
+// Whether there is one of these.
 pub(crate) fn has_sliders(board: &Board, by: Colour, target: Square) -> bool
-    ensures { result ≡ list_any (masks.slides board.now by target) squares }
+    ensures { result ≡ list_any (reach.slides board.now by target) squares }
 {
     sliders(board, by, target) != 0
 }
 
-// Whether a rook, a bishop or a queen of the colour attacks the square.
+// All pieces of the colour that would attack the target if all squares between were empty.
+fn possible_attackers(board: &Board, by: Colour, target: Square) -> u64
+    ensures { Places result (reach.may_attack board.now by target) }
+{
+    let near = knights_to(target) & board.of_kind(Kind::Knight)
+        | adjacent(target) & board.of_kind(Kind::King)
+        | pawns_to(by, target) & board.of_kind(Kind::Pawn);
+    near & board.of_colour(by) | sliders(board, by, target)
+}
+
+// Whether a piece of the colour attacks the square.
 //
 // Mostly there is one at most that could. No loop goes over more of them: a test of legality whose
 // result nobody reads is dropped only if the compiler sees that it ends.
-fn has_clear_slider(board: &Board, by: Colour, target: Square) -> bool
-    ensures { result ≡ list_any (λ s. masks.slides board.now by target s
-        && spec.is_clear board.now s target) squares }
+pub(crate) fn is_attacked(board: &Board, by: Colour, target: Square) -> bool
+    ensures { result ≡ spec.is_attacked board.now by target }
 {
     target.recall_invariant();
-    let sliders = sliders(board, by, target);
-    if sliders == 0 {
+    let possible = possible_attackers(board, by, target);
+    if possible == 0 {
         return false;
     }
-    let place = lowest(sliders);
+    let place = lowest(possible);
     if is_clear(board, Square::nth(place), target) {
         return true;
     }
-    let others = with(sliders, place, false);
-    others != 0 && others & first_pieces(board, target) != 0
+    let others = with(possible, place, false);
+    others != 0 && others & (pieces_in_view(board, target) | knights_to(target)) != 0
+}
+
+// Whether the colour's one king, on that square, is attacked.
+pub(crate) fn is_king_attacked(board: &Board, colour: Colour, king: Square) -> bool
+    requires one { IsTrue (one_king board.now colour) }
+    requires there { king ≡ reach.king_square colour board.now }
+    ensures { result ≡ spec.king_attacked board.now colour }
+{
+    board.recall_invariant();
+    is_attacked(board, colour.other(), king)
 }
 
 // The squares of the pieces of the colour that attack the target, and those between the target and
@@ -286,27 +175,9 @@ fn has_clear_slider(board: &Board, by: Colour, target: Square) -> bool
 //
 // The caller chooses an order by this and nothing else, so it has no contract.
 pub(crate) fn defences(board: &Board, by: Colour, target: Square) -> u64 {
-    let attackers = near_attackers(board, by, target)
-        | clear_among(board, sliders(board, by, target), target);
+    let attackers = clear_among(board, possible_attackers(board, by, target), target);
     if attackers == 0 {
         return 0;
     }
     attackers | between(Square::nth(lowest(attackers)), target)
-}
-
-// Whether a piece of the colour attacks the square.
-pub(crate) fn is_attacked(board: &Board, by: Colour, target: Square) -> bool
-    ensures { result ≡ spec.is_attacked board.now by target }
-{
-    near_attackers(board, by, target) != 0 || has_clear_slider(board, by, target)
-}
-
-// Whether the colour's one king, on that square, is attacked.
-pub(crate) fn is_king_attacked(board: &Board, colour: Colour, king: Square) -> bool
-    requires one { IsTrue (one_king board.now colour) }
-    requires there { king ≡ walk.king_square colour board.now }
-    ensures { result ≡ spec.king_attacked board.now colour }
-{
-    board.recall_invariant();
-    is_attacked(board, colour.other(), king)
 }

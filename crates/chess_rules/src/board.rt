@@ -3,6 +3,7 @@
 ghost use Rattle.std.specs.Prelude.{◌≡◌, is_some, length};
 ghost use Rattle.chess_rules.specs.Board as spec;
 ghost use Rattle.chess_rules.specs.Position.{initial_board};
+ghost use Rattle.chess_rules.specs.Reach as reach;
 ghost use Rattle.chess_rules.specs.Words as words;
 ghost use Rattle.chess_rules.specs.Words.{Marks};
 
@@ -11,14 +12,14 @@ use crate::square::Square;
 use crate::word::{carried, has, with};
 use std::marker::Model;
 
-// Each square has a bit in each word: three bits of the code of its piece, and whether the piece is
-// black. Codes are pawn 1, knight 2, bishop 3, rook 4, queen 5, king 6; an empty
-// square has no bit set.
+// Each word has a bit for each square. A rook is in `straight`, a bishop in `diagonal`, a queen in
+// both. `near` has what does not slide: a pawn is in no other of the three, a knight in `straight`
+// too, a king in `diagonal` too. An empty square is in none of the four.
 #[derive(Clone, Copy)]
 pub(crate) struct Board {
-    ones: u64,
-    twos: u64,
-    fours: u64,
+    straight: u64,
+    diagonal: u64,
+    near: u64,
     black: u64,
 }
 
@@ -39,48 +40,48 @@ impl Model for Board {
     ghost inverse_ok = { words_again };
 }
 
-// What a square's bits say.
+// Which of the words have a square.
 #[derive(Clone, Copy)]
 struct Code {
-    one: bool,
-    two: bool,
-    four: bool,
+    straight: bool,
+    diagonal: bool,
+    near: bool,
     black: bool,
 }
 
 impl Code {
     fn of(content: Option<Piece>) -> Code
-        ensures one { result.one ≡ words.one_of content }
-        ensures two { result.two ≡ words.two_of content }
-        ensures four { result.four ≡ words.four_of content }
+        ensures straight { result.straight ≡ words.straight_of content }
+        ensures diagonal { result.diagonal ≡ words.diagonal_of content }
+        ensures near { result.near ≡ words.near_of content }
         ensures black { result.black ≡ words.black_of content }
     {
         match content {
             None => Code {
-                one: false,
-                two: false,
-                four: false,
+                straight: false,
+                diagonal: false,
+                near: false,
                 black: false,
             },
             Some(piece) => Code {
-                one: has_one(piece.kind),
-                two: has_two(piece.kind),
-                four: has_four(piece.kind),
+                straight: is_straight(piece.kind),
+                diagonal: is_diagonal(piece.kind),
+                near: is_near(piece.kind),
                 black: is_black(piece.colour),
             },
         }
     }
 
     fn content(self) -> Option<Piece>
-        ensures { result ≡ words.coded self.one self.two self.four self.black }
+        ensures { result ≡ words.coded self.straight self.diagonal self.near self.black }
     {
-        let kind = match (self.one, self.two, self.four) {
+        let kind = match (self.straight, self.diagonal, self.near) {
             (false, false, false) => return None,
-            (true, false, false) => Kind::Pawn,
-            (false, true, false) => Kind::Knight,
-            (true, true, false) => Kind::Bishop,
-            (false, false, true) => Kind::Rook,
-            (true, false, true) => Kind::Queen,
+            (true, false, false) => Kind::Rook,
+            (false, true, false) => Kind::Bishop,
+            (true, true, false) => Kind::Queen,
+            (false, false, true) => Kind::Pawn,
+            (true, false, true) => Kind::Knight,
             (_, true, true) => Kind::King,
         };
         let colour = if self.black {
@@ -92,28 +93,42 @@ impl Code {
     }
 }
 
-fn has_one(kind: Kind) -> bool
-    ensures { result ≡ words.kind_one kind }
+fn is_straight(kind: Kind) -> bool
+    ensures { result ≡ words.is_straight kind }
 {
-    matches!(kind, Kind::Pawn | Kind::Bishop | Kind::Queen)
+    matches!(kind, Kind::Queen | Kind::Rook | Kind::Knight)
 }
 
-fn has_two(kind: Kind) -> bool
-    ensures { result ≡ words.kind_two kind }
+fn is_diagonal(kind: Kind) -> bool
+    ensures { result ≡ words.is_diagonal kind }
 {
-    matches!(kind, Kind::Knight | Kind::Bishop | Kind::King)
+    matches!(kind, Kind::King | Kind::Queen | Kind::Bishop)
 }
 
-fn has_four(kind: Kind) -> bool
-    ensures { result ≡ words.kind_four kind }
+fn is_near(kind: Kind) -> bool
+    ensures { result ≡ words.is_near kind }
 {
-    matches!(kind, Kind::Rook | Kind::Queen | Kind::King)
+    matches!(kind, Kind::King | Kind::Knight | Kind::Pawn)
 }
 
 fn is_black(colour: Colour) -> bool
     ensures { result ≡ words.is_black colour }
 {
     colour == Colour::Black
+}
+
+// The squares with a piece of the kind, by the three words that tell kinds apart.
+fn kind_set(kind: Kind, straight: u64, diagonal: u64, near: u64) -> u64
+    ensures { words.HasKinds result kind straight diagonal near }
+{
+    match kind {
+        Kind::King => near & diagonal,
+        Kind::Queen => straight & diagonal,
+        Kind::Rook => straight & !diagonal & !near,
+        Kind::Bishop => diagonal & !straight & !near,
+        Kind::Knight => near & straight,
+        Kind::Pawn => near & !straight & !diagonal,
+    }
 }
 
 // The places whose bit is of that value.
@@ -128,16 +143,14 @@ impl Board {
     pub(crate) fn occupied(&self) -> u64
         ensures { Marks result is_some self.now }
     {
-        self.ones | self.twos | self.fours
+        self.straight | self.diagonal | self.near
     }
 
     // The squares with a piece of the kind, of either colour.
     pub(crate) fn of_kind(&self, kind: Kind) -> u64
-        ensures { Marks result (words.has_kind kind) self.now }
+        ensures { Marks result (reach.has_kind kind) self.now }
     {
-        chosen(self.ones, has_one(kind))
-            & chosen(self.twos, has_two(kind))
-            & chosen(self.fours, has_four(kind))
+        kind_set(kind, self.straight, self.diagonal, self.near)
     }
 
     // The squares with a piece of the colour.
@@ -159,9 +172,9 @@ impl Board {
     {
         let place = square.index();
         let code = Code {
-            one: has(self.ones, place),
-            two: has(self.twos, place),
-            four: has(self.fours, place),
+            straight: has(self.straight, place),
+            diagonal: has(self.diagonal, place),
+            near: has(self.near, place),
             black: has(self.black, place),
         };
         code.content()
@@ -192,9 +205,9 @@ impl Board {
         let place = square.index();
         let code = Code::of(content);
         *self = Board {
-            ones: with(self.ones, place, code.one),
-            twos: with(self.twos, place, code.two),
-            fours: with(self.fours, place, code.four),
+            straight: with(self.straight, place, code.straight),
+            diagonal: with(self.diagonal, place, code.diagonal),
+            near: with(self.near, place, code.near),
             black: with(self.black, place, code.black),
         };
     }
@@ -207,9 +220,9 @@ impl Board {
         let from = from.index();
         let to = to.index();
         *self = Board {
-            ones: carried(self.ones, from, to),
-            twos: carried(self.twos, from, to),
-            fours: carried(self.fours, from, to),
+            straight: carried(self.straight, from, to),
+            diagonal: carried(self.diagonal, from, to),
+            near: carried(self.near, from, to),
             black: carried(self.black, from, to),
         };
     }
@@ -219,9 +232,9 @@ impl Board {
         ensures { result ≡ initial_board }
     {
         Board {
-            ones: 0x2cff_0000_0000_ff2c,
-            twos: 0x7600_0000_0000_0076,
-            fours: 0x9900_0000_0000_0099,
+            straight: 0xcb00_0000_0000_00cb,
+            diagonal: 0x3c00_0000_0000_003c,
+            near: 0x52ff_0000_0000_ff52,
             black: 0xffff_0000_0000_0000,
         }
     }
@@ -231,9 +244,9 @@ impl Board {
         ensures { length result ≡ 64 }
     {
         Board {
-            ones: 0,
-            twos: 0,
-            fours: 0,
+            straight: 0,
+            diagonal: 0,
+            near: 0,
             black: 0,
         }
     }
@@ -253,6 +266,6 @@ impl Board {
     pub(crate) fn recall_invariant(&self)
         ensures { length self.now ≡ 64 }
     {
-        let _ = &self.ones;
+        let _ = &self.straight;
     }
 }

@@ -6,7 +6,8 @@ ghost use Rattle.arrayvec.specs.ArrayVec.{array_vec_len};
 ghost use Rattle.chess_rules.specs.Candidate.{candidates, lone};
 ghost use Rattle.chess_rules.specs.Words.{members};
 
-use crate::attack::{aligned, clear_among, knights_to};
+use crate::attack::clear_among;
+use crate::geometry::{aligned, knights_to};
 use crate::piece::Kind;
 use crate::position::Position;
 use crate::square::Square;

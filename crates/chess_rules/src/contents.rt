@@ -6,7 +6,7 @@ ghost use Rattle.chess_rules.specs.Square.{square};
 ghost use Rattle.chess_rules.specs.Board as spec;
 ghost use Rattle.chess_rules.specs.Board.{is_pawn};
 ghost use Rattle.chess_rules.specs.Position.{pawn_on_edge};
-ghost use Rattle.chess_rules.specs.Walk as walk;
+ghost use Rattle.chess_rules.specs.Reach as reach;
 ghost use Rattle.chess_rules.specs.declared.piece.Kind.TheVariants.{King};
 
 use crate::piece::{Colour, Kind, Piece};
@@ -42,7 +42,7 @@ pub(crate) fn kings(contents: &[Option<Piece>; 64], colour: Colour) -> usize
 
 // The square of the colour's first king; a1 if there is none.
 pub(crate) fn king_square(contents: &[Option<Piece>; 64], colour: Colour) -> Square
-    ensures { result ≡ walk.king_square colour contents.now }
+    ensures { result ≡ reach.king_square colour contents.now }
 {
     match king_index(contents, colour) {
         Some(index) => Square::nth(index),

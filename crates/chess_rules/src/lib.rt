@@ -7,7 +7,7 @@ mod attack;
 mod board;
 mod candidates;
 mod contents;
-mod direction;
+mod geometry;
 pub mod laws;
 mod legal;
 mod pairs;

@@ -6,7 +6,8 @@ ghost use Rattle.chess_rules.specs.Pairs as spec;
 ghost use Rattle.chess_rules.specs.Pairs.{Counts};
 ghost use Rattle.chess_rules.specs.Words.{Places, members};
 
-use crate::attack::{adjacent, aligned, clear_among, defences, knights_to};
+use crate::attack::{clear_among, defences};
+use crate::geometry::{adjacent, aligned, knights_to};
 use crate::legal::is_legal;
 use crate::piece::{Kind, Promotion};
 use crate::position::{Move, Position};

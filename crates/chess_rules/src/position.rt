@@ -7,12 +7,13 @@ ghost use Rattle.chess_rules.specs.Position as spec;
 ghost use Rattle.chess_rules.specs.Step as step;
 ghost use Rattle.chess_rules.specs.Plain.{is_plain as plain_step};
 ghost use Rattle.chess_rules.specs.Legal.{legal, is_legal, is_check};
-ghost use Rattle.chess_rules.specs.Walk.{king_square as king_square_of};
-ghost use Rattle.chess_rules.specs.Walk as walk;
+ghost use Rattle.chess_rules.specs.Reach.{king_square as king_square_of};
+ghost use Rattle.chess_rules.specs.Reach as reach;
 
-use crate::attack::{has_sliders, is_attacked, is_king_attacked, may_attack, sees};
+use crate::attack::{has_sliders, is_attacked, is_king_attacked, may_attack};
 use crate::board::Board;
 use crate::contents::{has_pawn_on_edge, king_square, kings};
+use crate::geometry::sees;
 use crate::piece::{Colour, Kind, Piece, Promotion};
 use crate::square::Square;
 use crate::step::{board_after, board_to_test, crossed, is_double_step, is_plain};
@@ -394,7 +395,7 @@ fn target_fits(side: Colour, target: Option<Square>) -> bool
 
 // The square of a king after the move: the move may be its own.
 fn king_after(king: Square, mv: &Move) -> Square
-    ensures { result ≡ walk.king_after king mv.now }
+    ensures { result ≡ reach.king_after king mv.now }
 {
     if mv.from.is(king) { mv.to } else { king }
 }

@@ -2,7 +2,7 @@
 
 ghost use Rattle.std.specs.Prelude.{◌≡◌, ◌<◌, ◌&&◌, nat_lt, Some, None, if◌then◌else◌};
 ghost use Rattle.chess_rules.specs.Board.{cell_of};
-ghost use Rattle.chess_rules.specs.Walk.{square_at};
+ghost use Rattle.chess_rules.specs.Reach.{square_at};
 ghost use Rattle.chess_rules.specs.Square as spec;
 
 use std::marker::Model;

@@ -6,8 +6,9 @@ ghost use Rattle.chess_rules.specs.Plain as ways;
 ghost use Rattle.chess_rules.specs.declared.piece.Kind.TheVariants.{King, Pawn};
 ghost use Rattle.chess_rules.specs.Step as spec;
 
-use crate::attack::{attacks, is_ahead, is_attacked, is_clear, piece_attacks};
+use crate::attack::{attacks, is_attacked, is_clear, piece_attacks};
 use crate::board::Board;
+use crate::geometry::is_ahead;
 use crate::piece::{Colour, Kind, Piece, Promotion};
 use crate::position::{Move, Position};
 use crate::square::Square;

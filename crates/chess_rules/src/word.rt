@@ -1,8 +1,8 @@
 //! Words of 64 bits, each a set of squares: bit i belongs to the square with place i.
 
-ghost use Rattle.std.specs.Prelude.{◌≡◌, ◌<◌, ◌≤◌, ◌^◌, false, length};
+ghost use Rattle.std.specs.Prelude.{◌≡◌, ◌<◌, ◌≤◌, ◌^◌, ◌-◌, false, length};
 ghost use Rattle.chess_rules.specs.Words as spec;
-ghost use Rattle.chess_rules.specs.Words.{Carries, IsHighest, IsLowest, Sets};
+ghost use Rattle.chess_rules.specs.Words.{Carries, IsHighest, IsLowest, IsOnlyHighest, IsOnlyLowest, Sets};
 
 // Whether the set has the place.
 pub(crate) fn has(word: u64, place: usize) -> bool
@@ -53,6 +53,34 @@ pub(crate) fn highest(word: u64) -> usize
     ensures { IsHighest word result }
 {
     63 - word.leading_zeros() as usize
+}
+
+// The places before this one.
+pub(crate) fn below(place: usize) -> u64
+    requires { place < 64 }
+    ensures { result ≡ 2 ^ place - 1 }
+{
+    single(place) - 1
+}
+
+// The first place alone; none of a set that has none.
+pub(crate) fn only_lowest(word: u64) -> u64
+    ensures { IsOnlyLowest word result }
+{
+    if word == 0 {
+        return 0;
+    }
+    single(lowest(word))
+}
+
+// The last place alone; none of a set that has none.
+pub(crate) fn only_highest(word: u64) -> u64
+    ensures { IsOnlyHighest word result }
+{
+    if word == 0 {
+        return 0;
+    }
+    single(highest(word))
 }
 
 // Whether the set has more than one place.

@@ -194,6 +194,7 @@ fn is_fit(hint: Option<u8>, number: u8) -> bool
 }
 
 // Whether the move is legal, no castling, and begins where the hints allow.
+#[inline(always)]
 fn agrees(position: &Position, hints: Hints, mv: &Move, probes: &mut Probes) -> bool
     requires { probes.old + 1 < 2 ^ 32 }
     ensures agrees { result ≡ (is_legal position.now mv.now

@@ -1,7 +1,7 @@
 -- A buffer that takes more bytes behind those that were written.
 use Rattle.std.proofs.Common.{◌≡◌, ℕ, ◌+◌, ◌-◌, ◌≤◌, min, List, ◌++◌, length, take, drop, ap, sym, ◌∙◌, length-append, arith}
 use Rattle.std.proofs.Math.Seq.{length_paste_head}
-use Rattle.std.proofs.lemmas.List.{take_at, drop_at, drop-drop, length-drop}
+use Rattle.std.proofs.lemmas.List.{drop_at, drop-drop, length-drop}
 
 -- the buffer b, in which w bytes were written, and then the first n of xs
 abbrev pub with_more : List ℕ → ℕ → ℕ → List ℕ → List ℕ
@@ -11,11 +11,6 @@ pub length_with : (b xs : List ℕ) (w n : ℕ) → w ≤ length b → n ≡ min
     → length (with_more b w n xs) ≡ length b
 length_with b xs w n within count =
     omega (arith, within, count, length-append (take w b ++ take n xs) (drop (w + n) b), length_paste_head b w xs n within (omega (arith, count)), length-drop (w + n) b)
-
-pub take_with : (b xs : List ℕ) (w n : ℕ) → w ≤ length b → n ≡ min (length xs) (length b - w)
-    → take (w + n) (with_more b w n xs) ≡ take w b ++ take n xs
-take_with b xs w n within count =
-    take_at (take w b ++ take n xs) (drop (w + n) b) (w + n) (length_paste_head b w xs n within (omega (arith, count)))
 
 pub drop_with : (b k xs : List ℕ) (w n : ℕ) → w ≤ length b → n ≡ min (length xs) (length b - w)
     → drop w b ≡ drop w k → drop (w + n) (with_more b w n xs) ≡ drop (w + n) k

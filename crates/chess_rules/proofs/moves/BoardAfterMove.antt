@@ -10,10 +10,9 @@ use Rattle.chess_rules.specs.declared.position.Parts.{Parts}
 use Rattle.chess_rules.specs.Square.{Square, same_square}
 use Rattle.chess_rules.specs.Board.{Board, at, put, kings, has_piece, is_pawn}
 use Rattle.chess_rules.specs.Step.{promoted, carried}
-use Rattle.chess_rules.specs.Walk.{king_after}
-use Rattle.chess_rules.proofs.squares.AllSquares.{both_true}
-use Rattle.chess_rules.proofs.rays.WalkToBetween.{equal_tests}
-use Rattle.chess_rules.proofs.rays.AttacksByRay.{squares_same}
+use Rattle.chess_rules.specs.Reach.{king_after}
+use Rattle.chess_rules.proofs.squares.AllSquares.{both_true, equal_tests}
+use Rattle.chess_rules.proofs.lines.AttackToReach.{squares_same}
 use Rattle.chess_rules.proofs.positions.OneKing.{StandsAt}
 use Rattle.chess_rules.proofs.moves.CellsAfterPut.{OnBoard, at_put, at_put_here, length-put, king_count, kings-put, kings-put_alike}
 use Rattle.chess_rules.proofs.positions.RulesOfPosition.{Sound, is_edge, no_pawn_there}

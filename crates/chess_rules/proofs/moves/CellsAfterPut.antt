@@ -9,7 +9,7 @@ use Rattle.chess_rules.specs.declared.piece.Kind.TheVariants.{King}
 use Rattle.chess_rules.specs.declared.piece.Piece.{Piece}
 use Rattle.chess_rules.specs.Square.{Square}
 use Rattle.chess_rules.specs.Board.{Board, at, put, cell_of, kings, has_piece}
-use Rattle.chess_rules.specs.Walk.{square_at}
+use Rattle.chess_rules.specs.Reach.{square_at}
 use Rattle.chess_rules.proofs.positions.OneKing.{square_at-cell_of}
 
 pub record OnBoard (s : Square) : Type 0 where

@@ -14,7 +14,7 @@ use Rattle.chess_rules.specs.Attacks.{is_attacked, king_attacked}
 use Rattle.chess_rules.specs.Position.{is_position, target_fits}
 use Rattle.chess_rules.specs.Step.{own, pawn_rank, double_rank, is_on_board, is_double_step, is_piece_step, is_pawn_step, is_en_passant, crossed, castles_short, castles_long, short_right, long_right, short_wing, long_wing, carried, en_passant_board, castled, board_after, after, step, rights_after, target_after, half_after, full_after, counted}
 use Rattle.chess_rules.specs.Legal.{legal, if_safe, is_legal}
-use Rattle.chess_rules.specs.Walk.{king_square, king_after}
+use Rattle.chess_rules.specs.Reach.{king_square, king_after}
 use Rattle.chess_rules.specs.Laws.{LeavesPosition, OneAfter}
 use Rattle.chess_rules.proofs.squares.AllSquares.{first_true, second_true, both_true}
 use Rattle.chess_rules.proofs.positions.OneKing.{king_stands, king_only_there, king_attacked_there}
@@ -167,12 +167,6 @@ not_legal_when p m b on h attacked =
     by_safety : (x : Bool) → x ≡ true → (if not x then Some (after p m b) else None) ≡ None
     by_safety true e = refl
     by_safety false e = cc
-
-pub not_legal_unless : (p : Parts) (m : Move) → is_on_board m ≡ true → board_after p m ≡ None → legal p m ≡ None
-not_legal_unless p m on h = ap if_safe (stepped ∙ ap (option_map (after p m)) h)
-  where
-    stepped : step p m ≡ option_map (after p m) (board_after p m)
-    stepped = rw on refl
 
 -- a legal move was a step to some board, and left the king safe
 pub record Legal (p : Parts) (m : Move) (q : Parts) : Type 0 where

@@ -11,8 +11,7 @@ use Rattle.chess_rules.specs.Board.{at, is_empty, other, has_colour, has_piece}
 use Rattle.chess_rules.specs.Attacks.{attacks}
 use Rattle.chess_rules.specs.Step.{own, is_piece_step, is_advance, is_double_step, is_pawn_capture, is_pawn_way, is_pawn_step, promotion_fits, is_target, captured_pawn, is_en_passant, castles_short, castles_long, short_right, long_right, short_wing, long_wing, Wing, crossed}
 use Rattle.chess_rules.specs.Laws.{CasesApart}
-use Rattle.chess_rules.proofs.squares.AllSquares.{split_or, first_true, second_true}
-use Rattle.chess_rules.proofs.rays.WalkToBetween.{equal_from}
+use Rattle.chess_rules.proofs.squares.AllSquares.{split_or, first_true, second_true, equal_from}
 use Rattle.chess_rules.proofs.moves.StepsKeepBoard.{one_kind, pawn_is_no_king, pawn_attack, attacks_as, Castles, castles_means}
 
 pub no_pawn_moves : (p : Parts) (m : Move) → is_piece_step p m ≡ true → own p Pawn m.from ≡ true → ⊥

@@ -18,14 +18,10 @@ use Rattle.chess_rules.specs.Attacks.{attacks, cell_attacks, is_attacked, is_cle
 use Rattle.chess_rules.specs.Position.{is_position}
 use Rattle.chess_rules.specs.Step.{is_target, is_on_board, short_right, long_right, short_wing, long_wing, Wing, promoted, carried, board_after, after}
 use Rattle.chess_rules.specs.Legal.{legal, if_safe, is_legal, is_check}
-use Rattle.chess_rules.specs.Walk.{is_aligned, king_square, king_after}
-use Rattle.chess_rules.specs.Masks.{near_with, slides, slides_with}
+use Rattle.chess_rules.specs.Reach.{is_aligned, king_square, king_after, near_with, slides, slides_with}
 use Rattle.chess_rules.specs.Plain.{is_plain, king_goes_far}
-use Rattle.chess_rules.proofs.squares.AllSquares.{split_or, first_true, second_true, both_true, each_square, all_squares, Passes, some_square, any_square}
-use Rattle.chess_rules.proofs.rays.WalkToBetween.{not_true, implied}
-use Rattle.chess_rules.proofs.rays.AttacksByRay.{squares_same, none_or_all}
-use Rattle.chess_rules.proofs.rays.AttackersNearAndFar.{by_cell}
-use Rattle.chess_rules.proofs.trying.CandidatesFoundOnce.{not_means}
+use Rattle.chess_rules.proofs.squares.AllSquares.{split_or, first_true, second_true, both_true, each_square, all_squares, Passes, some_square, any_square, not_true, implied, not_means}
+use Rattle.chess_rules.proofs.lines.AttackToReach.{squares_same, none_or_all, by_cell}
 use Rattle.chess_rules.proofs.positions.OneKing.{StandsAt, king_stands, king_attacked_there}
 use Rattle.chess_rules.proofs.moves.CellsAfterPut.{OnBoard, at_put, at_put_here, length-put}
 use Rattle.chess_rules.proofs.positions.RulesOfPosition.{Sound, sound_from_position, to_false}

@@ -7,7 +7,7 @@ use Rattle.chess_rules.specs.Square.{Square, square, same_square}
 use Rattle.chess_rules.specs.Board.{cell_of}
 use Rattle.chess_rules.specs.Step.{keeps, rights_after}
 use Rattle.chess_rules.specs.Words.{has}
-use Rattle.chess_rules.proofs.rays.AttacksByRay.{squares_same}
+use Rattle.chess_rules.proofs.lines.AttackToReach.{squares_same}
 
 -- a1, e1, h1, a8, e8, h8
 abbrev pub homes : ℕ

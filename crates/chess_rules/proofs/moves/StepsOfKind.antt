@@ -12,10 +12,9 @@ use Rattle.chess_rules.specs.Square.{Square, gap}
 use Rattle.chess_rules.specs.Board.{Board, at, is_empty, other, has_colour, has_piece, kind_number, same_colour}
 use Rattle.chess_rules.specs.Attacks.{attacks, cell_attacks, is_ahead, kind_attacks}
 use Rattle.chess_rules.specs.Step.{own, pawn_rank, double_rank, is_target, is_piece_step, is_pawn_way, is_pawn_step, promotion_fits, is_advance, is_double_step, crossed, is_pawn_capture, captured_pawn, is_en_passant, castles_short, castles_long, short_right, long_right, short_wing, long_wing, board_after}
-use Rattle.chess_rules.proofs.squares.AllSquares.{split_or, first_true, second_true, both_true}
-use Rattle.chess_rules.proofs.rays.WalkToBetween.{equal_from, equal_tests}
+use Rattle.chess_rules.proofs.squares.AllSquares.{split_or, first_true, second_true, both_true, equal_from, equal_tests}
 use Rattle.chess_rules.proofs.positions.RulesOfPosition.{to_false}
-use Rattle.chess_rules.proofs.rays.AttacksByRay.{kinds_same, colours_same, none_or_all}
+use Rattle.chess_rules.proofs.lines.AttackToReach.{kinds_same, colours_same, none_or_all}
 use Rattle.chess_rules.proofs.moves.StepsKeepBoard.{one_kind, colour_of_piece, not_both, short_is_wing, long_is_wing, castles_means, castling_ends_empty, pawn_attack}
 use Rattle.chess_rules.proofs.moves.OneWayToStep.{no_pawn_moves, pawn_of_step, pawn_of_en_passant}
 
@@ -119,11 +118,6 @@ attacks_by c k (Some x) b s t h =
     let kind : k ≡ x.kind = kinds_same k x.kind (second_true (same_colour c x.colour) _ h) in
     ap (λ d. kind_attacks x.kind d b s t) (sym colour) ∙ ap (λ l. kind_attacks l c b s t) (sym kind)
 
-not_named : (a b c d e : Bool) → c ≡ false → false ≡ (((a && b) && c) && (d && e))
-not_named true true c d e h = rw h refl
-not_named true false c d e h = refl
-not_named false b c d e h = refl
-
 not_open : (a b c d e : Bool) → e ≡ true → false ≡ (((a && b) && c) && (d && not e))
 not_open true true true true e h = rw h refl
 not_open true true true false e h = refl
@@ -138,9 +132,6 @@ left_open false b c d e f g h i = cc
 left_open true true c d e f g h i = cc
 left_open true false false d e f g h i = cc
 left_open true false true d true f g h i = cc
-
-pub no_promoting : (p : Parts) (m : Move) → is_none m.promotion ≡ false → false ≡ is_piece_step p m
-no_promoting p m h = not_named (has_colour p.side (at p.board m.from)) (not (own p Pawn m.from)) (is_none m.promotion) (attacks p.board m.from m.to) _ h
 
 pub no_own_piece_taken : (p : Parts) (m : Move) → has_colour p.side (at p.board m.to) ≡ true → false ≡ is_piece_step p m
 no_own_piece_taken p m h =

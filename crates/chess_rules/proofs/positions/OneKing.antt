@@ -1,17 +1,16 @@
 -- Where the one king of a colour stands.
-use Rattle.std.proofs.Common.{◌≡◌, ℕ, zero, suc, ◌+◌, ◌*◌, ◌/◌, ◌%◌, ◌<◌, ◌≤◌, Bool, true, false, not, ◌&&◌, refl, sym, ◌∙◌, ap, ap₂, subst, arith, List, [], ◌∷◌, length, get_or, map, cond}
+use Rattle.std.proofs.Common.{◌≡◌, ℕ, zero, suc, ◌+◌, ◌*◌, ◌/◌, ◌%◌, ◌<◌, ◌≤◌, Bool, true, false, not, ◌&&◌, refl, sym, ◌∙◌, ap, ap₂, subst, arith, List, [], ◌∷◌, length, get_or, cond}
 use Rattle.std.specs.Prelude.{None, Some, nat_lt, unwrap_or, position, count_by}
-use Rattle.std.specs.List.{position_or_len, prefix_len}
+use Rattle.std.specs.List.{position_or_len}
 use Rattle.std.proofs.lemmas.Bool.Decides.{nat_tests}
 use Rattle.std.proofs.lemmas.List.Quantifiers.{position-Some}
-use Rattle.std.proofs.lemmas.List.{length-map}
 use Rattle.std.proofs.lemmas.List.Recursion.{is_count_by}
 use Rattle.chess_rules.specs.declared.piece.Colour.{Colour}
 use Rattle.chess_rules.specs.declared.piece.Kind.TheVariants.{King}
 use Rattle.chess_rules.specs.Square.{Square, square}
 use Rattle.chess_rules.specs.Board.{Board, at, cell_of, kings, other, has_piece}
 use Rattle.chess_rules.specs.Attacks.{is_attacked, king_attacked}
-use Rattle.chess_rules.specs.Walk.{square_at, king_square}
+use Rattle.chess_rules.specs.Reach.{square_at, king_square}
 use Rattle.chess_rules.proofs.squares.AllSquares.{first_true, second_true, both_true, same_tests, Passes, some_square, any_square}
 
 -- How many elements pass, an element at a time.
@@ -70,14 +69,6 @@ place_found p xs h = by_test (nat_lt (position_or_len p xs) (length xs)) refl (s
     by_test : (v : Bool) → nat_lt (position_or_len p xs) (length xs) ≡ v → position_or_len p xs < length xs → cond v (Some (position_or_len p xs)) None ≡ Some (position_or_len p xs)
     by_test true e low = refl
     by_test false e low = absurd (grind (arith, nat_tests))
-
-prefix_len-map : {X Y : Type 0} (p : Y → Bool) (f : X → Y) (xs : List X) → prefix_len p (map f xs) ≡ prefix_len (λ x. p (f x)) xs
-prefix_len-map p f [] = refl
-prefix_len-map p f (x ∷ xs) = ap (λ n. cond (p (f x)) (1 + n) 0) (prefix_len-map p f xs)
-
-pub position-map : {X Y : Type 0} (p : Y → Bool) (f : X → Y) (xs : List X) → position p (map f xs) ≡ position (λ x. p (f x)) xs
-position-map p f xs =
-    ap₂ (λ m n. cond (nat_lt m n) (Some m) None) (prefix_len-map (λ y. not (p y)) f xs) (length-map xs f)
 
 -- The king's square.
 

@@ -1,5 +1,7 @@
 -- What a test of all 64 squares says of each square.
-use Rattle.std.proofs.Common.{◌≡◌, ℕ, zero, suc, ◌+◌, ◌<◌, ◌≤◌, Bool, true, false, ◌&&◌, ◌||◌, ◌⊎◌, inl, inr, List, [], ◌∷◌, map, refl, sym, ◌∙◌, ap, ap₂, subst, arith}
+use Rattle.std.proofs.Common.{◌≡◌, ℕ, zero, suc, ◌+◌, ◌<◌, ◌≤◌, Bool, true, false, not, ◌&&◌, ◌||◌, ◌⊎◌, inl, inr, List, [], ◌∷◌, map, refl, sym, ◌∙◌, ap, ap₂, subst, arith}
+use Rattle.std.specs.Prelude.{◌==◌}
+use Rattle.std.proofs.lemmas.Bool.Decides.{nat_tests}
 use Rattle.std.specs.List.{list_all, range_with_len, list_any, flat_map}
 use Rattle.std.proofs.lemmas.List.Folds.{list_all-append, list_all-map, list_any-append}
 use Rattle.chess_rules.specs.Square.{Square, square, squares, lines}
@@ -24,6 +26,24 @@ true_or false y r e h = cc
 pub false_or : (x y r q : Bool) → r ≡ x → r ≡ false → q ≡ y → (x || y) ≡ q
 false_or true y r q e h g = cc
 false_or false y r q e h g = sym g
+
+pub not_means : (x : Bool) → not x ≡ true → x ≡ false
+not_means true g = cc
+not_means false g = refl
+
+pub not_true : (x y : Bool) → x ≡ true → (not x || y) ≡ true → y ≡ true
+not_true true y h g = g
+not_true false y h g = cc
+
+pub implied : (x y : Bool) → (x ≡ true → y ≡ true) → (not x || y) ≡ true
+implied true y h = h refl
+implied false y h = refl
+
+pub equal_from : (a b : ℕ) → (a == b) ≡ true → a ≡ b
+equal_from a b h = grind (arith, nat_tests)
+
+pub equal_tests : (a b : ℕ) → a ≡ b → (a == b) ≡ true
+equal_tests a b h = grind (arith, nat_tests)
 
 -- two tests that imply one another
 pub same_tests : (x y : Bool) → (x ≡ true → y ≡ true) → (y ≡ true → x ≡ true) → x ≡ y
@@ -112,17 +132,6 @@ list_any-map test f (x ∷ xs) = ap (λ v. test (f x) || v) (list_any-map test f
 pub any_same : {X : Type 0} (f g : X → Bool) (xs : List X) → ((x : X) → f x ≡ g x) → list_any f xs ≡ list_any g xs
 any_same f g [] h = refl
 any_same f g (x ∷ xs) h = ap₂ (λ v w. v || w) (h x) (any_same f g xs h)
-
--- one that passes either of two tests
-pub any_either : {X : Type 0} (f g : X → Bool) (xs : List X) → list_any (λ x. f x || g x) xs ≡ (list_any f xs || list_any g xs)
-any_either f g [] = refl
-any_either f g (x ∷ xs) = ap (λ v. (f x || g x) || v) (any_either f g xs) ∙ in_turn (f x) (g x) (list_any f xs) (list_any g xs)
-  where
-    in_turn : (v w x y : Bool) → ((v || w) || (x || y)) ≡ ((v || x) || (w || y))
-    in_turn true w x y = refl
-    in_turn false true true y = refl
-    in_turn false true false y = refl
-    in_turn false false x y = refl
 
 list_any-flat_map : {X Y : Type 0} (test : Y → Bool) (f : X → List Y) (xs : List X) → list_any test (flat_map f xs) ≡ list_any (λ x. list_any test (f x)) xs
 list_any-flat_map test f [] = refl

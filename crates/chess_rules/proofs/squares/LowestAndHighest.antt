@@ -1,10 +1,13 @@
 -- The lowest and the highest place of a set that is not empty.
-use Rattle.std.proofs.Common.{◌≡◌, ℕ, zero, suc, ◌+◌, ◌-◌, ◌*◌, ◌^◌, ◌<◌, ◌≤◌, pow-suc, w64, sym, ◌∙◌, ap, arith}
-use Rattle.std.specs.Prelude.{◌==◌}
+use Rattle.std.proofs.Common.{◌≡◌, ℕ, zero, suc, ◌+◌, ◌-◌, ◌*◌, ◌^◌, ◌<◌, ◌≤◌, pow-suc, ◌⊎◌, inl, inr, true, false, w64, sym, ◌∙◌, ap, subst, arith}
+use Rattle.std.specs.Prelude.{◌==◌, ◌≢◌}
+use Rattle.std.proofs.lemmas.Bool.{false≢true}
 use Rattle.std.specs.Int.{bit_at, leading_zeros, trailing_zeros}
 use Rattle.std.proofs.lemmas.Nat.{leading_length}
 use Rattle.std.proofs.lemmas.Nat.Bits.{bit_at_above, bit_at_cat_high, bit_at-trailing_zeros}
-use Rattle.chess_rules.specs.Words.{has, IsHighest, IsLowest}
+use Rattle.chess_rules.specs.Words.{has, IsHighest, IsLowest, IsOnlyHighest, IsOnlyLowest}
+use Rattle.chess_rules.proofs.squares.AllSquares.{equal_from, equal_tests}
+use Rattle.chess_rules.proofs.squares.WordsToCells.{has_single, has_zero, same_or_apart}
 
 pub lowest_place : (n : ℕ) → 0 < n → n < 2 ^ 64 → IsLowest n (trailing_zeros w64 n)
 unfolding has
@@ -34,3 +37,39 @@ highest_place n some fits = by_length (leading_length 64 n fits)
           here = ap (λ d. d == 1) (ap (bit_at n) (sym place) ∙ top);
           none = λ i above _. ap (λ d. d == 1) (bit_at_above n (suc j) i high (omega arith));
         }
+
+-- The lowest and the highest place alone.
+
+nothing_in : (w i : ℕ) → w ≡ 0 → has w i ≡ true → ⊥
+nothing_in w i none h = false≢true (sym (has_zero i) ∙ (ap (λ n. has n i) (sym none) ∙ h))
+
+pub no_lowest : (w : ℕ) → w ≡ 0 → IsOnlyLowest w 0
+no_lowest w none = record { here = λ i _ h. absurd (false≢true (sym (has_zero i) ∙ h)); there = λ i l. absurd (nothing_in w i none l.here) }
+
+pub no_highest : (w : ℕ) → w ≡ 0 → IsOnlyHighest w 0
+no_highest w none = record { here = λ i _ h. absurd (false≢true (sym (has_zero i) ∙ h)); there = λ i l. absurd (nothing_in w i none l.here) }
+
+at_single : (r n i : ℕ) → r ≡ 2 ^ n → has r i ≡ (i == n)
+at_single r n i is = ap (λ m. has m i) is ∙ has_single n i
+
+-- two places of which none is before the other
+one_of_order : (i n : ℕ) → (i < n → ⊥) → (n < i → ⊥) → i ≡ n
+one_of_order i n h g = by_place (same_or_apart i n)
+  where
+    by_place : ((i ≡ n) × ((i == n) ≡ true)) ⊎ ((i ≢ n) × ((i == n) ≡ false)) → i ≡ n
+    by_place (inl w) = w.0
+    by_place (inr w) = grind (arith, h, g)
+
+pub lowest_alone : (w n r : ℕ) → IsLowest w n → r ≡ 2 ^ n → IsOnlyLowest w r
+lowest_alone w n r lowest is =
+    record {
+      here = λ i _ h. subst (IsLowest w) (sym (equal_from i n (sym (at_single r n i is) ∙ h))) lowest;
+      there = λ i l. at_single r n i is ∙ equal_tests i n (one_of_order i n (λ less. false≢true (sym (lowest.none i less) ∙ l.here)) (λ less. false≢true (sym (l.none n less) ∙ lowest.here)));
+    }
+
+pub highest_alone : (w n r : ℕ) → IsHighest w n → r ≡ 2 ^ n → IsOnlyHighest w r
+highest_alone w n r highest is =
+    record {
+      here = λ i _ h. subst (IsHighest w) (sym (equal_from i n (sym (at_single r n i is) ∙ h))) highest;
+      there = λ i l. at_single r n i is ∙ equal_tests i n (one_of_order i n (λ less. false≢true (sym (l.none n less highest.inside) ∙ highest.here)) (λ less. false≢true (sym (highest.none i less l.inside) ∙ l.here)));
+    }

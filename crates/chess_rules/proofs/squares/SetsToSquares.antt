@@ -1,21 +1,20 @@
 -- Sets of squares: what is in a meet or a union, whether a set is empty, and its members in turn.
-use Rattle.std.proofs.Common.{◌≡◌, ℕ, zero, suc, ◌+◌, ◌/◌, ◌%◌, ◌<◌, ◌≤◌, ◌^◌, Bool, true, false, not, ◌&&◌, ◌||◌, ◌⊎◌, inl, inr, List, [], ◌∷◌, length, map, cond, get_or, refl, sym, ◌∙◌, ap, ap₂, w64, arith}
-use Rattle.std.specs.Prelude.{◌==◌, Option, None, filter, if◌then◌else◌}
+use Rattle.std.proofs.Common.{◌≡◌, ℕ, zero, suc, ◌+◌, ◌-◌, ◌/◌, ◌%◌, ◌<◌, ◌≤◌, ◌^◌, Bool, true, false, not, ◌&&◌, ◌||◌, ◌⊎◌, inl, inr, List, [], ◌∷◌, length, map, cond, get_or, refl, sym, ◌∙◌, ap, ap₂, subst, w64, arith}
+use Rattle.std.specs.Prelude.{◌==◌, Option, None, filter, nat_lt, if◌then◌else◌}
 use Rattle.std.specs.List.{list_any, range_with_len}
 use Rattle.std.specs.Int.Bits.{bit_and, bit_or}
-use Rattle.std.specs.Int.{trailing_zeros}
+use Rattle.std.specs.Int.{bit_not, trailing_zeros}
 use Rattle.std.proofs.lemmas.Bool.{false≢true}
 use Rattle.std.proofs.lemmas.Bool.Decides.{nat_tests}
 use Rattle.chess_rules.specs.declared.piece.Piece.{Piece}
 use Rattle.chess_rules.specs.Square.{Square, same_square, squares}
 use Rattle.chess_rules.specs.Board.{Board, at, cell_of}
-use Rattle.chess_rules.specs.Walk.{square_at}
+use Rattle.chess_rules.specs.Reach.{square_at}
 use Rattle.chess_rules.specs.Words.{has, members, IsLowest, Marks, Places, Sets}
-use Rattle.chess_rules.proofs.squares.WordsToCells.{has_and, has_or, has_zero, same_or_apart}
+use Rattle.chess_rules.proofs.squares.WordsToCells.{has_and, has_below, has_not, has_or, has_zero, same_or_apart}
 use Rattle.chess_rules.proofs.squares.LowestAndHighest.{lowest_place}
 use Rattle.chess_rules.proofs.positions.OneKing.{cell_of-square_at, square_at-cell_of}
-use Rattle.chess_rules.proofs.squares.AllSquares.{both_true, Passes, some_square, any_square}
-use Rattle.chess_rules.proofs.rays.WalkToBetween.{equal_from, equal_tests}
+use Rattle.chess_rules.proofs.squares.AllSquares.{both_true, Passes, some_square, any_square, equal_from, equal_tests}
 use Rattle.chess_rules.proofs.trying.FoundLists.{list_any-filter}
 
 pub places_and : (v w : ℕ) (p q : Square → Bool) → Places v p → Places w q → Places (bit_and v w) (λ s. p s && q s)
@@ -23,6 +22,17 @@ places_and v w p q h g = record { of = λ i low. has_and v w i ∙ ap₂ (λ x y
 
 pub places_or : (v w : ℕ) (p q : Square → Bool) → Places v p → Places w q → Places (bit_or v w) (λ s. p s || q s)
 places_or v w p q h g = record { of = λ i low. has_or v w i ∙ ap₂ (λ x y. x || y) (h.of i low) (g.of i low) }
+
+pub places_not : (w : ℕ) (p : Square → Bool) → w < 2 ^ 64 → Places w p → Places (bit_not w64 w) (λ s. not (p s))
+places_not w p fits h = record { of = λ i low. has_not w i fits low ∙ ap not (h.of i low) }
+
+pub places_same : (w : ℕ) (p q : Square → Bool) → ((i : ℕ) → i < 64 → p (square_at i) ≡ q (square_at i)) → Places w p → Places w q
+places_same w p q e h = record { of = λ i low. h.of i low ∙ e i low }
+
+-- the squares before one
+pub places_below : (w k : ℕ) (t : Square) → w ≡ 2 ^ k - 1 → k ≡ cell_of t → Places w (λ s. nat_lt (cell_of s) (cell_of t))
+places_below w k t is place =
+    record { of = λ i low. ap (λ n. has n i) is ∙ (has_below k i ∙ ap₂ nat_lt (sym (cell_of-square_at i)) place) }
 
 -- a set of cells is one of squares
 pub marked : (w : ℕ) (test : Option Piece → Bool) (b : Board) → Marks w test b → Places w (λ s. test (at b s))
@@ -143,3 +153,29 @@ some_member w n lowest = by_length (members w) (there lowest.inside)
 -- the same of a word
 pub one_member : (w : ℕ) → 0 < w → w < 2 ^ 64 → 0 < length (members w)
 one_member w some fits = some_member w (trailing_zeros w64 w) (lowest_place w some fits)
+
+-- At most one square passes, if any two that pass are one.
+
+none_kept : (p : Square → Bool) (a n : ℕ) → ((i : ℕ) → a ≤ i → i < a + n → p (square_at i) ≡ true → ⊥) → length (filter p (map square_at (range_with_len a n))) ≡ 0
+none_kept p a zero h = refl
+none_kept p a (suc n) h = by_test (p (square_at a)) refl (none_kept p (a + 1) n (λ i low high. h i (omega arith) (omega arith)))
+  where
+    by_test : (x : Bool) → p (square_at a) ≡ x → length (filter p (map square_at (range_with_len (a + 1) n))) ≡ 0
+        → length (cond x (square_at a ∷ filter p (map square_at (range_with_len (a + 1) n))) (filter p (map square_at (range_with_len (a + 1) n)))) ≡ 0
+    by_test true e none = absurd (h a (omega arith) (omega arith) e)
+    by_test false e none = none
+
+one_of_range : (p : Square → Bool) (a n : ℕ) → ((i j : ℕ) → a ≤ i → i < j → j < a + n → p (square_at i) ≡ true → p (square_at j) ≡ true → ⊥)
+    → length (filter p (map square_at (range_with_len a n))) ≤ 1
+one_of_range p a zero h = omega arith
+one_of_range p a (suc n) h = by_test (p (square_at a)) refl (one_of_range p (a + 1) n (λ i j low less high. h i j (omega arith) less (omega arith)))
+  where
+    by_test : (x : Bool) → p (square_at a) ≡ x → length (filter p (map square_at (range_with_len (a + 1) n))) ≤ 1
+        → length (cond x (square_at a ∷ filter p (map square_at (range_with_len (a + 1) n))) (filter p (map square_at (range_with_len (a + 1) n)))) ≤ 1
+    by_test true e few =
+        let none : length (filter p (map square_at (range_with_len (a + 1) n))) ≡ 0 = none_kept p (a + 1) n (λ i low high there. h a i (omega arith) (omega arith) (omega arith) e there) in
+        omega arith
+    by_test false e few = few
+
+pub one_kept : (p : Square → Bool) → ((i j : ℕ) → i < j → j < 64 → p (square_at i) ≡ true → p (square_at j) ≡ true → ⊥) → length (filter p squares) ≤ 1
+one_kept p h = subst (λ (xs : List Square). length (filter p xs) ≤ 1) (sym by_places) (one_of_range p 0 64 (λ i j _ less high. h i j less (omega arith)))

@@ -1,17 +1,18 @@
 -- The tables of squares hold what is said of each square.
-use Rattle.std.proofs.Common.{◌≡◌, ℕ, zero, suc, ◌+◌, ◌*◌, ◌/◌, ◌%◌, ◌<◌, Bool, true, false, List, [], ◌∷◌, refl, ◌∙◌, ap, ap₂, arith, get_or}
-use Rattle.std.specs.Prelude.{◌==◌, map}
-use Rattle.chess_rules.specs.declared.direction.Shift.{Shift}
-use Rattle.chess_rules.specs.declared.direction.Shift.TheVariants.{Down, Stay, Up}
-use Rattle.chess_rules.specs.declared.direction.Direction.{Direction}
-use Rattle.chess_rules.specs.Square.{Square}
+use Rattle.std.proofs.Common.{◌≡◌, ℕ, zero, suc, ◌+◌, ◌*◌, ◌/◌, ◌%◌, ◌<◌, Bool, true, false, ◌&&◌, ◌||◌, inl, inr, sym, List, [], ◌∷◌, refl, ◌∙◌, ap, ap₂, arith, get_or}
+use Rattle.std.specs.Prelude.{◌==◌, map, if◌then◌else◌}
+use Rattle.std.proofs.lemmas.Bool.{false≢true}
+use Rattle.std.proofs.lemmas.Bool.Decides.{nat_tests}
+use Rattle.chess_rules.proofs.squares.AllSquares.{split_or, or_second, first_true}
+use Rattle.chess_rules.proofs.squares.WordsToCells.{has_zero}
+use Rattle.chess_rules.specs.Square.{Square, on_diagonal, strictly_between, between_on_rank, between_on_file, between_on_diagonal}
 use Rattle.std.specs.List.{range_with_len}
 use Rattle.std.proofs.lemmas.List.FromFn.{get_or-range_with_len, length-range_with_len}
 use Rattle.chess_rules.specs.Board.{cell_of}
 use Rattle.chess_rules.specs.WordsAndCells.{digit, word_bit}
-use Rattle.chess_rules.specs.Masks.{ray_mask}
+use Rattle.chess_rules.specs.Masks.{between_mask}
 use Rattle.chess_rules.specs.Words.{has, mask, Places}
-use Rattle.chess_rules.specs.Walk.{square_at, shift_number, direction_number, shift_numbered, direction_numbered, lies_on}
+use Rattle.chess_rules.specs.Reach.{square_at, is_aligned}
 use Rattle.chess_rules.proofs.positions.OneKing.{square_at-cell_of}
 
 -- n numbers from k on
@@ -31,26 +32,6 @@ pub table_at : (f : ℕ → ℕ) (table : List ℕ) (n i : ℕ) → table ≡ ma
 table_at f table n i are less =
     let same : 0 + i ≡ i = omega arith in
     ap (λ l. get_or l i 0) are ∙ (at_number f n 0 i 0 less ∙ ap f same)
-
--- A direction and its number.
-
-shift_again : (w : Shift) → shift_numbered (shift_number w) ≡ w
-shift_again Down = refl
-shift_again Stay = refl
-shift_again Up = refl
-
-shift_low : (w : Shift) → shift_number w < 3
-shift_low Down = omega arith
-shift_low Stay = omega arith
-shift_low Up = omega arith
-
-pub direction_again : (d : Direction) → direction_numbered (direction_number d) ≡ d
-direction_again d =
-    let low : shift_number d.ranks < 3 = shift_low d.ranks in
-    let first : (3 * shift_number d.files + shift_number d.ranks) / 3 ≡ shift_number d.files = omega arith in
-    let second : (3 * shift_number d.files + shift_number d.ranks) % 3 ≡ shift_number d.ranks = omega arith in
-    ap₂ (λ m n. record { files = shift_numbered m; ranks = shift_numbered n }) first second
-    ∙ ap₂ (λ f r. record { files = f; ranks = r }) (shift_again d.files) (shift_again d.ranks)
 
 -- A set of squares in a table.
 
@@ -74,16 +55,42 @@ quotient m n h = omega arith
 rest : (m n : ℕ) → n < 64 → (64 * m + n) % 64 ≡ n
 rest m n h = omega arith
 
-pub ray_mask_is : (d : Direction) (s : Square) → s.file < 8 → s.rank < 8 → ray_mask (64 * direction_number d + cell_of s) ≡ mask (lies_on d s)
-unfolding ray_mask
-ray_mask_is d s file rank =
-    let low : cell_of s < 64 = omega arith in
-    ap₂ (λ m n. mask (lies_on (direction_numbered m) (square_at n))) (quotient (direction_number d) (cell_of s) low) (rest (direction_number d) (cell_of s) low)
-    ∙ ap₂ (λ e u. mask (lies_on e u)) (direction_again d) (square_at-cell_of s file)
-
 -- two squares again from the number of their pair
-pub first_of_pair : (s t : Square) → s.file < 8 → t.file < 8 → t.rank < 8 → square_at ((64 * cell_of s + cell_of t) / 64) ≡ s
+first_of_pair : (s t : Square) → s.file < 8 → t.file < 8 → t.rank < 8 → square_at ((64 * cell_of s + cell_of t) / 64) ≡ s
 first_of_pair s t sf tf tr = ap square_at (quotient (cell_of s) (cell_of t) (omega arith)) ∙ square_at-cell_of s sf
 
-pub second_of_pair : (s t : Square) → t.file < 8 → t.rank < 8 → square_at ((64 * cell_of s + cell_of t) % 64) ≡ t
+second_of_pair : (s t : Square) → t.file < 8 → t.rank < 8 → square_at ((64 * cell_of s + cell_of t) % 64) ≡ t
 second_of_pair s t tf tr = ap square_at (rest (cell_of s) (cell_of t) (omega arith)) ∙ square_at-cell_of t tf
+
+-- two squares with one between them are on a line
+
+rank_aligned : (s u t : Square) → between_on_rank s u t ≡ true → is_aligned s t ≡ true
+rank_aligned s u t h = grind (arith, nat_tests)
+
+file_aligned : (s u t : Square) → between_on_file s u t ≡ true → is_aligned s t ≡ true
+file_aligned s u t h = grind (arith, nat_tests)
+
+ends_aligned : (s u t : Square) → strictly_between s u t ≡ true → is_aligned s t ≡ true
+ends_aligned s u t h =
+    elim (split_or (between_on_rank s u t) (between_on_file s u t || between_on_diagonal s u t) h) [
+      | inl r ↦ rank_aligned s u t r
+      | inr more ↦ elim (split_or (between_on_file s u t) (between_on_diagonal s u t) more) [
+        | inl f ↦ file_aligned s u t f
+        | inr d ↦ or_second _ _ (first_true (on_diagonal s t) (on_diagonal s u) (first_true (on_diagonal s t && on_diagonal s u) _ d))
+      ]
+    ]
+
+pub between_places : (s t : Square) (n : ℕ) → s.file < 8 → t.file < 8 → t.rank < 8 → n ≡ between_mask (64 * cell_of s + cell_of t) → Places n (λ u. strictly_between s u t)
+unfolding between_mask
+between_places s t n sf tf tr is =
+    by_line (is_aligned s t) refl
+    (is ∙ ap₂ (λ (v w : Square). if is_aligned v w then mask (λ u. strictly_between v u w) else 0) (first_of_pair s t sf tf tr) (second_of_pair s t tf tr))
+  where
+    by_line : (x : Bool) → is_aligned s t ≡ x → n ≡ (if is_aligned s t then mask (λ u. strictly_between s u t) else 0) → Places n (λ u. strictly_between s u t)
+    by_line true e h = places (λ u. strictly_between s u t) n (h ∙ ap (λ x. if x then mask (λ u. strictly_between s u t) else 0) e)
+    by_line false e h =
+        record { of = λ i _. ap (λ m. has m i) (h ∙ ap (λ x. if x then mask (λ u. strictly_between s u t) else 0) e) ∙ (has_zero i ∙ sym (none (square_at i) (strictly_between s (square_at i) t) refl)) }
+      where
+        none : (u : Square) (x : Bool) → strictly_between s u t ≡ x → strictly_between s u t ≡ false
+        none u false g = g
+        none u true g = absurd (false≢true (sym e ∙ ends_aligned s u t g))

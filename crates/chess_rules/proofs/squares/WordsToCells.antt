@@ -1,13 +1,13 @@
 -- Words as sets of places, and what the four words of a board say of its cells.
-use Rattle.std.proofs.Common.{◌≡◌, ℕ, zero, suc, ◌-◌, ◌*◌, ◌%◌, ◌^◌, ◌<◌, ◌≢◌, min, max, Bool, true, false, not, ◌&&◌, ◌||◌, ◌⊎◌, inl, inr, List, get_or, set, length, length-set, refl, sym, ◌∙◌, ap, ap₂, w64, arith}
-use Rattle.std.specs.Prelude.{⊤, Option, None, Some, ◌==◌, is_some, is_none, if◌then◌else◌}
+use Rattle.std.proofs.Common.{◌≡◌, ℕ, zero, suc, ◌-◌, ◌*◌, ◌%◌, ◌^◌, ◌<◌, ◌≤◌, ◌≢◌, min, max, Bool, true, false, not, ◌&&◌, ◌||◌, ◌⊎◌, inl, inr, List, get_or, set, length, length-set, refl, sym, ◌∙◌, ap, ap₂, w64, arith}
+use Rattle.std.specs.Prelude.{⊤, Option, None, Some, ◌==◌, is_some, is_none, nat_lt, if◌then◌else◌}
 use Rattle.std.specs.Int.{bit_at, bit_not}
 use Rattle.std.specs.Int.Bits.{bit_and, bit_or}
 use Rattle.std.proofs.lemmas.Bool.Decides.{nat_tests}
 use Rattle.std.proofs.lemmas.Grind.{get_or-set_at}
 use Rattle.std.proofs.lemmas.List.{ext_get_or, get_or-set_other}
 use Rattle.std.proofs.lemmas.Nat.{and_le_r, or_lt}
-use Rattle.std.proofs.lemmas.Nat.Bits.{bit_at_and, bit_at_or, bit_at_not, bit_at-lt, bit_at-zero, bit_at-pow_same, bit_at-pow_other}
+use Rattle.std.proofs.lemmas.Nat.Bits.{bit_at_and, bit_at_or, bit_at_not, bit_at-lt, bit_at-zero, bit_at-pow_same, bit_at-pow_other, bit_at_ones, bit_at_ones_above}
 use Rattle.chess_rules.specs.declared.piece.Colour.{Colour}
 use Rattle.chess_rules.specs.declared.piece.Colour.TheVariants.{White, Black}
 use Rattle.chess_rules.specs.declared.piece.Kind.{Kind}
@@ -15,7 +15,8 @@ use Rattle.chess_rules.specs.declared.piece.Kind.TheVariants.{King, Queen, Rook,
 use Rattle.chess_rules.specs.declared.piece.Piece.{Piece}
 use Rattle.chess_rules.specs.declared.board.Board.TheInside.{Inside}
 use Rattle.chess_rules.specs.WordsAndCells.{cell_at, cells_long}
-use Rattle.chess_rules.specs.Words.{AreWords, Marks, cell_in, cells, has, Sets, Carries, Chosen, coded, is_code, is_it, kind_one, kind_two, kind_four, is_black, one_of, two_of, four_of, black_of, has_kind, colour_of}
+use Rattle.chess_rules.specs.Words.{AreWords, Marks, cell_in, cells, has, Sets, Carries, Chosen, coded, is_code, is_it, kind_in, is_straight, is_diagonal, is_near, is_black, straight_of, diagonal_of, near_of, black_of, colour_of}
+use Rattle.chess_rules.specs.Reach.{has_kind}
 use Rattle.chess_rules.specs.Board.{has_colour, has_piece, same_colour, same_kind}
 
 -- One bit.
@@ -73,6 +74,15 @@ has_single k i =
       | inl w ↦ ap (λ n. n == 1) (ap (bit_at (2 ^ k)) w.0 ∙ bit_at-pow_same k) ∙ sym w.1
       | inr w ↦ ap (λ n. n == 1) (bit_at-pow_other k i w.0) ∙ sym w.1
     ]
+
+-- the places before one
+pub has_below : (k i : ℕ) → has (2 ^ k - 1) i ≡ nat_lt i k
+unfolding has
+has_below k i = by_test (nat_lt i k) refl
+  where
+    by_test : (x : Bool) → nat_lt i k ≡ x → (bit_at (2 ^ k - 1) i == 1) ≡ nat_lt i k
+    by_test true e = (let low : i < k = grind (arith, nat_tests) in ap (λ n. n == 1) (bit_at_ones k i low) ∙ sym e)
+    by_test false e = (let high : k ≤ i = grind (arith, nat_tests) in ap (λ n. n == 1) (bit_at_ones_above k i high) ∙ sym e)
 
 pub set_bit : (x e : Bool) → (x || e) ≡ (if e then true else x)
 set_bit true true = refl
@@ -165,11 +175,11 @@ chosen_else word value fits e = record { of = λ i low. has_not word i fits low 
 
 -- What the bits say of a cell.
 
-pub code_of : (x : Option Piece) → is_code (one_of x) (two_of x) (four_of x) (black_of x) ≡ true
+pub code_of : (x : Option Piece) → is_code (straight_of x) (diagonal_of x) (near_of x) (black_of x) ≡ true
 code_of None = refl
 code_of (Some x) = by_kind x.kind x.colour
   where
-    by_kind : (k : Kind) (c : Colour) → is_code (kind_one k) (kind_two k) (kind_four k) (is_black c) ≡ true
+    by_kind : (k : Kind) (c : Colour) → is_code (is_straight k) (is_diagonal k) (is_near k) (is_black c) ≡ true
     by_kind King White = refl
     by_kind King Black = refl
     by_kind Queen White = refl
@@ -183,11 +193,11 @@ code_of (Some x) = by_kind x.kind x.colour
     by_kind Pawn White = refl
     by_kind Pawn Black = refl
 
-pub coded_again : (x : Option Piece) → coded (one_of x) (two_of x) (four_of x) (black_of x) ≡ x
+pub coded_again : (x : Option Piece) → coded (straight_of x) (diagonal_of x) (near_of x) (black_of x) ≡ x
 coded_again None = refl
 coded_again (Some x) = by_kind x.kind x.colour
   where
-    by_kind : (k : Kind) (c : Colour) → coded (kind_one k) (kind_two k) (kind_four k) (is_black c) ≡ Some (record { colour = c; kind = k })
+    by_kind : (k : Kind) (c : Colour) → coded (is_straight k) (is_diagonal k) (is_near k) (is_black c) ≡ Some (record { colour = c; kind = k })
     by_kind King White = refl
     by_kind King Black = refl
     by_kind Queen White = refl
@@ -211,7 +221,7 @@ is_occupied false true false d = refl
 is_occupied false false true d = refl
 is_occupied false false false d = refl
 
-pub kind_there : (k : Kind) (a b c d : Bool) → is_code a b c d ≡ true → ((is_it (kind_one k) a && is_it (kind_two k) b) && is_it (kind_four k) c) ≡ has_kind k (coded a b c d)
+pub kind_there : (k : Kind) (a b c d : Bool) → is_code a b c d ≡ true → kind_in k a b c ≡ has_kind k (coded a b c d)
 kind_there King true true true d h = cc
 kind_there King true true false d h = refl
 kind_there King true false true d h = refl
@@ -357,35 +367,35 @@ long_there w b is = ap (λ (c : List (Option Piece)). length c) (sym is) ∙ cel
 
 -- a square is set, in each word
 module _ (old new : Inside) (k : ℕ) (x : Option Piece) (one two four black : Bool)
-    (ones : Sets old.ones new.ones k one) (twos : Sets old.twos new.twos k two) (fours : Sets old.fours new.fours k four) (blacks : Sets old.black new.black k black)
-    (a : one ≡ one_of x) (b : two ≡ two_of x) (c : four ≡ four_of x) (d : black ≡ black_of x) where
+    (straight : Sets old.straight new.straight k one) (diagonal : Sets old.diagonal new.diagonal k two) (near : Sets old.near new.near k four) (blacks : Sets old.black new.black k black)
+    (a : one ≡ straight_of x) (b : two ≡ diagonal_of x) (c : four ≡ near_of x) (d : black ≡ black_of x) where
   bits_put : (i : ℕ) → i < 64 → (v : Bool) → (i == k) ≡ v → cell_in new i ≡ (if v then x else cell_in old i)
   bits_put i low true e =
-      ap₂ (λ p q. coded p q (has new.fours i) (has new.black i)) (here (has old.ones i) (has new.ones i) one (ones.of i low) ∙ a) (here (has old.twos i) (has new.twos i) two (twos.of i low) ∙ b)
-      ∙ (ap₂ (λ p q. coded (one_of x) (two_of x) p q) (here (has old.fours i) (has new.fours i) four (fours.of i low) ∙ c) (here (has old.black i) (has new.black i) black (blacks.of i low) ∙ d)
+      ap₂ (λ p q. coded p q (has new.near i) (has new.black i)) (here (has old.straight i) (has new.straight i) one (straight.of i low) ∙ a) (here (has old.diagonal i) (has new.diagonal i) two (diagonal.of i low) ∙ b)
+      ∙ (ap₂ (λ p q. coded (straight_of x) (diagonal_of x) p q) (here (has old.near i) (has new.near i) four (near.of i low) ∙ c) (here (has old.black i) (has new.black i) black (blacks.of i low) ∙ d)
       ∙ coded_again x)
     where
       here : (was is value : Bool) → is ≡ (if i == k then value else was) → is ≡ value
       here was is value h = h ∙ ap (λ v. if v then value else was) e
   bits_put i low false e =
-      ap₂ (λ p q. coded p q (has new.fours i) (has new.black i)) (there (has old.ones i) (has new.ones i) one (ones.of i low)) (there (has old.twos i) (has new.twos i) two (twos.of i low))
-      ∙ ap₂ (λ p q. coded (has old.ones i) (has old.twos i) p q) (there (has old.fours i) (has new.fours i) four (fours.of i low)) (there (has old.black i) (has new.black i) black (blacks.of i low))
+      ap₂ (λ p q. coded p q (has new.near i) (has new.black i)) (there (has old.straight i) (has new.straight i) one (straight.of i low)) (there (has old.diagonal i) (has new.diagonal i) two (diagonal.of i low))
+      ∙ ap₂ (λ p q. coded (has old.straight i) (has old.diagonal i) p q) (there (has old.near i) (has new.near i) four (near.of i low)) (there (has old.black i) (has new.black i) black (blacks.of i low))
     where
       there : (was is value : Bool) → is ≡ (if i == k then value else was) → is ≡ was
       there was is value h = h ∙ ap (λ v. if v then value else was) e
 
-  codes_put : ((i : ℕ) → i < 64 → is_code (has old.ones i) (has old.twos i) (has old.fours i) (has old.black i) ≡ true) → (i : ℕ) → i < 64 → is_code (has new.ones i) (has new.twos i) (has new.fours i) (has new.black i) ≡ true
+  codes_put : ((i : ℕ) → i < 64 → is_code (has old.straight i) (has old.diagonal i) (has old.near i) (has old.black i) ≡ true) → (i : ℕ) → i < 64 → is_code (has new.straight i) (has new.diagonal i) (has new.near i) (has new.black i) ≡ true
   codes_put h i low =
-      ap₂ (λ p q. is_code p q (has new.fours i) (has new.black i)) (ones.of i low) (twos.of i low)
-      ∙ (ap₂ (λ p q. is_code (if i == k then one else has old.ones i) (if i == k then two else has old.twos i) p q) (fours.of i low) (blacks.of i low)
+      ap₂ (λ p q. is_code p q (has new.near i) (has new.black i)) (straight.of i low) (diagonal.of i low)
+      ∙ (ap₂ (λ p q. is_code (if i == k then one else has old.straight i) (if i == k then two else has old.diagonal i) p q) (near.of i low) (blacks.of i low)
       ∙ by_place (i == k))
     where
-      by_place : (v : Bool) → is_code (if v then one else has old.ones i) (if v then two else has old.twos i) (if v then four else has old.fours i) (if v then black else has old.black i) ≡ true
-      by_place true = ap₂ (λ p q. is_code p q four black) a b ∙ (ap₂ (λ p q. is_code (one_of x) (two_of x) p q) c d ∙ code_of x)
+      by_place : (v : Bool) → is_code (if v then one else has old.straight i) (if v then two else has old.diagonal i) (if v then four else has old.near i) (if v then black else has old.black i) ≡ true
+      by_place true = ap₂ (λ p q. is_code p q four black) a b ∙ (ap₂ (λ p q. is_code (straight_of x) (diagonal_of x) p q) c d ∙ code_of x)
       by_place false = h i low
 
   pub words_put : AreWords old → AreWords new
-  words_put h = record { ones = ones.fits; twos = twos.fits; fours = fours.fits; black = blacks.fits; codes = codes_put h.codes }
+  words_put h = record { straight = straight.fits; diagonal = diagonal.fits; near = near.fits; black = blacks.fits; codes = codes_put h.codes }
 
   pub cells_put : (before : List (Option Piece)) → cells old ≡ before → cells new ≡ set before k x
   cells_put before is =
@@ -398,18 +408,18 @@ module _ (old new : Inside) (k : ℕ) (x : Option Piece) (one two four black : B
 
 -- what one square holds is carried to another, in each word
 module _ (old new : Inside) (j k : ℕ)
-    (ones : Carries old.ones new.ones j k) (twos : Carries old.twos new.twos j k) (fours : Carries old.fours new.fours j k) (blacks : Carries old.black new.black j k) where
+    (straight : Carries old.straight new.straight j k) (diagonal : Carries old.diagonal new.diagonal j k) (near : Carries old.near new.near j k) (blacks : Carries old.black new.black j k) where
   bits_carried : (i : ℕ) → i < 64 → cell_in new i ≡ (if i == k then cell_in old j else (if i == j then None else cell_in old i))
   bits_carried i low =
-      ap₂ (λ p q. coded p q (has new.fours i) (has new.black i)) (ones.of i low) (twos.of i low)
-      ∙ (ap₂ (λ p q. coded (moved old.ones) (moved old.twos) p q) (fours.of i low) (blacks.of i low)
+      ap₂ (λ p q. coded p q (has new.near i) (has new.black i)) (straight.of i low) (diagonal.of i low)
+      ∙ (ap₂ (λ p q. coded (moved old.straight) (moved old.diagonal) p q) (near.of i low) (blacks.of i low)
       ∙ by_tests (i == k) (i == j))
     where
       moved : ℕ → Bool
       moved n = if i == k then has n j else (if i == j then false else has n i)
 
-      by_tests : (u v : Bool) → coded (if u then has old.ones j else (if v then false else has old.ones i)) (if u then has old.twos j else (if v then false else has old.twos i))
-          (if u then has old.fours j else (if v then false else has old.fours i)) (if u then has old.black j else (if v then false else has old.black i))
+      by_tests : (u v : Bool) → coded (if u then has old.straight j else (if v then false else has old.straight i)) (if u then has old.diagonal j else (if v then false else has old.diagonal i))
+          (if u then has old.near j else (if v then false else has old.near i)) (if u then has old.black j else (if v then false else has old.black i))
           ≡ (if u then cell_in old j else (if v then None else cell_in old i))
       by_tests true v = refl
       by_tests false true = refl
@@ -418,21 +428,21 @@ module _ (old new : Inside) (j k : ℕ)
   pub words_carried : j < 64 → AreWords old → AreWords new
   words_carried inside h =
       record {
-        ones = ones.fits;
-        twos = twos.fits;
-        fours = fours.fits;
+        straight = straight.fits;
+        diagonal = diagonal.fits;
+        near = near.fits;
         black = blacks.fits;
         codes = λ i low.
-            ap₂ (λ p q. is_code p q (has new.fours i) (has new.black i)) (ones.of i low) (twos.of i low)
-            ∙ (ap₂ (λ p q. is_code (moved i old.ones) (moved i old.twos) p q) (fours.of i low) (blacks.of i low)
+            ap₂ (λ p q. is_code p q (has new.near i) (has new.black i)) (straight.of i low) (diagonal.of i low)
+            ∙ (ap₂ (λ p q. is_code (moved i old.straight) (moved i old.diagonal) p q) (near.of i low) (blacks.of i low)
             ∙ by_tests i low (i == k) (i == j));
       }
     where
       moved : ℕ → ℕ → Bool
       moved i n = if i == k then has n j else (if i == j then false else has n i)
 
-      by_tests : (i : ℕ) → i < 64 → (u v : Bool) → is_code (if u then has old.ones j else (if v then false else has old.ones i)) (if u then has old.twos j else (if v then false else has old.twos i))
-          (if u then has old.fours j else (if v then false else has old.fours i)) (if u then has old.black j else (if v then false else has old.black i)) ≡ true
+      by_tests : (i : ℕ) → i < 64 → (u v : Bool) → is_code (if u then has old.straight j else (if v then false else has old.straight i)) (if u then has old.diagonal j else (if v then false else has old.diagonal i))
+          (if u then has old.near j else (if v then false else has old.near i)) (if u then has old.black j else (if v then false else has old.black i)) ≡ true
       by_tests i low true v = h.codes j inside
       by_tests i low false true = refl
       by_tests i low false false = h.codes i low

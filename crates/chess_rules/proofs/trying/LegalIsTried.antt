@@ -11,14 +11,13 @@ use Rattle.chess_rules.specs.declared.piece.Promotion.TheVariants as promotions
 use Rattle.chess_rules.specs.declared.position.Move.{Move}
 use Rattle.chess_rules.specs.declared.position.Parts.{Parts}
 use Rattle.chess_rules.specs.Square.{Square, squares, on_board, is_jump}
-use Rattle.chess_rules.specs.Board.{at, same_colour, same_kind, has_colour, has_piece}
+use Rattle.chess_rules.specs.Board.{at, same_colour, same_kind, has_colour, has_piece, is_empty}
 use Rattle.chess_rules.specs.Position.{is_position}
 use Rattle.chess_rules.specs.Step.{own, promotion_fits, is_target, short_right, long_right, short_wing, long_wing}
-use Rattle.chess_rules.specs.Board.{is_empty}
 use Rattle.chess_rules.specs.Legal.{is_legal, every_promotion, has_legal_move}
 use Rattle.chess_rules.specs.Candidate.{sees}
 use Rattle.chess_rules.specs.Attacks.{is_clear}
-use Rattle.chess_rules.specs.Walk.{is_aligned, king_square}
+use Rattle.chess_rules.specs.Reach.{is_aligned, king_square}
 use Rattle.chess_rules.specs.Pairs.{one_move, is_legal_pair, is_king_step, is_untried, is_untried_rider, any_untried, any_king_step, any_other}
 use Rattle.chess_rules.proofs.squares.AllSquares.{split_or, or_first, or_second, first_true, second_true, both_true, same_tests, Passes, some_square, any_square}
 use Rattle.chess_rules.proofs.positions.OneKing.{king_stands, king_only_there}
@@ -28,7 +27,7 @@ use Rattle.chess_rules.proofs.moves.StepsKeepBoard.{one_kind, castles_means}
 use Rattle.chess_rules.proofs.moves.LegalToPosition.{on_board_means, way_of, Legal}
 use Rattle.chess_rules.proofs.trying.OriginsAreCandidates.{step_seen}
 use Rattle.chess_rules.proofs.trying.FoundLists.{to_false, list_any-filter}
-use Rattle.chess_rules.proofs.trying.CandidatesFoundOnce.{is_rider, kind_cases, sees_by_way}
+use Rattle.chess_rules.proofs.trying.CandidatesAreFew.{is_rider, kind_cases, sees_by_way}
 use Rattle.chess_rules.proofs.trying.PromotionsAlike.{legal_after, one_will_do}
 
 -- What is hit is a legal move.

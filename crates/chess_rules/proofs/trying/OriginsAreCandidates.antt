@@ -8,16 +8,15 @@ use Rattle.chess_rules.specs.declared.piece.Kind.{Kind}
 use Rattle.chess_rules.specs.declared.piece.Kind.TheVariants.{King, Queen, Rook, Bishop, Knight, Pawn}
 use Rattle.chess_rules.specs.declared.position.Move.{Move}
 use Rattle.chess_rules.specs.declared.position.Parts.{Parts}
-use Rattle.chess_rules.specs.Square.{Square, square, gap, same_square}
+use Rattle.chess_rules.specs.Square.{Square, square, gap, inside, same_square, on_diagonal, strictly_between, between_on_rank, between_on_file, between_on_diagonal}
 use Rattle.chess_rules.specs.Board.{Board, at, is_empty, has_colour}
 use Rattle.chess_rules.specs.Attacks.{is_clear, is_ahead, kind_attacks, attacks}
 use Rattle.chess_rules.specs.Step.{own, home, home_rank, pawn_rank, double_rank, is_advance, is_double_step, is_pawn_capture, is_pawn_way, is_pawn_step, promotion_fits, is_target, crossed, short_right, long_right, short_wing, long_wing, Wing}
 use Rattle.chess_rules.specs.Candidate.{sees}
-use Rattle.chess_rules.specs.Walk.{toward, along, is_aligned}
+use Rattle.chess_rules.specs.Reach.{is_aligned}
 use Rattle.chess_rules.specs.Laws.{CandidatesComplete}
-use Rattle.chess_rules.proofs.squares.AllSquares.{split_or, or_first, or_second, first_true, second_true, both_true}
-use Rattle.chess_rules.proofs.rays.WalkToBetween.{clear_from_walk, walk_from_clear, equal_from, equal_tests}
-use Rattle.chess_rules.proofs.rays.AttacksByRay.{near, ahead_gap, attack_seen}
+use Rattle.chess_rules.proofs.squares.AllSquares.{split_or, or_first, or_second, first_true, second_true, both_true, each_square, equal_from, equal_tests, not_true}
+use Rattle.chess_rules.proofs.lines.AttackToReach.{near, ahead_gap, attack_seen, between_cases, clear_if}
 use Rattle.chess_rules.proofs.moves.StepsKeepBoard.{one_kind, attacks_as, double_ranks, Castles, castles_means}
 use Rattle.chess_rules.proofs.moves.LegalToPosition.{way_of, Legal, legal_means}
 
@@ -40,15 +39,41 @@ advance_seen p m h =
     let rank : gap m.from.rank m.to.rank ≡ 1 = ahead_gap p.side m.from.rank m.to.rank (second_true (m.from.file == m.to.file) _ way) in
     near p.board m.from m.to (omega arith) (omega arith) (apart_by_rank m.from m.to (omega arith))
 
-only_one : (k : ℕ) → 0 < k → k < 2 → k ≡ 1
-only_one k started ends = omega arith
+-- what lies between two squares of one file, or of one rank
 
-middle : (c : Colour) (a b : ℕ) → a ≡ pawn_rank c → b ≡ double_rank c → (toward a b 1 ≡ (a + b) / 2) × (gap a b ≡ 2)
-middle White a b low high = rw (low, high) (refl, refl)
-middle Black a b low high = rw (low, high) (refl, refl)
+file_means : (s u t : Square) → s.file ≡ t.file → strictly_between s u t ≡ true → (u.file ≡ s.file) × (inside s.rank u.rank t.rank ≡ true)
+file_means s u t same h = between_cases s u t h rank file cross
+  where
+    rank : between_on_rank s u t ≡ true → (u.file ≡ s.file) × (inside s.rank u.rank t.rank ≡ true)
+    rank g = absurd (grind (arith, nat_tests))
 
-toward_same : (a b k : ℕ) → a ≡ b → toward a b k ≡ a
-toward_same a b k h = grind (arith, nat_tests)
+    file : between_on_file s u t ≡ true → (u.file ≡ s.file) × (inside s.rank u.rank t.rank ≡ true)
+    file g = (grind (arith, nat_tests), second_true (u.file == s.file) _ (second_true (s.file == t.file) _ g))
+
+    cross : between_on_diagonal s u t ≡ true → (u.file ≡ s.file) × (inside s.rank u.rank t.rank ≡ true)
+    cross g = absurd (not_across s t same (first_true (on_diagonal s t) (on_diagonal s u) (first_true (on_diagonal s t && on_diagonal s u) _ g)))
+      where
+        not_across : (s t : Square) → s.file ≡ t.file → on_diagonal s t ≡ true → ⊥
+        not_across s t same g = grind (arith, nat_tests)
+
+rank_means : (s u t : Square) → s.rank ≡ t.rank → strictly_between s u t ≡ true → between_on_rank s u t ≡ true
+rank_means s u t same h = between_cases s u t h (λ g. g) (λ g. absurd (file g)) (λ g. absurd (cross (first_true (on_diagonal s t) (on_diagonal s u) (first_true (on_diagonal s t && on_diagonal s u) _ g))))
+  where
+    file : between_on_file s u t ≡ true → ⊥
+    file g = grind (arith, nat_tests)
+
+    cross : on_diagonal s t ≡ true → ⊥
+    cross g = grind (arith, nat_tests)
+
+middle : (c : Colour) (a b x : ℕ) → a ≡ pawn_rank c → b ≡ double_rank c → inside a x b ≡ true → x ≡ (a + b) / 2
+middle White a b x low high h = rw (low, high) (one x (subst (λ (n : ℕ). inside n x 3 ≡ true) low (subst (λ (n : ℕ). inside a x n ≡ true) high h)))
+  where
+    one : (y : ℕ) → inside 1 y 3 ≡ true → y ≡ 2
+    one y g = grind (arith, nat_tests)
+middle Black a b x low high h = rw (low, high) (one x (subst (λ (n : ℕ). inside n x 4 ≡ true) low (subst (λ (n : ℕ). inside a x n ≡ true) high h)))
+  where
+    one : (y : ℕ) → inside 6 y 4 ≡ true → y ≡ 5
+    one y g = grind (arith, nat_tests)
 
 -- a pawn's double step is seen: the one square between is empty
 double_seen : (p : Parts) (m : Move) → is_double_step p m ≡ true → sees Pawn p m.from m.to ≡ true
@@ -60,38 +85,42 @@ double_seen p m h =
     (second_true ((m.from.file == m.to.file) && ((m.from.rank == pawn_rank p.side) && (m.to.rank == double_rank p.side))) _ h) in
     let file : m.from.file ≡ m.to.file = equal_from m.from.file m.to.file (first_true (m.from.file == m.to.file) _ way) in
     let ranks : (m.from.rank ≡ pawn_rank p.side) × (m.to.rank ≡ double_rank p.side) = double_ranks p m h in
-    let both : (toward m.from.rank m.to.rank 1 ≡ (m.from.rank + m.to.rank) / 2) × (gap m.from.rank m.to.rank ≡ 2) =
-    middle p.side m.from.rank m.to.rank ranks.0 ranks.1 in
-    let two : gap m.from.rank m.to.rank ≡ 2 = both.1 in
-    let place : along m.from m.to 1 ≡ crossed m = ap₂ square (toward_same m.from.file m.to.file 1 file) both.0 in
+    let apart : 0 < gap m.from.rank m.to.rank = some_ranks p.side m.from.rank m.to.rank ranks.0 ranks.1 in
     both_true _ _
-    (or_first _ _ (both_true _ _ (or_second _ _ (equal_tests m.from.file m.to.file file)) (apart_by_rank m.from m.to (omega arith))))
-    (clear_from_walk p.board m.from m.to (λ k started ends.
-    let one : k ≡ 1 = only_one k started (omega arith) in
-    subst (λ (j : ℕ). is_empty p.board (along m.from m.to j) ≡ true) (sym one)
-    (subst (λ (u : Square). is_empty p.board u ≡ true) (sym place) free)))
+    (or_first _ _ (both_true _ _ (or_second _ _ (equal_tests m.from.file m.to.file file)) (apart_by_rank m.from m.to apart)))
+    (clear_if p.board m.from m.to (λ u _ _ between.
+    let place : (u.file ≡ m.from.file) × (inside m.from.rank u.rank m.to.rank ≡ true) = file_means m.from u m.to file between in
+    subst (λ (v : Square). is_empty p.board v ≡ true) (sym (ap₂ square place.0 (middle p.side m.from.rank m.to.rank u.rank ranks.0 ranks.1 place.1))) free))
+  where
+    some_ranks : (c : Colour) (a b : ℕ) → a ≡ pawn_rank c → b ≡ double_rank c → 0 < gap a b
+    some_ranks White a b low high = rw (low, high) (omega arith)
+    some_ranks Black a b low high = rw (low, high) (omega arith)
 
 -- Castling: the king sees its end over the square that it crosses.
 
+-- a part of a clear way on one rank is clear
+clear_part : (b : Board) (r e k : ℕ) → ((x : ℕ) → inside 4 x e ≡ true → inside 4 x k ≡ true) → is_clear b (square 4 r) (square k r) ≡ true → is_clear b (square 4 r) (square e r) ≡ true
+clear_part b r e k wider h =
+    clear_if b (square 4 r) (square e r) (λ u file rank between.
+    let on : between_on_rank (square 4 r) u (square e r) ≡ true = rank_means (square 4 r) u (square e r) refl between in
+    let rest : ((u.rank == r) && inside 4 u.file e) ≡ true = second_true (r == r) _ on in
+    not_true (strictly_between (square 4 r) u (square k r)) _
+    (or_first _ _ (both_true (r == r) _ (first_true (r == r) _ on) (both_true (u.rank == r) _ (first_true (u.rank == r) _ rest) (wider u.file (second_true (u.rank == r) _ rest)))))
+    (each_square (λ v. not (strictly_between (square 4 r) v (square k r)) || is_empty b v) u h file rank))
+
+short_part : (x : ℕ) → inside 4 x 6 ≡ true → inside 4 x 7 ≡ true
+short_part x h = grind (arith, nat_tests)
+
+long_part : (x : ℕ) → inside 4 x 2 ≡ true → inside 4 x 0 ≡ true
+long_part x h = grind (arith, nat_tests)
+
 short_way : (b : Board) (c : Colour) → is_clear b (square 4 (home_rank c)) (square 7 (home_rank c)) ≡ true → (is_aligned (square 4 (home_rank c)) (square 6 (home_rank c)) && is_clear b (square 4 (home_rank c)) (square 6 (home_rank c))) ≡ true
-short_way b White h =
-    clear_from_walk b (square 4 0) (square 6 0) (λ k started ends.
-    subst (λ (j : ℕ). is_empty b (along (square 4 0) (square 6 0) j) ≡ true) (sym (only_one k started ends))
-    (walk_from_clear b (square 4 0) (square 7 0) refl (omega arith) (omega arith) (omega arith) (omega arith) h 1 (omega arith) (omega arith)))
-short_way b Black h =
-    clear_from_walk b (square 4 7) (square 6 7) (λ k started ends.
-    subst (λ (j : ℕ). is_empty b (along (square 4 7) (square 6 7) j) ≡ true) (sym (only_one k started ends))
-    (walk_from_clear b (square 4 7) (square 7 7) refl (omega arith) (omega arith) (omega arith) (omega arith) h 1 (omega arith) (omega arith)))
+short_way b White h = clear_part b 0 6 7 short_part h
+short_way b Black h = clear_part b 7 6 7 short_part h
 
 long_way : (b : Board) (c : Colour) → is_clear b (square 4 (home_rank c)) (square 0 (home_rank c)) ≡ true → (is_aligned (square 4 (home_rank c)) (square 2 (home_rank c)) && is_clear b (square 4 (home_rank c)) (square 2 (home_rank c))) ≡ true
-long_way b White h =
-    clear_from_walk b (square 4 0) (square 2 0) (λ k started ends.
-    subst (λ (j : ℕ). is_empty b (along (square 4 0) (square 2 0) j) ≡ true) (sym (only_one k started ends))
-    (walk_from_clear b (square 4 0) (square 0 0) refl (omega arith) (omega arith) (omega arith) (omega arith) h 1 (omega arith) (omega arith)))
-long_way b Black h =
-    clear_from_walk b (square 4 7) (square 2 7) (λ k started ends.
-    subst (λ (j : ℕ). is_empty b (along (square 4 7) (square 2 7) j) ≡ true) (sym (only_one k started ends))
-    (walk_from_clear b (square 4 7) (square 0 7) refl (omega arith) (omega arith) (omega arith) (omega arith) h 1 (omega arith) (omega arith)))
+long_way b White h = clear_part b 0 2 0 long_part h
+long_way b Black h = clear_part b 7 2 0 long_part h
 
 -- Each way to step.
 

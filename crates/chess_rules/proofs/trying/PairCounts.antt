@@ -1,38 +1,30 @@
 -- How many pairs there are: the king's single steps and the others, target by target, and at most
 -- sixteen for each.
 use Rattle.std.proofs.Common.{◌≡◌, ℕ, zero, suc, ◌+◌, ◌*◌, ◌<◌, ◌≤◌, Bool, true, false, not, cond, ◌&&◌, ◌||◌, List, [], ◌∷◌, map, length, inl, inr, refl, sym, ◌∙◌, ap, ap₂, subst, arith}
-use Rattle.std.specs.Prelude.{Option, None, Some, filter, nat_le, if◌then◌else◌}
-use Rattle.std.specs.List.{list_any, sum_by, filter_map, cons_option, range_with_len, IsDistinct}
+use Rattle.std.specs.Prelude.{Option, None, Some, is_some, filter, nat_le}
+use Rattle.std.specs.List.{list_any, sum_by, range_with_len, IsDistinct}
 use Rattle.std.proofs.lemmas.List.Folds.{fold-map}
 use Rattle.std.proofs.lemmas.List.Sums.{sum_by-cons, sum_by-le-sum_by}
-use Rattle.std.proofs.lemmas.List.Sorted.{length_permutation}
 use Rattle.std.proofs.lemmas.Map.Made.{length-from_same_keys}
-use Rattle.chess_rules.specs.declared.direction.TheConstants.{DIRECTIONS}
-use Rattle.chess_rules.specs.declared.direction.Direction.{Direction}
 use Rattle.chess_rules.specs.declared.piece.Kind.{Kind}
 use Rattle.chess_rules.specs.declared.piece.Kind.TheVariants.{King, Queen, Rook, Bishop, Knight, Pawn}
 use Rattle.chess_rules.specs.declared.piece.Piece.{Piece}
 use Rattle.chess_rules.specs.declared.position.Parts.{Parts}
-use Rattle.chess_rules.specs.Square.{Square, squares, same_square, is_adjacent, is_jump}
+use Rattle.chess_rules.specs.Square.{Square, squares, gap, same_square, is_adjacent, is_jump}
 use Rattle.chess_rules.specs.Board.{at, same_colour, same_kind, has_colour, has_piece}
 use Rattle.chess_rules.specs.Attacks.{is_clear}
 use Rattle.chess_rules.specs.Step.{own}
 use Rattle.chess_rules.specs.Candidate.{sees, is_candidate, candidates, kinds, pair_count}
-use Rattle.chess_rules.specs.Walk.{first_on, is_aligned, king_square, square_at}
+use Rattle.chess_rules.specs.Reach.{is_aligned, is_in_view, king_square, square_at}
 use Rattle.chess_rules.specs.Pairs.{is_king_step, is_untried, count_untried, count_king_steps, count_others}
 use Rattle.chess_rules.proofs.squares.AllSquares.{split_or, or_first, first_true, second_true, both_true, same_tests, Passes, some_square, any_square}
 use Rattle.chess_rules.proofs.positions.OneKing.{StandsAt, king_stands, king_only_there}
 use Rattle.chess_rules.proofs.positions.RulesOfPosition.{Sound}
 use Rattle.chess_rules.proofs.moves.CellsAfterPut.{OnBoard}
-use Rattle.chess_rules.proofs.rays.AttacksByRay.{attack_seen}
-use Rattle.chess_rules.proofs.rays.SeenToFirst.{gap_back}
+use Rattle.chess_rules.proofs.lines.AttackToReach.{attack_seen}
 use Rattle.chess_rules.proofs.trying.FoundLists.{list_any-filter}
-use Rattle.chess_rules.proofs.trying.CandidatesFoundOnce.{if_own, origin_on, on_ways, by_jumps, square_laws, candidates_apart, is_rider, on_ways_are, by_jumps_are, length_by_jumps}
-
--- How many squares an option has.
-abbrev tried : Option Square → ℕ
-tried None = 0
-tried (Some s) = 1
+use Rattle.chess_rules.proofs.lines.InView.{few_in_view}
+use Rattle.chess_rules.proofs.trying.CandidatesAreFew.{square_laws, candidates_apart, few_jumps}
 
 -- Sums.
 
@@ -49,13 +41,6 @@ sum_both f g (x ∷ xs) =
     let d : sum_by (λ y. f y + g y) xs ≡ sum_by f xs + sum_by g xs = sum_both f g xs in
     omega arith
 
-sum_range_same : (f g : ℕ → ℕ) (a n limit : ℕ) → a + n ≤ limit → ((i : ℕ) → i < limit → f i ≡ g i) → sum_by f (range_with_len a n) ≡ sum_by g (range_with_len a n)
-sum_range_same f g a zero limit low h = refl
-sum_range_same f g a (suc n) limit low h =
-    sum_by-cons f a (range_with_len (a + 1) n)
-    ∙ (ap₂ (λ x y. x + y) (h a (omega arith)) (sum_range_same f g (a + 1) n limit (omega arith) h)
-    ∙ sym (sum_by-cons g a (range_with_len (a + 1) n)))
-
 sum_range_most : (f : ℕ → ℕ) (m a n limit : ℕ) → a + n ≤ limit → ((i : ℕ) → i < limit → f i ≤ m) → sum_by f (range_with_len a n) ≤ n * m
 sum_range_most f m a zero limit low h = omega arith
 sum_range_most f m a (suc n) limit low h =
@@ -67,49 +52,6 @@ sum_range_most f m a (suc n) limit low h =
     more : (x y k l : ℕ) → x ≤ l → y ≤ k * l → sum_by f (a ∷ range_with_len (a + 1) n) ≡ x + y → sum_by f (a ∷ range_with_len (a + 1) n) ≤ suc k * l
     more x y k l u v e = grind arith
 
-length-found : {X : Type 0} (h : X → Option Square) (xs : List X) → length (filter_map h xs) ≡ sum_by (λ x. tried (h x)) xs
-length-found h [] = refl
-length-found h (x ∷ xs) = one_more (h x) (filter_map h xs) ∙ (ap (λ n. tried (h x) + n) (length-found h xs) ∙ sym (sum_by-cons (λ y. tried (h y)) x xs))
-  where
-    one_more : (o : Option Square) (ys : List Square) → length (cons_option o ys) ≡ tried o + length ys
-    one_more None ys = omega arith
-    one_more (Some s) ys = omega arith
-
--- One way: the first piece on it is of one kind.
-
-abbrev found_if : Bool → Square → ℕ
-found_if v s = tried (if v then Some s else None)
-
-one_at_most : (v : Bool) (k : Kind) (s : Square)
-    → found_if (v && same_kind King k) s + found_if (v && same_kind Queen k) s + found_if (v && same_kind Rook k) s + found_if (v && same_kind Bishop k) s + found_if (v && same_kind Pawn k) s ≤ 1
-one_at_most false k s = omega arith
-one_at_most true King s = omega arith
-one_at_most true Queen s = omega arith
-one_at_most true Rook s = omega arith
-one_at_most true Bishop s = omega arith
-one_at_most true Knight s = omega arith
-one_at_most true Pawn s = omega arith
-
-way_most : (p : Parts) (o : Option Square) → tried (if_own p King o) + tried (if_own p Queen o) + tried (if_own p Rook o) + tried (if_own p Bishop o) + tried (if_own p Pawn o) ≤ 1
-way_most p None = omega arith
-way_most p (Some s) = by_cell (at p.board s)
-  where
-    by_cell : (cell : Option Piece) → found_if (has_piece p.side King cell) s + found_if (has_piece p.side Queen cell) s + found_if (has_piece p.side Rook cell) s + found_if (has_piece p.side Bishop cell) s + found_if (has_piece p.side Pawn cell) s ≤ 1
-    by_cell None = omega arith
-    by_cell (Some x) = one_at_most (same_colour p.side x.colour) x.kind s
-
--- All ways to one target.
-
-abbrev on_way : Parts → Square → Kind → Direction → ℕ
-on_way p t k d = tried (origin_on p k t d)
-
-of_kind : (p : Parts) (k : Kind) (t : Square) → length (on_ways p k t) ≡ sum_by (on_way p t k) DIRECTIONS
-unfolding on_ways
-of_kind p k t = length-found (origin_on p k t) DIRECTIONS
-
-abbrev of_five : Parts → Square → Direction → ℕ
-of_five p t d = on_way p t King d + on_way p t Queen d + on_way p t Rook d + on_way p t Bishop d + on_way p t Pawn d
-
 sum_five : {X : Type 0} (f g h i j : X → ℕ) (xs : List X) → sum_by (λ x. f x + g x + h x + i x + j x) xs ≡ sum_by f xs + sum_by g xs + sum_by h xs + sum_by i xs + sum_by j xs
 sum_five f g h i j xs =
     let a : sum_by (λ x. f x + g x + h x + i x + j x) xs ≡ sum_by (λ x. f x + g x + h x + i x) xs + sum_by j xs = sum_both (λ x. f x + g x + h x + i x) j xs in
@@ -118,18 +60,8 @@ sum_five f g h i j xs =
     let d : sum_by (λ x. f x + g x) xs ≡ sum_by f xs + sum_by g xs = sum_both f g xs in
     omega arith
 
-abbrev five_kinds : Parts → Square → ℕ
-five_kinds p t = length (on_ways p King t) + length (on_ways p Queen t) + length (on_ways p Rook t) + length (on_ways p Bishop t) + length (on_ways p Pawn t)
-
-five_kinds_sum : (p : Parts) (t : Square) → sum_by (of_five p t) DIRECTIONS ≡ five_kinds p t
-five_kinds_sum p t =
-    sum_five (on_way p t King) (on_way p t Queen) (on_way p t Rook) (on_way p t Bishop) (on_way p t Pawn) DIRECTIONS
-    ∙ rw (of_kind p King t, of_kind p Queen t, of_kind p Rook t, of_kind p Bishop t, of_kind p Pawn t) refl
-
-five_kinds_most : (p : Parts) (t : Square) → five_kinds p t ≤ 8
-five_kinds_most p t =
-    subst (λ (n : ℕ). n ≤ 8) (five_kinds_sum p t)
-    (sum_by-le-sum_by (of_five p t) (λ d. 1) DIRECTIONS (λ d. way_most p (first_on p.board d t)))
+gap_back : (a b : ℕ) → gap a b ≡ gap b a
+gap_back a b = omega arith
 
 adjacent_back : (s t : Square) → is_adjacent s t ≡ is_adjacent t s
 adjacent_back s t =
@@ -173,26 +105,6 @@ one_king_near p t sound near =
 
 abbrev of_target : Parts → Square → ℕ
 of_target p t = sum_by (λ k. length (candidates p k t)) kinds
-
-same_length : (p : Parts) (k : Kind) (t : Square) → is_rider k ≡ true → OnBoard t → length (candidates p k t) ≡ length (on_ways p k t)
-same_length p k t rides on = sym (length_permutation _ _ (on_ways_are p k t rides on.file on.rank))
-
-target_sum : (p : Parts) (t : Square) → OnBoard t → of_target p t ≡ five_kinds p t + length (by_jumps p t)
-target_sum p t on =
-    let a : length (candidates p King t) ≡ length (on_ways p King t) = same_length p King t refl on in
-    let b : length (candidates p Queen t) ≡ length (on_ways p Queen t) = same_length p Queen t refl on in
-    let c : length (candidates p Rook t) ≡ length (on_ways p Rook t) = same_length p Rook t refl on in
-    let d : length (candidates p Bishop t) ≡ length (on_ways p Bishop t) = same_length p Bishop t refl on in
-    let e : length (candidates p Pawn t) ≡ length (on_ways p Pawn t) = same_length p Pawn t refl on in
-    let f : length (by_jumps p t) ≡ length (candidates p Knight t) = length_permutation _ _ (by_jumps_are p t on.file on.rank) in
-    omega arith
-
-target_most : (p : Parts) (t : Square) → OnBoard t → of_target p t ≤ 16
-target_most p t on =
-    let a : of_target p t ≡ five_kinds p t + length (by_jumps p t) = target_sum p t on in
-    let b : five_kinds p t ≤ 8 = five_kinds_most p t in
-    let c : length (by_jumps p t) ≤ 8 = length_by_jumps p t in
-    omega arith
 
 -- For one target, piece by piece: it is still to be tried, or it is a king whose step was tried.
 
@@ -276,6 +188,40 @@ of_target_six p t =
     ≡ sum_by (λ s. bit (is_candidate p King t s)) squares + sum_by (λ s. bit (is_candidate p Queen t s)) squares + sum_by (λ s. bit (is_candidate p Rook t s)) squares + sum_by (λ s. bit (is_candidate p Bishop t s)) squares + sum_by (λ s. bit (is_candidate p Knight t s)) squares + sum_by (λ s. bit (is_candidate p Pawn t s)) squares =
     sum_six (λ s. bit (is_candidate p King t s)) (λ s. bit (is_candidate p Queen t s)) (λ s. bit (is_candidate p Rook t s)) (λ s. bit (is_candidate p Bishop t s)) (λ s. bit (is_candidate p Knight t s)) (λ s. bit (is_candidate p Pawn t s)) squares in
     omega arith
+
+-- of the six kinds one at most is there, and it is in view or a jump away
+six_most : (p : Parts) (t s : Square) → of_six p t s ≤ bit (is_in_view p.board t s) + bit (is_jump s t)
+six_most p t s = by_cell (at p.board s) (is_jump s t) (is_aligned s t) (is_clear p.board s t)
+  where
+    one_at_most : (v : Bool) (k : Kind) (jumps aligned clear : Bool)
+        → kind_bit v King k (aligned && clear) + kind_bit v Queen k (aligned && clear) + kind_bit v Rook k (aligned && clear) + kind_bit v Bishop k (aligned && clear) + kind_bit v Knight k jumps + kind_bit v Pawn k (aligned && clear)
+        ≤ bit (aligned && clear) + bit jumps
+    one_at_most false k jumps aligned clear = omega arith
+    one_at_most true King jumps aligned clear = omega arith
+    one_at_most true Queen jumps aligned clear = omega arith
+    one_at_most true Rook jumps aligned clear = omega arith
+    one_at_most true Bishop jumps aligned clear = omega arith
+    one_at_most true Knight jumps aligned clear = omega arith
+    one_at_most true Pawn jumps aligned clear = omega arith
+
+    by_cell : (cell : Option Piece) (jumps aligned clear : Bool)
+        → bit (has_piece p.side King cell && (aligned && clear)) + bit (has_piece p.side Queen cell && (aligned && clear)) + bit (has_piece p.side Rook cell && (aligned && clear)) + bit (has_piece p.side Bishop cell && (aligned && clear)) + bit (has_piece p.side Knight cell && jumps) + bit (has_piece p.side Pawn cell && (aligned && clear))
+        ≤ bit (aligned && (is_some cell && clear)) + bit jumps
+    by_cell None jumps aligned clear = omega arith
+    by_cell (Some x) jumps aligned clear = one_at_most (same_colour p.side x.colour) x.kind jumps aligned clear
+
+target_most : (p : Parts) (t : Square) → OnBoard t → of_target p t ≤ 16
+target_most p t on =
+    omega (
+      arith,
+      of_target_six p t,
+      sum_by-le-sum_by (of_six p t) (λ s. bit (is_in_view p.board t s) + bit (is_jump s t)) squares (six_most p t),
+      sum_both (λ s. bit (is_in_view p.board t s)) (λ s. bit (is_jump s t)) squares,
+      length_by_bits (is_in_view p.board t) squares,
+      length_by_bits (λ s. is_jump s t) squares,
+      few_in_view p.board t on.file,
+      few_jumps t on.file on.rank,
+    )
 
 king_part : (p : Parts) (t : Square) → Sound p → sum_by (λ s. bit (is_king_step p t && is_candidate p King t s)) squares ≡ bit (is_king_step p t)
 king_part p t sound = by_step (is_king_step p t) refl

@@ -1,8 +1,7 @@
 -- The sets of the code have exactly the candidates.
-use Rattle.std.proofs.Common.{◌≡◌, ℕ, ◌<◌, ◌≤◌, Bool, true, false, ◌&&◌, List, [], ◌∷◌, length, cond, get_or, refl, sym, ◌∙◌, ap, ap₂, arith}
-use Rattle.std.specs.Prelude.{None, filter, nat_lt}
+use Rattle.std.proofs.Common.{◌≡◌, ℕ, ◌<◌, ◌≤◌, Bool, true, false, ◌&&◌, List, length, get_or, refl, sym, ◌∙◌, ap, ap₂, arith}
+use Rattle.std.specs.Prelude.{None, nat_lt}
 use Rattle.std.specs.Int.Bits.{bit_and}
-use Rattle.std.proofs.lemmas.Bool.{false≢true}
 use Rattle.std.proofs.lemmas.Bool.Decides.{nat_tests}
 use Rattle.chess_rules.specs.declared.piece.Colour.{Colour}
 use Rattle.chess_rules.specs.declared.piece.Kind.{Kind}
@@ -13,11 +12,12 @@ use Rattle.chess_rules.specs.Board.{Board, cell_of, has_piece}
 use Rattle.chess_rules.specs.Step.{own}
 use Rattle.chess_rules.specs.Attacks.{is_clear}
 use Rattle.chess_rules.specs.Candidate.{candidates, is_candidate}
-use Rattle.chess_rules.specs.Walk.{is_aligned, square_at}
+use Rattle.chess_rules.specs.Reach.{is_aligned, square_at}
 use Rattle.chess_rules.specs.Words.{has, members, Marks, Places}
 use Rattle.chess_rules.proofs.squares.AllSquares.{first_true, second_true, both_true}
 use Rattle.chess_rules.proofs.positions.OneKing.{cell_of-square_at}
-use Rattle.chess_rules.proofs.trying.CandidatesFoundOnce.{few_candidates, is_rider, sees_by_way}
+use Rattle.chess_rules.proofs.trying.CandidatesAreFew.{few_candidates, is_rider, sees_by_way}
+use Rattle.chess_rules.proofs.trying.FoundLists.{kept_more}
 use Rattle.chess_rules.proofs.squares.SetsToSquares.{members_are, places_and}
 
 pub own_places : (p : Parts) (k : Kind) (d : Colour) (b : Board) (w : ℕ) → d ≡ p.side → b ≡ p.board → Marks w (has_piece d k) b → Places w (own p k)
@@ -55,18 +55,6 @@ few_there p k t xs tf tr same =
     omega (arith, few, ap length same)
 
 -- Without looking at what stands between.
-
--- a test that lets more through keeps more
-kept_more : (f g : Square → Bool) (xs : List Square) → ((s : Square) → f s ≡ true → g s ≡ true) → length (filter f xs) ≤ length (filter g xs)
-kept_more f g [] h = omega arith
-kept_more f g (x ∷ xs) h = by_tests (f x) (g x) (h x) (kept_more f g xs h)
-  where
-    by_tests : (v w : Bool) → (v ≡ true → w ≡ true) → length (filter f xs) ≤ length (filter g xs)
-        → length (cond v (x ∷ filter f xs) (filter f xs)) ≤ length (cond w (x ∷ filter g xs) (filter g xs))
-    by_tests true true more few = omega (arith, few)
-    by_tests true false more few = absurd (false≢true (more refl))
-    by_tests false true more few = omega (arith, few)
-    by_tests false false more few = few
 
 pub riders_few : (p : Parts) (k : Kind) (t : Square) (v w : ℕ) → is_rider k ≡ true → Places v (own p k) → Places w (λ s. is_aligned s t)
     → length (members (bit_and v w)) ≤ 1 → length (candidates p k t) ≤ 1

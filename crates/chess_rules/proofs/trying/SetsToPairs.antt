@@ -12,7 +12,7 @@ use Rattle.chess_rules.specs.Square.{Square, squares, is_adjacent}
 use Rattle.chess_rules.specs.Board.{Board, at, cell_of, has_colour}
 use Rattle.chess_rules.specs.Step.{own}
 use Rattle.chess_rules.specs.Attacks.{is_clear}
-use Rattle.chess_rules.specs.Walk.{is_aligned, king_square, square_at}
+use Rattle.chess_rules.specs.Reach.{is_aligned, king_square, square_at}
 use Rattle.chess_rules.specs.Words.{has, members, Marks, Places}
 use Rattle.chess_rules.specs.Pairs.{is_king_step, is_left, is_untried_rider}
 use Rattle.chess_rules.proofs.squares.SetsToSquares.{at_square, members_are}

@@ -30,9 +30,6 @@ length-placement_text b =
     let row_low : length (rank_text 0 (row b 7)) ≤ 8 = length-rank_text 0 (row b 7) in
     omega (arith, ap (λ t. length t) (ends b), length-append (rank_text 0 (row b 7)) (lower b 7), row_low, length-lower b 7)
 
-pub first_rank : (b : Board) (text : List ℕ) → text ≡ rank_text 0 (row b 7) → length text ≤ 8 → WrittenTo b text 0
-first_rank b text e h = record { whole = ap (λ t. t ++ lower b 7) e ∙ ends b; short = omega (arith, h) }
-
 pub next_rank : (b : Board) (text rank : List ℕ) (i : ℕ) → WrittenTo b text i → i < 7 → rank ≡ rank_text 0 (row b (6 - i)) → length rank ≤ 8
     → WrittenTo b ((text ++ 47 ∷ []) ++ rank) (i + 1)
 next_rank b text rank i so_far h e low =

@@ -1,7 +1,7 @@
 use Rattle.std.proofs.Common.{◌≡◌, ◌∷◌, length, sym, ◌∙◌, ap, arith}
 use Rattle.chess_rules.specs.Attacks.{is_clear}
 use Rattle.chess_rules.specs.Words.{members}
-use Rattle.chess_rules.proofs.rays.ClearWays.{all_kept, fails_out, none_left, passes_on}
+use Rattle.chess_rules.proofs.lines.ClearWays.{all_kept, fails_out, none_left, passes_on}
 use Rattle.chess_rules.proofs.squares.SetsToSquares.{next_member}
 use Rattle.chess_rules.proofs.attack.clear_among.Goals as goal
 use Rattle.chess_rules.proofs.attack.clear_among.Goals.{After-nth}

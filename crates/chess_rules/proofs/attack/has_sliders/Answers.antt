@@ -1,4 +1,4 @@
-use Rattle.chess_rules.specs.Masks.{slides}
+use Rattle.chess_rules.specs.Reach.{slides}
 use Rattle.chess_rules.proofs.squares.SetsToSquares.{set_test}
 use Rattle.chess_rules.proofs.attack.has_sliders.Goals as goal
 

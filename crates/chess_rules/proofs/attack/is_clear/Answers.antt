@@ -1,4 +1,4 @@
-use Rattle.chess_rules.proofs.rays.ClearWays.{clear_by_set}
+use Rattle.chess_rules.proofs.lines.ClearWays.{clear_by_set}
 use Rattle.chess_rules.proofs.attack.is_clear.Goals as goal
 
 pub returns : goal.returns

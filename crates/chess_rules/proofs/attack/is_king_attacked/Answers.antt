@@ -1,6 +1,6 @@
 use Rattle.std.proofs.Common.{sym, ◌∙◌, ap₂}
 use Rattle.chess_rules.specs.Attacks.{is_attacked}
-use Rattle.chess_rules.proofs.rays.WalkToBetween.{equal_from}
+use Rattle.chess_rules.proofs.squares.AllSquares.{equal_from}
 use Rattle.chess_rules.proofs.positions.OneKing.{king_attacked_there}
 use Rattle.chess_rules.proofs.attack.is_king_attacked.Goals as goal
 

@@ -1,9 +1,9 @@
 use Rattle.std.proofs.Common.{◌||◌, sym, ◌∙◌, ap}
 use Rattle.std.specs.Int.Bits.{bit_or}
 use Rattle.chess_rules.specs.Square.{is_jump}
-use Rattle.chess_rules.specs.Walk.{is_aligned}
+use Rattle.chess_rules.specs.Reach.{is_aligned}
 use Rattle.chess_rules.specs.Words.{has}
-use Rattle.chess_rules.proofs.rays.AttacksByRay.{unreached}
+use Rattle.chess_rules.proofs.lines.AttackToReach.{unreached}
 use Rattle.chess_rules.proofs.squares.SetsToSquares.{at_square, places_or}
 use Rattle.chess_rules.proofs.attack.may_attack.Goals as goal
 

@@ -1,6 +1,6 @@
 use Rattle.chess_rules.specs.declared.piece.Kind.TheVariants.{Queen, Rook, Bishop}
 use Rattle.chess_rules.specs.Board.{has_colour}
-use Rattle.chess_rules.specs.Words.{has_kind}
+use Rattle.chess_rules.specs.Reach.{has_kind}
 use Rattle.chess_rules.proofs.squares.SetsToSquares.{marked, places_and, places_or}
 use Rattle.chess_rules.proofs.attack.sliders.Goals as goal
 

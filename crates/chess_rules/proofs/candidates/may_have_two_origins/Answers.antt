@@ -4,7 +4,7 @@ use Rattle.chess_rules.specs.declared.piece.Kind.{Kind}
 use Rattle.chess_rules.specs.Candidate.{candidates}
 use Rattle.chess_rules.specs.Step.{own}
 use Rattle.chess_rules.specs.Words.{members, Places}
-use Rattle.chess_rules.proofs.trying.CandidatesFoundOnce.{rides_unless}
+use Rattle.chess_rules.proofs.trying.CandidatesAreFew.{rides_unless}
 use Rattle.chess_rules.proofs.trying.SetsToCandidates.{knights_are, own_places, riders_few}
 use Rattle.chess_rules.proofs.candidates.may_have_two_origins.Goals as goal
 

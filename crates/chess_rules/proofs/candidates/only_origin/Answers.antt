@@ -2,7 +2,7 @@ use Rattle.std.proofs.Common.{◌≡◌, ◌<◌, List, [], ◌∷◌, length, r
 use Rattle.std.specs.Prelude.{None, Some}
 use Rattle.chess_rules.specs.Square.{Square}
 use Rattle.chess_rules.specs.Candidate.{candidates, lone}
-use Rattle.chess_rules.specs.Walk.{square_at}
+use Rattle.chess_rules.specs.Reach.{square_at}
 use Rattle.chess_rules.specs.Words.{members}
 use Rattle.chess_rules.proofs.squares.SetsToSquares.{next_member, no_member, one_member}
 use Rattle.chess_rules.proofs.candidates.only_origin.Goals as goal

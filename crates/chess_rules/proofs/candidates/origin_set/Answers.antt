@@ -1,9 +1,9 @@
-use Rattle.std.proofs.Common.{◌≡◌, sym, ◌∙◌, ap, subst}
+use Rattle.std.proofs.Common.{sym, ◌∙◌, ap, subst}
 use Rattle.chess_rules.specs.declared.piece.Kind.{Kind}
 use Rattle.chess_rules.specs.Candidate.{candidates}
 use Rattle.chess_rules.specs.Step.{own}
 use Rattle.chess_rules.specs.Words.{Places}
-use Rattle.chess_rules.proofs.trying.CandidatesFoundOnce.{rides_unless}
+use Rattle.chess_rules.proofs.trying.CandidatesAreFew.{rides_unless}
 use Rattle.chess_rules.proofs.trying.SetsToCandidates.{knights_are, own_places, riders_are}
 use Rattle.chess_rules.proofs.candidates.origin_set.Goals as goal
 

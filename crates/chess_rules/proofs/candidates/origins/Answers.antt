@@ -4,7 +4,7 @@ use Rattle.std.proofs.lemmas.List.Sorted.{IsPermutation-refl}
 use Rattle.chess_rules.specs.Square.{Square}
 use Rattle.chess_rules.specs.Candidate.{candidates}
 use Rattle.chess_rules.specs.Words.{members}
-use Rattle.chess_rules.proofs.trying.CandidatesFoundOnce.{apart_there, candidates_apart}
+use Rattle.chess_rules.proofs.trying.CandidatesAreFew.{apart_there, candidates_apart}
 use Rattle.chess_rules.proofs.trying.SetsToCandidates.{few_there}
 use Rattle.chess_rules.proofs.candidates.origins.Goals as goal
 

@@ -1,4 +1,4 @@
-use Rattle.chess_rules.proofs.trying.CandidatesFoundOnce.{few_candidates}
+use Rattle.chess_rules.proofs.trying.CandidatesAreFew.{few_candidates}
 use Rattle.chess_rules.proofs.laws.candidates_are_few.Goals as goal
 
 pub returns : goal.returns

@@ -2,7 +2,7 @@ use Rattle.std.proofs.Common.{◌≡◌, ◌+◌, ◌<◌, ◌^◌, length, sym,
 use Rattle.std.specs.Prelude.{filter}
 use Rattle.std.specs.List.{list_any}
 use Rattle.chess_rules.specs.Square.{squares}
-use Rattle.chess_rules.specs.Walk.{king_square}
+use Rattle.chess_rules.specs.Reach.{king_square}
 use Rattle.chess_rules.specs.Pairs as spec
 use Rattle.chess_rules.specs.Pairs.{any_king_step, count_king_steps}
 use Rattle.chess_rules.specs.Words.{members}

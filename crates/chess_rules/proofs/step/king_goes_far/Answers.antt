@@ -5,12 +5,12 @@ use Rattle.chess_rules.specs.declared.position.Parts.{Parts}
 use Rattle.chess_rules.specs.Square.{Square, gap, same_square}
 use Rattle.chess_rules.specs.Position.{is_position}
 use Rattle.chess_rules.specs.Step.{own}
-use Rattle.chess_rules.specs.Walk.{king_square}
+use Rattle.chess_rules.specs.Reach.{king_square}
 use Rattle.chess_rules.proofs.squares.AllSquares.{same_tests}
 use Rattle.chess_rules.proofs.positions.OneKing.{StandsAt, king_stands, king_only_there}
 use Rattle.chess_rules.proofs.positions.RulesOfPosition.{Sound, sound_from_position}
-use Rattle.chess_rules.proofs.rays.AttacksByRay.{squares_same}
-use Rattle.chess_rules.proofs.trying.CandidatesFoundOnce.{square_laws}
+use Rattle.chess_rules.proofs.lines.AttackToReach.{squares_same}
+use Rattle.chess_rules.proofs.trying.CandidatesAreFew.{square_laws}
 use Rattle.chess_rules.proofs.step.king_goes_far.Goals as goal
 
 -- the king of the side to move is on its square alone

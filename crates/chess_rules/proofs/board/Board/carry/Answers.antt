@@ -6,7 +6,7 @@ use Rattle.chess_rules.proofs.board.Board.carry.Goals as goal
 use Rattle.chess_rules.proofs.board.Board.carry.Goals.{After-carried-4}
 
 new : After-carried-4 → Inside
-new c = record { ones = c.carried.result; twos = c.carried-2.result; fours = c.carried-3.result; black = c.carried-4.result }
+new c = record { straight = c.carried.result; diagonal = c.carried-2.result; near = c.carried-3.result; black = c.carried-4.result }
 
 pub invariant_of-self : goal.invariant_of-self
 unfolding new

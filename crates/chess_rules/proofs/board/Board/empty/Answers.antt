@@ -7,12 +7,12 @@ use Rattle.chess_rules.proofs.board.Board.empty.Goals as goal
 pub invariant_of-result : goal.invariant_of-result
 invariant_of-result c =
     record {
-      ones = omega arith;
-      twos = omega arith;
-      fours = omega arith;
+      straight = omega arith;
+      diagonal = omega arith;
+      near = omega arith;
       black = omega arith;
       codes = λ i low. ap₂ (λ x y. is_code x x y y) (has_zero i) (has_zero i);
     }
 
 pub returns : goal.returns
-returns c = cells_long (record { ones = 0; twos = 0; fours = 0; black = 0 })
+returns c = cells_long (record { straight = 0; diagonal = 0; near = 0; black = 0 })

@@ -6,20 +6,20 @@ use Rattle.chess_rules.proofs.squares.AllSquares.{each_of_range}
 use Rattle.chess_rules.proofs.board.Board.initial.Goals as goal
 
 abbrev first : Inside
-first = record { ones = 3242310256730111788; twos = 8502796096475496566; fours = 11024811887802974361; black = 18446462598732840960 }
+first = record { straight = 14627691589699371211; diagonal = 4323455642275676220; near = 5980498830171373394; black = 18446462598732840960 }
 
-first_codes : list_all (λ i. is_code (has first.ones i) (has first.twos i) (has first.fours i) (has first.black i)) (range_with_len 0 64) ≡ true
+first_codes : list_all (λ i. is_code (has first.straight i) (has first.diagonal i) (has first.near i) (has first.black i)) (range_with_len 0 64) ≡ true
 unfolding has
 first_codes = refl
 
 pub invariant_of-result : goal.invariant_of-result
 invariant_of-result c =
     record {
-      ones = omega arith;
-      twos = omega arith;
-      fours = omega arith;
+      straight = omega arith;
+      diagonal = omega arith;
+      near = omega arith;
       black = omega arith;
-      codes = λ i low. each_of_range (λ i. is_code (has first.ones i) (has first.twos i) (has first.fours i) (has first.black i)) 0 64 i first_codes (omega arith) (omega arith);
+      codes = λ i low. each_of_range (λ i. is_code (has first.straight i) (has first.diagonal i) (has first.near i) (has first.black i)) 0 64 i first_codes (omega arith) (omega arith);
     }
 
 pub returns : goal.returns

@@ -10,6 +10,6 @@ returns c =
     let w = c.self.inside in
     marks w c.args.self.now _ is_some c.self.view_is
     (λ i low.
-    has_or (bit_or w.ones w.twos) w.fours i
-    ∙ (ap (λ v. v || has w.fours i) (has_or w.ones w.twos i)
-    ∙ is_occupied (has w.ones i) (has w.twos i) (has w.fours i) (has w.black i)))
+    has_or (bit_or w.straight w.diagonal) w.near i
+    ∙ (ap (λ v. v || has w.near i) (has_or w.straight w.diagonal i)
+    ∙ is_occupied (has w.straight i) (has w.diagonal i) (has w.near i) (has w.black i)))

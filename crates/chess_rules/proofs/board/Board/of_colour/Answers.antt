@@ -15,6 +15,6 @@ returns c =
     ∙ (ap₂ (λ u v. u && v)
     (c.occupied.ensures.of i low
     ∙ (ap (λ x. is_some x) (sym (cell_there w c.args.self.now i c.self.view_is low))
-    ∙ sym (is_occupied (has w.ones i) (has w.twos i) (has w.fours i) (has w.black i))))
+    ∙ sym (is_occupied (has w.straight i) (has w.diagonal i) (has w.near i) (has w.black i))))
     (c.chosen.ensures.of i low ∙ ap (λ v. is_it v (has w.black i)) c.is_black.ensures)
-    ∙ colour_there k (has w.ones i) (has w.twos i) (has w.fours i) (has w.black i)))
+    ∙ colour_there k (has w.straight i) (has w.diagonal i) (has w.near i) (has w.black i)))

@@ -5,21 +5,21 @@ use Rattle.chess_rules.proofs.board.Board.put.Goals as goal
 use Rattle.chess_rules.proofs.board.Board.put.Goals.{After-with-4}
 
 new : After-with-4 → Inside
-new c = record { ones = c.with.result; twos = c.with-2.result; fours = c.with-3.result; black = c.with-4.result }
+new c = record { straight = c.with.result; diagonal = c.with-2.result; near = c.with-3.result; black = c.with-4.result }
 
 pub invariant_of-self : goal.invariant_of-self
 unfolding new
 invariant_of-self c =
     words_put c.self.inside (new c) c.index-place.result c.args.content
-    c.of-code.result.one c.of-code.result.two c.of-code.result.four c.of-code.result.black
+    c.of-code.result.straight c.of-code.result.diagonal c.of-code.result.near c.of-code.result.black
     c.with.ensures c.with-2.ensures c.with-3.ensures c.with-4.ensures
-    c.of-code.ensures.one c.of-code.ensures.two c.of-code.ensures.four c.of-code.ensures.black c.self.invariant
+    c.of-code.ensures.straight c.of-code.ensures.diagonal c.of-code.ensures.near c.of-code.ensures.black c.self.invariant
 
 pub returns : goal.returns
 unfolding new
 returns c =
     cells_put c.self.inside (new c) c.index-place.result c.args.content
-    c.of-code.result.one c.of-code.result.two c.of-code.result.four c.of-code.result.black
+    c.of-code.result.straight c.of-code.result.diagonal c.of-code.result.near c.of-code.result.black
     c.with.ensures c.with-2.ensures c.with-3.ensures c.with-4.ensures
-    c.of-code.ensures.one c.of-code.ensures.two c.of-code.ensures.four c.of-code.ensures.black c.args.self.now c.self.view_is
+    c.of-code.ensures.straight c.of-code.ensures.diagonal c.of-code.ensures.near c.of-code.ensures.black c.args.self.now c.self.view_is
     ∙ ap (λ n. set c.args.self.now n c.args.content) c.index-place.ensures.value

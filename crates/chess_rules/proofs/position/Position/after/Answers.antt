@@ -7,7 +7,7 @@ use Rattle.chess_rules.specs.Attacks.{king_attacked}
 use Rattle.chess_rules.specs.Position.{is_position}
 use Rattle.chess_rules.specs.Legal.{is_check}
 use Rattle.chess_rules.specs.Step.{after, rights_after, full_after}
-use Rattle.chess_rules.specs.Walk.{king_square}
+use Rattle.chess_rules.specs.Reach.{king_square}
 use Rattle.chess_rules.specs.StoredPosition.{parts_of, FitsPosition}
 use Rattle.chess_rules.specs.declared.position.Position.TheInside.{Inside}
 use Rattle.chess_rules.proofs.moves.LegalToPosition.{after_fields, position_after, king_kept, legal_when, safe_from_legal}

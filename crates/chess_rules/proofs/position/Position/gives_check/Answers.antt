@@ -3,7 +3,7 @@ use Rattle.chess_rules.specs.declared.position.Parts.{Parts}
 use Rattle.chess_rules.specs.Board.{other}
 use Rattle.chess_rules.specs.Attacks.{is_attacked}
 use Rattle.chess_rules.specs.Position.{is_position}
-use Rattle.chess_rules.specs.Walk.{king_square, king_after}
+use Rattle.chess_rules.specs.Reach.{king_square, king_after}
 use Rattle.chess_rules.proofs.moves.LegalToPosition.{check_is_seen}
 use Rattle.chess_rules.proofs.moves.PlainStepAttacks.{no_check_when_plain}
 use Rattle.chess_rules.proofs.position.Position.gives_check.Goals as goal

@@ -4,7 +4,7 @@ use Rattle.chess_rules.specs.Square.{squares}
 use Rattle.chess_rules.specs.Board.{Board}
 use Rattle.chess_rules.specs.Position.{is_position, initial}
 use Rattle.chess_rules.specs.Legal.{is_check}
-use Rattle.chess_rules.specs.Walk.{king_square}
+use Rattle.chess_rules.specs.Reach.{king_square}
 use Rattle.chess_rules.proofs.position.Position.initial.Goals as goal
 
 is_first_position : is_position initial ≡ true

@@ -2,7 +2,7 @@ use Rattle.std.proofs.Common.{◌≡◌, true, ◌∙◌, ap, subst}
 use Rattle.chess_rules.specs.declared.position.Parts.{Parts}
 use Rattle.chess_rules.specs.Board.{other}
 use Rattle.chess_rules.specs.Position.{is_position}
-use Rattle.chess_rules.specs.Walk.{king_after}
+use Rattle.chess_rules.specs.Reach.{king_after}
 use Rattle.chess_rules.proofs.moves.LegalToPosition.{legal_unless_attacked}
 use Rattle.chess_rules.proofs.position.Position.is_safe_on_board.Goals as goal
 

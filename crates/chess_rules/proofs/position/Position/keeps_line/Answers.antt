@@ -3,10 +3,10 @@ use Rattle.std.specs.List.{list_any}
 use Rattle.chess_rules.specs.declared.position.Parts.{Parts}
 use Rattle.chess_rules.specs.Board.{other}
 use Rattle.chess_rules.specs.Legal.{is_check}
-use Rattle.chess_rules.specs.Masks.{slides}
+use Rattle.chess_rules.specs.Reach.{slides}
 use Rattle.chess_rules.specs.Position.{is_position}
 use Rattle.chess_rules.specs.Square.{squares}
-use Rattle.chess_rules.proofs.trying.CandidatesFoundOnce.{not_means}
+use Rattle.chess_rules.proofs.squares.AllSquares.{not_means}
 use Rattle.chess_rules.proofs.moves.PlainStepAttacks.{safe_when_plain, stepped_board}
 use Rattle.chess_rules.proofs.position.Position.keeps_line.Goals as goal
 

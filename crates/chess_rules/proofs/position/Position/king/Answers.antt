@@ -1,5 +1,5 @@
 use Rattle.std.proofs.Common.{◌∙◌, ap}
-use Rattle.chess_rules.specs.Walk.{king_square}
+use Rattle.chess_rules.specs.Reach.{king_square}
 use Rattle.chess_rules.proofs.position.Position.king.Goals as goal
 
 pub returns : goal.returns

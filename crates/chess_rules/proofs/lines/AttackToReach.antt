@@ -1,0 +1,314 @@
+-- What a piece attacks it reaches over empty squares, whatever its kind.
+use Rattle.std.proofs.Common.{◌≡◌, ℕ, zero, suc, ◌+◌, ◌<◌, ◌≤◌, Bool, true, false, not, ◌&&◌, ◌||◌, ◌⊎◌, inl, inr, refl, sym, ◌∙◌, ap, ap₂, subst, arith}
+use Rattle.std.specs.Prelude.{◌==◌, Option, None, Some, is_none, is_some, nat_le}
+use Rattle.std.specs.List.{list_any}
+use Rattle.std.proofs.lemmas.Bool.Decides.{nat_tests}
+use Rattle.chess_rules.specs.declared.piece.Colour.{Colour}
+use Rattle.chess_rules.specs.declared.piece.Colour.TheVariants.{White, Black}
+use Rattle.chess_rules.specs.declared.piece.Kind.{Kind}
+use Rattle.chess_rules.specs.declared.piece.Kind.TheVariants.{King, Queen, Rook, Bishop, Knight, Pawn}
+use Rattle.chess_rules.specs.declared.piece.Piece.{Piece}
+use Rattle.chess_rules.specs.Square.{Square, square, squares, gap, same_square, is_adjacent, is_jump, in_line, on_diagonal, strictly_between, between_on_rank, between_on_file, between_on_diagonal}
+use Rattle.chess_rules.specs.Board.{Board, at, is_empty, has_colour, same_colour, same_kind, kind_number}
+use Rattle.chess_rules.specs.Attacks.{is_clear, is_ahead, kind_attacks, cell_attacks, attacks, is_attacked}
+use Rattle.chess_rules.specs.Reach.{is_aligned, is_in_view, may_attack, near_with, reaches, slides_with}
+use Rattle.chess_rules.proofs.squares.AllSquares.{split_or, or_first, or_second, first_true, second_true, both_true, all_squares, any_same, equal_from, implied}
+
+-- What a cell holds is determined.
+
+abbrev kind_at : ℕ → Kind
+kind_at zero = King
+kind_at (suc zero) = Queen
+kind_at (suc (suc zero)) = Rook
+kind_at (suc (suc (suc zero))) = Bishop
+kind_at (suc (suc (suc (suc zero)))) = Knight
+kind_at (suc (suc (suc (suc (suc n))))) = Pawn
+
+kind_at-number : (k : Kind) → kind_at (kind_number k) ≡ k
+kind_at-number King = refl
+kind_at-number Queen = refl
+kind_at-number Rook = refl
+kind_at-number Bishop = refl
+kind_at-number Knight = refl
+kind_at-number Pawn = refl
+
+pub kinds_same : (k l : Kind) → same_kind k l ≡ true → k ≡ l
+kinds_same k l h = sym (kind_at-number k) ∙ (ap kind_at (equal_from _ _ h) ∙ kind_at-number l)
+
+pub colours_same : (c d : Colour) → same_colour c d ≡ true → c ≡ d
+colours_same White White h = refl
+colours_same White Black h = cc
+colours_same Black White h = cc
+colours_same Black Black h = refl
+
+pub squares_same : (s t : Square) → same_square s t ≡ true → s ≡ t
+squares_same s t h = ap₂ square (equal_from _ _ (first_true (s.file == t.file) _ h)) (equal_from _ _ (second_true (s.file == t.file) _ h))
+
+pub none_or_all : (c : Colour) (cell : Option Piece) → has_colour c cell ≡ true → is_none cell ≡ false
+none_or_all c None h = cc
+none_or_all c (Some x) h = refl
+
+pub not_empty : (b : Board) (s : Square) → is_some (at b s) ≡ true → is_empty b s ≡ false
+not_empty b s h = by_cell (at b s) h
+  where
+    by_cell : (cell : Option Piece) → is_some cell ≡ true → is_none cell ≡ false
+    by_cell None g = cc
+    by_cell (Some x) g = refl
+
+-- The way is clear if each square between is empty, and if there is none.
+
+pub clear_if : (b : Board) (s t : Square) → ((u : Square) → u.file < 8 → u.rank < 8 → strictly_between s u t ≡ true → is_empty b u ≡ true) → is_clear b s t ≡ true
+clear_if b s t h = all_squares (λ u. not (strictly_between s u t) || is_empty b u) (λ u f r. implied (strictly_between s u t) (is_empty b u) (h u f r))
+
+pub between_cases : {A : Type 0} (s u t : Square) → strictly_between s u t ≡ true → (between_on_rank s u t ≡ true → A) → (between_on_file s u t ≡ true → A) → (between_on_diagonal s u t ≡ true → A) → A
+between_cases s u t h rank file cross =
+    elim (split_or (between_on_rank s u t) (between_on_file s u t || between_on_diagonal s u t) h) [
+      | inl r ↦ rank r
+      | inr more ↦ elim (split_or (between_on_file s u t) (between_on_diagonal s u t) more) [ inl f ↦ file f | inr d ↦ cross d ]
+    ]
+
+near_clear : (b : Board) (s t : Square) → gap s.file t.file ≤ 1 → gap s.rank t.rank ≤ 1 → is_clear b s t ≡ true
+near_clear b s t files ranks = clear_if b s t (λ u _ _ h. absurd (between_cases s u t h (on_rank u) (on_file u) (on_cross u)))
+  where
+    on_rank : (u : Square) → between_on_rank s u t ≡ true → ⊥
+    on_rank u h = grind (arith, nat_tests)
+
+    on_file : (u : Square) → between_on_file s u t ≡ true → ⊥
+    on_file u h = grind (arith, nat_tests)
+
+    on_cross : (u : Square) → between_on_diagonal s u t ≡ true → ⊥
+    on_cross u h = grind (arith, nat_tests)
+
+pub jump_clear : (b : Board) (s t : Square) → is_jump s t ≡ true → is_clear b s t ≡ true
+jump_clear b s t jump = clear_if b s t (λ u _ _ h. absurd (between_cases s u t h (on_rank u) (on_file u) (on_cross u)))
+  where
+    on_rank : (u : Square) → between_on_rank s u t ≡ true → ⊥
+    on_rank u h = grind (arith, nat_tests)
+
+    on_file : (u : Square) → between_on_file s u t ≡ true → ⊥
+    on_file u h = grind (arith, nat_tests)
+
+    line : on_diagonal s t ≡ true → ⊥
+    line h = grind (arith, nat_tests)
+
+    on_cross : (u : Square) → between_on_diagonal s u t ≡ true → ⊥
+    on_cross u h = line (first_true (on_diagonal s t) (on_diagonal s u) (first_true (on_diagonal s t && on_diagonal s u) _ h))
+
+-- Squares side by side see one another.
+
+near_aligned : (s t : Square) → gap s.file t.file ≤ 1 → gap s.rank t.rank ≤ 1 → not (same_square s t) ≡ true → is_aligned s t ≡ true
+near_aligned s t files ranks apart = grind (arith, nat_tests)
+
+pub near : (b : Board) (s t : Square) → gap s.file t.file ≤ 1 → gap s.rank t.rank ≤ 1 → not (same_square s t) ≡ true → (is_aligned s t && is_clear b s t) ≡ true
+near b s t files ranks apart = both_true _ _ (near_aligned s t files ranks apart) (near_clear b s t files ranks)
+
+at_most : (a b : ℕ) → nat_le a b ≡ true → a ≤ b
+at_most a b h = grind (arith, nat_tests)
+
+pub apart_by_file : (s t : Square) → gap s.file t.file ≡ 1 → not (same_square s t) ≡ true
+apart_by_file s t h = grind (arith, nat_tests)
+
+pub ahead_gap : (c : Colour) (a b : ℕ) → is_ahead c a b ≡ true → gap a b ≡ 1
+ahead_gap White a b h = (let e : b ≡ a + 1 = equal_from _ _ h in omega arith)
+ahead_gap Black a b h = (let e : a ≡ b + 1 = equal_from _ _ h in omega arith)
+
+pub adjacent_seen : (b : Board) (s t : Square) → is_adjacent s t ≡ true → (is_aligned s t && is_clear b s t) ≡ true
+adjacent_seen b s t h =
+    let steps : (nat_le (gap s.file t.file) 1 && nat_le (gap s.rank t.rank) 1) ≡ true = first_true _ (not (same_square s t)) h in
+    near b s t
+    (at_most _ _ (first_true (nat_le (gap s.file t.file) 1) _ steps)) (at_most _ _ (second_true (nat_le (gap s.file t.file) 1) _ steps))
+    (second_true (nat_le (gap s.file t.file) 1 && nat_le (gap s.rank t.rank) 1) _ h)
+
+pub pawn_seen : (c : Colour) (b : Board) (s t : Square) → reaches Pawn c s t ≡ true → (is_aligned s t && is_clear b s t) ≡ true
+pawn_seen c b s t h =
+    let files : gap s.file t.file ≡ 1 = equal_from _ _ (first_true (gap s.file t.file == 1) _ h) in
+    let ranks : gap s.rank t.rank ≡ 1 = ahead_gap c _ _ (second_true (gap s.file t.file == 1) _ h) in
+    near b s t (omega arith) (omega arith) (apart_by_file s t files)
+
+-- what a piece attacks it sees, but for a knight
+pub attack_seen : (k : Kind) (c : Colour) (b : Board) (s t : Square) → kind_attacks k c b s t ≡ true → (k ≡ Knight) ⊎ ((is_aligned s t && is_clear b s t) ≡ true)
+attack_seen King c b s t h = inr (adjacent_seen b s t h)
+attack_seen Queen c b s t h = inr h
+attack_seen Rook c b s t h = inr (both_true _ _ (or_first _ _ (first_true (in_line s t) _ h)) (second_true (in_line s t) _ h))
+attack_seen Bishop c b s t h = inr (both_true _ _ (or_second _ _ (first_true (on_diagonal s t) _ h)) (second_true (on_diagonal s t) _ h))
+attack_seen Knight c b s t h = inl refl
+attack_seen Pawn c b s t h = inr (pawn_seen c b s t h)
+
+-- no piece attacks from where none would on an empty board
+pub unreached : (b : Board) (s t : Square) → (is_aligned s t || is_jump s t) ≡ false → attacks b s t ≡ false
+unreached b s t out = by_attack (attacks b s t) refl
+  where
+    reached : (cell : Option Piece) → cell_attacks cell b s t ≡ true → (is_aligned s t || is_jump s t) ≡ true
+    reached None h = cc
+    reached (Some x) h =
+        elim (attack_seen x.kind x.colour b s t h) [
+          | inl knight ↦ or_second (is_aligned s t) (is_jump s t) (subst (λ (k : Kind). kind_attacks k x.colour b s t ≡ true) knight h)
+          | inr seen ↦ or_first (is_aligned s t) (is_jump s t) (first_true (is_aligned s t) _ seen)
+        ]
+
+    by_attack : (x : Bool) → attacks b s t ≡ x → attacks b s t ≡ false
+    by_attack false e = e
+    by_attack true e = cc (sym out ∙ reached (at b s) e)
+
+-- Near pieces and sliding ones.
+
+and_no : (x : Bool) → (x && false) ≡ false
+and_no true = refl
+and_no false = refl
+
+and_yes : (x : Bool) → (x && true) ≡ x
+and_yes true = refl
+and_yes false = refl
+
+or_no : (x : Bool) → (x || false) ≡ x
+or_no true = refl
+or_no false = refl
+
+both_no : (x y : Bool) → ((x && false) || (y && false)) ≡ false
+both_no x y = rw (and_no x, and_no y) refl
+
+-- near it, or far
+abbrev near_or_far : Bool → Bool → Bool → Bool → Bool
+near_or_far near slide same first = (near && same) || ((slide && same) && first)
+
+near_alone : (x f : Bool) → near_or_far x false true f ≡ x
+near_alone x f = rw (and_yes x, or_no x) refl
+
+far_alone : (x f : Bool) → near_or_far false x true f ≡ (x && f)
+far_alone x f = rw (and_yes x) refl
+
+no_colour : (x y f : Bool) → false ≡ near_or_far x y false f
+no_colour x y f = rw (and_no x, and_no y) refl
+
+jumps : (j a p : Bool) → (((j && true) || (a && false)) || (p && false)) ≡ j
+jumps j a p = rw (and_yes j, and_no a, and_no p, or_no j, or_no j) refl
+
+steps : (j a p : Bool) → (((j && false) || (a && true)) || (p && false)) ≡ a
+steps j a p = rw (and_no j, and_yes a, and_no p, or_no a) refl
+
+takes : (j a p : Bool) → (((j && false) || (a && false)) || (p && true)) ≡ p
+takes j a p = rw (and_no j, and_no a, and_yes p) refl
+
+none_near : (j a p : Bool) → (((j && false) || (a && false)) || (p && false)) ≡ false
+none_near j a p = rw (and_no j, and_no a, and_no p) refl
+
+along_lines : (l c clear : Bool) → (((l && true) || (c && false)) && clear) ≡ (l && clear)
+along_lines l c clear = rw (and_yes l, and_no c, or_no l) refl
+
+along_cross : (l c clear : Bool) → (((l && false) || (c && true)) && clear) ≡ (c && clear)
+along_cross l c clear = rw (and_no l, and_yes c) refl
+
+along_both : (l c clear : Bool) → (((l && true) || (c && true)) && clear) ≡ ((l || c) && clear)
+along_both l c clear = rw (and_yes l, and_yes c) refl
+
+-- what is near, if a piece of that kind stands there, and what slides
+abbrev near_kind : Kind → Bool → Bool → Bool → Bool
+near_kind k jump adjacent pawn = ((jump && same_kind Knight k) || (adjacent && same_kind King k)) || (pawn && same_kind Pawn k)
+
+abbrev slide_kind : Kind → Bool → Bool → Bool
+slide_kind k line cross = (line && (same_kind Rook k || same_kind Queen k)) || (cross && (same_kind Bishop k || same_kind Queen k))
+
+by_kind : (k : Kind) (c : Colour) (b : Board) (s t : Square)
+    → kind_attacks k c b s t
+    ≡ near_or_far (near_kind k (is_jump s t) (is_adjacent s t) (reaches Pawn c s t)) (slide_kind k (in_line s t) (on_diagonal s t)) true (is_clear b s t)
+by_kind k c b s t = of k
+  where
+    near : (x m n : Bool) → m ≡ x → n ≡ false → x ≡ near_or_far m n true (is_clear b s t)
+    near x m n e h = sym (ap₂ (λ v w. near_or_far v w true (is_clear b s t)) e h ∙ near_alone x (is_clear b s t))
+
+    far : (x m n : Bool) → m ≡ false → (n && is_clear b s t) ≡ x → x ≡ near_or_far m n true (is_clear b s t)
+    far x m n e h = sym (ap (λ v. near_or_far v n true (is_clear b s t)) e ∙ (far_alone n (is_clear b s t) ∙ h))
+
+    of : (l : Kind) → kind_attacks l c b s t
+        ≡ near_or_far (near_kind l (is_jump s t) (is_adjacent s t) (reaches Pawn c s t)) (slide_kind l (in_line s t) (on_diagonal s t)) true (is_clear b s t)
+    of King = near (is_adjacent s t) _ _ (steps (is_jump s t) (is_adjacent s t) (reaches Pawn c s t)) (both_no (in_line s t) (on_diagonal s t))
+    of Knight = near (is_jump s t) _ _ (jumps (is_jump s t) (is_adjacent s t) (reaches Pawn c s t)) (both_no (in_line s t) (on_diagonal s t))
+    of Pawn = near (reaches Pawn c s t) _ _ (takes (is_jump s t) (is_adjacent s t) (reaches Pawn c s t)) (both_no (in_line s t) (on_diagonal s t))
+    of Rook = far (in_line s t && is_clear b s t) _ _ (none_near (is_jump s t) (is_adjacent s t) (reaches Pawn c s t)) (along_lines (in_line s t) (on_diagonal s t) (is_clear b s t))
+    of Bishop = far (on_diagonal s t && is_clear b s t) _ _ (none_near (is_jump s t) (is_adjacent s t) (reaches Pawn c s t)) (along_cross (in_line s t) (on_diagonal s t) (is_clear b s t))
+    of Queen = far ((in_line s t || on_diagonal s t) && is_clear b s t) _ _ (none_near (is_jump s t) (is_adjacent s t) (reaches Pawn c s t)) (along_both (in_line s t) (on_diagonal s t) (is_clear b s t))
+
+pub by_cell : (c : Colour) (cell : Option Piece) (b : Board) (s t : Square)
+    → (has_colour c cell && cell_attacks cell b s t) ≡ (near_with c cell s t || (slides_with c cell s t && is_clear b s t))
+by_cell c None b s t =
+    no_colour (((is_jump s t && false) || (is_adjacent s t && false)) || (reaches Pawn c s t && false)) ((in_line s t && false) || (on_diagonal s t && false)) (is_clear b s t)
+by_cell c (Some x) b s t = by_colour (same_colour c x.colour) refl
+  where
+    by_colour : (v : Bool) → same_colour c x.colour ≡ v
+        → (same_colour c x.colour && kind_attacks x.kind x.colour b s t)
+        ≡ near_or_far (near_kind x.kind (is_jump s t) (is_adjacent s t) (reaches Pawn c s t)) (slide_kind x.kind (in_line s t) (on_diagonal s t)) (same_colour c x.colour) (is_clear b s t)
+    by_colour false e =
+        ap (λ v. v && kind_attacks x.kind x.colour b s t) e
+        ∙ (no_colour (near_kind x.kind (is_jump s t) (is_adjacent s t) (reaches Pawn c s t)) (slide_kind x.kind (in_line s t) (on_diagonal s t)) (is_clear b s t)
+        ∙ ap (λ v. near_or_far (near_kind x.kind (is_jump s t) (is_adjacent s t) (reaches Pawn c s t)) (slide_kind x.kind (in_line s t) (on_diagonal s t)) v (is_clear b s t)) (sym e))
+    by_colour true e =
+        ap (λ v. v && kind_attacks x.kind x.colour b s t) e
+        ∙ (by_kind x.kind x.colour b s t
+        ∙ ap₂ (λ d v. near_or_far (near_kind x.kind (is_jump s t) (is_adjacent s t) (reaches Pawn d s t)) (slide_kind x.kind (in_line s t) (on_diagonal s t)) v (is_clear b s t))
+        (sym (colours_same c x.colour e)) (sym e))
+
+slides_alone : (c : Colour) (cell : Option Piece) (b : Board) (s t : Square) → slides_with c cell s t ≡ true → (is_some cell && (is_aligned s t && is_clear b s t)) ≡ is_clear b s t
+slides_alone c None b s t h = cc (sym h ∙ no_slider (in_line s t) (on_diagonal s t))
+  where
+    no_slider : (l d : Bool) → (((l && false) || (d && false)) && false) ≡ false
+    no_slider l d = and_no ((l && false) || (d && false))
+slides_alone c (Some x) b s t h = ap (λ v. v && is_clear b s t) (lined (in_line s t) (on_diagonal s t) _ _ (first_true _ (same_colour c x.colour) h))
+  where
+    lined : (l d v w : Bool) → ((l && v) || (d && w)) ≡ true → (l || d) ≡ true
+    lined true d v w h = refl
+    lined false true v w h = refl
+    lined false false v w h = h
+
+near_alone_seen : (c : Colour) (cell : Option Piece) (b : Board) (s t : Square) → near_with c cell s t ≡ true → (is_some cell ≡ true) × (((is_aligned s t && is_clear b s t) || is_jump s t) ≡ true)
+near_alone_seen c None b s t h = cc (sym h ∙ and_no _)
+near_alone_seen c (Some x) b s t h =
+    (refl, by_near (split_or ((is_jump s t && same_kind Knight x.kind) || (is_adjacent s t && same_kind King x.kind)) _ (first_true _ (same_colour c x.colour) h)))
+  where
+    by_first : ((is_jump s t && same_kind Knight x.kind) ≡ true) ⊎ ((is_adjacent s t && same_kind King x.kind) ≡ true) → ((is_aligned s t && is_clear b s t) || is_jump s t) ≡ true
+    by_first (inl jump) = or_second (is_aligned s t && is_clear b s t) _ (first_true (is_jump s t) _ jump)
+    by_first (inr step) = or_first _ _ (adjacent_seen b s t (first_true (is_adjacent s t) _ step))
+
+    by_near : (((is_jump s t && same_kind Knight x.kind) || (is_adjacent s t && same_kind King x.kind)) ≡ true) ⊎ ((reaches Pawn c s t && same_kind Pawn x.kind) ≡ true)
+        → ((is_aligned s t && is_clear b s t) || is_jump s t) ≡ true
+    by_near (inl more) = by_first (split_or (is_jump s t && same_kind Knight x.kind) _ more)
+    by_near (inr pawn) = or_first _ _ (pawn_seen c b s t (first_true (reaches Pawn c s t) _ pawn))
+
+-- Of a piece that may attack, three tests say the same: whether it attacks, whether the way is
+-- clear, and whether it is in view or a jump away.
+
+near_is_clear : (c : Colour) (cell : Option Piece) (b : Board) (s t : Square) → near_with c cell s t ≡ true → is_clear b s t ≡ true
+near_is_clear c cell b s t h =
+    elim (split_or (is_aligned s t && is_clear b s t) (is_jump s t) ((near_alone_seen c cell b s t h).1)) [ inl seen ↦ second_true (is_aligned s t) _ seen | inr jump ↦ jump_clear b s t jump ]
+
+pub attacker_is : (b : Board) (c : Colour) (s t : Square) → (has_colour c (at b s) && attacks b s t) ≡ (may_attack b c t s && is_clear b s t)
+attacker_is b c s t =
+    by_cell c (at b s) b s t
+    ∙ join (near_with c (at b s) s t) (slides_with c (at b s) s t) (is_clear b s t) (near_is_clear c (at b s) b s t)
+  where
+    join : (x y z : Bool) → (x ≡ true → z ≡ true) → (x || (y && z)) ≡ ((x || y) && z)
+    join true y z h = sym (h refl)
+    join false y z h = refl
+
+pub attacked_is : (b : Board) (c : Colour) (t : Square) → is_attacked b c t ≡ list_any (λ s. may_attack b c t s && is_clear b s t) squares
+attacked_is b c t = any_same (λ s. has_colour c (at b s) && attacks b s t) (λ s. may_attack b c t s && is_clear b s t) squares (λ s. attacker_is b c s t)
+
+pub open_or_jump : (b : Board) (c : Colour) (s t : Square) → may_attack b c t s ≡ true → (is_in_view b t s || is_jump s t) ≡ is_clear b s t
+open_or_jump b c s t h = elim (split_or (near_with c (at b s) s t) (slides_with c (at b s) s t) h) [ inl near ↦ by_near near | inr slide ↦ by_slide slide ]
+  where
+    by_near : near_with c (at b s) s t ≡ true → (is_in_view b t s || is_jump s t) ≡ is_clear b s t
+    by_near near =
+        let seen : (is_some (at b s) ≡ true) × (((is_aligned s t && is_clear b s t) || is_jump s t) ≡ true) = near_alone_seen c (at b s) b s t near in
+        ap (λ x. (is_aligned s t && (x && is_clear b s t)) || is_jump s t) seen.0 ∙ (seen.1 ∙ sym (near_is_clear c (at b s) b s t near))
+
+    by_slide : slides_with c (at b s) s t ≡ true → (is_in_view b t s || is_jump s t) ≡ is_clear b s t
+    by_slide slide = ap (λ x. x || is_jump s t) (turned (is_some (at b s)) (is_aligned s t) (is_clear b s t) ∙ slides_alone c (at b s) b s t slide) ∙ covers (is_clear b s t) (is_jump s t) (jump_clear b s t)
+      where
+        turned : (x y z : Bool) → (y && (x && z)) ≡ (x && (y && z))
+        turned true y z = refl
+        turned false true z = refl
+        turned false false z = refl
+
+        covers : (x y : Bool) → (y ≡ true → x ≡ true) → (x || y) ≡ x
+        covers true y g = refl
+        covers false true g = sym (g refl)
+        covers false false g = refl

@@ -1,0 +1,92 @@
+-- All squares between two are empty exactly if the set of them has no piece; and the squares of a
+-- set from which the way is so clear.
+use Rattle.std.proofs.Common.{◌≡◌, ℕ, ◌<◌, ◌^◌, Bool, true, false, not, ◌&&◌, ◌||◌, ◌⊎◌, inl, inr, List, [], ◌∷◌, refl, sym, ◌∙◌, ap, ap₂, arith}
+use Rattle.std.specs.Prelude.{◌==◌, Option, None, Some, is_none, is_some, if◌then◌else◌}
+use Rattle.std.specs.Int.Bits.{bit_and}
+use Rattle.std.specs.List.{list_all, list_any}
+use Rattle.std.proofs.lemmas.Nat.{and_le_l}
+use Rattle.chess_rules.specs.declared.piece.Piece.{Piece}
+use Rattle.chess_rules.specs.Square.{Square, squares, strictly_between}
+use Rattle.chess_rules.specs.Board.{Board, at, cell_of, is_empty}
+use Rattle.chess_rules.specs.Attacks.{is_clear}
+use Rattle.chess_rules.specs.Reach.{square_at}
+use Rattle.chess_rules.specs.Words.{has, IsLowest, Marks, Places, Sets}
+use Rattle.chess_rules.proofs.positions.OneKing.{cell_of-square_at}
+use Rattle.chess_rules.proofs.squares.AllSquares.{or_second}
+use Rattle.chess_rules.proofs.squares.WordsToCells.{has_zero, same_or_apart}
+use Rattle.chess_rules.proofs.squares.SetsToSquares.{marked, places_and, set_test}
+
+all_unless : {X : Type 0} (p q r : X → Bool) (xs : List X) → ((x : X) → q x ≡ not (r x)) → list_all (λ x. not (p x) || r x) xs ≡ not (list_any (λ x. p x && q x) xs)
+all_unless p q r [] h = refl
+all_unless p q r (x ∷ xs) h = by_tests (p x) (q x) (r x) _ _ (h x) (all_unless p q r xs h)
+  where
+    by_tests : (v w u rest some : Bool) → w ≡ not u → rest ≡ not some → ((not v || u) && rest) ≡ not ((v && w) || some)
+    by_tests true w true rest some e f = rw (e, f) refl
+    by_tests true w false rest some e f = rw e refl
+    by_tests false w u rest some e f = f
+
+filled : (o : Option Piece) → is_some o ≡ not (is_none o)
+filled None = refl
+filled (Some x) = refl
+
+not_again : (x y : Bool) → not x ≡ y → x ≡ not y
+not_again true y h = ap not h
+not_again false y h = ap not h
+
+pub clear_by_set : (b : Board) (s t : Square) (v w : ℕ) → Places v (λ u. strictly_between s u t) → Marks w is_some b → v < 2 ^ 64 → (bit_and v w == 0) ≡ is_clear b s t
+clear_by_set b s t v w between pieces fits =
+    not_again (bit_and v w == 0) _
+    (set_test (bit_and v w) (λ u. strictly_between s u t && is_some (at b u))
+    (places_and v w (λ u. strictly_between s u t) (λ u. is_some (at b u)) between (marked w is_some b pieces))
+    (omega (arith, and_le_l v w, fits)))
+    ∙ sym (all_unless (λ u. strictly_between s u t) (λ u. is_some (at b u)) (is_empty b) squares (λ u. filled (at b u)))
+
+-- The squares of a set from which the way is clear, square by square.
+module _ (test : Square → Bool) (set : ℕ) where
+  -- of the set, those are kept that pass or are left
+  pub record Keeps (left kept : ℕ) : Type 0 where
+    pub of : (i : ℕ) → i < 64 → has kept i ≡ (has set i && (has left i || test (square_at i)))
+
+  pub all_kept : Keeps set set
+  all_kept = record { of = λ i low. itself (has set i) (test (square_at i)) }
+    where
+      itself : (x y : Bool) → x ≡ (x && (x || y))
+      itself true y = refl
+      itself false y = refl
+
+  module _ (left rest n kept : ℕ) (lowest : IsLowest left n) (sets : Sets left rest n false) (w : Keeps left kept) where
+    pub passes_on : test (square_at n) ≡ true → Keeps rest kept
+    passes_on passes = record { of = λ i low. w.of i low ∙ ap (λ x. has set i && x) (at_place i low (same_or_apart i n)) }
+      where
+        at_place : (i : ℕ) → i < 64 → ((i ≡ n) × ((i == n) ≡ true)) ⊎ ((i ≡ n → ⊥) × ((i == n) ≡ false)) → (has left i || test (square_at i)) ≡ (has rest i || test (square_at i))
+        at_place i low (inl here) =
+            let hit : test (square_at i) ≡ true = ap (λ j. test (square_at j)) here.0 ∙ passes in
+            or_second (has left i) _ hit ∙ sym (or_second (has rest i) _ hit)
+        at_place i low (inr apart) = ap (λ x. x || test (square_at i)) (sym (sets.of i low ∙ ap (λ x. if x then false else has left i) apart.1))
+
+    pub fails_out : (fewer : ℕ) → test (square_at n) ≡ false → Sets kept fewer n false → Keeps rest fewer
+    fails_out fewer fails out = record { of = λ i low. at_place i low (same_or_apart i n) }
+      where
+        none : (x : Bool) → (x && false) ≡ false
+        none true = refl
+        none false = refl
+
+        at_place : (i : ℕ) → i < 64 → ((i ≡ n) × ((i == n) ≡ true)) ⊎ ((i ≡ n → ⊥) × ((i == n) ≡ false)) → has fewer i ≡ (has set i && (has rest i || test (square_at i)))
+        at_place i low (inl here) =
+            out.of i low
+            ∙ (ap (λ x. if x then false else has kept i) here.1
+            ∙ sym (ap₂ (λ x y. has set i && (x || y)) (sets.of i low ∙ ap (λ x. if x then false else has left i) here.1) (ap (λ j. test (square_at j)) here.0 ∙ fails)
+            ∙ none (has set i)))
+        at_place i low (inr apart) =
+            out.of i low
+            ∙ (ap (λ x. if x then false else has kept i) apart.1
+            ∙ (w.of i low
+            ∙ ap (λ y. has set i && (y || test (square_at i))) (sym (sets.of i low ∙ ap (λ x. if x then false else has left i) apart.1))))
+
+  pub none_left : (left kept : ℕ) → left ≡ 0 → Keeps left kept → Places kept (λ s. has set (cell_of s) && test s)
+  none_left left kept none w =
+      record {
+        of = λ i low.
+            w.of i low
+            ∙ ap₂ (λ x y. x && (y || test (square_at i))) (ap (has set) (sym (cell_of-square_at i))) (ap (λ n. has n i) none ∙ has_zero i);
+      }

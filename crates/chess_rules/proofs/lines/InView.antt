@@ -1,0 +1,326 @@
+-- On a line through a square, the nearest piece on either side is the one in view. So at most eight
+-- pieces are in view of a square.
+use Rattle.std.proofs.Common.{◌≡◌, ◌≢◌, ℕ, ◌<◌, ◌≤◌, ◌^◌, Bool, true, false, not, ◌&&◌, ◌||◌, ◌⊎◌, inl, inr, length, refl, sym, ◌∙◌, ap, ap₂, w64, arith}
+use Rattle.std.specs.Prelude.{Option, None, Some, filter, is_none, is_some, nat_lt}
+use Rattle.std.specs.Int.{bit_not}
+use Rattle.std.specs.Int.Bits.{bit_and, bit_or}
+use Rattle.std.proofs.lemmas.Bool.{false≢true}
+use Rattle.std.proofs.lemmas.Bool.Decides.{nat_tests}
+use Rattle.chess_rules.specs.declared.piece.Piece.{Piece}
+use Rattle.chess_rules.specs.Square.{Square, squares, inside, in_line, on_diagonal, strictly_between}
+use Rattle.chess_rules.specs.Board.{Board, at, cell_of, is_empty}
+use Rattle.chess_rules.specs.Attacks.{is_clear}
+use Rattle.chess_rules.specs.Reach.{IsLine, is_in_view, is_open, is_steep, square_at}
+use Rattle.chess_rules.specs.Words.{has, IsHighest, IsLowest, IsOnlyHighest, IsOnlyLowest, Places}
+use Rattle.chess_rules.proofs.positions.OneKing.{cell_of-square_at, square_at-cell_of}
+use Rattle.chess_rules.proofs.squares.AllSquares.{split_or, or_first, or_second, first_true, second_true, both_true, same_tests, each_square, not_means, not_true}
+use Rattle.chess_rules.proofs.squares.SetsToSquares.{at_square, one_kept}
+use Rattle.chess_rules.proofs.trying.FoundLists.{kept_either, kept_more}
+use Rattle.chess_rules.proofs.squares.WordsToCells.{has_and, has_not, has_or}
+use Rattle.chess_rules.proofs.lines.AttackToReach.{clear_if, not_empty}
+use Rattle.chess_rules.proofs.lines.LinesThrough.{file_line, rank_line, rising_line, falling_line, inside_means, inside_up, inside_down}
+
+-- One line through t.
+module _ (b : Board) (t : Square) (line : Square → Bool) (on : IsLine line t) where
+  -- a piece between blocks the way
+  blocked : (i j : ℕ) → i < 64 → j < 64 → line (square_at i) ≡ true → line (square_at j) ≡ true → is_some (at b (square_at i)) ≡ true → is_clear b (square_at j) t ≡ true → inside j i (cell_of t) ≡ true → ⊥
+  blocked i j low high there from full clear between =
+      let apart : strictly_between (square_at j) (square_at i) t ≡ true =
+      on.between (square_at j) (square_at i) (omega arith) (omega arith) (omega arith) (omega arith) from
+      ∙ both_true (line (square_at i)) _ there (ap₂ (λ m n. inside m n (cell_of t)) (cell_of-square_at j) (cell_of-square_at i) ∙ between) in
+      let empty : is_empty b (square_at i) ≡ true =
+      not_true (strictly_between (square_at j) (square_at i) t) _ apart
+      (each_square (λ u. not (strictly_between (square_at j) u t) || is_empty b u) (square_at i) clear (omega arith) (omega arith)) in
+      false≢true (sym (not_empty b (square_at i) full) ∙ empty)
+
+  -- no piece between leaves it clear
+  clear_when : (j : ℕ) → j < 64 → line (square_at j) ≡ true
+      → ((u : Square) → u.file < 8 → u.rank < 8 → line u ≡ true → inside j (cell_of u) (cell_of t) ≡ true → is_empty b u ≡ true) → is_clear b (square_at j) t ≡ true
+  clear_when j low from h =
+      clear_if b (square_at j) t (λ u f r between.
+      let both : (line u && inside (cell_of (square_at j)) (cell_of u) (cell_of t)) ≡ true =
+      sym (on.between (square_at j) u (omega arith) (omega arith) f r from) ∙ between in
+      h u f r (first_true (line u) _ both)
+      (ap (λ m. inside m (cell_of u) (cell_of t)) (sym (cell_of-square_at j)) ∙ second_true (line u) _ both))
+
+  not_there : (i : ℕ) → i < 64 → line (square_at i) ≡ true → t.file < 8 → i ≢ cell_of t
+  not_there i low here file e = false≢true (sym on.apart ∙ (ap line (sym (ap square_at e ∙ square_at-cell_of t file)) ∙ here))
+
+-- The nearest pieces on a line, as sets.
+module _ (b : Board) (t : Square) (line occupied below low high : ℕ) (tf : t.file < 8) (tr : t.rank < 8)
+    (on : IsLine (λ s. has line (cell_of s)) t) (pieces : Places occupied (λ s. is_some (at b s)))
+    (fits : below < 2 ^ 64) (first : (i : ℕ) → i < 64 → has below i ≡ nat_lt i (cell_of t))
+    (lowest : IsOnlyLowest (bit_and (bit_and line occupied) (bit_not w64 below)) low) (highest : IsOnlyHighest (bit_and (bit_and line occupied) below) high) where
+  after : (i : ℕ) → i < 64 → has (bit_and (bit_and line occupied) (bit_not w64 below)) i ≡ ((has line i && has occupied i) && not (nat_lt i (cell_of t)))
+  after i h = has_and (bit_and line occupied) (bit_not w64 below) i ∙ ap₂ (λ x y. x && y) (has_and line occupied i) (has_not below i fits h ∙ ap not (first i h))
+
+  before : (i : ℕ) → i < 64 → has (bit_and (bit_and line occupied) below) i ≡ ((has line i && has occupied i) && nat_lt i (cell_of t))
+  before i h = has_and (bit_and line occupied) below i ∙ ap₂ (λ x y. x && y) (has_and line occupied i) (first i h)
+
+  on_line : (i : ℕ) → i < 64 → has line i ≡ true → has line (cell_of (square_at i)) ≡ true
+  on_line i h e = ap (has line) (cell_of-square_at i) ∙ e
+
+  -- a square of the line with no piece that counts is empty
+  empty_there : (u : Square) (side : Bool) → u.file < 8 → u.rank < 8 → has line (cell_of u) ≡ true → side ≡ true → ((has line (cell_of u) && has occupied (cell_of u)) && side) ≡ false → is_empty b u ≡ true
+  empty_there u side f r here is none = by_content (at b u) refl
+    where
+      by_content : (o : Option Piece) → at b u ≡ o → is_none o ≡ true
+      by_content None e = refl
+      by_content (Some x) e =
+          absurd (false≢true (sym none
+          ∙ both_true (has line (cell_of u) && has occupied (cell_of u)) side
+          (both_true (has line (cell_of u)) _ here (at_square occupied (λ s. is_some (at b s)) u pieces f r ∙ ap is_some e)) is))
+
+  test_below : (i n : ℕ) → nat_lt i n ≡ true → i < n
+  test_below i n h = grind (arith, nat_tests)
+
+  test_above : (i n : ℕ) → nat_lt i n ≡ false → n ≤ i
+  test_above i n h = grind (arith, nat_tests)
+
+  below_test : (i n : ℕ) → i < n → nat_lt i n ≡ true
+  below_test i n h = grind (arith, nat_tests)
+
+  above_test : (i n : ℕ) → n ≤ i → not (nat_lt i n) ≡ true
+  above_test i n h = grind (arith, nat_tests)
+
+  open_there : (i : ℕ) → i < 64 → has line i ≡ true → has occupied i ≡ true → is_clear b (square_at i) t ≡ true → (has line (cell_of (square_at i)) && is_open b t (square_at i)) ≡ true
+  open_there i h here full clear = both_true _ _ (on_line i h here) (both_true _ _ (sym (pieces.of i h) ∙ full) clear)
+
+  from_low : (i : ℕ) → i < 64 → has low i ≡ true → (has line (cell_of (square_at i)) && is_open b t (square_at i)) ≡ true
+  from_low i h e =
+      let is : IsLowest (bit_and (bit_and line occupied) (bit_not w64 below)) i = lowest.here i h e in
+      let all : ((has line i && has occupied i) && not (nat_lt i (cell_of t))) ≡ true = sym (after i h) ∙ is.here in
+      let both : (has line i && has occupied i) ≡ true = first_true _ (not (nat_lt i (cell_of t))) all in
+      let above : cell_of t ≤ i = test_above i (cell_of t) (not_means _ (second_true (has line i && has occupied i) _ all)) in
+      open_there i h (first_true (has line i) _ both) (second_true (has line i) _ both)
+      (clear_when b t (λ s. has line (cell_of s)) on i h (on_line i h (first_true (has line i) _ both)) (λ u f r here between.
+      empty_between u f r here (in_order i u above (inside_means _ _ _ between)) is.none))
+    where
+      in_order : (j : ℕ) (u : Square) → cell_of t ≤ j → ((j < cell_of u) × (cell_of u < cell_of t)) ⊎ ((cell_of t < cell_of u) × (cell_of u < j)) → (cell_of t < cell_of u) × (cell_of u < j)
+      in_order j u h (inl x) = absurd (omega (arith, x.0, x.1))
+      in_order j u h (inr x) = x
+
+      empty_between : (u : Square) → u.file < 8 → u.rank < 8 → has line (cell_of u) ≡ true → (cell_of t < cell_of u) × (cell_of u < i)
+          → ((k : ℕ) → k < i → has (bit_and (bit_and line occupied) (bit_not w64 below)) k ≡ false) → is_empty b u ≡ true
+      empty_between u f r here x none =
+          empty_there u (not (nat_lt (cell_of u) (cell_of t))) f r here (above_test (cell_of u) (cell_of t) (omega (arith, x.0))) (sym (after (cell_of u) (omega arith)) ∙ none (cell_of u) x.1)
+
+  from_high : (i : ℕ) → i < 64 → has high i ≡ true → (has line (cell_of (square_at i)) && is_open b t (square_at i)) ≡ true
+  from_high i h e =
+      let is : IsHighest (bit_and (bit_and line occupied) below) i = highest.here i h e in
+      let all : ((has line i && has occupied i) && nat_lt i (cell_of t)) ≡ true = sym (before i h) ∙ is.here in
+      let both : (has line i && has occupied i) ≡ true = first_true _ (nat_lt i (cell_of t)) all in
+      let less : i < cell_of t = test_below i (cell_of t) (second_true (has line i && has occupied i) _ all) in
+      open_there i h (first_true (has line i) _ both) (second_true (has line i) _ both)
+      (clear_when b t (λ s. has line (cell_of s)) on i h (on_line i h (first_true (has line i) _ both)) (λ u f r here between.
+      empty_between u f r here (in_order i u less (inside_means _ _ _ between)) is.none))
+    where
+      in_order : (j : ℕ) (u : Square) → j < cell_of t → ((j < cell_of u) × (cell_of u < cell_of t)) ⊎ ((cell_of t < cell_of u) × (cell_of u < j)) → (j < cell_of u) × (cell_of u < cell_of t)
+      in_order j u h (inl x) = x
+      in_order j u h (inr x) = absurd (omega (arith, x.0, x.1))
+
+      empty_between : (u : Square) → u.file < 8 → u.rank < 8 → has line (cell_of u) ≡ true → (i < cell_of u) × (cell_of u < cell_of t)
+          → ((k : ℕ) → i < k → k < 64 → has (bit_and (bit_and line occupied) below) k ≡ false) → is_empty b u ≡ true
+      empty_between u f r here x none =
+          empty_there u (nat_lt (cell_of u) (cell_of t)) f r here (below_test (cell_of u) (cell_of t) x.1) (sym (before (cell_of u) (omega arith)) ∙ none (cell_of u) x.0 (omega arith))
+
+  -- a piece of the line that is open and on one side is the nearest there
+  found : (i : ℕ) → i < 64 → (has line (cell_of (square_at i)) && is_open b t (square_at i)) ≡ true → (has low i || has high i) ≡ true
+  found i h e = by_side (nat_lt i (cell_of t)) refl
+    where
+      here : has line (cell_of (square_at i)) ≡ true
+      here = first_true _ (is_open b t (square_at i)) e
+
+      opened : is_open b t (square_at i) ≡ true
+      opened = second_true (has line (cell_of (square_at i))) _ e
+
+      at_i : (has line i && has occupied i) ≡ true
+      at_i = both_true _ _ (sym (ap (has line) (cell_of-square_at i)) ∙ here) (pieces.of i h ∙ first_true (is_some (at b (square_at i))) _ opened)
+
+      clear : is_clear b (square_at i) t ≡ true
+      clear = second_true (is_some (at b (square_at i))) _ opened
+
+      -- no other piece of the line is between
+      none_between : (k : ℕ) → k < 64 → inside i k (cell_of t) ≡ true → (has line k && has occupied k) ≡ true → ⊥
+      none_between k low between both =
+          blocked b t (λ s. has line (cell_of s)) on k i low h (on_line k low (first_true (has line k) _ both)) here
+          (sym (pieces.of k low) ∙ second_true (has line k) _ both) clear between
+
+      by_side : (x : Bool) → nat_lt i (cell_of t) ≡ x → (has low i || has high i) ≡ true
+      by_side false above =
+          or_first _ _ (lowest.there i (record {
+            inside = h;
+            here = after i h ∙ both_true _ _ at_i (ap not above);
+            none = λ k less. out_after k less;
+          }))
+        where
+          out_after : (k : ℕ) → k < i → has (bit_and (bit_and line occupied) (bit_not w64 below)) k ≡ false
+          out_after k less = by_bit (has (bit_and (bit_and line occupied) (bit_not w64 below)) k) refl
+            where
+              by_bit : (x : Bool) → has (bit_and (bit_and line occupied) (bit_not w64 below)) k ≡ x → has (bit_and (bit_and line occupied) (bit_not w64 below)) k ≡ false
+              by_bit false g = g
+              by_bit true g =
+                  let low_k : k < 64 = omega arith in
+                  let all : ((has line k && has occupied k) && not (nat_lt k (cell_of t))) ≡ true = sym (after k low_k) ∙ g in
+                  let both : (has line k && has occupied k) ≡ true = first_true _ (not (nat_lt k (cell_of t))) all in
+                  let past : cell_of t ≤ k = test_above k (cell_of t) (not_means _ (second_true (has line k && has occupied k) _ all)) in
+                  let other : k ≢ cell_of t = not_there b t (λ s. has line (cell_of s)) on k low_k (on_line k low_k (first_true (has line k) _ both)) tf in
+                  absurd (none_between k low_k (inside_down i k (cell_of t) (strict (cell_of t) k past (λ s. other (sym s))) less) both)
+                where
+                  strict : (m n : ℕ) → m ≤ n → (m ≡ n → ⊥) → m < n
+                  strict m n a g = grind (arith, g)
+      by_side true less =
+          or_second _ _ (highest.there i (record {
+            inside = h;
+            here = before i h ∙ both_true _ _ at_i less;
+            none = λ k more low. out_before k more low;
+          }))
+        where
+          out_before : (k : ℕ) → i < k → k < 64 → has (bit_and (bit_and line occupied) below) k ≡ false
+          out_before k more low_k = by_bit (has (bit_and (bit_and line occupied) below) k) refl
+            where
+              by_bit : (x : Bool) → has (bit_and (bit_and line occupied) below) k ≡ x → has (bit_and (bit_and line occupied) below) k ≡ false
+              by_bit false g = g
+              by_bit true g =
+                  let all : ((has line k && has occupied k) && nat_lt k (cell_of t)) ≡ true = sym (before k low_k) ∙ g in
+                  let both : (has line k && has occupied k) ≡ true = first_true _ (nat_lt k (cell_of t)) all in
+                  absurd (none_between k low_k (inside_up i k (cell_of t) more (test_below k (cell_of t) (second_true (has line k && has occupied k) _ all))) both)
+
+  pub nearest_places : Places (bit_or low high) (λ s. has line (cell_of s) && is_open b t s)
+  nearest_places = record { of = λ i h. has_or low high i ∙ same_tests _ _ (λ e. elim (split_or (has low i) (has high i) e) [ inl l ↦ from_low i h l | inr g ↦ from_high i h g ]) (found i h) }
+
+-- How many are in view.
+
+-- of the pieces on one line, those on one side of t
+abbrev one_side : Board → Square → (Square → Bool) → (Square → Bool) → Square → Bool
+one_side b t line side s = (line s && is_open b t s) && side s
+
+module _ (b : Board) (t : Square) (line : Square → Bool) (tf : t.file < 8) (on : IsLine line t) where
+  apart : (i j : ℕ) → i < 64 → j < 64 → (line (square_at i) && is_open b t (square_at i)) ≡ true → (line (square_at j) && is_open b t (square_at j)) ≡ true → inside j i (cell_of t) ≡ true → ⊥
+  apart i j low high h g =
+      blocked b t line on i j low high (first_true (line (square_at i)) _ h) (first_true (line (square_at j)) _ g)
+      (first_true (is_some (at b (square_at i))) _ (second_true (line (square_at i)) _ h))
+      (second_true (is_some (at b (square_at j))) _ (second_true (line (square_at j)) _ g))
+
+  one_before : length (filter (one_side b t line (λ s. nat_lt (cell_of s) (cell_of t))) squares) ≤ 1
+  one_before =
+      one_kept (one_side b t line (λ s. nat_lt (cell_of s) (cell_of t))) (λ i j less high h g.
+      let there : nat_lt (cell_of (square_at j)) (cell_of t) ≡ true = second_true (line (square_at j) && is_open b t (square_at j)) _ g in
+      let last : j < cell_of t = less_from j there in
+      apart j i high (omega arith) (first_true _ _ g) (first_true _ _ h) (inside_up i j (cell_of t) less last))
+    where
+      less_from : (k : ℕ) → nat_lt (cell_of (square_at k)) (cell_of t) ≡ true → k < cell_of t
+      less_from k e = below_from k (ap (λ m. nat_lt m (cell_of t)) (sym (cell_of-square_at k)) ∙ e)
+        where
+          below_from : (m : ℕ) → nat_lt m (cell_of t) ≡ true → m < cell_of t
+          below_from m h = grind (arith, nat_tests)
+
+  one_after : length (filter (one_side b t line (λ s. not (nat_lt (cell_of s) (cell_of t)))) squares) ≤ 1
+  one_after =
+      one_kept (one_side b t line (λ s. not (nat_lt (cell_of s) (cell_of t)))) (λ i j less high h g.
+      let low : i < 64 = omega arith in
+      let past : cell_of t ≤ i = not_less i (second_true (line (square_at i) && is_open b t (square_at i)) _ h) in
+      let other : i ≢ cell_of t = not_there b t line on i low (first_true (line (square_at i)) _ (first_true _ _ h)) tf in
+      apart i j low high (first_true _ _ h) (first_true _ _ g) (inside_down j i (cell_of t) (strict (cell_of t) i past (λ e. other (sym e))) less))
+    where
+      not_less : (k : ℕ) → not (nat_lt (cell_of (square_at k)) (cell_of t)) ≡ true → cell_of t ≤ k
+      not_less k e = above_from k (ap (λ m. not (nat_lt m (cell_of t))) (sym (cell_of-square_at k)) ∙ e)
+        where
+          above_from : (m : ℕ) → not (nat_lt m (cell_of t)) ≡ true → cell_of t ≤ m
+          above_from m h = grind (arith, nat_tests)
+
+      strict : (m n : ℕ) → m ≤ n → (m ≡ n → ⊥) → m < n
+      strict m n a g = grind (arith, g)
+
+  pub two_on_line : length (filter (λ s. line s && is_open b t s) squares) ≤ 2
+  two_on_line =
+      omega (
+        arith,
+        one_before,
+        one_after,
+        kept_either (one_side b t line (λ s. nat_lt (cell_of s) (cell_of t))) (one_side b t line (λ s. not (nat_lt (cell_of s) (cell_of t)))) squares,
+        kept_more (λ s. line s && is_open b t s) (λ s. one_side b t line (λ u. nat_lt (cell_of u) (cell_of t)) s || one_side b t line (λ u. not (nat_lt (cell_of u) (cell_of t))) s)
+            squares (λ s h. on_a_side (line s && is_open b t s) (nat_lt (cell_of s) (cell_of t)) h),
+      )
+    where
+      on_a_side : (x y : Bool) → x ≡ true → ((x && y) || (x && not y)) ≡ true
+      on_a_side true true h = refl
+      on_a_side true false h = refl
+      on_a_side false y h = cc
+
+-- four lines together
+
+abbrev pub on_file : Square → Square → Bool
+on_file t s = in_line s t && is_steep s t
+
+abbrev pub on_rank : Square → Square → Bool
+on_rank t s = in_line s t && not (is_steep s t)
+
+abbrev pub on_rising : Square → Square → Bool
+on_rising t s = on_diagonal s t && is_steep s t
+
+abbrev pub on_falling : Square → Square → Bool
+on_falling t s = on_diagonal s t && not (is_steep s t)
+
+-- those of a line that are open
+abbrev open_on : Board → Square → (Square → Bool) → Square → Bool
+open_on b t line s = line s && is_open b t s
+
+pub four_lines : (a d e v : Bool) → (((((a && e) && v) || ((a && not e) && v)) || ((d && e) && v)) || ((d && not e) && v)) ≡ ((a || d) && v)
+four_lines true d true true = refl
+four_lines true true true false = refl
+four_lines true false true false = refl
+four_lines true d false true = refl
+four_lines true true false false = refl
+four_lines true false false false = refl
+four_lines false true true true = refl
+four_lines false true true false = refl
+four_lines false true false true = refl
+four_lines false true false false = refl
+four_lines false false true v = refl
+four_lines false false false v = refl
+
+pub few_in_view : (b : Board) (t : Square) → t.file < 8 → length (filter (is_in_view b t) squares) ≤ 8
+few_in_view b t tf =
+    omega (
+      arith,
+      kept_more (is_in_view b t) (λ s. ((open_on b t (on_file t) s || open_on b t (on_rank t) s) || open_on b t (on_rising t) s) || open_on b t (on_falling t) s) squares
+          (λ s h. four_lines (in_line s t) (on_diagonal s t) (is_steep s t) (is_open b t s) ∙ h),
+      kept_either (λ s. (open_on b t (on_file t) s || open_on b t (on_rank t) s) || open_on b t (on_rising t) s) (open_on b t (on_falling t)) squares,
+      kept_either (λ s. open_on b t (on_file t) s || open_on b t (on_rank t) s) (open_on b t (on_rising t)) squares,
+      kept_either (open_on b t (on_file t)) (open_on b t (on_rank t)) squares,
+      two_on_line b t (on_file t) tf (file_line t tf),
+      two_on_line b t (on_rank t) tf (rank_line t tf),
+      two_on_line b t (on_rising t) tf (rising_line t tf),
+      two_on_line b t (on_falling t) tf (falling_line t tf),
+    )
+
+-- a line as a set of the board's squares
+
+pub line_of_set : (line : Square → Bool) (t : Square) (w : ℕ) → t.file < 8 → t.rank < 8 → IsLine line t → Places w line → IsLine (λ s. has w (cell_of s)) t
+line_of_set line t w tf tr on h =
+    record {
+      apart = at_square w line t h tf tr ∙ on.apart;
+      between = λ s u sf sr uf ur here.
+          on.between s u sf sr uf ur (sym (at_square w line s h sf sr) ∙ here)
+          ∙ ap (λ x. x && inside (cell_of s) (cell_of u) (cell_of t)) (sym (at_square w line u h uf ur));
+    }
+
+pub view_places : (b : Board) (t : Square) (v w x y k l m n : ℕ) → t.file < 8 → t.rank < 8
+    → Places v (on_file t) → Places w (on_rank t) → Places x (on_rising t) → Places y (on_falling t)
+    → Places k (λ s. has v (cell_of s) && is_open b t s) → Places l (λ s. has w (cell_of s) && is_open b t s)
+    → Places m (λ s. has x (cell_of s) && is_open b t s) → Places n (λ s. has y (cell_of s) && is_open b t s)
+    → Places (bit_or (bit_or (bit_or k l) m) n) (is_in_view b t)
+view_places b t v w x y k l m n tf tr pv pw px py pk pl pm pn =
+    record {
+      of = λ i low.
+          let s = square_at i in
+          has_or (bit_or (bit_or k l) m) n i
+          ∙ (ap₂ (λ p q. p || q) (has_or (bit_or k l) m i ∙ ap₂ (λ p q. p || q) (has_or k l i ∙ ap₂ (λ p q. p || q) (on_line v (on_file t) k pv pk i low) (on_line w (on_rank t) l pw pl i low)) (on_line x (on_rising t) m px pm i low)) (on_line y (on_falling t) n py pn i low)
+          ∙ four_lines (in_line s t) (on_diagonal s t) (is_steep s t) (is_open b t s));
+    }
+  where
+    on_line : (set : ℕ) (line : Square → Bool) (near : ℕ) → Places set line → Places near (λ s. has set (cell_of s) && is_open b t s)
+        → (i : ℕ) → i < 64 → has near i ≡ (line (square_at i) && is_open b t (square_at i))
+    on_line set line near h g i low =
+        g.of i low ∙ ap (λ q. q && is_open b t (square_at i)) (ap (has set) (cell_of-square_at i) ∙ h.of i low)

@@ -1,0 +1,244 @@
+-- Four lines go through a square. Of two squares on one, those between are between in order too.
+use Rattle.std.proofs.Common.{◌≡◌, ℕ, ◌+◌, ◌<◌, ◌≢◌, Bool, true, false, not, ◌&&◌, ◌||◌, ◌⊎◌, inl, inr, arith}
+use Rattle.std.proofs.lemmas.Bool.Decides.{nat_tests}
+use Rattle.chess_rules.specs.Square.{Square, gap, inside, in_line, on_diagonal, strictly_between, between_on_rank, between_on_file, between_on_diagonal}
+use Rattle.chess_rules.specs.Board.{cell_of}
+use Rattle.chess_rules.specs.Reach.{IsLine, is_steep}
+use Rattle.chess_rules.proofs.squares.AllSquares.{split_or, or_first, or_second, first_true, second_true, both_true, same_tests}
+
+pub inside_means : (a x b : ℕ) → inside a x b ≡ true → ((a < x) × (x < b)) ⊎ ((b < x) × (x < a))
+inside_means a x b h = grind (arith, nat_tests)
+
+pub inside_up : (a x b : ℕ) → a < x → x < b → inside a x b ≡ true
+inside_up a x b h g = grind (arith, nat_tests)
+
+pub inside_down : (a x b : ℕ) → b < x → x < a → inside a x b ≡ true
+inside_down a x b h g = grind (arith, nat_tests)
+
+-- what a test of two squares on one diagonal says
+gaps_same : (s t : Square) → on_diagonal s t ≡ true → gap s.file t.file ≡ gap s.rank t.rank
+gaps_same s t h = grind (arith, nat_tests)
+
+on_cross : (s t : Square) → gap s.file t.file ≡ gap s.rank t.rank → s.rank ≢ t.rank → on_diagonal s t ≡ true
+on_cross s t h g = grind (arith, nat_tests)
+
+rising_means : (s t : Square) → (on_diagonal s t && is_steep s t) ≡ true → s.file + t.rank ≡ t.file + s.rank
+rising_means s t h = grind (arith, nat_tests)
+
+rising_apart : (s t : Square) → (on_diagonal s t && is_steep s t) ≡ true → s.rank ≢ t.rank
+rising_apart s t h e = grind (arith, nat_tests)
+
+falling_means : (s t : Square) → (on_diagonal s t && not (is_steep s t)) ≡ true → s.file + s.rank ≡ t.file + t.rank
+falling_means s t h = grind (arith, nat_tests)
+
+falling_apart : (s t : Square) → (on_diagonal s t && not (is_steep s t)) ≡ true → s.rank ≢ t.rank
+falling_apart s t h e = grind (arith, nat_tests)
+
+rising_steep : (s t : Square) → s.file + t.rank ≡ t.file + s.rank → is_steep s t ≡ true
+rising_steep s t h = grind (arith, nat_tests)
+
+falling_steep : (s t : Square) → s.file + s.rank ≡ t.file + t.rank → s.rank ≢ t.rank → not (is_steep s t) ≡ true
+falling_steep s t h g = grind (arith, nat_tests)
+
+-- between on a diagonal
+record Between (s u t : Square) : Type 0 where
+  gaps : gap s.file u.file ≡ gap s.rank u.rank
+  files : ((s.file < u.file) × (u.file < t.file)) ⊎ ((t.file < u.file) × (u.file < s.file))
+  ranks : ((s.rank < u.rank) × (u.rank < t.rank)) ⊎ ((t.rank < u.rank) × (u.rank < s.rank))
+
+between_means : (s u t : Square) → between_on_diagonal s u t ≡ true → Between s u t
+between_means s u t h =
+    let lines : (on_diagonal s t && on_diagonal s u) ≡ true = first_true _ (inside s.file u.file t.file && inside s.rank u.rank t.rank) h in
+    let both : (inside s.file u.file t.file && inside s.rank u.rank t.rank) ≡ true = second_true (on_diagonal s t && on_diagonal s u) _ h in
+    record {
+      gaps = gaps_same s u (second_true (on_diagonal s t) _ lines);
+      files = inside_means _ _ _ (first_true (inside s.file u.file t.file) _ both);
+      ranks = inside_means _ _ _ (second_true (inside s.file u.file t.file) _ both);
+    }
+
+rising_on : (a b c d e f : ℕ) → a + f ≡ e + b → gap a c ≡ gap b d → ((a < c) × (c < e)) ⊎ ((e < c) × (c < a)) → ((b < d) × (d < f)) ⊎ ((f < d) × (d < b)) → c + f ≡ e + d
+rising_on a b c d e f h g (inl x) (inl y) = omega (arith, x.0, x.1, y.0, y.1)
+rising_on a b c d e f h g (inl x) (inr y) = omega (arith, x.0, x.1, y.0, y.1)
+rising_on a b c d e f h g (inr x) (inl y) = omega (arith, x.0, x.1, y.0, y.1)
+rising_on a b c d e f h g (inr x) (inr y) = omega (arith, x.0, x.1, y.0, y.1)
+
+falling_on : (a b c d e f : ℕ) → a + b ≡ e + f → gap a c ≡ gap b d → ((a < c) × (c < e)) ⊎ ((e < c) × (c < a)) → ((b < d) × (d < f)) ⊎ ((f < d) × (d < b)) → c + d ≡ e + f
+falling_on a b c d e f h g (inl x) (inl y) = omega (arith, x.0, x.1, y.0, y.1)
+falling_on a b c d e f h g (inl x) (inr y) = omega (arith, x.0, x.1, y.0, y.1)
+falling_on a b c d e f h g (inr x) (inl y) = omega (arith, x.0, x.1, y.0, y.1)
+falling_on a b c d e f h g (inr x) (inr y) = omega (arith, x.0, x.1, y.0, y.1)
+
+-- in the order of squares
+cells_inside : (s u t : Square) → s.file < 8 → u.file < 8 → t.file < 8 → ((s.rank < u.rank) × (u.rank < t.rank)) ⊎ ((t.rank < u.rank) × (u.rank < s.rank)) → inside (cell_of s) (cell_of u) (cell_of t) ≡ true
+cells_inside s u t sf uf tf (inl x) = inside_up (cell_of s) (cell_of u) (cell_of t) (omega (arith, x.0)) (omega (arith, x.1))
+cells_inside s u t sf uf tf (inr x) = inside_down (cell_of s) (cell_of u) (cell_of t) (omega (arith, x.0)) (omega (arith, x.1))
+
+ranks_apart : (b d f : ℕ) → ((b < d) × (d < f)) ⊎ ((f < d) × (d < b)) → d ≢ f
+ranks_apart b d f (inl x) e = omega (arith, x.1)
+ranks_apart b d f (inr x) e = omega (arith, x.0)
+
+-- no square is on a line with itself
+cross_leaves : (x : Bool) (t : Square) → (on_diagonal t t && x) ≡ false
+cross_leaves x t = grind (arith, nat_tests)
+
+line_leaves : (x : Bool) (t : Square) → (in_line t t && x) ≡ false
+line_leaves x t = grind (arith, nat_tests)
+
+not_on_rank : (s u t : Square) → s.rank ≢ t.rank → between_on_rank s u t ≡ true → ⊥
+not_on_rank s u t h g = grind (arith, nat_tests)
+
+rising_off_file : (s u t : Square) → s.file + t.rank ≡ t.file + s.rank → s.rank ≢ t.rank → between_on_file s u t ≡ true → ⊥
+rising_off_file s u t h apart g = grind (arith, nat_tests)
+
+falling_off_file : (s u t : Square) → s.file + s.rank ≡ t.file + t.rank → s.rank ≢ t.rank → between_on_file s u t ≡ true → ⊥
+falling_off_file s u t h apart g = grind (arith, nat_tests)
+
+-- from order on a diagonal to both of its coordinates
+between_cross : (s u t : Square) → on_diagonal s t ≡ true → gap s.file u.file ≡ gap s.rank u.rank → s.rank ≢ u.rank → inside s.file u.file t.file ≡ true → inside s.rank u.rank t.rank ≡ true → between_on_diagonal s u t ≡ true
+between_cross s u t line gaps apart files ranks = both_true _ _ (both_true _ _ line (on_cross s u gaps apart)) (both_true _ _ files ranks)
+
+pub rising_line : (t : Square) → t.file < 8 → IsLine (λ s. on_diagonal s t && is_steep s t) t
+rising_line t tf = record { apart = cross_leaves (is_steep t t) t; between = λ s u sf _ uf _ l. same_tests _ _ (forth s u sf uf l) (back s u sf uf l) }
+  where
+    forth : (s u : Square) → s.file < 8 → u.file < 8 → (on_diagonal s t && is_steep s t) ≡ true → strictly_between s u t ≡ true → ((on_diagonal u t && is_steep u t) && inside (cell_of s) (cell_of u) (cell_of t)) ≡ true
+    forth s u sf uf l h =
+        elim (split_or (between_on_rank s u t) (between_on_file s u t || between_on_diagonal s u t) h) [
+          | inl r ↦ absurd (not_on_rank s u t (rising_apart s t l) r)
+          | inr more ↦ elim (split_or (between_on_file s u t) (between_on_diagonal s u t) more) [
+            | inl f ↦ absurd (rising_off_file s u t (rising_means s t l) (rising_apart s t l) f)
+            | inr d ↦ here (between_means s u t d)
+          ]
+        ]
+      where
+        here : Between s u t → ((on_diagonal u t && is_steep u t) && inside (cell_of s) (cell_of u) (cell_of t)) ≡ true
+        here w =
+            let on : u.file + t.rank ≡ t.file + u.rank = rising_on s.file s.rank u.file u.rank t.file t.rank (rising_means s t l) w.gaps w.files w.ranks in
+            both_true _ _ (both_true _ _ (on_cross u t (omega (arith, on)) (ranks_apart s.rank u.rank t.rank w.ranks)) (rising_steep u t on)) (cells_inside s u t sf uf tf w.ranks)
+
+    back : (s u : Square) → s.file < 8 → u.file < 8 → (on_diagonal s t && is_steep s t) ≡ true → ((on_diagonal u t && is_steep u t) && inside (cell_of s) (cell_of u) (cell_of t)) ≡ true → strictly_between s u t ≡ true
+    back s u sf uf l h =
+        or_second _ _ (or_second _ _ (in_order (inside_means _ _ _ (second_true (on_diagonal u t && is_steep u t) _ h))))
+      where
+        on : s.file + t.rank ≡ t.file + s.rank
+        on = rising_means s t l
+
+        too : u.file + t.rank ≡ t.file + u.rank
+        too = rising_means u t (first_true (on_diagonal u t && is_steep u t) _ h)
+
+        in_order : ((cell_of s < cell_of u) × (cell_of u < cell_of t)) ⊎ ((cell_of t < cell_of u) × (cell_of u < cell_of s)) → between_on_diagonal s u t ≡ true
+        in_order (inl x) =
+            between_cross s u t (first_true (on_diagonal s t) _ l) (omega (arith, on, too)) (λ e. omega (arith, on, too, x.0))
+            (inside_up s.file u.file t.file (omega (arith, on, too, x.0)) (omega (arith, on, too, x.1)))
+            (inside_up s.rank u.rank t.rank (omega (arith, on, too, x.0)) (omega (arith, on, too, x.1)))
+        in_order (inr x) =
+            between_cross s u t (first_true (on_diagonal s t) _ l) (omega (arith, on, too)) (λ e. omega (arith, on, too, x.1))
+            (inside_down s.file u.file t.file (omega (arith, on, too, x.0)) (omega (arith, on, too, x.1)))
+            (inside_down s.rank u.rank t.rank (omega (arith, on, too, x.0)) (omega (arith, on, too, x.1)))
+
+pub falling_line : (t : Square) → t.file < 8 → IsLine (λ s. on_diagonal s t && not (is_steep s t)) t
+falling_line t tf = record { apart = cross_leaves (not (is_steep t t)) t; between = λ s u sf _ uf _ l. same_tests _ _ (forth s u sf uf l) (back s u sf uf l) }
+  where
+    forth : (s u : Square) → s.file < 8 → u.file < 8 → (on_diagonal s t && not (is_steep s t)) ≡ true → strictly_between s u t ≡ true → ((on_diagonal u t && not (is_steep u t)) && inside (cell_of s) (cell_of u) (cell_of t)) ≡ true
+    forth s u sf uf l h =
+        elim (split_or (between_on_rank s u t) (between_on_file s u t || between_on_diagonal s u t) h) [
+          | inl r ↦ absurd (not_on_rank s u t (falling_apart s t l) r)
+          | inr more ↦ elim (split_or (between_on_file s u t) (between_on_diagonal s u t) more) [
+            | inl f ↦ absurd (falling_off_file s u t (falling_means s t l) (falling_apart s t l) f)
+            | inr d ↦ here (between_means s u t d)
+          ]
+        ]
+      where
+        here : Between s u t → ((on_diagonal u t && not (is_steep u t)) && inside (cell_of s) (cell_of u) (cell_of t)) ≡ true
+        here w =
+            let on : u.file + u.rank ≡ t.file + t.rank = falling_on s.file s.rank u.file u.rank t.file t.rank (falling_means s t l) w.gaps w.files w.ranks in
+            let apart : u.rank ≢ t.rank = ranks_apart s.rank u.rank t.rank w.ranks in
+            both_true _ _ (both_true _ _ (on_cross u t (omega (arith, on)) apart) (falling_steep u t on apart)) (cells_inside s u t sf uf tf w.ranks)
+
+    back : (s u : Square) → s.file < 8 → u.file < 8 → (on_diagonal s t && not (is_steep s t)) ≡ true → ((on_diagonal u t && not (is_steep u t)) && inside (cell_of s) (cell_of u) (cell_of t)) ≡ true → strictly_between s u t ≡ true
+    back s u sf uf l h =
+        or_second _ _ (or_second _ _ (in_order (inside_means _ _ _ (second_true (on_diagonal u t && not (is_steep u t)) _ h))))
+      where
+        on : s.file + s.rank ≡ t.file + t.rank
+        on = falling_means s t l
+
+        too : u.file + u.rank ≡ t.file + t.rank
+        too = falling_means u t (first_true (on_diagonal u t && not (is_steep u t)) _ h)
+
+        in_order : ((cell_of s < cell_of u) × (cell_of u < cell_of t)) ⊎ ((cell_of t < cell_of u) × (cell_of u < cell_of s)) → between_on_diagonal s u t ≡ true
+        in_order (inl x) =
+            between_cross s u t (first_true (on_diagonal s t) _ l) (omega (arith, on, too)) (λ e. omega (arith, on, too, x.0))
+            (inside_down s.file u.file t.file (omega (arith, on, too, x.1)) (omega (arith, on, too, x.0)))
+            (inside_up s.rank u.rank t.rank (omega (arith, on, too, x.0)) (omega (arith, on, too, x.1)))
+        in_order (inr x) =
+            between_cross s u t (first_true (on_diagonal s t) _ l) (omega (arith, on, too)) (λ e. omega (arith, on, too, x.1))
+            (inside_up s.file u.file t.file (omega (arith, on, too, x.1)) (omega (arith, on, too, x.0)))
+            (inside_down s.rank u.rank t.rank (omega (arith, on, too, x.0)) (omega (arith, on, too, x.1)))
+
+-- a file and a rank
+
+file_forth : (s u t : Square) → u.file < 8 → s.file < 8 → t.file < 8 → (in_line s t && is_steep s t) ≡ true → between_on_file s u t ≡ true → ((in_line u t && is_steep u t) && inside (cell_of s) (cell_of u) (cell_of t)) ≡ true
+file_forth s u t uf sf tf h g = grind (arith, nat_tests)
+
+file_back : (s u t : Square) → u.file < 8 → s.file < 8 → t.file < 8 → (in_line s t && is_steep s t) ≡ true → ((in_line u t && is_steep u t) && inside (cell_of s) (cell_of u) (cell_of t)) ≡ true → between_on_file s u t ≡ true
+file_back s u t uf sf tf h g = grind (arith, nat_tests)
+
+file_off_rank : (s u t : Square) → (in_line s t && is_steep s t) ≡ true → between_on_rank s u t ≡ true → ⊥
+file_off_rank s u t h g = grind (arith, nat_tests)
+
+line_off_cross : (s t : Square) → in_line s t ≡ true → on_diagonal s t ≡ true → ⊥
+line_off_cross s t h g = grind (arith, nat_tests)
+
+cross_there : (s u t : Square) → between_on_diagonal s u t ≡ true → on_diagonal s t ≡ true
+cross_there s u t h = first_true (on_diagonal s t) (on_diagonal s u) (first_true (on_diagonal s t && on_diagonal s u) _ h)
+
+pub file_line : (t : Square) → t.file < 8 → IsLine (λ s. in_line s t && is_steep s t) t
+file_line t tf = record { apart = line_leaves (is_steep t t) t; between = λ s u sf _ uf _ l. same_tests _ _ (forth s u sf uf l) (λ h. or_second _ _ (or_first _ _ (file_back s u t uf sf tf l h))) }
+  where
+    forth : (s u : Square) → s.file < 8 → u.file < 8 → (in_line s t && is_steep s t) ≡ true → strictly_between s u t ≡ true → ((in_line u t && is_steep u t) && inside (cell_of s) (cell_of u) (cell_of t)) ≡ true
+    forth s u sf uf l h =
+        elim (split_or (between_on_rank s u t) (between_on_file s u t || between_on_diagonal s u t) h) [
+          | inl r ↦ absurd (file_off_rank s u t l r)
+          | inr more ↦ elim (split_or (between_on_file s u t) (between_on_diagonal s u t) more) [
+            | inl f ↦ file_forth s u t uf sf tf l f
+            | inr d ↦ absurd (line_off_cross s t (first_true (in_line s t) _ l) (cross_there s u t d))
+          ]
+        ]
+
+rank_forth : (s u t : Square) → u.file < 8 → s.file < 8 → t.file < 8 → (in_line s t && not (is_steep s t)) ≡ true → between_on_rank s u t ≡ true → ((in_line u t && not (is_steep u t)) && inside (cell_of s) (cell_of u) (cell_of t)) ≡ true
+rank_forth s u t uf sf tf h g = grind (arith, nat_tests)
+
+rank_means : (s t : Square) → (in_line s t && not (is_steep s t)) ≡ true → s.rank ≡ t.rank
+rank_means s t h = grind (arith, nat_tests)
+
+on_rank : (s u t : Square) → s.rank ≡ t.rank → u.rank ≡ t.rank → inside s.file u.file t.file ≡ true → between_on_rank s u t ≡ true
+on_rank s u t h g files = grind (arith, nat_tests)
+
+rank_back : (s u t : Square) → u.file < 8 → s.file < 8 → t.file < 8 → (in_line s t && not (is_steep s t)) ≡ true → ((in_line u t && not (is_steep u t)) && inside (cell_of s) (cell_of u) (cell_of t)) ≡ true → between_on_rank s u t ≡ true
+rank_back s u t uf sf tf h g =
+    in_order (inside_means _ _ _ (second_true (in_line u t && not (is_steep u t)) _ g))
+  where
+    on : s.rank ≡ t.rank
+    on = rank_means s t h
+
+    too : u.rank ≡ t.rank
+    too = rank_means u t (first_true (in_line u t && not (is_steep u t)) _ g)
+
+    in_order : ((cell_of s < cell_of u) × (cell_of u < cell_of t)) ⊎ ((cell_of t < cell_of u) × (cell_of u < cell_of s)) → between_on_rank s u t ≡ true
+    in_order (inl x) = on_rank s u t on too (inside_up s.file u.file t.file (omega (arith, on, too, x.0)) (omega (arith, on, too, x.1)))
+    in_order (inr x) = on_rank s u t on too (inside_down s.file u.file t.file (omega (arith, on, too, x.0)) (omega (arith, on, too, x.1)))
+
+rank_off_file : (s u t : Square) → (in_line s t && not (is_steep s t)) ≡ true → between_on_file s u t ≡ true → ⊥
+rank_off_file s u t h g = grind (arith, nat_tests)
+
+pub rank_line : (t : Square) → t.file < 8 → IsLine (λ s. in_line s t && not (is_steep s t)) t
+rank_line t tf = record { apart = line_leaves (not (is_steep t t)) t; between = λ s u sf _ uf _ l. same_tests _ _ (forth s u sf uf l) (λ h. or_first _ _ (rank_back s u t uf sf tf l h)) }
+  where
+    forth : (s u : Square) → s.file < 8 → u.file < 8 → (in_line s t && not (is_steep s t)) ≡ true → strictly_between s u t ≡ true → ((in_line u t && not (is_steep u t)) && inside (cell_of s) (cell_of u) (cell_of t)) ≡ true
+    forth s u sf uf l h =
+        elim (split_or (between_on_rank s u t) (between_on_file s u t || between_on_diagonal s u t) h) [
+          | inl r ↦ rank_forth s u t uf sf tf l r
+          | inr more ↦ elim (split_or (between_on_file s u t) (between_on_diagonal s u t) more) [
+            | inl f ↦ absurd (rank_off_file s u t l f)
+            | inr d ↦ absurd (line_off_cross s t (first_true (in_line s t) _ l) (cross_there s u t d))
+          ]
+        ]

@@ -1,0 +1,127 @@
+-- The candidates of one kind are different squares, and at most eight.
+use Rattle.std.proofs.Common.{◌≡◌, ℕ, ◌<◌, ◌≤◌, Bool, true, false, ◌&&◌, eqb, List, map, length, Decides, ◌⊎◌, inl, inr, refl, sym, ◌∙◌, ap, ap₂, subst, arith}
+use Rattle.std.specs.Prelude.{◌==◌, Option, None, Some, is_some, filter, AllPairs, ◌≢◌, if◌then◌else◌, nat_le, nat_lt}
+use Rattle.std.specs.List.{list_all, IsDistinct}
+use Rattle.std.specs.Cmp.{IsEquivalence}
+use Rattle.std.proofs.lemmas.Bool.Decides.{nat_tests}
+use Rattle.std.proofs.lemmas.Cmp.{nat_eq_equiv}
+use Rattle.std.proofs.lemmas.Map.Made.{IsDistinct-from_count, AllPairs-from_IsDistinct}
+use Rattle.chess_rules.specs.declared.piece.Kind.{Kind}
+use Rattle.chess_rules.specs.declared.piece.Kind.TheVariants.{King, Queen, Rook, Bishop, Knight, Pawn}
+use Rattle.chess_rules.specs.declared.piece.Piece.{Piece}
+use Rattle.chess_rules.specs.declared.position.Parts.{Parts}
+use Rattle.chess_rules.specs.Square.{Square, squares, same_square, is_jump}
+use Rattle.chess_rules.specs.Board.{at, cell_of, has_piece}
+use Rattle.chess_rules.specs.Attacks.{is_clear}
+use Rattle.chess_rules.specs.Step.{own}
+use Rattle.chess_rules.specs.Candidate.{sees, is_candidate, candidates}
+use Rattle.chess_rules.specs.Reach.{is_aligned, is_in_view}
+use Rattle.chess_rules.specs.Laws.{FewCandidates}
+use Rattle.chess_rules.proofs.squares.AllSquares.{first_true, second_true, both_true, each_square}
+use Rattle.chess_rules.proofs.lines.AttackToReach.{squares_same}
+use Rattle.chess_rules.proofs.lines.InView.{few_in_view}
+use Rattle.chess_rules.proofs.trying.FoundLists.{keep, filter_as_map, distinct_found, kept_more}
+
+-- One square.
+
+pub square_laws : IsEquivalence same_square
+square_laws =
+    record {
+      refl = λ s. both_true (s.file == s.file) (s.rank == s.rank) (nat_eq_equiv.refl s.file) (nat_eq_equiv.refl s.rank);
+      symm = λ s t. ap₂ (λ x y. x && y) (nat_eq_equiv.symm s.file t.file) (nat_eq_equiv.symm s.rank t.rank);
+      congr = λ s t u h. ap (λ v. same_square v u) (squares_same s t h);
+    }
+
+pub square_decides : (s t : Square) → Decides (same_square s t) (s ≡ t)
+square_decides s t = (squares_same s t, λ e. subst (λ (u : Square). same_square s u ≡ true) e (square_laws.refl s))
+
+-- No square is listed twice.
+
+squares_apart : IsDistinct eqb (map cell_of squares)
+unfolding squares
+squares_apart = IsDistinct-from_count nat_eq_equiv (map cell_of squares) refl
+
+all_known : list_all (λ (s : Square). true) squares ≡ true
+unfolding squares
+all_known = refl
+
+pub candidates_apart : (p : Parts) (k : Kind) (t : Square) → IsDistinct same_square (candidates p k t)
+candidates_apart p k t =
+    subst (IsDistinct same_square) (sym (filter_as_map (is_candidate p k t) squares))
+    (distinct_found same_square (keep (is_candidate p k t)) (λ s. true) cell_of cell_of
+    (λ s u _ h. kept (is_candidate p k t s) s u h) (λ s u h. ap cell_of (squares_same s u h)) squares all_known squares_apart)
+  where
+    kept : (x : Bool) (s u : Square) → (if x then Some s else None) ≡ Some u → cell_of u ≡ cell_of s
+    kept true s u h = (let same : s ≡ u = cc in ap cell_of (sym same))
+    kept false s u h = cc
+
+-- no two of them are one, wherever the list is kept
+pub apart_there : (xs ys : List Square) → ys ≡ xs → IsDistinct same_square xs → AllPairs (λ s t. s ≢ t) ys
+apart_there xs ys e apart = subst (AllPairs (λ (s t : Square). s ≢ t)) (sym e) (AllPairs-from_IsDistinct square_decides xs apart)
+
+-- All kinds but the knight see along lines.
+
+abbrev pub is_rider : Kind → Bool
+is_rider King = true
+is_rider Queen = true
+is_rider Rook = true
+is_rider Bishop = true
+is_rider Knight = false
+is_rider Pawn = true
+
+pub sees_by_way : (p : Parts) (k : Kind) (s t : Square) → is_rider k ≡ true → sees k p s t ≡ (is_aligned s t && is_clear p.board s t)
+sees_by_way p King s t h = refl
+sees_by_way p Queen s t h = refl
+sees_by_way p Rook s t h = refl
+sees_by_way p Bishop s t h = refl
+sees_by_way p Knight s t h = cc
+sees_by_way p Pawn s t h = refl
+
+pub kind_cases : (k : Kind) → (is_rider k ≡ true) ⊎ (k ≡ Knight)
+kind_cases King = inl refl
+kind_cases Queen = inl refl
+kind_cases Rook = inl refl
+kind_cases Bishop = inl refl
+kind_cases Knight = inr refl
+kind_cases Pawn = inl refl
+
+pub rides_unless : (k : Kind) → (k ≡ Knight → ⊥) → is_rider k ≡ true
+rides_unless k h = elim (kind_cases k) [ inl rides ↦ rides | inr knight ↦ absurd (h knight) ]
+
+-- They are few.
+
+pub rider_in_view : (p : Parts) (k : Kind) (t s : Square) → is_rider k ≡ true → is_candidate p k t s ≡ true → is_in_view p.board t s ≡ true
+rider_in_view p k t s rides h =
+    let seen : (is_aligned s t && is_clear p.board s t) ≡ true = sym (sees_by_way p k s t rides) ∙ second_true (own p k s) _ h in
+    both_true _ _ (first_true (is_aligned s t) _ seen) (both_true _ _ (occupied (at p.board s) (first_true (own p k s) _ h)) (second_true (is_aligned s t) _ seen))
+  where
+    occupied : (cell : Option Piece) → has_piece p.side k cell ≡ true → is_some cell ≡ true
+    occupied None g = cc
+    occupied (Some x) g = refl
+
+jumps_are_few : list_all (λ t. nat_le (length (filter (λ s. is_jump s t) squares)) 8) squares ≡ true
+unfolding squares
+jumps_are_few = refl
+
+pub few_jumps : (t : Square) → t.file < 8 → t.rank < 8 → length (filter (λ s. is_jump s t) squares) ≤ 8
+few_jumps t file rank = at_most (length (filter (λ s. is_jump s t) squares)) (each_square (λ t. nat_le (length (filter (λ s. is_jump s t) squares)) 8) t jumps_are_few file rank)
+  where
+    at_most : (n : ℕ) → nat_le n 8 ≡ true → n ≤ 8
+    at_most n h = grind (arith, nat_tests)
+
+pub few_candidates : FewCandidates
+few_candidates p k t inside =
+    elim (kind_cases k) [
+      | inl rides ↦ omega (arith, few_in_view p.board t file, kept_more (is_candidate p k t) (is_in_view p.board t) squares (λ s h. rider_in_view p k t s rides h))
+      | inr knight ↦ subst (λ (l : Kind). length (candidates p l t) ≤ 8) (sym knight)
+          (omega (arith, few_jumps t file rank, kept_more (is_candidate p Knight t) (λ s. is_jump s t) squares (λ s h. second_true (own p Knight s) _ h)))
+    ]
+  where
+    below : (n : ℕ) → nat_lt n 8 ≡ true → n < 8
+    below n h = grind (arith, nat_tests)
+
+    file : t.file < 8
+    file = below t.file (first_true _ _ inside)
+
+    rank : t.rank < 8
+    rank = below t.rank (second_true (nat_lt t.file 8) _ inside)

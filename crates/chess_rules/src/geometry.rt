@@ -1,0 +1,124 @@
+//! The empty board: what a piece reaches on it, the lines through a square, what lies between two.
+
+ghost use Rattle.std.specs.Prelude.{◌≡◌, ◌<◌};
+ghost use Rattle.chess_rules.specs.Attacks as attacks;
+ghost use Rattle.chess_rules.specs.Reach as reach;
+ghost use Rattle.chess_rules.specs.Square as square;
+ghost use Rattle.chess_rules.specs.Words.{Places};
+ghost use Rattle.chess_rules.specs.declared.piece.Kind.TheVariants.{Pawn};
+
+use crate::piece::{Colour, Kind};
+use crate::square::Square;
+use crate::tables::{
+    ADJACENT, BETWEEN, BLACK_PAWNS, DIAGONALS, KNIGHT_JUMPS, LINES, STEEP, WHITE_PAWNS,
+};
+use crate::word::has;
+
+// The squares a knight's jump away.
+pub(crate) fn knights_to(target: Square) -> u64
+    ensures { Places result (λ s. square.is_jump s target) }
+{
+    target.recall_invariant();
+    KNIGHT_JUMPS[target.index()]
+}
+
+// The squares side by side with it.
+pub(crate) fn adjacent(target: Square) -> u64
+    ensures { Places result (λ s. square.is_adjacent s target) }
+{
+    target.recall_invariant();
+    ADJACENT[target.index()]
+}
+
+// The others of its rank and its file.
+pub(crate) fn lines(target: Square) -> u64
+    ensures { Places result (λ s. square.in_line s target) }
+{
+    target.recall_invariant();
+    LINES[target.index()]
+}
+
+// The others of its diagonals.
+pub(crate) fn diagonals(target: Square) -> u64
+    ensures { Places result (λ s. square.on_diagonal s target) }
+{
+    target.recall_invariant();
+    DIAGONALS[target.index()]
+}
+
+// The squares of its file and of the diagonal that rises to the right.
+pub(crate) fn steep(target: Square) -> u64
+    ensures { Places result (λ s. reach.is_steep s target) }
+{
+    target.recall_invariant();
+    STEEP[target.index()]
+}
+
+// The others of its rank, its file and its diagonals.
+pub(crate) fn aligned(target: Square) -> u64
+    ensures { Places result (λ s. reach.is_aligned s target) }
+{
+    lines(target) | diagonals(target)
+}
+
+// Whether the two are on one rank, file or diagonal.
+pub(crate) fn sees(from: Square, to: Square) -> bool
+    ensures { result ≡ reach.is_aligned from to }
+{
+    from.recall_invariant();
+    has(aligned(to), from.index())
+}
+
+// The squares from which a pawn of the colour attacks it.
+pub(crate) fn pawns_to(by: Colour, target: Square) -> u64
+    ensures { Places result (λ s. reach.reaches Pawn by s target) }
+{
+    target.recall_invariant();
+    match by {
+        Colour::White => WHITE_PAWNS[target.index()],
+        Colour::Black => BLACK_PAWNS[target.index()],
+    }
+}
+
+// The squares from which such a piece attacks `to`, if all squares between are empty.
+fn reaching(kind: Kind, colour: Colour, to: Square) -> u64
+    ensures { Places result (λ s. reach.reaches kind colour s to) }
+{
+    match kind {
+        Kind::King => adjacent(to),
+        Kind::Queen => aligned(to),
+        Kind::Rook => lines(to),
+        Kind::Bishop => diagonals(to),
+        Kind::Knight => knights_to(to),
+        Kind::Pawn => pawns_to(colour, to),
+    }
+}
+
+// Whether such a piece on `from` attacks `to`, if all squares between are empty.
+pub(crate) fn reaches(kind: Kind, colour: Colour, from: Square, to: Square) -> bool
+    ensures { result ≡ reach.reaches kind colour from to }
+{
+    from.recall_invariant();
+    has(reaching(kind, colour, to), from.index())
+}
+
+// Whether a pawn of the colour goes from the first rank to the second one.
+pub(crate) fn is_ahead(colour: Colour, rank: u8, ahead: u8) -> bool
+    requires low { rank < 8 }
+    requires high { ahead < 8 }
+    ensures { result ≡ attacks.is_ahead colour rank ahead }
+{
+    match colour {
+        Colour::White => ahead == rank + 1,
+        Colour::Black => rank == ahead + 1,
+    }
+}
+
+// The squares strictly between the two; none if they are not on one rank, file or diagonal.
+pub(crate) fn between(from: Square, to: Square) -> u64
+    ensures { Places result (λ s. square.strictly_between from s to) }
+{
+    from.recall_invariant();
+    to.recall_invariant();
+    BETWEEN[64 * from.index() + to.index()]
+}
