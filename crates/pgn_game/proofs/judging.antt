@@ -1,8 +1,6 @@
 -- What a token means: the fault table, and where a token leads.
 pub mod HandlersToRows
-pub mod MovesInMovetext
-pub mod NumbersInMovetext
-pub mod PartsToJudgement
+pub mod ReaderToPart
 pub mod RefusalsByStage
 pub mod RefusalsInMovetext
 pub mod RowsByStage

@@ -1,10 +1,10 @@
 -- One token and many: from what the reader returns to whole inputs.
 pub mod AcceptedToConverter
 pub mod GamesInPiece
-pub mod JudgedToAccepted
 pub mod NextGrows
 pub mod OneMoreToken
 pub mod PairsTriedForToken
+pub mod PutToAnswer
 pub mod SoundAtStart
 pub mod StepsAtEnd
 pub mod StepsInPiece

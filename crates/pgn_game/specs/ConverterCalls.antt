@@ -28,7 +28,8 @@ use Rattle.pgn_game.specs.Progress.{Progress, read, due}
 use Rattle.pgn_game.specs.MostTried.{MostTried, Raises, TriesUnwritten}
 use Rattle.pgn_game.specs.Due.{Gains}
 use Rattle.pgn_game.specs.Levels.{plies_of, last_position}
-use Rattle.pgn_game.specs.ReaderState.{ReaderState, Agrees, has_move, whole_plies}
+use Rattle.pgn_game.specs.Text.{has_move}
+use Rattle.pgn_game.specs.ReaderState.{ReaderState, Agrees, whole_plies}
 
 -- what can be asked of the game just finished: its pairs, how many moves it has outside variations,
 -- and the position after these

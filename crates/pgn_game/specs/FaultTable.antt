@@ -14,6 +14,8 @@ use Rattle.pgn_game.specs.declared.reason.Reason.{Reason}
 use Rattle.pgn_game.specs.declared.reason.Reason.TheVariants.{Lexical, ExpectedName, BadTagName, DuplicateTag, TooManyTags, ExpectedValue, BadResult, BadFen, TagLineTooLong, ExpectedBracket, SetUpWithoutFen, ReducedFen, TagInMovetext, NotAMove, IllegalMove, AmbiguousMove, MoveLimit, NoMoveBefore, TooDeep, UnmatchedClose, MarkerInVariation, ResultDiffers, UnexpectedEnd}
 use Rattle.pgn_game.specs.declared.mode.Mode.{Mode}
 use Rattle.pgn_game.specs.declared.mode.Mode.TheVariants.{Full, Reduced}
+use Rattle.pgn_game.specs.declared.marker.Marker.TheVariants.{WhiteWins, BlackWins, Draw, Unknown}
+use Rattle.pgn_game.specs.Markers.{marker_text}
 use Rattle.pgn_game.specs.Profile.{Profile, Missing, counts_as, takes_the_marker}
 use Rattle.pgn_game.specs.Pairs.{Pair, value_of, has_pair}
 use Rattle.pgn_game.specs.declared.stage.Stage.{Stage}
@@ -92,13 +94,15 @@ in_name b = starts_symbol b || (b == 95)
 
 -- The markers (PGN 8.2.6): three are symbols, which `is_score` tests, and one is the asterisk.
 abbrev pub is_score : List ℕ → Bool
-is_score s = bytes_eq s (codes "1-0") || bytes_eq s (codes "0-1") || bytes_eq s (codes "1/2-1/2")
+is_score s =
+    bytes_eq s (marker_text WhiteWins) || bytes_eq s (marker_text BlackWins)
+    || bytes_eq s (marker_text Draw)
 
 abbrev pub is_result : List ℕ → Bool
-is_result s = is_score s || bytes_eq s (codes "*")
+is_result s = is_score s || bytes_eq s (marker_text Unknown)
 
 abbrev pub marker_of : Kind → Option (List ℕ)
-marker_of tokens.asterisk = Some (codes "*")
+marker_of tokens.asterisk = Some (marker_text Unknown)
 marker_of (tokens.symbol s) = elim (is_score s) [ true ↦ Some s | false ↦ None ]
 marker_of _ = None
 

@@ -1,4 +1,4 @@
--- **Bookkeeping**: the move that a symbol means, or the row of the fault table that rejects it.
+-- **Definition**: the move that a symbol means, or the row of the fault table that rejects it.
 use Rattle.std.specs.Prelude.{true, false, Option, None, Some, Result, Ok, Err}
 use Rattle.std.specs.Option.{ok_or}
 use Rattle.chess_rules.specs.declared.position.Move.{Move}

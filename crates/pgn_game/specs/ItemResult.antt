@@ -6,8 +6,8 @@ use Rattle.chess_text.specs.declared.resolution.Played.{Played}
 use Rattle.pgn_layout.specs.Device.{AppendsFront, Counts, Device, Writes}
 use Rattle.pgn_layout.specs.Lines.{IsToken}
 use Rattle.pgn_layout.specs.Layout.{Put, laid_from}
-use Rattle.pgn_game.specs.declared.judged.Item.{Item as CodeItem}
-use Rattle.pgn_game.specs.declared.judged.Item.TheVariants.{Open, Close}
+use Rattle.pgn_game.specs.declared.item.Item.{Item as CodeItem}
+use Rattle.pgn_game.specs.declared.item.Item.TheVariants.{Open, Close}
 use Rattle.pgn_game.specs.declared.mode.Mode.{Mode}
 use Rattle.pgn_game.specs.declared.mode.Mode.TheVariants.{Full, Reduced}
 use Rattle.pgn_game.specs.Chess.{is_black_to_move}

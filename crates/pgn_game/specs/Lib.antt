@@ -2,7 +2,7 @@
 pub mod Inlet
 pub mod Reason
 pub mod Pairs
-pub mod Judgement
+pub mod TokenInMovetext
 pub mod PutResult
 pub mod StoredPairs
 pub mod Markers

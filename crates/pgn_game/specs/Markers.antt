@@ -1,4 +1,4 @@
--- **Bookkeeping**: the termination markers as the code has them.
+-- **Definition**: the termination markers and their texts.
 use Rattle.std.specs.Prelude.{ℕ, List, codes}
 use Rattle.pgn_game.specs.declared.marker.Marker.{Marker}
 use Rattle.pgn_game.specs.declared.marker.Marker.TheVariants.{WhiteWins, BlackWins, Draw, Unknown}

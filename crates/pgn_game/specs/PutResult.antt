@@ -1,32 +1,31 @@
--- **Bookkeeping**: what putting a judged token does to the reader and to its sink.
-use Rattle.std.specs.Prelude.{◌≡◌, ℕ, ◌+◌, ◌≤◌, Bool, true, false, ◌||◌, not, IsTrue, List, [], length, drop, None, Result, Ok, Err, OnOk}
+-- **Bookkeeping**: what the reader answers to a token of one stage, and what putting one does.
+use Rattle.std.specs.Prelude.{◌≡◌, ℕ, ◌+◌, ◌≤◌, ◌<◌, max, IsTrue, List, [], length, drop, Option, None, Some, Result, Ok, Err, IfOk, OnOk}
 use Rattle.std.specs.Io.KnownBytes.{Appends}
+use Rattle.chess_rules.specs.declared.position.Move.{Move}
+use Rattle.chess_rules.specs.Legal.{is_legal}
 use Rattle.pgn_layout.specs.Device.{AppendsFront, Counts, Device, Writes}
 use Rattle.pgn_lexer.specs.Tokens.{Kind}
 use Rattle.pgn_game.specs.declared.mode.Mode.{Mode}
 use Rattle.pgn_game.specs.declared.stage.Stage.{Stage}
-use Rattle.pgn_game.specs.declared.stage.Stage.TheVariants.{Between, AfterTags, InMovetext}
+use Rattle.pgn_game.specs.declared.stage.Stage.TheVariants.{AfterTags, InMovetext}
 use Rattle.pgn_game.specs.declared.accepted.Accepted.{Accepted}
 use Rattle.pgn_game.specs.declared.accepted.Accepted.TheVariants.{More, Finished}
 use Rattle.pgn_game.specs.declared.reason.Reason.{Reason}
 use Rattle.pgn_game.specs.declared.reason.Reason.TheVariants.{WriteFault}
-use Rattle.pgn_game.specs.declared.judged.Judged.{Judged}
-use Rattle.pgn_game.specs.declared.judged.Judged.TheVariants.{Entry as InText}
-use Rattle.pgn_game.specs.declared.judged.Entry.TheVariants.{Move as Play}
 use Rattle.pgn_game.specs.Profile.{Profile, counts_as, known_result}
 use Rattle.pgn_game.specs.Pairs.{Pair}
-use Rattle.pgn_game.specs.Chess.{first_position}
-use Rattle.pgn_game.specs.Game as games
+use Rattle.pgn_game.specs.Chess.{first_position, move_of}
 use Rattle.pgn_game.specs.Game.{Item, Part}
 use Rattle.pgn_game.specs.TagSection.{tag_section}
 use Rattle.pgn_game.specs.Text.{torn}
-use Rattle.pgn_game.specs.FaultTable.{is_comment, is_end}
-use Rattle.pgn_game.specs.Progress.{Next}
+use Rattle.pgn_game.specs.Tried.{Costs}
+use Rattle.pgn_game.specs.MostTried.{CostsToFind}
+use Rattle.pgn_game.specs.Progress.{Next, going}
 use Rattle.pgn_game.specs.Due.{text_next}
+use Rattle.pgn_game.specs.FoundMove.{found_in, with_position}
 use Rattle.pgn_game.specs.Movetext.{movetext_from}
-use Rattle.pgn_game.specs.ItemResult.{TriesItem}
-use Rattle.pgn_game.specs.ReaderState.{ReaderState, Agrees, Leads, Stays, CountsWrites, plies_next, whole_plies}
-use Rattle.pgn_game.specs.Judgement.{after, is_final}
+use Rattle.pgn_game.specs.ReaderState.{ReaderState, Agrees, Answers, FinishesAtMarker, Leads, Stays, CountsWrites, plies_next, whole_plies}
+use Rattle.pgn_game.specs.TokenInMovetext.{IsEntry, IsOpen, may_have_movetext, with_items}
 
 -- A game begins.
 
@@ -38,14 +37,6 @@ at_game_start old = record old {
   text = movetext_from first_position;
   earlier_plies = old.earlier_plies + old.text.plies;
 }
-
--- a token between games that begins one: neither a comment nor the end
-abbrev pub begins_game : Stage → Kind → Bool
-begins_game Between k = not (is_comment k || is_end k)
-begins_game _ k = false
-
-abbrev pub ready_for_token : ReaderState → Kind → ReaderState
-ready_for_token old k = elim (begins_game old.stage k) [ true ↦ at_game_start old | false ↦ old ]
 
 -- What a call leaves as it was, or nearly.
 pub record Keeps (old new : ReaderState) : Type 0 where
@@ -70,32 +61,88 @@ GoesTo old part to new (Ok accepted) d = Goes old part to new accepted d
 GoesTo old part to new (Err reason) d =
     (reason ≡ WriteFault) × AppendsFront d.before d.after (gain_to old.profile part to)
 
--- only a marker finishes a game
-abbrev pub FinishesFinal : Judged → ReaderState → Result Accepted Reason → Type 0
-FinishesFinal j new (Ok More) = Unit {0}
-FinishesFinal j new (Ok Finished) = IsTrue (is_final j) × (new.stage ≡ Between)
-FinishesFinal j new (Err reason) = Unit {0}
-
--- How many pairs were tried to write it. Where a write of the tag section failed, none was tried.
-pub data UnwrittenPairs (old : ReaderState) (i : Item) (before after : ℕ) : Type 0 where
-  at_item : TriesItem old.profile.mode old.text i before after → UnwrittenPairs old i before after
-  in_section : old.stage ≡ AfterTags → after ≡ before → UnwrittenPairs old i before after
-
-abbrev pub TriesJudged : ReaderState → Judged → Result Accepted Reason → ℕ → ℕ → Type 0
-TriesJudged old (InText (Play m)) (Ok accepted) before after =
-    TriesItem old.profile.mode old.text (games.move m.now) before after
-TriesJudged old (InText (Play m)) (Err reason) before after =
-    UnwrittenPairs old (games.move m.now) before after
-TriesJudged old j r before after = after ≡ before
-
--- What putting comes to, for each part that the reader agrees with.
-pub record PutResult (old : ReaderState) (j : Judged) (new : ReaderState) (r : Result Accepted Reason)
-    (d : Device) : Type 0 where
-  pub goes : (part : Part) → Agrees old part → GoesTo old part (after j part) new r d
+-- What putting results in, for each of these parts.
+pub record PutResult (old : ReaderState) (IsOf : Part → Type 0) (to : Part → Next) (new : ReaderState)
+    (r : Result Accepted Reason) (d : Device) : Type 0 where
+  pub goes : (part : Part) → IsOf part → GoesTo old part (to part) new r d
   pub keeps : Keeps old new
   pub stays : Stays old new r
-  pub finished : FinishesFinal j new r
   pub counted : CountsWrites r d
+
+-- a game goes on, or a write failed
+abbrev pub FinishesNone : Result Accepted Reason → Type 0
+FinishesNone (Ok More) = Unit {0}
+FinishesNone (Ok Finished) = ⊥
+FinishesNone (Err reason) = Unit {0}
+
+-- Items other than moves are put, or none: for them no pair is tried.
+pub record PutsItems (old : ReaderState) (items : List Item) (new : ReaderState)
+    (r : Result Accepted Reason) (d : Device) : Type 0 where
+  pub puts : PutResult old (IsOpen old) (λ part. going (with_items part items)) new r d
+  pub goes_on : FinishesNone r
+  pub probes : new.most_probes ≡ old.most_probes
+
+-- What the reader answers to a token, after each of these parts.
+pub record Takes (old : ReaderState) (IsOf : Part → Type 0) (k : Kind) (new : ReaderState)
+    (r : Result Accepted Reason) (d : Device) : Type 0 where
+  pub accepts : (part : Part) → IsOf part → Answers old part k new r d.before d.after
+  pub keeps : Keeps old new
+  pub stays : Stays old new r
+  pub finished : FinishesAtMarker k new r
+  pub counted : CountsWrites r d
+
+-- a token at the stage of the reader, and one of movetext
+abbrev pub TakesToken : ReaderState → Kind → ReaderState → Result Accepted Reason → Device → Type 0
+TakesToken old k new r d = Takes old (Agrees old) k new r d
+
+abbrev pub TakesEntry : ReaderState → Kind → ReaderState → Result Accepted Reason → Device → Type 0
+TakesEntry old k new r d = Takes old (IsEntry old k) k new r d
+
+-- a sink in which nothing is written, and a token for which nothing is
+abbrev pub unused : Option (List ℕ) → ℕ → Device
+unused taken failures =
+    record { before = taken; after = taken; failures = failures; failures_after = failures }
+
+abbrev pub TakesUnwritten : ReaderState → Kind → ReaderState → Result Accepted Reason → Type 0
+TakesUnwritten old k new r =
+    (taken : Option (List ℕ)) (failures : ℕ) → TakesToken old k new r (unused taken failures)
+
+-- A token belongs to movetext, and the reader is ready to take it so.
+pub record EntersMovetext (old : ReaderState) (k : Kind) (ready : ReaderState) : Type 0 where
+  pub stage : IsTrue (may_have_movetext ready.stage)
+  pub plies : ready.text.plies ≤ old.earlier_plies + old.text.plies
+  pub takes : (new : ReaderState) (r : Result Accepted Reason) (d : Device) → TakesEntry ready k new r d
+      → TakesToken old k new r d
+
+-- outside movetext a token is taken, or it belongs to movetext
+abbrev pub TakesOutside : ReaderState → Kind → ReaderState → Option (Result Accepted Reason) → Type 0
+TakesOutside old k new (Some r) = TakesUnwritten old k new r
+TakesOutside old k new None = EntersMovetext old k new
+
+-- Moves.
+
+-- the count of probes has risen to so many, if it was lower
+abbrev pub counting_probes : ReaderState → ℕ → ReaderState
+counting_probes old n = record old { most_probes = max old.most_probes n }
+
+-- The move that a symbol names was sought, and the pairs that were tried are counted.
+pub record Finds (old : ReaderState) (s : List ℕ) (new : ReaderState) (r : Result Move Reason)
+    (n : ℕ) : Type 0 where
+  pub found : with_position old.text.levels.present.present r
+      ≡ found_in old.text.levels.present.present (move_of old.text.levels.present.present s)
+  pub legal : IfOk r (λ m. IsTrue (is_legal old.text.levels.present.present m))
+  pub counted : new ≡ counting_probes old n
+  pub tried : Costs old.text.levels.present.present s n
+  pub few : n ≤ 8
+  pub some : OnOk r (0 < n)
+
+-- It was sought for a token that another row rejects.
+pub record CountsMove (old : ReaderState) (k : Kind) (new : ReaderState) : Type 0 where
+  pub pairs : ℕ
+  pub counted : new ≡ counting_probes old pairs
+  pub tried : (part : Part) → Agrees old part → CostsToFind part k pairs
+
+-- The tag section.
 
 -- What is written of a game before its items: its tag section, where movetext begins. `result` is
 -- the value of a missing Result.

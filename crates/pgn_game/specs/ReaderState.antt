@@ -2,7 +2,6 @@
 -- Letters: k is the kind of a token, g a game, r the answer of a call. `before` and `after` are the
 -- bytes that the sink has taken, before the call and after it, if it reports them.
 use Rattle.std.specs.Prelude.{◌≡◌, ℕ, ◌+◌, ◌<◌, ◌≤◌, nat_le, false, IsTrue, is_some, Bool, true, List, [], length, Option, None, Some, IsSomeAnd, Result, Ok, Err}
-use Rattle.std.specs.List.{list_any}
 use Rattle.std.specs.Io.KnownBytes.{Appends}
 use Rattle.pgn_layout.specs.Device.{AppendsFront, Device, IsStill, one_more}
 use Rattle.pgn_lexer.specs.Tokens.{Kind}
@@ -15,9 +14,9 @@ use Rattle.pgn_game.specs.declared.accepted.Accepted.TheVariants.{More, Finished
 use Rattle.pgn_game.specs.Profile.{Profile}
 use Rattle.pgn_game.specs.Pairs.{has_pair}
 use Rattle.pgn_game.specs.StoredPairs.{TagPairs}
-use Rattle.pgn_game.specs.Game.{Item, Game, Part, no_part}
+use Rattle.pgn_game.specs.Game.{Game, Part, no_part}
 use Rattle.pgn_game.specs.Levels.{start_of, plies_of, last_position}
-use Rattle.pgn_game.specs.Text.{is_move}
+use Rattle.pgn_game.specs.Text.{has_move}
 use Rattle.pgn_game.specs.Movetext.{Movetext, HoldsItems, movetext_from}
 use Rattle.pgn_game.specs.Reason.{number_of}
 use Rattle.pgn_game.specs.FaultTable.{refusal, marker_of}
@@ -49,10 +48,6 @@ abbrev pub HoldsPairs : Stage → TagPairs → Part → Type 0
 HoldsPairs Between tags part = part ≡ no_part
 HoldsPairs AfterName tags part = (tags ≡ record { held = part.pairs; pending_name = Some part.name }) × (has_pair part.pairs part.name ≡ false)
 HoldsPairs _ tags part = tags ≡ record { held = part.pairs; pending_name = None }
-
--- a move is among the items
-abbrev pub has_move : List Item → Bool
-has_move items = list_any is_move items
 
 -- The movetext held is that of the part, which before its stage has no item. Between games it may
 -- be that of the game before.

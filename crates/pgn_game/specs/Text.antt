@@ -1,5 +1,6 @@
 -- **Definition**: the export text of games, and of a part of one (PGN 3.2, 8.2).
 use Rattle.std.specs.Prelude.{ℕ, Bool, true, false, ◌&&◌, List, [], ◌∷◌, ◌++◌, filter, ◌==◌, codes, decimal}
+use Rattle.std.specs.List.{list_any}
 use Rattle.chess_rules.specs.declared.position.Parts.{Parts}
 use Rattle.pgn_layout.specs.Lines.{lines_of, full_lines, text_of as text_of_lines}
 use Rattle.pgn_game.specs.declared.mode.Mode.{Mode}
@@ -26,6 +27,10 @@ placed_from start ls (i ∷ is) = record { position = here start ls; depth = dep
 abbrev pub is_move : Item → Bool
 is_move (move m) = true
 is_move _ = false
+
+-- a move is among the items
+abbrev pub has_move : List Item → Bool
+has_move items = list_any is_move items
 
 abbrev pub is_main_move : Placed → Bool
 is_main_move i = is_move i.item && (i.depth == 0)

@@ -2,7 +2,7 @@
 ghost use Rattle.std.specs.Prelude.{◌≡◌, ◌<◌, ◌≤◌, Some, IfOk, IsTrue, OnOk};
 ghost use Rattle.chess_rules.specs.Legal.{is_legal, legal};
 ghost use Rattle.pgn_game.specs.Chess.{move_of};
-ghost use Rattle.pgn_game.specs.FaultTable.{is_at_limit as at_limit};
+ghost use Rattle.pgn_game.specs.FaultTable as spec;
 ghost use Rattle.pgn_game.specs.FoundMove.{found_in, with_position};
 ghost use Rattle.pgn_game.specs.Tried.{Costs};
 
@@ -85,7 +85,7 @@ pub(crate) fn named_move(
 
 // Whether a move from here would lead to a number above 99,999.
 fn is_at_limit(position: &Position) -> bool
-    ensures { result ≡ at_limit position.now }
+    ensures { result ≡ spec.is_at_limit position.now }
 {
     position.side() == Colour::Black && position.full() == 99_999
 }

@@ -79,7 +79,8 @@ pub fn text_spells()
 
 /// Two lists of games have the same export text exactly if they are equal, defaults filled in.
 ///
-/// So a difference of exports is a difference of games.
+/// So a difference of exports is a difference of games. The premises are those of `text_spells` for
+/// both lists: the games come from some text, and there is room for the tag lines of each.
 pub fn same_text()
     ensures { fixed.SameText }
 {
@@ -99,7 +100,8 @@ pub fn same_text()
 /// Exporting an export changes nothing: the output is the same text, without a fault.
 ///
 /// This holds in the mode of the export, and with its numbers of pairs and variations. The counts
-/// of games and plies are the same too.
+/// of games and plies are the same too. The premises are those of `text_spells`: the games come
+/// from some text, and there is room for the tag lines of each.
 pub fn fixed_point()
     ensures { fixed.FixedPoint }
 {
@@ -118,8 +120,9 @@ pub fn fixed_point()
 
 /// By their contracts, `convert_slice` and `convert` write an export text again as it is.
 ///
-/// They return its numbers of games and plies. The text has at most 2^62 bytes. They fail only if a
-/// device fails, with `Reason::WriteFault` or, from a source, `Reason::ReadFault`.
+/// They return its numbers of games and plies. They fail only if a device fails, with
+/// `Reason::WriteFault` or, from a source, `Reason::ReadFault`. The text has at most 2^62 bytes,
+/// and the other premises are those of `fixed_point`.
 pub fn export_is_kept()
     ensures slice { fixed.ExportIsKept }
     ensures source { fixed.ExportIsKeptOfSource }

@@ -10,7 +10,7 @@ mod checked;
 mod conversion;
 mod converter;
 mod find;
-mod judged;
+mod item;
 pub mod laws;
 mod levels;
 mod marker;

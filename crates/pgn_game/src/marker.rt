@@ -1,11 +1,11 @@
 //! The termination markers.
-ghost use Rattle.std.specs.Prelude.{◌≡◌, ◌≤◌, length};
+ghost use Rattle.std.specs.Prelude.{◌≡◌, ◌≤◌, length, is_some, option_map};
+ghost use Rattle.pgn_layout.specs.Lines.{IsToken};
 ghost use Rattle.pgn_layout.specs.TagLine.{escaped};
-ghost use Rattle.std.specs.Prelude.{option_map};
 ghost use Rattle.pgn_lexer.specs.Scanned.{kind_of};
 ghost use Rattle.pgn_lexer.specs.Tokens.{symbol};
 ghost use Rattle.pgn_game.specs.Markers.{marker_text};
-ghost use Rattle.pgn_game.specs.FaultTable.{marker_of};
+ghost use Rattle.pgn_game.specs.FaultTable.{is_score, marker_of};
 
 use pgn_lexer::TokenKind;
 
@@ -30,7 +30,21 @@ impl Marker {
     {
         match kind {
             TokenKind::Asterisk => Some(Marker::Unknown),
-            TokenKind::Symbol(text) => score_of(text),
+            TokenKind::Symbol(text) => Marker::of_symbol(text),
+            _ => None,
+        }
+    }
+
+    /// Returns the marker that a symbol is, if it is one: `1-0`, `0-1` or `1/2-1/2`.
+    pub fn of_symbol(text: &[u8]) -> Option<Marker>
+        ensures text { option_map marker_text result ≡ marker_of (symbol text.now) }
+        ensures score { is_some result ≡ is_score text.now }
+    {
+        // Most symbols are moves, and differ in the first byte.
+        match text.first() {
+            Some(b'0') if text == b"0-1".as_slice() => Some(Marker::BlackWins),
+            Some(b'1') if text == b"1-0".as_slice() => Some(Marker::WhiteWins),
+            Some(b'1') if text == b"1/2-1/2".as_slice() => Some(Marker::Draw),
             _ => None,
         }
     }
@@ -38,6 +52,7 @@ impl Marker {
     /// Returns the text of the marker.
     pub fn text(&self) -> &'static [u8]
         ensures text { result.now ≡ marker_text self.now }
+        ensures token { IsToken result.now }
         ensures short { length (escaped result.now) ≤ 7 }
     {
         match self {
@@ -46,18 +61,5 @@ impl Marker {
             Marker::Draw => b"1/2-1/2",
             Marker::Unknown => b"*",
         }
-    }
-}
-
-// Returns the marker that a symbol is, if it is one.
-fn score_of(text: &[u8]) -> Option<Marker>
-    ensures { option_map marker_text result ≡ marker_of (symbol text.now) }
-{
-    // Most symbols are moves, and differ in the first byte.
-    match text.first() {
-        Some(b'0') if text == b"0-1".as_slice() => Some(Marker::BlackWins),
-        Some(b'1') if text == b"1-0".as_slice() => Some(Marker::WhiteWins),
-        Some(b'1') if text == b"1/2-1/2".as_slice() => Some(Marker::Draw),
-        _ => None,
     }
 }

@@ -4,14 +4,14 @@ ghost use Rattle.pgn_layout.specs.Device.{device};
 ghost use Rattle.pgn_game.specs.Chess.{first_position};
 ghost use Rattle.pgn_game.specs.Game as games;
 ghost use Rattle.pgn_game.specs.Movetext.{movetext_from, movetext_after_fen};
-ghost use Rattle.pgn_game.specs.Judgement.{IsLegal, ItemFits, model_item};
+ghost use Rattle.pgn_game.specs.TokenInMovetext.{IsLegal, ItemFits, model_item};
 ghost use Rattle.pgn_game.specs.MostTried.{CostsToWrite};
 ghost use Rattle.chess_rules.specs.declared.position.Move.{Move as MoveSeen};
 ghost use Rattle.chess_rules.specs.Legal.{is_legal};
 ghost use Rattle.pgn_game.specs.ItemResult.{Adds, GoesOn, Plays, PutsTokens, Rises, TriesItem, WritesItem};
 ghost use Rattle.pgn_game.specs.ItemResult.{number_due, tokens_due, writes};
 
-use crate::judged::Item;
+use crate::item::Item;
 use crate::levels::Levels;
 use crate::mode::Mode;
 use crate::number::{put_glyph, put_move_number};
@@ -125,28 +125,6 @@ impl<const L: usize> Movetext<L> {
         self.write_move(mode, &played, probes, line, out)?;
         self.play(&played);
         Ok(())
-    }
-
-    /// Does what `put_move` does, in a call that is not inlined. It is for a move that is the first
-    /// token of movetext, which is rare.
-    #[inline(never)]
-    pub fn put_first_move<W: Sink>(
-        &mut self,
-        mode: Mode,
-        mv: &Move,
-        probes: &mut Probes,
-        line: &mut CurrentLine,
-        out: &mut W,
-    ) -> Result<(), WriteFault>
-        requires legal { IsTrue (is_legal self.old.levels.present.present mv.now) }
-        requires few { self.old.plies < 2 ^ 64 - 1 }
-        requires room { probes.old + 1032 < 2 ^ 32 }
-        ensures adds { Adds mode (games.move mv.now) self.old line.old self.new line.new
-            result (device W.taken W.failures out.old out.new) }
-        ensures probes { Rises probes.old probes.new }
-        ensures tried { TriesItem mode self.old (games.move mv.now) probes.old probes.new }
-    {
-        self.put_move(mode, mv, probes, line, out)
     }
 
     /// Writes an item other than a move, and moves the levels. In reduced mode it is left out

@@ -1,35 +1,30 @@
-//! Reads games token by token: judges what a token means, and carries that out.
-ghost use Rattle.std.specs.Prelude.{◌≡◌, ◌+◌, ◌-◌, ◌≤◌, ◌<◌, ◌^◌, ◌&&◌, [], true, false, not};
+//! Reads games token by token, stage by stage.
+ghost use Rattle.std.specs.Prelude.{◌≡◌, ◌+◌, ◌-◌, ◌≤◌, ◌<◌, ◌^◌, ◌&&◌, ◌∷◌, [], false, not};
 ghost use Rattle.std.specs.Prelude.{Some, IsTrue, ◌↔◌, bytes_eq, codes, max};
 ghost use Rattle.std.specs.Option.{option_copied};
 ghost use Rattle.pgn_layout.specs.Device.{device};
 ghost use Rattle.pgn_lexer.specs.declared.token.TokenKind.{TokenKind};
 ghost use Rattle.pgn_lexer.specs.Tokens.{HasLength, left_paren, right_paren, symbol};
 ghost use Rattle.pgn_lexer.specs.Scanned.{kind_of};
-ghost use Rattle.pgn_layout.specs.Lines.{IsToken};
 ghost use Rattle.pgn_game.specs.Pairs.{value_of};
 ghost use Rattle.pgn_game.specs.Chess.{first_position};
 ghost use Rattle.pgn_game.specs.TagSection.{exported};
 ghost use Rattle.pgn_game.specs.declared.stage.Stage.TheVariants.{Between, AfterLeftBracket, AfterName};
-ghost use Rattle.pgn_game.specs.declared.stage.Stage.TheVariants.{AfterValue, AfterTags};
-ghost use Rattle.pgn_game.specs.declared.stage.Stage.TheVariants.{InMovetext};
-ghost use Rattle.pgn_game.specs.declared.judged.Judged.TheVariants.{Entry as InText};
-ghost use Rattle.pgn_game.specs.declared.judged.Entry.TheVariants.{Move as Play};
+ghost use Rattle.pgn_game.specs.declared.stage.Stage.TheVariants.{AfterValue, AfterTags, InMovetext};
 ghost use Rattle.pgn_game.specs.Profile.{counts_as, known_result};
 ghost use Rattle.pgn_game.specs.Markers.{marker_text};
 ghost use Rattle.pgn_game.specs.Movetext.{movetext_from};
 ghost use Rattle.pgn_game.specs.ReaderState.{Accepts, Stays, FinishesAtMarker, CountsWrites};
-ghost use Rattle.pgn_game.specs.Judgement.{Finds, Fits, Judges, JudgesEntry, OnlyProbesRise, Seeks};
-ghost use Rattle.pgn_game.specs.Judgement.{is_number_or_period as is_of_number, may_have_movetext};
-ghost use Rattle.pgn_game.specs.Judgement.{fen_position as position_in_fen};
-ghost use Rattle.pgn_game.specs.PutResult.{BeginsText, PutResult, TriesJudged};
-ghost use Rattle.pgn_game.specs.PutResult.{at_game_start, begins_game, ready_for_token};
-ghost use Rattle.pgn_game.specs.FaultTable.{is_result as is_any_result, is_reduced};
-ghost use Rattle.pgn_game.specs.FaultTable.{lacks_fen as set_up_lacks_fen, marker_of};
+ghost use Rattle.pgn_game.specs.TokenInMovetext.{ItemFits, is_frequent, may_have_movetext, model_item};
+ghost use Rattle.pgn_game.specs.TokenInMovetext.{fen_position as position_in_fen};
+ghost use Rattle.pgn_game.specs.PutResult.{BeginsText, CountsMove, Finds, PutsItems};
+ghost use Rattle.pgn_game.specs.PutResult.{TakesEntry, TakesOutside, TakesUnwritten, at_game_start};
+ghost use Rattle.pgn_game.specs.FaultTable as spec;
+ghost use Rattle.pgn_game.specs.FaultTable.{is_reduced, marker_of};
 
 use crate::accepted::Accepted;
 use crate::find::named_move;
-use crate::judged::{Entry, Found, Item, Judged};
+use crate::item::Item;
 use crate::marker::Marker;
 use crate::mode::Mode;
 use crate::movetext::Movetext;
@@ -39,7 +34,8 @@ use crate::section::{exported_value, write_section};
 use crate::stage::Stage;
 use crate::tags::TagPairs;
 use crate::token_tests::{
-    is_comment, is_end, is_number_or_period, is_result, is_score, is_score_or_number, is_tag_name,
+    is_comment, is_end, is_number, is_result, is_score_or_number, is_tag_name,
+    may_be_score_or_number,
 };
 use chess_rules::{Move, Position, Probes};
 use chess_text::read_fen;
@@ -193,34 +189,40 @@ impl<const T: usize, const L: usize> Reader<T, L> {
             ≤ self.old.earlier_plies + self.old.text.plies + 1 }
         ensures probes { self.old.most_probes ≤ self.new.most_probes }
     {
-        self.make_ready(kind);
-        if self.passes_number(kind) {
-            return Ok(Accepted::More);
-        }
-        let mut probes = Probes::new();
-        let found = self.find(kind, &mut probes);
-        if let Found::Move(mv) = &found {
-            if self.is_in_movetext() {
-                return self.play(mv, &mut probes, out);
-            }
-        }
-        match self.judge(kind, &found) {
-            Ok(judged) => self.carry_out(&judged, &mut probes, out),
-            Err(reason) => Err(reason),
+        match self.accept_outside(kind) {
+            Some(result) => result,
+            None => self.accept_entry(kind, out),
         }
     }
 
-    // Begins a game, if this is its first token. A game without tag pairs is one whose tag pairs
-    // are complete, so the stage is the one after them.
+    // Takes a token outside movetext. `None` if it belongs to movetext, which begins or goes on.
     #[inline(always)]
-    fn make_ready(&mut self, kind: TokenKind<'_>)
-        requires { self.old.earlier_plies + self.old.text.plies < 2 ^ 64 }
-        ensures { self.new ≡ ready_for_token self.old (kind_of kind.entry) }
+    fn accept_outside(&mut self, kind: TokenKind<'_>) -> Option<Result<Accepted, Reason>>
+        requires { self.old.earlier_plies + self.old.text.plies < 2 ^ 64 - 1 }
+        ensures { TakesOutside self.old (kind_of kind.entry) self.new result }
     {
-        if !self.is_between() || is_comment(kind) || is_end(kind) {
-            return;
+        match self.stage {
+            Stage::InMovetext => None,
+            Stage::AfterLeftBracket => Some(self.accept_name(kind)),
+            Stage::AfterName => Some(self.accept_value(kind)),
+            Stage::AfterValue => Some(self.accept_right_bracket(kind)),
+            Stage::AfterTags => self.accept_after_tags(kind),
+            Stage::Between => self.accept_between(kind),
+        }
+    }
+
+    // Takes a token between games. A game without tag pairs is one whose tag pairs are complete, so
+    // the stage of its first token is the one after them.
+    fn accept_between(&mut self, kind: TokenKind<'_>) -> Option<Result<Accepted, Reason>>
+        requires few { self.old.earlier_plies + self.old.text.plies < 2 ^ 64 - 1 }
+        requires stage { self.old.stage ≡ Between }
+        ensures { TakesOutside self.old (kind_of kind.entry) self.new result }
+    {
+        if is_comment(kind) || is_end(kind) {
+            return Some(Ok(Accepted::More));
         }
         self.begin_game();
+        self.accept_after_tags(kind)
     }
 
     // Begins a game. It is not inlined: most tokens begin none.
@@ -235,103 +237,13 @@ impl<const T: usize, const L: usize> Reader<T, L> {
         self.stage = Stage::AfterTags;
     }
 
-    // Whether this is a move number or a period in movetext. It changes nothing there.
-    #[inline(always)]
-    fn passes_number(&self, kind: TokenKind<'_>) -> bool
-        ensures stage { result ≡ true → self.now.stage ≡ InMovetext }
-        ensures number { result ≡ true → is_of_number (kind_of kind.entry) ≡ true }
-        ensures known { self.now.profile.missing_result
-            ≡ counts_as (known_result self.now.profile.missing_result) }
-    {
-        // For the proof alone: the model of the reader has the text of this marker.
-        let _ = &self.missing_result;
-        match self.stage {
-            Stage::InMovetext => is_number_or_period(kind),
-            _ => false,
-        }
-    }
-
-    // Looks for the move of a symbol, if movetext can begin or go on here. A marker and a number
-    // name no move. Counts the pairs that were tried.
-    #[inline(always)]
-    fn find(&mut self, kind: TokenKind<'_>, probes: &mut Probes) -> Found
-        requires none { probes.old ≡ 0 }
-        ensures found { Finds self.new (kind_of kind.entry) result }
-        ensures counted { OnlyProbesRise self.old self.new }
-        ensures few { probes.new ≤ 8 }
-        ensures tried { Seeks self.new (kind_of kind.entry) probes.new }
-        ensures most { self.new.most_probes ≡ max self.old.most_probes probes.new }
-    {
-        let TokenKind::Symbol(text) = kind else {
-            return Found::Unsought;
-        };
-        if !self.may_have_movetext() || is_score_or_number(text) {
-            return Found::Unsought;
-        }
-        let named = named_move(self.text.present(), text, probes);
-        self.count_probes(probes);
-        match named {
-            Err(reason) => Found::Rejected(reason),
-            Ok(mv) => Found::Move(mv),
-        }
-    }
-
-    // Whether movetext can begin or go on.
-    #[inline(always)]
-    fn may_have_movetext(&self) -> bool
-        ensures { result ≡ may_have_movetext self.now.stage }
-    {
-        match self.stage {
-            Stage::AfterTags => true,
-            Stage::InMovetext => true,
-            _ => false,
-        }
-    }
-
-    // Whether movetext has begun.
-    #[inline(always)]
-    fn is_in_movetext(&self) -> bool
-        ensures { IsTrue result ↔ (self.now.stage ≡ InMovetext) }
-    {
-        self.stage == Stage::InMovetext
-    }
-
-    // Keeps the highest number of probes.
-    #[inline(always)]
-    fn count_probes(&mut self, probes: &Probes)
-        requires few { probes.now ≤ 1040 }
-        ensures { self.new ≡ record self.old { most_probes = max self.old.most_probes probes.now } }
-    {
-        if self.most_probes < probes.count() {
-            self.most_probes = probes.count();
-        }
-    }
-
-    // Judges a token: what it means, or the row of the fault table that rejects it.
-    #[inline(always)]
-    fn judge<'a>(&self, kind: TokenKind<'a>, found: &'a Found) -> Result<Judged<'a>, Reason>
-        requires found { Finds self.now (kind_of kind) found.now }
-        requires ready { begins_game self.now.stage (kind_of kind) ≡ false }
-        requires token { HasLength (kind_of kind) }
-        ensures { Judges T L self.now (kind_of kind.entry) result }
-    {
-        match self.stage {
-            Stage::Between => Ok(Judged::Skipped),
-            Stage::AfterLeftBracket => self.judge_name(kind),
-            Stage::AfterName => self.judge_value(kind),
-            Stage::AfterValue => self.judge_right_bracket(kind),
-            Stage::AfterTags => self.judge_after_tags(kind, found),
-            Stage::InMovetext => self.judge_in_movetext(kind, found),
-        }
-    }
-
-    // Judges the name of a pair, or a comment before it.
-    fn judge_name<'a>(&self, kind: TokenKind<'a>) -> Result<Judged<'a>, Reason>
-        requires stage { self.now.stage ≡ AfterLeftBracket }
-        ensures { Judges T L self.now (kind_of kind.entry) result }
+    // Takes the name of a pair, or a comment before it.
+    fn accept_name(&mut self, kind: TokenKind<'_>) -> Result<Accepted, Reason>
+        requires stage { self.old.stage ≡ AfterLeftBracket }
+        ensures { TakesUnwritten self.old (kind_of kind.entry) self.new result }
     {
         if is_comment(kind) {
-            return Ok(Judged::Skipped);
+            return Ok(Accepted::More);
         }
         let TokenKind::Symbol(name) = kind else {
             return Err(Reason::ExpectedName);
@@ -348,16 +260,18 @@ impl<const T: usize, const L: usize> Reader<T, L> {
         if is_reduced_fen(self.mode, name) {
             return Err(Reason::ReducedFen);
         }
-        Ok(Judged::Name(name))
+        self.tags.begin(name);
+        self.stage = Stage::AfterName;
+        Ok(Accepted::More)
     }
 
-    // Judges the value of a pair, or a comment before it.
-    fn judge_value<'a>(&self, kind: TokenKind<'a>) -> Result<Judged<'a>, Reason>
-        requires stage { self.now.stage ≡ AfterName }
-        ensures { Judges T L self.now (kind_of kind.entry) result }
+    // Takes the value of a pair, or a comment before it.
+    fn accept_value(&mut self, kind: TokenKind<'_>) -> Result<Accepted, Reason>
+        requires stage { self.old.stage ≡ AfterName }
+        ensures { TakesUnwritten self.old (kind_of kind.entry) self.new result }
     {
         if is_comment(kind) {
-            return Ok(Judged::Skipped);
+            return Ok(Accepted::More);
         }
         let TokenKind::Str(value) = kind else {
             return Err(Reason::ExpectedValue);
@@ -366,53 +280,56 @@ impl<const T: usize, const L: usize> Reader<T, L> {
         if is_bad_result(name, value) {
             return Err(Reason::BadResult);
         }
-        if let Err(field) = fen_position(name, value) {
-            return Err(Reason::BadFen(field));
-        }
+        let start = match fen_position(name, value) {
+            Err(field) => return Err(Reason::BadFen(field)),
+            Ok(start) => start,
+        };
         if !fits_tag_line(name, value) {
             return Err(Reason::TagLineTooLong);
         }
-        Ok(Judged::Value(value))
+        self.tags.complete(value);
+        self.text.begin_at(start);
+        self.stage = Stage::AfterValue;
+        Ok(Accepted::More)
     }
 
-    // Judges the `]` of a pair, or a comment before it.
-    fn judge_right_bracket<'a>(&self, kind: TokenKind<'a>) -> Result<Judged<'a>, Reason>
-        requires stage { self.now.stage ≡ AfterValue }
-        ensures { Judges T L self.now (kind_of kind.entry) result }
+    // Takes the `]` of a pair, or a comment before it.
+    fn accept_right_bracket(&mut self, kind: TokenKind<'_>) -> Result<Accepted, Reason>
+        requires stage { self.old.stage ≡ AfterValue }
+        ensures { TakesUnwritten self.old (kind_of kind.entry) self.new result }
     {
         if is_comment(kind) {
-            return Ok(Judged::Skipped);
+            return Ok(Accepted::More);
         }
         match kind {
-            TokenKind::RightBracket => Ok(Judged::PairClose),
+            TokenKind::RightBracket => {
+                self.stage = Stage::AfterTags;
+                Ok(Accepted::More)
+            }
             _ => Err(Reason::ExpectedBracket),
         }
     }
 
-    // Judges a token after a whole tag pair, or before the first: another pair, or movetext.
-    fn judge_after_tags<'a>(
-        &self,
-        kind: TokenKind<'a>,
-        found: &'a Found,
-    ) -> Result<Judged<'a>, Reason>
-        requires found { Finds self.now (kind_of kind) found.now }
-        requires stage { self.now.stage ≡ AfterTags }
-        requires token { HasLength (kind_of kind) }
-        ensures { Judges T L self.now (kind_of kind.entry) result }
+    // Takes a token after a whole tag pair, or before the first. `None` if movetext begins with it.
+    fn accept_after_tags(&mut self, kind: TokenKind<'_>) -> Option<Result<Accepted, Reason>>
+        requires { self.old.stage ≡ AfterTags }
+        ensures { TakesOutside self.old (kind_of kind.entry) self.new result }
     {
         match kind {
-            TokenKind::End => Err(Reason::UnexpectedEnd),
             TokenKind::LeftBracket => {
                 if self.tags.is_full() {
-                    return Err(Reason::TooManyTags);
+                    return Some(Err(Reason::TooManyTags));
                 }
-                Ok(Judged::PairOpen)
+                self.stage = Stage::AfterLeftBracket;
+                Some(Ok(Accepted::More))
             }
+            TokenKind::End => Some(Err(Reason::UnexpectedEnd)),
             _ => {
                 if self.lacks_fen() {
-                    return Err(Reason::SetUpWithoutFen);
+                    self.count_move(kind);
+                    return Some(Err(Reason::SetUpWithoutFen));
                 }
-                self.judge_entry(kind, found)
+                None
             }
         }
     }
@@ -420,76 +337,149 @@ impl<const T: usize, const L: usize> Reader<T, L> {
     // Whether SetUp says 1, and there is no FEN (PGN 9.7).
     fn lacks_fen(&self) -> bool
         requires { IsTrue (may_have_movetext self.now.stage) }
-        ensures { result ≡ set_up_lacks_fen self.now.tags.held }
+        ensures { result ≡ spec.lacks_fen self.now.tags.held }
     {
         self.tags.value(b"SetUp").unwrap_or(b"") == b"1".as_slice()
             && self.tags.value(b"FEN").is_none()
     }
 
-    // Judges a token in movetext.
+    // Counts the pairs that find the move of a token which SetUp rejects.
+    fn count_move(&mut self, kind: TokenKind<'_>)
+        requires { self.old.stage ≡ AfterTags }
+        ensures { CountsMove self.old (kind_of kind.entry) self.new }
+    {
+        let TokenKind::Symbol(text) = kind else {
+            return;
+        };
+        if is_score_or_number(text) {
+            return;
+        }
+        let mut probes = Probes::new();
+        let _ = self.find(text, &mut probes);
+    }
+
+    // Takes a token of movetext, or the first one. The caller has taken the `[` of another pair.
     #[inline(always)]
-    fn judge_in_movetext<'a>(
-        &self,
-        kind: TokenKind<'a>,
-        found: &'a Found,
-    ) -> Result<Judged<'a>, Reason>
-        requires found { Finds self.now (kind_of kind) found.now }
-        requires stage { self.now.stage ≡ InMovetext }
+    fn accept_entry<W: Sink>(
+        &mut self,
+        kind: TokenKind<'_>,
+        out: &mut W,
+    ) -> Result<Accepted, Reason>
+        requires few { self.old.text.plies < 2 ^ 64 - 1 }
+        requires stage { IsTrue (may_have_movetext self.old.stage) }
         requires token { HasLength (kind_of kind) }
-        ensures { Judges T L self.now (kind_of kind.entry) result }
+        ensures { TakesEntry self.old (kind_of kind.entry) self.new result
+            (device W.taken W.failures out.old out.new) }
     {
         match kind {
+            TokenKind::Symbol(text) => self.accept_symbol(text, out),
+            TokenKind::Period => self.pass(out),
+            TokenKind::Word(word) => self.put(Item::Word(word), out),
+            _ => self.accept_other(kind, out),
+        }
+    }
+
+    // Takes a token of movetext that is no symbol, period or word. It is not inlined, since few
+    // tokens are such.
+    #[inline(never)]
+    fn accept_other<W: Sink>(
+        &mut self,
+        kind: TokenKind<'_>,
+        out: &mut W,
+    ) -> Result<Accepted, Reason>
+        requires stage { IsTrue (may_have_movetext self.old.stage) }
+        requires other { is_frequent (kind_of kind) ≡ false }
+        ensures { TakesEntry self.old (kind_of kind.entry) self.new result
+            (device W.taken W.failures out.old out.new) }
+    {
+        match kind {
+            TokenKind::Asterisk => self.end_game(Marker::Unknown, out),
+            TokenKind::Glyph(glyph) => self.put(Item::Glyph(glyph), out),
+            TokenKind::CommentOpen => self.put(Item::CommentOpen, out),
+            TokenKind::CommentClose => self.put(Item::CommentClose, out),
+            TokenKind::LeftParen => self.open_variation(out),
+            TokenKind::RightParen => self.close_variation(out),
             TokenKind::End => Err(Reason::UnexpectedEnd),
             TokenKind::LeftBracket => Err(Reason::TagInMovetext),
-            _ => self.judge_entry(kind, found),
+            TokenKind::RightBracket => Err(Reason::NotAMove),
+            TokenKind::Str(_) => Err(Reason::NotAMove),
+            TokenKind::Symbol(_) => Err(Reason::NotAMove),
+            TokenKind::Period => Err(Reason::NotAMove),
+            TokenKind::Word(_) => Err(Reason::NotAMove),
         }
     }
 
-    // Judges a token of movetext. The callers have rejected or accepted `[` and the end before.
+    // Takes a symbol in movetext: a move number (PGN 8.2.2.1), a marker, or a move.
     #[inline(always)]
-    fn judge_entry<'a>(&self, kind: TokenKind<'a>, found: &'a Found) -> Result<Judged<'a>, Reason>
-        requires found { Finds self.now (kind_of kind) found.now }
-        requires stage { IsTrue (may_have_movetext self.now.stage) }
-        requires token { HasLength (kind_of kind) }
-        ensures { JudgesEntry T L self.now (kind_of kind.entry) result }
+    fn accept_symbol<W: Sink>(&mut self, text: &[u8], out: &mut W) -> Result<Accepted, Reason>
+        requires few { self.old.text.plies < 2 ^ 64 - 1 }
+        requires stage { IsTrue (may_have_movetext self.old.stage) }
+        ensures { TakesEntry self.old (symbol text.now) self.new result
+            (device W.taken W.failures out.old out.new) }
     {
-        match kind {
-            TokenKind::Symbol(text) => self.judge_symbol(text, found),
-            TokenKind::Asterisk => self.judge_marker(b"*"),
-            TokenKind::Period => Ok(Judged::Entry(Entry::Number)),
-            TokenKind::Glyph(glyph) => Ok(Judged::Entry(Entry::Item(Item::Glyph(glyph)))),
-            TokenKind::CommentOpen => Ok(Judged::Entry(Entry::Item(Item::CommentOpen))),
-            TokenKind::Word(word) => Ok(Judged::Entry(Entry::Item(Item::Word(word)))),
-            TokenKind::CommentClose => Ok(Judged::Entry(Entry::Item(Item::CommentClose))),
-            TokenKind::LeftParen => self.judge_variation_open(),
-            TokenKind::RightParen => self.judge_variation_close(),
-            _ => Err(Reason::NotAMove),
+        if may_be_score_or_number(text) {
+            if is_number(text) {
+                return self.pass(out);
+            }
+            if let Some(marker) = Marker::of_symbol(text) {
+                return self.end_game(marker, out);
+            }
         }
+        self.accept_move(text, out)
     }
 
-    // Judges a symbol in movetext: a marker, a move number (PGN 8.2.2.1), or a move (PGN 8.2.3).
+    // Finds the move that a symbol names, and plays it (PGN 8.2.3).
     #[inline(always)]
-    fn judge_symbol<'a>(&self, text: &'a [u8], found: &'a Found) -> Result<Judged<'a>, Reason>
-        requires found { Finds self.now (symbol text.now) found.now }
-        requires stage { IsTrue (may_have_movetext self.now.stage) }
-        ensures { JudgesEntry T L self.now (symbol text.now) result }
+    fn accept_move<W: Sink>(&mut self, text: &[u8], out: &mut W) -> Result<Accepted, Reason>
+        requires few { self.old.text.plies < 2 ^ 64 - 1 }
+        requires stage { IsTrue (may_have_movetext self.old.stage) }
+        requires number { spec.is_number text.now ≡ false }
+        requires score { spec.is_score text.now ≡ false }
+        ensures { TakesEntry self.old (symbol text.now) self.new result
+            (device W.taken W.failures out.old out.new) }
     {
-        match found {
-            Found::Move(mv) => Ok(Judged::Entry(Entry::Move(mv))),
-            Found::Rejected(reason) => Err(*reason),
-            Found::Unsought => {
-                if is_score(text) {
-                    return self.judge_marker(text);
-                }
-                Ok(Judged::Entry(Entry::Number))
+        let mut probes = Probes::new();
+        match self.find(text, &mut probes) {
+            Err(reason) => Err(reason),
+            Ok(mv) => {
+                self.begin_movetext(out)?;
+                let put = self
+                    .text
+                    .put_move(self.mode, &mv, &mut probes, &mut self.line, out);
+                self.count_probes(&probes);
+                put?;
+                Ok(Accepted::More)
             }
         }
     }
 
-    // Judges a `(`, which begins a variation (PGN 8.2.5).
-    fn judge_variation_open<'a>(&self) -> Result<Judged<'a>, Reason>
-        requires stage { IsTrue (may_have_movetext self.now.stage) }
-        ensures { JudgesEntry T L self.now left_paren result }
+    // Finds the move that a symbol names, and counts the pairs that were tried.
+    #[inline(always)]
+    fn find(&mut self, text: &[u8], probes: &mut Probes) -> Result<Move, Reason>
+        requires none { probes.old ≡ 0 }
+        ensures { Finds self.old text.now self.new result probes.new }
+    {
+        let named = named_move(self.text.present(), text, probes);
+        self.count_probes(probes);
+        named
+    }
+
+    // Keeps the highest number of probes.
+    #[inline(always)]
+    fn count_probes(&mut self, probes: &Probes)
+        requires few { probes.now ≤ 1040 }
+        ensures { self.new ≡ record self.old { most_probes = max self.old.most_probes probes.now } }
+    {
+        if self.most_probes < probes.count() {
+            self.most_probes = probes.count();
+        }
+    }
+
+    // Takes a `(`, which begins a variation (PGN 8.2.5).
+    fn open_variation<W: Sink>(&mut self, out: &mut W) -> Result<Accepted, Reason>
+        requires { IsTrue (may_have_movetext self.old.stage) }
+        ensures { TakesEntry self.old left_paren self.new result
+            (device W.taken W.failures out.old out.new) }
     {
         if !self.text.has_own_move() {
             return Err(Reason::NoMoveBefore);
@@ -497,148 +487,73 @@ impl<const T: usize, const L: usize> Reader<T, L> {
         if self.text.depth() + 1 >= L {
             return Err(Reason::TooDeep);
         }
-        Ok(Judged::Entry(Entry::Item(Item::Open)))
+        self.put(Item::Open, out)
     }
 
-    // Judges a `)`, which ends a variation (PGN 8.2.5).
-    fn judge_variation_close<'a>(&self) -> Result<Judged<'a>, Reason>
-        requires stage { IsTrue (may_have_movetext self.now.stage) }
-        ensures { JudgesEntry T L self.now right_paren result }
+    // Takes a `)`, which ends a variation (PGN 8.2.5).
+    fn close_variation<W: Sink>(&mut self, out: &mut W) -> Result<Accepted, Reason>
+        requires { IsTrue (may_have_movetext self.old.stage) }
+        ensures { TakesEntry self.old right_paren self.new result
+            (device W.taken W.failures out.old out.new) }
     {
         if self.text.depth() == 0 {
             return Err(Reason::UnmatchedClose);
         }
-        Ok(Judged::Entry(Entry::Item(Item::Close)))
+        self.put(Item::Close, out)
     }
 
-    // Judges the marker of a game (PGN 8.2.6).
-    fn judge_marker<'a>(&self, marker: &'a [u8]) -> Result<Judged<'a>, Reason>
-        requires stage { IsTrue (may_have_movetext self.now.stage) }
-        requires token { IsToken marker.now }
-        ensures { (k : TokenKind) → marker_of (kind_of k) ≡ Some marker.now
-            → JudgesEntry T L self.now (kind_of k) result }
+    // Takes a move number or a period, which add nothing but the tag section (PGN 8.2.2.1).
+    #[inline(always)]
+    fn pass<W: Sink>(&mut self, out: &mut W) -> Result<Accepted, Reason>
+        requires { IsTrue (may_have_movetext self.old.stage) }
+        ensures { PutsItems self.old [] self.new result
+            (device W.taken W.failures out.old out.new) }
+    {
+        self.begin_movetext(out)?;
+        Ok(Accepted::More)
+    }
+
+    // Writes an item, and moves the levels.
+    #[inline(always)]
+    fn put<W: Sink>(&mut self, item: Item<'_>, out: &mut W) -> Result<Accepted, Reason>
+        requires stage { IsTrue (may_have_movetext self.old.stage) }
+        requires fits { ItemFits L self.old.text item }
+        ensures { PutsItems self.old (model_item item.entry ∷ []) self.new result
+            (device W.taken W.failures out.old out.new) }
+    {
+        self.begin_movetext(out)?;
+        self.text.put(self.mode, &item, &mut self.line, out)?;
+        Ok(Accepted::More)
+    }
+
+    // Ends the game with its marker (PGN 8.2.6).
+    #[inline(never)]
+    fn end_game<W: Sink>(&mut self, marker: Marker, out: &mut W) -> Result<Accepted, Reason>
+        requires { IsTrue (may_have_movetext self.old.stage) }
+        ensures { (k : TokenKind) → marker_of (kind_of k) ≡ Some (marker_text marker)
+            → TakesEntry self.old (kind_of k) self.new result
+            (device W.taken W.failures out.old out.new) }
     {
         if self.text.depth() > 0 {
             return Err(Reason::MarkerInVariation);
         }
         let missing = self.missing_result.text();
-        if marker != self.tags.value(b"Result").unwrap_or(missing) {
+        if marker.text() != self.tags.value(b"Result").unwrap_or(missing) {
             return Err(Reason::ResultDiffers);
         }
-        Ok(Judged::Entry(Entry::Marker(marker)))
-    }
-
-    // Carries out what a token means: changes the stage, and writes what the token adds.
-    #[inline(always)]
-    fn carry_out<W: Sink>(
-        &mut self,
-        judged: &Judged<'_>,
-        probes: &mut Probes,
-        out: &mut W,
-    ) -> Result<Accepted, Reason>
-        requires counted { self.old.text.plies < 2 ^ 64 - 1 }
-        requires fits { Fits T L self.old judged.now }
-        requires few { probes.old ≤ 8 }
-        ensures puts { PutResult self.old judged.now self.new result
-            (device W.taken W.failures out.old out.new) }
-        ensures tried { TriesJudged self.old judged.now result probes.old probes.new }
-        ensures most { probes.old ≤ self.old.most_probes
-            → self.new.most_probes ≡ max self.old.most_probes probes.new }
-    {
-        match judged {
-            Judged::Skipped => Ok(Accepted::More),
-            Judged::PairOpen => {
-                self.stage = Stage::AfterLeftBracket;
-                Ok(Accepted::More)
-            }
-            Judged::Name(name) => {
-                self.tags.begin(name);
-                self.stage = Stage::AfterName;
-                Ok(Accepted::More)
-            }
-            Judged::Value(value) => {
-                let start = fen_position(self.tags.pending_name(), value).unwrap_or(None);
-                self.tags.complete(value);
-                self.text.begin_at(start);
-                self.stage = Stage::AfterValue;
-                Ok(Accepted::More)
-            }
-            Judged::PairClose => {
-                self.stage = Stage::AfterTags;
-                Ok(Accepted::More)
-            }
-            Judged::Entry(entry) => self.put_entry(entry, probes, out),
-        }
-    }
-
-    // Carries out a token of movetext. If movetext begins with it, writes the tag section first.
-    #[inline(always)]
-    fn put_entry<W: Sink>(
-        &mut self,
-        entry: &Entry<'_>,
-        probes: &mut Probes,
-        out: &mut W,
-    ) -> Result<Accepted, Reason>
-        requires counted { self.old.text.plies < 2 ^ 64 - 1 }
-        requires fits { Fits T L self.old (InText entry.now) }
-        requires few { probes.old ≤ 8 }
-        ensures puts { PutResult self.old (InText entry.now) self.new result
-            (device W.taken W.failures out.old out.new) }
-        ensures tried { TriesJudged self.old (InText entry.now) result probes.old probes.new }
-        ensures most { probes.old ≤ self.old.most_probes
-            → self.new.most_probes ≡ max self.old.most_probes probes.new }
-    {
         self.begin_movetext(out)?;
-        match entry {
-            Entry::Number => Ok(Accepted::More),
-            Entry::Move(mv) => {
-                let put = self
-                    .text
-                    .put_first_move(self.mode, mv, probes, &mut self.line, out);
-                self.count_probes(probes);
-                put?;
-                Ok(Accepted::More)
-            }
-            Entry::Item(item) => {
-                self.text.put(self.mode, item, &mut self.line, out)?;
-                Ok(Accepted::More)
-            }
-            Entry::Marker(marker) => {
-                self.line.put(marker, out)?;
-                self.line.end_game(out)?;
-                self.stage = Stage::Between;
-                Ok(Accepted::Finished)
-            }
-        }
+        self.line.put(marker.text(), out)?;
+        self.line.end_game(out)?;
+        self.stage = Stage::Between;
+        Ok(Accepted::Finished)
     }
 
-    // Plays a legal move in movetext that has begun, with the result that `judge` and `carry_out`
-    // would have. In a plain game, nearly all tokens that reach this point are such moves.
+    // Whether movetext has begun.
     #[inline(always)]
-    fn play<W: Sink>(
-        &mut self,
-        mv: &Move,
-        probes: &mut Probes,
-        out: &mut W,
-    ) -> Result<Accepted, Reason>
-        requires counted { self.old.text.plies < 2 ^ 64 - 1 }
-        requires stage { self.old.stage ≡ InMovetext }
-        requires fits { Fits T L self.old (InText (Play mv)) }
-        requires few { probes.old ≤ 8 }
-        ensures puts { PutResult self.old (InText (Play mv.entry)) self.new result
-            (device W.taken W.failures out.old out.new) }
-        ensures tried { TriesJudged self.old (InText (Play mv.entry)) result probes.old probes.new }
-        ensures most { probes.old ≤ self.old.most_probes
-            → self.new.most_probes ≡ max self.old.most_probes probes.new }
+    fn is_in_movetext(&self) -> bool
+        ensures { IsTrue result ↔ (self.now.stage ≡ InMovetext) }
     {
-        // For the proof alone: the model of the reader has the text of this marker.
-        let _ = &self.missing_result;
-        let put = self
-            .text
-            .put_move(self.mode, mv, probes, &mut self.line, out);
-        self.count_probes(probes);
-        put?;
-        Ok(Accepted::More)
+        self.stage == Stage::InMovetext
     }
 
     // Writes the tag section, if movetext has not begun yet.
@@ -680,7 +595,7 @@ fn is_reduced_fen(mode: Mode, name: &[u8]) -> bool
 
 // Whether this is the Result tag with a value that is no marker (PGN 8.1.1.7).
 fn is_bad_result(name: &[u8], value: &[u8]) -> bool
-    ensures { result ≡ (bytes_eq name.now (codes "Result") && not (is_any_result value.now)) }
+    ensures { result ≡ (bytes_eq name.now (codes "Result") && not (spec.is_result value.now)) }
 {
     name == b"Result".as_slice() && !is_result(value)
 }

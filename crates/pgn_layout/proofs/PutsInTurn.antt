@@ -3,7 +3,7 @@ use Rattle.std.proofs.Common.{◌≡◌, ℕ, true, false, List, [], ◌∷◌, 
 use Rattle.std.specs.Prelude.{All}
 use Rattle.std.proofs.lemmas.List.Elements.{All-head, All-tail}
 use Rattle.pgn_layout.specs.Lines.{IsToken, has_room, lines_from, lines_of, full_lines, last_line, text_of}
-use Rattle.pgn_layout.specs.Layout.{Call, Put, EndGame, Laid, laid_from}
+use Rattle.pgn_layout.specs.Layout.{Put, EndGame, Laid, laid_from}
 use Rattle.pgn_layout.specs.Laws.{LinesAreThosePut}
 use Rattle.pgn_layout.proofs.LinesOfTokens.{lines_are}
 
@@ -34,9 +34,6 @@ last_line-cons l t (u ∷ us) =
       | true ↦ last_line-cons l (t ++ 32 ∷ u) us
       | false ↦ refl
     ]
-
-abbrev calls : List (List ℕ) → List Call → List Call
-calls tokens more = map Put tokens ++ more
 
 -- what puts write and hold, from a line that holds a token on
 puts : (b : ℕ) (bs : List ℕ) (ts : List (List ℕ)) → All IsToken ts → laid_from (b ∷ bs) (map Put ts) ≡ laid (text_of (full_lines (lines_from (b ∷ bs) ts))) (last_line (lines_from (b ∷ bs) ts))

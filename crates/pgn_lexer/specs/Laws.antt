@@ -14,7 +14,7 @@ use Rattle.std.specs.List.{list_all}
 abbrev pub IsPrefix : List Token → List Token → Type 0
 IsPrefix xs ys = (zs : List Token) × (ys ≡ xs ++ zs)
 
--- Each text is cut into tokens in exactly one way, and `tokens_of` computes it.
+-- Each text has exactly one list of tokens, and `tokens_of` computes it.
 abbrev pub LexesOnce : Type 0
 LexesOnce = (s : List ℕ) (ts : List Token) → Lexes s ts ↔ (ts ≡ tokens_of s)
 

@@ -16,7 +16,7 @@ pub fn tokens_rise()
     ensures { laws.TokensRise }
 {}
 
-/// Each text is cut into tokens in exactly one way (`Lexes`), and `tokens_of` computes it.
+/// Each text has exactly one list of tokens by `Lexes`, and `tokens_of` computes it.
 pub fn lexes_once()
     ensures { laws.LexesOnce }
 {}

@@ -77,8 +77,8 @@ impl Lexer {
     ///
     /// # Errors
     ///
-    /// `Fault` as soon as the bytes show that the text is rejected. The byte that shows it is used.
-    /// Each later call returns the same and uses no byte.
+    /// `Fault` as soon as the bytes show that the text is rejected. Each later call returns the
+    /// same and uses no byte.
     #[inline(always)]
     pub fn next(&mut self, piece: &[u8]) -> Scan<'_>
         requires { self.old.count + length piece.now ≤ 2 ^ 62 }

@@ -7,7 +7,7 @@ use Rattle.pgn_game.proofs.Words.{AfterTags, Part}
 use Rattle.pgn_game.specs.StoredPairs.{TagPairs}
 use Rattle.pgn_game.specs.FaultTable.{is_left_bracket, is_end, lacks_fen}
 use Rattle.pgn_game.specs.ReaderState.{ReaderState, Agrees}
-use Rattle.pgn_game.proofs.judging.PartsToJudgement.{held_at}
+use Rattle.pgn_game.proofs.judging.ReaderToPart.{held_at}
 
 -- a token that is no `[`, and one that is not the end
 pub no_bracket : (k : TokenKind) → (k ≡ variants.LeftBracket → ⊥) → is_left_bracket (kind_of k) ≡ false

@@ -1,16 +1,15 @@
 -- Which tokens are rejected at a stage, and where the others lead.
-use Rattle.std.proofs.Common.{◌≡◌, ℕ, Bool, true, false, ◌&&◌, List, [], length, nat_le, Option, None, Some, refl, sym, ap, subst, ◌∙◌, Bor, IsTrue, Ok}
+use Rattle.std.proofs.Common.{◌≡◌, ℕ, Bool, true, false, ◌||◌, List, [], length, nat_le, Option, None, Some, refl, sym, ap, subst, ◌∙◌, Bor, IsTrue}
 use Rattle.std.proofs.lemmas.Bool.{false≢true}
 use Rattle.pgn_lexer.specs.Tokens as tokens
 use Rattle.pgn_lexer.specs.Tokens.{left_bracket, right_bracket, symbol, str}
 use Rattle.pgn_lexer.specs.Scanned.{kind_of}
 use Rattle.pgn_lexer.specs.declared.token.TokenKind.{TokenKind}
 use Rattle.pgn_lexer.specs.declared.token.TokenKind.TheVariants as variants
-use Rattle.pgn_game.proofs.Words.{Reason, ExpectedName, TooManyTags, ExpectedValue, ExpectedBracket, SetUpWithoutFen, TagInMovetext, UnexpectedEnd, Stage, Between, AfterLeftBracket, AfterName, AfterValue, AfterTags, InMovetext, Profile, insert_pair, Part, no_part}
-use Rattle.pgn_game.specs.FaultTable.{refusal, is_at, is_comment, is_left_bracket, is_end, lacks_fen}
+use Rattle.pgn_game.proofs.Words.{Reason, ExpectedName, TooManyTags, ExpectedValue, ExpectedBracket, SetUpWithoutFen, UnexpectedEnd, Stage, Between, AfterLeftBracket, AfterName, AfterValue, AfterTags, InMovetext, Profile, insert_pair, Part, no_part}
+use Rattle.pgn_game.specs.FaultTable.{refusal, is_comment, is_left_bracket, is_end, lacks_fen}
 use Rattle.pgn_game.specs.Progress.{going, next, at_stage, in_text}
-use Rattle.pgn_game.specs.Judgement.{may_have_movetext, judged, outcome_of, or_else, text_refusal}
-use Rattle.pgn_game.specs.PutResult.{begins_game}
+use Rattle.pgn_game.specs.TokenInMovetext.{or_else, text_refusal}
 use Rattle.pgn_game.proofs.judging.RowsByStage.{naming, name_rows, valuing, value_rows, after_tags, comment_free, comment_stays, drops_comments, is_textual, leads_after_tags}
 
 -- what holds of a part at a stage holds of each that is there
@@ -113,78 +112,58 @@ textual variants.LeftBracket bracket over = absurd (false≢true (sym bracket))
 textual variants.End bracket over = absurd (false≢true (sym over))
 textual _ bracket over = refl
 
-text_in_movetext : (p : Profile) (part : Part) (k : TokenKind) → is_left_bracket (kind_of k) ≡ false → is_end (kind_of k) ≡ false
-    → refusal p (at_stage InMovetext part) (kind_of k) ≡ text_refusal p part (kind_of k)
+-- the table and the step of movetext are those of a token in it, and of the first one
+text_row : (p : Profile) (part : Part) (k : TokenKind) → refusal p (at_stage InMovetext part) (kind_of k) ≡ text_refusal p part (kind_of k)
 unfolding refusal
-text_in_movetext p part variants.LeftBracket bracket over = absurd (false≢true (sym bracket))
-text_in_movetext p part variants.End bracket over = absurd (false≢true (sym over))
-text_in_movetext p part _ bracket over = refl
+text_row p part variants.End = refl
+text_row p part _ = refl
 
-text_refusal_at : (p : Profile) (part : Part) (stage : Stage) (k : TokenKind) → IsTrue (may_have_movetext stage) → is_left_bracket (kind_of k) ≡ false
-    → is_end (kind_of k) ≡ false → (is_at AfterTags (at_stage stage part) && lacks_fen part.pairs) ≡ false
-    → refusal p (at_stage stage part) (kind_of k) ≡ text_refusal p part (kind_of k)
-text_refusal_at p part AfterTags k at bracket over free =
-    after_tags p part.pairs part.name part.items (kind_of k) (textual k bracket over) ∙ pass (lacks_fen part.pairs) SetUpWithoutFen _ free
-    ∙ text_in_movetext p part k bracket over
-text_refusal_at p part InMovetext k at bracket over free = text_in_movetext p part k bracket over
-text_refusal_at p part _ k at bracket over free = absurd (false≢true at)
+pub row_in_movetext : (p : Profile) (part : Part) (k : TokenKind) → part.stage ≡ InMovetext → refusal p part (kind_of k) ≡ text_refusal p part (kind_of k)
+row_in_movetext p part k at = at_the_stage (λ q. refusal p q (kind_of k) ≡ text_refusal p part (kind_of k)) part InMovetext at (text_row p part k)
 
--- a token of movetext, from a part at its stage
-pub record IsMovetext (part : Part) (k : TokenKind) : Type 0 where
-  pub stage : IsTrue (may_have_movetext part.stage)
-  pub bracket : is_left_bracket (kind_of k) ≡ false
-  pub over : is_end (kind_of k) ≡ false
-  pub set_up : (is_at AfterTags part && lacks_fen part.pairs) ≡ false
+pub next_in_movetext : (part : Part) (k : TokenKind) → part.stage ≡ InMovetext → next part (kind_of k) ≡ in_text part (kind_of k)
+next_in_movetext part k at = at_the_stage (λ q. next q (kind_of k) ≡ in_text part (kind_of k)) part InMovetext at refl
 
-text_next_at : (part : Part) (stage : Stage) (k : TokenKind) → IsTrue (may_have_movetext stage) → is_left_bracket (kind_of k) ≡ false
-    → is_end (kind_of k) ≡ false → next (at_stage stage part) (kind_of k) ≡ in_text part (kind_of k)
-text_next_at part AfterTags k at bracket over = leads_after_tags part.pairs part.name part.items (kind_of k) (textual k bracket over)
-text_next_at part InMovetext k at bracket over = refl
-text_next_at part _ k at bracket over = absurd (false≢true at)
+pub row_after_tags : (p : Profile) (part : Part) (k : TokenKind) → part.stage ≡ AfterTags → is_left_bracket (kind_of k) ≡ false → is_end (kind_of k) ≡ false → lacks_fen part.pairs ≡ false
+    → refusal p part (kind_of k) ≡ text_refusal p part (kind_of k)
+row_after_tags p part k at bracket over free =
+    at_the_stage (λ q. refusal p q (kind_of k) ≡ text_refusal p part (kind_of k)) part AfterTags at
+    (after_tags p part.pairs part.name part.items (kind_of k) (textual k bracket over) ∙ pass (lacks_fen part.pairs) SetUpWithoutFen _ free
+    ∙ text_row p part k)
 
--- the table of movetext is the one for it
-pub judged_in_text : (p : Profile) (part : Part) (k : TokenKind) → IsMovetext part k
-    → judged p part (kind_of k) ≡ outcome_of (text_refusal p part (kind_of k)) (in_text part (kind_of k))
-judged_in_text p part k is =
-    ap (λ (o : Option Reason). outcome_of o (next part (kind_of k))) (text_refusal_at p part part.stage k is.stage is.bracket is.over is.set_up)
-    ∙ ap (outcome_of (text_refusal p part (kind_of k))) (text_next_at part part.stage k is.stage is.bracket is.over)
+pub next_after_tags : (part : Part) (k : TokenKind) → part.stage ≡ AfterTags → is_left_bracket (kind_of k) ≡ false → is_end (kind_of k) ≡ false → next part (kind_of k) ≡ in_text part (kind_of k)
+next_after_tags part k at bracket over =
+    at_the_stage (λ q. next q (kind_of k) ≡ in_text part (kind_of k)) part AfterTags at
+    (leads_after_tags part.pairs part.name part.items (kind_of k) (textual k bracket over))
 
--- a token between games that begins none means nothing
-pub passes_between : (p : Profile) (part : Part) (k : TokenKind) → part.stage ≡ Between → begins_game Between (kind_of k) ≡ false
-    → judged p part (kind_of k) ≡ Ok (going part)
+-- a comment between games and the end there change nothing
+pub passes_between : (p : Profile) (part : Part) (k : TokenKind) → part.stage ≡ Between → (is_comment (kind_of k) || is_end (kind_of k)) ≡ true
+    → (refusal p part (kind_of k) ≡ None) × (next part (kind_of k) ≡ going part)
 unfolding refusal
-passes_between p part k at is = at_the_stage (λ q. judged p q (kind_of k) ≡ Ok (going q)) part Between at (by_kind k is)
+passes_between p part k at is = at_the_stage (λ q. (refusal p q (kind_of k) ≡ None) × (next q (kind_of k) ≡ going q)) part Between at (by_kind k is)
   where
-    by_kind : (k : TokenKind) → begins_game Between (kind_of k) ≡ false → judged p (at_stage Between part) (kind_of k) ≡ Ok (going (at_stage Between part))
-    by_kind variants.End is = refl
-    by_kind variants.CommentOpen is = refl
-    by_kind (variants.Word t) is = refl
-    by_kind variants.CommentClose is = refl
-    by_kind _ is = absurd (false≢true (sym is))
+    by_kind : (k : TokenKind) → (is_comment (kind_of k) || is_end (kind_of k)) ≡ true
+        → (refusal p (at_stage Between part) (kind_of k) ≡ None) × (next (at_stage Between part) (kind_of k) ≡ going (at_stage Between part))
+    by_kind variants.End is = (refl, refl)
+    by_kind variants.CommentOpen is = (refl, refl)
+    by_kind (variants.Word t) is = (refl, refl)
+    by_kind variants.CommentClose is = (refl, refl)
+    by_kind _ is = absurd (false≢true is)
 
 -- A token that begins a game means what it means after pairs, of which there is none.
-pub begins_alike : (p : Profile) (k : TokenKind) → IsTrue (begins_game Between (kind_of k))
-    → judged p no_part (kind_of k) ≡ judged p (at_stage AfterTags no_part) (kind_of k)
+pub begins_alike : (p : Profile) (k : TokenKind) → is_comment (kind_of k) ≡ false → is_end (kind_of k) ≡ false
+    → (refusal p (at_stage AfterTags no_part) (kind_of k) ≡ refusal p no_part (kind_of k)) × (next (at_stage AfterTags no_part) (kind_of k) ≡ next no_part (kind_of k))
 unfolding refusal
-begins_alike p variants.End is = absurd (false≢true is)
-begins_alike p variants.CommentOpen is = absurd (false≢true is)
-begins_alike p (variants.Word t) is = absurd (false≢true is)
-begins_alike p variants.CommentClose is = absurd (false≢true is)
-begins_alike p _ is = refl
+begins_alike p variants.End comment over = absurd (false≢true (sym over))
+begins_alike p variants.CommentOpen comment over = absurd (false≢true (sym comment))
+begins_alike p (variants.Word t) comment over = absurd (false≢true (sym comment))
+begins_alike p variants.CommentClose comment over = absurd (false≢true (sym comment))
+begins_alike p _ comment over = (refl, refl)
 
 -- the end after the pairs of a game
 pub end_after_tags : (p : Profile) (part : Part) → part.stage ≡ AfterTags → refusal p part tokens.end ≡ Some UnexpectedEnd
 unfolding refusal
 end_after_tags p part at = at_the_stage (λ q. refusal p q tokens.end ≡ Some UnexpectedEnd) part AfterTags at refl
-
--- the end and a `[` in movetext
-pub end_in_movetext : (p : Profile) (part : Part) → part.stage ≡ InMovetext → refusal p part tokens.end ≡ Some UnexpectedEnd
-unfolding refusal
-end_in_movetext p part at = at_the_stage (λ q. refusal p q tokens.end ≡ Some UnexpectedEnd) part InMovetext at refl
-
-pub bracket_in_movetext : (p : Profile) (part : Part) → part.stage ≡ InMovetext → refusal p part left_bracket ≡ Some TagInMovetext
-unfolding refusal
-bracket_in_movetext p part at = at_the_stage (λ q. refusal p q left_bracket ≡ Some TagInMovetext) part InMovetext at refl
 
 -- a token after the pairs of a game whose SetUp asks for a FEN
 pub refuses_set_up : (p : Profile) (part : Part) (k : TokenKind) → part.stage ≡ AfterTags → is_left_bracket (kind_of k) ≡ false → is_end (kind_of k) ≡ false → lacks_fen part.pairs ≡ true

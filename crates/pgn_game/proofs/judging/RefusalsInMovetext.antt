@@ -8,7 +8,7 @@ use Rattle.pgn_lexer.specs.Tokens.{Kind, symbol}
 use Rattle.pgn_lexer.specs.Scanned.{kind_of}
 use Rattle.pgn_lexer.specs.declared.token.TokenKind.{TokenKind}
 use Rattle.pgn_lexer.specs.declared.token.TokenKind.TheVariants as variants
-use Rattle.pgn_game.proofs.Words.{Parts, Played, SanFault, Reason, NotAMove, IllegalMove, AmbiguousMove, MoveLimit, MarkerInVariation, ResultDiffers, Profile, Missing, counts_as, Pair, value_of, Part, Stage}
+use Rattle.pgn_game.proofs.Words.{Parts, Played, SanFault, Reason, NotAMove, IllegalMove, AmbiguousMove, MoveLimit, MarkerInVariation, ResultDiffers, Profile, Missing, counts_as, Pair, value_of, Part}
 use Rattle.pgn_game.specs.Chess.{move_of}
 use Rattle.pgn_game.specs.Game as games
 use Rattle.pgn_game.specs.Levels.{Level as ModelLevel, depth, start_of, replayed, without_last}
@@ -17,7 +17,7 @@ use Rattle.pgn_game.specs.FoundMove.{found_in}
 use Rattle.pgn_game.specs.Progress.{Next, going, whole, in_text, move_item, items_of}
 use Rattle.pgn_game.specs.Movetext.{StoredLevels, before_last, stored_level}
 use Rattle.pgn_game.specs.ReaderState.{ReaderState, is_outside_the_table}
-use Rattle.pgn_game.specs.Judgement.{IsOpen, found_of, may_have_movetext, game_of, or_else, text_refusal, with_items}
+use Rattle.pgn_game.specs.TokenInMovetext.{IsOpen, game_of, or_else, text_refusal, with_items}
 use Rattle.pgn_game.proofs.judging.RowsByStage.{symbol_rows}
 use Rattle.pgn_game.proofs.judging.RefusalsByStage.{hit, pass}
 
@@ -235,15 +235,3 @@ test_of held value d known missing marker test tags same found text is tested =
 pub none_around : {A : Type 0} (ls : List A) → length ls ≡ 0 → ls ≡ []
 none_around [] e = refl
 none_around (l ∷ ls) e = absurd (omega (arith, e))
-
--- A symbol that was sought is neither a marker nor a number.
-pub sought : (stage : Stage) (here : Parts) (s : List ℕ) (r : Result Played Reason) → Some r ≡ found_of (may_have_movetext stage && not (is_score s || is_number s)) here s
-    → (is_number s ≡ false) × (is_score s ≡ false) × (r ≡ found_in here (move_of here s))
-sought stage here s r e = by_tests (may_have_movetext stage) (is_score s) (is_number s) refl refl e
-  where
-    by_tests : (at_text score number : Bool) → is_score s ≡ score → is_number s ≡ number → Some r ≡ found_of (at_text && not (score || number)) here s
-        → (is_number s ≡ false) × (is_score s ≡ false) × (r ≡ found_in here (move_of here s))
-    by_tests true false false is number e = (number, is, cc)
-    by_tests true false true is number e = absurd (cc)
-    by_tests true true number is other e = absurd (cc)
-    by_tests false score number is other e = absurd (cc)

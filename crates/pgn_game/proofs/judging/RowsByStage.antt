@@ -9,7 +9,7 @@ use Rattle.pgn_game.specs.Chess.{move_of}
 use Rattle.pgn_game.specs.Levels.{levels_of, depth, here, start_of}
 use Rattle.pgn_game.specs.FaultTable.{refusal, is_comment, is_end, in_name, is_result, is_score, is_number, is_no_form, is_no_move, is_many_moves, is_one_move, is_at_limit, fen_field, fen_field_of, lacks_fen, is_reduced, has_other_result}
 use Rattle.pgn_game.specs.Progress.{next, going}
-use Rattle.pgn_game.specs.Judgement.{or_else}
+use Rattle.pgn_game.specs.TokenInMovetext.{or_else}
 use Rattle.pgn_game.proofs.reading.RunsToEnd.{at}
 
 pub pass : (test : Bool) (reason : Reason) (rest : Option Reason) → test ≡ false → rest ≡ None → or_else test reason rest ≡ None

@@ -7,7 +7,7 @@ use Rattle.pgn_game.specs.Chess.{position_of}
 use Rattle.pgn_game.proofs.Words.{Parts, Pair, value_of, has_pair, insert_pair}
 use Rattle.pgn_game.specs.Levels.{start_of, start_by, position_or_first}
 use Rattle.pgn_game.specs.FaultTable.{fen_fault_field, fen_field}
-use Rattle.pgn_game.specs.Judgement.{fen_position}
+use Rattle.pgn_game.specs.TokenInMovetext.{fen_position}
 use Rattle.pgn_game.proofs.pairs.ValuesByName.{pick, value_of-put, value_of-insert, bytes_eq-true, bytes_eq-refl}
 
 -- what a pair tells of where its game begins, from whether it is a FEN, and from what its value is

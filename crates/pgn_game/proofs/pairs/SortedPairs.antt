@@ -1,5 +1,5 @@
 -- The order of names, and places in it.
-use Rattle.std.proofs.Common.{◌≡◌, ℕ, zero, suc, ◌+◌, ◌-◌, ◌<◌, ◌≤◌, Bool, true, false, List, [], ◌∷◌, ◌++◌, length, refl, sym, ap, subst, ◌∙◌, arith, Option, None, Some, insert, IsTrue, IsSome, is_some, IfSome, IsSomeAnd, take, drop, set, get_or}
+use Rattle.std.proofs.Common.{◌≡◌, ℕ, suc, ◌+◌, ◌-◌, ◌<◌, ◌≤◌, Bool, true, false, List, [], ◌∷◌, ◌++◌, length, refl, sym, ap, subst, ◌∙◌, arith, Option, None, Some, insert, IsTrue, IsSome, is_some, IfSome, IsSomeAnd, take, drop, set, get_or}
 use Rattle.std.specs.List.{refill}
 use Rattle.std.proofs.Math.Seq.{take-append_seam, take-suc}
 use Rattle.std.proofs.lemmas.List.{length-take-le, length-set, length-append, take_more_set, take-append-le}
@@ -24,12 +24,6 @@ insert-place p (q ∷ qs) =
           let next : 1 + index_of p.name qs ≡ suc (index_of p.name qs) = omega arith in
           ap (λ n. insert (q ∷ qs) n p) next ∙ ap (λ l. q ∷ l) (insert-place p qs)
     ]
-
-pub index_of-le : (name : List ℕ) (qs : List Pair) → index_of name qs ≤ length qs
-index_of-le name [] = omega arith
-index_of-le name (q ∷ qs) =
-    let more = index_of-le name qs in
-    elim (comes_before name q.name) as (λ b. elim b [ true ↦ 0 | false ↦ 1 + index_of name qs ] ≤ length (q ∷ qs)) [ true ↦ omega arith | false ↦ omega arith ]
 
 pub last_name-snoc : (ps : List Pair) (p : Pair) → last_name (ps ++ p ∷ []) ≡ Some p.name
 last_name-snoc [] p = refl

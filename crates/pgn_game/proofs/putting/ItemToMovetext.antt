@@ -12,15 +12,15 @@ use Rattle.pgn_layout.specs.declared.sink.WriteFault.{WriteFault}
 use Rattle.pgn_layout.specs.Device.{AppendsFront, Counts, Device, Writes}
 use Rattle.pgn_layout.specs.Lines.{IsToken, lines_of, full_lines, last_line, text_of as text_of_lines}
 use Rattle.pgn_layout.specs.Layout.{Put, laid_from, text_put, line_put}
-use Rattle.pgn_game.specs.declared.judged.Item.{Item as CodeItem}
-use Rattle.pgn_game.specs.declared.judged.Item.TheVariants as code
+use Rattle.pgn_game.specs.declared.item.Item.{Item as CodeItem}
+use Rattle.pgn_game.specs.declared.item.Item.TheVariants as code
 use Rattle.pgn_game.proofs.Words.{Parts, Played, Mode, Full, Reduced}
 use Rattle.pgn_game.specs.Chess.{play, text_of_move}
 use Rattle.pgn_game.specs.Game.{Item, move, open_variation, close_variation}
 use Rattle.pgn_game.specs.Levels.{Level as ModelLevel, Levels as ModelLevels, levels_after, levels_of, depth, here, outermost, main_moves}
 use Rattle.pgn_game.specs.Text.{Placed, is_move, tokens_at, tokens_from, tokens_out, full_text}
 use Rattle.pgn_game.specs.Movetext.{StoredLevels, Movetext, level_at, ClosesLevel, before_last, stored_level, stored_levels, ends_in_move, HoldsItems}
-use Rattle.pgn_game.specs.Judgement.{ItemFits, model_item}
+use Rattle.pgn_game.specs.TokenInMovetext.{ItemFits, model_item}
 use Rattle.pgn_game.specs.ItemResult.{PutsTokens, GoesOn, Plays, LeadsLevels, counted_at, writes, tokens_due, tokens_if, after_move_if, plies_in, item_text, Adds, WritesItem}
 use Rattle.pgn_game.proofs.reading.MovetextTokens.{levels_more}
 use Rattle.pgn_game.proofs.putting.WritesInTurn.{front_of_more, Writes-append}

@@ -1,5 +1,5 @@
 -- What putting a token of movetext adds to what stands written of its game, and to the reader.
-use Rattle.std.proofs.Common.{◌≡◌, max, ℕ, ◌<◌, ◌≤◌, Bool, true, false, ◌||◌, List, [], ◌∷◌, ◌++◌, length, drop, Option, None, Bor, Result, refl, sym, ap, subst, ◌∙◌, append-nil, length-append, arith, IsTrue, Ok, Err}
+use Rattle.std.proofs.Common.{◌≡◌, max, ℕ, ◌<◌, ◌≤◌, Bool, true, false, ◌||◌, ◌==◌, List, [], ◌∷◌, ◌++◌, length, drop, Option, None, refl, sym, ap, subst, ◌∙◌, append-nil, length-append, arith, IsTrue, Ok, Err}
 use Rattle.std.specs.List.{list_any}
 use Rattle.std.proofs.lemmas.List.Folds.{list_any-append}
 use Rattle.std.proofs.Math.Nat.{le-max_left}
@@ -9,28 +9,22 @@ use Rattle.std.specs.Io.KnownBytes.{Appends}
 use Rattle.chess_rules.specs.declared.position.Move.{Move}
 use Rattle.pgn_layout.specs.declared.sink.WriteFault.{WriteFault}
 use Rattle.pgn_layout.specs.Device.{AppendsFront, Device, one_more}
-use Rattle.pgn_game.specs.declared.judged.Judged.{Judged}
-use Rattle.pgn_game.specs.declared.judged.Judged.TheVariants.{Entry as InText}
-use Rattle.pgn_game.specs.declared.judged.Entry.TheVariants.{Number, Move as Play}
-use Rattle.pgn_game.specs.declared.judged.Entry.{Entry}
 use Rattle.pgn_game.proofs.Words.{Parts, Mode, Full, Reduced, Stage, Between, AfterTags, InMovetext, Profile, Missing, counts_as, known_result, Pair, Item, Part}
-use Rattle.pgn_game.specs.declared.accepted.Accepted.{Accepted}
 use Rattle.pgn_game.specs.declared.accepted.Accepted.TheVariants.{More}
-use Rattle.pgn_game.specs.declared.reason.Reason.{Reason}
 use Rattle.pgn_game.specs.declared.reason.Reason.TheVariants as reasons
+use Rattle.pgn_game.specs.FaultTable.{is_at, stage_number}
 use Rattle.pgn_game.specs.Levels.{start_of}
 use Rattle.pgn_game.specs.TagSection.{tag_section}
-use Rattle.pgn_game.specs.Text.{is_move, full_text, torn_at, torn_for}
+use Rattle.pgn_game.specs.Text.{is_move, full_text, torn_at, torn_for, has_move}
 use Rattle.pgn_game.specs.Progress.{Next, going}
 use Rattle.pgn_game.specs.Game.{move}
 use Rattle.pgn_game.specs.Movetext.{Movetext, HoldsItems}
-use Rattle.pgn_game.specs.ReaderState.{ReaderState, Agrees, HoldsPairs, HoldsText, has_move, plies_behind, whole_plies}
-use Rattle.pgn_game.specs.Judgement.{EntryFits, IsOpen, after, after_entry, may_have_movetext, with_items}
-use Rattle.pgn_game.specs.ItemResult.{Adds, TriesItem}
-use Rattle.pgn_game.specs.PutResult.{BeginsText, Goes, Keeps, PutResult, TriesJudged, at_item, gain_to, section_due, section_due_of}
-use Rattle.pgn_game.proofs.putting.WritesInTurn.{front_after}
+use Rattle.pgn_game.specs.ReaderState.{ReaderState, Agrees, HoldsPairs, HoldsText, plies_behind, whole_plies}
+use Rattle.pgn_game.specs.TokenInMovetext.{IsOpen, may_have_movetext, with_items}
+use Rattle.pgn_game.specs.ItemResult.{Adds}
+use Rattle.pgn_game.specs.PutResult.{BeginsText, Goes, Keeps, PutResult, PutsItems, gain_to, section_due, section_due_of}
+use Rattle.pgn_game.proofs.putting.WritesInTurn.{front_after, front_of_more}
 use Rattle.pgn_game.proofs.putting.ItemToMovetext.{from_to}
-use Rattle.pgn_game.proofs.judging.PartsToJudgement.{open_agrees}
 
 -- what is written of the lines, besides what was
 abbrev pub lines_gain : Mode → List Pair → List Item → List Item → List ℕ
@@ -94,15 +88,14 @@ plies_before old at = by_stage old.stage at
     by_stage _ at = refl
 
 -- a put that failed, and one after which the game goes on
-pub unwritten : (old new : ReaderState) (j : Judged) (d : Device) → Keeps old new → d.failures_after ≡ one_more d.failures
-    → ((part : Part) → Agrees old part → AppendsFront d.before d.after (gain_to old.profile part (after j part))) → PutResult old j new (Err reasons.WriteFault) d
-unwritten old new j d keeps counted front =
-    record { goes = λ part agrees. (refl, front part agrees); keeps = keeps; stays = tt; finished = tt; counted = (refl, counted) }
+module _ (old new : ReaderState) (IsOf : Part → Type 0) (to : Part → Next) (d : Device) (keeps : Keeps old new) where
+  pub unwritten : d.failures_after ≡ one_more d.failures → ((part : Part) → IsOf part → AppendsFront d.before d.after (gain_to old.profile part (to part)))
+      → PutResult old IsOf to new (Err reasons.WriteFault) d
+  unwritten counted front = record { goes = λ part is. (refl, front part is); keeps = keeps; stays = tt; counted = (refl, counted) }
 
-pub more_comes : (old new : ReaderState) (j : Judged) (d : Device) → Keeps old new → (new.stage ≡ Between → new ≡ old)
-    → d.failures_after ≡ d.failures → ((part : Part) → Agrees old part → Goes old part (after j part) new More d) → PutResult old j new (Ok More) d
-more_comes old new j d keeps stays counted on =
-    record { goes = on; keeps = keeps; stays = stays; finished = tt; counted = counted }
+  pub more_comes : (new.stage ≡ Between → new ≡ old) → d.failures_after ≡ d.failures → ((part : Part) → IsOf part → Goes old part (to part) new More d)
+      → PutResult old IsOf to new (Ok More) d
+  more_comes stays counted on = record { goes = on; keeps = keeps; stays = stays; counted = counted }
 
 -- a reader in movetext agrees with the part that it holds
 agrees_in_text : (r : ReaderState) (part : Part) → r.stage ≡ InMovetext → part.stage ≡ InMovetext → r.tags ≡ record { held = part.pairs; pending_name = None }
@@ -142,25 +135,31 @@ goes_with old begun new part more d at is begins next held probed appended =
       appended = appended;
     }
 
+-- what items lead to
+abbrev pub to_items : List Item → Part → Next
+to_items items part = going (with_items part items)
+
 -- A number was put, or a period: the section alone was written.
 pub puts_number : (old new : ReaderState) (d : Device) → IsTrue (may_have_movetext old.stage)
-    → BeginsText {A = Unit} {E = WriteFault} old new (Ok tt) d → PutResult old (InText Number) new (Ok More) d
-puts_number old new d at begins =
-    more_comes old new (InText Number) d
-    (record { profile = begins.profile; plies = omega (arith, begins.earlier, begins.plies); probes = omega (arith, begins.probes) })
-    (not_between new.stage (ap (λ (r : ReaderState). r.stage) begins.begun)) begins.counted
-    (λ part agrees.
-    let is = open_agrees old part agrees at in
-    let ps = part.pairs in
-    let items = part.items in
-    let nothing : lines_gain old.profile.mode ps items [] ≡ [] =
-    ap (λ (is : List Item). drop (length (full_text old.profile.mode (start_of ps) items)) (full_text old.profile.mode (start_of ps) is)) (append-nil items)
-    ∙ drop-length (full_text old.profile.mode (start_of ps) items) in
-    goes_with old new new part [] d at is begins.begun (record { profile = refl; stage = refl; tags = refl; earlier = refl; probes = omega arith })
-    (subst (λ (r : ReaderState). HoldsItems old.profile.mode (start_of ps) (items ++ []) r.text r.line) (sym begins.begun)
-    (subst (λ (l : List Item). HoldsItems old.profile.mode (start_of ps) l old.text old.line) (sym (append-nil items)) is.held))
-    (λ has. subst (λ (n : ℕ). 0 < n) (sym begins.probes) (is.probed (subst (λ (l : List Item). IsTrue (has_move l)) (append-nil items) has)))
-    (subst (Appends d.before d.after) (sym (append-nil _) ∙ ap (λ l. section_due_of old ++ l) (sym nothing) ∙ gain_is old part [] begins.known at is) begins.text))
+    → BeginsText {A = Unit} {E = WriteFault} old new (Ok tt) d → PutsItems old [] new (Ok More) d
+puts_number old new d at begins = record {
+  puts = more_comes old new (IsOpen old) (to_items []) d
+      (record { profile = begins.profile; plies = omega (arith, begins.earlier, begins.plies); probes = omega (arith, begins.probes) })
+      (not_between new.stage (ap (λ (r : ReaderState). r.stage) begins.begun)) begins.counted
+      (λ part is.
+      let ps = part.pairs in
+      let items = part.items in
+      let nothing : lines_gain old.profile.mode ps items [] ≡ [] =
+      ap (λ (is : List Item). drop (length (full_text old.profile.mode (start_of ps) items)) (full_text old.profile.mode (start_of ps) is)) (append-nil items)
+      ∙ drop-length (full_text old.profile.mode (start_of ps) items) in
+      goes_with old new new part [] d at is begins.begun (record { profile = refl; stage = refl; tags = refl; earlier = refl; probes = omega arith })
+      (subst (λ (r : ReaderState). HoldsItems old.profile.mode (start_of ps) (items ++ []) r.text r.line) (sym begins.begun)
+      (subst (λ (l : List Item). HoldsItems old.profile.mode (start_of ps) l old.text old.line) (sym (append-nil items)) is.held))
+      (λ has. subst (λ (n : ℕ). 0 < n) (sym begins.probes) (is.probed (subst (λ (l : List Item). IsTrue (has_move l)) (append-nil items) has)))
+      (subst (Appends d.before d.after) (sym (append-nil _) ∙ ap (λ l. section_due_of old ++ l) (sym nothing) ∙ gain_is old part [] begins.known at is) begins.text));
+  goes_on = tt;
+  probes = begins.probes;
+}
 
 -- In movetext nothing is due of the section.
 pub begun_before : (old : ReaderState) (d : Device) → old.stage ≡ InMovetext → old.profile.missing_result ≡ counts_as (known_result old.profile.missing_result)
@@ -175,12 +174,6 @@ begun_before old d at known nothing counted = record {
   probes = refl;
   counted = counted;
 }
-
--- and a number changes nothing at all there
-pub number_passed : (old : ReaderState) (d : Device) → old.stage ≡ InMovetext → old.profile.missing_result ≡ counts_as (known_result old.profile.missing_result)
-    → Appends d.before d.after [] → d.failures_after ≡ d.failures → PutResult old (InText Number) old (Ok More) d
-number_passed old d at known nothing counted =
-    puts_number old old d (ap may_have_movetext at) (begun_before old d at known nothing counted)
 
 -- where a move was played, some pair was tried
 probed_with : (old : ReaderState) (part : Part) (i : Item) (most : ℕ) → (is_move i ≡ true → 0 < old.most_probes) → old.most_probes ≤ most
@@ -205,67 +198,52 @@ begun_held : (old begun : ReaderState) (part : Part) → IsOpen old part → beg
     → HoldsItems begun.profile.mode (start_of part.pairs) part.items begun.text begun.line
 begun_held old begun part is begins = subst (λ (r : ReaderState). HoldsItems r.profile.mode (start_of part.pairs) part.items r.text r.line) (sym begins) is.held
 
--- The section was written, and then the item put that the token means.
-pub puts_item : (old begun new : ReaderState) (e : Entry) (i : Item) (a b c : Option (List ℕ)) (n m k : ℕ) → IsTrue (may_have_movetext old.stage)
-    → ((part : Part) → going (with_items part (i ∷ [])) ≡ after_entry e part) → (is_move i ≡ true → 0 < old.most_probes)
-    → BeginsText {A = Unit} {E = WriteFault} old begun (Ok tt) (from_to a b n m) → IsAfterItem begun new
-    → Adds {A = Unit} {E = WriteFault} begun.profile.mode i begun.text begun.line new.text new.line (Ok tt) (from_to b c m k)
-    → PutResult old (InText e) new (Ok More) (from_to a c n k)
-puts_item old begun new e i a b c n m k at leads put begins next adds =
-    let most : old.most_probes ≤ new.most_probes = omega (arith, next.probes, begins.probes) in
-    more_comes old new (InText e) (from_to a c n k)
-    (record { profile = next.profile ∙ begins.profile; plies = omega (arith, next.earlier, begins.earlier, begins.plies, adds.plies); probes = most })
-    (not_between new.stage (next.stage ∙ ap (λ (r : ReaderState). r.stage) begins.begun)) (adds.counted ∙ begins.counted)
-    (λ part agrees.
-    let is = open_agrees old part agrees at in
-    let added = adds.adds (start_of part.pairs) part.items (begun_held old begun part is begins.begun) in
-    subst (λ (to : Next). Goes old part to new More (from_to a c n k)) (leads part)
-    (goes_with old begun new part (i ∷ []) (from_to a c n k) at is begins.begun next
-    (subst (λ (p : Profile). HoldsItems p.mode (start_of part.pairs) (part.items ++ i ∷ []) new.text new.line) begins.profile added.0)
-    (probed_with old part i new.most_probes put most is.probed)
-    (subst (Appends a c) (ap (λ (p : Profile). section_due_of old ++ lines_gain p.mode part.pairs part.items (i ∷ [])) begins.profile
-    ∙ gain_is old part (i ∷ []) begins.known at is) (Appends-trans a b c _ _ begins.text added.1))))
+-- The section was written, and then an item put.
+module _ (old begun new : ReaderState) (i : Item) (a b c : Option (List ℕ)) (n m k : ℕ) (at : IsTrue (may_have_movetext old.stage))
+    (begins : BeginsText {A = Unit} {E = WriteFault} old begun (Ok tt) (from_to a b n m)) (next : IsAfterItem begun new) where
+  pub puts_item : (is_move i ≡ true → 0 < old.most_probes)
+      → Adds {A = Unit} {E = WriteFault} begun.profile.mode i begun.text begun.line new.text new.line (Ok tt) (from_to b c m k)
+      → PutResult old (IsOpen old) (to_items (i ∷ [])) new (Ok More) (from_to a c n k)
+  puts_item put adds =
+      let most : old.most_probes ≤ new.most_probes = omega (arith, next.probes, begins.probes) in
+      more_comes old new (IsOpen old) (to_items (i ∷ [])) (from_to a c n k)
+      (record { profile = next.profile ∙ begins.profile; plies = omega (arith, next.earlier, begins.earlier, begins.plies, adds.plies); probes = most })
+      (not_between new.stage (next.stage ∙ ap (λ (r : ReaderState). r.stage) begins.begun)) (adds.counted ∙ begins.counted)
+      (λ part is.
+      let added = adds.adds (start_of part.pairs) part.items (begun_held old begun part is begins.begun) in
+      goes_with old begun new part (i ∷ []) (from_to a c n k) at is begins.begun next
+      (subst (λ (p : Profile). HoldsItems p.mode (start_of part.pairs) (part.items ++ i ∷ []) new.text new.line) begins.profile added.0)
+      (probed_with old part i new.most_probes put most is.probed)
+      (subst (Appends a c) (ap (λ (p : Profile). section_due_of old ++ lines_gain p.mode part.pairs part.items (i ∷ [])) begins.profile
+      ∙ gain_is old part (i ∷ []) begins.known at is) (Appends-trans a b c _ _ begins.text added.1)))
 
-pub fails_item : (old begun new : ReaderState) (e : Entry) (i : Item) (f : WriteFault) (a b c : Option (List ℕ)) (n m k : ℕ) → IsTrue (may_have_movetext old.stage)
-    → ((part : Part) → going (with_items part (i ∷ [])) ≡ after_entry e part)
-    → BeginsText {A = Unit} {E = WriteFault} old begun (Ok tt) (from_to a b n m) → IsAfterItem begun new
-    → Adds {A = Unit} begun.profile.mode i begun.text begun.line new.text new.line (Err f) (from_to b c m k)
-    → PutResult old (InText e) new (Err reasons.WriteFault) (from_to a c n k)
-fails_item old begun new e i f a b c n m k at leads begins next adds =
-    unwritten old new (InText e) (from_to a c n k)
-    (record { profile = next.profile ∙ begins.profile; plies = omega (arith, next.earlier, begins.earlier, begins.plies, adds.plies); probes = omega (arith, next.probes, begins.probes) })
-    (adds.counted ∙ ap one_more begins.counted) (λ part agrees.
-    let is = open_agrees old part agrees at in
-    subst (λ (to : Next). AppendsFront a c (gain_to old.profile part to)) (leads part)
-    (subst (AppendsFront a c) (ap (λ (p : Profile). section_due_of old ++ lines_gain p.mode part.pairs part.items (i ∷ [])) begins.profile
-    ∙ gain_is old part (i ∷ []) begins.known at is)
-    (front_after a b c _ _ begins.text (adds.adds (start_of part.pairs) part.items (begun_held old begun part is begins.begun)))))
+  pub fails_item : (f : WriteFault) → Adds {A = Unit} begun.profile.mode i begun.text begun.line new.text new.line (Err f) (from_to b c m k)
+      → PutResult old (IsOpen old) (to_items (i ∷ [])) new (Err reasons.WriteFault) (from_to a c n k)
+  fails_item f adds =
+      unwritten old new (IsOpen old) (to_items (i ∷ [])) (from_to a c n k)
+      (record { profile = next.profile ∙ begins.profile; plies = omega (arith, next.earlier, begins.earlier, begins.plies, adds.plies); probes = omega (arith, next.probes, begins.probes) })
+      (adds.counted ∙ ap one_more begins.counted) (λ part is.
+      subst (AppendsFront a c) (ap (λ (p : Profile). section_due_of old ++ lines_gain p.mode part.pairs part.items (i ∷ [])) begins.profile
+      ∙ gain_is old part (i ∷ []) begins.known at is)
+      (front_after a b c _ _ begins.text (adds.adds (start_of part.pairs) part.items (begun_held old begun part is begins.begun))))
 
--- Behind the section the stage is that of movetext, and what fitted before it fits.
+-- Items could not be put, since the section could not be written.
+pub puts_unbegun : (old new : ReaderState) (more : List Item) (f : WriteFault) (d : Device) → IsTrue (may_have_movetext old.stage)
+    → BeginsText {A = Unit} old new (Err f) d → PutResult old (IsOpen old) (to_items more) new (Err reasons.WriteFault) d
+puts_unbegun old new more f d at begins =
+    unwritten old new (IsOpen old) (to_items more) d
+    (record { profile = begins.profile; plies = omega (arith, begins.earlier, begins.plies); probes = omega (arith, begins.probes) }) begins.counted
+    (λ part is.
+    subst (AppendsFront d.before d.after) (gain_is old part more begins.known at is)
+    (front_of_more d.before d.after _ (lines_gain old.profile.mode part.pairs part.items more) begins.text))
+
+-- Behind the section the movetext is what it was before it.
 module _ (old begun held : ReaderState) (d : Device) (same : held ≡ begun) (begins : BeginsText {A = Unit} {E = WriteFault} old begun (Ok tt) d) where
   held_begun : held ≡ record old { stage = InMovetext }
   held_begun = same ∙ begins.begun
 
-  pub stage_begun : held.stage ≡ InMovetext
-  stage_begun = ap (λ (r : ReaderState). r.stage) held_begun
-
-  pub plies_begun : held.text.plies ≡ old.text.plies
-  plies_begun = ap (λ (r : ReaderState). r.text.plies) held_begun
-
-  pub fits_begun : (levels : ℕ) (e f : Entry) → e ≡ f → EntryFits levels old.text e → EntryFits levels held.text f
-  fits_begun levels e f is fits = subst (λ (r : ReaderState). EntryFits levels r.text f) (sym held_begun) (subst (EntryFits levels old.text) is fits)
-
--- What `put_entry` ensures, with these pairs tried before and after.
-abbrev pub EntryResult : ReaderState → Entry → ReaderState → Result Accepted Reason → Device → ℕ → ℕ → Type 0
-EntryResult old e new r d before after = record {
-  puts : PutResult old (InText e) new r d;
-  tried : TriesJudged old (InText e) r before after;
-  most : before ≤ old.most_probes → new.most_probes ≡ max old.most_probes after;
-}
-
--- where no pair is tried, the most stays
-pub most_stays : (old new n : ℕ) → new ≡ old → n ≤ old → new ≡ max old n
-most_stays old new n same few = omega (arith, same, few)
+  pub text_begun : held.text ≡ old.text
+  text_begun = ap (λ (r : ReaderState). r.text) held_begun
 
 -- the reader after a move, once its probes are counted
 after_move : (begun new : ReaderState) (text : Movetext) (line : List ℕ) (n : ℕ) → new ≡ record begun { text = text; line = line; most_probes = max begun.most_probes n } → IsAfterItem begun new
@@ -278,21 +256,28 @@ after_move begun new text line n is = record {
 }
 
 -- The section was written, and then a move put, whose pairs were counted.
-module _ (old begun new : ReaderState) (mv : Bor Move) (before after : ℕ) {text : Movetext} {line : List ℕ} {a b c : Option (List ℕ)} {n m k : ℕ} (at : IsTrue (may_have_movetext old.stage))
-    (begins : BeginsText {A = Unit} {E = WriteFault} old begun (Ok tt) (from_to a b n m)) (is : new ≡ record begun { text = text; line = line; most_probes = max begun.most_probes after })
-    (tries : TriesItem begun.profile.mode begun.text (move mv.now) before after) where
-  pub puts_move : 0 < old.most_probes → Adds {A = Unit} {E = WriteFault} begun.profile.mode (move mv.now) begun.text begun.line text line (Ok tt) (from_to b c m k)
-      → EntryResult old (Play mv) new (Ok More) (from_to a c n k) before after
-  puts_move probed adds = record {
-    puts = puts_item old begun new (Play mv) (move mv.now) a b c n m k at (λ part. refl) (λ is. probed) begins (after_move begun new text line after is) (rw is adds);
-    tried = subst (λ (r : ReaderState). TriesItem r.profile.mode r.text (move mv.now) before after) begins.begun tries;
-    most = λ few. ap (λ (r : ReaderState). r.most_probes) is ∙ ap (λ n. max n after) begins.probes;
-  }
+module _ (old begun new : ReaderState) (mv : Move) (after : ℕ) {text : Movetext} {line : List ℕ} {a b c : Option (List ℕ)} {n m k : ℕ} (at : IsTrue (may_have_movetext old.stage))
+    (begins : BeginsText {A = Unit} {E = WriteFault} old begun (Ok tt) (from_to a b n m)) (is : new ≡ record begun { text = text; line = line; most_probes = max begun.most_probes after }) where
+  pub puts_move : 0 < old.most_probes → Adds {A = Unit} {E = WriteFault} begun.profile.mode (move mv) begun.text begun.line text line (Ok tt) (from_to b c m k)
+      → PutResult old (IsOpen old) (to_items (move mv ∷ [])) new (Ok More) (from_to a c n k)
+  puts_move probed adds = puts_item old begun new (move mv) a b c n m k at begins (after_move begun new text line after is) (λ is. probed) (rw is adds)
 
-  pub fails_move : (f : WriteFault) → Adds {A = Unit} begun.profile.mode (move mv.now) begun.text begun.line text line (Err f) (from_to b c m k)
-      → EntryResult old (Play mv) new (Err reasons.WriteFault) (from_to a c n k) before after
-  fails_move f adds = record {
-    puts = fails_item old begun new (Play mv) (move mv.now) f a b c n m k at (λ part. refl) begins (after_move begun new text line after is) (rw is adds);
-    tried = at_item (subst (λ (r : ReaderState). TriesItem r.profile.mode r.text (move mv.now) before after) begins.begun tries);
-    most = λ few. ap (λ (r : ReaderState). r.most_probes) is ∙ ap (λ n. max n after) begins.probes;
-  }
+  pub fails_move : (f : WriteFault) → Adds {A = Unit} begun.profile.mode (move mv) begun.text begun.line text line (Err f) (from_to b c m k)
+      → PutResult old (IsOpen old) (to_items (move mv ∷ [])) new (Err reasons.WriteFault) (from_to a c n k)
+  fails_move f adds = fails_item old begun new (move mv) a b c n m k at begins (after_move begun new text line after is) f (rw is adds)
+
+pub most_after : (old begun new : ReaderState) (text : Movetext) (line : List ℕ) (after : ℕ) (d : Device) → BeginsText {A = Unit} {E = WriteFault} old begun (Ok tt) d
+    → new ≡ record begun { text = text; line = line; most_probes = max begun.most_probes after } → new.most_probes ≡ max old.most_probes after
+most_after old begun new text line after d begins is = ap (λ (r : ReaderState). r.most_probes) is ∙ ap (λ n. max n after) begins.probes
+
+-- where the section could not be written, movetext had not begun
+pub unbegun_part : {A : Type 0} (old new : ReaderState) (f : WriteFault) (d : Device) (part : Part) → IsTrue (may_have_movetext old.stage) → BeginsText {A = A} old new (Err f) d
+    → old.stage ≡ part.stage → is_at InMovetext part ≡ false
+unbegun_part old new f d part at begins same =
+    ap (λ (s : Stage). stage_number InMovetext == stage_number s) (sym same ∙ by_stage old.stage at begins.text)
+  where
+    by_stage : (stage : Stage) → IsTrue (may_have_movetext stage)
+        → AppendsFront d.before d.after (section_due stage old.profile.mode (known_result old.profile.missing_result) old.tags.held) → stage ≡ AfterTags
+    by_stage AfterTags at front = refl
+    by_stage InMovetext at front = absurd (omega (arith, front.1))
+    by_stage _ at front = absurd (cc)

@@ -1,5 +1,5 @@
 -- What putting a marker comes to, and a token of movetext whose section cannot be written.
-use Rattle.std.proofs.Common.{◌≡◌, ℕ, List, [], ◌∷◌, ◌++◌, length, drop, Option, Bor, refl, sym, ap, subst, ◌∙◌, append_assoc, length-append, arith, IsTrue, Ok, Err, All}
+use Rattle.std.proofs.Common.{◌≡◌, ℕ, List, [], ◌∷◌, ◌++◌, length, drop, Option, refl, sym, ap, subst, ◌∙◌, append_assoc, length-append, arith, IsTrue, Ok, Err, All, lit<, lit≤}
 use Rattle.std.proofs.Math.Seq.{drop-append-add, drop-append_seam}
 use Rattle.std.proofs.KnownBytes.{Appends-trans}
 use Rattle.std.specs.Io.KnownBytes.{Appends}
@@ -9,26 +9,24 @@ use Rattle.pgn_layout.specs.Device.{AppendsFront, Device, one_more}
 use Rattle.pgn_layout.specs.Lines.{IsToken, lines_of, full_lines, last_line, text_of as text_of_lines}
 use Rattle.pgn_layout.specs.Layout.{Put, EndGame, text_at, line_at}
 use Rattle.pgn_game.specs.declared.accepted.Accepted.TheVariants.{Finished}
+use Rattle.pgn_game.specs.declared.marker.Marker.{Marker}
+use Rattle.pgn_game.specs.declared.marker.Marker.TheVariants.{WhiteWins, BlackWins, Draw, Unknown}
+use Rattle.pgn_game.specs.Markers.{marker_text}
 use Rattle.pgn_game.specs.declared.reason.Reason.TheVariants as reasons
-use Rattle.pgn_game.specs.declared.judged.Judged.TheVariants.{Entry as InText}
-use Rattle.pgn_game.specs.declared.judged.Entry.{Entry}
-use Rattle.pgn_game.specs.declared.judged.Entry.TheVariants.{Number, Move as Play, Item as PutItem, Marker}
 use Rattle.pgn_game.proofs.Words.{Mode, Stage, Between, AfterTags, InMovetext, Profile, Missing, counts_as, known_result, Pair, Item, Part}
-use Rattle.pgn_game.specs.Game as games
 use Rattle.pgn_game.specs.Levels.{Level as ModelLevel, Levels as ModelLevels, depth, start_of, outermost, replayed, last_position}
 use Rattle.pgn_game.specs.TagSection.{tag_section}
 use Rattle.pgn_game.specs.FaultTable.{levels_of_part, result_for}
 use Rattle.pgn_game.specs.Text.{tokens_out, full_text, torn_at, torn_for}
-use Rattle.pgn_game.specs.Progress.{whole}
+use Rattle.pgn_game.specs.Progress.{Next, whole}
 use Rattle.pgn_game.specs.Movetext.{StoredLevel}
 use Rattle.pgn_game.specs.ReaderState.{ReaderState, IsBehind, plies_behind}
-use Rattle.pgn_game.specs.Judgement.{EntryFits, IsOpen, after_entry, game_of, may_have_movetext, model_item}
+use Rattle.pgn_game.specs.TokenInMovetext.{IsOpen, game_of, may_have_movetext}
 use Rattle.pgn_game.specs.PutResult.{BeginsText, PutResult, gain_to, section_due, section_due_of}
 use Rattle.pgn_game.proofs.putting.WritesInTurn.{front_of_more, front_after}
 use Rattle.pgn_game.proofs.putting.ItemToMovetext.{from_to}
 use Rattle.pgn_game.proofs.putting.ItemsAppended.{game_ends}
-use Rattle.pgn_game.proofs.judging.PartsToJudgement.{open_agrees}
-use Rattle.pgn_game.proofs.putting.ItemToReader.{gain_is, lines_gain, no_text, open_stage, part_at, plies_before, section_is, unwritten}
+use Rattle.pgn_game.proofs.putting.ItemToReader.{no_text, open_stage, part_at, plies_before, section_is, unwritten}
 use Rattle.pgn_game.proofs.judging.RefusalsInMovetext.{depth_is, position_is}
 
 -- the lines of a game whose items are these, and an empty line
@@ -101,57 +99,54 @@ behind old part marker outside is =
       probed = is.probed;
     }
 
--- what a token of movetext adds behind the section
-abbrev rest_of : ReaderState → Part → Entry → List ℕ
-rest_of old part Number = lines_gain old.profile.mode part.pairs part.items []
-rest_of old part (Play m) = lines_gain old.profile.mode part.pairs part.items (games.move m.now ∷ [])
-rest_of old part (PutItem i) = lines_gain old.profile.mode part.pairs part.items (model_item i ∷ [])
-rest_of old part (Marker marker) = ending old.line marker.now
+marker_token : (marker : Marker) → IsToken (marker_text marker)
+marker_token WhiteWins = record { not_empty = lit< tt; fits = lit≤ tt }
+marker_token BlackWins = record { not_empty = lit< tt; fits = lit≤ tt }
+marker_token Draw = record { not_empty = lit< tt; fits = lit≤ tt }
+marker_token Unknown = record { not_empty = lit< tt; fits = lit≤ tt }
 
-entry_gain : (levels : ℕ) (old : ReaderState) (part : Part) (e : Entry) → EntryFits levels old.text e → old.profile.missing_result ≡ counts_as (known_result old.profile.missing_result) → IsTrue (may_have_movetext old.stage)
-    → IsOpen old part → section_due_of old ++ rest_of old part e ≡ gain_to old.profile part (after_entry e part)
-entry_gain levels old part Number fits known at is = gain_is old part [] known at is
-entry_gain levels old part (Play m) fits known at is = gain_is old part (games.move m.now ∷ []) known at is
-entry_gain levels old part (PutItem i) fits known at is = gain_is old part (model_item i ∷ []) known at is
-entry_gain levels old part (Marker marker) fits known at is = due_is old part marker.now known at fits.0 is
+-- what a marker leads to
+abbrev pub to_game : Marker → Part → Next
+to_game marker part = whole (game_of part (marker_text marker))
 
 -- The section could not be written.
-pub puts_unbegun : (levels : ℕ) (old new : ReaderState) (e : Entry) (f : WriteFault) (d : Device) → IsTrue (may_have_movetext old.stage) → EntryFits levels old.text e
-    → BeginsText {A = Unit} old new (Err f) d → PutResult old (InText e) new (Err reasons.WriteFault) d
-puts_unbegun levels old new e f d at fits begins =
-    unwritten old new (InText e) d (record { profile = begins.profile; plies = omega (arith, begins.earlier, begins.plies); probes = omega (arith, begins.probes) })
-    begins.counted (λ part agrees.
-    let is = open_agrees old part agrees at in
-    subst (AppendsFront d.before d.after) (entry_gain levels old part e fits begins.known at is) (front_of_more d.before d.after _ (rest_of old part e) begins.text))
+pub ends_unbegun : (old new : ReaderState) (marker : Marker) (f : WriteFault) (d : Device) → IsTrue (may_have_movetext old.stage)
+    → BeginsText {A = Unit} old new (Err f) d → PutResult old (IsOpen old) (to_game marker) new (Err reasons.WriteFault) d
+ends_unbegun old new marker f d at begins =
+    unwritten old new (IsOpen old) (to_game marker) d
+    (record { profile = begins.profile; plies = omega (arith, begins.earlier, begins.plies); probes = omega (arith, begins.probes) }) begins.counted
+    (λ part is.
+    subst (AppendsFront d.before d.after) (due_is old part (marker_text marker) begins.known at (marker_token marker) is)
+    (front_of_more d.before d.after _ (ending old.line (marker_text marker)) begins.text))
 
 -- How the game ends, once its section is written.
-pub record EndsText (old begun : ReaderState) (marker : List ℕ) (a b : Option (List ℕ)) (n m : ℕ) : Type 0 where
+pub record EndsText (old begun : ReaderState) (marker : Marker) (text : List ℕ) (a b : Option (List ℕ)) (n m : ℕ) : Type 0 where
   pub begins : BeginsText {A = Unit} {E = WriteFault} old begun (Ok tt) (from_to a b n m)
   pub outside : old.text.levels.around ≡ []
-  pub token : IsToken marker
+  pub spells : text ≡ marker_text marker
   pub at : IsTrue (may_have_movetext old.stage)
 
 abbrev of_line : (old begun : ReaderState) → begun ≡ record old { stage = InMovetext } → begun.line ≡ old.line
 of_line old begun e = ap (λ (r : ReaderState). r.line) e
 
-pub ends_well : (old begun new : ReaderState) (marker : Bor (List ℕ)) (a b d c : Option (List ℕ)) (n m k : ℕ) → EndsText old begun marker.now a b n m
-    → Appends b d (text_at begun.line (Put marker.now)) → Appends d c (text_at (line_at begun.line (Put marker.now)) EndGame)
+pub ends_well : (old begun new : ReaderState) (marker : Marker) (text : List ℕ) (a b d c : Option (List ℕ)) (n m k : ℕ) → EndsText old begun marker text a b n m
+    → Appends b d (text_at begun.line (Put text)) → Appends d c (text_at (line_at begun.line (Put text)) EndGame)
     → new ≡ record begun { stage = Between; line = new.line } → new.line ≡ [] → k ≡ m
-    → PutResult old (InText (Marker marker)) new (Ok Finished) (from_to a c n k)
-ends_well old begun new marker a b d c n m k ends put last rest empty counted =
+    → PutResult old (IsOpen old) (to_game marker) new (Ok Finished) (from_to a c n k)
+ends_well old begun new marker text a b d c n m k ends put last rest empty counted =
     let same : new ≡ finished_reader old = rest ∙ ap (λ (l : List ℕ). record begun { stage = Between; line = l }) empty ∙ ap finished_reader ends.begins.begun in
     let earlier : new.earlier_plies ≡ old.earlier_plies = ap (λ (r : ReaderState). r.earlier_plies) same in
     let plies : new.text.plies ≡ old.text.plies = ap (λ (r : ReaderState). r.text.plies) same in
     record {
-      goes = λ part agrees.
-          let is = open_agrees old part agrees ends.at in
+      goes = λ part is.
           record {
-            leads = subst (λ (r : ReaderState). IsBehind r (game_of part marker.now)) (sym same) (behind old part marker.now ends.outside is);
+            leads = subst (λ (r : ReaderState). IsBehind r (game_of part (marker_text marker))) (sym same) (behind old part (marker_text marker) ends.outside is);
             plies = ap (λ (s : Stage). plies_behind s new.earlier_plies new.text.plies) (ap (λ (r : ReaderState). r.stage) same)
                 ∙ omega (arith, earlier, plies, is.held.plies, plies_before old ends.at);
-            appended = subst (Appends a c) (ap (λ (l : List ℕ). section_due_of old ++ ending l marker.now) (of_line old begun ends.begins.begun)
-                ∙ due_is old part marker.now ends.begins.known ends.at ends.token is)
-                (Appends-trans a b c _ _ ends.begins.text (Appends-trans b d c _ _ put last));
+            appended = subst (Appends a c) (ap (λ (l : List ℕ). section_due_of old ++ ending l (marker_text marker)) (of_line old begun ends.begins.begun)
+                ∙ due_is old part (marker_text marker) ends.begins.known ends.at (marker_token marker) is)
+                (Appends-trans a b c _ _ ends.begins.text
+                (subst (λ (t : List ℕ). Appends b c (ending begun.line t)) ends.spells (Appends-trans b d c _ _ put last)));
           };
       keeps = record {
         profile = ap (λ (r : ReaderState). r.profile) same;
@@ -159,24 +154,22 @@ ends_well old begun new marker a b d c n m k ends put last rest empty counted =
         probes = omega (arith, ap (λ (r : ReaderState). r.most_probes) same);
       };
       stays = tt;
-      finished = (refl, ap (λ (r : ReaderState). r.stage) same);
       counted = counted ∙ ends.begins.counted;
     }
 
 -- a write failed behind the section
-pub ends_ill : (old begun new : ReaderState) (marker : Bor (List ℕ)) (a b c : Option (List ℕ)) (n m k : ℕ) → EndsText old begun marker.now a b n m
-    → AppendsFront b c (ending begun.line marker.now) → new ≡ record begun { line = new.line } → k ≡ one_more m
-    → PutResult old (InText (Marker marker)) new (Err reasons.WriteFault) (from_to a c n k)
-ends_ill old begun new marker a b c n m k ends front rest counted =
+pub ends_ill : (old begun new : ReaderState) (marker : Marker) (text : List ℕ) (a b c : Option (List ℕ)) (n m k : ℕ) → EndsText old begun marker text a b n m
+    → AppendsFront b c (ending begun.line text) → new ≡ record begun { line = new.line } → k ≡ one_more m
+    → PutResult old (IsOpen old) (to_game marker) new (Err reasons.WriteFault) (from_to a c n k)
+ends_ill old begun new marker text a b c n m k ends front rest counted =
     let begins = ends.begins in
-    unwritten old new (InText (Marker marker)) (from_to a c n k)
+    unwritten old new (IsOpen old) (to_game marker) (from_to a c n k)
     (record {
       profile = ap (λ (r : ReaderState). r.profile) rest ∙ begins.profile;
       plies = omega (arith, ap (λ (r : ReaderState). r.earlier_plies) rest, ap (λ (r : ReaderState). r.text.plies) rest, begins.earlier, begins.plies);
       probes = omega (arith, ap (λ (r : ReaderState). r.most_probes) rest, begins.probes);
     })
-    (counted ∙ ap one_more begins.counted) (λ part agrees.
-    let is = open_agrees old part agrees ends.at in
-    subst (AppendsFront a c) (ap (λ (l : List ℕ). section_due_of old ++ ending l marker.now) (of_line old begun begins.begun)
-    ∙ due_is old part marker.now begins.known ends.at ends.token is)
-    (front_after a b c _ _ begins.text front))
+    (counted ∙ ap one_more begins.counted) (λ part is.
+    subst (AppendsFront a c) (ap (λ (l : List ℕ). section_due_of old ++ ending l (marker_text marker)) (of_line old begun begins.begun)
+    ∙ due_is old part (marker_text marker) begins.known ends.at (marker_token marker) is)
+    (front_after a b c _ _ begins.text (subst (λ (t : List ℕ). AppendsFront b c (ending begun.line t)) ends.spells front)))

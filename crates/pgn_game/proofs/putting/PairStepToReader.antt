@@ -1,13 +1,10 @@
 -- What putting a step of the tag section does, or nothing.
-use Rattle.std.proofs.Common.{◌≡◌, ℕ, ◌≤◌, false, List, [], length, drop, Option, None, Some, Bor, refl, sym, ap, subst, ◌∙◌, le_refl, arith, IfSome, IsSomeAnd, IsTrue, Result, Ok, Err, is_ok}
-use Rattle.std.specs.Result.{result_unwrap_or}
+use Rattle.std.proofs.Common.{◌≡◌, ℕ, ◌≤◌, false, List, [], length, drop, Option, None, Some, refl, sym, ap, subst, ◌∙◌, le_refl, arith, IfSome, Ok}
 use Rattle.std.proofs.Math.Seq.{drop-length}
 use Rattle.std.proofs.Math.ListN.{drop_of_length-le}
 use Rattle.std.specs.Io.KnownBytes.{Appends}
 use Rattle.std.proofs.KnownBytes.{Appends-nil}
-use Rattle.pgn_game.specs.declared.judged.Judged.{Judged}
-use Rattle.pgn_game.specs.declared.judged.Judged.TheVariants.{Skipped, PairOpen, PairClose, Name, Value}
-use Rattle.pgn_game.proofs.Words.{Parts, Stage, Between, AfterLeftBracket, AfterTags, AfterName, AfterValue, InMovetext, Profile, Missing, counts_as, takes_the_marker, Pair, has_pair, Item, Part}
+use Rattle.pgn_game.proofs.Words.{Parts, Stage, Between, AfterLeftBracket, AfterTags, AfterName, AfterValue, InMovetext, Profile, Missing, counts_as, takes_the_marker, Pair, has_pair, insert_pair, Item, Part}
 use Rattle.pgn_game.specs.declared.accepted.Accepted.TheVariants.{More}
 use Rattle.pgn_game.specs.Levels.{start_of}
 use Rattle.pgn_game.specs.StoredPairs.{TagPairs}
@@ -15,10 +12,10 @@ use Rattle.pgn_game.specs.Text.{torn, torn_for}
 use Rattle.pgn_game.specs.Progress.{Next, at_stage, going}
 use Rattle.pgn_game.specs.Movetext.{Movetext, movetext_from, movetext_after_fen}
 use Rattle.pgn_game.specs.ReaderState.{ReaderState, Agrees, plies_behind}
-use Rattle.pgn_game.specs.Judgement.{Fits, ValueFits, after, fen_position}
+use Rattle.pgn_game.specs.TokenInMovetext.{fen_position}
 use Rattle.pgn_game.specs.PutResult.{Goes, PutResult, gain_to}
 use Rattle.pgn_game.proofs.putting.ItemToMovetext.{from_to}
-use Rattle.pgn_game.proofs.judging.PartsToJudgement.{begun_name, held_at, text_at}
+use Rattle.pgn_game.proofs.judging.ReaderToPart.{begun_name, held_at, text_at}
 use Rattle.pgn_game.proofs.putting.ItemToReader.{more_comes}
 use Rattle.pgn_game.proofs.pairs.PairsToFirstPosition.{with_pair, start_found, start_kept}
 
@@ -48,15 +45,15 @@ pub record IsStep (old new : ReaderState) (part : Part) (next : Next) : Type 0 w
   pub agrees : Agrees new to
 
 -- The reader has new pairs, and perhaps a new first position.
-steps : (old new : ReaderState) (j : Judged) (from stage : Stage) (tags : TagPairs) (start : Option Parts) (o : Option (List ℕ)) (n : ℕ)
+steps : (old new : ReaderState) (to : Part → Next) (from stage : Stage) (tags : TagPairs) (start : Option Parts) (o : Option (List ℕ)) (n : ℕ)
     → new ≡ record old { stage = stage; tags = tags; text = movetext_after_fen start old.text }
     → old.stage ≡ from → (from ≡ Between → ⊥) → (stage ≡ Between → ⊥) → (stage ≡ InMovetext → ⊥)
-    → ((part : Part) → Agrees old part → IsStep old (record old { stage = stage; tags = tags; text = movetext_after_fen start old.text }) part (after j part))
-    → PutResult old j new (Ok More) (from_to o o n n)
-steps old new j from stage tags start o n is at begun goes before each =
+    → ((part : Part) → Agrees old part → IsStep old (record old { stage = stage; tags = tags; text = movetext_after_fen start old.text }) part (to part))
+    → PutResult old (Agrees old) to new (Ok More) (from_to o o n n)
+steps old new to from stage tags start o n is at begun goes before each =
     let then : ReaderState = record old { stage = stage; tags = tags; text = movetext_after_fen start old.text } in
-    subst (λ (r : ReaderState). PutResult old j r (Ok More) (from_to o o n n)) (sym is)
-    (more_comes old then j (from_to o o n n) (record { profile = refl; plies = omega (arith, few start); probes = le_refl old.most_probes }) (λ e. absurd (goes e)) refl (λ part agrees.
+    subst (λ (r : ReaderState). PutResult old (Agrees old) to r (Ok More) (from_to o o n n)) (sym is)
+    (more_comes old then (Agrees old) to (from_to o o n n) (record { profile = refl; plies = omega (arith, few start); probes = le_refl old.most_probes }) (λ e. absurd (goes e)) refl (λ part agrees.
     let h = each part agrees in
     subst (λ (x : Next). Goes old part x then More (from_to o o n n)) h.leads
     (record {
@@ -82,67 +79,73 @@ begins_with name value ps (Some start) text new told is = ap movetext_from (sym 
 abbrev pub completed : List ℕ → List ℕ → List Pair → TagPairs
 completed name value ps = record { held = with_pair name value ps; pending_name = None }
 
-pub puts_value : (tags levels : ℕ) (old new : ReaderState) (value : Bor (List ℕ)) (name : List ℕ) (start : Option Parts) (held : TagPairs) (o : Option (List ℕ)) (n : ℕ)
-    → Fits tags levels old (Value value) → IfSome old.tags.pending_name (λ m. held ≡ completed m value.now old.tags.held)
-    → old.tags.pending_name ≡ Some name → start ≡ result_unwrap_or (fen_position name value.now) None
-    → new ≡ record old { stage = AfterValue; tags = held; text = movetext_after_fen start old.text } → PutResult old (Value value) new (Ok More) (from_to o o n n)
-puts_value tags levels old new value name start held o n fits completes begun starts is =
-    steps old new (Value value) AfterName AfterValue held start o n is fits.0 (λ e. absurd (cc)) (λ e. absurd (cc)) (λ e. absurd (cc)) (λ part agrees.
-    let pairs = held_at old part AfterName agrees fits.0 in
-    let text = text_at old part AfterName agrees fits.0 in
+-- what the tokens of a tag pair lead to
+abbrev pub to_name : List ℕ → Part → Next
+to_name name part = going (record { stage = AfterName; pairs = part.pairs; name = name; items = part.items })
+
+abbrev pub to_value : List ℕ → Part → Next
+to_value value part =
+    going (record { stage = AfterValue; pairs = insert_pair (record { name = part.name; value = value }) part.pairs; name = []; items = part.items })
+
+abbrev pub to_stage : Stage → Part → Next
+to_stage stage part = going (at_stage stage part)
+
+pub puts_value : (old new : ReaderState) (value name : List ℕ) (start : Option Parts) (held : TagPairs) (o : Option (List ℕ)) (n : ℕ)
+    → old.stage ≡ AfterName → IfSome old.tags.pending_name (λ m. held ≡ completed m value old.tags.held)
+    → old.tags.pending_name ≡ Some name → fen_position name value ≡ Ok start
+    → new ≡ record old { stage = AfterValue; tags = held; text = movetext_after_fen start old.text } → PutResult old (Agrees old) (to_value value) new (Ok More) (from_to o o n n)
+puts_value old new value name start held o n at completes begun told is =
+    steps old new (to_value value) AfterName AfterValue held start o n is at (λ e. absurd (cc)) (λ e. absurd (cc)) (λ e. absurd (cc)) (λ part agrees.
+    let pairs = held_at old part AfterName agrees at in
+    let text = text_at old part AfterName agrees at in
     let same = begun_name old.tags part name pairs.0 begun in
-    let has : ValueFits part.name value.now = subst (λ (t : TagPairs). IsSomeAnd t.pending_name (λ m. ValueFits m value.now)) pairs.0 fits.1 in
-    let told = told_start (fen_position part.name value.now) start has.told (starts ∙ ap (λ (m : List ℕ). result_unwrap_or (fen_position m value.now) None) same) in
     record {
-      to = record { stage = AfterValue; pairs = with_pair part.name value.now part.pairs; name = []; items = part.items };
+      to = record { stage = AfterValue; pairs = with_pair part.name value part.pairs; name = []; items = part.items };
       leads = refl;
       agrees = record {
         stage = refl;
-        pairs = subst (λ (t : TagPairs). IfSome t.pending_name (λ m. held ≡ completed m value.now t.held)) pairs.0 completes;
-        text = (text.0, begins_with part.name value.now part.pairs start old.text pairs.1 told text.1, text.2);
+        pairs = subst (λ (t : TagPairs). IfSome t.pending_name (λ m. held ≡ completed m value t.held)) pairs.0 completes;
+        text = (text.0, begins_with part.name value part.pairs start old.text pairs.1 (ap (λ (m : List ℕ). fen_position m value) (sym same) ∙ told) text.1, text.2);
       };
     })
-  where
-    told_start : (r : Result (Option Parts) ℕ) (s : Option Parts) → IsTrue (is_ok r) → s ≡ result_unwrap_or r None → r ≡ Ok s
-    told_start (Ok x) s fine e = ap (λ y. Ok y) (sym e)
-    told_start (Err f) s fine e = absurd (cc)
 
 -- nothing changes at a comment in the tag section, or at a token between games
-pub puts_nothing : (old : ReaderState) (o : Option (List ℕ)) (n : ℕ) → PutResult old Skipped old (Ok More) (from_to o o n n)
+pub puts_nothing : (old : ReaderState) (o : Option (List ℕ)) (n : ℕ) → PutResult old (Agrees old) going old (Ok More) (from_to o o n n)
 puts_nothing old o n =
-    more_comes old old Skipped (from_to o o n n) (record { profile = refl; plies = omega arith; probes = le_refl old.most_probes }) (λ e. refl) refl
+    more_comes old old (Agrees old) going (from_to o o n n) (record { profile = refl; plies = omega arith; probes = le_refl old.most_probes }) (λ e. refl) refl
     (λ part agrees. record { leads = agrees; plies = omega arith; appended = subst (Appends o o) (sym (drop-length (torn old.profile part))) (Appends-nil o) })
 
 -- a bracket changes the stage alone
-pub puts_left_bracket : (tags levels : ℕ) (old new : ReaderState) (o : Option (List ℕ)) (n : ℕ) → Fits tags levels old PairOpen → new ≡ record old { stage = AfterLeftBracket }
-    → PutResult old PairOpen new (Ok More) (from_to o o n n)
-puts_left_bracket tags levels old new o n fits is =
-    steps old new PairOpen AfterTags AfterLeftBracket old.tags None o n is fits.0 (λ e. absurd (cc)) (λ e. absurd (cc)) (λ e. absurd (cc)) (λ part agrees. record {
+pub puts_left_bracket : (old new : ReaderState) (o : Option (List ℕ)) (n : ℕ) → old.stage ≡ AfterTags → new ≡ record old { stage = AfterLeftBracket }
+    → PutResult old (Agrees old) (to_stage AfterLeftBracket) new (Ok More) (from_to o o n n)
+puts_left_bracket old new o n at is =
+    steps old new (to_stage AfterLeftBracket) AfterTags AfterLeftBracket old.tags None o n is at (λ e. absurd (cc)) (λ e. absurd (cc)) (λ e. absurd (cc)) (λ part agrees. record {
       to = at_stage AfterLeftBracket part;
       leads = refl;
-      agrees = record { stage = refl; pairs = held_at old part AfterTags agrees fits.0; text = text_at old part AfterTags agrees fits.0 };
+      agrees = record { stage = refl; pairs = held_at old part AfterTags agrees at; text = text_at old part AfterTags agrees at };
     })
 
-pub puts_right_bracket : (tags levels : ℕ) (old new : ReaderState) (o : Option (List ℕ)) (n : ℕ) → Fits tags levels old PairClose → new ≡ record old { stage = AfterTags }
-    → PutResult old PairClose new (Ok More) (from_to o o n n)
-puts_right_bracket tags levels old new o n fits is =
-    steps old new PairClose AfterValue AfterTags old.tags None o n is fits (λ e. absurd (cc)) (λ e. absurd (cc)) (λ e. absurd (cc)) (λ part agrees. record {
+pub puts_right_bracket : (old new : ReaderState) (o : Option (List ℕ)) (n : ℕ) → old.stage ≡ AfterValue → new ≡ record old { stage = AfterTags }
+    → PutResult old (Agrees old) (to_stage AfterTags) new (Ok More) (from_to o o n n)
+puts_right_bracket old new o n at is =
+    steps old new (to_stage AfterTags) AfterValue AfterTags old.tags None o n is at (λ e. absurd (cc)) (λ e. absurd (cc)) (λ e. absurd (cc)) (λ part agrees. record {
       to = at_stage AfterTags part;
       leads = refl;
-      agrees = record { stage = refl; pairs = held_at old part AfterValue agrees fits; text = text_at old part AfterValue agrees fits };
+      agrees = record { stage = refl; pairs = held_at old part AfterValue agrees at; text = text_at old part AfterValue agrees at };
     })
 
-pub puts_name : (tags levels : ℕ) (old new : ReaderState) (name : Bor (List ℕ)) (held : TagPairs) (o : Option (List ℕ)) (n : ℕ) → Fits tags levels old (Name name)
-    → held ≡ record old.tags { pending_name = Some name.now } → new ≡ record old { stage = AfterName; tags = held } → PutResult old (Name name) new (Ok More) (from_to o o n n)
-puts_name tags levels old new name held o n fits begins is =
-    steps old new (Name name) AfterLeftBracket AfterName held None o n is fits.0 (λ e. absurd (cc)) (λ e. absurd (cc)) (λ e. absurd (cc)) (λ part agrees.
-    let pairs = held_at old part AfterLeftBracket agrees fits.0 in
+pub puts_name : (old new : ReaderState) (name : List ℕ) (held : TagPairs) (o : Option (List ℕ)) (n : ℕ) → old.stage ≡ AfterLeftBracket → has_pair old.tags.held name ≡ false
+    → held ≡ record old.tags { pending_name = Some name } → new ≡ record old { stage = AfterName; tags = held }
+    → PutResult old (Agrees old) (to_name name) new (Ok More) (from_to o o n n)
+puts_name old new name held o n at fresh begins is =
+    steps old new (to_name name) AfterLeftBracket AfterName held None o n is at (λ e. absurd (cc)) (λ e. absurd (cc)) (λ e. absurd (cc)) (λ part agrees.
+    let pairs = held_at old part AfterLeftBracket agrees at in
     record {
-      to = record { stage = AfterName; pairs = part.pairs; name = name.now; items = part.items };
+      to = record { stage = AfterName; pairs = part.pairs; name = name; items = part.items };
       leads = refl;
       agrees = record {
         stage = refl;
-        pairs = (begins ∙ ap (λ (t : TagPairs). record t { pending_name = Some name.now }) pairs, subst (λ (t : TagPairs). has_pair t.held name.now ≡ false) pairs fits.2);
-        text = text_at old part AfterLeftBracket agrees fits.0;
+        pairs = (begins ∙ ap (λ (t : TagPairs). record t { pending_name = Some name }) pairs, subst (λ (t : TagPairs). has_pair t.held name ≡ false) pairs fresh);
+        text = text_at old part AfterLeftBracket agrees at;
       };
     })

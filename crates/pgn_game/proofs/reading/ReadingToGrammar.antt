@@ -17,7 +17,7 @@ use Rattle.pgn_game.specs.FaultTable.{refusal, is_comment, in_name, is_result, i
 use Rattle.pgn_game.specs.Progress.{Next, next, going, whole}
 use Rattle.pgn_game.specs.Spells.{AreDropped, pair, SpellsPairs, no_pair, next_pair, by_name, IsSetUp, StandsFor, number, period, glyph, comment_open, word, comment_close, Names, new_level, level_after_move, SpellsText, no_more, token, move, variation, BeginsBare, IsResult, SpellsGame, SpellsGames, no_game, next_game}
 use Rattle.pgn_game.proofs.reading.RunsToEnd.{at, Runs, ends, goes, finishes}
-use Rattle.pgn_game.specs.Judgement.{or_else}
+use Rattle.pgn_game.specs.TokenInMovetext.{or_else}
 use Rattle.pgn_game.proofs.judging.RowsByStage.{test_failed, rest_passed, opening, opening_between, naming, valuing, is_textual, after_tags, leads_after_tags, between, leads_between, varying, unvarying, starring, symbol_fault, symbolic}
 use Rattle.pgn_game.proofs.reading.PairsInTurn.{with_pairs, Takes, taken}
 use Rattle.pgn_game.proofs.reading.MovetextTokens.{levels_more, stands_levels, differs, result_is, marked, other_score, symbol_next}

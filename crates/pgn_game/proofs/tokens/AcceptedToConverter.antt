@@ -21,7 +21,8 @@ use Rattle.pgn_game.specs.Progress.{Next, going, whole, next, Progress, progress
 use Rattle.pgn_game.specs.Due.{gain, Gains}
 use Rattle.pgn_game.specs.Levels.{plies_of}
 use Rattle.pgn_game.specs.ReaderState as reader_state
-use Rattle.pgn_game.specs.ReaderState.{ReaderState, Agrees, IsBehind, has_move, whole_plies, plies_next, Leads, Answers}
+use Rattle.pgn_game.specs.Text.{has_move}
+use Rattle.pgn_game.specs.ReaderState.{ReaderState, Agrees, IsBehind, whole_plies, plies_next, Leads, Answers}
 use Rattle.pgn_game.specs.ConverterCalls.{FinishedGame, finished_game_of, Converter, game_in_reader, game_in_reader_if, play_moves, has_played_move, HasRead, Stands, Stops, refused, unwritten, StopsWriting, AreNext, games_before, ProbesAtStop}
 use Rattle.pgn_game.specs.ConverterSteps.{SameGames, OneGame, AfterStep, outcome_at, finished_game, games_after, fault_of_step, StepAdvances}
 use Rattle.pgn_game.specs.MostTried.{MostTried, Raises, Tries, TriesUnwritten}

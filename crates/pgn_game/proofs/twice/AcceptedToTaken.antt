@@ -57,10 +57,6 @@ ends_apart : (part to : Part) (told : Option CodeMark) (at : ℕ) (k : Kind) →
 ends_apart part to None at k leads is some = absurd (cc)
 ends_apart part to (Some x) at k leads is some = ap (λ n. is_other (model_mark x) n (record { at = at; kind = k })) leads ∙ is
 
-or_true : (o : Option Reason) (b : Bool) → b ≡ true → (is_some o || b) ≡ true
-or_true None b h = h
-or_true (Some reason) b h = refl
-
 module _ (q : Profile) (part : Part) (told : Option CodeMark) (at : ℕ) (k : Kind) (marker : Option Marker) (old set new : ReaderState) (a c : Option (List ℕ))
     (takes : q.missing_result ≡ takes_the_marker) (counts : IsCounting q old.profile) (agrees : Agrees old part)
     (marker_is : option_map marker_text marker ≡ marker_of k) (set_is : set ≡ with_marker marker old) where

@@ -1,6 +1,6 @@
 -- The counts of a reading stay small, and fewer steps are left after each.
 use Rattle.std.proofs.Common.{◌≡◌, ℕ, ◌+◌, ◌-◌, ◌*◌, ◌<◌, ◌≤◌, zero, suc, Bool, true, false, List, [], ◌∷◌, length, Option, Result, Ok, Err, refl, sym, ap, subst, ◌∙◌, arith, ◌^◌, IfOk}
-use Rattle.pgn_lexer.specs.Standing.{Standing, waiting}
+use Rattle.pgn_lexer.specs.Standing.{waiting}
 use Rattle.pgn_game.specs.declared.checked.Mark.{Mark as CodeMark}
 use Rattle.pgn_game.specs.declared.checked.Taken.{Taken}
 use Rattle.pgn_game.specs.declared.checked.Taken.TheVariants.{More, Game as GameEnd, End}
@@ -104,17 +104,6 @@ module _ (told : Option CodeMark) (old new : Pass) (going : IsGoing old) where
             (omega (arith, plies, left.plies, sooner, count));
         under = left.under;
         fewer = omega (arith, until, count, sooner);
-      }
-
-  -- bytes were read
-  pub going_filled : IsTold told old.reading → IsGoing new → new.reading ≡ old.reading → new.lexer ≡ old.lexer → old.has_ended ≡ false → old.unused ≡ [] → until_read new.has_ended new.unused ≡ 0
-      → KeepsGoing told old new
-  going_filled under now same lexer not_ended empty read =
-      let before : until_read old.has_ended old.unused ≡ 1 = ap (λ b. until_read b old.unused) not_ended ∙ ap (until_read false) empty in
-      record {
-        going = now;
-        under = subst (IsTold told) (sym same) under;
-        fewer = omega (arith, before, read, ap (λ (l : Standing). l.count) lexer, ap waiting lexer);
       }
 
   -- so for each answer

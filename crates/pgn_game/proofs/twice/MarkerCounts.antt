@@ -19,7 +19,7 @@ use Rattle.pgn_game.specs.Progress.{Next, going, whole, at_stage, items_of, in_t
 use Rattle.pgn_game.specs.MostTried.{CostsUnlessRefused, Tries, added}
 use Rattle.pgn_game.specs.Movetext.{HoldsItems}
 use Rattle.pgn_game.specs.ReaderState.{ReaderState, Agrees, HoldsText, IsAccepted, Leads, is_outside_the_table}
-use Rattle.pgn_game.specs.Judgement.{game_of, or_else, with_items}
+use Rattle.pgn_game.specs.TokenInMovetext.{game_of, or_else, with_items}
 use Rattle.pgn_game.specs.Pass.{counting, reading_under}
 use Rattle.pgn_game.proofs.judging.RowsByStage.{naming, test_failed}
 use Rattle.pgn_game.proofs.judging.RefusalsInMovetext.{marker_whole, other_if, score_of}

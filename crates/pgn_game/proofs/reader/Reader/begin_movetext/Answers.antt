@@ -8,7 +8,7 @@ use Rattle.pgn_game.proofs.Words.{Stage, AfterTags, InMovetext, Pair, counts_as,
 use Rattle.pgn_game.specs.TagSection.{tag_section}
 use Rattle.pgn_game.specs.StoredPairs.{TagPairs}
 use Rattle.pgn_game.specs.ReaderState.{ReaderState, AreSound}
-use Rattle.pgn_game.specs.Judgement.{may_have_movetext}
+use Rattle.pgn_game.specs.TokenInMovetext.{may_have_movetext}
 use Rattle.pgn_game.specs.PutResult.{BeginsText, section_due, section_due_of}
 use Rattle.pgn_game.proofs.ReaderFitsInMemory.{reader_alike}
 use Rattle.pgn_game.proofs.ReaderPartsFitInMemory.{tags_fit}

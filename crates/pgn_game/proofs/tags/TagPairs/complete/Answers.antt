@@ -1,4 +1,4 @@
-use Rattle.std.proofs.Common.{ℕ, ◌+◌, ◌≤◌, List, length, ap, ◌∙◌, take, arith}
+use Rattle.std.proofs.Common.{◌+◌, ◌≤◌, length, ap, ◌∙◌, take, arith}
 use Rattle.pgn_layout.specs.TagLine.{escaped}
 use Rattle.pgn_game.proofs.pairs.SortedPairs.{named-last, completed, refill-all}
 use Rattle.pgn_game.specs.Pairs.{Pair}

@@ -1,0 +1,86 @@
+-- What a reader holds of a part that it agrees with, and where a token of movetext meets its table.
+use Rattle.std.proofs.Common.{◌≡◌, ℕ, List, [], Bool, false, Option, None, Some, Bor, refl, sym, ap, subst, ◌∙◌, IsTrue}
+use Rattle.std.specs.Option.{option_copied, is_some}
+use Rattle.std.proofs.lemmas.List.Elements.{All-nil}
+use Rattle.pgn_layout.specs.Lines.{IsToken}
+use Rattle.pgn_lexer.specs.Scanned.{kind_of}
+use Rattle.pgn_lexer.specs.declared.token.TokenKind.{TokenKind}
+use Rattle.pgn_game.proofs.Words.{Parts, Mode, Full, Reduced, Stage, AfterTags, InMovetext, Pair, value_of, has_pair, Item, Part}
+use Rattle.pgn_game.specs.StoredPairs.{TagPairs}
+use Rattle.pgn_game.specs.Levels.{start_of}
+use Rattle.pgn_game.specs.FaultTable.{is_left_bracket, is_end, lacks_fen}
+use Rattle.pgn_game.specs.Movetext.{Movetext, HoldsItems, movetext_from}
+use Rattle.pgn_game.specs.Text.{has_move}
+use Rattle.pgn_game.specs.ReaderState.{ReaderState, Agrees, HoldsPairs, HoldsText}
+use Rattle.pgn_game.specs.TokenInMovetext.{IsEntry, IsOpen, may_have_movetext}
+use Rattle.pgn_game.proofs.judging.RefusalsByStage.{row_in_movetext, next_in_movetext, row_after_tags, next_after_tags}
+
+-- The part is at the reader's stage, and what the reader holds of it there.
+pub part_stage : (old : ReaderState) (part : Part) (stage : Stage) → Agrees old part → old.stage ≡ stage → part.stage ≡ stage
+part_stage old part stage agrees at = sym agrees.stage ∙ at
+
+pub held_at : (old : ReaderState) (part : Part) (stage : Stage) → Agrees old part → old.stage ≡ stage → HoldsPairs stage old.tags part
+held_at old part stage agrees at = subst (λ (s : Stage). HoldsPairs s old.tags part) at agrees.pairs
+
+pub text_at : (old : ReaderState) (part : Part) (stage : Stage) → Agrees old part → old.stage ≡ stage → HoldsText stage old part
+text_at old part stage agrees at = subst (λ (s : Stage). HoldsText s old part) at agrees.text
+
+-- a call that found a value found it in the list, and one that found none did not
+pub has_pair_found : (ps qs : List Pair) (name : List ℕ) (found : Option (Bor (List ℕ))) (b : Bool) → ps ≡ qs → option_copied found ≡ value_of ps name → b ≡ is_some found
+    → has_pair qs name ≡ b
+has_pair_found ps qs name None b same copied is = ap (λ (l : List Pair). has_pair l name) (sym same) ∙ ap is_some (sym copied) ∙ sym is
+has_pair_found ps qs name (Some x) b same copied is = ap (λ (l : List Pair). has_pair l name) (sym same) ∙ ap is_some (sym copied) ∙ sym is
+
+-- the name that has begun is the part's
+pub begun_name : (tags : TagPairs) (part : Part) (name : List ℕ) → tags ≡ record { held = part.pairs; pending_name = Some part.name } → tags.pending_name ≡ Some name → name ≡ part.name
+begun_name tags part name is begun = let e : Some name ≡ Some part.name = sym begun ∙ ap (λ (t : TagPairs). t.pending_name) is in cc
+
+-- Movetext that has no item yet is held.
+nothing_held : (mode : Mode) (start : Parts) → HoldsItems mode start [] (movetext_from start) []
+nothing_held Full start = record { levels = refl; plies = refl; is_after_move = refl; tokens = All-nil IsToken; last = refl }
+nothing_held Reduced start = record { levels = refl; plies = refl; is_after_move = refl; tokens = All-nil IsToken; last = refl }
+
+held_none : (mode : Mode) (start : Parts) (items : List Item) (text : Movetext) (line : List ℕ) → items ≡ [] → text ≡ movetext_from start → line ≡ []
+    → HoldsItems mode start items text line
+held_none mode start items text line none begins_game empty = rw (none, begins_game, empty) (nothing_held mode start)
+
+-- Where movetext can begin or goes on, it is open.
+open_at : (old : ReaderState) (part : Part) (stage : Stage) → Agrees old part → old.stage ≡ stage → IsTrue (may_have_movetext stage) → IsOpen old part
+open_at old part AfterTags agrees at is =
+    let text = text_at old part AfterTags agrees at in
+    record {
+      stage = agrees.stage;
+      pairs = held_at old part AfterTags agrees at;
+      fresh = λ e. text.0;
+      held = held_none old.profile.mode (start_of part.pairs) part.items old.text old.line text.0 text.1 text.2;
+      probed = λ has. let h : IsTrue (has_move []) = subst (λ (is : List Item). IsTrue (has_move is)) text.0 has in absurd (cc);
+    }
+open_at old part InMovetext agrees at is =
+    let text = text_at old part InMovetext agrees at in
+    record {
+      stage = agrees.stage;
+      pairs = held_at old part InMovetext agrees at;
+      fresh = λ e. let h : InMovetext ≡ AfterTags = sym at ∙ e in absurd (cc);
+      held = text.0;
+      probed = text.1;
+    }
+open_at old part _ agrees at is = absurd (cc)
+
+pub open_agrees : (old : ReaderState) (part : Part) → Agrees old part → IsTrue (may_have_movetext old.stage) → IsOpen old part
+open_agrees old part agrees is = open_at old part old.stage agrees refl is
+
+-- The table and the step of movetext are those of a token in it, and of the first one.
+pub entry_in_movetext : (old : ReaderState) (k : TokenKind) (part : Part) → old.stage ≡ InMovetext → Agrees old part → IsEntry old (kind_of k) part
+entry_in_movetext old k part at agrees =
+    let there = part_stage old part InMovetext agrees at in
+    record { is_open = open_agrees old part agrees (ap may_have_movetext at); row = row_in_movetext old.profile part k there; leads = next_in_movetext part k there }
+
+pub entry_after_tags : (old : ReaderState) (k : TokenKind) (part : Part) → old.stage ≡ AfterTags → is_left_bracket (kind_of k) ≡ false → is_end (kind_of k) ≡ false
+    → lacks_fen part.pairs ≡ false → Agrees old part → IsEntry old (kind_of k) part
+entry_after_tags old k part at bracket over free agrees =
+    let there = part_stage old part AfterTags agrees at in
+    record {
+      is_open = open_agrees old part agrees (ap may_have_movetext at);
+      row = row_after_tags old.profile part k there bracket over free;
+      leads = next_after_tags part k there bracket over;
+    }

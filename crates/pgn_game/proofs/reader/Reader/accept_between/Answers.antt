@@ -1,0 +1,34 @@
+use Rattle.std.proofs.Common.{◌≡◌, ◌||◌, Bool, true, refl, sym, ap, subst, ◌∙◌, arith}
+use Rattle.std.proofs.lemmas.Bool.{or_right}
+use Rattle.pgn_lexer.specs.Scanned.{kind_of}
+use Rattle.pgn_game.specs.FaultTable.{is_comment, is_end}
+use Rattle.pgn_game.specs.ReaderState.{ReaderState}
+use Rattle.pgn_game.specs.PutResult.{TakesOutside}
+use Rattle.pgn_game.proofs.ReaderFitsInMemory.{reader_alike}
+use Rattle.pgn_game.proofs.tokens.PutToAnswer.{passes_first, takes_outside_first}
+use Rattle.pgn_game.proofs.reader.Reader.accept_between.Goals as goal
+use Rattle.pgn_game.proofs.reader.Reader.accept_between.Goals.{then-is_comment-via-then-is_comment, then-is_comment-via-else-is_comment+then-is_end}
+
+pub begin_game-requires : goal.begin_game-requires
+begin_game-requires g c = (search reader_alike, omega (arith, c.requires.few))
+
+pub accept_after_tags-requires : goal.accept_after_tags-requires
+accept_after_tags-requires g c =
+    let begins = c.begin_game.ensures in
+    (search reader_alike, ap (λ (r : ReaderState). r.stage) begins)
+
+pub returns-then-is_comment : goal.returns-then-is_comment
+returns-then-is_comment g c =
+    let k = kind_of c.args.kind in
+    let bare : (is_comment k || is_end k) ≡ true = elim c.then-is_comment.branch [
+      | then-is_comment-via-then-is_comment w ↦ ap (λ (b : Bool). b || is_end k) (sym c.is_comment.ensures ∙ w.if-is_comment.true)
+      | then-is_comment-via-else-is_comment+then-is_end w ↦ or_right (is_comment k) (is_end k) (sym w.is_end.ensures ∙ w.if-is_end.true)
+    ] in
+    λ o m. passes_first c.args.self.now _ c.args.kind o m refl c.requires.stage bare
+
+pub returns : goal.returns
+returns g c =
+    let old = c.args.self.now in
+    let k = kind_of c.args.kind in
+    takes_outside_first old _ c.args.kind c.accept_after_tags.result c.requires.stage (sym c.is_comment.ensures ∙ c.if-is_comment.false) (sym c.is_end.ensures ∙ c.if-is_end.false)
+    (subst (λ (r : ReaderState). TakesOutside r k c.accept_after_tags.new.self c.accept_after_tags.result) c.begin_game.ensures c.accept_after_tags.ensures)

@@ -1,0 +1,87 @@
+use Rattle.std.proofs.Common.{◌∷◌, [], inl, inr, IsTrue, refl, sym, ap, subst, ◌∙◌, arith, Err}
+use Rattle.std.proofs.lemmas.Result.{err_from_is_err_and}
+use Rattle.std.proofs.Math.Nat.{le-max_right}
+use Rattle.chess_rules.specs.Legal.{is_legal}
+use Rattle.pgn_game.proofs.Words.{InMovetext}
+use Rattle.pgn_game.specs.Game.{move}
+use Rattle.pgn_game.specs.Movetext.{Movetext}
+use Rattle.pgn_game.specs.ReaderState.{ReaderState}
+use Rattle.pgn_game.specs.TokenInMovetext.{may_have_movetext}
+use Rattle.pgn_game.specs.ItemResult.{TriesItem}
+use Rattle.pgn_game.proofs.ReaderFitsInMemory.{reader_alike}
+use Rattle.pgn_game.proofs.ReaderPartsFitInMemory.{text_fits}
+use Rattle.pgn_game.proofs.putting.ItemToReader.{begins_as, fails_move, most_after, puts_move, puts_unbegun, text_begun, unbegun_part}
+use Rattle.pgn_game.proofs.tokens.PairsTriedForToken.{adds_move}
+use Rattle.pgn_game.proofs.tokens.PutToAnswer.{move_refused, takes_move}
+use Rattle.pgn_game.proofs.reader.Reader.accept_move.Goals as goal
+
+pub find-requires : goal.find-requires
+find-requires g c = (search reader_alike, c.new-probes.ensures)
+
+pub begin_movetext-requires : goal.begin_movetext-requires
+begin_movetext-requires g c = (search reader_alike, subst (λ (r : ReaderState). IsTrue (may_have_movetext r.stage)) (sym c.find.ensures.counted) c.requires.stage)
+
+pub put_move-put-requires : goal.put_move-put-requires
+put_move-put-requires g c =
+    let finds = c.in-Ok.ensures in
+    let text = text_begun c.find.new.self _ _ _ c.self.view_is c.in_ok-begin_movetext-in-Ok.ensures.begins ∙ ap (λ (r : ReaderState). r.text) finds.counted in (
+      search text_fits,
+      (
+        subst (λ (t : Movetext). IsTrue (is_legal t.levels.present.present c.in-Ok.mv)) (sym text) finds.legal,
+        (omega (arith, c.requires.few, ap (λ (t : Movetext). t.plies) text), omega (arith, finds.few)),
+      ),
+    )
+
+pub invariant_of-self : goal.invariant_of-self
+invariant_of-self g c = c.self.invariant
+
+pub count_probes-requires : goal.count_probes-requires
+count_probes-requires g c = (search reader_alike, omega (arith, c.put_move-put.ensures.probes, c.in-Ok.ensures.few))
+
+pub returns-in-Err : goal.returns-in-Err
+returns-in-Err g c =
+    move_refused c.args.self.now c.find.new.self c.args.text.now _ c.requires.stage c.requires.number c.requires.score c.in-Err.reason _ _ c.in-Err.ensures
+
+pub returns-in_err-begin_movetext-in-Ok : goal.returns-in_err-begin_movetext-in-Ok
+returns-in_err-begin_movetext-in-Ok g c =
+    let old = c.args.self.now in
+    let finds = c.in-Ok.ensures in
+    let p = err_from_is_err_and c.from_residual.result c.from_residual.ensures.1 in
+    let begins = c.in_err-begin_movetext-in-Ok.ensures.begins in
+    let may = subst (λ (r : ReaderState). IsTrue (may_have_movetext r.stage)) (sym finds.counted) c.requires.stage in
+    rw (p.1 ∙ ap Err p.2)
+    (takes_move old c.find.new.self c.args.text.now _ c.requires.stage c.requires.number c.requires.score _ c.in-Ok.mv _ _ _ finds
+    (puts_unbegun c.find.new.self _ (move c.in-Ok.mv ∷ []) c.in_err-begin_movetext-in-Ok.field-0.0 _ may begins) tt
+    (begins.probes ∙ ap (λ (r : ReaderState). r.most_probes) finds.counted)
+    (λ part is. inr (unbegun_part c.find.new.self _ c.in_err-begin_movetext-in-Ok.field-0.0 _ part may begins (ap (λ (r : ReaderState). r.stage) finds.counted ∙ is.stage), refl)))
+
+pub returns-in_err-put-in-Ok : goal.returns-in_err-put-in-Ok
+returns-in_err-put-in-Ok g c =
+    let old = c.args.self.now in
+    let finds = c.in-Ok.ensures in
+    let p = err_from_is_err_and c.from_residual-in_err-put-in-Ok.result c.from_residual-in_err-put-in-Ok.ensures.1 in
+    let begins = begins_as c.find.new.self _ _ _ c.self.view_is c.in_ok-begin_movetext-in-Ok.ensures.begins in
+    let may = subst (λ (r : ReaderState). IsTrue (may_have_movetext r.stage)) (sym finds.counted) c.requires.stage in
+    let put = c.in_err-put-in-Ok.ensures in
+    let tries = subst (λ (r : ReaderState). TriesItem r.profile.mode r.text (move c.in-Ok.mv) c.find.new.probes c.put_move-put.new.probes)
+    (begins.begun ∙ ap (λ (r : ReaderState). record r { stage = InMovetext }) finds.counted) put.tried in
+    rw (p.1 ∙ ap Err p.2)
+    (takes_move old c.find.new.self c.args.text.now _ c.requires.stage c.requires.number c.requires.score c.count_probes.new.self c.in-Ok.mv _ _ _ finds
+    (fails_move c.find.new.self _ c.count_probes.new.self c.in-Ok.mv _ may begins c.count_probes.ensures c.in_err-put-in-Ok.field-0.0 put.adds) tt
+    (omega (arith, most_after c.find.new.self _ c.count_probes.new.self _ _ _ _ begins c.count_probes.ensures, ap (λ (r : ReaderState). r.most_probes) finds.counted, c.put_move-put.ensures.probes))
+    (λ part is. inl (adds_move old part c.in-Ok.mv _ _ is tries)))
+
+pub returns-in_ok-put-in-Ok : goal.returns-in_ok-put-in-Ok
+returns-in_ok-put-in-Ok g c =
+    let old = c.args.self.now in
+    let finds = c.in-Ok.ensures in
+    let begins = begins_as c.find.new.self _ _ _ c.self.view_is c.in_ok-begin_movetext-in-Ok.ensures.begins in
+    let may = subst (λ (r : ReaderState). IsTrue (may_have_movetext r.stage)) (sym finds.counted) c.requires.stage in
+    let put = c.in_ok-put-in-Ok.ensures in
+    let tries = subst (λ (r : ReaderState). TriesItem r.profile.mode r.text (move c.in-Ok.mv) c.find.new.probes c.put_move-put.new.probes)
+    (begins.begun ∙ ap (λ (r : ReaderState). record r { stage = InMovetext }) finds.counted) put.tried in
+    takes_move old c.find.new.self c.args.text.now _ c.requires.stage c.requires.number c.requires.score c.count_probes.new.self c.in-Ok.mv _ _ _ finds
+    (puts_move c.find.new.self _ c.count_probes.new.self c.in-Ok.mv _ may begins c.count_probes.ensures
+    (omega (arith, finds.some, ap (λ (r : ReaderState). r.most_probes) finds.counted, le-max_right old.most_probes c.find.new.probes)) put.adds) tt
+    (omega (arith, most_after c.find.new.self _ c.count_probes.new.self _ _ _ _ begins c.count_probes.ensures, ap (λ (r : ReaderState). r.most_probes) finds.counted, c.put_move-put.ensures.probes))
+    (λ part is. adds_move old part c.in-Ok.mv _ _ is tries)

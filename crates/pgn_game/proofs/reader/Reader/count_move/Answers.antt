@@ -1,0 +1,17 @@
+use Rattle.std.proofs.Common.{sym, ◌∙◌}
+use Rattle.pgn_game.proofs.ReaderFitsInMemory.{reader_alike}
+use Rattle.pgn_game.proofs.tokens.PutToAnswer.{move_counted, no_symbol_counted, plain_counted}
+use Rattle.pgn_game.proofs.reader.Reader.count_move.Goals as goal
+
+pub find-requires : goal.find-requires
+find-requires g c = (search reader_alike, c.new-probes.ensures)
+
+pub returns-in_default : goal.returns-in_default
+returns-in_default g c = no_symbol_counted c.args.self.now c.args.kind c.in_default.not-Symbol
+
+pub returns-then-is_score_or_number : goal.returns-then-is_score_or_number
+returns-then-is_score_or_number g c = rw c.in-Symbol.is (plain_counted c.args.self.now c.in-Symbol.text.now (sym c.is_score_or_number.ensures ∙ c.if-is_score_or_number.true))
+
+pub returns : goal.returns
+returns g c =
+    rw c.in-Symbol.is (move_counted c.args.self.now _ c.in-Symbol.text.now _ _ c.requires (sym c.is_score_or_number.ensures ∙ c.if-is_score_or_number.false) c.find.ensures)

@@ -1,0 +1,50 @@
+use Rattle.std.proofs.Common.{◌≡◌, ◌-◌, length, not, refl, sym, ap, ◌∙◌, arith, is_some}
+use Rattle.std.proofs.lemmas.Bool.{le-leb, lt-leb}
+use Rattle.pgn_lexer.specs.Tokens.{left_paren}
+use Rattle.pgn_game.specs.declared.item.Item.TheVariants.{Open}
+use Rattle.pgn_game.specs.declared.reason.Reason.TheVariants.{NoMoveBefore, TooDeep}
+use Rattle.pgn_game.specs.Levels.{depth}
+use Rattle.pgn_game.specs.FaultTable.{levels_of_part}
+use Rattle.pgn_game.specs.ReaderState.{ReaderState}
+use Rattle.pgn_game.proofs.ReaderFitsInMemory.{reader_alike}
+use Rattle.pgn_game.proofs.judging.RefusalsByStage.{hit, pass}
+use Rattle.pgn_game.proofs.judging.RefusalsInMovetext.{holds_is, depth_is}
+use Rattle.pgn_game.proofs.tokens.PutToAnswer.{entry_refused, item_entry}
+use Rattle.pgn_game.proofs.reader.Reader.open_variation.Goals as goal
+
+pub returns-then-not-has_own_move : goal.returns-then-not-has_own_move
+returns-then-not-has_own_move g c =
+    let old = c.args.self.now in
+    entry_refused old left_paren NoMoveBefore _ _ refl (λ part is.
+    hit _ _ _ (ap not (sym (holds_is old part is) ∙ sym (ap (λ (r : ReaderState). is_some r.text.levels.present.before) c.self.view_is) ∙ sym c.has_own_move.ensures) ∙ ap not c.if-not-has_own_move.true))
+    (λ part. refl)
+
+pub returns-then-depth : goal.returns-then-depth
+returns-then-depth g c =
+    let old = c.args.self.now in
+    let v = c.self.view_is in
+    let most : g.row.L - 1 ≡ old.profile.depth = ap (λ (r : ReaderState). r.profile.depth) v in
+    entry_refused old left_paren TooDeep _ _ refl (λ part is.
+    pass _ _ _ (ap not (sym (holds_is old part is) ∙ sym (ap (λ (r : ReaderState). is_some r.text.levels.present.before) v) ∙ sym c.has_own_move.ensures) ∙ ap not c.if-not-has_own_move.false)
+    ∙ hit _ _ _ (le-leb old.profile.depth (depth (levels_of_part part))
+    (omega (arith, most, c.if-depth.true, c.depth.ensures.value, depth_is old part is, ap (λ (r : ReaderState). length r.text.levels.around) v))))
+    (λ part. refl)
+
+pub put-requires : goal.put-requires
+put-requires g c =
+    let v = c.self.view_is in
+    let some = sym (ap (λ (r : ReaderState). is_some r.text.levels.present.before) v) ∙ sym c.has_own_move.ensures ∙ c.if-not-has_own_move.false in
+    (search reader_alike, (c.requires, (some, omega (arith, c.if-depth.false, c.depth.ensures.value, ap (λ (r : ReaderState). length r.text.levels.around) v))))
+
+pub returns : goal.returns
+returns g c =
+    let old = c.args.self.now in
+    let v = c.self.view_is in
+    let most : g.row.L - 1 ≡ old.profile.depth = ap (λ (r : ReaderState). r.profile.depth) v in
+    let some = sym (ap (λ (r : ReaderState). is_some r.text.levels.present.before) v) ∙ sym c.has_own_move.ensures ∙ c.if-not-has_own_move.false in
+    item_entry old _ left_paren Open _ _ c.put.ensures (λ part is. (
+      pass _ _ _ (ap not (sym (holds_is old part is) ∙ some))
+          ∙ pass _ _ _ (lt-leb old.profile.depth (depth (levels_of_part part))
+          (omega (arith, most, c.if-depth.false, c.depth.ensures.value, depth_is old part is, ap (λ (r : ReaderState). length r.text.levels.around) v))),
+      refl,
+    )) (λ part. refl)

@@ -1,0 +1,53 @@
+use Rattle.std.proofs.Common.{refl, ap, subst, sym, ◌∙◌, arith, Err}
+use Rattle.std.proofs.lemmas.Result.{err_from_is_err_and}
+use Rattle.pgn_game.specs.Movetext.{Movetext}
+use Rattle.pgn_game.specs.TokenInMovetext.{ItemFits, model_item}
+use Rattle.pgn_game.proofs.ReaderFitsInMemory.{reader_alike}
+use Rattle.pgn_game.proofs.ReaderPartsFitInMemory.{text_fits}
+use Rattle.pgn_game.proofs.putting.ItemToMovetext.{no_move}
+use Rattle.pgn_game.proofs.putting.ItemToReader.{begins_as, fails_item, puts_item, puts_unbegun, text_begun}
+use Rattle.pgn_game.proofs.reader.Reader.put.Goals as goal
+
+pub begin_movetext-requires : goal.begin_movetext-requires
+begin_movetext-requires g c = (search reader_alike, c.requires.stage)
+
+pub put-requires : goal.put-requires
+put-requires g c =
+    let text = text_begun c.args.self.now _ _ _ c.self.view_is c.in_ok-begin_movetext.ensures.begins in
+    (search text_fits, subst (λ (t : Movetext). ItemFits g.row.L t c.args.item) (sym text) c.requires.fits)
+
+pub invariant_of-self : goal.invariant_of-self
+invariant_of-self g c = c.self.invariant
+
+pub returns-in_err-begin_movetext : goal.returns-in_err-begin_movetext
+returns-in_err-begin_movetext g c =
+    let p = err_from_is_err_and c.from_residual.result c.from_residual.ensures.1 in
+    let begins = c.in_err-begin_movetext.ensures.begins in
+    rw (p.1 ∙ ap Err p.2)
+    (record { puts = puts_unbegun c.args.self.now _ _ c.in_err-begin_movetext.field-0.0 _ c.requires.stage begins; goes_on = tt; probes = begins.probes })
+
+pub returns-in_err-put : goal.returns-in_err-put
+returns-in_err-put g c =
+    let old = c.args.self.now in
+    let i = c.args.item in
+    let p = err_from_is_err_and c.from_residual-in_err-put.result c.from_residual-in_err-put.ensures.1 in
+    let begins = begins_as old _ _ _ c.self.view_is c.in_ok-begin_movetext.ensures.begins in
+    rw (p.1 ∙ ap Err p.2)
+    (record {
+      puts = fails_item old _ _ (model_item i) _ _ _ _ _ _ c.requires.stage begins
+          (record { profile = refl; stage = refl; tags = refl; earlier = refl; probes = omega arith }) c.in_err-put.field-0.0 c.in_err-put.ensures;
+      goes_on = tt;
+      probes = begins.probes;
+    })
+
+pub returns : goal.returns
+returns g c =
+    let old = c.args.self.now in
+    let i = c.args.item in
+    let begins = begins_as old _ _ _ c.self.view_is c.in_ok-begin_movetext.ensures.begins in
+    record {
+      puts = puts_item old _ _ (model_item i) _ _ _ _ _ _ c.requires.stage begins
+          (record { profile = refl; stage = refl; tags = refl; earlier = refl; probes = omega arith }) (λ is. absurd (cc (no_move i))) c.in_ok-put.ensures;
+      goes_on = tt;
+      probes = begins.probes;
+    }

@@ -1,0 +1,365 @@
+-- From what putting a token results in, and from its row of the table, to what the reader answers.
+use Rattle.std.proofs.Common.{◌≡◌, ◌⊎◌, inl, inr, ℕ, ◌+◌, ◌<◌, max, true, false, ◌||◌, [], ◌∷◌, List, length, drop, Option, None, Some, Bor, Result, Ok, Err, IsFalse, IsTrue, is_some, refl, sym, ap, subst, ◌∙◌, arith}
+use Rattle.std.proofs.Math.Nat.{le-max_left}
+use Rattle.std.proofs.lemmas.Bool.{false≢true, or_parts}
+use Rattle.std.specs.Option.{ok_or}
+use Rattle.chess_rules.specs.declared.position.Move.{Move}
+use Rattle.chess_rules.specs.Legal.{legal}
+use Rattle.chess_text.specs.MoveOfForm.{with_next}
+use Rattle.std.specs.Io.KnownBytes.{Appends}
+use Rattle.std.proofs.KnownBytes.{Appends-nil}
+use Rattle.pgn_layout.specs.Device.{AppendsFront, Device}
+use Rattle.pgn_lexer.specs.Scanned.{kind_of}
+use Rattle.pgn_lexer.specs.declared.token.TokenKind.{TokenKind}
+use Rattle.pgn_lexer.specs.declared.token.TokenKind.TheVariants as variants
+use Rattle.pgn_lexer.specs.Tokens.{symbol}
+use Rattle.pgn_game.specs.declared.accepted.Accepted.{Accepted}
+use Rattle.pgn_game.specs.declared.accepted.Accepted.TheVariants.{More, Finished}
+use Rattle.pgn_game.specs.declared.item.Item.{Item as CodeItem}
+use Rattle.pgn_game.specs.declared.marker.Marker.{Marker}
+use Rattle.pgn_game.specs.Markers.{marker_text}
+use Rattle.pgn_game.specs.Chess.{move_of}
+use Rattle.pgn_game.specs.FoundMove.{found_in}
+use Rattle.pgn_game.specs.Game.{move}
+use Rattle.pgn_game.proofs.Words.{Parts, Played, Kind, IllegalMove, Reason, Stage, Between, AfterTags, InMovetext, Profile, Item, Part, no_part}
+use Rattle.pgn_game.specs.Text.{torn}
+use Rattle.pgn_game.specs.FaultTable.{refusal, is_at, is_comment, is_end, is_number, is_outside_tag_pairs, is_score, levels_of_part, marker_of, position_in}
+use Rattle.pgn_game.specs.Levels.{depth}
+use Rattle.pgn_game.specs.Progress.{Next, going, at_stage, in_text, next}
+use Rattle.pgn_game.specs.Due.{gain, text_next}
+use Rattle.pgn_game.specs.MostTried.{CostsToFind, CostsToAdd, CostsUnlessRefused, Raises, Tries, TriesUnwritten, added}
+use Rattle.pgn_game.specs.MostTried as tried
+use Rattle.pgn_game.specs.ReaderState as reader_state
+use Rattle.pgn_game.specs.ReaderState.{ReaderState, Agrees, Answers, IsStopped, CountsStop, is_outside_the_table, Stays, FinishesAtMarker, Leads, plies_behind, plies_next, whole_plies}
+use Rattle.pgn_game.specs.TokenInMovetext.{IsEntry, IsOpen, may_have_movetext, model_item, text_refusal, with_items}
+use Rattle.pgn_game.specs.PutResult.{CountsMove, EntersMovetext, Finds, FinishesNone, GoesTo, PutResult, PutsItems, Takes, TakesEntry, TakesOutside, TakesToken, TakesUnwritten, at_game_start, counting_probes, unused}
+use Rattle.pgn_game.proofs.judging.RefusalsByStage.{begins_alike, comment_passes, passes_between}
+use Rattle.pgn_game.proofs.judging.RefusalsInMovetext.{marker_whole, move_free, move_leads, move_refused as move_row_refused, refused_inside}
+use Rattle.pgn_game.proofs.judging.RowsByStage.{drops_comments}
+use Rattle.pgn_game.proofs.judging.ReaderToPart.{held_at, open_agrees, text_at, part_stage}
+use Rattle.pgn_game.proofs.putting.ItemToReader.{to_items}
+use Rattle.pgn_game.proofs.putting.MarkerToReader.{to_game}
+use Rattle.pgn_game.proofs.putting.PairStepToReader.{no_torn, puts_nothing}
+use Rattle.pgn_game.proofs.tokens.PairsTriedForToken.{CostsToPut, TriesPut, adds_item, adds_none, adds_same, costs_found, marker_untried, plain_untried, tries_put, untried_in_pair}
+
+-- where no pair is tried, the count stays
+pub counting_none : (old : ReaderState) → old ≡ counting_probes old 0
+counting_none old = let same : old.most_probes ≡ max old.most_probes 0 = omega arith in ap (λ (n : ℕ). record old { most_probes = n }) same
+
+-- Rejections.
+
+-- a rejection counts no failure
+pub counts_refused : (reason : Reason) (n : ℕ) → IsFalse (is_outside_the_table reason) → CountsStop (is_outside_the_table reason) reason n n
+counts_refused reason n h = subst (λ b. CountsStop b reason n n) (sym h) refl
+
+pub refused_after : (old new : ReaderState) (IsOf : Part → Type 0) (k : Kind) (reason : Reason) (n : ℕ) (o : Option (List ℕ)) (m : ℕ) → new ≡ counting_probes old n
+    → IsFalse (is_outside_the_table reason) → ((part : Part) → IsOf part → refusal old.profile part k ≡ Some reason) → ((part : Part) → IsOf part → CostsToFind part k n)
+    → Takes old IsOf k new (Err reason) (unused o m)
+refused_after old new IsOf k reason n o m counted inside why costs = record {
+  accepts = λ part is.
+      reader_state.refused reason (why part is) (Appends-nil o)
+      (record {
+        tried = n;
+        allowed = record {
+          found = n;
+          finds = costs part is;
+          writes = subst (λ (x : Option Reason). CostsUnlessRefused x old.profile.mode (depth (levels_of_part part)) (position_in part) (added part (next part k)) n n) (sym (why part is)) refl;
+        };
+        most = ap (λ (r : ReaderState). r.most_probes) counted;
+      });
+  keeps = record {
+    profile = ap (λ (r : ReaderState). r.profile) counted;
+    plies = omega (arith, ap (λ (r : ReaderState). r.earlier_plies) counted, ap (λ (r : ReaderState). r.text.plies) counted);
+    probes = omega (arith, ap (λ (r : ReaderState). r.most_probes) counted, le-max_left old.most_probes n);
+  };
+  stays = tt;
+  finished = tt;
+  counted = counts_refused reason m inside;
+}
+
+-- in movetext, where no pair was tried
+pub entry_refused : (old : ReaderState) (k : Kind) (reason : Reason) (o : Option (List ℕ)) (m : ℕ) → IsFalse (is_outside_the_table reason)
+    → ((part : Part) → IsOpen old part → text_refusal old.profile part k ≡ Some reason) → ((part : Part) → CostsToFind part k 0) → TakesEntry old k old (Err reason) (unused o m)
+entry_refused old k reason o m inside why costs =
+    refused_after old old (IsEntry old k) k reason 0 o m (counting_none old) inside (λ part is. is.row ∙ why part is.is_open) (λ part is. costs part)
+
+-- Tokens that are put.
+
+-- what was put after the move of a token was sought is what the reader answers
+module _ (old counted new : ReaderState) (part : Part) (k : Kind) (to : Next) (d : Device) (n more : ℕ) (same : counted ≡ counting_probes old n)
+    (says : (refusal old.profile part k ≡ None) × (next part k ≡ to)) (finds : CostsToFind part k n) (most : new.most_probes ≡ max old.most_probes more) where
+  gain_is : drop (length (torn counted.profile part)) (text_next counted.profile to) ≡ gain old.profile part k
+  gain_is =
+      ap (λ (r : ReaderState). drop (length (torn r.profile part)) (text_next r.profile to)) same
+      ∙ ap (λ (x : Next). drop (length (torn old.profile part)) (text_next old.profile x)) (sym says.1)
+
+  tries : CostsToPut old.profile part to n more → Tries old.profile part k more
+  tries costs = record {
+    found = n;
+    finds = finds;
+    writes = subst (λ (o : Option Reason). CostsUnlessRefused o old.profile.mode (depth (levels_of_part part)) (position_in part) (added part (next part k)) n more) (sym says.0)
+        (subst (λ (x : Next). CostsToPut old.profile part x n more) (sym says.1) costs);
+  }
+
+  unwritten : CostsToPut old.profile part to n more ⊎ ((is_at InMovetext part ≡ false) × (more ≡ n)) → TriesUnwritten old.profile part k more
+  unwritten (inl costs) = tried.at_token (tries costs)
+  unwritten (inr (before, none)) = tried.in_section before (subst (CostsToFind part k) (sym none) finds)
+
+  answers : (r : Result Accepted Reason) → GoesTo counted part to new r d → TriesPut old.profile part to r n more → Answers old part k new r d.before d.after
+  answers (Ok accepted) goes costs = record {
+    free = says.0;
+    leads = subst (λ (x : Next). Leads x accepted new) (sym says.1) goes.leads;
+    plies = goes.plies ∙ ap (λ n. n + plies_next to) (ap whole_plies same) ∙ ap (λ (x : Next). whole_plies old + plies_next x) (sym says.1);
+    appended = subst (Appends d.before d.after) gain_is goes.appended;
+    tried = record { tried = more; allowed = tries costs; most = most };
+  }
+  answers (Err reason) (is, front) costs =
+      subst (λ (r : Reason). IsStopped old part k new d.before d.after r) (sym is)
+      (reader_state.unwritten says.0 (subst (AppendsFront d.before d.after) gain_is front) (record { tried = more; allowed = unwritten costs; most = most }))
+
+-- so for each part
+pub takes_put : (old counted new : ReaderState) (IsOf IsPut : Part → Type 0) (k : Kind) (to : Part → Next) (r : Result Accepted Reason) (d : Device) (n more : ℕ)
+    → counted ≡ counting_probes old n → PutResult counted IsPut to new r d → FinishesAtMarker k new r → (counted.stage ≡ Between → counted ≡ old)
+    → new.most_probes ≡ max old.most_probes more → ((part : Part) → IsOf part → IsPut part)
+    → ((part : Part) → IsOf part → (refusal old.profile part k ≡ None) × (next part k ≡ to part))
+    → ((part : Part) → IsOf part → CostsToFind part k n) → ((part : Part) → IsOf part → TriesPut old.profile part (to part) r n more) → Takes old IsOf k new r d
+takes_put old counted new IsOf IsPut k to r d n more same puts finished closed most sub says finds costs = record {
+  accepts = λ part is. answers old counted new part k (to part) d n more same (says part is) (finds part is) most r (puts.goes part (sub part is)) (costs part is);
+  keeps = record {
+    profile = puts.keeps.profile ∙ ap (λ (r : ReaderState). r.profile) same;
+    plies = omega (arith, puts.keeps.plies, ap (λ (r : ReaderState). r.earlier_plies) same, ap (λ (r : ReaderState). r.text.plies) same);
+    probes = omega (arith, puts.keeps.probes, ap (λ (r : ReaderState). r.most_probes) same, le-max_left old.most_probes n);
+  };
+  stays = stays_with r puts.stays;
+  finished = finished;
+  counted = puts.counted;
+}
+  where
+    stays_with : (r : Result Accepted Reason) → Stays counted new r → Stays old new r
+    stays_with (Ok More) stays = λ at. let then = stays at in then ∙ closed (ap (λ (r : ReaderState). r.stage) (sym then) ∙ at)
+    stays_with (Ok Finished) stays = tt
+    stays_with (Err reason) stays = tt
+
+-- only a marker finishes a game
+finishes_none : (k : Kind) (new : ReaderState) (r : Result Accepted Reason) → FinishesNone r → FinishesAtMarker k new r
+finishes_none k new (Ok More) none = tt
+finishes_none k new (Ok Finished) none = absurd none
+finishes_none k new (Err reason) none = tt
+
+-- A step of a tag pair, and a token that changes nothing.
+pub takes_step : (old new : ReaderState) (k : Kind) (to : Part → Next) (o : Option (List ℕ)) (m : ℕ) → PutResult old (Agrees old) to new (Ok More) (unused o m)
+    → new.most_probes ≡ old.most_probes → ((part : Part) → Agrees old part → (refusal old.profile part k ≡ None) × (next part k ≡ to part))
+    → ((part : Part) → Agrees old part → CostsToFind part k 0) → ((part : Part) → CostsToPut old.profile part (to part) 0 0) → TakesToken old k new (Ok More) (unused o m)
+takes_step old new k to o m puts most says finds costs =
+    takes_put old old new (Agrees old) (Agrees old) k to (Ok More) (unused o m) 0 0 (counting_none old) puts tt (λ at. refl) (omega (arith, most)) (λ part is. is) says finds
+    (λ part is. costs part)
+
+-- Tokens of a tag pair, at one of its stages.
+module _ (old new : ReaderState) (k : Kind) (stage : Stage) (at : old.stage ≡ stage) (inside : (q : Part) → is_outside_tag_pairs (at_stage stage q) ≡ false) where
+  untried : (part : Part) → Agrees old part → CostsToFind part k 0
+  untried part agrees = untried_in_pair part k (ap (λ (s : Stage). is_outside_tag_pairs (at_stage s part)) (part_stage old part stage agrees at) ∙ inside part)
+
+  pub refused_in_pair : (reason : Reason) → new ≡ old → IsFalse (is_outside_the_table reason) → ((part : Part) → Agrees old part → refusal old.profile part k ≡ Some reason)
+      → TakesUnwritten old k new (Err reason)
+  refused_in_pair reason same in_table why o m = refused_after old new (Agrees old) k reason 0 o m (same ∙ counting_none old) in_table why untried
+
+  pub step_in_pair : (to : Part → Next) → ((o : Option (List ℕ)) (m : ℕ) → PutResult old (Agrees old) to new (Ok More) (unused o m)) → new.most_probes ≡ old.most_probes
+      → ((part : Part) → CostsToPut old.profile part (to part) 0 0) → ((part : Part) → Agrees old part → (refusal old.profile part k ≡ None) × (next part k ≡ to part))
+      → TakesUnwritten old k new (Ok More)
+  step_in_pair to puts most costs says o m = takes_step old new k to o m (puts o m) most says untried costs
+
+pub comment_in_pair : (old new : ReaderState) (k : TokenKind) (stage : Stage) → old.stage ≡ stage → ((q : Part) → is_outside_tag_pairs (at_stage stage q) ≡ false) → new ≡ old
+    → IsTrue (drops_comments stage) → true ≡ is_comment (kind_of k) → TakesUnwritten old (kind_of k) new (Ok More)
+comment_in_pair old new k stage at inside same drops is =
+    subst (λ (r : ReaderState). TakesUnwritten old (kind_of k) r (Ok More)) (sym same)
+    (step_in_pair old old (kind_of k) stage at inside going (puts_nothing old) refl (λ part. adds_same old.profile part part refl)
+    (λ part agrees. comment_passes old.profile part k stage (sym at ∙ agrees.stage) drops is))
+
+-- Items other than moves, and none.
+puts_entry : (old new : ReaderState) (k : Kind) (items : List Item) (r : Result Accepted Reason) (d : Device) → PutsItems old items new r d
+    → ((p : Profile) (part : Part) → CostsToPut p part (going (with_items part items)) 0 0)
+    → ((part : Part) → IsOpen old part → (text_refusal old.profile part k ≡ None) × (in_text part k ≡ going (with_items part items))) → ((part : Part) → CostsToFind part k 0)
+    → TakesEntry old k new r d
+puts_entry old new k items r d put costs says finds =
+    takes_put old old new (IsEntry old k) (IsOpen old) k (λ part. going (with_items part items)) r d 0 0 (counting_none old) put.puts (finishes_none k new r put.goes_on) (λ at. refl)
+    (omega (arith, put.probes)) (λ part is. is.is_open) (λ part is. (is.row ∙ (says part is.is_open).0, is.leads ∙ (says part is.is_open).1)) (λ part is. finds part)
+    (λ part is. tries_put old.profile part (going (with_items part items)) r 0 0 (costs old.profile part))
+
+pub passes_entry : (old new : ReaderState) (k : Kind) (r : Result Accepted Reason) (d : Device) → PutsItems old [] new r d
+    → ((part : Part) → IsOpen old part → (text_refusal old.profile part k ≡ None) × (in_text part k ≡ going (with_items part []))) → ((part : Part) → CostsToFind part k 0)
+    → TakesEntry old k new r d
+passes_entry old new k r d put says finds = puts_entry old new k [] r d put adds_none says finds
+
+pub item_entry : (old new : ReaderState) (k : Kind) (i : CodeItem) (r : Result Accepted Reason) (d : Device) → PutsItems old (model_item i ∷ []) new r d
+    → ((part : Part) → IsOpen old part → (text_refusal old.profile part k ≡ None) × (in_text part k ≡ going (with_items part (model_item i ∷ [])))) → ((part : Part) → CostsToFind part k 0)
+    → TakesEntry old k new r d
+item_entry old new k i r d put says finds = puts_entry old new k (model_item i ∷ []) r d put (λ p part. adds_item p i part) says finds
+
+-- What holds after each part of a kind holds after those of another that are of it too.
+pub takes_of : (old new : ReaderState) (IsOf IsToo : Part → Type 0) (k : Kind) (r : Result Accepted Reason) (d : Device) → ((part : Part) → IsOf part → IsToo part)
+    → Takes old IsToo k new r d → Takes old IsOf k new r d
+takes_of old new IsOf IsToo k r d sub t =
+    record { accepts = λ part is. t.accepts part (sub part is); keeps = t.keeps; stays = t.stays; finished = t.finished; counted = t.counted }
+
+-- A token that belongs to movetext at the stage of the reader.
+pub enters : (old : ReaderState) (k : TokenKind) → IsTrue (may_have_movetext old.stage) → ((part : Part) → Agrees old part → IsEntry old (kind_of k) part) → EntersMovetext old (kind_of k) old
+enters old k at entry = record {
+  stage = at;
+  plies = omega arith;
+  takes = λ new r d t. takes_of old new (Agrees old) (IsEntry old (kind_of k)) (kind_of k) r d entry t;
+}
+
+-- A token that begins a game.
+
+abbrev no_pairs : Part
+no_pairs = at_stage AfterTags no_part
+
+begins_at_first : (old : ReaderState) (part : Part) → Agrees old part → old.stage ≡ Between → Agrees (at_game_start old) no_pairs
+begins_at_first old part agrees at = record { stage = refl; pairs = refl; text = (refl, refl, text_at old part Between agrees at) }
+
+finds_alike : (k : TokenKind) (n : ℕ) → CostsToFind no_pairs (kind_of k) n → CostsToFind no_part (kind_of k) n
+finds_alike _ n h = h
+
+module _ (p : Profile) (k : TokenKind) (row : refusal p no_pairs (kind_of k) ≡ refusal p no_part (kind_of k)) (leads : next no_pairs (kind_of k) ≡ next no_part (kind_of k)) where
+  tries_alike : (n : ℕ) → Tries p no_pairs (kind_of k) n → Tries p no_part (kind_of k) n
+  tries_alike n t = record {
+    found = t.found;
+    finds = finds_alike k t.found t.finds;
+    writes = subst (λ (x : Next). CostsUnlessRefused (refusal p no_part (kind_of k)) p.mode (depth (levels_of_part no_part)) (position_in no_part) (added no_part x) t.found n) leads
+        (subst (λ (o : Option Reason). CostsUnlessRefused o p.mode (depth (levels_of_part no_part)) (position_in no_part) (added no_part (next no_pairs (kind_of k))) t.found n) row t.writes);
+  }
+
+  unwritten_alike : (n : ℕ) → TriesUnwritten p no_pairs (kind_of k) n → TriesUnwritten p no_part (kind_of k) n
+  unwritten_alike n (tried.at_token t) = tried.at_token (tries_alike n t)
+  unwritten_alike n (tried.in_section before finds) = tried.in_section refl (finds_alike k n finds)
+
+  gain_alike : gain p no_pairs (kind_of k) ≡ gain p no_part (kind_of k)
+  gain_alike =
+      ap (λ (t : List ℕ). drop (length t) (text_next p (next no_pairs (kind_of k))))
+      (no_torn p no_pairs AfterTags refl (λ e. absurd (cc)) ∙ sym (no_torn p no_part Between refl (λ e. absurd (cc))))
+      ∙ ap (λ (x : Next). drop (length (torn p no_part)) (text_next p x)) leads
+
+answers_alike : (old new : ReaderState) (k : TokenKind) (r : Result Accepted Reason) (a b : Option (List ℕ)) → old.stage ≡ Between
+    → refusal old.profile no_pairs (kind_of k) ≡ refusal old.profile no_part (kind_of k) → next no_pairs (kind_of k) ≡ next no_part (kind_of k)
+    → Answers (at_game_start old) no_pairs (kind_of k) new r a b → Answers old no_part (kind_of k) new r a b
+answers_alike old new k (Ok accepted) a b at row leads h = record {
+  free = sym row ∙ h.free;
+  leads = subst (λ (x : Next). Leads x accepted new) leads h.leads;
+  plies = h.plies ∙ ap (λ (s : ℕ). s + plies_next (next no_pairs (kind_of k))) (sym (ap (λ (s : Stage). plies_behind s old.earlier_plies old.text.plies) at))
+      ∙ ap (λ (x : Next). whole_plies old + plies_next x) leads;
+  appended = subst (Appends a b) (gain_alike old.profile k row leads) h.appended;
+  tried = record { tried = h.tried.tried; allowed = tries_alike old.profile k row leads h.tried.tried h.tried.allowed; most = h.tried.most };
+}
+answers_alike old new k (Err reason) a b at row leads (reader_state.refused why is none t) =
+    reader_state.refused why (sym row ∙ is) none (record { tried = t.tried; allowed = tries_alike old.profile k row leads t.tried t.allowed; most = t.most })
+answers_alike old new k (Err reason) a b at row leads (reader_state.unwritten free front t) =
+    reader_state.unwritten (sym row ∙ free) (subst (AppendsFront a b) (gain_alike old.profile k row leads) front)
+    (record { tried = t.tried; allowed = unwritten_alike old.profile k row leads t.tried t.allowed; most = t.most })
+
+pub takes_first : (old new : ReaderState) (k : TokenKind) (r : Result Accepted Reason) (d : Device) → old.stage ≡ Between → is_comment (kind_of k) ≡ false → is_end (kind_of k) ≡ false
+    → TakesToken (at_game_start old) (kind_of k) new r d → TakesToken old (kind_of k) new r d
+takes_first old new k r d at comment over t =
+    let (row, leads) = begins_alike old.profile k comment over in
+    record {
+      accepts = λ part agrees.
+          subst (λ (q : Part). Answers old q (kind_of k) new r d.before d.after) (sym (held_at old part Between agrees at))
+          (answers_alike old new k r d.before d.after at row leads (t.accepts no_pairs (begins_at_first old part agrees at)));
+      keeps = record { profile = t.keeps.profile; plies = omega (arith, t.keeps.plies); probes = t.keeps.probes };
+      stays = stays_first r t.stays;
+      finished = t.finished;
+      counted = t.counted;
+    }
+  where
+    stays_first : (r : Result Accepted Reason) → Stays (at_game_start old) new r → Stays old new r
+    stays_first (Ok More) stays = λ there. let h : Between ≡ AfterTags = sym there ∙ ap (λ (r : ReaderState). r.stage) (stays there) in absurd (cc)
+    stays_first (Ok Finished) stays = tt
+    stays_first (Err reason) stays = tt
+
+-- Markers.
+pub takes_marker : (old new : ReaderState) (k : TokenKind) (marker : Marker) (r : Result Accepted Reason) (d : Device) → PutResult old (IsOpen old) (to_game marker) new r d
+    → FinishesAtMarker (kind_of k) new r → new.most_probes ≡ old.most_probes → marker_of (kind_of k) ≡ Some (marker_text marker)
+    → ((part : Part) → IsOpen old part → text_refusal old.profile part (kind_of k) ≡ None) → TakesEntry old (kind_of k) new r d
+takes_marker old new k marker r d puts finished most is free =
+    takes_put old old new (IsEntry old (kind_of k)) (IsOpen old) (kind_of k) (to_game marker) r d 0 0 (counting_none old) puts finished (λ at. refl) (omega (arith, most)) (λ part at. at.is_open)
+    (λ part at. (at.row ∙ free part at.is_open, at.leads ∙ marker_whole part (kind_of k) (marker_text marker) is)) (λ part at. marker_untried part k (ap is_some is))
+    (λ part at. tries_put old.profile part (to_game marker part) r 0 0 refl)
+
+-- Moves.
+
+-- a reader that counts more probes holds the same part
+open_counted : (old : ReaderState) (n : ℕ) (part : Part) → IsOpen old part → IsOpen (counting_probes old n) part
+open_counted old n part is = record {
+  stage = is.stage;
+  pairs = is.pairs;
+  fresh = is.fresh;
+  held = is.held;
+  probed = λ has. let some : 0 < old.most_probes = is.probed has in omega (arith, some, le-max_left old.most_probes n);
+}
+
+next_of : (o : Option Parts) → is_some o ≡ true → (q : Parts) × (o ≡ Some q)
+next_of None h = absurd (cc)
+next_of (Some q) h = (q, refl)
+
+-- What was found for a symbol that is neither a number nor a marker.
+module _ (old found : ReaderState) (s : List ℕ) (n : ℕ) (at : IsTrue (may_have_movetext old.stage)) (number : is_number s ≡ false) (score : is_score s ≡ false) where
+  pub move_refused : (reason : Reason) (o : Option (List ℕ)) (m : ℕ) → Finds old s found (Err reason) n → TakesEntry old (symbol s) found (Err reason) (unused o m)
+  move_refused reason o m finds =
+      let here = old.text.levels.present.present in
+      refused_after old found (IsEntry old (symbol s)) (symbol s) reason n o m finds.counted (refused_inside here s reason finds.found)
+      (λ part is. is.row ∙ move_row_refused old part s here reason number score is.is_open refl finds.found) (λ part is. costs_found old part s n is.is_open at number score finds.tried)
+
+  pub takes_move : (new : ReaderState) (mv : Move) (r : Result Accepted Reason) (d : Device) (more : ℕ) → Finds old s found (Ok mv) n
+      → PutResult found (IsOpen found) (to_items (move mv ∷ [])) new r d → FinishesNone r → new.most_probes ≡ max old.most_probes more
+      → ((part : Part) → IsOpen old part → TriesPut old.profile part (going (with_items part (move mv ∷ []))) r n more) → TakesEntry old (symbol s) new r d
+  takes_move new mv r d more finds puts none most costs =
+      let here = old.text.levels.present.present in
+      let (q, leads) = next_of (legal here mv) finds.legal in
+      let played : Played = record { mv = mv; next = q } in
+      let is_found : Ok played ≡ found_in here (move_of here s) = sym (ap (λ (o : Option Parts). ok_or (with_next mv o) IllegalMove) leads) ∙ finds.found in
+      takes_put old found new (IsEntry old (symbol s)) (IsOpen found) (symbol s) (to_items (move mv ∷ [])) r d n more finds.counted puts (finishes_none (symbol s) new r none)
+      (λ between. not_between (subst (λ (x : ReaderState). x.stage ≡ Between) finds.counted between)) most
+      (λ part is. subst (λ (x : ReaderState). IsOpen x part) (sym finds.counted) (open_counted old n part is.is_open))
+      (λ part is. (
+        is.row ∙ move_free old part s here played number score is.is_open refl is_found,
+        is.leads ∙ move_leads old part s here played number score is.is_open refl is_found,
+      ))
+      (λ part is. costs_found old part s n is.is_open at number score finds.tried) (λ part is. costs part is.is_open)
+    where
+      not_between : old.stage ≡ Between → found ≡ old
+      not_between between = let h : IsTrue (may_have_movetext Between) = subst (λ (x : Stage). IsTrue (may_have_movetext x)) between at in absurd (cc)
+
+-- A token between games that begins none.
+bare_untried : (k : TokenKind) (part : Part) → (is_comment (kind_of k) || is_end (kind_of k)) ≡ true → CostsToFind part (kind_of k) 0
+bare_untried (variants.Symbol s) part is = absurd (false≢true is)
+bare_untried _ part is = refl
+
+pub passes_first : (old new : ReaderState) (k : TokenKind) (o : Option (List ℕ)) (m : ℕ) → new ≡ old → old.stage ≡ Between → (is_comment (kind_of k) || is_end (kind_of k)) ≡ true
+    → TakesToken old (kind_of k) new (Ok More) (unused o m)
+passes_first old new k o m same at is =
+    subst (λ (r : ReaderState). TakesToken old (kind_of k) r (Ok More) (unused o m)) (sym same)
+    (takes_step old old (kind_of k) going o m (puts_nothing old o m) refl (λ part agrees. passes_between old.profile part k (part_stage old part Between agrees at) is)
+    (λ part agrees. bare_untried k part is) (λ part. adds_same old.profile part part refl))
+
+-- The move of a token that SetUp rejects.
+pub no_symbol_counted : (old : ReaderState) (k : TokenKind) → ((s : Bor (List ℕ)) → k ≡ variants.Symbol s → ⊥) → CountsMove old (kind_of k) old
+no_symbol_counted old (variants.Symbol s) other = absurd (other s refl)
+no_symbol_counted old k other = record { pairs = 0; counted = counting_none old; tried = λ part agrees. refl }
+
+pub plain_counted : (old : ReaderState) (s : List ℕ) → (is_score s || is_number s) ≡ true → CountsMove old (symbol s) old
+plain_counted old s plain = record { pairs = 0; counted = counting_none old; tried = λ part agrees. plain_untried part s plain }
+
+pub move_counted : (old found : ReaderState) (s : List ℕ) (r : Result Move Reason) (n : ℕ) → old.stage ≡ AfterTags → (is_score s || is_number s) ≡ false → Finds old s found r n → CountsMove old (symbol s) found
+move_counted old found s r n at plain finds =
+    let may = ap may_have_movetext at in
+    let tests = or_parts (is_score s) (is_number s) plain in
+    record { pairs = n; counted = finds.counted; tried = λ part agrees. costs_found old part s n (open_agrees old part agrees may) may tests.1 tests.0 finds.tried }
+
+-- The first token of a game is taken as after pairs, of which there is none.
+pub takes_outside_first : (old new : ReaderState) (k : TokenKind) (o : Option (Result Accepted Reason)) → old.stage ≡ Between → is_comment (kind_of k) ≡ false → is_end (kind_of k) ≡ false
+    → TakesOutside (at_game_start old) (kind_of k) new o → TakesOutside old (kind_of k) new o
+takes_outside_first old new k (Some r) at comment over t = λ taken failures. takes_first old new k r (unused taken failures) at comment over (t taken failures)
+takes_outside_first old new k None at comment over t = record {
+  stage = t.stage;
+  plies = omega (arith, t.plies);
+  takes = λ newer r d entry. takes_first old newer k r d at comment over (t.takes newer r d entry);
+}
