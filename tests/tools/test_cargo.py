@@ -1,16 +1,19 @@
 #!/usr/bin/env python3
 """Tests of bin/to_cargo, and of what cargo builds from it."""
 import glob
+import importlib.machinery
+import importlib.util
 import os
 import re
 import shutil
-import subprocess
+import signal
 import sys
 import tempfile
 import unittest
 
 sys.path.insert(0, os.path.dirname(os.path.realpath(__file__)))
 import programs
+from documents import printed_by
 from programs import ROOT, run
 
 # One folder for all runs, so that only the first one builds everything.
@@ -18,7 +21,22 @@ OUT = os.path.join(ROOT, "cargo/out")
 DEBIAN = "/usr/share/cargo/registry"
 CRATES = ("arrayvec", "itoa", "clap")
 OLDEST = (1, 74)
-SOURCES = ("chess_rules", "chess_text", "pgn_lexer", "pgn_layout", "pgn_game", "pgn_tool")
+# What follows a sample that is the function NAME: it converts a game.
+CALL = """
+fn main() {
+    let mut text = Vec::new();
+    let Ok(totals) = NAME(b"e4 {a word} e5 *", &mut text) else { panic!() };
+    print!("{}", String::from_utf8(text).unwrap());
+    assert_eq!((totals.games, totals.plies), (1, 2));
+}
+"""
+LIBRARIES = ("chess_rules", "chess_text", "pgn_lexer", "pgn_layout", "pgn_game")
+# The crates whose calls of the toolchain are renamed. Of the others lines only go.
+RENAMED = ("pgn_tool", "pgn_arguments")
+# What stands in a line of the program that is not one of the source.
+OF_STANDARD = re.compile(
+    r"rattle_std|let rt = HostRuntime;|fn (main|\w+)\(\)|rt\.words\(\)|assert\w*!\(|AllocError>\("
+    r"|File::\w+\(|(String|Vec)::new\(\)|\.try_\w+\(|PhantomData;")
 
 
 def need_cargo():
@@ -43,6 +61,15 @@ def write_out():
     assert ran.returncode == 0, ran.stderr
 
 
+def built():
+    """The program that cargo builds; the test is left out without a cargo."""
+    need_cargo()
+    write_out()
+    ran = cargo("build", "--package", "pgn_tool")
+    assert ran.returncode == 0 and b"warning" not in ran.stderr, ran.stderr
+    return OUT + "/target/debug/pgn_tool"
+
+
 def read(path):
     with open(path, encoding="utf-8") as lines:
         return lines.read()
@@ -55,11 +82,11 @@ class Built(unittest.TestCase):
         need_cargo()
         write_out()
 
-    def check_tests(self, package, least):
-        files = glob.glob("%s/crates/%s/src/tests/*.rt" % (ROOT, package))
+    def check_tests(self, package, least, place="tests/*", words=("--lib",)):
+        files = glob.glob("%s/crates/%s/src/%s.rt" % (ROOT, package, place))
         wanted = sum(read(it).count("#[test]") for it in files)
         self.assertGreaterEqual(wanted, least)
-        ran = cargo("test", "--package", package, "--lib")
+        ran = cargo("test", "--package", package, *words)
         said = (ran.stdout + ran.stderr).decode()
         self.assertEqual(ran.returncode, 0, said)
         self.assertIn("test result: ok. %d passed; 0 failed" % wanted, said)
@@ -71,20 +98,18 @@ class Built(unittest.TestCase):
     def test_the_tests_of_devices_pass(self):
         self.check_tests("pgn_device_tests", 18)
 
-    def built(self):
-        ran = cargo("build", "--package", "pgn_tool")
-        self.assertEqual(ran.returncode, 0, ran.stderr)
-        self.assertNotIn(b"warning", ran.stderr)
-        return OUT + "/target/debug/pgn_tool"
+    def test_the_tests_of_the_program_pass(self):
+        self.check_tests("pgn_tool", 18, "*_tests", ())
 
     def test_the_program_converts_each_vector(self):
-        program = self.built()
+        program = built()
         ran = run(["bin/pgn_conform", "--counts", program + " check", program, "export"])
         self.assertEqual(ran.returncode, 0, ran.stdout)
-        self.assertRegex(ran.stdout, rb"(?m)^\| all \| 259 \| 259 \| 0 \| 0 \| 0 \|$")
+        row = b"| all | %d | %d | 0 | 0 | 0 |\n" % (2 * (len(programs.vectors()),))
+        self.assertIn(row, ran.stdout)
 
     def test_the_program_does_what_the_proved_one_does(self):
-        proved, program = programs.need_program(), self.built()
+        proved, program = programs.need_proved_program(), built()
         folder = tempfile.mkdtemp()
         self.addCleanup(shutil.rmtree, folder)
         files = sorted(glob.glob(ROOT + "/examples/*.pgn"))
@@ -99,8 +124,6 @@ class Built(unittest.TestCase):
         for words in [it + [file] for file in files + [folder + "/none"] for it in calls]:
             ours, theirs = run([proved, *words]), run([program, *words])
             self.assertEqual(shown(ours), shown(theirs), words)
-        for words in ([], ["--bad"], ["export", "a", "b"], ["export", "--checked"], ["--version"]):
-            self.assertEqual(run([proved, *words]).returncode, run([program, *words]).returncode)
         for file in files:
             parts = [self.parts(it, file, folder) for it in (proved, program)]
             self.assertEqual(parts[0], parts[1], file)
@@ -112,13 +135,67 @@ class Built(unittest.TestCase):
         left = {os.path.basename(it): read(it) for it in glob.glob(to + "/*")}
         return shown(ran), left
 
+    def run_sample(self, text):
+        called = re.search(r"fn (\w+)\(input: &\[u8\], text: &mut Vec<u8>\)", text)
+        if called and "fn main(" not in text:
+            text += CALL.replace("NAME", called[1])
+        elif "fn main(" not in text:
+            text = "fn main() {\n%s}\n" % text
+        with open(OUT + "/target/sample.rs", "w", encoding="utf-8") as file:
+            file.write(text)
+        words = ["rustc", "--edition=2021", "-Dwarnings", "-Ltarget/debug/deps", "target/sample.rs",
+                 "-otarget/sample"]
+        words += ["--extern=%s=target/debug/lib%s.rlib" % (it, it) for it in LIBRARIES]
+        ran = run(words, cwd=OUT)
+        self.assertEqual(ran.returncode, 0, ran.stderr.decode())
+        return run([OUT + "/target/sample"])
+
+    def test_samples_of_the_documents(self):
+        ran = cargo("build", "--lib", *("--package=" + it for it in LIBRARIES))
+        self.assertEqual(ran.returncode, 0, ran.stderr)
+        shown = printed_by(self, "rust", self.run_sample)
+        self.assertIn(b'\n[Result "*"]\n\n1. e4 { a word } 1... e5 *\n\n', shown)
+
     def test_the_program_reports_a_device_that_fails(self):
-        program = self.built()
+        program = built()
         with open("/dev/full", "wb") as full:
             ran = run([program, "export"], input=b"e4 *", stdout=full)
         self.assertEqual((ran.returncode, ran.stderr), (1, b"output cannot be written\n"))
         ran = run([program, "export", "/"])
         self.assertEqual((ran.returncode, ran.stderr), (1, b"byte 0: input cannot be read\n"))
+
+
+    def test_want_of_memory_has_status_3_where_the_program_asks_for_it(self):
+        programs.need("cc")
+        folder = tempfile.mkdtemp()
+        self.addCleanup(shutil.rmtree, folder)
+        tries = load("bin/try_allocations")
+        tries.BUILT = built()
+        library = tries.build(folder)
+        # The name of FILE or DIR, the buffer of standard output, and the path of each file.
+        for words, asks in ((["export", "GAMES"], 2), (["check"], 1), (["split", "FOLDER"], 4)):
+            call = tries.Call(library, folder, words, tries.GAMES)
+            right, whole, _ = call.run()
+            met, number, reported = True, 0, 0
+            while met:
+                number += 1
+                answer, files, met = call.run(number, number)
+                if answer[0] == -signal.SIGABRT:
+                    self.assertEqual(answer[1], b"", (words, number))
+                elif answer == (3, b"", b"out of memory\n"):
+                    self.assertTrue(tries.is_front(files, whole), (words, number))
+                    reported += 1
+                else:
+                    self.assertEqual((answer, files), (right, whole), (words, number))
+            self.assertGreaterEqual(reported, asks, words)
+
+
+def load(script):
+    """A script of the repository as a module."""
+    loader = importlib.machinery.SourceFileLoader("script", os.path.join(ROOT, script))
+    module = importlib.util.module_from_spec(importlib.util.spec_from_loader("script", loader))
+    loader.exec_module(module)
+    return module
 
 
 def shown(ran):
@@ -137,9 +214,9 @@ class Written(unittest.TestCase):
         ran = run([sys.executable, *(words or ["bin/to_cargo"]), out])
         return out, ran.returncode, (ran.stdout + ran.stderr).decode()
 
-    def pairs(self, out):
+    def pairs(self, out, crates=(*LIBRARIES, *RENAMED)):
         """Each file that is written from one of ours, and that one."""
-        for crate in SOURCES:
+        for crate in crates:
             folder = "%s/crates/%s/src/" % (out, crate)
             for path in glob.glob(folder + "**/*.rs", recursive=True):
                 source = "%s/crates/%s/src/%s.rt" % (ROOT, crate, path[len(folder) : -3])
@@ -151,12 +228,17 @@ class Written(unittest.TestCase):
         out, status, said = self.write()
         self.assertEqual(status, 0, said)
         count = 0
-        for path, lines, source in self.pairs(out):
-            left = iter(source.split("\n"))
+        for path, lines, source in self.pairs(out, (*LIBRARIES, "pgn_tool")):
+            is_renamed = "/pgn_tool/" in path
+            left = source.split("\n")
             for line in lines:
-                self.assertTrue(any(is_made(line, it) for it in left), (path, line))
+                at = [n for n, it in enumerate(left) if is_made(line, it)]
+                if not at and is_renamed and (OF_STANDARD.search(line) or not line):
+                    continue
+                self.assertTrue(at, (path, line))
+                left = left[at[0] + 1 :]
             count += 1
-        self.assertGreater(count, 50)
+        self.assertGreater(count, 60)
 
     def test_no_function_goes(self):
         out, _, _ = self.write()
@@ -174,9 +256,9 @@ class Written(unittest.TestCase):
 
     def test_what_is_not_proved_says_so(self):
         out, _, _ = self.write()
-        for name in ("pgn_tool/src/main", "pgn_arguments/src/lib", "pgn_tool/src/folder"):
-            text = read("%s/crates/%s.rs" % (out, name))
-            self.assertIn("**Not proved.**", "".join(text.split("\n\n")[0:1]))
+        text = read(out + "/crates/rattle_std/src/lib.rs")
+        self.assertIn("**Not proved.**", text.split("\n", 1)[0])
+        self.assertLess(text.count("\n"), 100)
         self.assertIn("**Nothing in this folder is proved", read(out + "/README.md"))
 
     def test_another_folder_is_left_alone(self):
@@ -195,6 +277,22 @@ class Written(unittest.TestCase):
         after = {it: os.stat(it).st_mtime_ns for it in glob.glob(out + "/**", recursive=True)}
         self.assertEqual(before, after)
 
+    def test_another_source_of_crates_begins_anew(self):
+        """Cargo.lock has the versions of one source of crates, which another may not have."""
+        out, _, _ = self.write()
+        config, lock = out + "/.cargo/config.toml", out + "/Cargo.lock"
+        is_offline = os.path.exists(config)
+        for is_same in (True, False):
+            open(lock, "w", encoding="utf-8").close()
+            if not is_same and is_offline:
+                os.remove(config)
+            elif not is_same:
+                os.makedirs(out + "/.cargo")
+                open(config, "w", encoding="utf-8").close()
+            self.write()
+            self.assertEqual(os.path.exists(config), is_offline)
+            self.assertEqual(os.path.exists(lock), is_same)
+
     def test_a_file_that_is_gone_is_removed(self):
         out, _, _ = self.write()
         extra = out + "/crates/pgn_game/src/extra.rs"
@@ -203,15 +301,24 @@ class Written(unittest.TestCase):
         self.assertFalse(os.path.exists(extra))
 
     def test_source_that_is_not_understood_stops_it(self):
-        file = "crates/pgn_layout/src/nowhere.rt"
         clause = "        ensures done { result ≡ Ok tt }\n"
-        changes = [
+        self.check_stops("crates/pgn_layout/src/nowhere.rt", [
             (clause, "        ensures done { result ≡ Ok tt\n"),
             (clause, "        ensures done { result ≡ Ok tt } more\n"),
             (clause, clause.replace("ensures", "promises")),
             ("    ghost failures", "    /// A count.\n    ghost failures"),
             ("    ghost failures = { λ _. 0 };", "    ghost failures = { λ _. 0 }; fn f() {}"),
-        ]
+        ])
+
+    def test_a_call_of_the_toolchain_that_is_not_understood_stops_it(self):
+        version, text = "        .version(VERSION)\n", 'matches.get_str("file") {'
+        self.check_stops("crates/pgn_arguments/src/arguments.rt", [
+            (version, version + "        .author(rt; VERSION)\n"),
+            (version, version + "        .author(std::alloc::NAME)\n"),
+            (text, "matches.get_str(\n"),
+        ])
+
+    def check_stops(self, file, changes):
         for old, new in changes:
             copy = self.copied(file, old, new)
             _, status, said = self.write(copy + "/bin/to_cargo")
@@ -223,7 +330,7 @@ class Written(unittest.TestCase):
         """A copy of all that bin/to_cargo reads, with a change in one file."""
         copy = tempfile.mkdtemp(dir=self.folder)
         names = ["bin/to_cargo", "crates.txt", "LICENSE-MIT", "cargo/README.md"]
-        for folder in ("cargo/pgn_tool/*.rs", "crates/*/src/**/*.rt"):
+        for folder in ("cargo/rattle_std/*.rs", "crates/*/src/**/*.rt"):
             found = glob.glob(os.path.join(ROOT, folder), recursive=True)
             names += [os.path.relpath(it, ROOT) for it in found]
         for name in names:
@@ -241,8 +348,9 @@ def is_made(line, source):
     only the prover reads."""
     made = [source, source + " {", source + " {}", source + ";"]
     made += [source.replace(", Drop", ""), source.replace(" + Drop", "")]
+    made.append(source.replace("#[rattlefmt::", "#[rustfmt::"))
     if source == "use std::marker::{Brand, PhantomData};":
-        made.append("use {crate::Brand, std::marker::PhantomData};")
+        made.append("use std::marker::PhantomData;")
     return line in made
 
 

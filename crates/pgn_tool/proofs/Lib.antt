@@ -2,3 +2,4 @@
 mod rows
 mod runs
 mod splitting
+mod NameToNumber

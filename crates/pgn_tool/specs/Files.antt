@@ -25,7 +25,7 @@ creation_step n (Ok out) = made n
 creation_step n (Err fault) = refusal_step n fault
 
 -- a log with more steps at its end, where it is told
-abbrev pub added : Option (List FileStep) → List FileStep → Option (List FileStep)
+abbrev pub added : {A : Type 0} → Option (List A) → List A → Option (List A)
 added None steps = None
 added (Some log) steps = Some (log ++ steps)
 
@@ -46,7 +46,7 @@ open_file taken log file log_after file_after failed = record {
 }
 
 -- a new file has no bytes
-abbrev pub IsNew : Option (List FileStep) → Option (List ℕ) → Type 0
+abbrev pub IsNew : {A : Type 0} → Option (List A) → Option (List ℕ) → Type 0
 IsNew None bytes = Unit {0}
 IsNew (Some log) bytes = bytes ≡ Some []
 

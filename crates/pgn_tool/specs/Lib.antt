@@ -8,6 +8,8 @@ pub mod FileName
 pub mod Files
 pub mod SplitFiles
 pub mod Machine
+pub mod FileSystem
+pub mod Standard
 pub mod Program
 pub mod SplitGames
 pub mod SplitState

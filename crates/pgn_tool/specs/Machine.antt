@@ -1,7 +1,7 @@
 -- **Definition**: what a machine gives to a run: files to read, and devices.
 -- The real machine reports nothing here. What is said of machines that report holds for the program
 -- all the same: it is generic, so it does the same on each.
-use Rattle.std.specs.Prelude.{◌≡◌, ℕ, Bool, true, List, Option, Result, Ok, Err}
+use Rattle.std.specs.Prelude.{◌≡◌, ℕ, Bool, true, false, List, Option, Result, Ok, Err}
 use Rattle.pgn_layout.specs.Device.{Device, device}
 use Rattle.pgn_tool.specs.declared.machine.SystemFault.{SystemFault}
 use Rattle.pgn_tool.specs.Files.{FileStep}
@@ -43,24 +43,33 @@ reading left failures holding refuses old new = record {
   refuses = refuses old;
 }
 
+-- Standard output was as at first, and did not lack memory for its buffer.
+abbrev pub HasRoom : {S : Type 0} → (S → Option (List ℕ)) → (S → ℕ) → (S → Bool) → S → Type 0
+HasRoom {S} taken failures lacks_memory old =
+    (reserved : S) × (taken reserved ≡ taken old) × (failures reserved ≡ failures old)
+    × (lacks_memory reserved ≡ false)
+
 -- The devices at the beginning and the end of a run. `second` reads a file that is opened twice.
--- There was no memory for the buffer of standard output, if it is short.
-pub record Machine : Type 0 where
+-- There was no memory for the buffer of standard output, if it is short. `has_room` says that there
+-- was.
+pub record Machine : Type 1 where
   pub input : Reading
   pub second : Reading
   pub out : Device
   pub lacks_memory : Bool
+  pub has_room : Type 0
   pub files : Option (List FileStep)
   pub files_after : Option (List FileStep)
   pub err : Device
 
-abbrev pub machine : Reading → Reading → Device → Bool → Option (List FileStep) → Option (List FileStep) → Device
-    → Machine
-machine input second out lacks_memory files files_after err = record {
+abbrev pub machine : Reading → Reading → Device → Bool → Type 0 → Option (List FileStep)
+    → Option (List FileStep) → Device → Machine
+machine input second out lacks_memory has_room files files_after err = record {
   input = input;
   second = second;
   out = out;
   lacks_memory = lacks_memory;
+  has_room = has_room;
   files = files;
   files_after = files_after;
   err = err;

@@ -63,41 +63,41 @@ abbrev pub IsMissing : (out err : Device) (status : ℕ) → Type 0
 IsMissing out err status = (fault : SystemFault) × EndsUnopened fault err status × IsUntouched out
 
 -- A task that writes to standard output. Without memory for its buffer, nothing is read or written.
--- Otherwise it runs; if no device fails, it does with the text read what `Answers` says.
-pub data RunsStream (job : Job) (source out : Device) (lacks_memory : Bool) (err : Device)
-    (status : ℕ) : Type 0 where
+-- Otherwise there was room for it, and the task runs; if no device fails, it does with the text read what `Answers` says.
+pub data RunsStream (job : Job) (source out : Device) (lacks_memory : Bool) (has_room : Type 0)
+    (err : Device) (status : ℕ) : Type 0 where
   unbuffered : lacks_memory ≡ true → IsUntouched source → IsUntouched out
       → Reports (codes "out of memory") 3 err status
-      → RunsStream job source out lacks_memory err status
-  streams : status ≤ 1 → Runs job source out err status → ((s : List ℕ) → IsSmooth s source out
+      → RunsStream job source out lacks_memory has_room err status
+  streams : has_room → status ≤ 1 → Runs job source out err status → ((s : List ℕ) → IsSmooth s source out
       → Answers job s out err status)
-      → RunsStream job source out lacks_memory err status
+      → RunsStream job source out lacks_memory has_room err status
 
--- A task that reads two sources. If no device fails, `AnswersTwice` says what it does, and if both
+-- A task that reads two sources, which needs the buffer too. If no device fails, `AnswersTwice` says what it does, and if both
 -- texts are the same, `AnswersSame` says more.
-pub data RunsBoth (mode : Mode) (first second out : Device) (lacks_memory : Bool) (err : Device)
-    (status : ℕ) : Type 0 where
+pub data RunsBoth (mode : Mode) (first second out : Device) (lacks_memory : Bool)
+    (has_room : Type 0) (err : Device) (status : ℕ) : Type 0 where
   unbuffered_twice : lacks_memory ≡ true → IsUntouched first → IsUntouched second → IsUntouched out
       → Reports (codes "out of memory") 3 err status
-      → RunsBoth mode first second out lacks_memory err status
-  streams_twice : status ≤ 1 → RunsTwice mode first second out err status
+      → RunsBoth mode first second out lacks_memory has_room err status
+  streams_twice : has_room → status ≤ 1 → RunsTwice mode first second out err status
       → ((s r : List ℕ) → IsSmooth s first out → IsSmooth r second out
       → AnswersTwice mode s r out err status)
       → ((s : List ℕ) → IsSmooth s first out → IsSmooth s second out
       → AnswersSame mode s out err status)
-      → RunsBoth mode first second out lacks_memory err status
+      → RunsBoth mode first second out lacks_memory has_room err status
 
 -- The file that is read by now is opened once more. It is refused, for a reason for which the
 -- machine refuses the file of this name, and nothing is read or written. Or it is read twice.
 pub data RunsAgain (mode : Mode) (name : List ℕ) (first : Device) (second : Reading) (out : Device)
-    (lacks_memory : Bool) (err : Device) (status : ℕ) : Type 0 where
+    (lacks_memory : Bool) (has_room : Type 0) (err : Device) (status : ℕ) : Type 0 where
   unopened_again : (fault : SystemFault) → second.refuses name fault ≡ true
       → IsUntouched first → IsUntouched second.standard → IsUntouched out
       → EndsUnopened fault err status
-      → RunsAgain mode name first second out lacks_memory err status
+      → RunsAgain mode name first second out lacks_memory has_room err status
   opened_again : (again : Device) → source_of (Some name) second ≡ Some again
-      → RunsBoth mode first again out lacks_memory err status
-      → RunsAgain mode name first second out lacks_memory err status
+      → RunsBoth mode first again out lacks_memory has_room err status
+      → RunsAgain mode name first second out lacks_memory has_room err status
 
 -- only `split` makes files
 abbrev pub makes_files : Task → Bool
@@ -105,20 +105,21 @@ makes_files (Split dir file) = true
 makes_files _ = false
 
 -- A task that makes no file: `export --checked` opens its file once more, and no other task does.
-abbrev pub RunsToOutput : Task → Device → Reading → Device → Bool → Device → ℕ → Type 0
-RunsToOutput (Checked reduced file) source second out lacks_memory err status =
-    RunsAgain (mode_for reduced) (string_bytes file) source second out lacks_memory err status
-RunsToOutput task source second out lacks_memory err status =
-    RunsStream (job_of task) source out lacks_memory err status × IsUntouched second.standard
+abbrev pub RunsToOutput : Task → Device → Reading → Device → Bool → Type 0 → Device → ℕ → Type 0
+RunsToOutput (Checked reduced file) source second out lacks_memory has_room err status =
+    RunsAgain (mode_for reduced) (string_bytes file) source second out lacks_memory has_room err
+    status
+RunsToOutput task source second out lacks_memory has_room err status =
+    RunsStream (job_of task) source out lacks_memory has_room err status × IsUntouched second.standard
 
 -- the task, on what is read: only `split` makes files, in its folder, and it writes nothing else
-abbrev pub RunsOpened : Task → Device → Reading → Device → Bool → Option (List FileStep)
+abbrev pub RunsOpened : Task → Device → Reading → Device → Bool → Type 0 → Option (List FileStep)
     → Option (List FileStep) → Device → ℕ → Type 0
-RunsOpened (Split dir file) source second out lacks_memory files files_after err status =
+RunsOpened (Split dir file) source second out lacks_memory has_room files files_after err status =
     RunsSplit (added files (entered (string_bytes dir) ∷ [])) files_after source err status
     × IsUntouched out × IsUntouched second.standard
-RunsOpened task source second out lacks_memory files files_after err status =
-    RunsToOutput task source second out lacks_memory err status × (files_after ≡ files)
+RunsOpened task source second out lacks_memory has_room files files_after err status =
+    RunsToOutput task source second out lacks_memory has_room err status × (files_after ≡ files)
 
 -- nothing was read, and no file was made
 abbrev pub IsIdle : Machine → Type 0
@@ -133,7 +134,8 @@ pub data Carries (task : Task) (m : Machine) (status : ℕ) : Type 0 where
       → IsIdle m → IsUntouched m.out → EndsUnopened fault m.err status
       → Carries task m status
   opened : (source : Device) → source_of (file_of (request_of task)) m.input ≡ Some source
-      → RunsOpened task source m.second m.out m.lacks_memory m.files m.files_after m.err status
+      → RunsOpened task source m.second m.out m.lacks_memory m.has_room m.files m.files_after
+      m.err status
       → Carries task m status
 
 -- ---- by the words
@@ -144,6 +146,11 @@ pub data RunsWords (words : List (List ℕ)) (m : Machine) (status : ℕ) : Type
       → Carries task m status → RunsWords words m status
   by_fault : (fault : ParseFault) → AnswersBy words (Err fault)
       → AnswersFault fault m.out m.err status → IsIdle m → RunsWords words m status
+
+-- what the words were parsed to: a task, or why they are none
+abbrev pub RunsAnswer : Result Task ParseFault → Machine → ℕ → Type 0
+RunsAnswer (Ok task) m status = Carries task m status
+RunsAnswer (Err fault) m status = AnswersFault fault m.out m.err status × IsIdle m
 
 -- the words are not read
 abbrev pub EndsUnread : SystemFault → Device → ℕ → Type 0

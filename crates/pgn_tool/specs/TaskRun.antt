@@ -1,5 +1,5 @@
 -- **Definition**: what a run of a task does to its devices, and the status that it ends with.
-use Rattle.std.specs.Prelude.{◌≡◌, ℕ, ◌-◌, ◌^◌, ◌<◌, ◌≤◌, ◌⊎◌, Bool, true, false, List, [], ◌∷◌, ◌++◌, length, take, codes, decimal, Option, Some, Result, Ok, Err}
+use Rattle.std.specs.Prelude.{◌≡◌, ℕ, ◌-◌, ◌^◌, ◌<◌, ◌≤◌, ◌⊎◌, Bool, true, false, List, [], ◌∷◌, ◌++◌, length, take, codes, decimal, Some, Result, Ok, Err}
 use Rattle.std.specs.Io.KnownBytes.{Appends, Keeps}
 use Rattle.pgn_layout.specs.Device.{Device, IsStill, nowhere, one_more}
 use Rattle.pgn_game.specs.declared.mode.Mode.{Mode}
@@ -164,11 +164,18 @@ Works listing answer source out = ⊥
 abbrev pub FlushCounts : ℕ → ℕ → Type 0
 FlushCounts old new = (new ≡ old) ⊎ (new ≡ one_more old)
 
+-- The line of the counts and the flush behind it may each fail once. On a fault only the flush is
+-- called.
+abbrev pub CountsCheck : Result Totals Fault → Device → Type 0
+CountsCheck (Ok t) out =
+    (written : ℕ) × FlushCounts out.failures written × FlushCounts written out.failures_after
+CountsCheck (Err f) out = FlushCounts out.failures out.failures_after
+
 -- The devices count what the conversion reports, and nothing after it but the flush.
 abbrev pub CountsWork : Job → Result Totals Fault → Device → Device → Type 0
 CountsWork (exporting mode) answer source out =
     (converted : ℕ) × CountsResult answer source (record out { failures_after = converted }) × FlushCounts converted out.failures_after
-CountsWork checking answer source out = CountsResult answer source nowhere
+CountsWork checking answer source out = CountsResult answer source nowhere × CountsCheck answer out
 CountsWork listing answer source out = ⊥
 
 -- A run that converts: a conversion with its result, and how it ends. For an export, standard

@@ -1,77 +1,56 @@
-//! The files of games in a folder.
-ghost use Rattle.std.specs.Prelude.{◌≡◌, IfOk, string_bytes};
+//! The files of games in a folder, and their names.
+ghost use Rattle.std.specs.Prelude.{◌≡◌};
 ghost use Rattle.pgn_tool.specs.FileName.{file_name, zeros_before};
 
+use crate::file_system::FileSystem;
 use crate::files::{CreateFault, GameFiles};
-use crate::machine::GameFolder;
+use crate::machine::{GameFolder, SystemFault};
+use arrayvec::ArrayString;
 use itoa::Buffer;
-use pgn_game::Outlet;
-use std::alloc::{AllocError, Global};
-use std::fs::File;
-use std::io;
-use std::io::ErrorKind;
-use std::path::Path;
 
-/// A folder that files of games are made in: `000001.pgn` and so on.
+/// The folder of a file system that files of games are made in: `000001.pgn` and so on.
 #[derive(Drop)]
-pub struct Folder {
-    rt: HostRuntime,
-    path: String,
+pub struct Folder<S> {
+    pub system: S,
 }
 
-impl Folder {
-    /// The current folder.
-    pub fn new(rt: HostRuntime) -> Folder {
-        Folder {
-            rt,
-            path: String::new(rt.alloc()),
+impl<S: FileSystem> GameFiles for Folder<S> {
+    ghost use Rattle.pgn_tool.specs.FileSystem.{numbered};
+
+    type Out = S::Out;
+
+    ghost log = { λ f. numbered (S.log f.system) };
+
+    fn create(&mut self, number: u64) -> Result<S::Out, CreateFault> {
+        match self.system.create(file_name(number).as_str()) {
+            Ok(out) => Ok(out),
+            Err(SystemFault::Refused) => Err(CreateFault::Refused),
+            Err(SystemFault::NoMemory) => Err(CreateFault::NoMemory),
         }
     }
 
-    fn create_file(&self, number: u64) -> io::Result<File> {
-        let alloc = self.rt.alloc();
-        let name = file_name(alloc, number)?;
-        File::create(
-            &self.rt,
-            Path::new(self.path.as_str()).join(alloc, name.as_str())?,
-        )
+    fn close(&mut self, out: S::Out) {
+        self.system.close(out);
     }
 }
 
-impl GameFiles for Folder {
-    ghost use Rattle.std.specs.Prelude.{None};
-
-    type Out = Outlet<File>;
-
-    ghost log = { λ _. None };
-
-    fn create(&mut self, number: u64) -> Result<Outlet<File>, CreateFault> {
-        match self.create_file(number) {
-            Ok(file) => Ok(Outlet::new(file)),
-            Err(error) if error.kind() == ErrorKind::OutOfMemory => Err(CreateFault::NoMemory),
-            Err(_) => Err(CreateFault::Refused),
-        }
-    }
-
-    fn close(&mut self, _out: Outlet<File>) {}
-}
-
-impl GameFolder for Folder {
+impl<S: FileSystem> GameFolder for Folder<S> {
     fn enter(&mut self, path: String) {
-        self.path = path;
+        self.system.enter(path);
     }
 }
 
 /// The name of the file of the game with this number: at least six digits, and `.pgn`.
-pub fn file_name(alloc: Global, number: u64) -> Result<String, AllocError>
-    ensures { IfOk result (λ name. string_bytes name ≡ file_name number) }
+pub fn file_name(number: u64) -> ArrayString<32>
+    ensures { result.bytes ≡ file_name number }
 {
     let mut buffer = Buffer::new();
     let digits = buffer.format(number);
-    let mut name = String::from_str(alloc, leading_zeros(digits.len()))?;
-    name.push_str(digits)?;
-    name.push_str(".pgn")?;
-    Ok(name)
+    let mut name = ArrayString::new();
+    name.push_str(leading_zeros(digits.len()));
+    name.push_str(digits);
+    name.push_str(".pgn");
+    name
 }
 
 // The zeros that make a number of so many digits one of six.

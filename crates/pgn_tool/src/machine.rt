@@ -59,7 +59,7 @@ pub trait Input: Source {
 
 /// Standard output.
 pub trait Output: Sink {
-    ghost use Rattle.std.specs.Prelude.{◌≡◌, Bool, true, OnErr};
+    ghost use Rattle.std.specs.Prelude.{◌≡◌, Bool, true, false, OnErr, OnOk};
 
     // There was no memory for the buffer.
     ghost lacks_memory: { Self → Bool };
@@ -68,7 +68,8 @@ pub trait Output: Sink {
     fn reserve(&mut self) -> Result<(), AllocError>
         ensures taken { Self.taken self.new ≡ Self.taken self.old }
         ensures failures { Self.failures self.new ≡ Self.failures self.old }
-        ensures short { OnErr result (lacks_memory self.new ≡ true) };
+        ensures short { OnErr result (lacks_memory self.new ≡ true) }
+        ensures room { OnOk result (lacks_memory self.new ≡ false) };
 }
 
 /// Files of games, in a folder.

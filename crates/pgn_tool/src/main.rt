@@ -7,6 +7,7 @@ mod checked;
 mod checked_tests;
 #[cfg(test)]
 mod devices;
+mod file_system;
 mod files;
 mod folder;
 mod game_sink;
@@ -23,38 +24,29 @@ mod standard;
 mod stream;
 #[cfg(test)]
 mod stream_tests;
+mod system;
 
 use crate::folder::Folder;
 use crate::machine::SystemFault;
 use crate::standard::{StandardInput, StandardOutput};
+use crate::system::System;
 use pgn_game::Outlet;
 use std::env;
 use std::process::ExitCode;
 
 fn main(rt: HostRuntime) -> ExitCode {
-    ExitCode::from(run_on(
-        rt,
-        &mut StandardInput::new(rt),
-        &mut StandardInput::new(rt),
-        &mut StandardOutput::new(rt),
-    ))
-}
-
-fn run_on(
-    rt: HostRuntime,
-    input: &mut StandardInput,
-    second: &mut StandardInput,
-    out: &mut StandardOutput,
-) -> u8 {
-    run::run(
+    let status = run::run(
         rt.alloc(),
         words_of(rt),
-        input,
-        second,
-        out,
-        &mut Folder::new(rt),
+        &mut StandardInput::new(System::new(rt), rt.stdin()),
+        &mut StandardInput::new(System::new(rt), rt.stdin()),
+        &mut StandardOutput::new(rt.alloc(), rt.stdout()),
+        &mut Folder {
+            system: System::new(rt),
+        },
         &mut Outlet::new(rt.stderr()),
-    )
+    );
+    ExitCode::from(status)
 }
 
 // The words of the call, of which the first is the program's name.

@@ -1,11 +1,11 @@
 //! A run of the program, on whatever machine.
 ghost use Rattle.std.specs.Prelude.{◌≡◌, ℕ, ◌≤◌, false, true, List, Some};
 ghost use Rattle.pgn_layout.specs.Device.{device};
-ghost use Rattle.pgn_tool.specs.Machine.{machine, missing, reading};
+ghost use Rattle.pgn_tool.specs.Machine.{HasRoom, machine, missing, reading};
 ghost use Rattle.pgn_arguments.specs.Requests.{file_of, request_of};
 ghost use Rattle.pgn_tool.specs.TaskRun.{is_for_stream, job_of};
 ghost use Rattle.pgn_tool.specs.CheckedRun.{checked_mode, is_checked};
-ghost use Rattle.pgn_tool.specs.Program.{Carries, EndsUnopened, IsMissing, Ran, RunsAgain, RunsBoth};
+ghost use Rattle.pgn_tool.specs.Program.{Carries, EndsUnopened, IsMissing, Ran, RunsAgain, RunsAnswer, RunsBoth};
 ghost use Rattle.pgn_tool.specs.Program.{RunsOpened, RunsStream, RunsToOutput, StartsFrom, makes_files};
 
 use crate::checked::run_checked;
@@ -13,7 +13,7 @@ use crate::machine::{GameFolder, Input, Output, SystemFault};
 use crate::replies::{answer_fault, out_of_memory, refuse_words};
 use crate::split::split_to;
 use crate::stream::{refuse, run_stream};
-use pgn_arguments::{Task, parse};
+use pgn_arguments::{ParseFault, Task, parse};
 use pgn_game::{Fault, Reason, Sink};
 use std::alloc::{AllocError, Global};
 
@@ -51,16 +51,41 @@ pub fn run<I: Input, O: Output, F: GameFolder, E: Sink>(
         (reading I.left I.failures I.holding I.refuses input.old input.new)
         (reading I.left I.failures I.holding I.refuses second.old second.new)
         (device O.taken O.failures out.old out.new) (O.lacks_memory out.new)
+        (HasRoom O.taken O.failures O.lacks_memory out.old)
         (F.log files.old) (F.log files.new)
         (device E.taken E.failures err.old err.new)) result }
 {
     match words {
-        Ok(words) => match parse(alloc, words.as_slice()) {
-            Ok(task) => run_task(task, input, second, out, files, err),
-            Err(fault) => answer_fault(&fault, out, err),
-        },
+        Ok(words) => {
+            let answer = parse(alloc, words.as_slice());
+            run_answer(answer, input, second, out, files, err)
+        }
         Err(SystemFault::Refused) => refuse_words(err),
         Err(SystemFault::NoMemory) => out_of_memory(err),
+    }
+}
+
+// Carries out the task, or reports why there is none.
+fn run_answer<I: Input, O: Output, F: GameFolder, E: Sink>(
+    answer: Result<Task, ParseFault>,
+    input: &mut I,
+    second: &mut I,
+    out: &mut O,
+    files: &mut F,
+    err: &mut E,
+) -> u8
+    ensures status { result ≤ 3 }
+    ensures runs { RunsAnswer answer (machine
+        (reading I.left I.failures I.holding I.refuses input.old input.new)
+        (reading I.left I.failures I.holding I.refuses second.old second.new)
+        (device O.taken O.failures out.old out.new) (O.lacks_memory out.new)
+        (HasRoom O.taken O.failures O.lacks_memory out.old)
+        (F.log files.old) (F.log files.new)
+        (device E.taken E.failures err.old err.new)) result }
+{
+    match answer {
+        Ok(task) => run_task(task, input, second, out, files, err),
+        Err(fault) => answer_fault(&fault, out, err),
     }
 }
 
@@ -78,6 +103,7 @@ fn run_task<I: Input, O: Output, F: GameFolder, E: Sink>(
         (reading I.left I.failures I.holding I.refuses input.old input.new)
         (reading I.left I.failures I.holding I.refuses second.old second.new)
         (device O.taken O.failures out.old out.new) (O.lacks_memory out.new)
+        (HasRoom O.taken O.failures O.lacks_memory out.old)
         (F.log files.old) (F.log files.new)
         (device E.taken E.failures err.old err.new)) result }
     ensures missing { (name : List ℕ) → file_of (request_of task) ≡ Some name
@@ -126,6 +152,7 @@ fn run_opened<I: Input, O: Output, F: GameFolder, E: Sink>(
     ensures opened { RunsOpened task (device I.left I.failures input.old input.new)
         (reading I.left I.failures I.holding I.refuses second.old second.new)
         (device O.taken O.failures out.old out.new) (O.lacks_memory out.new)
+        (HasRoom O.taken O.failures O.lacks_memory out.old)
         (F.log files.old) (F.log files.new)
         (device E.taken E.failures err.old err.new) result }
 {
@@ -151,6 +178,7 @@ fn run_to_output<I: Input, O: Output, E: Sink>(
     ensures runs { RunsToOutput task.now (device I.left I.failures input.old input.new)
         (reading I.left I.failures I.holding I.refuses second.old second.new)
         (device O.taken O.failures out.old out.new) (O.lacks_memory out.new)
+        (HasRoom O.taken O.failures O.lacks_memory out.old)
         (device E.taken E.failures err.old err.new) result }
 {
     match task {
@@ -177,6 +205,7 @@ fn run_again<I: Input, O: Output, E: Sink>(
         (device I.left I.failures first.old first.new)
         (reading I.left I.failures I.holding I.refuses second.old second.new)
         (device O.taken O.failures out.old out.new) (O.lacks_memory out.new)
+        (HasRoom O.taken O.failures O.lacks_memory out.old)
         (device E.taken E.failures err.old err.new) result }
 {
     match second.open(name) {
@@ -199,6 +228,7 @@ fn run_both<I: Input, O: Output, E: Sink>(
         (device I.left I.failures first.old first.new)
         (device I.left I.failures second.old second.new)
         (device O.taken O.failures out.old out.new) (O.lacks_memory out.new)
+        (HasRoom O.taken O.failures O.lacks_memory out.old)
         (device E.taken E.failures err.old err.new) result }
 {
     match out.reserve() {
@@ -218,6 +248,7 @@ fn run_buffered<I: Input, O: Output, E: Sink>(
     ensures status { result ≤ 3 }
     ensures runs { RunsStream (job_of task.now) (device I.left I.failures input.old input.new)
         (device O.taken O.failures out.old out.new) (O.lacks_memory out.new)
+        (HasRoom O.taken O.failures O.lacks_memory out.old)
         (device E.taken E.failures err.old err.new) result }
 {
     match out.reserve() {

@@ -33,8 +33,8 @@ type Splitter = Converter<TAGS, LEVELS>;
 /// Nothing is flushed.
 ///
 /// - 0: there was no fault. `err` is not touched.
-/// - 1: there was a fault, and `err` has its line. The file of the current game has what `export`
-///   would have written of that game.
+/// - 1: there was a fault, and `err` has its line. Unless a file could not be made or written, the
+///   file of the current game has what `export` would have written of it.
 /// - 3: there was no memory for making a file, and `err` says so.
 ///
 /// A file that cannot be made counts as a write that failed. The function is not inlined: its

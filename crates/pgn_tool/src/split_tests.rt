@@ -338,7 +338,7 @@ const NAMES: &[(u64, &str)] = &[
 #[test]
 fn names_files(rt: HostRuntime) -> Result<(), Fail> {
     for &(number, name) in NAMES {
-        let made = file_name(rt.alloc(), number)?;
+        let made = file_name(number);
         assert!(rt; made.as_str() == name, "{made} for {number}");
     }
     Ok(())

@@ -1,24 +1,30 @@
-//! The standard streams of the process, and the file that is read in place of standard input.
-ghost use Rattle.std.specs.Prelude.{◌≡◌};
-ghost use Rattle.pgn_layout.specs.Device.{one_more};
+//! The standard streams over any reader and writer, and the file that is read in place of standard
+//! input.
+ghost use Rattle.std.specs.Prelude.{◌≡◌, ◌<◌, ◌≤◌, [], length, drop, OnOk, vec_len, vec_capacity};
+ghost use Rattle.std.specs.Io.KnownBytes.{Keeps, append_known};
+ghost use Rattle.pgn_layout.specs.Device.{Counts};
 
+use crate::file_system::FileSystem;
 use crate::machine::{Input, Output, SystemFault};
-use pgn_game::{Inlet, ReadFailed, Sink, Source, WriteFault};
-use std::alloc::AllocError;
-use std::fs::File;
-use std::io::{self, BufWriter, Read, Stdin, Stdout, Write};
+use pgn_game::{Inlet, Outlet, ReadFailed, Sink, Source, WriteFault};
+use std::alloc::{AllocError, Global};
+use std::io::{self, Read, Write};
 
 /// How many bytes of standard output are written at once.
 const OUTPUT_BUFFER: usize = 64 * 1024;
 
-// What is read.
+/// What is read.
 #[derive(Drop)]
-enum Reader {
-    Standard(Stdin),
-    Opened(File),
+pub enum Reader<R, F> {
+    Standard(R),
+    Opened(F),
 }
 
-impl Read for Reader {
+impl<R: Read, F: Read> Read for Reader<R, F> {
+    ghost use Rattle.pgn_tool.specs.Standard.{left_in};
+
+    ghost remaining = { left_in R.remaining F.remaining };
+
     fn read(&mut self, buffer: &mut [u8]) -> io::Result<usize> {
         match self {
             Reader::Standard(input) => input.read(buffer),
@@ -29,25 +35,25 @@ impl Read for Reader {
 
 /// Standard input, or a file in its place.
 #[derive(Drop)]
-pub struct StandardInput {
-    rt: HostRuntime,
-    inlet: Inlet<Reader>,
+pub struct StandardInput<S: FileSystem, R> {
+    pub system: S,
+    pub inlet: Inlet<Reader<R, S::File>>,
 }
 
-impl StandardInput {
-    /// Standard input.
-    pub fn new(rt: HostRuntime) -> StandardInput {
+impl<S: FileSystem, R> StandardInput<S, R> {
+    /// Standard input, which this reader gives.
+    pub fn new(system: S, reader: R) -> StandardInput<S, R> {
         StandardInput {
-            rt,
-            inlet: Inlet::new(Reader::Standard(rt.stdin())),
+            system,
+            inlet: Inlet::new(Reader::Standard(reader)),
         }
     }
 }
 
-impl Source for StandardInput {
-    ghost use Rattle.std.specs.Prelude.{None};
+impl<S: FileSystem, R: Read + Drop> Source for StandardInput<S, R> {
+    ghost use Rattle.pgn_tool.specs.Standard.{left_in};
 
-    ghost left = { λ _. None };
+    ghost left = { λ s. left_in R.remaining S.File.remaining s.inlet.reader };
 
     ghost failures = { λ s. s.inlet.failures };
 
@@ -56,107 +62,103 @@ impl Source for StandardInput {
     }
 }
 
-impl Input for StandardInput {
-    ghost use Rattle.std.specs.Prelude.{None, true};
-    ghost use Rattle.pgn_tool.specs.Machine.{holds};
+impl<S: FileSystem, R: Read + Drop> Input for StandardInput<S, R> {
+    ghost holding = { λ s. S.holding s.system };
 
-    ghost holding = { λ _ _. holds None };
-
-    ghost refuses = { λ _ _ _. true };
+    ghost refuses = { λ s. S.refuses s.system };
 
     fn open(&mut self, name: &str) -> Result<(), SystemFault> {
-        let file = File::open(&self.rt, name)?;
+        let file = self.system.open(name)?;
         self.inlet = Inlet::new(Reader::Opened(file));
         Ok(())
     }
 }
 
-// What is written to.
+/// Standard output over a writer, without a buffer until there is one.
 #[derive(Drop)]
-enum Writer {
-    Direct(Stdout),
-    Buffered(BufWriter<Stdout>),
+pub struct StandardOutput<W> {
+    pub outlet: Outlet<W>,
+    pub buffer: Vec<u8>,
+    pub lacks_memory: bool,
 }
 
-impl Write for Writer {
-    fn write(&mut self, bytes: &[u8]) -> io::Result<usize> {
-        match self {
-            Writer::Direct(out) => out.write(bytes),
-            Writer::Buffered(out) => out.write(bytes),
-        }
-    }
-
-    fn flush(&mut self) -> io::Result<()> {
-        match self {
-            Writer::Direct(out) => out.flush(),
-            Writer::Buffered(out) => out.flush(),
-        }
-    }
-}
-
-/// Standard output.
-#[derive(Drop)]
-pub struct StandardOutput {
-    rt: HostRuntime,
-    writer: Writer,
-    failures: u64,
-    lacks_memory: bool,
-}
-
-impl StandardOutput {
-    /// Standard output, without a buffer.
-    pub fn new(rt: HostRuntime) -> StandardOutput {
+impl<W: Write> StandardOutput<W> {
+    /// Standard output, which this writer takes.
+    pub fn new(alloc: Global, writer: W) -> StandardOutput<W> {
         StandardOutput {
-            rt,
-            writer: Writer::Direct(rt.stdout()),
-            failures: 0,
+            outlet: Outlet::new(writer),
+            buffer: Vec::new(alloc),
             lacks_memory: false,
         }
     }
 
-    fn fail(&mut self) -> WriteFault
-        ensures { self.new ≡ record self.old { failures = one_more self.old.failures } }
+    // Writes the buffer out. What a failure leaves stays in it.
+    #[cold]
+    #[inline(never)]
+    fn write_out(&mut self) -> Result<(), WriteFault>
+        ensures bytes { Keeps
+            (append_known (W.contents self.old.outlet.writer) self.old.buffer.items)
+            (append_known (W.contents self.new.outlet.writer) self.new.buffer.items) }
+        ensures failures { Counts result self.old.outlet.failures self.new.outlet.failures }
+        ensures empty { OnOk result (self.new.buffer.items ≡ []) }
+        ensures capacity { vec_capacity self.new.buffer ≡ vec_capacity self.old.buffer }
+        ensures memory { self.new.lacks_memory ≡ self.old.lacks_memory }
     {
-        self.failures = self.failures.saturating_add(1);
-        WriteFault
+        while !self.buffer.is_empty() {
+            let count = self.outlet.write_some(self.buffer.as_slice())?;
+            remove_front(&mut self.buffer, count);
+        }
+        Ok(())
     }
 }
 
-impl Sink for StandardOutput {
-    ghost use Rattle.std.specs.Prelude.{None};
+// Takes the first bytes away.
+fn remove_front(buffer: &mut Vec<u8>, count: usize)
+    requires { count ≤ vec_len buffer.old }
+    ensures items { buffer.new.items ≡ drop count buffer.old.items }
+    ensures capacity { vec_capacity buffer.new ≡ vec_capacity buffer.old }
+{
+    let length = buffer.len();
+    buffer.as_mut_slice().copy_within(count..length, 0);
+    buffer.truncate(length - count);
+}
 
-    ghost taken = { λ _. None };
+impl<W: Write> Sink for StandardOutput<W> {
+    ghost use Rattle.std.specs.Io.KnownBytes.{append_known};
 
-    ghost failures = { λ s. s.failures };
+    ghost taken = { λ s. append_known (W.contents s.outlet.writer) s.buffer.items };
 
+    ghost failures = { λ s. s.outlet.failures };
+
+    #[inline]
     fn write_some(&mut self, bytes: &[u8]) -> Result<usize, WriteFault> {
-        match self.writer.write(bytes) {
-            Ok(count) if count > 0 => Ok(count),
-            _ => Err(self.fail()),
+        if bytes.len() > self.buffer.capacity() - self.buffer.len() {
+            self.write_out()?;
+            if bytes.len() > self.buffer.capacity() {
+                return self.outlet.write_some(bytes);
+            }
         }
+        let Ok(()) = self.buffer.extend_from_slice(bytes) else {
+            unreachable!()
+        };
+        Ok(bytes.len())
     }
 
     fn flush(&mut self) -> Result<(), WriteFault> {
-        match self.writer.flush() {
-            Ok(()) => Ok(()),
-            Err(_) => Err(self.fail()),
-        }
+        self.write_out()?;
+        self.outlet.flush()
     }
 }
 
-impl Output for StandardOutput {
+impl<W: Write> Output for StandardOutput<W> {
     ghost lacks_memory = { λ s. s.lacks_memory };
 
     fn reserve(&mut self) -> Result<(), AllocError> {
-        match BufWriter::with_capacity(self.rt.alloc(), OUTPUT_BUFFER, self.rt.stdout()) {
-            Ok(writer) => {
-                self.writer = Writer::Buffered(writer);
-                Ok(())
-            }
-            Err(_) => {
-                self.lacks_memory = true;
-                Err(AllocError)
-            }
+        let reserved = self.buffer.try_reserve_exact(OUTPUT_BUFFER);
+        self.lacks_memory = reserved.is_err();
+        match reserved {
+            Ok(()) => Ok(()),
+            Err(_) => Err(AllocError),
         }
     }
 }

@@ -3,7 +3,7 @@ ghost use Rattle.std.specs.Prelude.{◌≡◌, ℕ, ◌+◌, ◌≤◌, List, �
 ghost use Rattle.std.specs.Io.KnownBytes.{Appends};
 ghost use Rattle.pgn_layout.specs.Device.{device};
 ghost use Rattle.pgn_game.specs.Reason.{line_of};
-ghost use Rattle.pgn_tool.specs.TaskRun.{Answers, HasFailed, HasFront, IsSmooth, Runs, Tells, checking, counting_line, exporting, is_for_stream, job_of, line, listing, mode_for};
+ghost use Rattle.pgn_tool.specs.TaskRun.{Answers, FlushCounts, HasFailed, HasFront, IsSmooth, Runs, Tells, checking, counting_line, exporting, is_for_stream, job_of, line, listing, mode_for};
 
 use crate::list::{Stopped, list_games};
 use arrayvec::ArrayVec;
@@ -126,6 +126,8 @@ fn write_totals<O: Sink>(totals: Totals, out: &mut O) -> bool
         (counting_line totals.games totals.plies) }
     ensures kept { result ≡ true → O.failures out.new ≡ O.failures out.old }
     ensures failed { result ≡ false → HasFailed (device O.taken O.failures out.old out.new) }
+    ensures counted { (written : ℕ) × FlushCounts (O.failures out.old) written
+        × FlushCounts written (O.failures out.new) }
     ensures front { HasFront (device O.taken O.failures out.old out.new)
         (counting_line totals.games totals.plies) }
 {

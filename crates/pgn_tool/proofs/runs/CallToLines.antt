@@ -2,7 +2,7 @@
 use Rattle.std.proofs.Common.{◌≡◌, ℕ, ◌+◌, Bool, true, false, List, [], ◌∷◌, ◌++◌, length, take, drop, Option, None, Some, Result, Ok, Err, IfSome, refl, sym, ap, ap₂, subst, ◌∙◌, append-nil, append_assoc, length-append, inl, inr, arith}
 use Rattle.std.specs.Prelude.{IsTrue}
 use Rattle.std.specs.Io.KnownBytes.{Appends, Consumes, IsAtEnd, Keeps}
-use Rattle.std.proofs.KnownBytes.{Appends-nil, Appends-trans, Consumes-nil, Consumes-trans}
+use Rattle.std.proofs.KnownBytes.{Appends-trans, Consumes-trans}
 use Rattle.std.proofs.Math.Seq.{take-add, take-append-add}
 use Rattle.std.proofs.lemmas.List.{drop-drop, take-append-drop, take-append-le}
 use Rattle.pgn_layout.specs.Device.{AppendsFront}
@@ -300,10 +300,6 @@ pub known_whole : (o n : Option (List ℕ)) (u : List ℕ) (P : List ℕ → Typ
 known_whole None n u P h end here = tt
 known_whole (Some s) None u P h end here = absurd h
 known_whole (Some s) (Some rest) u P h end here = subst P (sym (h ∙ ap (λ l. u ++ l) end ∙ append-nil u)) here
-
-pub read_none : (c : Converter) (left o : Option (List ℕ)) → Stands list_profile c [] None [] → SourceListedSoFar left left c o o
-read_none c left o stands =
-    record { bytes = []; consumed = Consumes-nil left; listed = record { tokens = []; stands = stands; at_limit = λ h. refl; decided = inl refl; written = Appends-nil o } }
 
 module _ (left_old left : Option (List ℕ)) (c : Converter) (a b : Option (List ℕ)) (so : SourceListedSoFar left_old left c a b) (left_new : Option (List ℕ)) where
   pub read_fails : (at : ℕ) → Keeps left left_new → at ≡ c.lexer.count → ListStops left_old left_new a b (Refused (record { at = at; reason = ReadFault }))

@@ -14,7 +14,7 @@ use Rattle.pgn_game.specs.declared.conversion.Totals.{Totals}
 use Rattle.pgn_game.specs.Profile.{Profile, takes_the_marker}
 use Rattle.pgn_game.specs.Progress.{Verdict, due, output, refused as is_refused}
 use Rattle.pgn_game.specs.Laws.{DueGrows, IsPrefix}
-use Rattle.pgn_game.specs.Checked.{checked_output, compared, written_by}
+use Rattle.pgn_game.specs.Checked.{compared, written_by}
 use Rattle.pgn_game.specs.CheckedConversion.{AreConverted, AreTotalled, IsTokenPrefix, TwoReadingsConvert, Decides, FirstStops, SecondStops, TwoReadingsFail, HasTaken, MatchesAllMarks, WriteStops}
 use Rattle.pgn_game.specs.CheckedConversion.{first_too_long, first_unread, refused, second_too_long, second_unread, unwritten}
 use Rattle.pgn_game.specs.EqualReadings.{EqualReadings, InterruptedReadings}

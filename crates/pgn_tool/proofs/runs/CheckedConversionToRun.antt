@@ -1,6 +1,5 @@
 -- What follows of a run from the conversion in it, of an input that is read twice.
 use Rattle.std.proofs.Common.{◌≡◌, ◌∙◌, ◌++◌, ℕ, ◌≤◌, List, Option, None, Some, IfSome, ◌⊎◌, inl, inr, ap, refl, subst, sym, arith}
-use Rattle.std.proofs.lemmas.Option.{IfSome_then}
 use Rattle.std.specs.Prelude.{Result, Ok, Err}
 use Rattle.std.specs.Io.KnownBytes.{Appends, Consumes, Keeps}
 use Rattle.pgn_layout.specs.Device.{Counts, Device, IsStill, one_more}
@@ -12,9 +11,8 @@ use Rattle.pgn_game.specs.declared.reason.Reason.{Reason}
 use Rattle.pgn_game.specs.declared.reason.Reason.TheVariants.{ReadFault, WriteFault}
 use Rattle.pgn_game.specs.declared.reason.Fault.{Fault}
 use Rattle.pgn_game.specs.declared.conversion.Totals.{Totals}
-use Rattle.pgn_game.specs.Profile.{Profile, takes_the_marker}
-use Rattle.pgn_game.specs.Progress.{Verdict, output, refused as is_refused, verdict}
-use Rattle.pgn_game.specs.Checked.{checked_output, checked_verdict}
+use Rattle.pgn_game.specs.Profile.{Profile}
+use Rattle.pgn_game.specs.Progress.{Verdict, refused as is_refused}
 use Rattle.pgn_game.specs.CheckedConversion.{AreConverted, AreTotalled, TwoReadingsConvert, CountsThree, FirstStops, SecondStops, TwoReadingsFail, HasTaken, MatchesAllMarks, OneFails, WriteStops}
 use Rattle.pgn_game.specs.CheckedConversion.{first_too_long, first_unread, refused, second_too_long, second_unread, unwritten}
 use Rattle.pgn_game.specs.EqualReadings.{EqualReadings}

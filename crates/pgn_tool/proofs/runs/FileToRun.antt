@@ -1,6 +1,6 @@
 -- How a run of the program is put together from opening its file and carrying out its task.
-use Rattle.std.proofs.Common.{◌≡◌, ◌∙◌, ℕ, Bool, true≢false, false, List, [], Option, None, Some, Result, Ok, Err, refl, sym, ap, subst, map}
-use Rattle.std.specs.Prelude.{String, Vec, string_bytes}
+use Rattle.std.proofs.Common.{◌≡◌, ◌∙◌, ℕ, Bool, true≢false, false, List, Option, None, Some, Result, Ok, Err, refl, sym, ap, subst, map}
+use Rattle.std.specs.Prelude.{IfOk, String, Vec, string_bytes}
 use Rattle.std.specs.Global.{Global}
 use Rattle.pgn_layout.specs.Device.{Device}
 use Rattle.pgn_game.specs.declared.mode.Mode.{Mode}
@@ -9,9 +9,8 @@ use Rattle.pgn_arguments.specs.declared.arguments.Task.TheVariants.{Export, Chec
 use Rattle.pgn_arguments.specs.declared.arguments.ParseFault.{ParseFault}
 use Rattle.pgn_tool.specs.declared.machine.SystemFault.{SystemFault}
 use Rattle.pgn_tool.specs.Machine.{Holding, IsOpened, Machine, Opens, Reading, holds, missing}
-use Rattle.pgn_tool.specs.Program.{Carries, EndsUnopened, IsIdle, IsMissing, Ran, RunsAgain, RunsOpened, RunsToOutput, RunsWords, StartsFrom, by_fault, by_task, file_source, makes_files, opened, source_of, unopened, unopened_again}
-use Rattle.pgn_tool.specs.Replies.{AnswersFault}
-use Rattle.pgn_arguments.specs.Requests.{AnswersBy, file_of, refusals, request_in, request_of}
+use Rattle.pgn_tool.specs.Program.{Carries, EndsUnopened, IsMissing, Ran, RunsAgain, RunsAnswer, RunsOpened, RunsToOutput, RunsWords, StartsFrom, by_fault, by_task, file_source, makes_files, opened, source_of, unopened, unopened_again}
+use Rattle.pgn_arguments.specs.Requests.{AnswersBy, file_of, request_in, request_of}
 use Rattle.pgn_tool.specs.TaskRun.{IsUntouched, mode_for}
 use Rattle.pgn_tool.specs.CheckedRun.{checked_mode}
 use Rattle.pgn_tool.specs.Files.{FileStep}
@@ -57,32 +56,32 @@ unopened_is task m status fault answer is starts =
     (subst (λ (r : Result Unit SystemFault). StartsFrom (file_of (request_of task)) m.input.holding m.input.refuses m.input.standard r) is starts)
 
 -- the file was opened once, and not once more
-pub refused_again : (mode : Mode) (name : List ℕ) (first : Device) (second : Reading) (out : Device) (lacks_memory : Bool) (err : Device) (status : ℕ)
+pub refused_again : (mode : Mode) (name : List ℕ) (first : Device) (second : Reading) (out : Device) (lacks_memory : Bool) (has_room : Type 0) (err : Device) (status : ℕ)
     (fault : SystemFault) (answer : Result Unit SystemFault) → answer ≡ Err fault
     → Opens (second.holding name) (second.refuses name) second.standard answer
-    → IsUntouched first → IsUntouched out → EndsUnopened fault err status → RunsAgain mode name first second out lacks_memory err status
-refused_again mode name first second out lacks_memory err status fault answer is opens still unwritten ends =
+    → IsUntouched first → IsUntouched out → EndsUnopened fault err status → RunsAgain mode name first second out lacks_memory has_room err status
+refused_again mode name first second out lacks_memory has_room err status fault answer is opens still unwritten ends =
     let refused = subst (λ (r : Result Unit SystemFault). Opens (second.holding name) (second.refuses name) second.standard r) is opens in
     unopened_again fault refused.0 still refused.1 unwritten ends
 
 -- the task reads a file twice
 pub to_output : (task : Task) (reduced : Bool) (file : String Global) (name : List ℕ) (first : Device) (second : Reading) (out : Device) (lacks_memory : Bool)
-    (err : Device) (status : ℕ) → task ≡ Checked reduced file → name ≡ string_bytes file
-    → RunsAgain (checked_mode task) name first second out lacks_memory err status → RunsToOutput task first second out lacks_memory err status
-to_output task reduced file name first second out lacks_memory err status is same runs =
-    subst (λ (t : Task). RunsToOutput t first second out lacks_memory err status) (sym is)
-    (subst (λ (n : List ℕ). RunsAgain (mode_for reduced) n first second out lacks_memory err status) same
-    (subst (λ (t : Task). RunsAgain (checked_mode t) name first second out lacks_memory err status) is runs))
+    (has_room : Type 0) (err : Device) (status : ℕ) → task ≡ Checked reduced file → name ≡ string_bytes file
+    → RunsAgain (checked_mode task) name first second out lacks_memory has_room err status → RunsToOutput task first second out lacks_memory has_room err status
+to_output task reduced file name first second out lacks_memory has_room err status is same runs =
+    subst (λ (t : Task). RunsToOutput t first second out lacks_memory has_room err status) (sym is)
+    (subst (λ (n : List ℕ). RunsAgain (mode_for reduced) n first second out lacks_memory has_room err status) same
+    (subst (λ (t : Task). RunsAgain (checked_mode t) name first second out lacks_memory has_room err status) is runs))
 
 -- the task makes no file
-pub opened_to_output : (task : Task) (first : Device) (second : Reading) (out : Device) (lacks_memory : Bool) (files : Option (List FileStep)) (err : Device)
-    (status : ℕ) → makes_files task ≡ false → RunsToOutput task first second out lacks_memory err status
-    → RunsOpened task first second out lacks_memory files files err status
-opened_to_output (Export reduced file) first second out lacks_memory files err status not runs = (runs, refl)
-opened_to_output (Checked reduced file) first second out lacks_memory files err status not runs = (runs, refl)
-opened_to_output (Check file) first second out lacks_memory files err status not runs = (runs, refl)
-opened_to_output (ListGames file) first second out lacks_memory files err status not runs = (runs, refl)
-opened_to_output (Split dir file) first second out lacks_memory files err status not runs = absurd (true≢false not)
+pub opened_to_output : (task : Task) (first : Device) (second : Reading) (out : Device) (lacks_memory : Bool) (has_room : Type 0) (files : Option (List FileStep)) (err : Device)
+    (status : ℕ) → makes_files task ≡ false → RunsToOutput task first second out lacks_memory has_room err status
+    → RunsOpened task first second out lacks_memory has_room files files err status
+opened_to_output (Export reduced file) first second out lacks_memory has_room files err status not runs = (runs, refl)
+opened_to_output (Checked reduced file) first second out lacks_memory has_room files err status not runs = (runs, refl)
+opened_to_output (Check file) first second out lacks_memory has_room files err status not runs = (runs, refl)
+opened_to_output (ListGames file) first second out lacks_memory has_room files err status not runs = (runs, refl)
+opened_to_output (Split dir file) first second out lacks_memory has_room files err status not runs = absurd (true≢false not)
 
 -- the words of the call, as they were handed to `parse`
 abbrev pub Words : Type 0
@@ -94,19 +93,14 @@ ran_words call words texts m status is same runs =
     subst (λ (c : Result Words SystemFault). Ran c m status) (sym is)
     (subst (λ (l : List (String Global)). RunsWords (map string_bytes l) m status) same runs)
 
--- the words are a task, which was carried out
-pub ran_task : (call : Result Words SystemFault) (words : Words) (texts : List (String Global)) (m : Machine) (status : ℕ) (task : Task)
-    → call ≡ Ok words → texts ≡ words.items
-    → request_in (map string_bytes texts) ≡ Some (request_of task) → refusals (map string_bytes texts) ≡ []
-    → Carries task m status → Ran call m status
-ran_task call words texts m status task is same request free carries =
+-- the words were parsed, and what that resulted in was carried out
+pub ran_answer : (call : Result Words SystemFault) (words : Words) (texts : List (String Global)) (m : Machine) (status : ℕ)
+    (answer : Result Task ParseFault) → call ≡ Ok words → texts ≡ words.items
+    → IfOk answer (λ task. request_in (map string_bytes texts) ≡ Some (request_of task))
+    → AnswersBy (map string_bytes texts) answer → RunsAnswer answer m status → Ran call m status
+ran_answer call words texts m status (Ok task) is same request free carries =
     ran_words call words texts m status is same (by_task task request free carries)
-
--- the words are no task, which was answered
-pub ran_fault : (call : Result Words SystemFault) (words : Words) (texts : List (String Global)) (m : Machine) (status : ℕ) (fault : ParseFault)
-    → call ≡ Ok words → texts ≡ words.items
-    → AnswersBy (map string_bytes texts) (Err fault) → AnswersFault fault m.out m.err status → IsIdle m → Ran call m status
-ran_fault call words texts m status fault is same refused answers idle =
+ran_answer call words texts m status (Err fault) is same request refused (answers, idle) =
     ran_words call words texts m status is same (by_fault fault refused answers idle)
 
 none_is_some : {A : Type 0} → (x : A) → None ≡ Some x → ⊥

@@ -1,5 +1,5 @@
 -- What the end of the input makes of the files of the games so far.
-use Rattle.std.proofs.Common.{◌≡◌, ◌∙◌, ℕ, ◌+◌, ◌<◌, Bool, List, [], ◌∷◌, ◌++◌, length, length-append, Option, None, Some, Result, Ok, Err, refl, sym, ap, subst, inl, inr, ◌⊎◌, arith, append_assoc, append-nil, is_some, true, false, ◌&&◌, ◌||◌, IfSome}
+use Rattle.std.proofs.Common.{◌≡◌, ◌∙◌, ℕ, ◌+◌, ◌<◌, Bool, List, [], ◌∷◌, ◌++◌, length, length-append, Option, None, Some, Result, Ok, Err, refl, sym, ap, subst, inl, inr, ◌⊎◌, arith, append_assoc, append-nil, is_some, true, false, ◌&&◌, ◌||◌}
 use Rattle.std.specs.Prelude.{◌==◌, codes}
 use Rattle.std.proofs.lemmas.Bool.{false≢true}
 use Rattle.pgn_layout.specs.Device.{one_more}
@@ -30,7 +30,7 @@ use Rattle.pgn_tool.specs.ListLines.{list_profile}
 use Rattle.pgn_tool.specs.Files.{FileStep, added, closing_steps, number_after, open_text, whole_files, open_file}
 use Rattle.pgn_tool.specs.SplitFiles.{IsOwn, TurnResult, settled}
 use Rattle.pgn_tool.specs.SplitState as state
-use Rattle.pgn_tool.specs.SplitGames.{IsSplit, IsSplitWhole, Logs, files_of, texts_in, torn_file, torn_text}
+use Rattle.pgn_tool.specs.SplitGames.{IsSplitWhole, Logs, files_of, texts_in, torn_file, torn_text}
 use Rattle.pgn_tool.specs.SplitState.{AfterSplitEnd, FilesOf, SplitSoFar, SplitStopsAtEnd}
 use Rattle.pgn_tool.proofs.splitting.TokensAtEnd.{left_over}
 use Rattle.pgn_tool.proofs.splitting.NoWriteFaultInTable.{read_own}

@@ -92,9 +92,6 @@ after_marker ts m g passes all one = by_test (refusal list_profile (read list_pr
 
 -- ---- files
 
-same_log : (b c : List FileStep) → Some b ≡ Some c → b ≡ c
-same_log b c e = cc
-
 same_text : (a b : List ℕ) → Some a ≡ Some b → a ≡ b
 same_text a b e = cc
 

@@ -1,7 +1,7 @@
 -- The files of what a source gives, piece by piece.
-use Rattle.std.proofs.Common.{◌≡◌, ◌∙◌, ℕ, List, [], ◌++◌, map, Option, None, Some, Result, Ok, Err, refl, sym, ap, subst, inl, append_assoc, append-nil}
+use Rattle.std.proofs.Common.{◌≡◌, ◌∙◌, ℕ, List, [], ◌++◌, map, Option, None, Result, Ok, Err, sym, ap, subst, append_assoc, append-nil}
 use Rattle.std.specs.Io.KnownBytes.{Consumes, IsAtEnd, Keeps}
-use Rattle.std.proofs.KnownBytes.{Consumes-nil, Consumes-trans}
+use Rattle.std.proofs.KnownBytes.{Consumes-trans}
 use Rattle.pgn_lexer.specs.Tokens.{Token}
 use Rattle.pgn_lexer.specs.TokensOf.{tokens_of}
 use Rattle.pgn_game.specs.declared.reason.Reason.TheVariants.{ReadFault, InputTooLong}
@@ -32,19 +32,6 @@ same_files : (before after : Option (List FileStep)) (ts us : List Token) → re
     → Logs before after (files_of ts) → Logs before after (files_of us)
 unfolding files_read
 same_files before after ts us same logs = subst (λ r. Logs before after (files_read r)) same logs
-
--- before anything was read
-no_files : {A : Type 0} → (taken : A → Option (List ℕ)) (before : Option (List FileStep)) → AreFiles taken before before None 0 []
-no_files taken None = tt
-no_files taken (Some b) = record { counted = refl; logged = ap (λ l. Some l) (sym (append-nil b)); text = refl }
-
-pub read_none : {A : Type 0} → (taken : A → Option (List ℕ)) (c : Converter) (left : Option (List ℕ)) (before : Option (List FileStep))
-    → Stands list_profile c [] None [] → SourceSplitSoFar taken left left c before before None 0
-read_none taken c left before stands = record {
-  bytes = [];
-  consumed = Consumes-nil left;
-  split = record { tokens = []; stands = stands; at_limit = λ h. refl; decided = inl refl; files = no_files taken before };
-}
 
 module _ {A : Type 0} (taken : A → Option (List ℕ)) (failures : A → ℕ) (left_old left : Option (List ℕ)) (c : Converter)
     (before log : Option (List FileStep)) (file : Option A) (count : ℕ)

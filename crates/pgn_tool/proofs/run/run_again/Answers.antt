@@ -12,4 +12,4 @@ returns-in-Ok-clause-runs g c =
     c.run_both.ensures.runs
 
 pub returns-in-Err-clause-runs : goal.returns-in-Err-clause-runs
-returns-in-Err-clause-runs g c = refused_again _ _ _ _ _ _ _ _ _ _ c.in-Err.is c.open.ensures (refl, refl) (refl, refl) c.refuse_file.ensures.ends
+returns-in-Err-clause-runs g c = refused_again _ _ _ _ _ _ _ _ _ _ _ c.in-Err.is c.open.ensures (refl, refl) (refl, refl) c.refuse_file.ensures.ends

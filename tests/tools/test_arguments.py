@@ -1,0 +1,191 @@
+#!/usr/bin/env python3
+"""A test of the command line: the proved program and Cargo's answer thousands of lists of words.
+
+Both have the same source, on two libraries: the proved one on the port of clap that the Rattle
+toolchain has, and Cargo's on the real clap. A list is carried out as it stands, in a folder that
+has a file for each word. The games of two files differ, so what is written says which task was
+carried out, and on which file.
+
+What is compared exactly: the status, standard output, standard error and the files that are left.
+Messages of a clap older than 4.6 are brought to the words of 4.6 first: see WORDING.
+
+What is not tried: four words of which the first is no subcommand, or one is no text.
+"""
+import collections
+import concurrent.futures
+import itertools
+import os
+import re
+import shutil
+import sys
+import tempfile
+import unittest
+
+sys.path.insert(0, os.path.dirname(os.path.realpath(__file__)))
+import programs
+import test_cargo
+
+SUBCOMMANDS = (b"export", b"check", b"list", b"split")
+# The last three: abbreviations, which are rejected, and a word that is no text.
+WORDS = (
+    *SUBCOMMANDS, b"--reduced", b"--checked", b"games.pgn", b"folder", b"--", b"", b"--help", b"-h",
+    b"--version", b"-V", b"-", b"--reduced=x", b"--red", b"exp", b"\xff",
+)
+FOLDER = "folder"
+# What clap 4.0 to 4.5 says, and how 4.6 says it, as the proved port does.
+WORDING = [
+    (r"For more information try '--help'\n", "For more information, try '--help'.\n"),
+    (r"(Print (?:help|version)) information\n", r"\1\n"),
+    (
+        r"Found argument ('.*') which wasn't expected, or isn't valid in this context",
+        r"unexpected argument \1 found",
+    ),
+    (
+        r"The value ('.*') was provided to ('.*') but it wasn't expecting any more values",
+        r"unexpected value \1 for \2 found; no more were expected",
+    ),
+    (r"The argument ('.*') was provided more than once, but cannot", r"the argument \1 cannot"),
+    (r"The subcommand ('.*') wasn't recognized", r"unrecognized subcommand \1"),
+    (r"The following required", "the following required"),
+    (
+        r"If you tried to supply ('.*') as a value rather than a flag,",
+        r"tip: to pass \1 as a value,",
+    ),
+    (
+        r"If you tried to supply ('.*') as a subcommand, remove the '--' before it\.",
+        r"tip: subcommand \1 exists; to use it, remove the '--' before it",
+    ),
+    (r"Did you mean to put '(.*)' after the subcommand '(.*)'\?", r"tip: '\2 \1' exists"),
+    (r"Did you mean ('--.*')\?", r"tip: a similar argument exists: \1"),
+    (
+        r"Did you mean ('.*')\?\n\n  If you believe .*\n",
+        r"tip: a similar subcommand exists: \1\n",
+    ),
+]
+
+
+def in_present_words(text):
+    """The messages of clap as 4.6 says them."""
+    text = text.decode()
+    for old, new in WORDING:
+        text = re.sub(old, new, text)
+    return text
+
+
+def lists():
+    """All lists of at most three words, and those of four that go on behind a subcommand."""
+    for count in range(4):
+        yield from itertools.product(WORDS, repeat=count)
+    texts = WORDS[:-1]
+    yield from itertools.product(SUBCOMMANDS, texts, texts, texts)
+
+
+def games(number):
+    """Two games. The first has so many plies and a comment, and the second no Result tag."""
+    plies = ["Nf3", "Nf6", "Ng1", "Ng8"]
+    moves = " ".join(plies[it % 4] for it in range(number))
+    return b"%s {so many} *\n1. e4 1-0\n" % moves.encode()
+
+
+def make_folder():
+    """A folder with a file for each word that can be a name, and what standard input has."""
+    folder = tempfile.mkdtemp()
+    os.mkdir(os.path.join(folder, FOLDER))
+    names = [it for it in WORDS if it not in (b"", FOLDER.encode(), b"\xff")]
+    for number, name in enumerate([*names, b"stdin"], 1):
+        with open(os.path.join(folder.encode(), name), "wb") as file:
+            file.write(games(number))
+    return folder
+
+
+class Runner:
+    """A folder that programs run in, and the files that it had before."""
+
+    def __init__(self):
+        self.before, self.folder = os.getcwd(), make_folder()
+        os.chdir(self.folder)
+        self.device = tempfile.mkdtemp()
+        self.had = set(os.listdir("."))
+
+    def close(self):
+        os.chdir(self.before)
+        shutil.rmtree(self.folder)
+        shutil.rmtree(self.device)
+
+    def answer(self, program, words):
+        """The status of a run, what it wrote, and the files that it left."""
+        outputs = [os.path.join(self.device, it) for it in ("out", "err")]
+        flags = os.O_WRONLY | os.O_CREAT | os.O_TRUNC
+        actions = [(os.POSIX_SPAWN_OPEN, 0, "stdin", os.O_RDONLY, 0)]
+        actions += [
+            (os.POSIX_SPAWN_OPEN, number, name, flags, 0o600)
+            for number, name in enumerate(outputs, 1)
+        ]
+        line = [b"pgn_tool", *words]
+        child = os.posix_spawn(program, line, os.environ, file_actions=actions)
+        status = os.waitstatus_to_exitcode(os.waitpid(child, 0)[1])
+        return (status, *map(read, outputs), self.left())
+
+    def left(self):
+        """The files that a run made, which go."""
+        names = [it for it in os.listdir(".") if it not in self.had]
+        names += [os.path.join(FOLDER, it) for it in os.listdir(FOLDER)]
+        found = {it: read(it) for it in sorted(names)}
+        for name in names:
+            os.remove(name)
+        return found
+
+
+def read(name):
+    with open(name, "rb") as file:
+        return file.read()
+
+
+def compare(proved, program, share):
+    """How many lists had which status, and the lists that the programs answer differently."""
+    runner, statuses, differing = Runner(), collections.Counter(), []
+    try:
+        for words in share:
+            ours = runner.answer(proved, words)
+            theirs = runner.answer(program, words)
+            statuses[ours[0]] += 1
+            texts = [[in_present_words(it) for it in ran[1:3]] for ran in (ours, theirs)]
+            if (ours[0], texts[0], ours[3]) != (theirs[0], texts[1], theirs[3]):
+                differing.append((words, ours, theirs))
+    finally:
+        runner.close()
+    return statuses, differing
+
+
+class Answers(unittest.TestCase):
+    def test_both_programs_answer_each_list_of_words_the_same(self):
+        proved, program = programs.need_proved_program(), test_cargo.built()
+        all_lists = list(lists())
+        workers = len(os.sched_getaffinity(0))
+        shares = [all_lists[it :: 4 * workers] for it in range(4 * workers)]
+        statuses, differing = collections.Counter(), []
+        with concurrent.futures.ProcessPoolExecutor(workers) as pool:
+            ran = pool.map(compare, *zip(*((proved, program, it) for it in shares)))
+            for some_statuses, some_differing in ran:
+                statuses += some_statuses
+                differing += some_differing
+        self.assertEqual(differing[:3], [], "%d lists" % len(differing))
+        self.assertEqual(sum(statuses.values()), len(all_lists))
+        # Help and tasks without a fault, tasks with one, and words that are rejected.
+        for status in (0, 1, 2):
+            self.assertGreater(statuses[status], 500)
+
+    def test_any_two_tasks_are_answered_differently(self):
+        proved = programs.need_proved_program()
+        files = [[it] for it in (b"games.pgn", b"-", b"export")] + [[]]
+        exports = [[b"export"], [b"export", b"--reduced"]]
+        tasks = [[b"check"], [b"list"], [b"split", b"folder"], *exports]
+        calls = [task + file for task in tasks for file in files]
+        calls += [task + [b"--checked"] + file for task in exports for file in files[:3]]
+        runner = Runner()
+        self.addCleanup(runner.close)
+        self.assertEqual(len({repr(runner.answer(proved, it)) for it in calls}), len(calls))
+
+
+if __name__ == "__main__":
+    unittest.main()
