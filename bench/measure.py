@@ -13,6 +13,8 @@ import time
 HERE = os.path.dirname(os.path.realpath(__file__))
 ROOT = os.path.dirname(HERE)
 IN_MEMORY = "/dev/shm"
+# the script that measures, as messages name it
+SCRIPT = "bench/" + os.path.basename(sys.argv[0])
 # The parts of the program, and the beginnings of the names of the functions that belong to each.
 # The first beginning that fits decides. Functions with no part (chess_rules, core, std, memcpy)
 # belong to the part that calls them: so legality is a cost of find and of write_san.
@@ -32,30 +34,72 @@ MAIN_FUNCTIONS = {
     "layout and sinks": ("pgn_layout::current_line::CurrentLine::put", "pgn_layout::sink::write_all"),
     "reader and levels": ("pgn_game::reader::Reader::accept", "pgn_game::movetext::Movetext::put"),
 }
+# Programs of others that are called, and the packages of Debian that have them.
+PACKAGES = {"pgn-extract": "pgn-extract", "valgrind": "valgrind", "time": "time",
+            "tkscid": "scid", "strace": "strace", "parallel": "parallel"}
+# Other work is more than so many processors that other processes keep busy, on average.
+QUIET = 0.2
+# how long is waited to see whether there is other work
+SECONDS = 5
 STACK_STEP = 4
 # what a small file takes in memory, and more than that
 BLOCK = 8192
 
 
 def stop(why):
-    sys.exit("bench/run: " + why)
+    sys.exit("%s: %s" % (SCRIPT, why))
 
 
 def found(name):
     return shutil.which(name, path=os.environ.get("PATH", "") + ":/usr/games:/usr/bin")
 
 
-def install(name, package):
-    """The path of a program of Debian, which is installed if it is missing, or None."""
-    if not found(name) and found("apt-get"):
-        print("bench/run: installs %s" % package, file=sys.stderr)
-        for words in (["update", "-q"], ["install", "-y", "-q", "--no-install-recommends", package]):
-            subprocess.run(["apt-get", *words], stdout=subprocess.DEVNULL, check=False)
-    return found(name)
+def check_tools(needed, others=()):
+    """Names what is missing, with the command that installs it. Stops if it is needed.
+
+    The figures of the others are left out without them.
+    """
+    lacking = [it for it in (*needed, *others) if not found(it)]
+    if not lacking:
+        return
+    said = "%s missing; to install: apt-get install --no-install-recommends %s" % (
+        "%s %s" % (", ".join(lacking), "is" if len(lacking) == 1 else "are"),
+        " ".join(PACKAGES[it] for it in lacking))
+    if set(lacking) & set(needed):
+        stop(said)
+    print("%s: %s; goes on without these figures" % (SCRIPT, said), file=sys.stderr)
 
 
-def need(name):
-    return install(name, name) or stop("there is no %s" % name)
+def work():
+    """Seconds so far: of the clock, of work of all processors, and of our own work.
+
+    Time that a virtual machine had to wait for its processors counts as work.
+    """
+    with open("/proc/stat", encoding="ascii") as file:
+        user, nice, system, _, _, *others = map(int, file.readline().split()[1:9])
+    ours = os.times()
+    busy = (user + nice + system + sum(others)) / os.sysconf("SC_CLK_TCK")
+    return ours.elapsed, busy, sum(ours[:4])
+
+
+def other_work(before, after):
+    """How many processors other processes kept busy, on average, between two answers of work."""
+    clock, busy, own = (b - a for a, b in zip(before, after))
+    return max(0, busy - own) / clock
+
+
+def check_quiet(other, allowed):
+    """Stops if other processes kept so many processors busy, unless that is allowed."""
+    if other > QUIET and not allowed:
+        stop("other work keeps %.1f processors busy, so nothing is recorded; --busy records all the"
+             " same" % other)
+
+
+def wait_for_quiet(allowed):
+    """Stops if there is other work now, unless that is allowed."""
+    before = work()
+    time.sleep(SECONDS)
+    check_quiet(other_work(before, work()), allowed)
 
 
 def call(words, to="/dev/null"):
@@ -71,7 +115,7 @@ def call(words, to="/dev/null"):
 
 def memory(words):
     """The most that was resident, in MiB."""
-    tool = [need("time"), "-f", "%M", *words]
+    tool = [found("time"), "-f", "%M", *words]
     ran = subprocess.run(tool, stdout=subprocess.DEVNULL, stderr=subprocess.PIPE, check=False)
     return int(ran.stderr.split()[-1]) / 1024
 
@@ -79,7 +123,7 @@ def memory(words):
 def callgrind(words):
     """What callgrind counts in a call, as read_callgrind returns it."""
     with tempfile.NamedTemporaryFile() as file:
-        tool = [need("valgrind"), "--tool=callgrind", "--branch-sim=yes",
+        tool = [found("valgrind"), "--tool=callgrind", "--branch-sim=yes",
                 "--callgrind-out-file=" + file.name]
         call([*tool, *words])
         with open(file.name, encoding="utf-8", errors="replace") as lines:
@@ -173,14 +217,14 @@ def limit_stack(kib):
     resource.setrlimit(resource.RLIMIT_STACK, (kib * 1024, kib * 1024))
 
 
-def fits(program, task, kib, times):
-    """Whether the program ends by itself on each of the vectors, with a stack of so many KiB."""
-    files = sorted(os.path.relpath(it, ROOT) for it in glob.glob(ROOT + "/vectors/*.in"))
+def fits(program, task, folder, kib, times):
+    """Whether the program ends by itself on each input of a folder, with a stack of so many KiB."""
+    files = sorted(glob.glob("*.in", root_dir=folder))
     quiet = {"stdin": subprocess.DEVNULL, "stdout": subprocess.DEVNULL, "stderr": subprocess.DEVNULL}
     for file in times * files:
         try:
-            ran = subprocess.run([program, *task.split(), file], cwd=ROOT, env={}, check=False, **quiet,
-                                 preexec_fn=lambda: limit_stack(kib))
+            ran = subprocess.run([program, *task.split(), file], cwd=folder, env={}, check=False,
+                                 **quiet, preexec_fn=lambda: limit_stack(kib))
         except OSError:
             return False
         if ran.returncode not in (0, 1):
@@ -189,16 +233,18 @@ def fits(program, task, kib, times):
 
 
 def least_stack(program, task):
-    """The least ulimit -s that is enough, in KiB, with an empty environment.
+    """The least ulimit -s that is enough for each vector, in KiB, with an empty environment.
 
     Each call has another place of the stack, so near the least some calls fail and some do not.
     """
     low, high = 0, 8192
-    while high - low > STACK_STEP:
-        middle = (low + high) // (2 * STACK_STEP) * STACK_STEP
-        low, high = (low, middle) if fits(program, task, middle, 1) else (middle, high)
-    while not fits(program, task, high, 3):
-        high += STACK_STEP
+    with tempfile.TemporaryDirectory() as folder:
+        subprocess.run([ROOT + "/bin/pgn_conform", "--files", folder], check=True)
+        while high - low > STACK_STEP:
+            middle = (low + high) // (2 * STACK_STEP) * STACK_STEP
+            low, high = (low, middle) if fits(program, task, folder, middle, 1) else (middle, high)
+        while not fits(program, task, folder, high, 3):
+            high += STACK_STEP
     return high
 
 
@@ -250,13 +296,23 @@ def checked_figures(program, file, small, large, games, rounds):
     return figures
 
 
+def built_program(*options):
+    """The program of the repository, which is built if need be: the proved one if it is there."""
+    ran = subprocess.run([ROOT + "/bin/build_program", *options], stdout=subprocess.PIPE,
+                         check=False)
+    if ran.returncode:
+        stop("the program was not built")
+    return os.fsdecode(ran.stdout).rstrip("\n")
+
+
 def program_name(program):
-    """The program's version, and whether it is the one that bin/pgn_tool builds."""
+    """The program's version, and how it was built."""
     ran = subprocess.run([program, "--version"], stdout=subprocess.PIPE, check=False)
     if ran.returncode:
         stop("%s --version failed" % program)
-    is_built = os.path.realpath(program) == ROOT + "/crates/pgn_tool/out/pgn_tool"
-    kind = "as `bin/pgn_tool` builds it" if is_built else "another build"
+    folder = os.path.relpath(os.path.realpath(program), ROOT).split(os.sep)[0]
+    kinds = {"crates": "proved and built by rt", "cargo": "built by Cargo"}
+    kind = kinds.get(folder, "another build")
     return "%s, %s" % (ran.stdout.decode().strip(), kind)
 
 

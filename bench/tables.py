@@ -27,8 +27,6 @@ FORMS = {
     "least stack": ("%d KiB", "%d KiB"),
     "--checked to export": ("%.1f", "%.2f"),
 }
-# A load of more than this beyond the measurement's own is other work.
-QUIET = 0.5
 
 
 def table(head, rows, side="---:"):
@@ -79,24 +77,16 @@ def goals(result):
             *table(["", "of", "at most", "measured", "goal"], rows, "---"), *said, ""]
 
 
-def other_work(result, own=1):
-    """Whether the load says so; that at the end has the processes of the measurement."""
-    before, after = result["load"]
-    if before <= QUIET and after <= own + QUIET:
-        return "no other work ran"
-    return "**other work ran**"
-
-
-def machine(result, own=1):
-    """The date, the program, the machine, the versions, and whether other work ran."""
+def machine(result):
+    """The date, the program, the machine, the versions, and how much other work ran."""
     it = result["machine"]
     versions = ", ".join("%s %s" % pair for pair in it["versions"].items())
     items = ["- Date: %s; the least of %d rounds" % (result["date"], result["rounds"]),
              "- Program: %s" % result["program"],
              "- Machine: %d processors, %s; Debian %s" % (it["processors"], it["model"], it["debian"]),
              "- Versions: %s" % versions,
-             "- Load average: %.2f before; %.2f after, where up to %d is the measurement's own: %s"
-             % (*result["load"], own, other_work(result, own))]
+             "- Other work: kept %.2f of %d processors busy, on average"
+             % (result["other"], it["processors"])]
     return [line for item in items for line in prose(item)] + [""]
 
 
@@ -181,7 +171,7 @@ def summary(result):
                      "%.1f MiB" % ours["memory"]])
     head = ["", "games a second", "wall time", "instructions", "memory"]
     version = result["machine"]["versions"].get("pgn-extract", "of unknown version")
-    said = "Measured on %s; %s; pgn-extract %s:" % (result["date"], other_work(result), version)
+    said = "Measured on %s, beside pgn-extract %s:" % (result["date"], version)
     return [*prose(said), "", *table(head, rows)][:-1]
 
 

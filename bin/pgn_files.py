@@ -109,26 +109,40 @@ def open_file(path):
     return file
 
 
+# How a script finds the program: for its help.
+ENVIRONMENT = """environment:
+  PGN_TOOL  the pgn_tool to call [default: the one beside this script, else the one on the PATH]"""
+
+
 def program():
-    """The path of the program: the one of this repository, built if needed, or an installed one."""
-    if os.environ.get("PGN_TOOL"):
-        return os.environ["PGN_TOOL"]
+    """The path of the program: see ENVIRONMENT. In the repository it is built if need be."""
+    named = os.environ.get("PGN_TOOL")
     here = os.path.dirname(os.path.realpath(__file__))
-    root = os.path.dirname(here)
-    if os.path.isdir(root + "/crates/pgn_tool"):
-        words = [here + "/pgn_tool", "--version"]
-        made = subprocess.run(words, stdout=subprocess.DEVNULL, check=False)
-        if made.returncode:
-            raise Failure(NO_PROGRAM, "the program pgn_tool was not built")
-        return root + "/crates/pgn_tool/out/pgn_tool"
-    started = os.path.dirname(os.path.abspath(sys.argv[0]))
-    for folder in (started, here, here + "/../../bin"):
-        if os.access(folder + "/pgn_tool", os.X_OK):
-            return folder + "/pgn_tool"
-    found = shutil.which("pgn_tool")
+    if named:
+        found = shutil.which(named)
+    elif os.path.exists(here + "/build_program"):
+        return repository_program(here)
+    else:
+        beside = os.path.dirname(os.path.abspath(sys.argv[0]))
+        found = shutil.which("pgn_tool", path=os.pathsep.join((beside, here + "/../../bin")))
+        found = found or shutil.which("pgn_tool")
     if not found:
-        raise Failure(NO_PROGRAM, "there is no program pgn_tool")
+        raise Failure(NO_PROGRAM, "PGN_TOOL names no program: %s" % named if named else
+                      "there is no pgn_tool beside this script or on the PATH")
     return found
+
+
+def repository_program(scripts):
+    """The program of the repository. While it has none, that on the PATH; without one it builds."""
+    build = [scripts + "/build_program"]
+    if subprocess.run(build + ["--built"], stdout=subprocess.DEVNULL, check=False).returncode:
+        found = shutil.which("pgn_tool")
+        if found and not is_same_file(found, scripts + "/pgn_tool"):
+            return found
+    made = subprocess.run(build, stdout=subprocess.PIPE, check=False)
+    if made.returncode:
+        raise Failure(NO_PROGRAM, "the program pgn_tool was not built")
+    return os.fsdecode(made.stdout).rstrip("\n")
 
 
 # ---- PGN text in blocks

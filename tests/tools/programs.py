@@ -1,12 +1,15 @@
 """What several tests of the tools need: the program, and other programs that may be missing."""
+import functools
+import json
 import os
+import pty
 import shutil
 import subprocess
-import sys
+import tempfile
+import termios
 import unittest
 
 ROOT = os.path.dirname(os.path.dirname(os.path.dirname(os.path.realpath(__file__))))
-BUILT = os.path.join(ROOT, "crates/pgn_tool/out/pgn_tool")
 # Debian keeps games apart.
 PATH = os.environ.get("PATH", "") + ":/usr/games:/usr/sbin"
 
@@ -17,9 +20,8 @@ def found(name):
 
 
 def not_tried(why):
-    """Leaves a test out, and says so in the test's output."""
-    print("not tried: " + why, file=sys.stderr, flush=True)
-    raise unittest.SkipTest("not tried: " + why)
+    """Leaves a test out, which then counts as skipped for this reason."""
+    raise unittest.SkipTest(why)
 
 
 def need(*names):
@@ -29,11 +31,73 @@ def need(*names):
             not_tried(name + " is missing")
 
 
+@functools.lru_cache(maxsize=None)
+def printed_by_build(*options):
+    """The path that bin/build_program prints, or an empty text."""
+    ran = subprocess.run([os.path.join(ROOT, "bin/build_program"), *options],
+                         stdout=subprocess.PIPE, check=False)
+    return os.fsdecode(ran.stdout).rstrip("\n")
+
+
 def need_program():
-    """The built program; the test is left out without it."""
-    if not os.access(BUILT, os.X_OK):
-        not_tried("crates/pgn_tool/out/pgn_tool is not built")
-    return BUILT
+    """The program that PGN_TOOL names, else that of the repository, which is built if need be.
+
+    That is the proved one if it is there, else Cargo's. The test is left out if none can be built.
+    """
+    program = os.environ.get("PGN_TOOL") or printed_by_build()
+    return program or not_tried("the program cannot be built")
+
+
+def opens_closed_streams(program):
+    """Whether a program has /dev/null in the place of a closed standard stream.
+
+    Rust opens it before main, so Cargo's program does not notice that a stream is closed.
+    """
+    return os.path.realpath(program).startswith(os.path.join(ROOT, "cargo", ""))
+
+
+def need_proved_program():
+    """The program that rt built; the test is left out if it is missing or a source is newer."""
+    program = printed_by_build("--built", "--proved")
+    if not program or program != printed_by_build():
+        not_tried("bin/build_program --proved has not built the proved program")
+    return program
+
+
+def vectors():
+    """The worked inputs, as vectors/vectors.json has them."""
+    with open(os.path.join(ROOT, "vectors", "vectors.json"), encoding="utf-8") as file:
+        return json.load(file)["vectors"]
+
+
+def without_rights(test, program):
+    """The words that call a program as a user whom permissions bind: for root, as another one."""
+    if os.geteuid() != 0:
+        return [program]
+    need("setpriv")
+    folder = tempfile.mkdtemp()
+    test.addCleanup(shutil.rmtree, folder)
+    os.chmod(folder, 0o755)
+    copy = shutil.copy(program, folder + "/program")
+    return ["setpriv", "--reuid=65534", "--clear-groups", copy]
+
+
+def on_a_terminal(words, **more):
+    """What a terminal shows of a program."""
+    ours, its = pty.openpty()
+    mode = termios.tcgetattr(its)
+    mode[1] &= ~termios.OPOST  # a line then ends as the program ends it
+    termios.tcsetattr(its, termios.TCSANOW, mode)
+    shown = b""
+    with subprocess.Popen(words, stdin=subprocess.DEVNULL, stdout=its, stderr=its, **more):
+        os.close(its)
+        while True:
+            try:
+                shown += os.read(ours, 4096)
+            except OSError:  # the last process has closed its end
+                break
+    os.close(ours)
+    return shown.decode(errors="replace")
 
 
 def run(words, **more):

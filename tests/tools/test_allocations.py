@@ -12,7 +12,7 @@ import tempfile
 import unittest
 
 sys.path.insert(0, os.path.dirname(os.path.realpath(__file__)))
-from programs import ROOT, need, need_program, run
+from programs import ROOT, need, need_proved_program, run
 
 # Without memory for its second block it forgets its line; without the first it says so.
 FORGETFUL = """
@@ -35,7 +35,7 @@ class AllocationsTest(unittest.TestCase):
         self.addCleanup(shutil.rmtree, self.folder, True)
 
     def test_program(self):
-        need_program()
+        need_proved_program()
         ran = run(["bin/try_allocations"])
         self.assertEqual((ran.returncode, ran.stderr), (0, b""), ran.stdout)
         lines = ran.stdout.decode().splitlines()
@@ -44,7 +44,7 @@ class AllocationsTest(unittest.TestCase):
             self.assertRegex(line, r"^.*: \d+ refusals, [1-9]\d* reported, 0 wrong$")
 
     def test_one_call(self):
-        need_program()
+        need_proved_program()
         ran = run(["bin/try_allocations", "check"], input=b"* *")
         self.assertEqual(ran.returncode, 0, ran.stdout)
         self.assertRegex(ran.stdout, rb"^check: \d+ refusals, \d+ reported, 0 wrong\n$")
@@ -70,7 +70,7 @@ class AllocationsTest(unittest.TestCase):
                           text.getvalue())
 
     def test_no_compiler(self):
-        need_program()
+        need_proved_program()
         ran = run(["bin/try_allocations"], env=dict(os.environ, CC="/missing/cc"))
         self.assertEqual((ran.returncode, ran.stdout), (2, b""))
         self.assertIn(b"no C compiler", ran.stderr)

@@ -76,6 +76,18 @@ STRACE = """% time     seconds  usecs/call     calls    errors syscall
 """
 
 
+# What bench/run does first, where no other folder than the given one has programs.
+MISSING = """
+import shutil, sys
+sys.argv = ["run", *sys.argv[1:]]
+sys.path.insert(0, sys.argv[1] + "/bench")
+import measure
+measure.found = lambda name: shutil.which(name, path=sys.argv[1])
+measure.check_tools(("strace",), ("tkscid",))
+measure.check_tools(("time", "strace"), ("tkscid",))
+"""
+
+
 def converter(wall, memory, instructions, mispredictions):
     return {"wall": wall, "memory": memory, "instructions": instructions,
             "mispredictions": mispredictions}
@@ -94,7 +106,7 @@ def archive(name, wall):
 
 
 RESULT = {
-    "date": "2001-02-03", "program": "pgn_tool 1.2", "rounds": 4, "load": (0.1, 1.2),
+    "date": "2001-02-03", "program": "pgn_tool 1.2", "rounds": 4, "other": 0.032,
     "machine": {"processors": 8, "model": "a processor", "debian": "99.1",
                 "versions": {"pgn-extract": "1.2-3", "valgrind": "4.5"}},
     "archives": [archive("plain", 0.15), archive("annotated", 0.25)],
@@ -104,7 +116,7 @@ RESULT = {
 
 class Words(unittest.TestCase):
     def test_help(self):
-        for script in ("run", "parallel"):
+        for script in ("run", "parallel", "library"):
             ran = run([ROOT + "/bench/" + script, "--help"])
             self.assertEqual((ran.returncode, ran.stderr), (0, b""))
             self.assertIn(b"--record", ran.stdout)
@@ -114,6 +126,31 @@ class Words(unittest.TestCase):
         ran = run([ROOT + "/bench/run", "--record", "--archive", "x.pgn"])
         self.assertEqual((ran.returncode, ran.stdout), (2, b""))
         self.assertIn(b"not allowed with", ran.stderr)
+
+    def test_another_program_is_not_recorded(self):
+        for script in ("run", "parallel", "library"):
+            ran = run([ROOT + "/bench/" + script, "--record", "--program", "/bin/true"])
+            self.assertEqual((ran.returncode, ran.stdout), (2, b""))
+            self.assertIn(b"leave out --program", ran.stderr)
+
+    def test_nothing_is_installed(self):
+        """Of the tools only apt-get is there, which would fail, and bench/run does not call it."""
+        folder = tempfile.mkdtemp()
+        self.addCleanup(shutil.rmtree, folder)
+        shutil.copytree(ROOT + "/bench", folder + "/bench", ignore=shutil.ignore_patterns("out"))
+        for name in ("strace", "apt-get"):
+            with open(os.path.join(folder, name), "w", encoding="ascii") as file:
+                file.write("#!/bin/sh\ntouch %s/called\n" % folder)
+            os.chmod(os.path.join(folder, name), 0o755)
+        words = [sys.executable, "-c", MISSING, folder]
+        ran = run(words, env=dict(os.environ, PATH=folder))
+        self.assertEqual((ran.returncode, ran.stdout), (1, b""))
+        said = "%s; to install: apt-get install --no-install-recommends %s"
+        self.assertEqual(ran.stderr.decode().splitlines(), [
+            "bench/run: " + said % ("tkscid is missing", "scid")
+            + "; goes on without these figures",
+            "bench/run: " + said % ("time, tkscid are missing", "time scid")])
+        self.assertFalse(os.path.exists(folder + "/called"))
 
 
 class Readers(unittest.TestCase):
@@ -162,6 +199,45 @@ class Readers(unittest.TestCase):
         self.assertEqual(measure.read_strace(STRACE.splitlines(True)), 84)
 
 
+class OtherWork(unittest.TestCase):
+    def test_how_much(self):
+        for after, other in (((10, 27, 9), 0.8), ((10, 17, 7), 0), ((20, 20, 0), 0.5)):
+            self.assertEqual(measure.other_work((0, 10, 0), after), other)
+        self.assertEqual(measure.other_work((5, 10, 2), (15, 20, 3)), 0.9)
+
+    def test_the_clocks_go_on(self):
+        before, after = measure.work(), measure.work()
+        self.assertEqual(len(before), 3)
+        self.assertTrue(all(a <= b for a, b in zip(before, after)), (before, after))
+
+    def stops(self, other, allowed):
+        try:
+            measure.check_quiet(other, allowed)
+        except SystemExit as stopped:
+            self.assertIn("other work keeps %.1f processors busy" % other, str(stopped))
+            self.assertIn("--busy", str(stopped))
+            return True
+        return False
+
+    def test_when_it_stops(self):
+        self.assertEqual([self.stops(it, False) for it in (0, 0.19, 0.21, 3)],
+                         [False, False, True, True])
+        self.assertEqual([self.stops(it, True) for it in (0, 0.21, 3)], [False] * 3)
+
+    def test_before_it_begins(self):
+        self.addCleanup(setattr, measure, "SECONDS", measure.SECONDS)
+        self.addCleanup(setattr, measure, "work", measure.work)
+        measure.SECONDS = 0
+        for busy in (1.9, 2.1):
+            answers = [(0, 10, 1), (10, 10 + busy, 1)]
+            measure.work = lambda: answers.pop(0)
+            if busy < 2:
+                measure.wait_for_quiet(False)
+            else:
+                self.assertRaises(SystemExit, measure.wait_for_quiet, False)
+            self.assertEqual(answers, [])
+
+
 class Tables(unittest.TestCase):
     def test_goals(self):
         text = "\n".join(tables.goals(RESULT))
@@ -190,6 +266,7 @@ class Tables(unittest.TestCase):
                      "- Program: pgn_tool 1.2",
                      "- Machine: 8 processors, a processor; Debian 99.1",
                      "- Versions: pgn-extract 1.2-3, valgrind 4.5",
+                     "- Other work: kept 0.03 of 8 processors busy, on average",
                      "### Plain: 2,000 games, 3.0 MB",
                      "| pgn_tool | 0.15 | 13333 | 20.0 | 1.5 | 200 | 30 |",
                      "| lexer, without `Lexer::next` | 50 | 25.0 % |",
@@ -211,16 +288,13 @@ class Tables(unittest.TestCase):
         self.assertEqual(text.count("| split |"), 1)
         self.assertIn("| split | 500 |  |", text)
 
-    def test_other_work(self):
-        for load, said in (((0.1, 1.2), "no other work ran"), ((0.9, 1.2), "**other work ran**"),
-                           ((0.1, 2.2), "**other work ran**")):
-            self.assertEqual(tables.other_work({"load": load}), said)
-        self.assertEqual(tables.other_work({"load": (0.1, 4.2)}, own=4), "no other work ran")
-
     def test_the_summary(self):
         lines = tables.summary(RESULT)
-        self.assertEqual(lines[0], "Measured on 2001-02-03; no other work ran; pgn-extract 1.2-3:")
-        self.assertIn("| plain, 2,000 games, 3.0 MB | 13,300 | 0.15 | 0.20 | 1.5 MiB |", lines)
+        self.assertEqual(lines, [
+            "Measured on 2001-02-03, beside pgn-extract 1.2-3:", "",
+            "|  | games a second | wall time | instructions | memory |", "|---|---:|---:|---:|---:|",
+            "| plain, 2,000 games, 3.0 MB | 13,300 | 0.15 | 0.20 | 1.5 MiB |",
+            "| annotated, 2,000 games, 3.0 MB | 8,000 | 0.25 | 0.20 | 1.5 MiB |"])
 
     def test_the_sentence_of_the_manual(self):
         line = tables.least_stack(RESULT)[0]
@@ -279,6 +353,7 @@ class Records(unittest.TestCase):
         for name in ("bench/README.md", "README.md", "share/man/man1/pgn_tool.1"):
             self.expect_markers(name, "bench/run")
         self.expect_markers("docs/RECIPES.md", "bench/parallel")
+        self.expect_markers("bench/README.md", "bench/library")
 
 
 if __name__ == "__main__":

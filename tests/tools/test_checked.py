@@ -9,7 +9,7 @@ import time
 import unittest
 
 sys.path.insert(0, os.path.dirname(os.path.realpath(__file__)))
-from programs import ROOT, need_program, not_tried, run
+from programs import need_program, not_tried, run, vectors
 
 HEAD = (b'[Event "?"]\n[Site "?"]\n[Date "????.??.??"]\n[Round "?"]\n[White "?"]\n[Black "?"]\n'
         b'[Result "%s"]\n\n')
@@ -76,17 +76,15 @@ class CheckedTest(unittest.TestCase):
 
     def test_each_vector_without_a_fault(self):
         tried = 0
-        folder = os.path.join(ROOT, "vectors")
-        for name in sorted(os.listdir(folder)):
-            path = os.path.join(folder, name)
-            if name.endswith(".in"):
-                plain, twice = run([self.program, "export", path]), self.export(path)
-                if plain.returncode == 0:
-                    self.check(twice, 0, plain.stdout)
-                    tried += 1
-                elif b"result differs" not in plain.stderr:
-                    self.check(twice, 1, twice.stdout, plain.stderr)
-                    self.assertTrue(plain.stdout.startswith(twice.stdout), name)
+        for vector in vectors():
+            path = self.write(vector["input"].encode())
+            plain, twice = run([self.program, "export", path]), self.export(path)
+            if plain.returncode == 0:
+                self.check(twice, 0, plain.stdout)
+                tried += 1
+            elif b"result differs" not in plain.stderr:
+                self.check(twice, 1, twice.stdout, plain.stderr)
+                self.assertTrue(plain.stdout.startswith(twice.stdout), vector["name"])
         self.assertGreater(tried, 100)
 
     def test_without_a_file(self):

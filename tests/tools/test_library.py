@@ -11,7 +11,8 @@ import threading
 import unittest
 
 sys.path.insert(0, os.path.dirname(os.path.realpath(__file__)))
-from programs import ROOT, found, need, need_program, not_tried, run
+from documents import printed_by
+from programs import ROOT, need, need_program, not_tried, run
 
 CRATE = ROOT + "/crates/pgn_c"
 ARCHIVE = CRATE + "/out/libpgn_c.a"
@@ -45,6 +46,44 @@ class Built:
             if ran.returncode != 0:
                 raise AssertionError(ran.stderr.decode())
         return cls.folder + "/" + name
+
+
+class Builder(unittest.TestCase):
+    """examples/build, where there is no library and no toolchain."""
+
+    def setUp(self):
+        self.root = tempfile.mkdtemp()
+        self.addCleanup(shutil.rmtree, self.root)
+        for folder in ("examples", "crates/pgn_c/out", "path"):
+            os.makedirs(self.root + "/" + folder)
+        shutil.copy(ROOT + "/examples/build", self.root + "/examples")
+        for name in ("cat", "dirname", "mkdir"):
+            os.symlink(shutil.which(name), self.root + "/path/" + name)
+
+    def build(self, *words, **env):
+        ran = run([self.root + "/examples/build", *words], cwd=self.root,
+                  env={"PATH": self.root + "/path", **env})
+        return ran.returncode, ran.stdout.decode(), ran.stderr.decode()
+
+    def test_without_the_toolchain(self):
+        self.assertEqual(self.build("to"), (
+            127, "", "examples/build: needs rt, the command of the Rattle toolchain, "
+            "which is not on the PATH\n"))
+        self.assertFalse(os.path.exists(self.root + "/to"))
+
+    def test_without_a_compiler(self):
+        with open(self.root + "/crates/pgn_c/out/libpgn_c.a", "wb"):
+            pass
+        self.assertEqual(self.build("to", CC="/missing/cc")[0], 127)
+
+    def test_arguments(self):
+        for words in (["--no"], ["a", "b"]):
+            status, out, told = self.build(*words)
+            self.assertEqual((status, out, told.count("\n")), (2, "", 1), words)
+        for word in ("-h", "--help"):
+            status, out, told = self.build(word)
+            self.assertEqual((status, told), (0, ""))
+            self.assertIn("usage: examples/build [FOLDER]", out)
 
 
 # ---- the header and the exports, each as the declarations of the other
@@ -150,10 +189,8 @@ class HeaderTest(unittest.TestCase):
         self.assertLessEqual(wanted, {"memcpy", "memmove", "memset", "memcmp", "bcmp"})
 
     def test_compiles_as_c_and_as_cpp(self):
-        need("cc")
+        need("cc", "c++")
         for words in (["-std=c99", "-x", "c"], ["-std=c++11", "-x", "c++"]):
-            if "c++" in words and not found("c++"):
-                continue
             compiler = "c++" if "c++" in words else "cc"
             ran = run([compiler, "-pedantic", "-Wall", "-Wextra", "-Werror", "-fsyntax-only",
                        *words, CRATE + "/pgn.h"])
@@ -204,26 +241,31 @@ int main(void) {
 """
 
 
-def sample(language):
-    """The one block of docs/LIBRARY.md in this language."""
-    with open(ROOT + "/docs/LIBRARY.md", encoding="utf-8") as file:
-        blocks = re.findall("^```%s\n(.*?)^```$" % language, file.read(), re.S | re.M)
-    if len(blocks) != 1:
-        raise AssertionError("%d blocks of %s" % (len(blocks), language))
-    return blocks[0]
+def c_program(sample):
+    """A sample that is a program, or one whose lines belong into main."""
+    lines = sample.split("\n")
+    if "main(" in sample:
+        return sample
+    included = [it for it in lines if it.startswith("#include")]
+    return "\n".join([*included, "int main(void) {", *(it for it in lines if it not in included),
+                      "return 0;", "}", ""])
 
 
 class CExampleTest(unittest.TestCase):
-    def test_sample_of_the_guide(self):
+    def run_sample(self, text):
         with open(Built.path("sample.c"), "w", encoding="ascii") as file:
-            file.write(sample("c"))
-        ran = run(["cc", "-O2", "-Wall", "-Werror", "-I" + CRATE, Built.path("sample.c"), ARCHIVE,
-                   "-o", Built.path("sample")])
+            file.write(c_program(text))
+        words = ["cc", "-O2", "-Wall", "-Werror", "-I" + CRATE, Built.path("sample.c"), ARCHIVE, "-o",
+                 Built.path("sample")]
+        # a few lines need not use all that they say
+        ran = run(words if "main(" in text else [*words, "-Wno-unused-variable"])
         self.assertEqual((ran.returncode, ran.stderr), (0, b""))
-        ran = run([Built.path("sample")])
-        self.assertEqual(ran.returncode, 0)
-        moves = b"1. e4 e5 2. Bc4 Nc6 3. Qh5 Nf6 $2 4. Qxf7# *"
-        self.assertTrue(ran.stdout.endswith(b"\n\n" + moves + b"\n\n"), ran.stdout)
+        return run([Built.path("sample")])
+
+    def test_samples_of_the_documents(self):
+        need_library()
+        moves = rb"(?m)^1\. e4 e5 2\. Bc4 Nc6 3\. Qh5 Nf6 .*4\. Qxf7# (\*|1-0)$"
+        self.assertRegex(printed_by(self, "c", self.run_sample), moves)
 
     def test_fault(self):
         ran = run([Built.path("pgn_check"), NO_SUCH_MOVE])
@@ -390,14 +432,15 @@ class PythonTest(unittest.TestCase):
         self.assertEqual(got[1], self.pgn.convert(text, True))
         self.assertEqual(got[3], got[1])
 
-    def test_sample_of_the_guide(self):
+    def run_sample(self, text):
         env = dict(os.environ, PGN_LIBRARY=Built.path("libpgn.so"))
-        ran = run([sys.executable, "-c", sample("python")], env=env)
-        self.assertEqual((ran.returncode, ran.stderr), (0, b""))
-        lines = ran.stdout.split(b"\n")
-        self.assertEqual(lines[0], b'[Event "?"]')
+        return run([sys.executable, "-c", text], env=env)
+
+    def test_samples_of_the_documents(self):
+        lines = printed_by(self, "python", self.run_sample).split(b"\n")
+        self.assertIn(b'[Event "?"]', lines)
         self.assertIn(b"1. e4 e5 2. Bc4 Nc6 3. Qh5 Nf6 4. Qxf7# 1-0", lines)
-        self.assertEqual(lines[-2], b"34 77 move is not legal")
+        self.assertIn(b"34 77 move is not legal", lines)
         self.assertIn(b"(1, 7)", lines)
 
     def test_as_a_program(self):

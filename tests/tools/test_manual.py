@@ -1,5 +1,6 @@
 #!/usr/bin/env python3
-"""Tests of the manual page and of the completions: against the program and its sources."""
+"""Tests of the manual pages and of the completions: against the programs and their sources."""
+import glob
 import importlib.machinery
 import importlib.util
 import os
@@ -13,10 +14,12 @@ sys.path.insert(0, os.path.dirname(os.path.realpath(__file__)))
 import programs
 from programs import ROOT, run
 
-PAGE = ROOT + "/share/man/man1/pgn_tool.1"
+PAGES = ROOT + "/share/man/man1/"
+PAGE = PAGES + "pgn_tool.1"
+SCRIPTS = ("pgn_where", "pgn_sieve", "pgn_fmt")
 COMPLETIONS = ROOT + "/share/completions/"
-# What a shell says of a process that signal 11 ended.
-KILLED = (-11, 128 + 11)
+# What a shell says of a process that a signal ended: 11, or 6, which Rust sends itself.
+KILLED = (-11, 128 + 11, -6, 128 + 6)
 
 
 def text_of(file):
@@ -31,7 +34,7 @@ def reasons():
     spec = importlib.util.spec_from_loader("write_vectors", loader)
     module = importlib.util.module_from_spec(spec)
     loader.exec_module(module)
-    return {number: words for number, words in module.reasons().values()}
+    return {number: words for _, number, words in module.reasons().values()}
 
 
 def section(page, name):
@@ -58,9 +61,9 @@ class Folder(unittest.TestCase):
         self.folder = tempfile.mkdtemp()
         self.addCleanup(shutil.rmtree, self.folder)
 
-    def shell(self, script, **more):
+    def shell(self, script, run=run, **more):
         program = programs.need_program()
-        path = os.path.dirname(program) + ":" + programs.PATH
+        path = ":".join((os.path.dirname(program), ROOT + "/bin", programs.PATH))
         env = dict(os.environ, PATH=path)
         return run(["bash", "-c", script], cwd=more.pop("cwd", self.folder), env=env, **more)
 
@@ -85,30 +88,54 @@ class Page(Folder):
 
     def test_no_warnings_of_mandoc(self):
         programs.need("mandoc")
-        ran = run(["mandoc", "-Tlint", PAGE])
-        lines = (ran.stdout + ran.stderr).decode().splitlines()
-        # A machine without the index of its manual pages is no matter of this page.
-        self.assertEqual([line for line in lines if "mandoc.db" not in line], [])
+        for name in ("pgn_tool", *SCRIPTS):
+            ran = run(["mandoc", "-Tlint", PAGES + name + ".1"])
+            lines = (ran.stdout + ran.stderr).decode().splitlines()
+            # What is installed on this machine, and its index, are no matter of this page.
+            elsewhere = ("mandoc.db", "referenced manual not found")
+            self.assertEqual([it for it in lines if not any(say in it for say in elsewhere)], [])
 
     def test_no_warnings_of_groff(self):
         programs.need("groff")
         if b"DIAGNOSTICS" not in run(["groff", "-P-cbu", "-mandoc", "-Tascii", PAGE]).stdout:
             programs.not_tried("groff has no mdoc macros")
-        for device in ("ascii", "utf8"):
-            ran = run(["groff", "-ww", "-mandoc", "-T" + device, PAGE])
-            self.assertEqual((ran.returncode, ran.stderr), (0, b""), device)
+        for name in ("pgn_tool", *SCRIPTS):
+            for device in ("ascii", "utf8"):
+                ran = run(["groff", "-ww", "-mandoc", "-T" + device, PAGES + name + ".1"])
+                self.assertEqual((ran.returncode, ran.stderr), (0, b""), device)
+
+    def test_man_shows_each_page(self):
+        programs.need("man")
+        for name in ("pgn_tool", *SCRIPTS):
+            ran = run(["man", "-l", PAGES + name + ".1"])
+            self.assertEqual((ran.returncode, ran.stderr), (0, b""), name)
+            self.assertIn(b"EXIT STATUS", ran.stdout)
+
+    def test_the_pages_name_one_another(self):
+        for name in ("pgn_tool", *SCRIPTS):
+            named = re.findall(r"^\.Xr (pgn_\w+) 1", section(text_of(PAGES + name + ".1"),
+                                                            "SEE ALSO"), re.M)
+            self.assertEqual(named, sorted({"pgn_tool", *SCRIPTS} - {name}))
+
+    def test_no_file_is_cited_that_is_not_installed(self):
+        for name in ("pgn_tool", *SCRIPTS):
+            page = re.sub(r'^\.\\".*', "", text_of(PAGES + name + ".1"), flags=re.M)
+            self.assertNotRegex(page, r"\b(?:bin|docs|examples|vectors|crates)(?:/|\n)")
 
     def test_the_examples_are_real(self):
-        page = section(text_of(PAGE), "EXAMPLES")
-        shown = re.findall(r"^\.Bd -literal.*?\n(.*?)^\.Ed", page, re.M | re.S)
+        """Each block is run as a script, and shows what a terminal would."""
         tried = 0
-        for block in shown:
-            for command, output in re.findall(r"^\$ (.*)\n((?:[^$].*\n)*)", block, re.M):
-                if "examples/" in command:
-                    ran = self.shell(command, cwd=ROOT)
-                    self.assertEqual((ran.stdout + ran.stderr).decode(), output, command)
-                    tried += 1
-        self.assertEqual(tried, 3)
+        for name in ("pgn_tool", *SCRIPTS):
+            page = section(text_of(PAGES + name + ".1"), "EXAMPLES")
+            for block in re.findall(r"^\.Bd -literal.*?\n(.*?)^\.Ed", page, re.M | re.S):
+                block = block.replace("\\e", "\\")
+                if block.startswith("$ parallel"):
+                    continue
+                script = "".join(re.findall(r"^\$ (.*\n)", block, re.M))
+                shown = "".join(re.findall(r"^(?!\$ ).*\n", block, re.M))
+                self.assertEqual(self.shell(script, programs.on_a_terminal), shown, script)
+                tried += 1
+        self.assertEqual(tried, 5)
 
     def test_the_example_of_a_compressed_archive(self):
         programs.need("zstd")
@@ -129,6 +156,46 @@ class Page(Folder):
         one = self.shell("pgn_tool export games.pgn | cmp - export.pgn")
         self.assertEqual((one.returncode, one.stderr), (0, b""))
         self.assertGreater(os.path.getsize(self.folder + "/export.pgn"), 100000)
+
+
+class Scripts(unittest.TestCase):
+    """What the help of a script says is in its page, and the other way round."""
+
+    def test_options(self):
+        for name in SCRIPTS:
+            page = text_of(PAGES + name + ".1")
+            rows = section(page, "DESCRIPTION")
+            named = re.findall(r"^\.It (Fl .*)$", rows, re.M)
+            said = {re.sub(r"Fl ", "-", it).replace(" , ", ", ").replace("Ar ", "")
+                    for it in named}
+            text = run(["bin/" + name, "--help"]).stdout.decode()
+            listed = re.search(r"^options:\n((?:  .*\n)+)", text, re.M)[1]
+            helped = {re.split(r"  +", it)[0] for it in re.findall(r"^  (-.*)$", listed, re.M)}
+            self.assertEqual(said, helped, name)
+            self.assertGreater(len(said), 0)
+            usage = re.search(r"usage: (.*?)\n\n", text, re.S)[1]
+            synopsis = section(page, "SYNOPSIS")
+            self.assertEqual(sorted(set(re.findall(r"Fl (-?[\w-]+)", synopsis)) - {"-help"}),
+                             sorted(set(re.findall(r"(?<![\w-])-(-?[\w-]+)", usage))), name)
+            for word in re.findall(r"\b[A-Z]+\b", usage):
+                self.assertIn(word, synopsis)
+
+    def test_statuses(self):
+        for name in SCRIPTS:
+            text = run(["bin/" + name, "--help"]).stdout.decode()
+            helped = re.search(r"^status:\n((?:  .*\n)+)", text, re.M)[1]
+            page = section(text_of(PAGES + name + ".1"), "EXIT STATUS")
+            self.assertEqual(re.findall(r"^\.It (\d+)$", page, re.M),
+                             re.findall(r"^  (\d+)  ", helped, re.M), name)
+
+    def test_environment(self):
+        for name in SCRIPTS:
+            text = run(["bin/" + name, "--help"]).stdout.decode()
+            helped = re.search(r"^environment:\n((?:  .*\n?)+)", text, re.M)
+            page = text_of(PAGES + name + ".1")
+            said = re.findall(r"^\.It Ev (\w+)$", page, re.M)
+            self.assertEqual(said, re.findall(r"^  (\w+)  ", helped[1], re.M) if helped else [])
+            self.assertEqual(said, [] if name == "pgn_where" else ["PGN_TOOL"])
 
 
 class Statuses(Folder):
@@ -171,12 +238,15 @@ class Statuses(Folder):
 
     def test_the_stack(self):
         size = int(re.search(r"^\.It stack\n(\d+) KiB", text_of(PAGE), re.M)[1])
-        script = "ulimit -s %d; cd %s/vectors; failed=0; for file in *.in; do" \
+        files = run(["bin/pgn_conform", "--files", self.folder])
+        self.assertEqual((files.returncode, files.stderr), (0, b""))
+        self.assertEqual(len(glob.glob(self.folder + "/*.in")), len(programs.vectors()))
+        script = "ulimit -s %d; failed=0; for file in *.in; do" \
             " for words in export 'export --checked' check list; do" \
             " pgn_tool $words $file >/dev/null 2>&1; [ $? -le 1 ] || failed=1; done; done;" \
             " exit $failed"
-        self.assertEqual(self.status(script % (size, ROOT)), 0)
-        self.assertIn(self.status("ulimit -s 64; echo '*' | pgn_tool export"), KILLED)
+        self.assertEqual(self.status(script % size), 0)
+        self.assertIn(self.status("ulimit -s 24; echo '*' | pgn_tool export"), KILLED)
 
     def test_the_memory(self):
         programs.need("time")

@@ -12,7 +12,7 @@ import unittest
 sys.path.insert(0, os.path.dirname(os.path.realpath(__file__)))
 import programs
 from programs import run
-from test_recipes import game, sections
+from test_recipes import sections
 
 SHORT, WHOLE, STREAM, REMOTE, COUNTS = range(5)
 # The files are small, and so are the blocks: about 50 games.

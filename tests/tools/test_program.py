@@ -1,111 +1,73 @@
 #!/usr/bin/env python3
-"""Tests of bin/pgn_tool, bin/install and bin/test_tools, with a command rt that builds nothing."""
+"""Tests of bin/pgn_tool and bin/build_program, with commands that build nothing, and of helps."""
 import os
 import shutil
 import subprocess
 import sys
-import tempfile
-import time
 import unittest
 
 sys.path.insert(0, os.path.dirname(os.path.realpath(__file__)))
-from programs import ROOT, need_program, run
+from programs import need_program, run
+from small_repository import CARGO, Repository
 
-# It stands for the toolchain: what it builds says which text its source had.
-RT = """#!/bin/sh
-[ "$*" = "run -- --version" ] || exit 9
-echo "rt builds" >&2
-[ -e ../../slow ] && sleep 32
-grep -q broken src/main.rt && exit 1
-mkdir -p out
-printf '#!/bin/sh\\necho "built of %s, called with $*"\\n' "$(cat src/main.rt)" >out/pgn_tool
-chmod 755 out/pgn_tool
-"""
+BUILD = "bin/build_program"
 
 
-class Repository:
-    """A copy of the script among crates that have one source each."""
+class EachBuild:
+    """What holds of both builds."""
 
-    def __init__(self, test):
-        self.root = os.path.realpath(tempfile.mkdtemp())
-        test.addCleanup(shutil.rmtree, self.root)
-        shutil.copytree(ROOT + "/bin", self.root + "/bin",
-                        ignore=shutil.ignore_patterns("__pycache__"))
-        self.write("crates.txt", "# crates\n"
-                   "pgn_tool: pgn_game std # more\npgn_game:\npgn_vectors: pgn_game\n")
-        self.write("crates/pgn_tool/src/main.rt", "one")
-        for path in ("pgn_tool/specs/a.antt", "pgn_tool/proofs/a.antt", "pgn_game/src/lib.rt",
-                     "pgn_vectors/src/lib.rt"):
-            self.write("crates/" + path, "text")
-        self.write("path/rt", RT)
-        os.chmod(self.root + "/path/rt", 0o755)
-        self.make_older()
-
-    def write(self, path, text):
-        path = os.path.join(self.root, path)
-        os.makedirs(os.path.dirname(path), exist_ok=True)
-        with open(path, "w", encoding="ascii") as file:
-            file.write(text)
-
-    def make_older(self):
-        """Dates every file a minute back, so that an edit is newer."""
-        then = time.time() - 60
-        for folder, folders, files in os.walk(self.root):
-            for name in folders + files:
-                os.utime(os.path.join(folder, name), (then, then))
-
-    def call(self, *words, script="bin/pgn_tool", path=None, **more):
-        env = dict(os.environ, PATH=path or self.root + "/path:" + os.environ["PATH"])
-        return run([os.path.join(self.root, script), *words], env=env, **more)
-
-
-class ProgramTest(unittest.TestCase):
     def setUp(self):
-        self.here = Repository(self)
+        self.here = Repository(self, self.commands)
 
     def check(self, ran, text, builds):
+        text = b"%s built %s\n" % (self.builder, text)
         self.assertEqual((ran.returncode, ran.stdout), (0, text), ran.stderr)
-        self.assertEqual(b"rt builds" in ran.stderr, builds)
+        self.assertEqual(b"%s builds" % self.builder in ran.stderr, builds)
         self.assertEqual(bool(ran.stderr), builds)
 
     def test_builds_once(self):
         ran = self.here.call("check", "a b")
-        self.check(ran, b"built of one, called with check a b\n", True)
-        self.assertIn(b"proves and builds it", ran.stderr)
-        self.check(self.here.call("list"), b"built of one, called with list\n", False)
+        self.check(ran, b"one, called with check a b", True)
+        self.assertIn(b"the program is missing: ", ran.stderr)
+        self.check(self.here.call("list"), b"one, called with list", False)
 
     def test_builds_anew_when_a_source_is_newer(self):
         self.here.call()
-        for path, builds in (("pgn_tool/specs/a.antt", True), ("pgn_tool/proofs/a.antt", True),
-                             ("pgn_game/src/lib.rt", True), ("pgn_game/src/new.rt", True),
-                             ("pgn_vectors/src/lib.rt", False),
-                             ("pgn_tool/must-fail/a.edit", False)):
+        changes = dict.fromkeys(("crates/pgn_game/src/lib.rt", "crates/pgn_game/src/new.rt",
+                                 "crates/pgn_tool/src/lib.rt", "crates.txt"), True)
+        changes.update(dict.fromkeys(("crates/pgn_vectors/src/lib.rt", "README.md",
+                                      "crates/pgn_tool/must-fail/a.edit"), False))
+        for path, builds in {**changes, **self.own_changes}.items():
             self.here.make_older()
-            self.here.write("crates/" + path, "other")
+            self.here.change(path)
             ran = self.here.call()
-            self.check(ran, b"built of one, called with \n", builds)
-            self.assertEqual(b"is newer than the program" in ran.stderr, builds)
-            self.check(self.here.call(), b"built of one, called with \n", False)
+            self.check(ran, b"one, called with ", builds)
+            self.assertEqual(b" is newer than the program" in ran.stderr, builds)
+            self.check(self.here.call(), b"one, called with ", False)
         self.here.make_older()
         os.unlink(self.here.root + "/crates/pgn_game/src/new.rt")
-        self.check(self.here.call(), b"built of one, called with \n", True)
+        self.check(self.here.call(), b"one, called with ", True)
         self.here.make_older()
         self.here.write("crates/pgn_tool/src/main.rt", "two")
-        self.check(self.here.call(), b"built of two, called with \n", True)
+        self.check(self.here.call(), b"two, called with ", True)
+
+    def test_a_source_that_changes_during_a_build_is_newer(self):
+        self.here.write("meanwhile", "")
+        self.check(self.here.call(), b"one, called with ", True)
+        os.unlink(self.here.root + "/meanwhile")
+        ran = self.here.call()
+        self.check(ran, b"one, called with ", True)
+        self.assertIn(b"crates/pgn_tool/src/lib.rt is newer than the program", ran.stderr)
+        self.check(self.here.call(), b"one, called with ", False)
 
     def test_never_runs_a_stale_program(self):
         self.here.call()
         self.here.make_older()
         self.here.write("crates/pgn_tool/src/main.rt", "broken")
-        ran = self.here.call()
-        self.assertEqual((ran.returncode, ran.stdout), (127, b""))
-        self.assertTrue(ran.stderr.endswith(b"bin/pgn_tool: the program was not built\n"))
-        self.assertEqual(self.here.call().returncode, 127)
-
-    def test_no_toolchain(self):
-        ran = self.here.call(path="/usr/bin:/bin")
-        self.assertEqual((ran.returncode, ran.stdout), (127, b""))
-        self.assertIn(b"the command rt of the Rattle toolchain is not on PATH", ran.stderr)
+        for _ in range(2):
+            ran = self.here.call()
+            self.assertEqual((ran.returncode, ran.stdout), (127, b""))
+            self.assertTrue(ran.stderr.endswith(b"bin/build_program: the program was not built\n"))
 
     def test_symbolic_links(self):
         root = self.here.root
@@ -116,122 +78,223 @@ class ProgramTest(unittest.TestCase):
         os.symlink(root + "/bin", root + "/far/bin")
         for script in ("far/er/one", "far/two", "three", "far/bin/pgn_tool"):
             ran = self.here.call("x", script=script, cwd="/")
-            self.assertEqual((ran.returncode, ran.stdout), (0, b"built of one, called with x\n"),
-                             ran.stderr)
+            self.check(ran, b"one, called with x", script == "far/er/one")
 
     def test_folder_with_a_space(self):
         root = self.here.root + "/with a space"
-        os.rename(shutil.copytree(self.here.root, self.here.root + "-copy"), root)
-        self.check(self.here.call("x", script=root + "/bin/pgn_tool"),
-                   b"built of one, called with x\n", True)
+        os.rename(shutil.copytree(self.here.root, self.here.root + "-copy", symlinks=True), root)
+        self.check(self.here.call("x", script=root + "/bin/pgn_tool"), b"one, called with x", True)
 
     def test_long_build_says_so(self):
         self.here.write("slow", "")
         ran = self.here.call(timeout=100)
-        self.assertIn(b"still proving and building, for 30 seconds so far", ran.stderr)
-        self.assertEqual(ran.stdout, b"built of one, called with \n")
+        self.assertIn(b"still building, for 30 seconds so far", ran.stderr)
+        self.check(ran, b"one, called with ", True)
 
-
-class InstallTest(unittest.TestCase):
-    def setUp(self):
-        self.here = Repository(self)
-        for path in ("man/man1/pgn_tool.1", "completions/pgn_tool.bash", "completions/_pgn_tool",
-                     "completions/pgn_tool.fish"):
-            self.here.write("share/" + path, path)
-
-    def files(self, folder):
-        return sorted(os.path.relpath(os.path.join(at, it), folder) for at, _,
-                      names in os.walk(folder) for it in names)
-
-    def test_everything_in_place(self):
-        prefix = self.here.root + "/to there"
-        for _ in range(2):
-            ran = self.here.call(prefix, script="bin/install")
-            self.assertEqual(ran.returncode, 0, ran.stderr)
-            self.assertEqual(self.files(prefix), [
-                "bin/pgn_fmt", "bin/pgn_sieve", "bin/pgn_tool", "bin/pgn_where",
-                "share/bash-completion/completions/pgn_tool",
-                "share/fish/vendor_completions.d/pgn_tool.fish",
-                "share/man/man1/pgn_tool.1", "share/pgn_tool/pgn_files.py",
-                "share/pgn_tool/pgn_fmt",
-                "share/pgn_tool/pgn_sieve", "share/pgn_tool/pgn_where",
-                "share/zsh/site-functions/_pgn_tool"])
-        self.assertEqual(run([prefix + "/bin/pgn_tool", "x"]).stdout,
-                         b"built of one, called with x\n")
-        # the scripts call the program that was installed beside them
-        ran = run([prefix + "/bin/pgn_fmt"], input=b"", cwd="/")
-        self.assertEqual((ran.returncode, ran.stdout), (0, b"built of one, called with export\n"),
-                         ran.stderr)
-
-    def test_package(self):
-        env = dict(os.environ, DESTDIR=self.here.root + "/package",
-                   PATH=self.here.root + "/path:" + os.environ["PATH"])
-        ran = run([self.here.root + "/bin/install", "/usr"], env=env)
-        self.assertEqual(ran.returncode, 0, ran.stderr)
-        self.assertIn("usr/bin/pgn_tool", self.files(self.here.root + "/package"))
-        self.assertEqual(os.readlink(self.here.root + "/package/usr/bin/pgn_where"),
-                         "../share/pgn_tool/pgn_where")
-
-    def test_missing_page_is_left_out(self):
-        os.unlink(self.here.root + "/share/man/man1/pgn_tool.1")
-        ran = self.here.call(self.here.root + "/to", script="bin/install")
-        self.assertEqual(ran.returncode, 0)
-        self.assertIn(b"share/man/man1/pgn_tool.1 is missing", ran.stderr)
-
-    def test_errors(self):
-        for words, status in ((["--no"], 2), (["a", "b"], 2), (["/dev/null"], 1)):
-            ran = self.here.call(*words, script="bin/install")
-            self.assertEqual(ran.returncode, status, ran.stderr)
-        ran = self.here.call("--help", script="bin/install")
-        self.assertEqual((ran.returncode, ran.stderr), (0, b""))
+    def test_no_file_is_left_behind(self):
+        folder = self.here.root + "/temporary"
+        os.mkdir(folder)
+        self.check(self.here.call(env={"TMPDIR": folder}), b"one, called with ", True)
         self.here.write("crates/pgn_tool/src/main.rt", "broken")
-        self.assertEqual(self.here.call(self.here.root + "/to", script="bin/install").returncode,
-                         127)
+        self.assertEqual(self.here.call(env={"TMPDIR": folder}).returncode, 127)
+        self.assertEqual(os.listdir(folder), [])
 
 
-class TestToolsTest(unittest.TestCase):
-    def test_counts(self):
-        here = Repository(self)
-        here.write("tests/tools/test_a.py", "import unittest\nclass A(unittest.TestCase):\n"
-                   "    def test_x(self): pass\n    def test_y(self): self.fail('why')\n")
-        here.write("tests/tools/test_b.sh", "exit 0\n")
-        here.write("tests/tools/test_c.sh", "echo because; exit 1\n")
-        here.write("tests/tools/test_d.py", "print('a script')\n")
-        ran = here.call(script="bin/test_tools")
-        lines = ran.stdout.decode().split("\n")
-        self.assertEqual([it.split()[0] for it in lines if it.startswith(("ok", "FAILED"))],
-                         ["ok", "FAILED", "ok", "FAILED", "ok"])
-        self.assertEqual((ran.returncode, lines[-2]), (1, "3 passed, 2 failed"))
-        self.assertIn("    because", lines)
-        ran = here.call("b", script="bin/test_tools")
-        self.assertEqual((ran.returncode, ran.stdout),
-                         (0, b"ok     test_b.sh\n1 passed, 0 failed\n"))
-        self.assertEqual(here.call("z", script="bin/test_tools").returncode, 2)
+class ByRt(EachBuild, unittest.TestCase):
+    commands, builder = ("rt",), b"rt"
+    own_changes = {"crates/pgn_tool/specs/a.antt": True, "crates/pgn_tool/proofs/a.antt": True,
+                   "cargo/rattle_std/lib.rs": False, "bin/to_cargo": False}
+
+
+class ByCargo(EachBuild, unittest.TestCase):
+    commands, builder = ("cargo", "rustc"), b"cargo"
+    own_changes = {"crates/pgn_tool/specs/a.antt": False, "crates/pgn_tool/proofs/a.antt": False,
+                   "cargo/rattle_std/lib.rs": True, "bin/to_cargo": True}
+
+
+class Choice(unittest.TestCase):
+    """Which build it is."""
+
+    def setUp(self):
+        self.here = Repository(self, ("cargo", "rustc", "rt"))
+        self.by_rt = self.here.root + "/crates/pgn_tool/out/pgn_tool\n"
+        self.by_cargo = self.here.root + "/cargo/out/pgn_tool\n"
+
+    def build(self, *options, **more):
+        ran = self.here.call(*options, script=BUILD, **more)
+        return ran.returncode, ran.stdout.decode(), ran.stderr.decode()
+
+    def check(self, built, path, *told):
+        self.assertEqual(built[:2], (0, path), built)
+        for it in told:
+            self.assertIn(it, built[2])
+
+    def remove(self, *names):
+        for name in names:
+            os.unlink(self.here.root + "/path/" + name)
+
+    def test_cargo_builds_where_both_are(self):
+        self.check(self.build(), self.by_cargo, "Cargo builds it, which takes about half a minute")
+        self.check(self.build("--built"), self.by_cargo)
+        self.assertEqual(self.build("--built", "--proved"), (1, "", ""))
+
+    def test_proved(self):
+        self.check(self.build("--proved"), self.by_rt, "rt proves and builds it")
+        # it is taken from now on, until a source is newer
+        self.assertEqual(self.build(), (0, self.by_rt, ""))
+        self.here.make_older()
+        self.here.write("crates/pgn_tool/src/main.rt", "two")
+        self.check(self.build(), self.by_cargo, "main.rt is newer than the program")
+        self.assertEqual(self.build(), (0, self.by_cargo, ""))
+        self.assertEqual(self.build("--built", "--proved"), (0, self.by_rt, ""))
+        self.check(self.build("--proved"), self.by_rt, "main.rt is newer than the program")
+
+    def test_proved_without_rt(self):
+        self.remove("rt")
+        status, out, told = self.build("--proved")
+        self.assertEqual((status, out), (127, ""))
+        self.assertEqual(told, "bin/build_program: --proved needs rt, the command of the Rattle"
+                               " toolchain, which is not on the PATH\n")
+
+    def test_what_is_too_old(self):
+        for name, version in (("cargo", "1.73.9"), ("rustc", "1.9.0"), ("rustc", "0.99.0")):
+            env = {name.upper() + "_VERSION": version}
+            lack = "%s/path/%s is %s, and 1.74 is needed\n" % (self.here.root, name, version)
+            self.check(self.build(env=env), self.by_rt, lack, "rt proves and builds it")
+            os.unlink(self.by_rt.strip())
+        for version in ("1.74.0", "1.100.0", "2.0.0"):
+            self.check(self.build(env={"RUSTC_VERSION": version, "CARGO_VERSION": version}),
+                       self.by_cargo)
+            os.unlink(self.by_cargo.strip())
+
+    def test_nothing_to_build_with(self):
+        self.remove("rt", "cargo", "python3")
+        status, out, told = self.build()
+        self.assertEqual((status, out), (127, ""))
+        lines = [it.split(": ", 1)[1] for it in told.splitlines()]
+        self.assertEqual(lines[:3], ["cargo is not on the PATH", "python3 is not on the PATH",
+                                     "so the program cannot be built; do one of these:"])
+        self.assertIn("bin/install --deps", lines[3])
+        self.assertIn("Rust 1.74 or newer", lines[4])
+        ran = self.here.call("check")
+        self.assertEqual((ran.returncode, ran.stdout, ran.stderr.decode()), (127, b"", told))
+
+    def test_a_cargo_that_does_not_run(self):
+        self.here.command("rustc", "#!/bin/sh\necho 'no default toolchain' >&2; exit 1\n")
+        self.check(self.build(), self.by_rt, "/rustc does not say its version")
+
+    def test_no_crates(self):
+        self.here.write("no-registry", "")
+        told = "Cargo could not get these crates from its registry: arrayvec itoa clap"
+        self.check(self.build(), self.by_rt, told, "rt proves and builds it")
+        os.unlink(self.by_rt.strip())
+        self.remove("rt")
+        status, out, said = self.build()
+        self.assertEqual((status, out), (127, ""))
+        self.assertIn(told, said)
+        self.assertIn("as root, bin/install --deps installs these", said)
+        self.assertIn("the program was not built", said)
+
+    def apt(self, user="0"):
+        """Puts commands of Debian in place, which keep a list of what they are asked for."""
+        self.remove("id", "cargo")
+        self.here.command("id", "#!/bin/sh\necho %s\n" % user)
+        self.here.command("apt-cache", "#!/bin/sh\n[ -e ../only-cargo-web ]\n")
+        self.here.write("cargo-of-debian", "")
+        self.here.command("apt-get", "#!/bin/sh\nhere=%s\necho \"$*\" >>$here/asked\n"
+                          "[ $1 = update ] && exit\n[ ! -e $here/broken ] || exit 100\n"
+                          "cp $here/cargo-of-debian $here/path/cargo\n"
+                          "chmod 755 $here/path/cargo\n" % self.here.root)
+
+    def asked(self):
+        with open(self.here.root + "/asked", encoding="ascii") as lines:
+            return lines.read().splitlines()
+
+    def test_deps(self):
+        self.apt()
+        self.here.write("cargo-of-debian", CARGO)
+        self.check(self.build("--deps"), self.by_cargo, "installs cargo")
+        update, install = self.asked()
+        self.assertEqual(update, "update -q")
+        self.assertRegex(install, r"^install -q -y --no-install-recommends cargo\b")
+        # nothing is installed for a program that is there
+        self.check(self.build("--deps"), self.by_cargo)
+        self.assertEqual(len(self.asked()), 2)
+
+    def test_deps_that_are_not_had(self):
+        self.apt()
+        self.here.write("broken", "")
+        status, out, told = self.build("--deps")
+        self.assertEqual((status, out), (127, ""))
+        self.assertIn("apt-get could not install them", told)
+
+    def test_deps_without_root(self):
+        self.apt(user="1000")
+        status, out, told = self.build("--deps")
+        self.assertEqual((status, out), (127, ""))
+        self.assertRegex(told, "--deps needs root on Debian: there it installs cargo\\b")
+        self.assertFalse(os.path.exists(self.here.root + "/asked"))
+
+    def test_arguments(self):
+        for words in (["--no"], ["--proved", "x"]):
+            status, out, told = self.build(*words)
+            self.assertEqual((status, out, told.count("\n")), (2, "", 1))
+        self.assertEqual(self.build("--help")[::2], (0, ""))
 
 
 class CallTest(unittest.TestCase):
-    def test_scripts_build_and_call_the_program_of_their_repository(self):
+    """Which program the scripts call."""
+
+    def fmt(self, here, **env):
+        env = dict({"PATH": here.root + "/path:/usr/bin:/bin"}, **env)
+        ran = subprocess.run([sys.executable, here.root + "/bin/pgn_fmt"], input=b"",
+                             stdout=subprocess.PIPE, stderr=subprocess.PIPE, check=False, env=env)
+        return ran.returncode, ran.stdout.decode(), ran.stderr.decode()
+
+    def test_the_program_of_the_repository(self):
         here = Repository(self)
         for _ in range(2):
-            ran = subprocess.run([sys.executable, here.root + "/bin/pgn_fmt"], input=b"",
-                                 stdout=subprocess.PIPE,
-                                 stderr=subprocess.DEVNULL, check=False,
-                                 env=dict(os.environ,
-                                          PATH=here.root + "/path:" + os.environ["PATH"]))
-            self.assertEqual((ran.returncode, ran.stdout),
-                             (0, b"built of one, called with export\n"))
+            self.assertEqual(self.fmt(here)[:2], (0, "cargo built one, called with export\n"))
+
+    def test_the_program_on_the_path(self):
+        here = Repository(self, ())
+        here.command("pgn_tool", "#!/bin/sh\necho on the PATH\n")
+        self.assertEqual(self.fmt(here), (0, "on the PATH\n", ""))
+        # a program that the repository has built comes first
+        here.command("rt", "")
+        here.write("crates/pgn_tool/out/pgn_tool", "#!/bin/sh\necho built\n")
+        os.chmod(here.root + "/crates/pgn_tool/out/pgn_tool", 0o755)
+        self.assertEqual(self.fmt(here), (0, "built\n", ""))
+
+    def test_the_program_that_a_variable_names(self):
+        here = Repository(self)
+        here.command("other", "#!/bin/sh\necho named\n")
+        for name in (here.root + "/path/other", "other"):
+            self.assertEqual(self.fmt(here, PGN_TOOL=name), (0, "named\n", ""))
+        self.assertEqual(self.fmt(here, PGN_TOOL="/missing"),
+                         (127, "", "pgn_fmt: PGN_TOOL names no program: /missing\n"))
+
+    def test_no_program(self):
+        here = Repository(self, ())
+        status, out, told = self.fmt(here, PATH=here.root + "/path")
+        self.assertEqual((status, out), (127, ""))
+        self.assertIn("cargo is not on the PATH", told)
+        self.assertTrue(told.endswith("pgn_fmt: the program pgn_tool was not built\n"))
 
     def test_built_program(self):
         program = need_program()
         self.assertEqual(run([program, "check", "examples/two-games.pgn"]).stdout,
                          b"games: 2, plies: 0\n")
 
+
+class Helps(unittest.TestCase):
     def test_help(self):
-        for script in ("pgn_where", "pgn_sieve", "pgn_fmt", "install", "test_tools",
-                       "try_allocations"):
+        for script in ("pgn_where", "pgn_sieve", "pgn_fmt", "install", "uninstall", "test_tools",
+                       "build_program", "try_allocations"):
             ran = run(["bin/" + script, "--help"])
             self.assertEqual((ran.returncode, ran.stderr), (0, b""), script)
-            for word in (b"xample", b"tatus") if script != "test_tools" else (b"tatus",):
+            without_examples = ("test_tools", "build_program")
+            for word in (b"xample", b"tatus") if script not in without_examples else (b"tatus",):
                 self.assertIn(word, ran.stdout)
 
 

@@ -104,16 +104,12 @@ class Whole(Recipe):
                 self.assertTrue(re.search(call, text), (title, number))
 
     def test_see_where_a_fault_is(self):
-        if not os.path.exists(ROOT + "/bin/pgn_where"):
-            programs.not_tried("bin/pgn_where is missing")
         self.put("games.pgn", "1. e4 e5\n2. Ke3 *\n")
         ran = self.recipe("See where a fault is")
         self.assertEqual((ran.returncode, ran.stderr), (0, b""))
         self.assertIn(b"Ke3", ran.stdout)
 
     def test_set_bad_games_aside(self):
-        if not os.path.exists(ROOT + "/bin/pgn_sieve"):
-            programs.not_tried("bin/pgn_sieve is missing")
         bad = '[Event "bad"]\n\n1. e4 e5 2. Ke3 *\n\n'
         self.put("games.pgn", game(Event="a") + bad + game(Event="b"))
         self.recipe("Set bad games aside")
@@ -337,7 +333,7 @@ class Mended(Recipe):
     def test_marks_tabs_and_control_bytes(self):
         text = '[Event "a\tb"]\n1. e4 {x\x01y} *\n\x1a\n\ufeff[Event "c"]\n1. d4\t*\r\n\x00'
         wanted = game("1. e4 { x y } *", Event="a b") + game("1. d4 *", Event="c")
-        self.mend("Marks, tabs and control bytes", text, "byte 9: control byte", wanted)
+        self.mend("Byte order marks, tabs and control bytes", text, "byte 9: control byte", wanted)
 
 
 if __name__ == "__main__":

@@ -8,7 +8,7 @@ import tempfile
 import unittest
 
 sys.path.insert(0, os.path.dirname(os.path.realpath(__file__)))
-from programs import need, need_program, not_tried, run
+from programs import need_program, not_tried, opens_closed_streams, run, without_rights
 
 HEAD = (b'[Event "?"]\n[Site "?"]\n[Date "????.??.??"]\n[Round "?"]\n[White "?"]\n[Black "?"]\n'
         b'[Result "*"]\n\n')
@@ -84,15 +84,8 @@ class SplitTest(unittest.TestCase):
 
     def test_folder_that_is_not_writable(self):
         os.chmod(self.folder, 0o555)
-        words = [self.program, "split", self.folder]
-        if os.geteuid() == 0:
-            need("setpriv")
-            os.chmod(os.path.dirname(self.folder), 0o755 | os.stat(
-                os.path.dirname(self.folder)).st_mode)
-            words = ["setpriv", "--reuid=65534", "--clear-groups"] + words
-            if run(words[:3] + ["test", "-x", self.program]).returncode != 0:
-                not_tried("another user cannot run the program")
-        ran = run(words, input=b"*")
+        words = without_rights(self, self.program)
+        ran = run([*words, "split", self.folder], input=b"*")
         self.check(ran, 1, UNWRITTEN % 0, {})
 
     def test_second_file_is_refused(self):
@@ -156,8 +149,10 @@ class InputTest(unittest.TestCase):
     def test_closed_standard_input(self):
         for command in ("export", "check", "list"):
             ran = run(["sh", "-c", 'exec "$@" <&-', "sh", self.program, command])
-            self.assertEqual((ran.returncode, ran.stdout, ran.stderr),
-                             (1, b"", b"byte 0: input cannot be read\n"))
+            answer = (1, b"", b"byte 0: input cannot be read\n")
+            if opens_closed_streams(self.program):
+                answer = (0, b"games: 0, plies: 0\n" if command == "check" else b"", b"")
+            self.assertEqual((ran.returncode, ran.stdout, ran.stderr), answer)
 
     def test_full_standard_output(self):
         if not os.path.exists("/dev/full"):

@@ -10,7 +10,7 @@ import threading
 import unittest
 
 sys.path.insert(0, os.path.dirname(os.path.realpath(__file__)))
-from programs import need, need_program, not_tried, run
+from programs import need, need_program, not_tried, opens_closed_streams, run, without_rights
 
 HEAD = (b'[Event "?"]\n[Site "?"]\n[Date "????.??.??"]\n[Round "?"]\n[White "?"]\n[Black "?"]\n'
         b'[Result "*"]\n\n')
@@ -74,12 +74,7 @@ class StreamTest(unittest.TestCase):
         path = self.write("hidden.pgn", TWO)
         os.chmod(path, 0)
         os.chmod(self.folder, 0o755)
-        words = [self.program]
-        if os.geteuid() == 0:
-            need("setpriv")
-            words = ["setpriv", "--reuid=65534", "--clear-groups"] + words
-            if run(words[:3] + ["test", "-x", self.program]).returncode != 0:
-                not_tried("another user cannot run the program")
+        words = without_rights(self, self.program)
         for task in WRITTEN:
             self.check(run(words + [task, path], input=TWO), 1, b"", UNREAD)
 
@@ -96,9 +91,10 @@ class StreamTest(unittest.TestCase):
 
     def test_closed_standard_output(self):
         path = self.write("two.pgn", TWO)
+        status, told = (0, b"") if opens_closed_streams(self.program) else (1, UNWRITTEN)
         for words in (["--help"], ["--version"], *[[it] for it in WRITTEN],
                       *[[it, path] for it in WRITTEN]):
-            self.check(self.closing(">&-", *words, input=TWO), 1, b"", UNWRITTEN)
+            self.check(self.closing(">&-", *words, input=TWO), status, b"", told)
         # nothing is written for an input without games
         for task in ("export", "list"):
             self.check(self.closing(">&-", task, input=b""), 0, b"", b"")
@@ -154,8 +150,9 @@ class StreamTest(unittest.TestCase):
         script = ('mount -t tmpfs -o size=16k none "$2" || exit 77; "$1" split "$2"; '
                   'echo "status $?"; cat "$2/000001.pgn"')
         text = b"* 1. e4 {" + b"word " * 20000 + b"} *"
-        ran = run(["unshare", "-rm", "sh", "-c", script, "sh", self.program, self.folder],
-                  input=text)
+        # root needs no other rights for this, and a chroot has no others
+        unshare = ["unshare", "-m" if os.geteuid() == 0 else "-rm"]
+        ran = run([*unshare, "sh", "-c", script, "sh", self.program, self.folder], input=text)
         if ran.returncode == 77 or b"unshare" in ran.stderr:
             not_tried("no file system can be mounted here")
         self.assertEqual(ran.stdout, b"status 1\n" + UNKNOWN)

@@ -1,0 +1,109 @@
+"""A small repository for tests of the scripts that build: its commands build nothing real."""
+import os
+import shutil
+import sys
+import tempfile
+import time
+
+from programs import ROOT, run
+
+# They stand for the two toolchains. What they build says which text its source had.
+RT = """#!/bin/sh
+[ "$*" = "run -- --version" ] || exit 9
+echo "rt builds" >&2
+[ -e ../../slow ] && sleep 32
+[ -e ../../meanwhile ] && sleep 0.1 && touch src/lib.rt
+grep -q broken src/main.rt && exit 1
+mkdir -p out
+printf '#!/bin/sh\\necho "rt built %s, called with $*"\\n' "$(cat src/main.rt)" >out/pgn_tool
+chmod 755 out/pgn_tool
+"""
+CARGO = """#!/bin/sh
+source=../../crates/pgn_tool/src
+case $1 in
+  --version) echo "cargo ${CARGO_VERSION:-1.74.0} (0123abcd 2023-11-16)" ;;
+  fetch) [ ! -e ../../no-registry ] ;;
+  build)
+    echo "cargo builds" >&2
+    [ -e ../../slow ] && sleep 32
+    [ -e ../../meanwhile ] && sleep 0.1 && touch "$source/lib.rt"
+    grep -q broken "$source/main.rt" && exit 101
+    mkdir -p target/release
+    printf '#!/bin/sh\\necho "cargo built %s, called with $*"\\n' "$(cat "$source/main.rt")" \\
+      >target/release/pgn_tool
+    chmod 755 target/release/pgn_tool ;;
+  *) exit 9 ;;
+esac
+"""
+RUSTC = """#!/bin/sh
+echo "rustc ${RUSTC_VERSION:-1.74.0} (0123abcd 2023-11-16)"
+"""
+TO_CARGO = """#!/bin/sh
+# The line that bin/build_program reads:
+: '
+rust-version = "1.74"
+'
+mkdir -p "$1"
+"""
+COMMANDS = {"rt": RT, "cargo": CARGO, "rustc": RUSTC}
+# What the scripts call of a system. Nothing else is on their PATH, so neither cargo nor rt.
+SYSTEM = ("basename cat chmod cp dirname env find grep head id ln ls mkdir mktemp mv readlink rm"
+          " rmdir sed sh sleep sort touch").split()
+
+
+class Repository:
+    """A copy of the scripts among crates that have one source each."""
+
+    def __init__(self, test, commands=("cargo", "rustc")):
+        self.root = os.path.realpath(tempfile.mkdtemp())
+        test.addCleanup(shutil.rmtree, self.root)
+        shutil.copytree(ROOT + "/bin", self.root + "/bin",
+                        ignore=shutil.ignore_patterns("__pycache__"))
+        self.write("bin/to_cargo", TO_CARGO)
+        self.write("crates.txt", "# crates\n"
+                   "pgn_tool: pgn_game std # more\npgn_game:\npgn_vectors: pgn_game\n")
+        self.write("crates/pgn_tool/src/main.rt", "one")
+        for path in ("crates/pgn_tool/src/lib.rt", "crates/pgn_tool/specs/a.antt",
+                     "crates/pgn_tool/proofs/a.antt", "crates/pgn_game/src/lib.rt",
+                     "crates/pgn_vectors/src/lib.rt", "cargo/rattle_std/lib.rs"):
+            self.write(path, "text")
+        for name in ("man/man1/pgn_tool.1", "man/man1/pgn_where.1", "man/man1/pgn_sieve.1",
+                     "man/man1/pgn_fmt.1", "completions/pgn_tool.bash", "completions/_pgn_tool",
+                     "completions/pgn_tool.fish"):
+            self.write("share/" + name, name)
+        os.mkdir(self.root + "/path")
+        for name in SYSTEM:
+            os.symlink(shutil.which(name), self.root + "/path/" + name)
+        self.command("python3", '#!/bin/sh\nexec %s "$@"\n' % sys.executable)
+        for name in commands:
+            self.command(name, COMMANDS[name])
+        self.make_older()
+
+    def write(self, path, text):
+        path = os.path.join(self.root, path)
+        os.makedirs(os.path.dirname(path), exist_ok=True)
+        with open(path, "w", encoding="ascii") as file:
+            file.write(text)
+
+    def change(self, path):
+        """Adds an empty line to a file, which may be missing."""
+        path = os.path.join(self.root, path)
+        os.makedirs(os.path.dirname(path), exist_ok=True)
+        with open(path, "a", encoding="ascii") as file:
+            file.write("\n")
+
+    def command(self, name, text):
+        """Puts a command on the PATH."""
+        self.write("path/" + name, text)
+        os.chmod(self.root + "/path/" + name, 0o755)
+
+    def make_older(self):
+        """Dates every file a minute back, so that an edit is newer."""
+        then = time.time() - 60
+        for folder, folders, files in os.walk(self.root):
+            for name in folders + files:
+                os.utime(os.path.join(folder, name), (then, then), follow_symlinks=False)
+
+    def call(self, *words, script="bin/pgn_tool", env=(), **more):
+        env = dict({"PATH": self.root + "/path", "HOME": self.root}, **dict(env))
+        return run([os.path.join(self.root, script), *words], env=env, **more)

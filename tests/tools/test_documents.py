@@ -1,0 +1,226 @@
+#!/usr/bin/env python3
+"""Runs the console blocks of the documents, and compares all that they show. Tests links too.
+
+A console block is a fenced block with a line that begins with '$ '. What such a block may have:
+
+- A line that begins with '$ ' is a command of a POSIX shell. It goes on in the next line if it ends
+  with a backslash. All other lines are what a terminal then shows, exactly.
+- A line '...' stands for any lines, also for none. ' ...' ends a line whose rest may differ.
+- A status is compared where a command shows it: '$ echo $?'.
+- The commands run in a copy of the repository, as someone runs them who has just cloned it and has
+  its bin/ on the PATH. The blocks of a document share one copy, and run from its top to its end;
+  each begins in the copy's root.
+- games.pgn is a copy of examples/two-games.pgn there. The home folder is /home/me, and the copy is
+  /home/me/gillspoon.
+- A block that cannot be run (it needs a network, another machine, a file of the reader, or minutes)
+  has a comment on the line before it: '<!-- not run: REASON -->'.
+"""
+import difflib
+import os
+import re
+import shlex
+import shutil
+import sys
+import tempfile
+import unittest
+
+sys.path.insert(0, os.path.dirname(os.path.realpath(__file__)))
+import programs
+from documents import blocks_of, documents, is_console, lines_of, prose_of
+from programs import ROOT, on_a_terminal
+from test_library import ARCHIVE, need_library
+
+MARK = re.compile(r"<!-- *not run\b:? *(.*?) *-->")
+LINK = re.compile(r"\[(?:[^\]`]|`[^`]*`)*\]\(([^)\s]+)\)")
+MOST_LINES_OF_README = 200
+BUILT = (ROOT + "/crates/pgn_tool/out/pgn_tool", ROOT + "/cargo/out/pgn_tool", ARCHIVE)
+# Shows a command, and leaves the status of the one before as it is.
+SAY = 'say() { set -- "$?" "$1"; printf "%s\\n" "$2"; return "$1"; }'
+
+
+def script_of(lines):
+    """The commands, each of which is shown before it runs."""
+    words, command = [SAY], []
+    for line in lines:
+        if line.startswith("$ ") or command:
+            command.append(line)
+        if command and not line.endswith("\\"):
+            words.append("say " + shlex.quote("\n".join(command)))
+            words.append("\n".join(command)[2:])
+            command = []
+    return "\n".join(words) + "\n"
+
+
+def agrees(lines, shown):
+    """Whether a terminal that shows this text shows what the lines say."""
+    form = ""
+    for line in lines:
+        if line == "...":
+            form += r"(?:.*\n)*?"
+        elif line.endswith(" ..."):
+            form += re.escape(line[:-3]) + r".*\n"
+        else:
+            form += re.escape(line + "\n")
+    return re.fullmatch(form, shown) is not None
+
+
+class Home:
+    """A home folder with a copy of the repository, and what is built of it."""
+
+    def __init__(self, test):
+        folder = os.path.realpath(tempfile.mkdtemp())
+        test.addCleanup(shutil.rmtree, folder)
+        self.path, self.copy = folder + "/me", folder + "/me/gillspoon"
+        skipped = shutil.ignore_patterns(".git", "out", "__pycache__")
+        shutil.copytree(ROOT, self.copy, ignore=skipped, symlinks=True)
+        shutil.copy(self.copy + "/examples/two-games.pgn", self.copy + "/games.pgn")
+        if not programs.printed_by_build():
+            programs.not_tried("the program cannot be built")
+        for file in filter(os.path.exists, BUILT):
+            to = os.path.join(self.copy, os.path.relpath(file, ROOT))
+            os.makedirs(os.path.dirname(to))
+            shutil.copy2(file, to)  # as old as it is: one that is older than a source is not run
+
+    def shown(self, lines):
+        """What a terminal shows of the commands of a console block."""
+        real = os.path.expanduser("~")
+        env = dict(os.environ, HOME=self.path, PATH=self.copy + "/bin:" + programs.PATH,
+                   TERM="dumb", LC_ALL="C.UTF-8")
+        env.pop("PGN_TOOL", None)
+        for name in ("cargo", "rustup"):  # they keep their own files in the real home folder
+            env.setdefault(name.upper() + "_HOME", real + "/." + name)
+        words = ["timeout", "300", "sh", "-c", script_of(lines)]
+        return on_a_terminal(words, cwd=self.copy, env=env).replace(self.path, "/home/me")
+
+
+class Console(unittest.TestCase):
+    def test_blocks(self):
+        for document in documents():
+            blocks = [it for it in blocks_of(lines_of(document)) if is_console(it[2])]
+            home = Home(self) if blocks else None
+            for number, before, lines in blocks:
+                if not MARK.fullmatch(before.strip()):
+                    with self.subTest("%s:%d" % (document, number)):
+                        self.check(home, lines)
+
+    def check(self, home, lines):
+        if any("examples/build" in it for it in lines):
+            need_library()
+        if any("bin/try_allocations" in it for it in lines):
+            programs.need_proved_program()
+        shown = home.shown(lines)
+        if not agrees(lines, shown):
+            self.fail("\n" + "\n".join(difflib.unified_diff(
+                lines, shown.split("\n")[:-1], "the document", "the terminal", lineterm="")))
+
+    def test_there_are_blocks(self):
+        found = [it for document in ("README.md", "docs/TOOLS.md")
+                 for it in blocks_of(lines_of(document)) if is_console(it[2])]
+        self.assertGreater(len(found), 5)
+
+    def test_marks(self):
+        """Each has a reason, and is on the line before a console block."""
+        for document in documents():
+            lines = lines_of(document)
+            starts = {number for number, _, inner in blocks_of(lines) if is_console(inner)}
+            for number, line in enumerate(prose_of(lines), 1):
+                if re.search(r"<!--.*not.run", line):
+                    with self.subTest("%s:%d" % (document, number)):
+                        found = MARK.fullmatch(line.strip())
+                        self.assertTrue(found and found[1], "a mark without a reason")
+                        self.assertIn(number + 1, starts, "a mark without a console block")
+
+
+class Itself(unittest.TestCase):
+    """The reader of this test, on made documents."""
+
+    TEXT = ["a", "```sh", "$ no output", "```", "<!-- not run: why -->", "```", "b", "```", "$ c"]
+
+    def test_blocks(self):
+        self.assertEqual(list(blocks_of(self.TEXT)), [(2, "a", ["$ no output"]),
+                                                      (6, "<!-- not run: why -->", ["b"])])
+        self.assertEqual(prose_of(self.TEXT),
+                         ["a", "", "", "", "<!-- not run: why -->", "", "", "", "$ c"])
+        self.assertEqual([is_console(it[2]) for it in blocks_of(self.TEXT)], [True, False])
+
+    def test_what_agrees(self):
+        lines = ["$ a", "b", "...", "c ...", "d"]
+        for shown in ("$ a\nb\nc \nd\n", "$ a\nb\nx\n\ny\nc z\nd\n"):
+            self.assertTrue(agrees(lines, shown), shown)
+        for shown in ("$ a\nb\nc \nd", "$ a\nb\nc \nd\n\n", "$ a\nx\nb\nc \nd\n", "$ a\nb\nc\nd\n",
+                      "$ a\nb\nc x\n", ""):
+            self.assertFalse(agrees(lines, shown), shown)
+        self.assertFalse(agrees(["1. e4 e5 2. d4... *"], "1. e4 e5 2. d4 exd4 *\n"))
+
+    def shown(self, *lines):
+        return on_a_terminal(["sh", "-c", script_of(lines)])
+
+    def test_what_is_shown(self):
+        for lines in (["$ echo a; echo b >&2", "a", "b", "$ false", "$ echo $?", "1"],
+                      ["$ echo a \\", "    b", "a b", "$ cd /", "$ pwd", "/"],
+                      ["$ printf 'a\\r\\n'", "a\r"], ["$ test -t 1 && test -t 2 && echo yes", "yes"],
+                      ["$ echo $?", "0", "$ (exit 7)", "$ echo $?", "7"],
+                      ["$ '%s' \"'\" 2>/dev/null; echo $?", "127"]):
+            self.assertEqual(self.shown(*lines).split("\n"), [*lines, ""])
+
+    def test_prose_is_not_run(self):
+        self.assertEqual(self.shown("echo a", "b"), "")
+
+    def test_anchors(self):
+        lines = ["# A `b_c`, d!", "## [E-f](g) / h", "```", "# i", "```", "## A b_c d", "##### É. 1"]
+        self.assertEqual(anchors_of(lines), {"a-b_c-d", "e-f--h", "a-b_c-d-1", "é-1"})
+
+    def test_links(self):
+        lines = ["[a](b) and [`[c](d)`](e#f)", "`[g](h)` [i", "j](k)", "```", "[l](m)", "```", "(n)"]
+        self.assertEqual(links_of(lines), ["b", "e#f", "k"])
+
+
+def anchors_of(lines):
+    """The anchors of the headings, by the rule of GitHub."""
+    found, counts = set(), {}
+    for line in prose_of(lines):
+        heading = re.match(r"#{1,6} +(.*?)[ #]*$", line)
+        if heading:
+            text = re.sub(r"\[([^\]]*)\]\([^)]*\)", r"\1", heading[1]).lower()
+            name = re.sub(r"[^\w -]", "", text).replace(" ", "-")
+            count = counts[name] = counts.get(name, -1) + 1
+            found.add("%s-%d" % (name, count) if count else name)
+    return found
+
+
+def links_of(lines):
+    """The targets of the links, of which none in code is one."""
+    text = "\n".join(prose_of(lines))
+    found = LINK.findall(text)
+    in_code = {it for code in re.findall(r"`[^`]+`", text) for it in LINK.findall(code)}
+    return [it for it in found if it not in in_code]
+
+
+class Links(unittest.TestCase):
+    def test_files_and_anchors(self):
+        count = 0
+        for document in documents():
+            for link in links_of(lines_of(document)):
+                if not re.match(r"[a-z]+:", link):
+                    count += 1
+                    with self.subTest("%s: %s" % (document, link)):
+                        self.check(document, link)
+        self.assertGreater(count, 50)
+
+    def check(self, document, link):
+        path, _, anchor = link.partition("#")
+        file = os.path.normpath(os.path.join(os.path.dirname(document), path)) if path else document
+        self.assertFalse(file.startswith(".."), "it leaves the repository")
+        self.assertTrue(os.path.exists(os.path.join(ROOT, file)), "there is no such file")
+        if anchor:
+            self.assertIn(anchor, anchors_of(lines_of(file)), "there is no such heading")
+
+
+class Length(unittest.TestCase):
+    def test_readme(self):
+        count = len(lines_of("README.md")) - 1
+        self.assertLessEqual(count, MOST_LINES_OF_README, "lines of README.md")
+
+
+if __name__ == "__main__":
+    unittest.main()

@@ -1,0 +1,305 @@
+#!/usr/bin/env python3
+"""Tests of bin/install and bin/uninstall, and of what they put in place."""
+import os
+import re
+import shutil
+import sys
+import tempfile
+import unittest
+
+sys.path.insert(0, os.path.dirname(os.path.realpath(__file__)))
+import programs
+from programs import ROOT, run
+from small_repository import CARGO, Repository
+
+INSTALL, UNINSTALL, LIST = "bin/install", "bin/uninstall", "share/pgn_tool/files"
+FILES = [
+    "bin/pgn_fmt", "bin/pgn_sieve", "bin/pgn_tool", "bin/pgn_where",
+    "share/bash-completion/completions/pgn_tool",
+    "share/fish/vendor_completions.d/pgn_tool.fish",
+    "share/man/man1/pgn_fmt.1", "share/man/man1/pgn_sieve.1", "share/man/man1/pgn_tool.1",
+    "share/man/man1/pgn_where.1",
+    LIST, "share/pgn_tool/pgn_files.py", "share/pgn_tool/pgn_fmt", "share/pgn_tool/pgn_sieve",
+    "share/pgn_tool/pgn_where",
+    "share/zsh/site-functions/_pgn_tool",
+]
+SCRIPTS = ("pgn_where", "pgn_sieve", "pgn_fmt")
+
+
+def files(folder):
+    """The files and links below a folder."""
+    return sorted(os.path.relpath(os.path.join(at, it), folder) for at, _,
+                  names in os.walk(folder) for it in names)
+
+
+def folders(folder):
+    """The folders below a folder."""
+    return sorted(os.path.relpath(os.path.join(at, it), folder) for at, names, _ in os.walk(folder)
+                  for it in names)
+
+
+def read(path):
+    with open(path, encoding="utf-8") as lines:
+        return lines.read()
+
+
+class Small(unittest.TestCase):
+    """In a small repository, whose commands build nothing real."""
+
+    def setUp(self):
+        self.here = Repository(self, ("cargo", "rustc", "rt"))
+        self.prefix = self.here.root + "/to there"
+
+    def call(self, *words, script=INSTALL, **more):
+        ran = self.here.call(*words, script=script, **more)
+        return ran.returncode, ran.stdout.decode(), ran.stderr.decode()
+
+    def is_built(self):
+        return self.here.call("--built", script="bin/build_program").returncode == 0
+
+    def test_everything_in_place(self):
+        for _ in range(2):
+            status, out, told = self.call(self.prefix)
+            self.assertEqual(status, 0, told)
+            self.assertEqual(files(self.prefix), FILES)
+            listed = read(self.prefix + "/" + LIST).splitlines()
+            self.assertEqual(sorted(listed), FILES)
+            self.assertEqual(out.splitlines(), [self.prefix + "/" + it for it in listed])
+        self.assertEqual(run([self.prefix + "/bin/pgn_tool", "x"]).stdout,
+                         b"cargo built one, called with x\n")
+
+    def test_what_is_installed_is_said(self):
+        for options, first, kind in (
+                ([], "Cargo builds it, which takes about half a minute",
+                 "built by Cargo, mostly from the proved sources; not proved itself"),
+                (["--proved"], "rt proves and builds it, which takes 12 to 25 minutes",
+                 "proved and built by rt")):
+            status, _, told = self.call(*options, self.prefix)
+            self.assertEqual(status, 0, told)
+            self.assertIn(first, told)
+            self.assertRegex(told, "is installed under %s: %s\n" % (self.prefix, kind))
+            ran = run([self.prefix + "/bin/pgn_tool", "x"])
+            self.assertEqual(ran.stdout.split()[0], b"rt" if options else b"cargo")
+
+    def test_scripts_call_the_program_beside_them(self):
+        self.call(self.prefix)
+        self.here.command("pgn_tool", "#!/bin/sh\necho another\n")
+        for name in ("bin/pgn_fmt", "share/pgn_tool/pgn_fmt"):
+            ran = run([os.path.join(self.prefix, name)], input=b"", cwd="/",
+                      env={"PATH": self.here.root + "/path"})
+            self.assertEqual((ran.returncode, ran.stdout, ran.stderr),
+                             (0, b"cargo built one, called with export\n", b""))
+        os.unlink(self.prefix + "/bin/pgn_tool")
+        ran = run([self.prefix + "/bin/pgn_fmt"], input=b"", cwd="/",
+                  env={"PATH": self.here.root + "/path"})
+        self.assertEqual((ran.returncode, ran.stdout), (0, b"another\n"), ran.stderr)
+        os.unlink(self.here.root + "/path/pgn_tool")
+        ran = run([self.prefix + "/bin/pgn_fmt"], input=b"", cwd="/",
+                  env={"PATH": self.here.root + "/path"})
+        self.assertEqual((ran.returncode, ran.stdout, ran.stderr), (
+            127, b"", b"pgn_fmt: there is no pgn_tool beside this script or on the PATH\n"))
+
+    def test_package(self):
+        env = {"DESTDIR": self.here.root + "/package"}
+        status, _, told = self.call("/usr", env=env)
+        self.assertEqual(status, 0, told)
+        self.assertEqual(files(self.here.root + "/package/usr"), FILES)
+        self.assertEqual(os.readlink(self.here.root + "/package/usr/bin/pgn_where"),
+                         "../share/pgn_tool/pgn_where")
+        # where the package goes, no shell looks
+        self.assertNotIn("completes", told)
+        status, _, told = self.call("/usr", script=UNINSTALL, env=env)
+        self.assertEqual((status, told), (0, ""))
+        self.assertEqual(files(self.here.root + "/package"), [])
+        self.assertEqual(folders(self.here.root + "/package"), ["usr"])
+
+    def test_uninstall_removes_exactly_what_was_installed(self):
+        own = ["bin/mine", "share/man/man1/mine.1", "share/pgn_tool/mine"]
+        for name in own:
+            self.here.write(os.path.join(self.prefix, name), "mine")
+        self.call(self.prefix)
+        self.assertEqual(files(self.prefix), sorted(FILES + own))
+        status, out, told = self.call(self.prefix, script=UNINSTALL)
+        self.assertEqual((status, told), (0, ""))
+        self.assertEqual(sorted(out.splitlines()), [self.prefix + "/" + it for it in FILES])
+        self.assertEqual(files(self.prefix), own)
+        self.assertEqual(folders(self.prefix),
+                         ["bin", "share", "share/man", "share/man/man1", "share/pgn_tool"])
+        status, out, told = self.call(self.prefix, script=UNINSTALL)
+        self.assertEqual((status, out), (1, ""))
+        self.assertIn("so bin/install put nothing there", told)
+
+    def test_uninstall_stays_below_the_prefix(self):
+        self.here.write("other", "mine")
+        self.call(self.prefix)
+        with open(self.prefix + "/" + LIST, "a", encoding="ascii") as lines:
+            lines.write("../other\n")
+        status, _, told = self.call(self.prefix, script=UNINSTALL)
+        self.assertEqual(status, 1)
+        self.assertIn("names ../other, which bin/install does not write", told)
+        self.assertTrue(os.path.exists(self.here.root + "/other"))
+
+    def test_a_file_of_an_older_installation_goes(self):
+        self.call(self.prefix)
+        for name in ("share/pgn_tool/old", "share/pgn_tool/mine"):
+            self.here.write(os.path.join(self.prefix, name), "text")
+        with open(self.prefix + "/" + LIST, "a", encoding="ascii") as lines:
+            lines.write("share/pgn_tool/old\n")
+        self.assertEqual(self.call(self.prefix)[0], 0)
+        self.assertEqual(files(self.prefix), sorted(FILES + ["share/pgn_tool/mine"]))
+
+    def test_a_folder_that_cannot_be_written_is_refused_before_any_build(self):
+        self.here.write("file", "text")
+        for prefix, at in ((self.here.root + "/file", "/file"),
+                           (self.here.root + "/file/below", "/file"),
+                           ("/dev/null/x", "/dev/null")):
+            status, out, told = self.call(prefix)
+            self.assertEqual((status, out), (1, ""))
+            self.assertRegex(told, "%s is not a folder that you can write to\n" % at)
+            self.assertIn('bin/install "$HOME/.local"', told)
+            self.assertFalse(self.is_built())
+
+    def test_a_folder_of_another_user_is_refused_before_any_build(self):
+        os.makedirs(self.prefix + "/share/man")
+        os.chmod(self.prefix + "/share/man", 0o555)
+        words = [self.here.root + "/" + INSTALL, self.prefix]
+        if os.geteuid() == 0:
+            programs.need("setpriv")
+            os.chmod(self.here.root, 0o755)
+            words = [programs.found("setpriv"), "--reuid", "65534", "--clear-groups", *words]
+            os.chown(self.prefix, 65534, -1)
+        else:
+            self.addCleanup(os.chmod, self.prefix + "/share/man", 0o755)
+        ran = run(words, env={"PATH": self.here.root + "/path", "HOME": self.here.root})
+        self.assertEqual((ran.returncode, ran.stdout), (1, b""))
+        self.assertIn(b"is not a folder that you can write to", ran.stderr)
+        self.assertFalse(self.is_built())
+
+    def test_a_build_that_fails(self):
+        self.here.write("crates/pgn_tool/src/main.rt", "broken")
+        status, out, told = self.call(self.prefix)
+        self.assertEqual((status, out), (127, ""))
+        self.assertIn("the program was not built", told)
+        self.assertFalse(os.path.exists(self.prefix))
+
+    def test_neither_cargo_nor_rt(self):
+        here = Repository(self, ())
+        ran = here.call(self.prefix, script=INSTALL)
+        self.assertEqual((ran.returncode, ran.stdout), (127, b""))
+        self.assertIn(b"cargo is not on the PATH", ran.stderr)
+        self.assertFalse(os.path.exists(self.prefix))
+
+    def test_an_old_cargo(self):
+        env = {"CARGO_VERSION": "1.65.0", "RUSTC_VERSION": "1.63.0"}
+        status, _, told = self.call(self.prefix, env=env)
+        self.assertEqual(status, 0, told)
+        self.assertIn("/path/rustc is 1.63.0, and 1.74 is needed", told)
+        self.assertIn("proved and built by rt", told)
+
+    def test_deps(self):
+        os.unlink(self.here.root + "/path/cargo")
+        os.unlink(self.here.root + "/path/id")
+        self.here.command("id", "#!/bin/sh\necho 0\n")
+        self.here.write("cargo-of-debian", CARGO)
+        self.here.command("apt-get", "#!/bin/sh\n[ $1 = update ] && exit\n"
+                          "cp %s/cargo-of-debian %s/path/cargo\nchmod 755 %s/path/cargo\n"
+                          % ((self.here.root,) * 3))
+        status, _, told = self.call("--deps", self.prefix)
+        self.assertEqual(status, 0, told)
+        self.assertIn("built by Cargo", told)
+
+    def test_advice(self):
+        _, _, told = self.call(self.prefix)
+        self.assertIn('export PATH="%s/bin:$PATH"' % self.prefix, told)
+        self.assertIn("bash completes pgn_tool with this line in ~/.bashrc: . '%s" % self.prefix,
+                      told)
+        env = {"PATH": "%s/bin:%s/path" % (self.prefix, self.here.root),
+               "XDG_DATA_HOME": self.prefix + "/share"}
+        _, _, told = self.call(self.prefix, env=env)
+        self.assertEqual(told.count("\n"), 1, told)
+
+    def test_arguments(self):
+        for script in (INSTALL, UNINSTALL):
+            for words in (["--no"], ["a", "b"]):
+                status, out, told = self.call(*words, script=script)
+                self.assertEqual((status, out, told.count("\n")), (2, "", 1), words)
+            status, _, told = self.call("--help", script=script)
+            self.assertEqual((status, told), (0, ""))
+
+
+class Installed(unittest.TestCase):
+    """The program and the scripts as they are installed, with bin/ of the prefix on the PATH."""
+
+    @classmethod
+    def setUpClass(cls):
+        programs.need_program()
+        cls.folder = os.path.realpath(tempfile.mkdtemp())
+        cls.addClassCleanup(shutil.rmtree, cls.folder)
+        cls.prefix = cls.folder + "/there"
+        cls.env = {"PATH": cls.prefix + "/bin:/usr/bin:/bin", "HOME": cls.folder,
+                   "LC_ALL": "C.UTF-8"}
+        cls.ran = run([ROOT + "/" + INSTALL, cls.prefix], timeout=None)
+
+    def setUp(self):
+        self.assertEqual(self.ran.returncode, 0, self.ran.stderr)
+
+    def shell(self, script, name="sh", words=("-c",), **env):
+        programs.need(name)
+        return run([programs.found(name), *words, script], cwd=self.folder,
+                   env=dict(self.env, **env))
+
+    def test_they_work_from_another_folder(self):
+        ran = self.shell("printf '1. e4 *\\n\\n[White \"Ann\"]\\n\\n1. Ke2 *\\n' >games.pgn\n"
+                         "pgn_tool check games.pgn 2>&1 | pgn_where games.pgn\n"
+                         "pgn_sieve games.pgn good.pgn bad.pgn >/dev/null\n"
+                         "pgn_fmt good.pgn | tail -n 2; pgn_fmt --check bad.pgn")
+        self.assertEqual(ran.stdout.decode().splitlines(), [
+            "games.pgn: line 5, column 4 (byte 27): move is not legal", "1. Ke2 *", "   ^",
+            'game 2: White "Ann", Black "?", Event "?"', "1. e4 *", ""])
+        self.assertRegex(ran.stderr, rb"\Apgn_fmt: bad.pgn: byte \d+: move is not legal\n\Z")
+
+    def test_no_path_of_the_repository_is_named(self):
+        texts = {it: self.shell(it + " --help").stdout.decode() for it in SCRIPTS}
+        for page in ("pgn_tool", *SCRIPTS):
+            source = read("%s/share/man/man1/%s.1" % (self.prefix, page))
+            texts[page + ".1"] = re.sub(r'(?m)^\.\\".*', "", source)
+        for name, text in texts.items():
+            self.assertGreater(len(text), 500)
+            for folder in sorted(os.listdir(ROOT)):
+                if os.path.isdir(os.path.join(ROOT, folder)):
+                    found = re.search(r"(?<![\w/])%s/\w+" % re.escape(folder), text)
+                    self.assertIsNone(found, (name, found))
+
+    def test_the_manual_is_found(self):
+        programs.need("man")
+        for page in ("pgn_tool", *SCRIPTS):
+            ran = self.shell("man -w " + page)
+            self.assertEqual(ran.stdout.decode().strip(),
+                             "%s/share/man/man1/%s.1" % (self.prefix, page))
+
+    def test_bash_completes(self):
+        ran = self.shell(". '%s/share/bash-completion/completions/pgn_tool'; complete -p pgn_tool"
+                         % self.prefix, "bash")
+        self.assertEqual(ran.stdout, b"complete -F _pgn_tool pgn_tool\n", ran.stderr)
+
+    def test_fish_completes(self):
+        ran = self.shell("complete -C 'pgn_tool exp'", "fish",
+                         XDG_DATA_DIRS=self.prefix + "/share:/usr/share")
+        self.assertEqual(ran.stdout.split(b"\t")[0], b"export", ran.stderr)
+
+    def test_zsh_completes_after_the_line_that_is_advised(self):
+        programs.need("zsh")
+        line = re.search(rb"above compinit in ~/.zshrc: (.*)", self.ran.stderr)[1].decode()
+        script = ("zmodload zsh/zpty; zpty shell zsh -f -i\n"
+                  "zpty -w shell \"PS1=; %s; autoload -Uz compinit; compinit -u -d dump\"\n"
+                  "zpty -w shell \"bindkey '^I' complete-word; print ready\"\n"
+                  "zpty -r shell out '*ready*ready*'\n"
+                  "zpty -n -w shell $'pgn_tool export --red\\t'\n"
+                  "zpty -r shell out '*--reduced*' && print found\n"
+                  "zpty -d shell" % line)
+        ran = self.shell(script, "zsh", ("-f", "-c"), TERM="dumb")
+        self.assertEqual(ran.stdout, b"found\n", ran.stderr)
+
+
+if __name__ == "__main__":
+    unittest.main()
