@@ -71,7 +71,7 @@ class Small(unittest.TestCase):
     def test_what_is_installed_is_said(self):
         for options, first, kind in (
                 ([], "Cargo builds it, which takes about half a minute",
-                 "built by Cargo, mostly from the proved sources; not proved itself"),
+                 "built by Cargo from the proved sources; not proved itself"),
                 (["--proved"], "rt proves and builds it, which takes 12 to 25 minutes",
                  "proved and built by rt")):
             status, _, told = self.call(*options, self.prefix)
