@@ -7,7 +7,7 @@
  * buffer. Several threads may call at once, with buffers of their own; they may share what is only
  * read.
  *
- * What a caller owes. Nothing checks this, and all that is proved rests on it:
+ * Conditions on a caller. Nothing checks them, and all that is proved rests on them:
  *
  *  1. A pointer with a length or a capacity points to that many bytes of one object, at most
  *     2^63 - 1, for the whole call. It is not null, also where the length is 0.
