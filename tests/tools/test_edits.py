@@ -162,11 +162,11 @@ class Reading(unittest.TestCase):
             ("edit: lib-f-is-wrong\nfile: a\nold: a\nnew: b\n", 1,
              "an edit has a `guards:` line and changes something"),
             ("edit: is wrong\n", 1, "a name is a file, a function and what is wrong"),
-            ("guards: f\n", 1, "this line cannot stand here: guards: f"),
-            (HEAD + "edit: lib-g\n", 4, "this line cannot stand here: edit: lib-g"),
-            ("edit: lib-f-is-wrong\nold: a\n", 2, "this line cannot stand here: old: a"),
-            (HEAD + "old:\n", 4, "this line cannot stand here: old:"),
-            (HEAD + "tried: now\n", 4, "this line cannot stand here: tried: now"),
+            ("guards: f\n", 1, "this line is out of place: guards: f"),
+            (HEAD + "edit: lib-g\n", 4, "this line is out of place: edit: lib-g"),
+            ("edit: lib-f-is-wrong\nold: a\n", 2, "this line is out of place: old: a"),
+            (HEAD + "old:\n", 4, "this line is out of place: old:"),
+            (HEAD + "tried: now\n", 4, "this line is out of place: tried: now"),
         ):
             with self.assertRaises(Exception) as raised:
                 self.read(text)
@@ -210,7 +210,7 @@ class Ledger(unittest.TestCase):
         with self.assertRaises(Exception) as raised:
             self.written((" the same, `lib-put-old` ", " ", " "))
         self.assertEqual(str(raised.exception),
-                         "docs/PROVED.md:3: an edit stands behind other words")
+                         "docs/PROVED.md:3: an edit comes after other words")
 
     def test_a_guard_names_one_row(self):
         for guard, count in (("Puts, all", 0), ("text, put, other", 0), ("text", 2)):
