@@ -1,19 +1,9 @@
 #!/usr/bin/env python3
 """Runs the console blocks of the documents, and compares all that they show. Tests links too.
 
-A console block is a fenced block with a line that begins with '$ '. What such a block may have:
-
-- A line that begins with '$ ' is a command of a POSIX shell. It goes on in the next line if it ends
-  with a backslash. All other lines are what a terminal then shows, exactly.
-- A line '...' stands for any lines, also for none. ' ...' ends a line whose rest may differ.
-- A status is compared where a command shows it: '$ echo $?'.
-- The commands run in a copy of the repository, as someone runs them who has just cloned it and has
-  its bin/ on the PATH. The blocks of a document share one copy, and run from its top to its end;
-  each begins in the copy's root.
-- games.pgn is a copy of examples/two-games.pgn there. The home folder is /home/me, and the copy is
-  /home/me/gillspoon.
-- A block that cannot be run (it needs a network, another machine, a file of the reader, or minutes)
-  has a comment on the line before it: '<!-- not run: REASON -->'.
+A console block is a fenced block with a line that begins with '$ '. docs/CONTRIBUTING.md says what
+such a block may have ("Change a document"). One that needs a network, another machine, a file of
+the reader or minutes is not run.
 """
 import difflib
 import os
