@@ -19,6 +19,16 @@ use arrayvec::ArrayVec;
 /// Such a piece is the first on a rank, a file or a diagonal from the target, or for a knight a
 /// jump away. From no other square has a piece of the kind a legal move to the target. There are at
 /// most 8, each once.
+///
+/// # Examples
+///
+/// ```
+/// use chess_rules::{Kind, Position, Square, origins};
+///
+/// let f3 = Square::new(5, 2).unwrap();
+/// let g1 = Square::new(6, 0).unwrap();
+/// assert_eq!(origins(&Position::initial(), Kind::Knight, f3).as_slice(), [g1]);
+/// ```
 #[inline(always)]
 pub fn origins(position: &Position, kind: Kind, target: Square) -> ArrayVec<Square, 8>
     ensures exactly { IsPermutation (candidates position.now kind target) result.items }
@@ -29,8 +39,7 @@ pub fn origins(position: &Position, kind: Kind, target: Square) -> ArrayVec<Squa
     squares_of(origin_set(position, kind, target))
 }
 
-/// Returns the one square that `origins` lists for the kind and the target, or `None` if it lists
-/// none or several.
+/// Returns the one square that `origins` lists, or `None` if it lists none or several.
 ///
 /// For most moves the kind has one origin, and this is then cheaper than `origins`.
 #[inline(always)]

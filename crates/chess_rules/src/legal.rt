@@ -92,6 +92,18 @@ pub fn in_check(position: &Position) -> bool
 /// Without one it is mated or stalemated. This counts the pairs that it tries: at most 1,024, and
 /// the count must have room for them. If no move is legal, it counts one for each kind, target and
 /// member of `origins`.
+///
+/// # Examples
+///
+/// ```
+/// use chess_rules::{Position, Probes, has_legal_move, in_check};
+///
+/// let position = Position::initial();
+/// let mut probes = Probes::new();
+/// let is_over = !has_legal_move(&position, &mut probes);
+/// assert!(!is_over && !in_check(&position));
+/// assert!(probes.count() <= 1024);
+/// ```
 pub fn has_legal_move(position: &Position, probes: &mut Probes) -> bool
     requires { probes.old + 1024 < 2 ^ 32 }
     ensures found { result ≡ spec.has_legal_move position.now }

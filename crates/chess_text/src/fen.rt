@@ -15,8 +15,9 @@ use itoa::Buffer;
 /// Why a text spells no position.
 #[derive(Clone, Copy, PartialEq, Eq, Debug)]
 pub struct FenFault {
-    /// The lowest of the six fields that is no spelling, 1 to 6; 7 if all six are and the position
-    /// breaks a rule.
+    /// The lowest field that is no spelling, 1 to 6.
+    ///
+    /// It is 7 if all six are spellings, and the position breaks a rule.
     pub field: u8,
 }
 

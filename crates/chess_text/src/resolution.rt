@@ -37,9 +37,9 @@ pub enum SanFault {
 
 /// Returns the one legal move that agrees with the form, and the position after it. (PGN 8.2.3)
 ///
-/// A legal move agrees if it has the kind, the target and the promotion of the form, and an origin
-/// on the file and the rank that are given. Castling agrees with the form of that castling and with
-/// no other.
+/// A legal move agrees if it has the kind, the target and the promotion of the form. Its origin has
+/// to be on the file and the rank that the form gives. Castling agrees with the form of that
+/// castling and with no other.
 ///
 /// This counts the pairs that it tries, also on an error. That is one for castling, and for another
 /// form one for each member of `origins`, also if a hint rules it out. If two moves agree, it is at
@@ -80,10 +80,9 @@ pub fn resolve(position: &Position, form: &Form, probes: &mut Probes) -> Result<
     }
 }
 
-/// Returns the one legal move that agrees with the form, as `resolve` does, without the position
-/// after it. (PGN 8.2.3)
+/// Returns the one legal move that agrees with the form. (PGN 8.2.3)
 ///
-/// It counts what `resolve` counts.
+/// It does what `resolve` does, without the position after the move, and counts the same pairs.
 ///
 /// # Errors
 ///

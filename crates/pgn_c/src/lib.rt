@@ -75,12 +75,13 @@ pub extern "C" fn pgn_convert(text: &[u8], buffer: &mut [u8], mode: u32) -> PgnR
     }
 }
 
-/// Writes the canonical text of a FEN (PGN 16.1) into the front of a buffer. It has at most 93
-/// bytes.
+/// Writes the canonical text of a FEN (PGN 16.1) into the front of a buffer.
+///
+/// The text has at most 93 bytes.
 ///
 /// - Status 0: the buffer has the text.
-/// - Status 1: the FEN is no position. The field is 1 to 6, or 7 where all are spelled well but
-///   break a rule together.
+/// - Status 1: the FEN is no position. The field is 1 to 6, or 7 if all are spelled well but break
+///   a rule together.
 /// - Status 2: the buffer is too short. The length is what the text needs.
 ///
 /// With the last two the buffer is unchanged.
@@ -94,12 +95,15 @@ pub extern "C" fn pgn_fen_normalize(fen: &[u8], buffer: &mut [u8]) -> PgnText
     }
 }
 
-/// Returns the SAN of the one legal move that a text names in the position of a FEN (PGN 8.2.3),
-/// and the FEN of the position after it.
+/// Returns the SAN of the one legal move that a text names (PGN 8.2.3).
 ///
-/// Status 1 has the number of a fault: 26 for the FEN, with its field; 33 where the text is no
-/// move's, 34 where no legal move is meant, 35 where more than one is, and 36 for Black's move with
-/// the number 99,999.
+/// The position before the move is that of the FEN. The result also has the FEN of the position
+/// after it.
+///
+/// - Status 0: the result has both texts.
+/// - Status 1: the result has the number of a fault. It is 26 for the FEN, with its field, 33 if
+///   the text is no move, and 34 if no legal move is meant. It is 35 if more than one is meant, and
+///   36 for Black's move with the number 99,999.
 #[unsafe(no_mangle)]
 pub extern "C" fn pgn_san(fen: &[u8], text: &[u8]) -> PgnMove
     ensures { result ≡ san_result (read fen.now) text.now }

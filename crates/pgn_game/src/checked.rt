@@ -28,9 +28,9 @@ use pgn_lexer::laws::tokens_rise;
 use pgn_lexer::{Lexer, Outcome, TokenKind};
 use std::marker::Model;
 
-/// Converts the games of an input that is read twice, as `convert` does, except that a missing
-/// Result takes the game's marker (PGN 8.1.1.7).
+/// Converts an input that is read twice: a missing Result takes the game's marker (PGN 8.1.1.7).
 ///
+/// All else is as for `convert`.
 /// Each game is read from `first` to its marker, then read again from `second` and written. So
 /// nothing is written of a game that `first` rejects. Both sources are meant to give the same
 /// bytes. Only each marker and its place are compared. When `first` has ended, `second` is not

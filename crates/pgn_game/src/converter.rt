@@ -230,8 +230,9 @@ impl<const T: usize, const L: usize> Converter<T, L> {
         None
     }
 
-    /// Returns the number of plies of the game just finished, without its variations; 0 at any
-    /// other time.
+    /// Returns the number of plies of the game just finished, without its variations.
+    ///
+    /// It is 0 at any other time.
     pub fn plies(&self) -> u64
         ensures { result ≡ finished_game_plies self.now }
     {
@@ -241,8 +242,9 @@ impl<const T: usize, const L: usize> Converter<T, L> {
         0
     }
 
-    /// Returns the position at the end of the game just finished, after its moves outside
-    /// variations; `None` at any other time.
+    /// Returns the position at the end of the game just finished.
+    ///
+    /// It is the one after all moves outside variations. At any other time the result is `None`.
     pub fn position(&self) -> Option<&Position>
         ensures { option_copied result ≡ finished_game_position self.now }
     {
@@ -252,8 +254,9 @@ impl<const T: usize, const L: usize> Converter<T, L> {
         None
     }
 
-    /// Returns the most pairs of an origin and a target that were tried for one move so far: at
-    /// most 1,040, and at least 1 once a move was played.
+    /// Returns the most pairs of an origin and a target that were tried for one move so far.
+    ///
+    /// The number is at most 1,040, and at least 1 once a move was played.
     ///
     /// Pairs are tried to find a move, also one that is rejected, and to write the SAN of an
     /// accepted one with its mark. In reduced mode the moves of variations are not written.

@@ -1,6 +1,6 @@
 //! Lines of PGN export format and the sinks they go to.
 //!
-//! A [`Layout`] writes tag pairs, each on a line of its own (PGN 8.1), and sets movetext tokens on
+//! A [`Layout`] writes tag pairs, each on a line of its own (PGN 8.1). It sets movetext tokens on
 //! lines of at most 79 bytes (PGN 8.2.1). It keeps one line, never allocates, and writes to any
 //! [`Sink`]: an [`Outlet`] over a `std::io::Write`, or [`Nowhere`]. After a failed write each call
 //! fails again.
