@@ -17,9 +17,9 @@ use Rattle.chess_rules.specs.Reach.{square_at}
 unfoldable pub has : ℕ → ℕ → Bool
 has word i = bit_at word i == 1
 
--- Three words tell the kinds apart. A rook is in the first, `straight`, a bishop in `diagonal`, and
--- a queen in both. What does not slide is in `near`: a pawn there alone, a knight in `straight` too,
--- a king in `diagonal` too.
+-- Three words tell the kinds apart. A rook is in `straight`, a bishop in `diagonal`, a queen in
+-- both. What does not slide is in `near`: a pawn there alone, a knight in `straight` too, a king in
+-- `diagonal` too.
 
 abbrev pub colour_of : Bool → Colour
 colour_of true = Black

@@ -63,8 +63,8 @@ abbrev pub IsMissing : (out err : Device) (status : ℕ) → Type 0
 IsMissing out err status = (fault : SystemFault) × EndsUnopened fault err status × IsUntouched out
 
 -- A task that writes to standard output. Without memory for its buffer, nothing is read or written.
--- Otherwise there was room for it, and the task runs; if no device fails, it does with the text read
--- what `Answers` says.
+-- Otherwise there was room for it, and the task runs. If no device fails, `Answers` says what it
+-- does with the text read.
 pub data RunsStream (job : Job) (source out : Device) (lacks_memory : Bool) (has_room : Type 0)
     (err : Device) (status : ℕ) : Type 0 where
   unbuffered : lacks_memory ≡ true → IsUntouched source → IsUntouched out
@@ -74,8 +74,8 @@ pub data RunsStream (job : Job) (source out : Device) (lacks_memory : Bool) (has
       → Answers job s out err status)
       → RunsStream job source out lacks_memory has_room err status
 
--- A task that reads two sources, which needs the buffer too. If no device fails, `AnswersTwice` says
--- what it does, and if both texts are the same, `AnswersSame` says more.
+-- A task that reads two sources, which needs the buffer too. If no device fails, `AnswersTwice`
+-- says what it does, and if both texts are the same, `AnswersSame` says more.
 pub data RunsBoth (mode : Mode) (first second out : Device) (lacks_memory : Bool)
     (has_room : Type 0) (err : Device) (status : ℕ) : Type 0 where
   unbuffered_twice : lacks_memory ≡ true → IsUntouched first → IsUntouched second → IsUntouched out
