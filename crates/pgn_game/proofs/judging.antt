@@ -3,4 +3,3 @@ pub mod HandlersToRows
 pub mod ReaderToPart
 pub mod RefusalsByStage
 pub mod RefusalsInMovetext
-pub mod RowsByStage

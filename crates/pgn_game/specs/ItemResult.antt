@@ -6,8 +6,8 @@ use Rattle.chess_text.specs.declared.resolution.Played.{Played}
 use Rattle.pgn_layout.specs.Device.{AppendsFront, Counts, Device, Writes}
 use Rattle.pgn_layout.specs.Lines.{IsToken}
 use Rattle.pgn_layout.specs.Layout.{Put, laid_from}
-use Rattle.pgn_game.specs.declared.item.Item.{Item as CodeItem}
-use Rattle.pgn_game.specs.declared.item.Item.TheVariants.{Open, Close}
+use Rattle.pgn_game.specs.declared.annotation.Annotation.{Annotation}
+use Rattle.pgn_game.specs.declared.annotation.Annotation.TheVariants.{Open, Close}
 use Rattle.pgn_game.specs.declared.mode.Mode.{Mode}
 use Rattle.pgn_game.specs.declared.mode.Mode.TheVariants.{Full, Reduced}
 use Rattle.pgn_game.specs.Chess.{is_black_to_move}
@@ -59,7 +59,7 @@ abbrev pub plies_in : Item → ℕ → ℕ
 plies_in i depth = elim (is_move i) [ true ↦ counted_at depth | false ↦ 0 ]
 
 -- the levels that it leads to
-abbrev pub LeadsLevels : CodeItem → StoredLevels → StoredLevels → Type 0
+abbrev pub LeadsLevels : Annotation → StoredLevels → StoredLevels → Type 0
 LeadsLevels Open old new =
     IfSome old.present.before
     (λ start. new ≡ record { present = level_at start; around = old.present ∷ old.around })
@@ -92,7 +92,7 @@ pub record Plays (x : Played) (old new : Movetext) : Type 0 where
   pub is_after_move : new.is_after_move ≡ old.is_after_move
 
 -- Movetext goes on with another item, which may be written before.
-pub record GoesOn (i : CodeItem) (old new : Movetext) : Type 0 where
+pub record GoesOn (i : Annotation) (old new : Movetext) : Type 0 where
   pub levels : LeadsLevels i old.levels new.levels
   pub plies : new.plies ≡ old.plies
   pub is_after_move : new.is_after_move ≡ old.is_after_move

@@ -52,7 +52,7 @@ number_before true true n = []
 -- word, a parenthesis
 abbrev pub tokens_at : Bool → Parts → Item → List (List ℕ)
 tokens_at is_after_move p (move m) = number_before is_after_move (is_black_to_move p) p.full ++ text_of_move p m ∷ []
-tokens_at is_after_move p (glyph n) = (36 ∷ decimal n) ∷ []
+tokens_at is_after_move p (glyph n) = (codes "$" ++ decimal n) ∷ []
 tokens_at is_after_move p comment_open = codes "{" ∷ []
 tokens_at is_after_move p (word text) = text ∷ []
 tokens_at is_after_move p comment_close = codes "}" ∷ []

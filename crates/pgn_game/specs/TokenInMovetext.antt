@@ -6,8 +6,8 @@ use Rattle.chess_text.specs.declared.resolution.Played.{Played}
 use Rattle.pgn_layout.specs.Lines.{IsToken}
 use Rattle.pgn_lexer.specs.Tokens as tokens
 use Rattle.pgn_lexer.specs.Tokens.{Kind}
-use Rattle.pgn_game.specs.declared.item.Item.{Item as CodeItem}
-use Rattle.pgn_game.specs.declared.item.Item.TheVariants.{Glyph, CommentOpen, Word, CommentClose, Open, Close}
+use Rattle.pgn_game.specs.declared.annotation.Annotation.{Annotation}
+use Rattle.pgn_game.specs.declared.annotation.Annotation.TheVariants.{Glyph, CommentOpen, Word, CommentClose, Open, Close}
 use Rattle.pgn_game.specs.declared.reason.Reason.{Reason}
 use Rattle.pgn_game.specs.declared.reason.Reason.TheVariants.{TagInMovetext, NotAMove, IllegalMove, AmbiguousMove, MoveLimit, NoMoveBefore, TooDeep, UnmatchedClose, MarkerInVariation, ResultDiffers, UnexpectedEnd}
 use Rattle.pgn_game.specs.declared.stage.Stage.{Stage}
@@ -31,8 +31,8 @@ with_items part more =
 abbrev pub game_of : Part → List ℕ → Game
 game_of part marker = record { pairs = part.pairs; items = part.items; marker = marker }
 
--- an item of the code is one of the model
-abbrev pub model_item : CodeItem → Item
+-- an annotation of the code as an item of a game
+abbrev pub model_item : Annotation → Item
 model_item (Glyph n) = games.glyph n
 model_item CommentOpen = games.comment_open
 model_item (Word text) = games.word text.now
@@ -66,7 +66,7 @@ IsLegal here played = legal here played.mv ≡ Some played.next
 
 -- An item can be put on movetext of at most so many levels: a token, a variation that can open or
 -- close.
-abbrev pub ItemFits : ℕ → Movetext → CodeItem → Type 0
+abbrev pub ItemFits : ℕ → Movetext → Annotation → Type 0
 ItemFits most text (Word word) = IsToken word.now
 ItemFits most text Open =
     IsTrue (is_some text.levels.present.before) × (length text.levels.around + 1 < most)

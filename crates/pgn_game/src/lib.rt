@@ -6,11 +6,11 @@
 #![tactic(auto)]
 
 mod accepted;
+mod annotation;
 mod checked;
 mod conversion;
 mod converter;
 mod find;
-mod item;
 pub mod laws;
 mod levels;
 mod marker;

@@ -11,7 +11,7 @@ ghost use Rattle.chess_rules.specs.Legal.{is_legal};
 ghost use Rattle.pgn_game.specs.ItemResult.{Adds, GoesOn, Plays, PutsTokens, Rises, TriesItem, WritesItem};
 ghost use Rattle.pgn_game.specs.ItemResult.{number_due, tokens_due, writes};
 
-use crate::item::Item;
+use crate::annotation::Annotation;
 use crate::levels::Levels;
 use crate::mode::Mode;
 use crate::number::{put_glyph, put_move_number};
@@ -133,7 +133,7 @@ impl<const L: usize> Movetext<L> {
     pub fn put<W: Sink>(
         &mut self,
         mode: Mode,
-        item: &Item<'_>,
+        item: &Annotation<'_>,
         line: &mut CurrentLine,
         out: &mut W,
     ) -> Result<(), WriteFault>
@@ -185,7 +185,7 @@ impl<const L: usize> Movetext<L> {
     fn write<W: Sink>(
         &mut self,
         mode: Mode,
-        item: &Item<'_>,
+        item: &Annotation<'_>,
         line: &mut CurrentLine,
         out: &mut W,
     ) -> Result<(), WriteFault>
@@ -227,7 +227,7 @@ impl<const L: usize> Movetext<L> {
     #[inline(always)]
     fn write_tokens<W: Sink>(
         &self,
-        item: &Item<'_>,
+        item: &Annotation<'_>,
         line: &mut CurrentLine,
         out: &mut W,
     ) -> Result<(), WriteFault>
@@ -236,12 +236,12 @@ impl<const L: usize> Movetext<L> {
             result (device W.taken W.failures out.old out.new) }
     {
         match item {
-            Item::Glyph(glyph) => put_glyph(*glyph, line, out),
-            Item::CommentOpen => line.put(b"{", out),
-            Item::Word(word) => line.put(word, out),
-            Item::CommentClose => line.put(b"}", out),
-            Item::Open => line.put(b"(", out),
-            Item::Close => line.put(b")", out),
+            Annotation::Glyph(glyph) => put_glyph(*glyph, line, out),
+            Annotation::CommentOpen => line.put(b"{", out),
+            Annotation::Word(word) => line.put(word, out),
+            Annotation::CommentClose => line.put(b"}", out),
+            Annotation::Open => line.put(b"(", out),
+            Annotation::Close => line.put(b")", out),
         }
     }
 
@@ -277,13 +277,13 @@ impl<const L: usize> Movetext<L> {
 
     // Moves the levels by an item other than a move.
     #[inline(always)]
-    fn go_on(&mut self, item: &Item<'_>)
+    fn go_on(&mut self, item: &Annotation<'_>)
         requires { ItemFits L self.old item.now }
         ensures { GoesOn item.now self.old self.new }
     {
         match item {
-            Item::Open => self.levels.open(),
-            Item::Close => self.levels.close(),
+            Annotation::Open => self.levels.open(),
+            Annotation::Close => self.levels.close(),
             _ => {}
         }
     }

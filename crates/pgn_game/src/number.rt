@@ -1,5 +1,5 @@
 //! Numbers in movetext.
-ghost use Rattle.std.specs.Prelude.{◌≤◌, [], ◌++◌, ◌∷◌, decimal, length};
+ghost use Rattle.std.specs.Prelude.{◌≤◌, [], ◌++◌, ◌∷◌, codes, decimal, length};
 ghost use Rattle.pgn_layout.specs.Device.{device};
 ghost use Rattle.pgn_game.specs.ItemResult.{PutsTokens};
 
@@ -22,9 +22,9 @@ pub fn put_move_number<W: Sink>(
     line.put_parts(buffer.format(number).as_bytes(), periods, out)
 }
 
-/// Puts the text of a NAG on the line: `$n` (PGN 8.2.4). The byte 36 is `$`.
+/// Puts the text of a NAG on the line: `$n` (PGN 8.2.4).
 pub fn put_glyph<W: Sink>(glyph: u8, line: &mut CurrentLine, out: &mut W) -> Result<(), WriteFault>
-    ensures { PutsTokens ((36 ∷ decimal glyph) ∷ []) line.old line.new result
+    ensures { PutsTokens ((codes "$" ++ decimal glyph) ∷ []) line.old line.new result
         (device W.taken W.failures out.old out.new) }
 {
     let mut buffer = Buffer::new();

@@ -23,8 +23,8 @@ ghost use Rattle.pgn_game.specs.FaultTable as spec;
 ghost use Rattle.pgn_game.specs.FaultTable.{is_reduced, marker_of};
 
 use crate::accepted::Accepted;
+use crate::annotation::Annotation;
 use crate::find::named_move;
-use crate::item::Item;
 use crate::marker::Marker;
 use crate::mode::Mode;
 use crate::movetext::Movetext;
@@ -374,7 +374,7 @@ impl<const T: usize, const L: usize> Reader<T, L> {
         match kind {
             TokenKind::Symbol(text) => self.accept_symbol(text, out),
             TokenKind::Period => self.pass(out),
-            TokenKind::Word(word) => self.put(Item::Word(word), out),
+            TokenKind::Word(word) => self.put(Annotation::Word(word), out),
             _ => self.accept_other(kind, out),
         }
     }
@@ -394,9 +394,9 @@ impl<const T: usize, const L: usize> Reader<T, L> {
     {
         match kind {
             TokenKind::Asterisk => self.end_game(Marker::Unknown, out),
-            TokenKind::Glyph(glyph) => self.put(Item::Glyph(glyph), out),
-            TokenKind::CommentOpen => self.put(Item::CommentOpen, out),
-            TokenKind::CommentClose => self.put(Item::CommentClose, out),
+            TokenKind::Glyph(glyph) => self.put(Annotation::Glyph(glyph), out),
+            TokenKind::CommentOpen => self.put(Annotation::CommentOpen, out),
+            TokenKind::CommentClose => self.put(Annotation::CommentClose, out),
             TokenKind::LeftParen => self.open_variation(out),
             TokenKind::RightParen => self.close_variation(out),
             TokenKind::End => Err(Reason::UnexpectedEnd),
@@ -487,7 +487,7 @@ impl<const T: usize, const L: usize> Reader<T, L> {
         if self.text.depth() + 1 >= L {
             return Err(Reason::TooDeep);
         }
-        self.put(Item::Open, out)
+        self.put(Annotation::Open, out)
     }
 
     // Takes a `)`, which ends a variation (PGN 8.2.5).
@@ -499,7 +499,7 @@ impl<const T: usize, const L: usize> Reader<T, L> {
         if self.text.depth() == 0 {
             return Err(Reason::UnmatchedClose);
         }
-        self.put(Item::Close, out)
+        self.put(Annotation::Close, out)
     }
 
     // Takes a move number or a period, which add nothing but the tag section (PGN 8.2.2.1).
@@ -515,7 +515,7 @@ impl<const T: usize, const L: usize> Reader<T, L> {
 
     // Writes an item, and moves the levels.
     #[inline(always)]
-    fn put<W: Sink>(&mut self, item: Item<'_>, out: &mut W) -> Result<Accepted, Reason>
+    fn put<W: Sink>(&mut self, item: Annotation<'_>, out: &mut W) -> Result<Accepted, Reason>
         requires stage { IsTrue (may_have_movetext self.old.stage) }
         requires fits { ItemFits L self.old.text item }
         ensures { PutsItems self.old (model_item item.entry ∷ []) self.new result

@@ -187,11 +187,5 @@ fn roster_pair(missing_result: Marker, index: usize) -> (&'static [u8], &'static
 fn is_in_roster(name: &[u8]) -> bool
     ensures { result ≡ in_roster name.now }
 {
-    name == b"Event".as_slice()
-        || name == b"Site".as_slice()
-        || name == b"Date".as_slice()
-        || name == b"Round".as_slice()
-        || name == b"White".as_slice()
-        || name == b"Black".as_slice()
-        || name == b"Result".as_slice()
+    unknown_value(Marker::Unknown, name).is_some()
 }

@@ -1,16 +1,17 @@
--- Which tokens are rejected at a stage, and where the others lead.
-use Rattle.std.proofs.Common.{◌≡◌, ℕ, Bool, true, false, ◌||◌, List, [], length, nat_le, Option, None, Some, refl, sym, ap, subst, ◌∙◌, Bor, IsTrue}
-use Rattle.std.proofs.lemmas.Bool.{false≢true}
+-- Which tokens are rejected at a stage, row by row, and where the others lead.
+use Rattle.std.proofs.Common.{◌≡◌, ℕ, ◌+◌, Bool, true, false, ◌&&◌, ◌||◌, not, List, [], length, nat_lt, nat_le, Option, None, Some, refl, sym, ap, subst, ◌∙◌, ◌==◌, codes, bytes_eq, is_some, Bor, IsTrue, IsFalse, Result}
+use Rattle.std.specs.List.{list_all}
+use Rattle.std.proofs.lemmas.Bool.{and_right, false≢true}
+use Rattle.pgn_layout.specs.TagLine.{escaped}
 use Rattle.pgn_lexer.specs.Tokens as tokens
 use Rattle.pgn_lexer.specs.Tokens.{left_bracket, right_bracket, symbol, str}
 use Rattle.pgn_lexer.specs.Scanned.{kind_of}
 use Rattle.pgn_lexer.specs.declared.token.TokenKind.{TokenKind}
 use Rattle.pgn_lexer.specs.declared.token.TokenKind.TheVariants as variants
-use Rattle.pgn_game.proofs.Words.{Reason, ExpectedName, TooManyTags, ExpectedValue, ExpectedBracket, SetUpWithoutFen, UnexpectedEnd, Stage, Between, AfterLeftBracket, AfterName, AfterValue, AfterTags, InMovetext, Profile, insert_pair, Part, no_part}
-use Rattle.pgn_game.specs.FaultTable.{refusal, is_comment, is_left_bracket, is_end, lacks_fen}
+use Rattle.pgn_game.proofs.Words.{Played, SanFault, Kind, Reason, ExpectedName, BadTagName, DuplicateTag, TooManyTags, ExpectedValue, BadResult, BadFen, TagLineTooLong, ExpectedBracket, SetUpWithoutFen, ReducedFen, NotAMove, IllegalMove, AmbiguousMove, MoveLimit, MarkerInVariation, ResultDiffers, UnexpectedEnd, Stage, Between, AfterLeftBracket, AfterName, AfterValue, AfterTags, InMovetext, Profile, Pair, has_pair, insert_pair, Part, no_part}
+use Rattle.pgn_game.specs.FaultTable.{refusal, is_comment, is_left_bracket, is_end, in_name, is_result, is_no_form, is_no_move, is_many_moves, is_one_move, fen_field, fen_field_of, lacks_fen, is_reduced}
 use Rattle.pgn_game.specs.Progress.{going, next, at_stage, in_text}
 use Rattle.pgn_game.specs.TokenInMovetext.{or_else, text_refusal}
-use Rattle.pgn_game.proofs.judging.RowsByStage.{naming, name_rows, valuing, value_rows, after_tags, comment_free, comment_stays, drops_comments, is_textual, leads_after_tags}
 
 -- what holds of a part at a stage holds of each that is there
 at_the_stage : (P : Part → Type 0) (part : Part) (stage : Stage) → part.stage ≡ stage → P (at_stage stage part) → P part
@@ -22,15 +23,64 @@ hit test reason rest e = ap (λ (b : Bool). or_else b reason rest) e
 pub pass : (test : Bool) (reason : Reason) (rest : Option Reason) → test ≡ false → or_else test reason rest ≡ rest
 pass test reason rest e = ap (λ (b : Bool). or_else b reason rest) e
 
--- a comment before a game or in a pair is let pass, and leads nowhere
+pub test_failed : (test : Bool) (reason : Reason) (rest : Option Reason) → or_else test reason rest ≡ None → test ≡ false
+test_failed true reason rest e = absurd (cc)
+test_failed false reason rest e = refl
+
+pub rest_passed : (test : Bool) (reason : Reason) (rest : Option Reason) → or_else test reason rest ≡ None → rest ≡ None
+rest_passed true reason rest e = absurd (cc)
+rest_passed false reason rest e = e
+
+-- Comments in a pair and before a game.
+abbrev pub drops_comments : Stage → Bool
+drops_comments AfterTags = false
+drops_comments InMovetext = false
+drops_comments _ = true
+
+no_value_rows : (name : List ℕ) → or_else (bytes_eq name (codes "Result") && false) BadResult (or_else (bytes_eq name (codes "FEN") && false) (BadFen 0) None) ≡ None
+no_value_rows name =
+    pass _ BadResult _ (and_right (bytes_eq name (codes "Result")) false refl) ∙ pass _ (BadFen 0) None (and_right (bytes_eq name (codes "FEN")) false refl)
+
+reduced_row : (p : Profile) → or_else (is_reduced p.mode && false) ReducedFen None ≡ None
+reduced_row p = pass _ ReducedFen None (and_right (is_reduced p.mode) false refl)
+
+pub comment_free : (p : Profile) (stage : Stage) (part : Part) (k : Kind) → IsTrue (drops_comments stage) → IsTrue (is_comment k) → refusal p (at_stage stage part) k ≡ None
+unfolding refusal
+comment_free p AfterTags part k drops is = absurd (false≢true drops)
+comment_free p InMovetext part k drops is = absurd (false≢true drops)
+comment_free p Between part tokens.comment_open drops is = refl
+comment_free p Between part (tokens.word s) drops is = refl
+comment_free p Between part tokens.comment_close drops is = refl
+comment_free p AfterLeftBracket part tokens.comment_open drops is = reduced_row p
+comment_free p AfterLeftBracket part (tokens.word s) drops is = reduced_row p
+comment_free p AfterLeftBracket part tokens.comment_close drops is = reduced_row p
+comment_free p AfterName part tokens.comment_open drops is = no_value_rows part.name
+comment_free p AfterName part (tokens.word s) drops is = no_value_rows part.name
+comment_free p AfterName part tokens.comment_close drops is = no_value_rows part.name
+comment_free p AfterValue part tokens.comment_open drops is = refl
+comment_free p AfterValue part (tokens.word s) drops is = refl
+comment_free p AfterValue part tokens.comment_close drops is = refl
+comment_free p _ part _ drops is = absurd (false≢true is)
+
+pub comment_stays : (stage : Stage) (part : Part) (k : Kind) → IsTrue (drops_comments stage) → IsTrue (is_comment k) → next (at_stage stage part) k ≡ going (at_stage stage part)
+comment_stays AfterTags part k drops is = absurd (false≢true drops)
+comment_stays InMovetext part k drops is = absurd (false≢true drops)
+comment_stays _ part tokens.comment_open drops is = refl
+comment_stays _ part (tokens.word s) drops is = refl
+comment_stays _ part tokens.comment_close drops is = refl
+comment_stays _ part _ drops is = absurd (false≢true is)
+
+pub comment_goes : (k : Kind) → IsTrue (is_comment k) → is_end k ≡ false
+comment_goes tokens.end is = absurd (false≢true is)
+comment_goes _ is = refl
+
 pub comment_passes : (p : Profile) (part : Part) (k : TokenKind) (stage : Stage) → stage ≡ part.stage → IsTrue (drops_comments stage)
     → true ≡ is_comment (kind_of k) → (refusal p part (kind_of k) ≡ None) × (next part (kind_of k) ≡ going part)
 comment_passes p part k stage at out is =
-    let drops = subst (λ (s : Stage). IsTrue (drops_comments s)) at out in (
-      comment_free p part.stage part.pairs part.name part.items (kind_of k) drops (sym is),
-      comment_stays part.stage part.pairs part.name part.items (kind_of k) drops (sym is),
-    )
+    let drops = subst (λ (s : Stage). IsTrue (drops_comments s)) at out in
+    (comment_free p part.stage part (kind_of k) drops (sym is), comment_stays part.stage part (kind_of k) drops (sym is))
 
+-- Pairs.
 expected_name_at : (p : Profile) (part : Part) (k : TokenKind) → false ≡ is_comment (kind_of k) → ((text : Bor (List ℕ)) → k ≡ variants.Symbol text → ⊥)
     → refusal p (at_stage AfterLeftBracket part) (kind_of k) ≡ Some ExpectedName
 unfolding refusal
@@ -70,20 +120,29 @@ pub expected_bracket : (p : Profile) (part : Part) (k : TokenKind) → part.stag
     → refusal p part (kind_of k) ≡ Some ExpectedBracket
 expected_bracket p part k at is other = at_the_stage (λ q. refusal p q (kind_of k) ≡ Some ExpectedBracket) part AfterValue at (expected_bracket_at p part k is other)
 
--- what a name is rejected for
-pub name_refusal : (p : Profile) (part : Part) (name : List ℕ) → part.stage ≡ AfterLeftBracket
-    → refusal p part (symbol name) ≡ name_rows p part.pairs name
-name_refusal p part name at =
-    ap (λ (s : Stage). refusal p (at_stage s part) (symbol name)) at ∙ naming p part.pairs part.name part.items name
+-- what a name and a value are rejected for, each test before the next
+abbrev pub name_rows : Profile → List Pair → List ℕ → Option Reason
+name_rows p ps s =
+    or_else (not (list_all in_name s)) BadTagName
+    (or_else (has_pair ps s) DuplicateTag (or_else (nat_lt 249 (length s)) TagLineTooLong
+    (or_else (is_reduced p.mode && bytes_eq s (codes "FEN")) ReducedFen None)))
+
+pub name_refusal : (p : Profile) (part : Part) (name : List ℕ) → part.stage ≡ AfterLeftBracket → refusal p part (symbol name) ≡ name_rows p part.pairs name
+unfolding refusal
+name_refusal p part name at = at_the_stage (λ q. refusal p q (symbol name) ≡ name_rows p q.pairs name) part AfterLeftBracket at refl
 
 pub name_next : (part : Part) (name : List ℕ) → part.stage ≡ AfterLeftBracket → next part (symbol name) ≡ going (record { stage = AfterName; pairs = part.pairs; name = name; items = part.items })
 name_next part name at = at_the_stage (λ q. next q (symbol name) ≡ going (record { stage = AfterName; pairs = q.pairs; name = name; items = q.items })) part AfterLeftBracket at refl
 
--- what a value is rejected for
-pub value_refusal : (p : Profile) (part : Part) (value : List ℕ) → part.stage ≡ AfterName
-    → refusal p part (str value) ≡ value_rows part.name value
-value_refusal p part value at =
-    ap (λ (s : Stage). refusal p (at_stage s part) (str value)) at ∙ valuing p part.pairs part.name part.items value
+abbrev pub value_rows : List ℕ → List ℕ → Option Reason
+value_rows name s =
+    or_else (bytes_eq name (codes "Result") && not (is_result s)) BadResult
+    (or_else (bytes_eq name (codes "FEN") && is_some (fen_field s)) (BadFen (fen_field_of (tokens.str s)))
+    (or_else (nat_lt 249 (length name + length (escaped s))) TagLineTooLong None))
+
+pub value_refusal : (p : Profile) (part : Part) (value : List ℕ) → part.stage ≡ AfterName → refusal p part (str value) ≡ value_rows part.name value
+unfolding refusal
+value_refusal p part value at = at_the_stage (λ q. refusal p q (str value) ≡ value_rows q.name value) part AfterName at refl
 
 pub value_next : (part : Part) (value : List ℕ) → part.stage ≡ AfterName
     → next part (str value) ≡ going (record { stage = AfterValue; pairs = insert_pair (record { name = part.name; value = value }) part.pairs; name = []; items = part.items })
@@ -106,20 +165,77 @@ open_refusal p part at = at_the_stage (λ q. refusal p q left_bracket ≡ or_els
 pub open_next : (part : Part) → part.stage ≡ AfterTags → next part left_bracket ≡ going (at_stage AfterLeftBracket part)
 open_next part at = at_the_stage (λ q. next q left_bracket ≡ going (at_stage AfterLeftBracket q)) part AfterTags at refl
 
+pub open_between : (p : Profile) (part : Part) → refusal p (at_stage Between part) left_bracket ≡ or_else (nat_le p.tags (length part.pairs)) TooManyTags None
+unfolding refusal
+open_between p part = refl
+
+-- Movetext.
+
+-- what may be a token of movetext
+abbrev pub is_textual : Kind → Bool
+is_textual tokens.left_bracket = false
+is_textual tokens.end = false
+is_textual (tokens.refused r) = false
+is_textual _ = true
+
+abbrev pub is_lexical : Kind → Bool
+is_lexical (tokens.refused r) = true
+is_lexical _ = false
+
 -- a token that is neither a `[` nor the end may be one of movetext
 textual : (k : TokenKind) → is_left_bracket (kind_of k) ≡ false → is_end (kind_of k) ≡ false → IsTrue (is_textual (kind_of k))
 textual variants.LeftBracket bracket over = absurd (false≢true (sym bracket))
 textual variants.End bracket over = absurd (false≢true (sym over))
 textual _ bracket over = refl
 
--- the table and the step of movetext are those of a token in it, and of the first one
-text_row : (p : Profile) (part : Part) (k : TokenKind) → refusal p (at_stage InMovetext part) (kind_of k) ≡ text_refusal p part (kind_of k)
+-- behind the pairs of a game
+pub after_tags : (p : Profile) (part : Part) (k : Kind) → IsTrue (is_textual k)
+    → refusal p (at_stage AfterTags part) k ≡ or_else (lacks_fen part.pairs) SetUpWithoutFen (refusal p (at_stage InMovetext part) k)
 unfolding refusal
-text_row p part variants.End = refl
-text_row p part _ = refl
+after_tags p part tokens.left_bracket is = absurd (false≢true is)
+after_tags p part tokens.end is = absurd (false≢true is)
+after_tags p part (tokens.refused r) is = absurd (false≢true is)
+after_tags p part _ is = refl
+
+pub leads_after_tags : (part : Part) (k : Kind) → IsTrue (is_textual k) → next (at_stage AfterTags part) k ≡ next (at_stage InMovetext part) k
+leads_after_tags part tokens.left_bracket is = absurd (false≢true is)
+leads_after_tags part tokens.end is = absurd (false≢true is)
+leads_after_tags part (tokens.refused r) is = absurd (false≢true is)
+leads_after_tags part _ is = refl
+
+-- without pairs
+pub between : (p : Profile) (part : Part) (k : Kind) → IsTrue (is_textual k) → IsFalse (is_comment k) → refusal p (at_stage Between part) k ≡ refusal p (at_stage InMovetext part) k
+unfolding refusal
+between p part tokens.left_bracket is bare = absurd (false≢true is)
+between p part tokens.end is bare = absurd (false≢true is)
+between p part (tokens.refused r) is bare = absurd (false≢true is)
+between p part tokens.comment_open is bare = absurd (false≢true (sym bare))
+between p part (tokens.word s) is bare = absurd (false≢true (sym bare))
+between p part tokens.comment_close is bare = absurd (false≢true (sym bare))
+between p part _ is bare = refl
+
+pub leads_between : (part : Part) (k : Kind) → IsTrue (is_textual k) → IsFalse (is_comment k) → next (at_stage Between part) k ≡ next (at_stage InMovetext part) k
+leads_between part tokens.left_bracket is bare = absurd (false≢true is)
+leads_between part tokens.end is bare = absurd (false≢true is)
+leads_between part (tokens.refused r) is bare = absurd (false≢true is)
+leads_between part tokens.comment_open is bare = absurd (false≢true (sym bare))
+leads_between part (tokens.word s) is bare = absurd (false≢true (sym bare))
+leads_between part tokens.comment_close is bare = absurd (false≢true (sym bare))
+leads_between part _ is bare = refl
+
+-- the table and the step of movetext are those of a token in it, and of the first one
+pub text_row : (p : Profile) (part : Part) (k : Kind) → is_lexical k ≡ false → refusal p (at_stage InMovetext part) k ≡ text_refusal p part k
+unfolding refusal
+text_row p part (tokens.refused r) plain = absurd (false≢true (sym plain))
+text_row p part tokens.end plain = refl
+text_row p part _ plain = refl
+
+no_lexical : (k : TokenKind) → is_lexical (kind_of k) ≡ false
+no_lexical variants.End = refl
+no_lexical _ = refl
 
 pub row_in_movetext : (p : Profile) (part : Part) (k : TokenKind) → part.stage ≡ InMovetext → refusal p part (kind_of k) ≡ text_refusal p part (kind_of k)
-row_in_movetext p part k at = at_the_stage (λ q. refusal p q (kind_of k) ≡ text_refusal p part (kind_of k)) part InMovetext at (text_row p part k)
+row_in_movetext p part k at = at_the_stage (λ q. refusal p q (kind_of k) ≡ text_refusal p part (kind_of k)) part InMovetext at (text_row p part (kind_of k) (no_lexical k))
 
 pub next_in_movetext : (part : Part) (k : TokenKind) → part.stage ≡ InMovetext → next part (kind_of k) ≡ in_text part (kind_of k)
 next_in_movetext part k at = at_the_stage (λ q. next q (kind_of k) ≡ in_text part (kind_of k)) part InMovetext at refl
@@ -128,13 +244,13 @@ pub row_after_tags : (p : Profile) (part : Part) (k : TokenKind) → part.stage 
     → refusal p part (kind_of k) ≡ text_refusal p part (kind_of k)
 row_after_tags p part k at bracket over free =
     at_the_stage (λ q. refusal p q (kind_of k) ≡ text_refusal p part (kind_of k)) part AfterTags at
-    (after_tags p part.pairs part.name part.items (kind_of k) (textual k bracket over) ∙ pass (lacks_fen part.pairs) SetUpWithoutFen _ free
-    ∙ text_row p part k)
+    (after_tags p part (kind_of k) (textual k bracket over) ∙ pass (lacks_fen part.pairs) SetUpWithoutFen _ free
+    ∙ text_row p part (kind_of k) (no_lexical k))
 
 pub next_after_tags : (part : Part) (k : TokenKind) → part.stage ≡ AfterTags → is_left_bracket (kind_of k) ≡ false → is_end (kind_of k) ≡ false → next part (kind_of k) ≡ in_text part (kind_of k)
 next_after_tags part k at bracket over =
     at_the_stage (λ q. next q (kind_of k) ≡ in_text part (kind_of k)) part AfterTags at
-    (leads_after_tags part.pairs part.name part.items (kind_of k) (textual k bracket over))
+    (leads_after_tags part (kind_of k) (textual k bracket over))
 
 -- a comment between games and the end there change nothing
 pub passes_between : (p : Profile) (part : Part) (k : TokenKind) → part.stage ≡ Between → (is_comment (kind_of k) || is_end (kind_of k)) ≡ true
@@ -170,4 +286,15 @@ pub refuses_set_up : (p : Profile) (part : Part) (k : TokenKind) → part.stage 
     → refusal p part (kind_of k) ≡ Some SetUpWithoutFen
 refuses_set_up p part k at bracket over lacks =
     at_the_stage (λ q. refusal p q (kind_of k) ≡ Some SetUpWithoutFen) part AfterTags at
-    (after_tags p part.pairs part.name part.items (kind_of k) (textual k bracket over) ∙ hit _ SetUpWithoutFen _ lacks)
+    (after_tags p part (kind_of k) (textual k bracket over) ∙ hit _ SetUpWithoutFen _ lacks)
+
+-- What a symbol is rejected for, by what it is: a number, a score, what it comes to as a move,
+-- whether the numbers are at their limit, the depth, and whether it differs from the Result.
+abbrev pub symbol_rows : Bool → Option (Result Played SanFault) → Bool → ℕ → Bool → Bool → Option Reason
+symbol_rows word o limit deep other marker =
+    or_else (elim word [ true ↦ false | false ↦ is_no_form o ]) NotAMove
+    (or_else (elim word [ true ↦ false | false ↦ is_no_move o ]) IllegalMove
+    (or_else (elim word [ true ↦ false | false ↦ is_many_moves o ]) AmbiguousMove
+    (or_else (elim word [ true ↦ false | false ↦ is_one_move o ] && limit) MoveLimit
+    (or_else (marker && nat_le 1 deep) MarkerInVariation
+    (or_else (other && (deep == 0)) ResultDiffers None)))))

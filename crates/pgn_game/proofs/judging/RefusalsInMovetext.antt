@@ -4,10 +4,7 @@ use Rattle.std.proofs.lemmas.List.{length-map}
 use Rattle.std.proofs.lemmas.Bool.{or_right, or_from}
 use Rattle.std.specs.Option.{option_copied}
 use Rattle.chess_text.specs.declared.resolution.SanFault.TheVariants.{NoMove, Ambiguous}
-use Rattle.pgn_lexer.specs.Tokens.{Kind, symbol}
-use Rattle.pgn_lexer.specs.Scanned.{kind_of}
-use Rattle.pgn_lexer.specs.declared.token.TokenKind.{TokenKind}
-use Rattle.pgn_lexer.specs.declared.token.TokenKind.TheVariants as variants
+use Rattle.pgn_lexer.specs.Tokens.{Kind, asterisk, symbol}
 use Rattle.pgn_game.proofs.Words.{Parts, Played, SanFault, Reason, NotAMove, IllegalMove, AmbiguousMove, MoveLimit, MarkerInVariation, ResultDiffers, Profile, Missing, counts_as, Pair, value_of, Part}
 use Rattle.pgn_game.specs.Chess.{move_of}
 use Rattle.pgn_game.specs.Game as games
@@ -18,8 +15,7 @@ use Rattle.pgn_game.specs.Progress.{Next, going, whole, in_text, move_item, item
 use Rattle.pgn_game.specs.Movetext.{StoredLevels, before_last, stored_level}
 use Rattle.pgn_game.specs.ReaderState.{ReaderState, is_outside_the_table}
 use Rattle.pgn_game.specs.TokenInMovetext.{IsOpen, game_of, or_else, text_refusal, with_items}
-use Rattle.pgn_game.proofs.judging.RowsByStage.{symbol_rows}
-use Rattle.pgn_game.proofs.judging.RefusalsByStage.{hit, pass}
+use Rattle.pgn_game.proofs.judging.RefusalsByStage.{hit, pass, symbol_rows}
 
 -- The levels.
 
@@ -41,10 +37,10 @@ position_is old part is = ap (λ (ls : StoredLevels). ls.present.present) is.hel
 
 -- Symbols.
 
-abbrev MoveReading : Type 0
+abbrev pub MoveReading : Type 0
 MoveReading = Option (Result Played SanFault)
 
-abbrev marker_if : Bool → List ℕ → Option (List ℕ)
+abbrev pub marker_if : Bool → List ℕ → Option (List ℕ)
 marker_if score s = elim score [ true ↦ Some s | false ↦ None ]
 
 abbrev pub other_if : Missing → List Pair → Option (List ℕ) → Bool
@@ -53,25 +49,25 @@ other_if missing ps o =
 
 -- the rows for a symbol, of whether it is a number or a marker, whether it is a marker, and what it
 -- comes to as a move
-abbrev rows_for : Profile → Part → List ℕ → Bool → Bool → MoveReading → Option Reason
+abbrev pub rows_for : Profile → Part → List ℕ → Bool → Bool → MoveReading → Option Reason
 rows_for p part s word score r =
     symbol_rows word r (is_at_limit (position_in part)) (depth (levels_of_part part))
     (other_if p.missing_result part.pairs (marker_if score s)) (is_some (marker_if score s))
 
-symbol_refusal : (p : Profile) (part : Part) (s : List ℕ) (word score : Bool) → (is_number s || is_score s) ≡ word → is_score s ≡ score
+pub symbol_refusal : (p : Profile) (part : Part) (s : List ℕ) (word score : Bool) → (is_number s || is_score s) ≡ word → is_score s ≡ score
     → text_refusal p part (symbol s) ≡ rows_for p part s word score (move_of (position_in part) s)
 symbol_refusal p part s word score w e = cc
 
-abbrev symbol_next : Part → List ℕ → Bool → Bool → MoveReading → Next
+abbrev pub symbol_next : Part → List ℕ → Bool → Bool → MoveReading → Next
 symbol_next part s number score r =
     elim (marker_if score s) [ Some marker ↦ whole (game_of part marker) | None ↦ going (with_items part (elim number [ true ↦ [] | false ↦ move_item r ])) ]
 
-symbol_leads : (part : Part) (s : List ℕ) (number score : Bool) → is_number s ≡ number → is_score s ≡ score
+pub symbol_leads : (part : Part) (s : List ℕ) (number score : Bool) → is_number s ≡ number → is_score s ≡ score
     → in_text part (symbol s) ≡ symbol_next part s number score (move_of (position_in part) s)
 symbol_leads part s number score n e = cc
 
 -- a move is rejected as it is found
-abbrev refused_as : Parts → MoveReading → Option Reason
+abbrev pub refused_as : Parts → MoveReading → Option Reason
 refused_as p None = Some NotAMove
 refused_as p (Some (Err NoMove)) = Some IllegalMove
 refused_as p (Some (Err Ambiguous)) = Some AmbiguousMove
@@ -81,7 +77,7 @@ move_rows : (p : Profile) (part : Part) (s : List ℕ) (r : MoveReading) → row
 move_rows p part s (Some (Err NoMove)) = refl
 move_rows p part s _ = refl
 
-move_refusal : (p : Profile) (part : Part) (s : List ℕ) → is_number s ≡ false → is_score s ≡ false → text_refusal p part (symbol s) ≡ refused_as (position_in part) (move_of (position_in part) s)
+pub move_refusal : (p : Profile) (part : Part) (s : List ℕ) → is_number s ≡ false → is_score s ≡ false → text_refusal p part (symbol s) ≡ refused_as (position_in part) (move_of (position_in part) s)
 move_refusal p part s number score =
     symbol_refusal p part s false false (or_from (is_number s) (is_score s) number score) score ∙ move_rows p part s (move_of (position_in part) s)
 
@@ -160,7 +156,7 @@ number_leads part s number score = symbol_leads part s true false number score
 -- Markers.
 
 -- what a marker is rejected for
-abbrev marker_rows : Profile → Part → List ℕ → Option Reason
+abbrev pub marker_rows : Profile → Part → List ℕ → Option Reason
 marker_rows p part marker =
     or_else (nat_le 1 (depth (levels_of_part part))) MarkerInVariation
     (or_else (other_if p.missing_result part.pairs (Some marker) && (depth (levels_of_part part) == 0)) ResultDiffers None)
@@ -174,12 +170,12 @@ symbol_marker p part s marker is =
     let h = score_of s marker (is_score s) refl is in
     symbol_refusal p part s true true (or_right (is_number s) (is_score s) h.0) h.0 ∙ ap (λ (m : List ℕ). marker_rows p part m) h.1
 
-asterisk_marker : (p : Profile) (part : Part) (marker : List ℕ) → codes "*" ≡ marker → text_refusal p part (kind_of variants.Asterisk) ≡ marker_rows p part marker
+asterisk_marker : (p : Profile) (part : Part) (marker : List ℕ) → codes "*" ≡ marker → text_refusal p part asterisk ≡ marker_rows p part marker
 asterisk_marker p part marker e = ap (λ (m : List ℕ). marker_rows p part m) e
 
-marker_refusal : (p : Profile) (part : Part) (k : TokenKind) (marker : List ℕ) → marker_of (kind_of k) ≡ Some marker → text_refusal p part (kind_of k) ≡ marker_rows p part marker
-marker_refusal p part variants.Asterisk marker is = let e : codes "*" ≡ marker = cc in asterisk_marker p part marker e
-marker_refusal p part (variants.Symbol t) marker is = symbol_marker p part t.now marker is
+pub marker_refusal : (p : Profile) (part : Part) (k : Kind) (marker : List ℕ) → marker_of k ≡ Some marker → text_refusal p part k ≡ marker_rows p part marker
+marker_refusal p part asterisk marker is = let e : codes "*" ≡ marker = cc in asterisk_marker p part marker e
+marker_refusal p part (symbol s) marker is = symbol_marker p part s marker is
 marker_refusal p part _ marker is = absurd (cc)
 
 -- whether a marker differs from the value for Result, or else from this text
@@ -197,18 +193,18 @@ marker_tested p part missing marker inside other within known test =
     ap (λ (b : Bool). or_else b MarkerInVariation (or_else (other_if p.missing_result part.pairs (Some marker) && (depth (levels_of_part part) == 0)) ResultDiffers None)) within
     ∙ ap (λ (b : Bool). or_else inside MarkerInVariation (or_else (b && (depth (levels_of_part part) == 0)) ResultDiffers None)) (other_is p part.pairs missing marker known ∙ test)
 
-pub marker_inside : (old : ReaderState) (k : TokenKind) (marker : List ℕ) (part : Part) → marker_of (kind_of k) ≡ Some marker → nat_le 1 (depth (levels_of_part part)) ≡ true
-    → text_refusal old.profile part (kind_of k) ≡ Some MarkerInVariation
+pub marker_inside : (old : ReaderState) (k : Kind) (marker : List ℕ) (part : Part) → marker_of k ≡ Some marker → nat_le 1 (depth (levels_of_part part)) ≡ true
+    → text_refusal old.profile part k ≡ Some MarkerInVariation
 marker_inside old k marker part is within = marker_refusal old.profile part k marker is ∙ hit _ MarkerInVariation _ within
 
-pub marker_differs : (old : ReaderState) (k : TokenKind) (missing marker : List ℕ) (part : Part) → marker_of (kind_of k) ≡ Some marker → depth (levels_of_part part) ≡ 0
-    → old.profile.missing_result ≡ counts_as missing → differs missing (value_of part.pairs (codes "Result")) marker ≡ true → text_refusal old.profile part (kind_of k) ≡ Some ResultDiffers
+pub marker_differs : (old : ReaderState) (k : Kind) (missing marker : List ℕ) (part : Part) → marker_of k ≡ Some marker → depth (levels_of_part part) ≡ 0
+    → old.profile.missing_result ≡ counts_as missing → differs missing (value_of part.pairs (codes "Result")) marker ≡ true → text_refusal old.profile part k ≡ Some ResultDiffers
 marker_differs old k missing marker part is none known test =
     marker_refusal old.profile part k marker is ∙ marker_tested old.profile part missing marker false true (ap (λ n. nat_le 1 n) none) known test
     ∙ ap (λ n. or_else (n == 0) ResultDiffers None) none
 
-pub marker_free : (old : ReaderState) (k : TokenKind) (missing marker : List ℕ) (part : Part) → marker_of (kind_of k) ≡ Some marker → depth (levels_of_part part) ≡ 0
-    → old.profile.missing_result ≡ counts_as missing → differs missing (value_of part.pairs (codes "Result")) marker ≡ false → text_refusal old.profile part (kind_of k) ≡ None
+pub marker_free : (old : ReaderState) (k : Kind) (missing marker : List ℕ) (part : Part) → marker_of k ≡ Some marker → depth (levels_of_part part) ≡ 0
+    → old.profile.missing_result ≡ counts_as missing → differs missing (value_of part.pairs (codes "Result")) marker ≡ false → text_refusal old.profile part k ≡ None
 marker_free old k missing marker part is none known test =
     marker_refusal old.profile part k marker is ∙ marker_tested old.profile part missing marker false false (ap (λ n. nat_le 1 n) none) known test
 

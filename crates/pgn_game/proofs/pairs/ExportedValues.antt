@@ -58,7 +58,7 @@ any_named-value name false (p ∷ ps) =
     ∙ sym (has-cons p ps name)
 
 -- The roster, with a Result of m.
-in_roster-value : (m name : List ℕ) → in_roster name ≡ has_pair (roster m) name
+pub in_roster-value : (m name : List ℕ) → in_roster name ≡ has_pair (roster m) name
 unfolding roster
 in_roster-value m name = any_named-value name false (roster m)
 

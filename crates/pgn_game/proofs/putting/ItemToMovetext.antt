@@ -12,8 +12,8 @@ use Rattle.pgn_layout.specs.declared.sink.WriteFault.{WriteFault}
 use Rattle.pgn_layout.specs.Device.{AppendsFront, Counts, Device, Writes}
 use Rattle.pgn_layout.specs.Lines.{IsToken, lines_of, full_lines, last_line, text_of as text_of_lines}
 use Rattle.pgn_layout.specs.Layout.{Put, laid_from, text_put, line_put}
-use Rattle.pgn_game.specs.declared.item.Item.{Item as CodeItem}
-use Rattle.pgn_game.specs.declared.item.Item.TheVariants as code
+use Rattle.pgn_game.specs.declared.annotation.Annotation.{Annotation}
+use Rattle.pgn_game.specs.declared.annotation.Annotation.TheVariants as code
 use Rattle.pgn_game.proofs.Words.{Parts, Played, Mode, Full, Reduced}
 use Rattle.pgn_game.specs.Chess.{play, text_of_move}
 use Rattle.pgn_game.specs.Game.{Item, move, open_variation, close_variation}
@@ -157,7 +157,7 @@ plays_on x text new is on = record {
 }
 
 -- no other item is a move
-pub no_move : (i : CodeItem) → is_move (model_item i) ≡ false
+pub no_move : (i : Annotation) → is_move (model_item i) ≡ false
 no_move (code.Glyph n) = refl
 no_move code.CommentOpen = refl
 no_move (code.Word text) = refl
@@ -165,7 +165,7 @@ no_move code.CommentClose = refl
 no_move code.Open = refl
 no_move code.Close = refl
 
-pub goes_on : (most : ℕ) (i : CodeItem) (text new : Movetext) → ItemFits most text i → GoesOn i text new → Advances (model_item i) text new
+pub goes_on : (most : ℕ) (i : Annotation) (text new : Movetext) → ItemFits most text i → GoesOn i text new → Advances (model_item i) text new
 goes_on most i text new fits on = record {
   levels = λ start ls e. levels_lead i start ls fits on.levels e;
   plies =
@@ -174,7 +174,7 @@ goes_on most i text new fits on = record {
   is_after_move = on.is_after_move;
 }
   where
-    levels_lead : (i : CodeItem) (start : Parts) (ls : ModelLevels) → ItemFits most text i
+    levels_lead : (i : Annotation) (start : Parts) (ls : ModelLevels) → ItemFits most text i
         → LeadsLevels i text.levels new.levels → text.levels ≡ stored_levels start ls → new.levels ≡ stored_levels start (levels_after ls (model_item i))
     levels_lead code.Open start ls fits leads e =
         opened start ls.present.trail ls.present.has_own_move ls.around new.levels

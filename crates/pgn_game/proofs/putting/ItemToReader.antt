@@ -33,25 +33,22 @@ lines_gain mode ps items more = drop (length (full_text mode (start_of ps) items
 abbrev pub part_at : Stage → List Pair → List ℕ → List Item → Part
 part_at stage ps name items = record { stage = stage; pairs = ps; name = name; items = items }
 
-pub no_text : (mode : Mode) (start : Parts) → full_text mode start [] ≡ []
+no_text : (mode : Mode) (start : Parts) → full_text mode start [] ≡ []
 no_text Full start = refl
 no_text Reduced start = refl
 
-same_lines : (mode : Mode) (ps : List Pair) (items more : List Item) → items ≡ []
-    → full_text mode (start_of ps) (items ++ more) ≡ lines_gain mode ps items more
-same_lines mode ps items more none =
-    ap (λ (n : ℕ). drop n (full_text mode (start_of ps) (items ++ more))) (sym (ap (λ (is : List Item). length (full_text mode (start_of ps) is)) none ∙ ap (length {A = ℕ}) (no_text mode (start_of ps))))
-
-gain_at : (mode : Mode) (result : List ℕ) (stage : Stage) (ps : List Pair) (name : List ℕ) (items more : List Item) → IsTrue (may_have_movetext stage) → (stage ≡ AfterTags → items ≡ [])
-    → drop (length (torn_at stage mode result (part_at stage ps name items))) (torn_at InMovetext mode result (part_at InMovetext ps name (items ++ more)))
-    ≡ section_due stage mode result ps ++ lines_gain mode ps items more
-gain_at mode result AfterTags ps name items more at fresh = ap (λ l. tag_section mode result ps ++ l) (same_lines mode ps items more (fresh refl))
-gain_at mode result InMovetext ps name items more at fresh =
+-- What the section and these lines add to what is written: the section, where it is due, and the
+-- lines without those of the items so far.
+pub gain_at : (mode : Mode) (result : List ℕ) (stage : Stage) (ps : List Pair) (name : List ℕ) (items : List Item) (lines : List ℕ) → IsTrue (may_have_movetext stage) → (stage ≡ AfterTags → items ≡ [])
+    → drop (length (torn_at stage mode result (part_at stage ps name items))) (tag_section mode result ps ++ lines)
+    ≡ section_due stage mode result ps ++ drop (length (full_text mode (start_of ps) items)) lines
+gain_at mode result AfterTags ps name items lines at fresh =
+    ap (λ (n : ℕ). tag_section mode result ps ++ drop n lines) (sym (ap (λ (is : List Item). length (full_text mode (start_of ps) is)) (fresh refl) ∙ ap (length {A = ℕ}) (no_text mode (start_of ps))))
+gain_at mode result InMovetext ps name items lines at fresh =
     let section = tag_section mode result ps in
-    let old = full_text mode (start_of ps) items in
-    let new = full_text mode (start_of ps) (items ++ more) in
-    ap (λ n. drop n (section ++ new)) (length-append section old) ∙ drop-append-add section new (length old)
-gain_at mode result _ ps name items more at fresh = absurd (cc)
+    let full = full_text mode (start_of ps) items in
+    ap (λ n. drop n (section ++ lines)) (length-append section full) ∙ drop-append-add section lines (length full)
+gain_at mode result _ ps name items lines at fresh = absurd (cc)
 
 -- the stage of a part is the reader's
 pub open_stage : (old : ReaderState) (part : Part) → IsOpen old part → IsTrue (may_have_movetext old.stage) → IsTrue (may_have_movetext part.stage)
@@ -72,7 +69,7 @@ gain_is old part more known at is =
     let p = old.profile in
     ap (λ l. l ++ lines_gain p.mode part.pairs part.items more) (section_is old part is)
     ∙ sym (ap (λ (m : Missing). drop (length (torn_for m p.mode part)) (torn_for m p.mode (with_items part more))) known
-    ∙ gain_at p.mode (known_result p.missing_result) part.stage part.pairs part.name part.items more (open_stage old part is at) (λ e. is.fresh (is.stage ∙ e)))
+    ∙ gain_at p.mode (known_result p.missing_result) part.stage part.pairs part.name part.items (full_text p.mode (start_of part.pairs) (part.items ++ more)) (open_stage old part is at) (λ e. is.fresh (is.stage ∙ e)))
 
 -- The section was written: so it is said of the reader as its fields make it.
 pub begins_as : (old begun held : ReaderState) (d : Device) → held ≡ begun → BeginsText {A = Unit {0}} {E = WriteFault} old begun (Ok tt) d

@@ -1,6 +1,6 @@
 -- What putting a marker comes to, and a token of movetext whose section cannot be written.
-use Rattle.std.proofs.Common.{◌≡◌, ℕ, List, [], ◌∷◌, ◌++◌, length, drop, Option, refl, sym, ap, subst, ◌∙◌, append_assoc, length-append, arith, IsTrue, Ok, Err, All, lit<, lit≤}
-use Rattle.std.proofs.Math.Seq.{drop-append-add, drop-append_seam}
+use Rattle.std.proofs.Common.{◌≡◌, ℕ, List, [], ◌∷◌, ◌++◌, length, drop, Option, refl, sym, ap, subst, ◌∙◌, append_assoc, arith, IsTrue, Ok, Err, All, lit<, lit≤}
+use Rattle.std.proofs.Math.Seq.{drop-append_seam}
 use Rattle.std.proofs.KnownBytes.{Appends-trans}
 use Rattle.std.specs.Io.KnownBytes.{Appends}
 use Rattle.chess_rules.specs.declared.position.Move.{Move}
@@ -17,7 +17,7 @@ use Rattle.pgn_game.proofs.Words.{Mode, Stage, Between, AfterTags, InMovetext, P
 use Rattle.pgn_game.specs.Levels.{Level as ModelLevel, Levels as ModelLevels, depth, start_of, outermost, replayed, last_position}
 use Rattle.pgn_game.specs.TagSection.{tag_section}
 use Rattle.pgn_game.specs.FaultTable.{levels_of_part, result_for}
-use Rattle.pgn_game.specs.Text.{tokens_out, full_text, torn_at, torn_for}
+use Rattle.pgn_game.specs.Text.{tokens_out, full_text, torn_for}
 use Rattle.pgn_game.specs.Progress.{Next, whole}
 use Rattle.pgn_game.specs.Movetext.{StoredLevel}
 use Rattle.pgn_game.specs.ReaderState.{ReaderState, IsBehind, plies_behind}
@@ -26,7 +26,7 @@ use Rattle.pgn_game.specs.PutResult.{BeginsText, PutResult, gain_to, section_due
 use Rattle.pgn_game.proofs.putting.WritesInTurn.{front_of_more, front_after}
 use Rattle.pgn_game.proofs.putting.ItemToMovetext.{from_to}
 use Rattle.pgn_game.proofs.putting.ItemsAppended.{game_ends}
-use Rattle.pgn_game.proofs.putting.ItemToReader.{no_text, open_stage, part_at, plies_before, section_is, unwritten}
+use Rattle.pgn_game.proofs.putting.ItemToReader.{gain_at, open_stage, plies_before, section_is, unwritten}
 use Rattle.pgn_game.proofs.judging.RefusalsInMovetext.{depth_is, position_is}
 
 -- the lines of a game whose items are these, and an empty line
@@ -40,20 +40,6 @@ ending line marker = text_at line (Put marker) ++ text_at (line_at line (Put mar
 abbrev line_of : Mode → List Pair → List Item → List ℕ
 line_of mode ps items = last_line (lines_of (tokens_out mode (start_of ps) items))
 
-nothing_full : (mode : Mode) (ps : List Pair) (items : List Item) (rest : List ℕ) → items ≡ [] → full_text mode (start_of ps) items ++ rest ≡ rest
-nothing_full mode ps items rest none = ap (λ (l : List ℕ). l ++ rest) (ap (λ (is : List Item). full_text mode (start_of ps) is) none ∙ no_text mode (start_of ps))
-
-gain_at : (mode : Mode) (result : List ℕ) (stage : Stage) (ps : List Pair) (name : List ℕ) (items : List Item) (lines rest : List ℕ) → IsTrue (may_have_movetext stage) → (stage ≡ AfterTags → items ≡ [])
-    → lines ≡ full_text mode (start_of ps) items ++ rest
-    → drop (length (torn_at stage mode result (part_at stage ps name items))) (tag_section mode result ps ++ lines) ≡ section_due stage mode result ps ++ rest
-gain_at mode result AfterTags ps name items lines rest at fresh is = ap (λ l. tag_section mode result ps ++ l) (is ∙ nothing_full mode ps items rest (fresh refl))
-gain_at mode result InMovetext ps name items lines rest at fresh is =
-    let section = tag_section mode result ps in
-    let full = full_text mode (start_of ps) items in
-    ap (λ n. drop n (section ++ lines)) (length-append section full) ∙ drop-append-add section lines (length full)
-    ∙ ap (drop (length full)) is ∙ drop-append_seam full rest
-gain_at mode result _ ps name items lines rest at fresh is = absurd (cc)
-
 gain_of : (p : Profile) (part : Part) (marker : List ℕ) → p.missing_result ≡ counts_as (known_result p.missing_result) → IsTrue (may_have_movetext part.stage) → (part.stage ≡ AfterTags → part.items ≡ [])
     → All IsToken (tokens_out p.mode (start_of part.pairs) part.items) → IsToken marker
     → gain_to p part (whole (game_of part marker)) ≡ section_due part.stage p.mode (known_result p.missing_result) part.pairs ++ ending (line_of p.mode part.pairs part.items) marker
@@ -63,9 +49,12 @@ gain_of p part marker known at fresh each token =
     let ts = tokens_out p.mode (start_of part.pairs) part.items in
     ap (λ (m : Missing). drop (length (torn_for m p.mode part)) (tag_section p.mode (result_for m marker) part.pairs ++ lines ++ 10 ∷ [])) known
     ∙ ap (drop (length (torn_for (counts_as result) p.mode part))) (append_assoc (tag_section p.mode result part.pairs) lines (10 ∷ []))
-    ∙ gain_at p.mode result part.stage part.pairs part.name part.items (game_lines p.mode part.pairs part.items marker) (ending (line_of p.mode part.pairs part.items) marker) at fresh
+    ∙ gain_at p.mode result part.stage part.pairs part.name part.items (game_lines p.mode part.pairs part.items marker) at fresh
+    ∙ ap (λ (l : List ℕ). section_due part.stage p.mode result part.pairs ++ l)
+    (ap (drop (length (full_text p.mode (start_of part.pairs) part.items)))
     (game_ends ts marker each token
     ∙ append_assoc (text_of_lines (full_lines (lines_of ts))) (text_at (last_line (lines_of ts)) (Put marker)) (text_at (line_at (last_line (lines_of ts)) (Put marker)) EndGame))
+    ∙ drop-append_seam (full_text p.mode (start_of part.pairs) part.items) (ending (line_of p.mode part.pairs part.items) marker))
 
 -- what is due for a marker, of a reader that holds the part
 due_is : (old : ReaderState) (part : Part) (marker : List ℕ) → old.profile.missing_result ≡ counts_as (known_result old.profile.missing_result) → IsTrue (may_have_movetext old.stage) → IsToken marker → IsOpen old part

@@ -1,23 +1,22 @@
 -- From the grammar to reading: tokens that spell games run, and finish these games.
-use Rattle.std.proofs.Common.{◌≡◌, ℕ, ◌+◌, ◌<◌, Bool, true, false, ◌&&◌, not, List, [], ◌∷◌, ◌++◌, length, nat_lt, nat_le, refl, sym, ap, subst, ◌∙◌, arith, append_assoc, append-nil, Option, None, Some, ◌==◌, codes, bytes_eq, is_some, unwrap_or, IsTrue, IsFalse, Result, Ok}
+use Rattle.std.proofs.Common.{◌≡◌, ℕ, ◌+◌, ◌<◌, Bool, true, false, ◌&&◌, not, List, [], ◌∷◌, ◌++◌, length, nat_lt, nat_le, refl, sym, ap, subst, ◌∙◌, arith, append_assoc, append-nil, Option, None, Some, ◌==◌, codes, bytes_eq, is_some, unwrap_or, IsTrue, IsFalse}
 use Rattle.std.specs.List.{list_all}
 use Rattle.std.proofs.lemmas.Slice.Eq.{bytes_eq-Decides}
 use Rattle.std.proofs.lemmas.Bool.{and_parts}
 use Rattle.std.proofs.lemmas.Bool.Decides.{nat_tests}
 use Rattle.pgn_layout.specs.TagLine.{escaped}
 use Rattle.pgn_lexer.specs.Tokens as tokens
-use Rattle.pgn_game.proofs.Words.{Played, SanFault, Kind, Mode, Full, Reduced, BadTagName, DuplicateTag, TooManyTags, BadResult, BadFen, TagLineTooLong, SetUpWithoutFen, ReducedFen, NoMoveBefore, TooDeep, UnmatchedClose, MarkerInVariation, ResultDiffers, Stage, Between, AfterLeftBracket, AfterName, AfterValue, AfterTags, InMovetext, Profile, Pair, value_of, has_pair, insert_pair, Item, Game, Part, no_part}
-use Rattle.pgn_game.specs.Chess.{move_of}
+use Rattle.pgn_game.proofs.Words.{Played, Kind, Mode, Full, Reduced, BadTagName, DuplicateTag, TooManyTags, BadResult, BadFen, TagLineTooLong, SetUpWithoutFen, ReducedFen, MoveLimit, NoMoveBefore, TooDeep, UnmatchedClose, MarkerInVariation, ResultDiffers, Stage, Between, AfterLeftBracket, AfterName, AfterValue, AfterTags, InMovetext, Profile, Pair, value_of, has_pair, insert_pair, Item, Game, Part, no_part}
 use Rattle.pgn_game.specs.Game as games
 use Rattle.pgn_game.specs.Levels.{Level, Levels, levels_of, levels_after, depth, here, replayed, without_last, start_of}
-use Rattle.pgn_game.specs.FaultTable.{refusal, is_comment, in_name, is_result, is_score, is_number, is_end, is_at_limit, is_reduced, fen_field, fen_field_of, fen_fault_field, marker_of, lacks_fen, has_other_result}
+use Rattle.pgn_game.specs.FaultTable.{refusal, is_comment, in_name, is_result, is_end, is_at_limit, is_reduced, fen_field, fen_field_of, fen_fault_field, marker_of, lacks_fen}
 use Rattle.pgn_game.specs.Progress.{next, going, whole}
 use Rattle.pgn_game.specs.Spells.{AreDropped, SpellsPair, pair, SpellsPairs, no_pair, next_pair, IsPair, by_name, IsSetUp, Names, new_level, level_after_move, SpellsText, no_more, token, move, variation, BeginsBare, IsResult, SpellsGame, SpellsGames, no_game, next_game}
 use Rattle.pgn_game.proofs.reading.RunsToEnd.{at, Runs, ends, goes, finishes}
-use Rattle.pgn_game.proofs.judging.RowsByStage.{pass, drops_comments, comment_free, comment_stays, comment_goes, opening, opening_between, naming, valuing, closing, is_textual, after_tags, leads_after_tags, between, leads_between, varying, unvarying, starring, symbol_fault, symbolic}
+use Rattle.pgn_game.proofs.judging.RefusalsByStage.{pass, drops_comments, comment_free, comment_stays, comment_goes, open_refusal, open_between, name_refusal, value_refusal, close_refusal, is_textual, after_tags, leads_after_tags, between, leads_between, is_lexical, text_row}
 use Rattle.pgn_game.proofs.reading.PairsInTurn.{with_pairs, Takes, takes}
-use Rattle.pgn_game.proofs.judging.RefusalsInMovetext.{score_of}
-use Rattle.pgn_game.proofs.reading.MovetextTokens.{levels_more, result_meets, other_score, no_other, symbol_next, symbol_leads, stands_free, stands_leads, stands_levels, stands_goes}
+use Rattle.pgn_game.proofs.judging.RefusalsInMovetext.{refused_as, move_refusal, symbol_next, symbol_leads, marker_refusal, marker_whole}
+use Rattle.pgn_game.proofs.reading.MovetextTokens.{levels_more, result_meets, stands_free, stands_leads, stands_levels, stands_goes}
 
 -- Comments that are dropped.
 dropped_run : (p : Profile) (stage : Stage) (ps : List Pair) (name : List ℕ) (items : List Item) → IsTrue (drops_comments stage)
@@ -26,8 +25,8 @@ dropped_run p stage ps name items drops [] rest gs are runs = runs
 dropped_run p stage ps name items drops (k ∷ ks) rest gs are runs =
     let both = and_parts (is_comment k) (list_all is_comment ks) are in
     goes (at stage ps name items) (at stage ps name items) k (ks ++ rest) gs
-    (comment_free p stage ps name items k drops both.0) (comment_goes k both.0)
-    (comment_stays stage ps name items k drops both.0)
+    (comment_free p stage (at stage ps name items) k drops both.0) (comment_goes k both.0)
+    (comment_stays stage (at stage ps name items) k drops both.0)
     (dropped_run p stage ps name items drops ks rest gs both.1 runs)
 
 -- Pairs.
@@ -44,10 +43,9 @@ name_passes : (p : Profile) (ps : List Pair) (name : List ℕ) (items : List Ite
 name_passes p ps name items q new h =
     let room = h.room in
     let short : nat_lt 249 (length q.name) ≡ false = grind (arith, nat_tests) in
-    naming p ps name items q.name
-    ∙ pass (not (list_all in_name q.name)) BadTagName _ (ap not h.name)
-    (pass (has_pair ps q.name) DuplicateTag _ new (pass (nat_lt 249 (length q.name)) TagLineTooLong _ short
-    (pass (is_reduced p.mode && bytes_eq q.name (codes "FEN")) ReducedFen None (name_fits p.mode q h) refl)))
+    name_refusal p (at AfterLeftBracket ps name items) q.name refl ∙ pass (not (list_all in_name q.name)) BadTagName _ (ap not h.name)
+    ∙ pass (has_pair ps q.name) DuplicateTag _ new ∙ pass (nat_lt 249 (length q.name)) TagLineTooLong _ short
+    ∙ pass (is_reduced p.mode && bytes_eq q.name (codes "FEN")) ReducedFen None (name_fits p.mode q h)
 
 guarded : (a b : Bool) → (a ≡ true → b ≡ false) → (a && b) ≡ false
 guarded true b h = h refl
@@ -63,10 +61,9 @@ value_passes p ps items q h =
     let is_position : (bytes_eq q.name (codes "FEN") && is_some (fen_field q.value)) ≡ false =
     guarded (bytes_eq q.name (codes "FEN")) (is_some (fen_field q.value))
     (λ e. ap (λ r. is_some (fen_fault_field r)) (h.fen ((bytes_eq-Decides q.name (codes "FEN")).0 e)).2) in
-    valuing p ps q.name items q.value
-    ∙ pass (bytes_eq q.name (codes "Result") && not (is_result q.value)) BadResult _ is_marker
-    (pass (bytes_eq q.name (codes "FEN") && is_some (fen_field q.value)) (BadFen (fen_field_of (tokens.str q.value))) _ is_position
-    (pass (nat_lt 249 (length q.name + length (escaped q.value))) TagLineTooLong None short refl))
+    value_refusal p (at AfterName ps q.name items) q.value refl ∙ pass (bytes_eq q.name (codes "Result") && not (is_result q.value)) BadResult _ is_marker
+    ∙ pass (bytes_eq q.name (codes "FEN") && is_some (fen_field q.value)) (BadFen (fen_field_of (tokens.str q.value))) _ is_position
+    ∙ pass (nat_lt 249 (length q.name + length (escaped q.value))) TagLineTooLong None short
 
 -- the tokens of a pair, and those behind it
 pair_run : (p : Profile) (ps : List Pair) (name : List ℕ) (ks rest : List Kind) (q : Pair) (gs : List Game) → SpellsPair ks q
@@ -76,13 +73,13 @@ pair_run p ps name _ rest _ gs (pair xs ys zs n v before_name before_value befor
     let q : Pair = record { name = n; value = v } in
     let free : nat_le p.tags (length ps) ≡ false = grind (arith, nat_tests) in
     simp append_assoc
-    (goes (at AfterTags ps name []) (at AfterLeftBracket ps name []) tokens.left_bracket _ gs (opening p ps name [] ∙ pass (nat_le p.tags (length ps)) TooManyTags None free refl) refl refl
+    (goes (at AfterTags ps name []) (at AfterLeftBracket ps name []) tokens.left_bracket _ gs (open_refusal p (at AfterTags ps name []) refl ∙ pass (nat_le p.tags (length ps)) TooManyTags None free) refl refl
     (dropped_run p AfterLeftBracket ps name [] refl xs _ gs before_name
     (goes (at AfterLeftBracket ps name []) (at AfterName ps n []) (tokens.symbol n) _ gs (name_passes p ps name [] q new is) refl refl
     (dropped_run p AfterName ps n [] refl ys _ gs before_value
     (goes (at AfterName ps n []) (at AfterValue (insert_pair q ps) [] []) (tokens.str v) _ gs (value_passes p ps [] q is) refl refl
     (dropped_run p AfterValue (insert_pair q ps) [] [] refl zs _ gs before_bracket
-    (goes (at AfterValue (insert_pair q ps) [] []) (at AfterTags (insert_pair q ps) [] []) tokens.right_bracket rest gs (closing p (insert_pair q ps) [] []) refl refl runs)))))))
+    (goes (at AfterValue (insert_pair q ps) [] []) (at AfterTags (insert_pair q ps) [] []) tokens.right_bracket rest gs (close_refusal p (at AfterValue (insert_pair q ps) [] []) refl) refl refl runs)))))))
 
 pairs_run : (p : Profile) (ps : List Pair) (name : List ℕ) (ks rest : List Kind) (qs : List Pair) (gs : List Game) → SpellsPairs ks qs → Takes p ps qs
     → ((n : List ℕ) → Runs p (at AfterTags (with_pairs ps qs) n []) rest gs) → Runs p (at AfterTags ps name []) (ks ++ rest) gs
@@ -92,35 +89,29 @@ pairs_run p ps name _ rest _ gs (next_pair ks ls q qs first others) takes runs =
     (pair_run p ps name ks (ls ++ rest) q gs first takes.0 takes.1 takes.2 (pairs_run p (insert_pair q ps) [] ls rest qs gs others takes.3 runs))
 
 -- Movetext.
-move_passes : (o : Option (Result Played SanFault)) (played : Played) (is_digits score limit : Bool) (deep : ℕ) (other : Bool)
-    → o ≡ Some (Ok played) → is_digits ≡ false → score ≡ false → limit ≡ false → other ≡ false → symbol_fault is_digits score o limit deep other ≡ None
-move_passes o played is_digits score limit deep other one no_digits no_score within same = cc
-
 move_free : (p : Profile) (ps : List Pair) (name : List ℕ) (items : List Item) (s : List ℕ) (played : Played) → Names (here (start_of ps) (levels_of items)) s played
     → refusal p (at InMovetext ps name items) (tokens.symbol s) ≡ None
 move_free p ps name items s played h =
     let place = here (start_of ps) (levels_of items) in
-    symbolic p ps name items s
-    ∙ move_passes (move_of place s) played (is_number s) (is_score s) (is_at_limit place) (depth (levels_of items))
-    (has_other_result p.missing_result (at InMovetext ps name items) (tokens.symbol s)) h.one h.no_number h.no_marker h.within
-    (no_other p.missing_result ps name items s h.no_marker)
+    text_row p (at InMovetext ps name items) (tokens.symbol s) refl ∙ move_refusal p (at InMovetext ps name items) s h.no_number h.no_marker ∙ ap (refused_as place) h.one
+    ∙ pass (is_at_limit place) MoveLimit None h.within
 
 move_leads : (ps : List Pair) (name : List ℕ) (items : List Item) (s : List ℕ) (played : Played) → Names (here (start_of ps) (levels_of items)) s played
     → next (at InMovetext ps name items) (tokens.symbol s) ≡ going (at InMovetext ps name (items ++ games.move played.mv ∷ []))
-move_leads ps name items s played h = cc (symbol_leads ps name items s, h.no_marker, h.no_number, h.one)
+move_leads ps name items s played h = symbol_leads (at InMovetext ps name items) s false false h.no_number h.no_marker ∙ ap (symbol_next (at InMovetext ps name items) s false false) h.one
 
 opens_free : (p : Profile) (ps : List Pair) (name : List ℕ) (items : List Item) → (levels_of items).present.has_own_move ≡ true → depth (levels_of items) < p.depth
     → refusal p (at InMovetext ps name items) tokens.left_paren ≡ None
 opens_free p ps name items holds room =
     let free : nat_le p.depth (depth (levels_of items)) ≡ false = grind (arith, nat_tests) in
-    varying p ps name items
-    ∙ pass (not (levels_of items).present.has_own_move) NoMoveBefore _ (ap not holds) (pass (nat_le p.depth (depth (levels_of items))) TooDeep None free refl)
+    text_row p (at InMovetext ps name items) tokens.left_paren refl ∙ pass (not (levels_of items).present.has_own_move) NoMoveBefore _ (ap not holds)
+    ∙ pass (nat_le p.depth (depth (levels_of items))) TooDeep None free
 
 closes_free : (p : Profile) (ps : List Pair) (name : List ℕ) (items : List Item) → 0 < depth (levels_of items)
     → refusal p (at InMovetext ps name items) tokens.right_paren ≡ None
 closes_free p ps name items some =
     let free : (depth (levels_of items) == 0) ≡ false = grind (arith, nat_tests) in
-    unvarying p ps name items ∙ pass (depth (levels_of items) == 0) UnmatchedClose None free refl
+    text_row p (at InMovetext ps name items) tokens.right_paren refl ∙ pass (depth (levels_of items) == 0) UnmatchedClose None free
 
 abbrev leveled : Level → List Level → Levels
 leveled l around = record { present = l; around = around }
@@ -173,11 +164,6 @@ text_run p ps name deep l _ _ (variation _ _ ks ls items more holds room inner t
     joined xs ys zs = simp append_assoc
 
 -- Markers.
-score_passes : (number score : Bool) (o : Option (Result Played SanFault)) (limit : Bool) (deep : ℕ) (other : Bool) → score ≡ true → deep ≡ 0 → other ≡ false
-    → symbol_fault number score o limit deep other ≡ None
-score_passes true score o limit deep other e d f = cc
-score_passes false score o limit deep other e d f = cc
-
 abbrev finished : List Pair → List Item → List ℕ → Game
 finished ps items marker = record { pairs = ps; items = items; marker = marker }
 
@@ -187,46 +173,24 @@ record Finishes (p : Profile) (ps : List Pair) (name : List ℕ) (items : List I
   goes : is_end k ≡ false
   leads : next (at InMovetext ps name items) k ≡ whole (finished ps items marker)
 
-star_finishes : (p : Profile) (ps : List Pair) (name : List ℕ) (items : List Item) → depth (levels_of items) ≡ 0
-    → IsResult p.missing_result (value_of ps (codes "Result")) (codes "*") → Finishes p ps name items tokens.asterisk (codes "*")
-star_finishes p ps name items outside is =
-    let shallow : nat_le 1 (depth (levels_of items)) ≡ false = grind (arith, nat_tests) in
-    let same : has_other_result p.missing_result (at InMovetext ps name items) tokens.asterisk ≡ false = result_meets p.missing_result (value_of ps (codes "Result")) (codes "*") is in
-    record {
-      free =
-          starring p ps name items
-          ∙ pass (nat_le 1 (depth (levels_of items))) MarkerInVariation _ shallow
-          (pass (has_other_result p.missing_result (at InMovetext ps name items) tokens.asterisk && (depth (levels_of items) == 0)) ResultDiffers None
-          (ap (λ (b : Bool). b && (depth (levels_of items) == 0)) same) refl);
-      goes = refl;
-      leads = refl;
-    }
-
-score_finishes : (p : Profile) (ps : List Pair) (name : List ℕ) (items : List Item) (s : List ℕ) → is_score s ≡ true → depth (levels_of items) ≡ 0
-    → IsResult p.missing_result (value_of ps (codes "Result")) s → Finishes p ps name items (tokens.symbol s) s
-score_finishes p ps name items s score outside is =
-    let place = here (start_of ps) (levels_of items) in
-    record {
-      free =
-          symbolic p ps name items s
-          ∙ score_passes (is_number s) (is_score s) (move_of place s) (is_at_limit place) (depth (levels_of items))
-          (has_other_result p.missing_result (at InMovetext ps name items) (tokens.symbol s)) score outside
-          (other_score p.missing_result ps name items s score ∙ result_meets p.missing_result (value_of ps (codes "Result")) s is);
-      goes = refl;
-      leads = symbol_leads ps name items s ∙ ap (λ (b : Bool). symbol_next ps name items s (is_number s) b (move_of place s)) score;
-    }
-
 marker_finishes : (p : Profile) (ps : List Pair) (name : List ℕ) (items : List Item) (k : Kind) (marker : List ℕ) → marker_of k ≡ Some marker → depth (levels_of items) ≡ 0
     → IsResult p.missing_result (value_of ps (codes "Result")) marker → Finishes p ps name items k marker
-marker_finishes p ps name items tokens.asterisk marker is outside result =
-    let e : codes "*" ≡ marker = cc in
-    subst (Finishes p ps name items tokens.asterisk) e (star_finishes p ps name items outside (subst (IsResult p.missing_result (value_of ps (codes "Result"))) (sym e) result))
-marker_finishes p ps name items (tokens.symbol s) marker is outside result =
-    let score = score_of s marker (is_score s) refl is in
-    subst (Finishes p ps name items (tokens.symbol s)) score.1
-    (score_finishes p ps name items s score.0 outside
-    (subst (IsResult p.missing_result (value_of ps (codes "Result"))) (sym score.1) result))
-marker_finishes p ps name items _ marker is outside result = absurd (cc)
+marker_finishes p ps name items k marker is outside result =
+    let shallow : nat_le 1 (depth (levels_of items)) ≡ false = grind (arith, nat_tests) in
+    let same = result_meets p.missing_result (value_of ps (codes "Result")) marker result in
+    let plain = plain_marker k marker is in
+    record {
+      free =
+          text_row p (at InMovetext ps name items) k plain.0 ∙ marker_refusal p (at InMovetext ps name items) k marker is
+          ∙ pass (nat_le 1 (depth (levels_of items))) MarkerInVariation _ shallow ∙ pass _ ResultDiffers None (ap (λ (b : Bool). b && (depth (levels_of items) == 0)) same);
+      goes = plain.1;
+      leads = marker_whole (at InMovetext ps name items) k marker is;
+    }
+  where
+    plain_marker : (k : Kind) (marker : List ℕ) → marker_of k ≡ Some marker → (is_lexical k ≡ false) × (is_end k ≡ false)
+    plain_marker tokens.asterisk marker is = (refl, refl)
+    plain_marker (tokens.symbol s) marker is = (refl, refl)
+    plain_marker _ marker is = absurd (cc)
 
 -- Games.
 -- tokens run from another part too where the first is let pass and leads as it does from this one
@@ -252,8 +216,8 @@ begins_after_tags : (p : Profile) (ps : List Pair) (name : List ℕ) (items : Li
 begins_after_tags p ps name items ks gs has =
     runs_alike p (at InMovetext ps name items) (at AfterTags ps name items) ks gs (λ k js e free.
     let is = textual p ps name items k free in (
-      after_tags p ps name items k is ∙ pass (lacks_fen ps) SetUpWithoutFen _ has free,
-      leads_after_tags ps name items k is,
+      after_tags p (at InMovetext ps name items) k is ∙ pass (lacks_fen ps) SetUpWithoutFen _ has ∙ free,
+      leads_after_tags (at InMovetext ps name items) k is,
     ))
 
 -- and without pairs
@@ -263,7 +227,7 @@ begins_between p ps name items ks gs bare =
     runs_alike p (at InMovetext ps name items) (at Between ps name items) ks gs (λ k js e free.
     let is = textual p ps name items k free in
     let plain = subst BeginsBare e bare in
-    (between p ps name items k is plain ∙ free, leads_between ps name items k is plain))
+    (between p (at InMovetext ps name items) k is plain ∙ free, leads_between (at InMovetext ps name items) k is plain))
 
 -- the movetext of a game, its marker, and the games behind it
 whole_text_run : (p : Profile) (ps : List Pair) (name : List ℕ) (text rest : List Kind) (items : List Item) (last : Kind) (marker : List ℕ) (gs : List Game)
@@ -279,7 +243,7 @@ whole_text_run p ps name text rest items last marker gs spells is result runs =
 opens_between : (p : Profile) (ps : List Pair) (name : List ℕ) (ks : List Kind) (gs : List Game)
     → Runs p (at AfterTags ps name []) (tokens.left_bracket ∷ ks) gs → Runs p (at Between ps name []) (tokens.left_bracket ∷ ks) gs
 opens_between p ps name _ _ (goes _ to _ ks gs free end leads runs) =
-    goes (at Between ps name []) to tokens.left_bracket ks gs (opening_between p ps name [] ∙ sym (opening p ps name []) ∙ free) end leads runs
+    goes (at Between ps name []) to tokens.left_bracket ks gs (open_between p (at Between ps name []) ∙ sym (open_refusal p (at AfterTags ps name []) refl) ∙ free) end leads runs
 opens_between p ps name _ _ (finishes _ _ g ks gs free end leads runs) = absurd (cc)
 
 has_fen : (o : Option (List ℕ)) (fen : Bool) → (o ≡ Some (codes "1") → fen ≡ true) → (bytes_eq (unwrap_or o []) (codes "1") && not fen) ≡ false

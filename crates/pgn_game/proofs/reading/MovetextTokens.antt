@@ -1,18 +1,18 @@
 -- Where a token of movetext leads, and when a marker is the Result.
-use Rattle.std.proofs.Common.{◌≡◌, ℕ, Bool, true, false, ◌||◌, not, List, [], ◌∷◌, ◌++◌, Option, None, Some, refl, ap, ◌∙◌, append-nil, codes, bytes_eq, unwrap_or, IsFalse, Result}
+use Rattle.std.proofs.Common.{◌≡◌, ℕ, Bool, true, false, ◌||◌, not, List, [], ◌∷◌, ◌++◌, Option, None, Some, refl, ap, ◌∙◌, append-nil, codes, bytes_eq, unwrap_or, IsFalse}
 use Rattle.std.proofs.lemmas.List.Sums.{fold-append}
 use Rattle.std.proofs.lemmas.Bool.{not-false}
 use Rattle.std.proofs.lemmas.Slice.Eq.{bytes_eq-Decides}
 use Rattle.pgn_lexer.specs.Tokens as tokens
-use Rattle.pgn_game.proofs.Words.{Played, SanFault, Kind, InMovetext, Profile, Missing, counts_as, takes_the_marker, Pair, value_of, Item}
-use Rattle.pgn_game.specs.Chess.{move_of}
+use Rattle.pgn_game.proofs.Words.{Kind, InMovetext, Profile, Missing, counts_as, takes_the_marker, Pair, Item}
 use Rattle.pgn_game.specs.Game as games
-use Rattle.pgn_game.specs.Levels.{levels_of, levels_after, first_level, depth, here, start_of}
-use Rattle.pgn_game.specs.FaultTable.{refusal, is_score, is_number, is_end, is_at_limit, result_for, has_other_result}
-use Rattle.pgn_game.specs.Progress.{Next, next, going, whole, move_item}
+use Rattle.pgn_game.specs.Levels.{levels_of, levels_after, first_level}
+use Rattle.pgn_game.specs.FaultTable.{refusal, is_score, is_number, is_end, result_for}
+use Rattle.pgn_game.specs.Progress.{next, going}
 use Rattle.pgn_game.specs.Spells.{StandsFor, number, glyph, comment_open, word, comment_close, IsResult}
 use Rattle.pgn_game.proofs.reading.RunsToEnd.{at}
-use Rattle.pgn_game.proofs.judging.RowsByStage.{symbol_fault, symbolic}
+use Rattle.pgn_game.proofs.judging.RefusalsByStage.{text_row}
+use Rattle.pgn_game.proofs.judging.RefusalsInMovetext.{number_free, number_leads}
 
 -- the levels behind one item more
 pub levels_more : (items : List Item) (x : Item) → levels_of (items ++ x ∷ []) ≡ levels_after (levels_of items) x
@@ -32,26 +32,6 @@ result_meets missing (Some v) marker h = ap not ((bytes_eq-Decides marker v).1 h
 result_meets (counts_as text) None marker h = ap not ((bytes_eq-Decides marker text).1 h)
 result_meets takes_the_marker None marker h = ap not ((bytes_eq-Decides marker marker).1 refl)
 
-abbrev pub marked : Bool → List ℕ → Option (List ℕ)
-marked score s = elim score [ true ↦ Some s | false ↦ None ]
-
-pub other_score : (missing : Missing) (ps : List Pair) (name : List ℕ) (items : List Item) (s : List ℕ) → is_score s ≡ true
-    → has_other_result missing (at InMovetext ps name items) (tokens.symbol s) ≡ differs missing (value_of ps (codes "Result")) s
-other_score missing ps name items s is =
-    ap (λ (b : Bool). elim (marked b s) [ None ↦ false | Some marker ↦ not (bytes_eq marker (unwrap_or (value_of ps (codes "Result")) (result_for missing marker))) ]) is
-
--- Symbols.
-abbrev pub symbol_next : List Pair → List ℕ → List Item → List ℕ → Bool → Bool → Option (Result Played SanFault) → Next
-symbol_next ps name items s is_digits score o =
-    elim (marked score s) [
-      | Some marker ↦ whole (record { pairs = ps; items = items; marker = marker })
-      | None ↦ going (at InMovetext ps name (items ++ elim is_digits [ true ↦ [] | false ↦ move_item o ]))
-    ]
-
-pub symbol_leads : (ps : List Pair) (name : List ℕ) (items : List Item) (s : List ℕ)
-    → next (at InMovetext ps name items) (tokens.symbol s) ≡ symbol_next ps name items s (is_number s) (is_score s) (move_of (here (start_of ps) (levels_of items)) s)
-symbol_leads ps name items s = refl
-
 -- no number is a score
 no_score_in : (s t : List ℕ) → is_number t ≡ false → is_number s ≡ true → bytes_eq s t ≡ false
 no_score_in s t no_number is = by_test (bytes_eq s t) refl
@@ -67,33 +47,15 @@ number_no_score s is =
     ∙ no_score_in s (codes "1/2-1/2") refl is
 
 -- A token that stands anywhere.
-number_passes : (score : Bool) (o : Option (Result Played SanFault)) (limit : Bool) (deep : ℕ) (other : Bool) → score ≡ false → other ≡ false
-    → symbol_fault true score o limit deep other ≡ None
-number_passes score o limit deep other e f = ap (λ (b : Bool). symbol_fault true b o limit deep other) e ∙ ap (λ (b : Bool). symbol_fault true false o limit deep b) f
-
-pub no_other : (missing : Missing) (ps : List Pair) (name : List ℕ) (items : List Item) (s : List ℕ) → is_score s ≡ false
-    → has_other_result missing (at InMovetext ps name items) (tokens.symbol s) ≡ false
-no_other missing ps name items s is =
-    ap (λ (b : Bool). elim (marked b s) [ None ↦ false | Some marker ↦ not (bytes_eq marker (unwrap_or (value_of ps (codes "Result")) (result_for missing marker))) ]) is
-
 pub stands_free : (p : Profile) (ps : List Pair) (name : List ℕ) (items : List Item) (k : Kind) (item : List Item) → StandsFor k item
     → refusal p (at InMovetext ps name items) k ≡ None
 unfolding refusal
-stands_free p ps name items _ _ (number s is) =
-    let place = here (start_of ps) (levels_of items) in
-    let other = has_other_result p.missing_result (at InMovetext ps name items) (tokens.symbol s) in
-    symbolic p ps name items s
-    ∙ ap (λ (b : Bool). symbol_fault b (is_score s) (move_of place s) (is_at_limit place) (depth (levels_of items)) other) is
-    ∙ number_passes (is_score s) (move_of place s) (is_at_limit place) (depth (levels_of items)) other (number_no_score s is)
-    (no_other p.missing_result ps name items s (number_no_score s is))
+stands_free p ps name items _ _ (number s is) = text_row p (at InMovetext ps name items) (tokens.symbol s) refl ∙ number_free p (at InMovetext ps name items) s is (number_no_score s is)
 stands_free p ps name items _ _ _ = refl
 
 pub stands_leads : (ps : List Pair) (name : List ℕ) (items : List Item) (k : Kind) (item : List Item) → StandsFor k item
     → next (at InMovetext ps name items) k ≡ going (at InMovetext ps name (items ++ item))
-stands_leads ps name items _ _ (number s is) =
-    symbol_leads ps name items s
-    ∙ ap (λ (b : Bool). symbol_next ps name items s b (is_score s) (move_of (here (start_of ps) (levels_of items)) s)) is
-    ∙ ap (λ (b : Bool). symbol_next ps name items s true b (move_of (here (start_of ps) (levels_of items)) s)) (number_no_score s is)
+stands_leads ps name items _ _ (number s is) = number_leads (at InMovetext ps name items) s is (number_no_score s is)
 stands_leads ps name items _ _ _ = refl
 
 pub stands_levels : (items : List Item) (k : Kind) (item : List Item) → StandsFor k item → levels_of (items ++ item) ≡ levels_of items

@@ -1,5 +1,5 @@
 -- From reading to the grammar: tokens that run to their end spell the games that they finish.
-use Rattle.std.proofs.Common.{◌≡◌, ℕ, ◌+◌, ◌<◌, ◌≤◌, Bool, true, false, ◌&&◌, not, List, [], ◌∷◌, ◌++◌, length, nat_lt, nat_le, refl, sym, ap, subst, ◌∙◌, arith, append_assoc, append-nil, Option, None, Some, ◌==◌, codes, bytes_eq, is_some, unwrap_or, IsTrue, IsFalse, Result, Ok, Err}
+use Rattle.std.proofs.Common.{◌≡◌, ℕ, ◌+◌, ◌<◌, ◌≤◌, Bool, true, false, ◌&&◌, ◌||◌, not, List, [], ◌∷◌, ◌++◌, length, nat_lt, nat_le, refl, sym, ap, subst, ◌∙◌, arith, append_assoc, append-nil, Option, None, Some, ◌==◌, codes, bytes_eq, is_some, unwrap_or, IsTrue, IsFalse, Result, Ok, Err}
 use Rattle.std.specs.List.{list_all}
 use Rattle.std.proofs.lemmas.Slice.Eq.{bytes_eq-Decides}
 use Rattle.std.proofs.lemmas.Bool.{false≢true, not-false, leb-false, ltb-false}
@@ -13,14 +13,15 @@ use Rattle.pgn_game.proofs.Words.{Parts, Played, SanFault, Kind, Mode, Full, Red
 use Rattle.pgn_game.specs.Chess.{position_of, move_of}
 use Rattle.pgn_game.specs.Game as games
 use Rattle.pgn_game.specs.Levels.{Level, Levels, levels_of, levels_after, depth, here, without_last, start_of}
-use Rattle.pgn_game.specs.FaultTable.{refusal, is_comment, in_name, is_result, is_score, is_number, is_end, is_at_limit, is_reduced, fen_field, fen_field_of, fen_fault_field, marker_of, lacks_fen, has_other_result}
+use Rattle.pgn_game.specs.FaultTable.{refusal, is_comment, in_name, is_result, is_score, is_number, is_end, is_at_limit, is_reduced, fen_field, fen_field_of, fen_fault_field, marker_of, lacks_fen}
 use Rattle.pgn_game.specs.Progress.{Next, next, going, whole}
 use Rattle.pgn_game.specs.Spells.{AreDropped, pair, SpellsPairs, no_pair, next_pair, by_name, IsSetUp, StandsFor, number, period, glyph, comment_open, word, comment_close, Names, new_level, level_after_move, SpellsText, no_more, token, move, variation, BeginsBare, IsResult, SpellsGame, SpellsGames, no_game, next_game}
 use Rattle.pgn_game.proofs.reading.RunsToEnd.{at, Runs, ends, goes, finishes}
 use Rattle.pgn_game.specs.TokenInMovetext.{or_else}
-use Rattle.pgn_game.proofs.judging.RowsByStage.{test_failed, rest_passed, opening, opening_between, naming, valuing, is_textual, after_tags, leads_after_tags, between, leads_between, varying, unvarying, starring, symbol_fault, symbolic}
+use Rattle.pgn_game.proofs.judging.RefusalsInMovetext.{marker_if, rows_for, symbol_next, symbol_refusal}
+use Rattle.pgn_game.proofs.judging.RefusalsByStage.{test_failed, rest_passed, open_refusal, open_between, name_refusal, value_refusal, is_textual, after_tags, leads_after_tags, between, leads_between, text_row}
 use Rattle.pgn_game.proofs.reading.PairsInTurn.{with_pairs, Takes, taken}
-use Rattle.pgn_game.proofs.reading.MovetextTokens.{levels_more, stands_levels, differs, result_is, marked, other_score, symbol_next}
+use Rattle.pgn_game.proofs.reading.MovetextTokens.{levels_more, stands_levels, differs, result_is}
 
 -- Movetext that is left, at a level and at those around it.
 abbrev deep : List Level → ℕ
@@ -237,7 +238,7 @@ no_one n e = grind (arith, nat_tests)
 open_step : (p : Profile) (ps : List Pair) (name : List ℕ) (items : List Item) (ks : List Kind) (gs : List Game) → refusal p (at InMovetext ps name items) tokens.left_paren ≡ None
     → Text_left p ps (items ++ games.open_variation ∷ []) ks gs → Text_left p ps items (tokens.left_paren ∷ ks) gs
 open_step p ps name items ks gs free h =
-    let e : or_else (not (levels_of items).present.has_own_move) NoMoveBefore (or_else (nat_le p.depth (depth (levels_of items))) TooDeep None) ≡ None = sym (varying p ps name items) ∙ free in
+    let e : or_else (not (levels_of items).present.has_own_move) NoMoveBefore (or_else (nat_le p.depth (depth (levels_of items))) TooDeep None) ≡ None = sym (text_row p (at InMovetext ps name items) tokens.left_paren refl) ∙ free in
     let holds = not-false (levels_of items).present.has_own_move (test_failed (not (levels_of items).present.has_own_move) NoMoveBefore _ e) in
     let room : nat_le p.depth (depth (levels_of items)) ≡ false =
     test_failed (nat_le p.depth (depth (levels_of items))) TooDeep None (rest_passed (not (levels_of items).present.has_own_move) NoMoveBefore _ e) in
@@ -248,7 +249,7 @@ close_step : (p : Profile) (ps : List Pair) (name : List ℕ) (items : List Item
     → Text_left p ps (items ++ games.close_variation ∷ []) ks gs → Text_left p ps items (tokens.right_paren ∷ ks) gs
 close_step p ps name items ks gs free h =
     text_more p ps items (games.close_variation ∷ []) tokens.right_paren ks gs
-    (adds_close p ps items (test_failed (depth (levels_of items) == 0) UnmatchedClose None (sym (unvarying p ps name items) ∙ free))) h
+    (adds_close p ps items (test_failed (depth (levels_of items) == 0) UnmatchedClose None (sym (text_row p (at InMovetext ps name items) tokens.right_paren refl) ∙ free))) h
 
 -- a marker finishes the game
 marker_step : (p : Profile) (ps : List Pair) (items : List Item) (k : Kind) (marker : List ℕ) (ks : List Kind) (gs : List Game) → marker_of k ≡ Some marker
@@ -280,9 +281,8 @@ marker_step p ps items k marker ks gs is shallow same after =
 symbol_step : (p : Profile) (ps : List Pair) (name : List ℕ) (items : List Item) (s : List ℕ) (ks : List Kind) (gs : List Game)
     → (is_digits score : Bool) (o : Option (Result Played SanFault))
     → is_number s ≡ is_digits → is_score s ≡ score → move_of (here (start_of ps) (levels_of items)) s ≡ o
-    → symbol_fault is_digits score o (is_at_limit (here (start_of ps) (levels_of items))) (depth (levels_of items))
-    (has_other_result p.missing_result (at InMovetext ps name items) (tokens.symbol s)) ≡ None
-    → After p (symbol_next ps name items s is_digits score o) ks gs → Text_left p ps items (tokens.symbol s ∷ ks) gs
+    → rows_for p (at InMovetext ps name items) s (is_digits || score) score o ≡ None
+    → After p (symbol_next (at InMovetext ps name items) s is_digits score o) ks gs → Text_left p ps items (tokens.symbol s ∷ ks) gs
 symbol_step p ps name items s ks gs true false o digits is_marker one free after =
     token_step p ps items [] (tokens.symbol s) ks gs (number s digits) (after tt)
 symbol_step p ps name items s ks gs false false (Some (Ok played)) digits is_marker one free after =
@@ -293,15 +293,13 @@ symbol_step p ps name items s ks gs false false None digits is_marker one free a
 symbol_step p ps name items s ks gs false false (Some (Err NoMove)) digits is_marker one free after = absurd (none-some _ (sym free))
 symbol_step p ps name items s ks gs false false (Some (Err Ambiguous)) digits is_marker one free after = absurd (none-some _ (sym free))
 symbol_step p ps name items s ks gs true true o digits is_marker one free after =
-    marker_step p ps items (tokens.symbol s) s ks gs (ap (λ (b : Bool). marked b s) is_marker)
+    marker_step p ps items (tokens.symbol s) s ks gs (ap (λ (b : Bool). marker_if b s) is_marker)
     (test_failed (nat_le 1 (depth (levels_of items))) MarkerInVariation _ free)
-    (ap (λ (b : Bool). b && (depth (levels_of items) == 0)) (sym (other_score p.missing_result ps name items s is_marker))
-    ∙ test_failed _ ResultDiffers None (rest_passed (nat_le 1 (depth (levels_of items))) MarkerInVariation _ free)) after
+    (test_failed _ ResultDiffers None (rest_passed (nat_le 1 (depth (levels_of items))) MarkerInVariation _ free)) after
 symbol_step p ps name items s ks gs false true o digits is_marker one free after =
-    marker_step p ps items (tokens.symbol s) s ks gs (ap (λ (b : Bool). marked b s) is_marker)
+    marker_step p ps items (tokens.symbol s) s ks gs (ap (λ (b : Bool). marker_if b s) is_marker)
     (test_failed (nat_le 1 (depth (levels_of items))) MarkerInVariation _ free)
-    (ap (λ (b : Bool). b && (depth (levels_of items) == 0)) (sym (other_score p.missing_result ps name items s is_marker))
-    ∙ test_failed _ ResultDiffers None (rest_passed (nat_le 1 (depth (levels_of items))) MarkerInVariation _ free)) after
+    (test_failed _ ResultDiffers None (rest_passed (nat_le 1 (depth (levels_of items))) MarkerInVariation _ free)) after
 
 text_step : (p : Profile) (ps : List Pair) (name : List ℕ) (items : List Item) (k : Kind) (ks : List Kind) (gs : List Game) → refusal p (at InMovetext ps name items) k ≡ None
     → is_end k ≡ false → After p (next (at InMovetext ps name items) k) ks gs → Text_left p ps items (k ∷ ks) gs
@@ -318,12 +316,13 @@ text_step p ps name items (tokens.word s) ks gs free end after =
 text_step p ps name items tokens.comment_close ks gs free end after =
     token_step p ps items _ tokens.comment_close ks gs comment_close (after tt)
 text_step p ps name items tokens.asterisk ks gs free end after =
-    let e = sym (starring p ps name items) ∙ free in
+    let e = sym (text_row p (at InMovetext ps name items) tokens.asterisk refl) ∙ free in
     marker_step p ps items tokens.asterisk (codes "*") ks gs refl (test_failed (nat_le 1 (depth (levels_of items))) MarkerInVariation _ e)
     (test_failed _ ResultDiffers None (rest_passed (nat_le 1 (depth (levels_of items))) MarkerInVariation _ e)) after
 text_step p ps name items (tokens.symbol s) ks gs free end after =
     let place = here (start_of ps) (levels_of items) in
-    symbol_step p ps name items s ks gs (is_number s) (is_score s) (move_of place s) refl refl refl (sym (symbolic p ps name items s) ∙ free) after
+    symbol_step p ps name items s ks gs (is_number s) (is_score s) (move_of place s) refl refl refl
+    (sym (text_row p (at InMovetext ps name items) (tokens.symbol s) refl ∙ symbol_refusal p (at InMovetext ps name items) s _ _ refl refl) ∙ free) after
 text_step p ps name items tokens.end ks gs free end after = absurd (false≢true (sym end))
 text_step p ps name items _ ks gs free end after = absurd (none-some _ (sym free))
 
@@ -368,7 +367,7 @@ value_given : (p : Profile) (ps : List Pair) (name : List ℕ) (items : List Ite
     → refusal p (at AfterName ps name items) (tokens.str s) ≡ None → Bracket_left p (insert_pair (record { name = name; value = s }) ps) ks gs
     → Value_left p ps name (tokens.str s ∷ ks) gs
 value_given p ps name items s ks gs free h =
-    let e = sym (valuing p ps name items s) ∙ free in
+    let e = sym (value_refusal p (at AfterName ps name items) s refl) ∙ free in
     let is_marker = test_failed (bytes_eq name (codes "Result") && not (is_result s)) BadResult _ e in
     let f = rest_passed (bytes_eq name (codes "Result") && not (is_result s)) BadResult _ e in
     let is_position = test_failed (bytes_eq name (codes "FEN") && is_some (fen_field s)) (BadFen (fen_field_of (tokens.str s))) _ f in
@@ -400,7 +399,7 @@ value_step p ps name items _ ks gs none free after = absurd (none-some _ (sym fr
 name_given : (p : Profile) (ps : List Pair) (name : List ℕ) (items : List Item) (s : List ℕ) (ks : List Kind) (gs : List Game)
     → refusal p (at AfterLeftBracket ps name items) (tokens.symbol s) ≡ None → Value_left p ps s ks gs → Name_left p ps (tokens.symbol s ∷ ks) gs
 name_given p ps name items s ks gs free h =
-    let e = sym (naming p ps name items s) ∙ free in
+    let e = sym (name_refusal p (at AfterLeftBracket ps name items) s refl) ∙ free in
     let f = rest_passed (not (list_all in_name s)) BadTagName _ e in
     let g = rest_passed (nat_lt 249 (length s)) TagLineTooLong _ (rest_passed (has_pair ps s) DuplicateTag _ f) in
     none_dropped (Name p ps gs) (tokens.symbol s ∷ ks) (record {
@@ -480,16 +479,16 @@ is_set_up o fen h e =
 tags_text : (p : Profile) (ps : List Pair) (name : List ℕ) (items : List Item) (k : Kind) (ks : List Kind) (gs : List Game) → items ≡ [] → IsTrue (is_textual k)
     → refusal p (at AfterTags ps name items) k ≡ None → is_end k ≡ false → After p (next (at AfterTags ps name items) k) ks gs → Tags_left p ps (k ∷ ks) gs
 tags_text p ps name items k ks gs none is free end after =
-    let e = sym (after_tags p ps name items k is) ∙ free in
+    let e = sym (after_tags p (at AfterTags ps name items) k is) ∙ free in
     let lacks = lacks_fen ps in
     no_pair_step p ps items (k ∷ ks) gs none (is_set_up (value_of ps (codes "SetUp")) (has_pair ps (codes "FEN")) (test_failed lacks SetUpWithoutFen _ e))
-    (text_step p ps name items k ks gs (rest_passed lacks SetUpWithoutFen _ e) end (subst (λ n. After p n ks gs) (leads_after_tags ps name items k is) after))
+    (text_step p ps name items k ks gs (rest_passed lacks SetUpWithoutFen _ e) end (subst (λ n. After p n ks gs) (leads_after_tags (at AfterTags ps name items) k is) after))
 
 tags_step : (p : Profile) (ps : List Pair) (name : List ℕ) (items : List Item) (k : Kind) (ks : List Kind) (gs : List Game) → items ≡ []
     → refusal p (at AfterTags ps name items) k ≡ None → is_end k ≡ false → After p (next (at AfterTags ps name items) k) ks gs → Tags_left p ps (k ∷ ks) gs
 unfolding refusal
 tags_step p ps name items tokens.left_bracket ks gs none free end after =
-    (pair_step p ps ks gs (test_failed (nat_le p.tags (length ps)) TooManyTags None (sym (opening p ps name items) ∙ free)) (after none)).0
+    (pair_step p ps ks gs (test_failed (nat_le p.tags (length ps)) TooManyTags None (sym (open_refusal p (at AfterTags ps name items) refl) ∙ free)) (after none)).0
 tags_step p ps name items tokens.end ks gs none free end after = absurd (false≢true (sym end))
 tags_step p ps name items (tokens.refused r) ks gs none free end after = absurd (none-some _ (sym free))
 tags_step p ps name items k ks gs none free end after = tags_text p ps name items k ks gs none refl free end after
@@ -557,7 +556,7 @@ between_text : (p : Profile) (ps : List Pair) (name : List ℕ) (items : List It
     → IsFalse (is_comment k) → refusal p (at Between ps name items) k ≡ None → is_end k ≡ false → After p (next (at Between ps name items) k) ks gs → SpellsGames p (k ∷ ks) gs
 unfolding no_pair_step
 between_text p ps name items k ks gs no_pairs none is bare free end after =
-    let text = text_step p ps name items k ks gs (sym (between p ps name items k is bare) ∙ free) end (subst (λ n. After p n ks gs) (leads_between ps name items k is bare) after) in
+    let text = text_step p ps name items k ks gs (sym (between p (at Between ps name items) k is bare) ∙ free) end (subst (λ n. After p n ks gs) (leads_between (at Between ps name items) k is bare) after) in
     let t = no_pair_step p ps items (k ∷ ks) gs none (subst IsSetUp (sym no_pairs) (λ e. absurd (cc))) text in
     game_begins p ps (k ∷ ks) gs no_pairs t (λ given. bare_from k ks t.text.text t.text.last t.text.behind bare t.text.kinds)
 
@@ -568,7 +567,7 @@ between_step p ps name items tokens.comment_open ks gs no_pairs none free end af
 between_step p ps name items (tokens.word s) ks gs no_pairs none free end after = games_drop p (tokens.word s) ks gs refl (after (no_pairs, none))
 between_step p ps name items tokens.comment_close ks gs no_pairs none free end after = games_drop p tokens.comment_close ks gs refl (after (no_pairs, none))
 between_step p ps name items tokens.left_bracket ks gs no_pairs none free end after =
-    let t = pair_step p ps ks gs (test_failed (nat_le p.tags (length ps)) TooManyTags None (sym (opening_between p ps name items) ∙ free)) (after none) in
+    let t = pair_step p ps ks gs (test_failed (nat_le p.tags (length ps)) TooManyTags None (sym (open_between p (at Between ps name items)) ∙ free)) (after none) in
     game_begins p ps (tokens.left_bracket ∷ ks) gs no_pairs t.0 (λ e. absurd (t.1 e))
 between_step p ps name items tokens.end ks gs no_pairs none free end after = absurd (false≢true (sym end))
 between_step p ps name items (tokens.refused r) ks gs no_pairs none free end after = absurd (none-some _ (sym free))

@@ -9,8 +9,8 @@ use Rattle.pgn_lexer.specs.declared.token.LexReason.{LexReason}
 use Rattle.pgn_lexer.specs.declared.token.TokenKind.{TokenKind}
 use Rattle.pgn_lexer.specs.declared.token.TokenKind.TheVariants as variants
 use Rattle.pgn_game.specs.declared.accepted.Accepted.{Accepted}
-use Rattle.pgn_game.specs.declared.item.Item.{Item as CodeItem}
-use Rattle.pgn_game.specs.declared.item.Item.TheVariants as code
+use Rattle.pgn_game.specs.declared.annotation.Annotation.{Annotation}
+use Rattle.pgn_game.specs.declared.annotation.Annotation.TheVariants as code
 use Rattle.pgn_game.proofs.Words.{Parts, Kind, Token, Mode, Full, Reduced, Reason, Stage, Between, AfterTags, InMovetext, Profile}
 use Rattle.pgn_game.specs.Game.{Item, Part, move}
 use Rattle.pgn_game.specs.Levels.{depth}
@@ -142,7 +142,7 @@ item_held r to i n k is h =
     (subst (λ (p : Parts). CostsToWrite (writes r.profile.mode (length r.text.levels.around) i) p i n k) (position_is r to is) h)
 
 -- for an item other than a move no pair is tried
-untried : (b : Bool) (place : Parts) (i : CodeItem) (n k : ℕ) → k ≡ n → CostsToWrite b place (model_item i) n k
+untried : (b : Bool) (place : Parts) (i : Annotation) (n k : ℕ) → k ≡ n → CostsToWrite b place (model_item i) n k
 untried true place (code.Glyph glyph) n k h = h
 untried true place code.CommentOpen n k h = h
 untried true place (code.Word text) n k h = h
@@ -173,7 +173,7 @@ adds_items p part items n k costs =
 pub adds_none : (p : Profile) (part : Part) → CostsToPut p part (going (with_items part [])) 0 0
 adds_none p part = adds_items p part [] 0 0 refl
 
-pub adds_item : (p : Profile) (i : CodeItem) (part : Part) → CostsToPut p part (going (with_items part (model_item i ∷ []))) 0 0
+pub adds_item : (p : Profile) (i : Annotation) (part : Part) → CostsToPut p part (going (with_items part (model_item i ∷ []))) 0 0
 adds_item p i part = adds_items p part (model_item i ∷ []) 0 0 (untried (is_written p.mode (depth (levels_of_part part)) (model_item i)) (position_in part) i 0 0 refl)
 
 pub adds_same : (p : Profile) (part : Part) (to : Part) → to.items ≡ part.items → CostsToPut p part (going to) 0 0

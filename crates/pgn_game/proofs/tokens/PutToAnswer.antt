@@ -15,7 +15,7 @@ use Rattle.pgn_lexer.specs.declared.token.TokenKind.TheVariants as variants
 use Rattle.pgn_lexer.specs.Tokens.{symbol}
 use Rattle.pgn_game.specs.declared.accepted.Accepted.{Accepted}
 use Rattle.pgn_game.specs.declared.accepted.Accepted.TheVariants.{More, Finished}
-use Rattle.pgn_game.specs.declared.item.Item.{Item as CodeItem}
+use Rattle.pgn_game.specs.declared.annotation.Annotation.{Annotation}
 use Rattle.pgn_game.specs.declared.marker.Marker.{Marker}
 use Rattle.pgn_game.specs.Markers.{marker_text}
 use Rattle.pgn_game.specs.Chess.{move_of}
@@ -33,9 +33,8 @@ use Rattle.pgn_game.specs.ReaderState as reader_state
 use Rattle.pgn_game.specs.ReaderState.{ReaderState, Agrees, Answers, IsStopped, CountsStop, is_outside_the_table, Stays, FinishesAtMarker, Leads, plies_behind, plies_next, whole_plies}
 use Rattle.pgn_game.specs.TokenInMovetext.{IsEntry, IsOpen, may_have_movetext, model_item, text_refusal, with_items}
 use Rattle.pgn_game.specs.PutResult.{CountsMove, EntersMovetext, Finds, FinishesNone, GoesTo, PutResult, PutsItems, Takes, TakesEntry, TakesOutside, TakesToken, TakesUnwritten, at_game_start, counting_probes, unused}
-use Rattle.pgn_game.proofs.judging.RefusalsByStage.{begins_alike, comment_passes, passes_between}
+use Rattle.pgn_game.proofs.judging.RefusalsByStage.{begins_alike, comment_passes, drops_comments, passes_between}
 use Rattle.pgn_game.proofs.judging.RefusalsInMovetext.{marker_whole, move_free, move_leads, move_refused as move_row_refused, refused_inside}
-use Rattle.pgn_game.proofs.judging.RowsByStage.{drops_comments}
 use Rattle.pgn_game.proofs.judging.ReaderToPart.{held_at, open_agrees, text_at, part_stage}
 use Rattle.pgn_game.proofs.putting.ItemToReader.{to_items}
 use Rattle.pgn_game.proofs.putting.MarkerToReader.{to_game}
@@ -190,7 +189,7 @@ pub passes_entry : (old new : ReaderState) (k : Kind) (r : Result Accepted Reaso
     → TakesEntry old k new r d
 passes_entry old new k r d put says finds = puts_entry old new k [] r d put adds_none says finds
 
-pub item_entry : (old new : ReaderState) (k : Kind) (i : CodeItem) (r : Result Accepted Reason) (d : Device) → PutsItems old (model_item i ∷ []) new r d
+pub item_entry : (old new : ReaderState) (k : Kind) (i : Annotation) (r : Result Accepted Reason) (d : Device) → PutsItems old (model_item i ∷ []) new r d
     → ((part : Part) → IsOpen old part → (text_refusal old.profile part k ≡ None) × (in_text part k ≡ going (with_items part (model_item i ∷ [])))) → ((part : Part) → CostsToFind part k 0)
     → TakesEntry old k new r d
 item_entry old new k i r d put says finds = puts_entry old new k (model_item i ∷ []) r d put (λ p part. adds_item p i part) says finds

@@ -21,7 +21,7 @@ use Rattle.pgn_game.specs.Movetext.{HoldsItems}
 use Rattle.pgn_game.specs.ReaderState.{ReaderState, Agrees, HoldsText, IsAccepted, Leads, is_outside_the_table}
 use Rattle.pgn_game.specs.TokenInMovetext.{game_of, or_else, with_items}
 use Rattle.pgn_game.specs.Pass.{counting, reading_under}
-use Rattle.pgn_game.proofs.judging.RowsByStage.{naming, test_failed}
+use Rattle.pgn_game.proofs.judging.RefusalsByStage.{name_refusal, test_failed}
 use Rattle.pgn_game.proofs.judging.RefusalsInMovetext.{marker_whole, other_if, score_of}
 
 -- the same profile, but for a missing Result
@@ -74,7 +74,7 @@ score_leads : (q : Profile) (stage : Stage) (part : Part) (s : List ℕ) → is_
     → next (at_stage stage part) (tokens.symbol s) ≡ in_text part (tokens.symbol s)
 unfolding refusal
 score_leads q AfterLeftBracket part s is free =
-    let named = test_failed (not (list_all in_name s)) BadTagName _ (sym (naming q part.pairs part.name part.items s) ∙ free) in
+    let named = test_failed (not (list_all in_name s)) BadTagName _ (sym (name_refusal q (at_stage AfterLeftBracket part) s refl) ∙ free) in
     absurd (true≢false (sym (ap not (no_name s is)) ∙ named))
 score_leads q AfterName part s is free = absurd (cc)
 score_leads q AfterValue part s is free = absurd (cc)

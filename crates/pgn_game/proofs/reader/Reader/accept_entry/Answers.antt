@@ -3,7 +3,7 @@ use Rattle.pgn_lexer.specs.Tokens as tokens
 use Rattle.pgn_lexer.specs.Scanned.{kind_of}
 use Rattle.pgn_lexer.specs.declared.token.TokenKind.{TokenKind}
 use Rattle.pgn_lexer.specs.declared.token.TokenKind.TheVariants as variants
-use Rattle.pgn_game.specs.declared.item.Item.TheVariants.{Word}
+use Rattle.pgn_game.specs.declared.annotation.Annotation.TheVariants.{Word}
 use Rattle.pgn_game.specs.TokenInMovetext.{is_frequent}
 use Rattle.pgn_game.proofs.ReaderFitsInMemory.{reader_alike}
 use Rattle.pgn_game.proofs.tokens.PutToAnswer.{item_entry, passes_entry}

@@ -5,7 +5,7 @@ use Rattle.pgn_lexer.specs.declared.token.TokenKind.{TokenKind}
 use Rattle.pgn_game.specs.TokenInMovetext.{is_frequent}
 use Rattle.pgn_lexer.specs.Tokens as tokens
 use Rattle.pgn_lexer.specs.declared.token.TokenKind.TheVariants as variants
-use Rattle.pgn_game.specs.declared.item.Item.TheVariants.{Glyph, CommentOpen, CommentClose}
+use Rattle.pgn_game.specs.declared.annotation.Annotation.TheVariants.{Glyph, CommentOpen, CommentClose}
 use Rattle.pgn_game.specs.declared.reason.Reason.TheVariants.{NotAMove, TagInMovetext, UnexpectedEnd}
 use Rattle.pgn_game.proofs.tokens.PutToAnswer.{entry_refused, item_entry}
 use Rattle.pgn_game.proofs.reader.Reader.accept_other.Goals as goal

@@ -1,7 +1,7 @@
 use Rattle.std.proofs.Common.{◌≡◌, ℕ, ◌==◌, length, refl, sym, ap, ◌∙◌, arith}
 use Rattle.std.proofs.lemmas.Bool.{ne_eqb}
 use Rattle.pgn_lexer.specs.Tokens.{right_paren}
-use Rattle.pgn_game.specs.declared.item.Item.TheVariants.{Close}
+use Rattle.pgn_game.specs.declared.annotation.Annotation.TheVariants.{Close}
 use Rattle.pgn_game.specs.declared.reason.Reason.TheVariants.{UnmatchedClose}
 use Rattle.pgn_game.specs.Levels.{depth}
 use Rattle.pgn_game.specs.FaultTable.{levels_of_part}

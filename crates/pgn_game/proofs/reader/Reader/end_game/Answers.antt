@@ -31,13 +31,13 @@ module _ (old : ReaderState) (part : Part) (is : IsOpen old part) where
 passes : (old : ReaderState) (k : TokenKind) (missing text : List ℕ) → length old.text.levels.around ≡ 0 → old.profile.missing_result ≡ counts_as missing
     → differs missing (value_of old.tags.held (codes "Result")) text ≡ false → marker_of (kind_of k) ≡ Some text → (part : Part) → IsOpen old part
     → text_refusal old.profile part (kind_of k) ≡ None
-passes old k missing text none known test is part op = marker_free old k missing text part is (sym (depth_is old part op) ∙ none) known (tested old part op missing text false test)
+passes old k missing text none known test is part op = marker_free old (kind_of k) missing text part is (sym (depth_is old part op) ∙ none) known (tested old part op missing text false test)
 
 pub returns-then-depth-gt0 : goal.returns-then-depth-gt0
 returns-then-depth-gt0 g c = λ k is.
     let old = c.args.self.now in
     entry_refused old (kind_of k) MarkerInVariation _ _ refl (λ part op.
-    marker_inside old k (marker_text c.args.marker) part is (le-leb 1 (depth (levels_of_part part))
+    marker_inside old (kind_of k) (marker_text c.args.marker) part is (le-leb 1 (depth (levels_of_part part))
     (omega (arith, c.if-depth-gt0.true, c.depth.ensures.value, depth_is old part op, ap (λ (r : ReaderState). length r.text.levels.around) c.self.view_is))))
     (λ part. marker_untried part k (ap is_some is))
 
@@ -52,7 +52,7 @@ returns-then-ne g c = λ k is.
     let test = test_of c.self.inside.tags.held c.value.result _ c.unwrap_or.result missing text true old.tags.held (ap (λ (r : ReaderState). r.tags.held) v)
     c.value.ensures.value c.text-missing.ensures.text c.unwrap_or.ensures (sym c.if-ne.true ∙ c.ne.ensures ∙ same_text) in
     entry_refused old (kind_of k) ResultDiffers _ _ refl (λ part op.
-    marker_differs old k missing text part is
+    marker_differs old (kind_of k) missing text part is
     (omega (arith, c.if-depth-gt0.false, c.depth.ensures.value, depth_is old part op, ap (λ (r : ReaderState). length r.text.levels.around) v)) known
     (tested old part op missing text true test))
     (λ part. marker_untried part k (ap is_some is))

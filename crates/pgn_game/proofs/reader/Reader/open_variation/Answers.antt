@@ -1,7 +1,7 @@
 use Rattle.std.proofs.Common.{◌≡◌, ◌-◌, length, not, refl, sym, ap, ◌∙◌, arith, is_some}
 use Rattle.std.proofs.lemmas.Bool.{le-leb, lt-leb}
 use Rattle.pgn_lexer.specs.Tokens.{left_paren}
-use Rattle.pgn_game.specs.declared.item.Item.TheVariants.{Open}
+use Rattle.pgn_game.specs.declared.annotation.Annotation.TheVariants.{Open}
 use Rattle.pgn_game.specs.declared.reason.Reason.TheVariants.{NoMoveBefore, TooDeep}
 use Rattle.pgn_game.specs.Levels.{depth}
 use Rattle.pgn_game.specs.FaultTable.{levels_of_part}

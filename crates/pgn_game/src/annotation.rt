@@ -1,8 +1,8 @@
-//! The items of movetext.
+//! The annotations in movetext.
 
-/// An item of movetext other than a move.
+/// An annotation, which is any item of movetext but a move.
 #[derive(Clone, Copy)]
-pub enum Item<'a> {
+pub enum Annotation<'a> {
     /// A NAG (numeric annotation glyph, PGN 8.2.4).
     Glyph(u8),
     /// The brace before a comment (PGN 5).

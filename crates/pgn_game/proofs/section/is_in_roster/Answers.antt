@@ -1,0 +1,13 @@
+use Rattle.std.proofs.Common.{refl, sym, ◌∙◌}
+use Rattle.pgn_game.specs.declared.marker.Marker.TheVariants.{Unknown}
+use Rattle.pgn_game.specs.Markers.{marker_text}
+use Rattle.pgn_game.specs.TagSection.{roster}
+use Rattle.pgn_game.proofs.judging.ReaderToPart.{has_pair_found}
+use Rattle.pgn_game.proofs.pairs.ExportedValues.{in_roster-value}
+use Rattle.pgn_game.proofs.section.is_in_roster.Goals as goal
+
+pub returns : goal.returns
+returns c =
+    let defaults = roster (marker_text Unknown) in
+    let name = c.args.name.now in
+    sym (in_roster-value (marker_text Unknown) name ∙ has_pair_found defaults defaults name c.unknown_value.result _ refl c.unknown_value.ensures.value c.is_some.ensures)
