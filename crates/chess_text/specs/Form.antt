@@ -32,7 +32,7 @@ capture_texts = [] ∷ codes "x" ∷ []
 
 abbrev pub promotion_texts : Option Promotion → List (List ℕ)
 promotion_texts None = [] ∷ []
-promotion_texts (Some q) = (promotion_letter q ∷ []) ∷ (61 ∷ promotion_letter q ∷ []) ∷ []
+promotion_texts (Some q) = (promotion_letter q ∷ []) ∷ (codes "=" ++ promotion_letter q ∷ []) ∷ []
 
 abbrev pub castle_texts : Bool → List (List ℕ)
 castle_texts false = codes "O-O" ∷ codes "0-0" ∷ []

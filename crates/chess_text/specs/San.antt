@@ -60,7 +60,7 @@ pawn_capture takes m = if takes then file_letter m.from.file ∷ codes "x" else 
 -- (8.2.3.3)
 abbrev pub promotion_text : Option Promotion → List ℕ
 promotion_text None = []
-promotion_text (Some q) = 61 ∷ promotion_letter q ∷ []
+promotion_text (Some q) = codes "=" ++ promotion_letter q ∷ []
 
 -- with the letter O (8.2.3.3)
 abbrev pub castling_text : Bool → List ℕ

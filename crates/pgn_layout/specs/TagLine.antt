@@ -1,5 +1,5 @@
 -- **Definition**: a tag pair on a line of its own (PGN 8.1).
-use Rattle.std.specs.Prelude.{ℕ, Bool, ◌||◌, List, [], ◌∷◌, ◌++◌, ◌==◌, if◌then◌else◌}
+use Rattle.std.specs.Prelude.{ℕ, Bool, ◌||◌, List, [], ◌∷◌, ◌++◌, ◌==◌, if◌then◌else◌, codes}
 
 -- a quote or a backslash (PGN 7)
 abbrev pub needs_escape : ℕ → Bool
@@ -16,4 +16,4 @@ escaped (b ∷ bs) = escape_of b ++ escaped bs
 
 -- `[Name "value"]` and LF
 abbrev pub tag_line : List ℕ → List ℕ → List ℕ
-tag_line name value = 91 ∷ name ++ 32 ∷ 34 ∷ escaped value ++ 34 ∷ 93 ∷ 10 ∷ []
+tag_line name value = codes "[" ++ name ++ codes " \"" ++ escaped value ++ codes "\"]\n"
