@@ -1,6 +1,7 @@
 """Reads the documents of the repository: their fenced blocks, and the prose between them."""
 import glob
 import os
+import re
 
 from programs import ROOT
 
@@ -35,6 +36,20 @@ def prose_of(lines):
     for number, _, inner in blocks_of(lines):
         left[number - 1:number + len(inner) + 1] = [""] * (len(inner) + 2)
     return left
+
+
+def table(document, *heads):
+    """The cells of each row of the table whose first row has these cells, without backticks."""
+    rows = [[it.strip() for it in re.split(r"(?<!\\)\|", line.strip())[1:-1]]
+            for line in lines_of(document)]
+    begin = next(at for at, it in enumerate(rows) if it[:len(heads)] == list(heads))
+    end = next((at for at in range(begin, len(rows)) if not rows[at]), len(rows))
+    return rows[begin + 2:end]
+
+
+def code_of(text):
+    """The words of the text that are in backticks."""
+    return [word for code in re.findall(r"`([^`]+)`", text) for word in re.findall(r"\w+", code)]
 
 
 def samples(language):

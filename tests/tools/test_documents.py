@@ -6,6 +6,7 @@ such a block may have ("Change a document"). One that needs a network, another m
 the reader or minutes is not run.
 """
 import difflib
+import glob
 import os
 import re
 import shlex
@@ -16,14 +17,19 @@ import unittest
 
 sys.path.insert(0, os.path.dirname(os.path.realpath(__file__)))
 import programs
-from documents import blocks_of, documents, is_console, lines_of, prose_of
-from programs import ROOT, on_a_terminal
+from documents import blocks_of, code_of, documents, is_console, lines_of, prose_of, table
+from programs import ROOT, on_a_terminal, run
 from test_library import ARCHIVE, need_library
 
 MARK = re.compile(r"<!-- *not run\b:? *(.*?) *-->")
 LINK = re.compile(r"\[(?:[^\]`]|`[^`]*`)*\]\(([^)\s]+)\)")
 MOST_LINES_OF_README = 200
 BUILT = (ROOT + "/crates/pgn_tool/out/pgn_tool", ROOT + "/cargo/out/pgn_tool", ARCHIVE)
+# What each crate uses, by crates.txt.
+USES = {it.split(":")[0].split()[0]: it.split(":")[1].split()
+        for it in lines_of("crates.txt") if it and not it.startswith("#")}
+# Names the files below the folders that follow, new ones too.
+WORKING = ["git", "ls-files", "--cached", "--others", "--exclude-standard", "--"]
 # Shows a command, and leaves the status of the one before as it is.
 SAY = 'say() { set -- "$?" "$1"; printf "%s\\n" "$2"; return "$1"; }'
 
@@ -204,6 +210,87 @@ class Links(unittest.TestCase):
         self.assertTrue(os.path.exists(os.path.join(ROOT, file)), "there is no such file")
         if anchor:
             self.assertIn(anchor, anchors_of(lines_of(file)), "there is no such heading")
+
+
+class Names(unittest.TestCase):
+    """What the documents name in code is in the repository, and what they list is all of it."""
+
+    # words of the toolchain and its std that a decision names
+    ELSEWHERE = {"BufWriter", "unsupported", "with_capacity"}
+
+    def words(self, *folders):
+        """Every word of the files below the folders, and of the names of these files."""
+        found, listed = set(), run([*WORKING, *folders]).stdout.decode()
+        for name in listed.split("\n")[:-1]:
+            path = os.path.join(ROOT, name)
+            if os.path.isfile(path) and not name.endswith(".md"):
+                found.update(re.findall(r"\w+", name))
+                with open(path, encoding="utf-8", errors="replace") as file:
+                    found.update(re.findall(r"\w+", file.read()))
+        return found
+
+    def test_names_are_of_the_repository(self):
+        known = self.words(".") | self.ELSEWHERE
+        for document in ("ARCHITECTURE", "DECISIONS", "GLOSSARY", "LIBRARY", "PROVED"):
+            for number, line in enumerate(prose_of(lines_of("docs/%s.md" % document)), 1):
+                with self.subTest("docs/%s.md:%d" % (document, number)):
+                    self.assertEqual([it for it in code_of(line) if it not in known], [])
+
+    def test_rows_name_what_their_crate_has(self):
+        """Functions and clauses of a row of the ledger are of its crate, or of one that it uses."""
+        crate, found = None, 0
+        for number, line in enumerate(lines_of("docs/PROVED.md"), 1):
+            if line.startswith("## "):
+                crate = next(iter(code_of(line)), None)
+                known = crate and self.words(*("crates/" + it for it in [crate, *USES[crate]]))
+            elif crate and line.startswith("| ") and line.count(" | ") >= 2:
+                found += 1
+                cells = re.split(r" \| ", line)[1:-1]
+                with self.subTest("docs/PROVED.md:%d" % number):
+                    self.assertEqual([it for it in code_of(" ".join(cells)) if it not in known], [])
+        self.assertGreater(found, 100)
+
+    def test_crates(self):
+        rows = table("docs/ARCHITECTURE.md", "Crate", "What it does", "Uses")
+        self.assertEqual({code_of(it[0])[0]: code_of(it[2]) for it in rows}, USES)
+
+    def test_a_crate_that_uses_the_library(self):
+        lines = [it for _, _, inner in blocks_of(lines_of("docs/LIBRARY.md")) for it in inner]
+        for name in ("chess_rules", "chess_text", "pgn_layout", "pgn_lexer", "pgn_game"):
+            self.assertIn(" ".join([name + ":", *USES[name]]), lines)
+
+    def test_files_of_a_crate(self):
+        for row in table("docs/ARCHITECTURE.md", "Crate", "Its files in `src/`"):
+            crate = code_of(row[0])[0]
+            with self.subTest(crate):
+                folder = "%s/crates/%s/src" % (ROOT, crate)
+                files = {it[:-3] for it in glob.glob("*.rt", root_dir=folder)}
+                with open("%s/%s.rt" % (folder, "lib" if "lib" in files else "main")) as root:
+                    of_tests = re.findall(r"#\[cfg\(test\)\]\s+mod (\w+);", root.read())
+                self.assertEqual(files - {"lib", *of_tests, *code_of(row[1])}, set())
+
+    def test_definitions_and_bookkeeping(self):
+        for row in table("docs/PROVED.md", "Crate", "Definitions to believe"):
+            crate = code_of(row[0])[0]
+            for kind, cell in zip(("Definition", "Bookkeeping"), row[1:]):
+                with self.subTest("%s of %s" % (kind, crate)):
+                    files = set()
+                    for path in glob.glob("%s/crates/%s/specs/**/*.antt" % (ROOT, crate),
+                                          recursive=True):
+                        with open(path, encoding="utf-8") as file:
+                            if "**%s**" % kind in file.readline():
+                                files.add(os.path.splitext(os.path.basename(path))[0])
+                    self.assertEqual(files - {"Lib"}, set(code_of(cell)))
+
+    def test_files_of_proofs(self):
+        folder = ROOT + "/crates/pgn_game/proofs"
+        for row in table("docs/ARCHITECTURE.md", "Folder of `proofs/`"):
+            name = "".join(code_of(row[0]))
+            files = {it[:-5] for it in glob.glob("*.antt", root_dir=os.path.join(folder, name))}
+            if not name:
+                files -= {"Lib", *(it for it in files if os.path.isdir(os.path.join(folder, it)))}
+            with self.subTest(name):
+                self.assertEqual(set(code_of(row[2])), files)
 
 
 class Length(unittest.TestCase):
