@@ -217,6 +217,8 @@ class Writer(unittest.TestCase):
             (more.replace("one more", "one-move"), "another row has this name"),
             (more.replace("one more", "Stalemate!"), "not understood: positions.toml: en_passant"),
             (15 * more, "1 to 15 rows"),
+            (more.replace("few_tokens", "mine"), "main_lines.toml: mine: no 'shows'"),
+            ("[mine]\nshows = 1\n" + more.replace("few_tokens", "mine"), "shows is a text"),
             (more + "plies = 1\n", "Cannot overwrite a value"),
             ("[[few_tokens.rows]\n", "main_lines.toml"),
         ]
