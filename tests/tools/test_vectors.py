@@ -13,7 +13,8 @@ sys.path.insert(0, os.path.dirname(os.path.realpath(__file__)))
 import programs
 from programs import ROOT, run
 
-DATA = ("vectors", "crates/pgn_vectors/src", "crates/pgn_game/src/reason.rt", "bin/write_vectors")
+DATA = ("vectors", "crates/pgn_vectors/src", "crates/pgn_game/src/reason.rt", "bin/write_vectors",
+        "bin/pgn_conform", "bench/tables.py")
 # PGN 3.2.4: the export of the game of the standard, as its printed text has it.
 SAMPLE_END = "40. Rd6 Kc5 41. Ra6 Nf2 42. g4 Bd3 43. Re6 1/2-1/2\n\n"
 HEAD = (
@@ -322,7 +323,19 @@ class Conform(unittest.TestCase):
         ran = run(["sh", "-c", command])
         self.assertEqual(ran.returncode, 1)
         self.assertIn("| all | %d |" % len(programs.vectors()), ran.stdout.decode())
-        self.assertIn("\n\n" + ran.stdout.decode() + "\n", text)
+        self.assertIn("\n\n" + ran.stdout.decode() + "\n", text, "--record writes it anew")
+
+    def test_the_table_is_recorded(self):
+        copy = Copy(self)
+        before = copy.text("vectors/README.md")
+        ran = run([copy.root + "/bin/pgn_conform", "--record", "--theme", "limits", "cat"])
+        self.assertEqual((ran.returncode, ran.stderr), (1, b""))
+        begin, end = ("<!-- bin/pgn_conform --record: %s -->" % it for it in ("begin", "end"))
+        self.assertIn("\n| limits | ", ran.stdout.decode())
+        self.assertEqual(
+            copy.text("vectors/README.md"),
+            before.split(begin)[0] + begin + "\n\n" + ran.stdout.decode() + "\n" + end
+            + before.split(end)[1])
 
     def test_one_vector_is_shown(self):
         vector = by_file()["main_lines.two-games"]
