@@ -163,7 +163,7 @@ abbrev pub next_at : Option ℕ → List ℕ → ℕ → Option ℕ
 next_at b [] at = b
 next_at b (c ∷ piece) at = first (drop at (c ∷ piece))
 
--- what a piece comes to that ends before place 2^62
+-- the result of a piece that ends before place 2^62
 abbrev pub AfterFront : Profile → List ℕ → Option ℕ → List Token → List ℕ → Converter
     → Result Fed Fault → Option (List ℕ) → Option (List ℕ) → Type 0
 AfterFront p u b given piece new (Ok All) before after = FedAll p u b given piece new before after

@@ -12,7 +12,8 @@ use Rattle.pgn_game.specs.declared.reason.Reason.{Reason}
 use Rattle.pgn_game.specs.declared.reason.Reason.TheVariants.{NotAMove, IllegalMove, AmbiguousMove, MoveLimit}
 use Rattle.pgn_game.specs.FaultTable.{is_at_limit}
 
--- of what its text comes to in this position: the move, unless a number above 99,999 would follow
+-- The result for what a text means in this position: the move, unless a number above 99,999 would
+-- follow.
 abbrev pub found_in : Parts → Option (Result Played SanFault) → Result Played Reason
 found_in p None = Err NotAMove
 found_in p (Some (Err NoMove)) = Err IllegalMove

@@ -136,8 +136,7 @@ FinishesAtMarker k new (Ok More) = Unit {0}
 FinishesAtMarker k new (Ok Finished) = IsTrue (is_some (marker_of k)) × (new.stage ≡ Between)
 FinishesAtMarker k new (Err reason) = Unit {0}
 
--- a reason that no token has: 50 to 53 tell of a device, of the input's length, or of a second
--- reading
+-- a reason that no token has: 50 to 53 are about a device, the input's length, or a second reading
 abbrev pub is_outside_the_table : Reason → Bool
 is_outside_the_table reason = nat_le 50 (number_of reason)
 

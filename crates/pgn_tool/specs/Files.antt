@@ -5,8 +5,8 @@ use Rattle.pgn_tool.specs.declared.files.CreateFault.{CreateFault}
 use Rattle.pgn_tool.specs.declared.files.CreateFault.TheVariants.{Refused, NoMemory}
 
 -- Files are made in the folder with this path from now on. File n was made, or was refused, or
--- there was no memory for it. A file was closed: the bytes that it had taken, where it tells them,
--- and how many of its calls had failed.
+-- there was no memory for it. A file was closed: the bytes that it had taken, if it reports
+-- them, and how many of its calls had failed.
 pub data FileStep : Type 0 where
   entered : List ℕ → FileStep
   made : ℕ → FileStep
@@ -24,13 +24,13 @@ abbrev pub creation_step : {A : Type 0} → ℕ → Result A CreateFault → Fil
 creation_step n (Ok out) = made n
 creation_step n (Err fault) = refusal_step n fault
 
--- a log with more steps at its end, where it is told
+-- a log with more steps at its end, if it is reported
 abbrev pub added : {A : Type 0} → Option (List A) → List A → Option (List A)
 added None steps = None
 added (Some log) steps = Some (log ++ steps)
 
 -- The bytes of the open file: none before it is made, and then those that it has taken. They are
--- told where the log is.
+-- reported if the log is.
 abbrev pub open_text : {A : Type 0} → (A → Option (List ℕ)) → Option (List FileStep) → Option A → Option (List ℕ)
 open_text taken None file = None
 open_text taken (Some log) None = Some []
@@ -61,7 +61,7 @@ is_text None = false
 is_text (Some []) = false
 is_text (Some (byte ∷ bytes)) = true
 
--- the open file has bytes, where the log is told
+-- the open file has bytes, if the log is reported
 abbrev pub has_text : {A : Type 0} → (A → Option (List ℕ)) → Option (List FileStep) → Option A → Bool
 has_text taken None file = true
 has_text taken (Some log) None = false

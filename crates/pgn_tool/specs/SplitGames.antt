@@ -34,7 +34,7 @@ torn_file n (byte ∷ bytes) = made (one_more n) ∷ closed (Some (byte ∷ byte
 abbrev pub files_of : List Token → List FileStep
 files_of ts = whole_files 0 (texts_in ts) ++ torn_file (number_after 0 (texts_in ts)) (torn_text ts)
 
--- these steps were added to the log, where it is told
+-- these steps were added to the log, if it is reported
 abbrev pub Logs : Option (List FileStep) → Option (List FileStep) → List FileStep → Type 0
 Logs before after steps = IfSome before (λ log. after ≡ Some (log ++ steps))
 
