@@ -5,7 +5,6 @@
 //! 5) are recognised. What the tokens mean is left to the caller.
 #![tactic(auto)]
 
-mod buffer;
 mod class;
 pub mod laws;
 mod lexer;

@@ -7,10 +7,19 @@ mod byte;
 mod end;
 mod run;
 
-use crate::buffer::Buffer;
 use crate::class::Single;
 use crate::token::{LexFault, LexReason, Token, TokenKind};
+use arrayvec::ArrayVec;
 use std::marker::Model;
+
+/// The most bytes of a symbol, and the most data of a string (PGN 7).
+const LONGEST_TEXT: usize = 255;
+
+/// The most bytes of a word of a comment, so that a line of an export has room for it (PGN 8.2.1).
+const LONGEST_WORD: usize = 79;
+
+/// The largest NAG (PGN 8.2.4).
+const LARGEST_GLYPH: u16 = 255;
 
 /// A run of at most two of `!` and `?`, by what it says of a move.
 #[derive(Clone, Copy)]
@@ -95,7 +104,7 @@ pub(crate) enum Reached {
 /// The current token: its place, and what was read of it.
 #[derive(Drop)]
 pub(crate) struct PartialToken {
-    buffer: Buffer,
+    buffer: ArrayVec<u8, LONGEST_TEXT>,
     mode: Mode,
     at: u64,
 }
@@ -105,9 +114,9 @@ impl Model for PartialToken {
 
     ghost Value = { PartialToken };
 
-    ghost view = { λ h. record { mode = h.mode; at = h.at; text = h.buffer } };
+    ghost view = { λ h. record { mode = h.mode; at = h.at; text = h.buffer.items } };
 
-    ghost invariant = { λ h. HasRoom h.mode h.buffer };
+    ghost invariant = { λ h. HasRoom h.mode h.buffer.items };
 }
 
 impl PartialToken {
@@ -118,7 +127,7 @@ impl PartialToken {
         ensures { result ≡ record { mode = Mode.Start; at = 0; text = [] } }
     {
         PartialToken {
-            buffer: Buffer::new(),
+            buffer: ArrayVec::new(),
             mode: Mode::Start,
             at: 0,
         }

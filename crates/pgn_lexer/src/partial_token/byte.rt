@@ -7,8 +7,11 @@ use crate::class::{
     Class, CommentClass, StringClass, class_of, comment_class_of, continues_symbol, is_digit,
     is_line_end, is_suffix, string_class_of,
 };
-use crate::partial_token::{Mode, PartialToken, Step, SuffixRun, TokenForm, glyph_of};
+use crate::partial_token::{
+    LARGEST_GLYPH, LONGEST_WORD, Mode, PartialToken, Step, SuffixRun, TokenForm, glyph_of,
+};
 use crate::token::LexReason;
+use arrayvec::ArrayVec;
 
 impl PartialToken {
     ghost use Rattle.pgn_lexer.specs.Spelling as spelling;
@@ -127,7 +130,7 @@ impl PartialToken {
             self.mode = Mode::Outside;
             return Step::EndsBefore(TokenForm::Symbol);
         }
-        if self.buffer.len() == 255 {
+        if self.buffer.is_full() {
             return self.fail(self.at, LexReason::SymbolTooLong);
         }
         self.buffer.push(byte);
@@ -153,7 +156,7 @@ impl PartialToken {
             return Step::EndsBefore(TokenForm::Glyph(number));
         }
         let longer = 10 * u16::from(number) + u16::from(byte - b'0');
-        if longer > 255 {
+        if longer > LARGEST_GLYPH {
             return self.fail(self.at, LexReason::GlyphRange);
         }
         self.mode = Mode::Glyph(longer as u8);
@@ -201,14 +204,14 @@ impl PartialToken {
             StringClass::LineEnd => self.fail(self.at, LexReason::UnclosedString),
             StringClass::Control => self.fail(place, LexReason::ControlByte),
             StringClass::Backslash => {
-                if self.buffer.len() == 255 {
+                if self.buffer.is_full() {
                     return self.fail(self.at, LexReason::StringTooLong);
                 }
                 self.mode = Mode::AfterBackslash;
                 Step::Used
             }
             StringClass::Plain => {
-                if self.buffer.len() == 255 {
+                if self.buffer.is_full() {
                     return self.fail(self.at, LexReason::StringTooLong);
                 }
                 self.buffer.push(byte);
@@ -231,7 +234,7 @@ impl PartialToken {
             StringClass::LineEnd => self.fail(self.at, LexReason::UnclosedString),
             StringClass::Control => self.fail(place, LexReason::ControlByte),
             StringClass::Plain => {
-                if self.buffer.len() == 254 {
+                if self.buffer.remaining_capacity() < 2 {
                     return self.fail(self.at, LexReason::StringTooLong);
                 }
                 self.buffer.push(b'\\');
@@ -277,7 +280,7 @@ impl PartialToken {
     {
         match comment_class_of(byte) {
             CommentClass::WordByte => {
-                if self.buffer.len() >= 79 {
+                if self.buffer.len() >= LONGEST_WORD {
                     return self.fail(self.at, LexReason::WordTooLong);
                 }
                 self.buffer.push(byte);
@@ -319,7 +322,7 @@ impl PartialToken {
         ensures { IsAfterByte (after.set_at mode self.old.at (byte ∷ []) Step.Used) self.new
             result }
     {
-        self.buffer.clear();
+        self.buffer = ArrayVec::new();
         self.buffer.push(byte);
         self.mode = mode;
         Step::Used
@@ -328,7 +331,7 @@ impl PartialToken {
     pub(crate) fn begin_string(&mut self) -> Step
         ensures { IsAfterByte (after.set_at Mode.Str self.old.at [] Step.Used) self.new result }
     {
-        self.buffer.clear();
+        self.buffer = ArrayVec::new();
         self.mode = Mode::Str;
         Step::Used
     }

@@ -6,7 +6,7 @@ ghost use Rattle.pgn_lexer.specs.RunResult.{used_after, reached_after};
 use crate::class::{
     Class, CommentClass, StringClass, class_of, comment_class_of, continues_symbol, string_class_of,
 };
-use crate::partial_token::{Mode, PartialToken, Reached, Step, TokenForm};
+use crate::partial_token::{LONGEST_WORD, Mode, PartialToken, Reached, Step, TokenForm};
 
 impl PartialToken {
     ghost use Rattle.pgn_lexer.specs.PartialToken.{IsSound};
@@ -76,7 +76,7 @@ impl PartialToken {
         requires symbol { self.old.mode ≡ Mode.Symbol }
         ensures { RunsOn place piece.now from self.old self.new result.0 result.1 }
     {
-        let end = from + (piece.len() - from).min(255 - self.buffer.len());
+        let end = from + (piece.len() - from).min(self.buffer.remaining_capacity());
         let mut used = from;
         while used < end {
             let byte = piece[used];
@@ -102,7 +102,7 @@ impl PartialToken {
         requires string { self.old.mode ≡ Mode.Str }
         ensures { RunsOn place piece.now from self.old self.new result.0 result.1 }
     {
-        let end = from + (piece.len() - from).min(255 - self.buffer.len());
+        let end = from + (piece.len() - from).min(self.buffer.remaining_capacity());
         let mut used = from;
         while used < end {
             let byte = piece[used];
@@ -160,7 +160,7 @@ impl PartialToken {
         requires word { self.old.mode ≡ Mode.BraceWord }
         ensures { RunsOn place piece.now from self.old self.new result.0 result.1 }
     {
-        let end = from + (piece.len() - from).min(79 - self.buffer.len());
+        let end = from + (piece.len() - from).min(LONGEST_WORD - self.buffer.len());
         let mut used = from;
         while used < end {
             let byte = piece[used];

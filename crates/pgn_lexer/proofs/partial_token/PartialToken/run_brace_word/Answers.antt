@@ -1,4 +1,4 @@
-use Rattle.std.proofs.Common.{◌≡◌, ◌+◌, refl, sym, length, arith, length-append, ◌∙◌}
+use Rattle.std.proofs.Common.{refl, sym, arith, ◌∙◌}
 use Rattle.pgn_lexer.proofs.stepping.PieceByByte.{ran_all, ran_uses, ran_ends_before, takes_word_byte, takes_word_end}
 use Rattle.pgn_lexer.proofs.partial_token.PartialToken.run_brace_word.Goals as goal
 
@@ -11,16 +11,15 @@ returns-in_default c = λ old ran.
 pub loop-used-preserved : goal.loop-used-preserved
 loop-used-preserved c =
     let here = c.loop-used.invariant in
-    let grown : length c.push.new.self ≡ length c.loop-used.self-inside.buffer + 1 = rw c.push.ensures (length-append _ _) in
     record {
       within = omega arith;
       piece = here.piece;
-      some = omega (arith, grown);
-      room = omega (arith, grown);
+      some = omega (arith, c.push.ensures.len);
+      room = omega (arith, c.push.ensures.len);
       word = here.word;
       ran = λ old ran. ran_uses _ old c.args.piece.now _ c.loop-used.used _ (omega arith) refl (here.ran old ran) _
           (takes_word_byte _ _ _ _ here.word (sym c.comment_class_of.ensures ∙ c.in-WordByte.is) (omega arith)
-          (rw c.push.ensures refl));
+          (rw c.push.ensures.items refl));
     }
 
 pub returns-then-used-piece : goal.returns-then-used-piece

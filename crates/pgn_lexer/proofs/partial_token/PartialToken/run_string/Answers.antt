@@ -1,4 +1,4 @@
-use Rattle.std.proofs.Common.{◌≡◌, ◌+◌, [], ◌∷◌, ◌++◌, length, get_or, refl, sym, ap, ◌∙◌, arith, length-append}
+use Rattle.std.proofs.Common.{◌≡◌, [], ◌∷◌, ◌++◌, length, get_or, refl, sym, ap, ◌∙◌, arith}
 use Rattle.pgn_lexer.specs.declared.partial_token.Mode.TheVariants.{Outside}
 use Rattle.pgn_lexer.specs.PartialToken.{PartialToken}
 use Rattle.pgn_lexer.proofs.stepping.PieceByByte.{ran_all, ran_uses, ran_ends, takes_plain, takes_quote}
@@ -16,16 +16,15 @@ returns-in_default c = λ old ran. c.run_on.ensures old (c.loop-used.invariant.r
 pub loop-used-preserved : goal.loop-used-preserved
 loop-used-preserved c =
     let here = c.loop-used.invariant in
-    let same : length c.self-in-Plain.inside.buffer ≡ length c.loop-used.self.text = ap (λ (h : PartialToken). length h.text) c.self-in-Plain.view_is in
-    let grown : length c.push.new.self ≡ length c.self-in-Plain.inside.buffer + 1 = rw c.push.ensures (length-append _ _) in
+    let same : length c.self-in-Plain.inside.buffer.items ≡ length c.loop-used.self.text = ap (λ (h : PartialToken). length h.text) c.self-in-Plain.view_is in
     record {
       within = omega arith;
       piece = here.piece;
-      room = omega (arith, grown, same);
+      room = omega (arith, c.push.ensures.len, same);
       string = ap (λ (h : PartialToken). h.mode) c.self-in-Plain.view_is ∙ here.string;
       ran = λ old ran. ran_uses _ old c.args.piece.now _ c.loop-used.used _ (omega arith) refl (here.ran old ran) _
           (takes_plain _ _ _ _ here.string (sym c.string_class_of.ensures ∙ c.in-Plain.is) (omega arith)
-          (ap (λ text. record { mode = c.self-in-Plain.inside.mode; at = c.self-in-Plain.inside.at; text = text }) c.push.ensures
+          (ap (λ text. record { mode = c.self-in-Plain.inside.mode; at = c.self-in-Plain.inside.at; text = text }) c.push.ensures.items
           ∙ ap (λ (h : PartialToken). record { mode = h.mode; at = h.at; text = h.text ++ get_or c.args.piece.now c.loop-used.used 0 ∷ [] }) c.self-in-Plain.view_is));
     }
 

@@ -8,11 +8,11 @@ abbrev pub invariant-loop-used : goal.invariant-loop-used
 invariant-loop-used l = record {
   within : l.used ≤ l.end;
   piece : l.end ≤ length l.piece;
-  some : 0 < length l.self-inside.buffer;
-  room : length l.self-inside.buffer + (l.end - l.used) ≤ 255;
+  some : 0 < length l.self-inside.buffer.items;
+  room : length l.self-inside.buffer.items + (l.end - l.used) ≤ 255;
   symbol : l.self-inside.mode ≡ Symbol;
   ran : (old : PartialToken) → Ran l.place old l.piece l.fn.self l.from
-      → Ran l.place old l.piece (record { mode = l.self-inside.mode; at = l.self-inside.at; text = l.self-inside.buffer }) l.used;
+      → Ran l.place old l.piece (record { mode = l.self-inside.mode; at = l.self-inside.at; text = l.self-inside.buffer.items }) l.used;
 }
 
 abbrev pub decreases-loop-used : goal.decreases-loop-used
