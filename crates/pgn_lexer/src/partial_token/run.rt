@@ -179,10 +179,23 @@ impl PartialToken {
         (used, Reached::End)
     }
 
-    /// Reads on after so many bytes of the piece, in any mode. Few tokens need it, so it is not
-    /// inlined.
-    #[inline(never)]
+    /// Reads on after so many bytes of the piece, in any mode.
+    ///
+    /// The result of the call is taken apart. So the loops above, which are inlined, need no room
+    /// in memory for theirs.
+    #[inline(always)]
     fn run_on(&mut self, piece: &[u8], from: usize, place: u64) -> (usize, Reached)
+        requires room { place + length piece.now ≤ 2 ^ 62 }
+        requires within { from ≤ length piece.now }
+        ensures { RunsOn place piece.now from self.old self.new result.0 result.1 }
+    {
+        let (used, reached) = self.run_byte_by_byte(piece, from, place);
+        (used, reached)
+    }
+
+    /// The loop for every mode. Few tokens need it, so it is not inlined.
+    #[inline(never)]
+    fn run_byte_by_byte(&mut self, piece: &[u8], from: usize, place: u64) -> (usize, Reached)
         requires room { place + length piece.now ≤ 2 ^ 62 }
         requires within { from ≤ length piece.now }
         ensures { RunsOn place piece.now from self.old self.new result.0 result.1 }

@@ -1,7 +1,7 @@
 use Rattle.std.proofs.Common.{◌≤◌, ◌-◌, length}
 use Rattle.pgn_lexer.specs.PartialToken.{PartialToken}
 use Rattle.pgn_lexer.specs.RunResult.{Ran}
-use Rattle.pgn_lexer.proofs.partial_token.PartialToken.run_on.Given as goal
+use Rattle.pgn_lexer.proofs.partial_token.PartialToken.run_byte_by_byte.Given as goal
 
 abbrev pub invariant-loop-used : goal.invariant-loop-used
 invariant-loop-used l = record {

@@ -1,6 +1,6 @@
 use Rattle.std.proofs.Common.{refl, arith}
 use Rattle.pgn_lexer.proofs.stepping.PieceByByte.{ran_all, ran_uses, ran_stops}
-use Rattle.pgn_lexer.proofs.partial_token.PartialToken.run_on.Goals as goal
+use Rattle.pgn_lexer.proofs.partial_token.PartialToken.run_byte_by_byte.Goals as goal
 
 pub returns-in_default : goal.returns-in_default
 returns-in_default c = λ old ran.
