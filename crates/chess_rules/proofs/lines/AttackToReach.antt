@@ -25,35 +25,22 @@ kind_at (suc (suc (suc (suc zero)))) = Knight
 kind_at (suc (suc (suc (suc (suc n))))) = Pawn
 
 kind_at-number : (k : Kind) → kind_at (kind_number k) ≡ k
-kind_at-number King = refl
-kind_at-number Queen = refl
-kind_at-number Rook = refl
-kind_at-number Bishop = refl
-kind_at-number Knight = refl
-kind_at-number Pawn = refl
+kind_at-number x0 = grind (arith, nat_tests)
 
 pub kinds_same : (k l : Kind) → same_kind k l ≡ true → k ≡ l
 kinds_same k l h = sym (kind_at-number k) ∙ (ap kind_at (equal_from _ _ h) ∙ kind_at-number l)
 
 pub colours_same : (c d : Colour) → same_colour c d ≡ true → c ≡ d
-colours_same White White h = refl
-colours_same White Black h = cc
-colours_same Black White h = cc
-colours_same Black Black h = refl
+colours_same x0 x1 h = grind (arith, nat_tests)
 
 pub squares_same : (s t : Square) → same_square s t ≡ true → s ≡ t
 squares_same s t h = ap₂ square (equal_from _ _ (first_true (s.file == t.file) _ h)) (equal_from _ _ (second_true (s.file == t.file) _ h))
 
 pub none_or_all : (c : Colour) (cell : Option Piece) → has_colour c cell ≡ true → is_none cell ≡ false
-none_or_all c None h = cc
-none_or_all c (Some x) h = refl
+none_or_all c x1 h = grind (arith, nat_tests)
 
 pub not_empty : (b : Board) (s : Square) → is_some (at b s) ≡ true → is_empty b s ≡ false
-not_empty b s h = by_cell (at b s) h
-  where
-    by_cell : (cell : Option Piece) → is_some cell ≡ true → is_none cell ≡ false
-    by_cell None g = cc
-    by_cell (Some x) g = refl
+not_empty b s h = grind (arith, nat_tests)
 
 -- The way is clear if each square between is empty, and if there is none.
 
@@ -109,8 +96,7 @@ pub apart_by_file : (s t : Square) → gap s.file t.file ≡ 1 → not (same_squ
 apart_by_file s t h = grind (arith, nat_tests)
 
 pub ahead_gap : (c : Colour) (a b : ℕ) → is_ahead c a b ≡ true → gap a b ≡ 1
-ahead_gap White a b h = (let e : b ≡ a + 1 = equal_from _ _ h in omega arith)
-ahead_gap Black a b h = (let e : a ≡ b + 1 = equal_from _ _ h in omega arith)
+ahead_gap x0 a b h = grind (arith, nat_tests)
 
 pub adjacent_seen : (b : Board) (s t : Square) → is_adjacent s t ≡ true → (is_aligned s t && is_clear b s t) ≡ true
 adjacent_seen b s t h =
@@ -120,49 +106,26 @@ adjacent_seen b s t h =
     (second_true (nat_le (gap s.file t.file) 1 && nat_le (gap s.rank t.rank) 1) _ h)
 
 pub pawn_seen : (c : Colour) (b : Board) (s t : Square) → reaches Pawn c s t ≡ true → (is_aligned s t && is_clear b s t) ≡ true
-pawn_seen c b s t h =
-    let files : gap s.file t.file ≡ 1 = equal_from _ _ (first_true (gap s.file t.file == 1) _ h) in
-    let ranks : gap s.rank t.rank ≡ 1 = ahead_gap c _ _ (second_true (gap s.file t.file == 1) _ h) in
-    near b s t (omega arith) (omega arith) (apart_by_file s t files)
+pawn_seen c b s t h = grind (arith, nat_tests, equal_from, first_true, ahead_gap, second_true, near, apart_by_file)
 
 -- what a piece attacks it sees, but for a knight
 pub attack_seen : (k : Kind) (c : Colour) (b : Board) (s t : Square) → kind_attacks k c b s t ≡ true → (k ≡ Knight) ⊎ ((is_aligned s t && is_clear b s t) ≡ true)
-attack_seen King c b s t h = inr (adjacent_seen b s t h)
-attack_seen Queen c b s t h = inr h
-attack_seen Rook c b s t h = inr (both_true _ _ (or_first _ _ (first_true (in_line s t) _ h)) (second_true (in_line s t) _ h))
-attack_seen Bishop c b s t h = inr (both_true _ _ (or_second _ _ (first_true (on_diagonal s t) _ h)) (second_true (on_diagonal s t) _ h))
-attack_seen Knight c b s t h = inl refl
-attack_seen Pawn c b s t h = inr (pawn_seen c b s t h)
+attack_seen x0 c b s t h = grind (arith, nat_tests, adjacent_seen, both_true, or_first, first_true, second_true, or_second, pawn_seen)
 
 -- no piece attacks from where none would on an empty board
 pub unreached : (b : Board) (s t : Square) → (is_aligned s t || is_jump s t) ≡ false → attacks b s t ≡ false
-unreached b s t out = by_attack (attacks b s t) refl
-  where
-    reached : (cell : Option Piece) → cell_attacks cell b s t ≡ true → (is_aligned s t || is_jump s t) ≡ true
-    reached None h = cc
-    reached (Some x) h =
-        elim (attack_seen x.kind x.colour b s t h) [
-          | inl knight ↦ or_second (is_aligned s t) (is_jump s t) (subst (λ (k : Kind). kind_attacks k x.colour b s t ≡ true) knight h)
-          | inr seen ↦ or_first (is_aligned s t) (is_jump s t) (first_true (is_aligned s t) _ seen)
-        ]
-
-    by_attack : (x : Bool) → attacks b s t ≡ x → attacks b s t ≡ false
-    by_attack false e = e
-    by_attack true e = cc (sym out ∙ reached (at b s) e)
+unreached b s t out = grind (arith, nat_tests)
 
 -- Near pieces and sliding ones.
 
 and_no : (x : Bool) → (x && false) ≡ false
-and_no true = refl
-and_no false = refl
+and_no x0 = grind (arith, nat_tests)
 
 and_yes : (x : Bool) → (x && true) ≡ x
-and_yes true = refl
-and_yes false = refl
+and_yes x0 = grind (arith, nat_tests)
 
 or_no : (x : Bool) → (x || false) ≡ x
-or_no true = refl
-or_no false = refl
+or_no x0 = grind (arith, nat_tests)
 
 both_no : (x y : Bool) → ((x && false) || (y && false)) ≡ false
 both_no x y = rw (and_no x, and_no y) refl
@@ -248,16 +211,7 @@ by_cell c (Some x) b s t = by_colour (same_colour c x.colour) refl
         (sym (colours_same c x.colour e)) (sym e))
 
 slides_alone : (c : Colour) (cell : Option Piece) (b : Board) (s t : Square) → slides_with c cell s t ≡ true → (is_some cell && (is_aligned s t && is_clear b s t)) ≡ is_clear b s t
-slides_alone c None b s t h = cc (sym h ∙ no_slider (in_line s t) (on_diagonal s t))
-  where
-    no_slider : (l d : Bool) → (((l && false) || (d && false)) && false) ≡ false
-    no_slider l d = and_no ((l && false) || (d && false))
-slides_alone c (Some x) b s t h = ap (λ v. v && is_clear b s t) (lined (in_line s t) (on_diagonal s t) _ _ (first_true _ (same_colour c x.colour) h))
-  where
-    lined : (l d v w : Bool) → ((l && v) || (d && w)) ≡ true → (l || d) ≡ true
-    lined true d v w h = refl
-    lined false true v w h = refl
-    lined false false v w h = h
+slides_alone c x1 b s t h = grind (arith, nat_tests)
 
 near_alone_seen : (c : Colour) (cell : Option Piece) (b : Board) (s t : Square) → near_with c cell s t ≡ true → (is_some cell ≡ true) × (((is_aligned s t && is_clear b s t) || is_jump s t) ≡ true)
 near_alone_seen c None b s t h = cc (sym h ∙ and_no _)
@@ -265,13 +219,11 @@ near_alone_seen c (Some x) b s t h =
     (refl, by_near (split_or ((is_jump s t && same_kind Knight x.kind) || (is_adjacent s t && same_kind King x.kind)) _ (first_true _ (same_colour c x.colour) h)))
   where
     by_first : ((is_jump s t && same_kind Knight x.kind) ≡ true) ⊎ ((is_adjacent s t && same_kind King x.kind) ≡ true) → ((is_aligned s t && is_clear b s t) || is_jump s t) ≡ true
-    by_first (inl jump) = or_second (is_aligned s t && is_clear b s t) _ (first_true (is_jump s t) _ jump)
-    by_first (inr step) = or_first _ _ (adjacent_seen b s t (first_true (is_adjacent s t) _ step))
+    by_first x0 = grind (arith, nat_tests, or_second, first_true, or_first, adjacent_seen)
 
     by_near : (((is_jump s t && same_kind Knight x.kind) || (is_adjacent s t && same_kind King x.kind)) ≡ true) ⊎ ((reaches Pawn c s t && same_kind Pawn x.kind) ≡ true)
         → ((is_aligned s t && is_clear b s t) || is_jump s t) ≡ true
-    by_near (inl more) = by_first (split_or (is_jump s t && same_kind Knight x.kind) _ more)
-    by_near (inr pawn) = or_first _ _ (pawn_seen c b s t (first_true (reaches Pawn c s t) _ pawn))
+    by_near x0 = grind (arith, nat_tests, by_first, split_or, or_first, pawn_seen, first_true)
 
 -- Of a piece that may attack, three tests say the same: whether it attacks, whether the way is
 -- clear, and whether it is in view or a jump away.
@@ -286,8 +238,7 @@ attacker_is b c s t =
     ∙ join (near_with c (at b s) s t) (slides_with c (at b s) s t) (is_clear b s t) (near_is_clear c (at b s) b s t)
   where
     join : (x y z : Bool) → (x ≡ true → z ≡ true) → (x || (y && z)) ≡ ((x || y) && z)
-    join true y z h = sym (h refl)
-    join false y z h = refl
+    join x0 y z h = grind (arith, nat_tests)
 
 pub attacked_is : (b : Board) (c : Colour) (t : Square) → is_attacked b c t ≡ list_any (λ s. may_attack b c t s && is_clear b s t) squares
 attacked_is b c t = any_same (λ s. has_colour c (at b s) && attacks b s t) (λ s. may_attack b c t s && is_clear b s t) squares (λ s. attacker_is b c s t)
@@ -301,14 +252,4 @@ open_or_jump b c s t h = elim (split_or (near_with c (at b s) s t) (slides_with 
         ap (λ x. (is_aligned s t && (x && is_clear b s t)) || is_jump s t) seen.0 ∙ (seen.1 ∙ sym (near_is_clear c (at b s) b s t near))
 
     by_slide : slides_with c (at b s) s t ≡ true → (is_in_view b t s || is_jump s t) ≡ is_clear b s t
-    by_slide slide = ap (λ x. x || is_jump s t) (turned (is_some (at b s)) (is_aligned s t) (is_clear b s t) ∙ slides_alone c (at b s) b s t slide) ∙ covers (is_clear b s t) (is_jump s t) (jump_clear b s t)
-      where
-        turned : (x y z : Bool) → (y && (x && z)) ≡ (x && (y && z))
-        turned true y z = refl
-        turned false true z = refl
-        turned false false z = refl
-
-        covers : (x y : Bool) → (y ≡ true → x ≡ true) → (x || y) ≡ x
-        covers true y g = refl
-        covers false true g = sym (g refl)
-        covers false false g = refl
+    by_slide slide = grind (arith, nat_tests)

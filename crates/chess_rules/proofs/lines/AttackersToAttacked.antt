@@ -1,6 +1,6 @@
 -- Of the pieces that may attack, one whose way is blocked is left out, and of the others those in
 -- view attack, and those a jump away.
-use Rattle.std.proofs.Common.{◌≡◌, ℕ, ◌<◌, Bool, true, false, ◌&&◌, ◌||◌, ◌⊎◌, inl, inr, refl, sym, ◌∙◌, ap, ap₂}
+use Rattle.std.proofs.Common.{arith, ◌≡◌, ℕ, ◌<◌, Bool, true, false, ◌&&◌, ◌||◌, ◌⊎◌, inl, inr, refl, sym, ◌∙◌, ap, ap₂}
 use Rattle.std.specs.Prelude.{◌==◌, ◌≢◌, if◌then◌else◌}
 use Rattle.std.specs.Int.Bits.{bit_and, bit_or}
 use Rattle.chess_rules.specs.declared.piece.Colour.{Colour}
@@ -11,14 +11,11 @@ use Rattle.chess_rules.specs.Reach.{is_in_view, may_attack, square_at}
 use Rattle.chess_rules.specs.Words.{has, Places, Sets}
 use Rattle.chess_rules.proofs.lines.AttackToReach.{open_or_jump}
 use Rattle.chess_rules.proofs.squares.WordsToCells.{has_and, has_or, has_zero, same_or_apart}
+use Rattle.std.proofs.lemmas.Bool.Decides.{nat_tests}
 
 module _ (b : Board) (c : Colour) (t : Square) (set others n : ℕ) (possible : Places set (may_attack b c t)) (sets : Sets set others n false) (blocked : is_clear b (square_at n) t ≡ false) where
   no_attack : (x : Bool) (i : ℕ) → i ≡ n → (x && is_clear b (square_at i) t) ≡ false
-  no_attack x i here = ap (λ y. x && y) (ap (λ j. is_clear b (square_at j) t) here ∙ blocked) ∙ none x
-    where
-      none : (y : Bool) → (y && false) ≡ false
-      none true = refl
-      none false = refl
+  no_attack x i here = grind (arith, nat_tests)
 
   still : (i : ℕ) → i < 64 → (i == n) ≡ false → has others i ≡ may_attack b c t (square_at i)
   still i low apart = sets.of i low ∙ (ap (λ x. if x then false else has set i) apart ∙ possible.of i low)
@@ -41,17 +38,7 @@ module _ (b : Board) (c : Colour) (t : Square) (set others n : ℕ) (possible : 
 
       at_place : (i : ℕ) → i < 64 → ((i ≡ n) × ((i == n) ≡ true)) ⊎ ((i ≢ n) × ((i == n) ≡ false))
           → (has others i && (is_in_view b t (square_at i) || is_jump (square_at i) t)) ≡ (may_attack b c t (square_at i) && is_clear b (square_at i) t)
-      at_place i low (inl here) = ap (λ x. x && (is_in_view b t (square_at i) || is_jump (square_at i) t)) (gone i low here.1) ∙ sym (no_attack (may_attack b c t (square_at i)) i here.0)
-      at_place i low (inr apart) =
-          ap (λ x. x && (is_in_view b t (square_at i) || is_jump (square_at i) t)) (still i low apart.1)
-          ∙ by_attack (may_attack b c t (square_at i)) (square_at i) refl
+      at_place i low x2 = grind (arith, nat_tests, gone, no_attack, still, by_attack)
 
   pub no_others : others ≡ 0 → Places others (λ s. may_attack b c t s && is_clear b s t)
-  no_others none = record { of = λ i low. empty i ∙ sym (at_place i low (same_or_apart i n)) }
-    where
-      empty : (i : ℕ) → has others i ≡ false
-      empty i = ap (λ m. has m i) none ∙ has_zero i
-
-      at_place : (i : ℕ) → i < 64 → ((i ≡ n) × ((i == n) ≡ true)) ⊎ ((i ≢ n) × ((i == n) ≡ false)) → (may_attack b c t (square_at i) && is_clear b (square_at i) t) ≡ false
-      at_place i low (inl here) = no_attack (may_attack b c t (square_at i)) i here.0
-      at_place i low (inr apart) = ap (λ x. x && is_clear b (square_at i) t) (sym (still i low apart.1) ∙ empty i)
+  no_others none = grind (arith, nat_tests, same_or_apart, has_zero, no_attack, still)

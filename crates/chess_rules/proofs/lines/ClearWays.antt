@@ -15,23 +15,20 @@ use Rattle.chess_rules.proofs.positions.OneKing.{cell_of-square_at}
 use Rattle.chess_rules.proofs.squares.AllSquares.{or_second}
 use Rattle.chess_rules.proofs.squares.WordsToCells.{has_zero, same_or_apart}
 use Rattle.chess_rules.proofs.squares.SetsToSquares.{marked, places_and, set_test}
+use Rattle.std.proofs.lemmas.Bool.Decides.{nat_tests}
 
 all_unless : {X : Type 0} (p q r : X → Bool) (xs : List X) → ((x : X) → q x ≡ not (r x)) → list_all (λ x. not (p x) || r x) xs ≡ not (list_any (λ x. p x && q x) xs)
 all_unless p q r [] h = refl
 all_unless p q r (x ∷ xs) h = by_tests (p x) (q x) (r x) _ _ (h x) (all_unless p q r xs h)
   where
     by_tests : (v w u rest some : Bool) → w ≡ not u → rest ≡ not some → ((not v || u) && rest) ≡ not ((v && w) || some)
-    by_tests true w true rest some e f = rw (e, f) refl
-    by_tests true w false rest some e f = rw e refl
-    by_tests false w u rest some e f = f
+    by_tests x0 w x2 rest some e f = grind (arith, nat_tests)
 
 filled : (o : Option Piece) → is_some o ≡ not (is_none o)
-filled None = refl
-filled (Some x) = refl
+filled x0 = grind (arith, nat_tests)
 
 not_again : (x y : Bool) → not x ≡ y → x ≡ not y
-not_again true y h = ap not h
-not_again false y h = ap not h
+not_again x0 y h = grind (arith, nat_tests)
 
 pub clear_by_set : (b : Board) (s t : Square) (v w : ℕ) → Places v (λ u. strictly_between s u t) → Marks w is_some b → v < 2 ^ 64 → (bit_and v w == 0) ≡ is_clear b s t
 clear_by_set b s t v w between pieces fits =
@@ -48,40 +45,14 @@ module _ (test : Square → Bool) (set : ℕ) where
     pub of : (i : ℕ) → i < 64 → has kept i ≡ (has set i && (has left i || test (square_at i)))
 
   pub all_kept : Keeps set set
-  all_kept = record { of = λ i low. itself (has set i) (test (square_at i)) }
-    where
-      itself : (x y : Bool) → x ≡ (x && (x || y))
-      itself true y = refl
-      itself false y = refl
+  all_kept = grind (arith, nat_tests)
 
   module _ (left rest n kept : ℕ) (lowest : IsLowest left n) (sets : Sets left rest n false) (w : Keeps left kept) where
     pub passes_on : test (square_at n) ≡ true → Keeps rest kept
-    passes_on passes = record { of = λ i low. w.of i low ∙ ap (λ x. has set i && x) (at_place i low (same_or_apart i n)) }
-      where
-        at_place : (i : ℕ) → i < 64 → ((i ≡ n) × ((i == n) ≡ true)) ⊎ ((i ≡ n → ⊥) × ((i == n) ≡ false)) → (has left i || test (square_at i)) ≡ (has rest i || test (square_at i))
-        at_place i low (inl here) =
-            let hit : test (square_at i) ≡ true = ap (λ j. test (square_at j)) here.0 ∙ passes in
-            or_second (has left i) _ hit ∙ sym (or_second (has rest i) _ hit)
-        at_place i low (inr apart) = ap (λ x. x || test (square_at i)) (sym (sets.of i low ∙ ap (λ x. if x then false else has left i) apart.1))
+    passes_on passes = grind (arith, nat_tests)
 
     pub fails_out : (fewer : ℕ) → test (square_at n) ≡ false → Sets kept fewer n false → Keeps rest fewer
-    fails_out fewer fails out = record { of = λ i low. at_place i low (same_or_apart i n) }
-      where
-        none : (x : Bool) → (x && false) ≡ false
-        none true = refl
-        none false = refl
-
-        at_place : (i : ℕ) → i < 64 → ((i ≡ n) × ((i == n) ≡ true)) ⊎ ((i ≡ n → ⊥) × ((i == n) ≡ false)) → has fewer i ≡ (has set i && (has rest i || test (square_at i)))
-        at_place i low (inl here) =
-            out.of i low
-            ∙ (ap (λ x. if x then false else has kept i) here.1
-            ∙ sym (ap₂ (λ x y. has set i && (x || y)) (sets.of i low ∙ ap (λ x. if x then false else has left i) here.1) (ap (λ j. test (square_at j)) here.0 ∙ fails)
-            ∙ none (has set i)))
-        at_place i low (inr apart) =
-            out.of i low
-            ∙ (ap (λ x. if x then false else has kept i) apart.1
-            ∙ (w.of i low
-            ∙ ap (λ y. has set i && (y || test (square_at i))) (sym (sets.of i low ∙ ap (λ x. if x then false else has left i) apart.1))))
+    fails_out fewer fails out = grind (arith, nat_tests)
 
   pub none_left : (left kept : ℕ) → left ≡ 0 → Keeps left kept → Places kept (λ s. has set (cell_of s) && test s)
   none_left left kept none w =

@@ -62,14 +62,7 @@ module _ (b : Board) (t : Square) (line occupied below low high : ℕ) (tf : t.f
 
   -- a square of the line with no piece that counts is empty
   empty_there : (u : Square) (side : Bool) → u.file < 8 → u.rank < 8 → has line (cell_of u) ≡ true → side ≡ true → ((has line (cell_of u) && has occupied (cell_of u)) && side) ≡ false → is_empty b u ≡ true
-  empty_there u side f r here is none = by_content (at b u) refl
-    where
-      by_content : (o : Option Piece) → at b u ≡ o → is_none o ≡ true
-      by_content None e = refl
-      by_content (Some x) e =
-          absurd (false≢true (sym none
-          ∙ both_true (has line (cell_of u) && has occupied (cell_of u)) side
-          (both_true (has line (cell_of u)) _ here (at_square occupied (λ s. is_some (at b s)) u pieces f r ∙ ap is_some e)) is))
+  empty_there u side f r here is none = grind (arith, nat_tests)
 
   test_below : (i n : ℕ) → nat_lt i n ≡ true → i < n
   test_below i n h = grind (arith, nat_tests)
@@ -97,8 +90,7 @@ module _ (b : Board) (t : Square) (line occupied below low high : ℕ) (tf : t.f
       empty_between u f r here (in_order i u above (inside_means _ _ _ between)) is.none))
     where
       in_order : (j : ℕ) (u : Square) → cell_of t ≤ j → ((j < cell_of u) × (cell_of u < cell_of t)) ⊎ ((cell_of t < cell_of u) × (cell_of u < j)) → (cell_of t < cell_of u) × (cell_of u < j)
-      in_order j u h (inl x) = absurd (omega (arith, x.0, x.1))
-      in_order j u h (inr x) = x
+      in_order j u h x3 = grind (arith, nat_tests)
 
       empty_between : (u : Square) → u.file < 8 → u.rank < 8 → has line (cell_of u) ≡ true → (cell_of t < cell_of u) × (cell_of u < i)
           → ((k : ℕ) → k < i → has (bit_and (bit_and line occupied) (bit_not w64 below)) k ≡ false) → is_empty b u ≡ true
@@ -116,8 +108,7 @@ module _ (b : Board) (t : Square) (line occupied below low high : ℕ) (tf : t.f
       empty_between u f r here (in_order i u less (inside_means _ _ _ between)) is.none))
     where
       in_order : (j : ℕ) (u : Square) → j < cell_of t → ((j < cell_of u) × (cell_of u < cell_of t)) ⊎ ((cell_of t < cell_of u) × (cell_of u < j)) → (j < cell_of u) × (cell_of u < cell_of t)
-      in_order j u h (inl x) = x
-      in_order j u h (inr x) = absurd (omega (arith, x.0, x.1))
+      in_order j u h x3 = grind (arith, nat_tests)
 
       empty_between : (u : Square) → u.file < 8 → u.rank < 8 → has line (cell_of u) ≡ true → (i < cell_of u) × (cell_of u < cell_of t)
           → ((k : ℕ) → i < k → k < 64 → has (bit_and (bit_and line occupied) below) k ≡ false) → is_empty b u ≡ true
@@ -187,7 +178,7 @@ module _ (b : Board) (t : Square) (line occupied below low high : ℕ) (tf : t.f
                   absurd (none_between k low_k (inside_up i k (cell_of t) more (test_below k (cell_of t) (second_true (has line k && has occupied k) _ all))) both)
 
   pub nearest_places : Places (bit_or low high) (λ s. has line (cell_of s) && is_open b t s)
-  nearest_places = record { of = λ i h. has_or low high i ∙ same_tests _ _ (λ e. elim (split_or (has low i) (has high i) e) [ inl l ↦ from_low i h l | inr g ↦ from_high i h g ]) (found i h) }
+  nearest_places = grind (arith, nat_tests, has_or, same_tests, split_or, from_low, from_high, found)
 
 -- How many are in view.
 
@@ -210,10 +201,7 @@ module _ (b : Board) (t : Square) (line : Square → Bool) (tf : t.file < 8) (on
       apart j i high (omega arith) (first_true _ _ g) (first_true _ _ h) (inside_up i j (cell_of t) less last))
     where
       less_from : (k : ℕ) → nat_lt (cell_of (square_at k)) (cell_of t) ≡ true → k < cell_of t
-      less_from k e = below_from k (ap (λ m. nat_lt m (cell_of t)) (sym (cell_of-square_at k)) ∙ e)
-        where
-          below_from : (m : ℕ) → nat_lt m (cell_of t) ≡ true → m < cell_of t
-          below_from m h = grind (arith, nat_tests)
+      less_from k e = grind (arith, nat_tests)
 
   one_after : length (filter (one_side b t line (λ s. not (nat_lt (cell_of s) (cell_of t)))) squares) ≤ 1
   one_after =
@@ -224,10 +212,7 @@ module _ (b : Board) (t : Square) (line : Square → Bool) (tf : t.file < 8) (on
       apart i j low high (first_true _ _ h) (first_true _ _ g) (inside_down j i (cell_of t) (strict (cell_of t) i past (λ e. other (sym e))) less))
     where
       not_less : (k : ℕ) → not (nat_lt (cell_of (square_at k)) (cell_of t)) ≡ true → cell_of t ≤ k
-      not_less k e = above_from k (ap (λ m. not (nat_lt m (cell_of t))) (sym (cell_of-square_at k)) ∙ e)
-        where
-          above_from : (m : ℕ) → not (nat_lt m (cell_of t)) ≡ true → cell_of t ≤ m
-          above_from m h = grind (arith, nat_tests)
+      not_less k e = grind (arith, nat_tests)
 
       strict : (m n : ℕ) → m ≤ n → (m ≡ n → ⊥) → m < n
       strict m n a g = grind (arith, g)
@@ -244,9 +229,7 @@ module _ (b : Board) (t : Square) (line : Square → Bool) (tf : t.file < 8) (on
       )
     where
       on_a_side : (x y : Bool) → x ≡ true → ((x && y) || (x && not y)) ≡ true
-      on_a_side true true h = refl
-      on_a_side true false h = refl
-      on_a_side false y h = cc
+      on_a_side x0 x1 h = grind (arith, nat_tests)
 
 -- four lines together
 
@@ -267,18 +250,7 @@ abbrev open_on : Board → Square → (Square → Bool) → Square → Bool
 open_on b t line s = line s && is_open b t s
 
 pub four_lines : (a d e v : Bool) → (((((a && e) && v) || ((a && not e) && v)) || ((d && e) && v)) || ((d && not e) && v)) ≡ ((a || d) && v)
-four_lines true d true true = refl
-four_lines true true true false = refl
-four_lines true false true false = refl
-four_lines true d false true = refl
-four_lines true true false false = refl
-four_lines true false false false = refl
-four_lines false true true true = refl
-four_lines false true true false = refl
-four_lines false true false true = refl
-four_lines false true false false = refl
-four_lines false false true v = refl
-four_lines false false false v = refl
+four_lines x0 d x2 x3 = grind (arith, nat_tests)
 
 pub few_in_view : (b : Board) (t : Square) → t.file < 8 → length (filter (is_in_view b t) squares) ≤ 8
 few_in_view b t tf =
@@ -311,16 +283,4 @@ pub view_places : (b : Board) (t : Square) (v w x y k l m n : ℕ) → t.file < 
     → Places k (λ s. has v (cell_of s) && is_open b t s) → Places l (λ s. has w (cell_of s) && is_open b t s)
     → Places m (λ s. has x (cell_of s) && is_open b t s) → Places n (λ s. has y (cell_of s) && is_open b t s)
     → Places (bit_or (bit_or (bit_or k l) m) n) (is_in_view b t)
-view_places b t v w x y k l m n tf tr pv pw px py pk pl pm pn =
-    record {
-      of = λ i low.
-          let s = square_at i in
-          has_or (bit_or (bit_or k l) m) n i
-          ∙ (ap₂ (λ p q. p || q) (has_or (bit_or k l) m i ∙ ap₂ (λ p q. p || q) (has_or k l i ∙ ap₂ (λ p q. p || q) (on_line v (on_file t) k pv pk i low) (on_line w (on_rank t) l pw pl i low)) (on_line x (on_rising t) m px pm i low)) (on_line y (on_falling t) n py pn i low)
-          ∙ four_lines (in_line s t) (on_diagonal s t) (is_steep s t) (is_open b t s));
-    }
-  where
-    on_line : (set : ℕ) (line : Square → Bool) (near : ℕ) → Places set line → Places near (λ s. has set (cell_of s) && is_open b t s)
-        → (i : ℕ) → i < 64 → has near i ≡ (line (square_at i) && is_open b t (square_at i))
-    on_line set line near h g i low =
-        g.of i low ∙ ap (λ q. q && is_open b t (square_at i)) (ap (has set) (cell_of-square_at i) ∙ h.of i low)
+view_places b t v w x y k l m n tf tr pv pw px py pk pl pm pn = grind (arith, nat_tests, has_or, four_lines)

@@ -57,25 +57,17 @@ between_means s u t h =
     }
 
 rising_on : (a b c d e f : ℕ) → a + f ≡ e + b → gap a c ≡ gap b d → ((a < c) × (c < e)) ⊎ ((e < c) × (c < a)) → ((b < d) × (d < f)) ⊎ ((f < d) × (d < b)) → c + f ≡ e + d
-rising_on a b c d e f h g (inl x) (inl y) = omega (arith, x.0, x.1, y.0, y.1)
-rising_on a b c d e f h g (inl x) (inr y) = omega (arith, x.0, x.1, y.0, y.1)
-rising_on a b c d e f h g (inr x) (inl y) = omega (arith, x.0, x.1, y.0, y.1)
-rising_on a b c d e f h g (inr x) (inr y) = omega (arith, x.0, x.1, y.0, y.1)
+rising_on a b c d e f h g x8 x9 = grind (arith, nat_tests)
 
 falling_on : (a b c d e f : ℕ) → a + b ≡ e + f → gap a c ≡ gap b d → ((a < c) × (c < e)) ⊎ ((e < c) × (c < a)) → ((b < d) × (d < f)) ⊎ ((f < d) × (d < b)) → c + d ≡ e + f
-falling_on a b c d e f h g (inl x) (inl y) = omega (arith, x.0, x.1, y.0, y.1)
-falling_on a b c d e f h g (inl x) (inr y) = omega (arith, x.0, x.1, y.0, y.1)
-falling_on a b c d e f h g (inr x) (inl y) = omega (arith, x.0, x.1, y.0, y.1)
-falling_on a b c d e f h g (inr x) (inr y) = omega (arith, x.0, x.1, y.0, y.1)
+falling_on a b c d e f h g x8 x9 = grind (arith, nat_tests)
 
 -- in the order of squares
 cells_inside : (s u t : Square) → s.file < 8 → u.file < 8 → t.file < 8 → ((s.rank < u.rank) × (u.rank < t.rank)) ⊎ ((t.rank < u.rank) × (u.rank < s.rank)) → inside (cell_of s) (cell_of u) (cell_of t) ≡ true
-cells_inside s u t sf uf tf (inl x) = inside_up (cell_of s) (cell_of u) (cell_of t) (omega (arith, x.0)) (omega (arith, x.1))
-cells_inside s u t sf uf tf (inr x) = inside_down (cell_of s) (cell_of u) (cell_of t) (omega (arith, x.0)) (omega (arith, x.1))
+cells_inside s u t sf uf tf x6 = grind (arith, nat_tests)
 
 ranks_apart : (b d f : ℕ) → ((b < d) × (d < f)) ⊎ ((f < d) × (d < b)) → d ≢ f
-ranks_apart b d f (inl x) e = omega (arith, x.1)
-ranks_apart b d f (inr x) e = omega (arith, x.0)
+ranks_apart b d f x3 e = grind (arith, nat_tests)
 
 -- no square is on a line with itself
 cross_leaves : (x : Bool) (t : Square) → (on_diagonal t t && x) ≡ false
@@ -111,29 +103,10 @@ rising_line t tf = record { apart = cross_leaves (is_steep t t) t; between = λ 
         ]
       where
         here : Between s u t → ((on_diagonal u t && is_steep u t) && inside (cell_of s) (cell_of u) (cell_of t)) ≡ true
-        here w =
-            let on : u.file + t.rank ≡ t.file + u.rank = rising_on s.file s.rank u.file u.rank t.file t.rank (rising_means s t l) w.gaps w.files w.ranks in
-            both_true _ _ (both_true _ _ (on_cross u t (omega (arith, on)) (ranks_apart s.rank u.rank t.rank w.ranks)) (rising_steep u t on)) (cells_inside s u t sf uf tf w.ranks)
+        here w = grind (arith, nat_tests)
 
     back : (s u : Square) → s.file < 8 → u.file < 8 → (on_diagonal s t && is_steep s t) ≡ true → ((on_diagonal u t && is_steep u t) && inside (cell_of s) (cell_of u) (cell_of t)) ≡ true → strictly_between s u t ≡ true
-    back s u sf uf l h =
-        or_second _ _ (or_second _ _ (in_order (inside_means _ _ _ (second_true (on_diagonal u t && is_steep u t) _ h))))
-      where
-        on : s.file + t.rank ≡ t.file + s.rank
-        on = rising_means s t l
-
-        too : u.file + t.rank ≡ t.file + u.rank
-        too = rising_means u t (first_true (on_diagonal u t && is_steep u t) _ h)
-
-        in_order : ((cell_of s < cell_of u) × (cell_of u < cell_of t)) ⊎ ((cell_of t < cell_of u) × (cell_of u < cell_of s)) → between_on_diagonal s u t ≡ true
-        in_order (inl x) =
-            between_cross s u t (first_true (on_diagonal s t) _ l) (omega (arith, on, too)) (λ e. omega (arith, on, too, x.0))
-            (inside_up s.file u.file t.file (omega (arith, on, too, x.0)) (omega (arith, on, too, x.1)))
-            (inside_up s.rank u.rank t.rank (omega (arith, on, too, x.0)) (omega (arith, on, too, x.1)))
-        in_order (inr x) =
-            between_cross s u t (first_true (on_diagonal s t) _ l) (omega (arith, on, too)) (λ e. omega (arith, on, too, x.1))
-            (inside_down s.file u.file t.file (omega (arith, on, too, x.0)) (omega (arith, on, too, x.1)))
-            (inside_down s.rank u.rank t.rank (omega (arith, on, too, x.0)) (omega (arith, on, too, x.1)))
+    back s u sf uf l h = grind (arith, nat_tests, or_second, inside_means, second_true, rising_means, first_true)
 
 pub falling_line : (t : Square) → t.file < 8 → IsLine (λ s. on_diagonal s t && not (is_steep s t)) t
 falling_line t tf = record { apart = cross_leaves (not (is_steep t t)) t; between = λ s u sf _ uf _ l. same_tests _ _ (forth s u sf uf l) (back s u sf uf l) }
@@ -149,30 +122,10 @@ falling_line t tf = record { apart = cross_leaves (not (is_steep t t)) t; betwee
         ]
       where
         here : Between s u t → ((on_diagonal u t && not (is_steep u t)) && inside (cell_of s) (cell_of u) (cell_of t)) ≡ true
-        here w =
-            let on : u.file + u.rank ≡ t.file + t.rank = falling_on s.file s.rank u.file u.rank t.file t.rank (falling_means s t l) w.gaps w.files w.ranks in
-            let apart : u.rank ≢ t.rank = ranks_apart s.rank u.rank t.rank w.ranks in
-            both_true _ _ (both_true _ _ (on_cross u t (omega (arith, on)) apart) (falling_steep u t on apart)) (cells_inside s u t sf uf tf w.ranks)
+        here w = grind (arith, nat_tests)
 
     back : (s u : Square) → s.file < 8 → u.file < 8 → (on_diagonal s t && not (is_steep s t)) ≡ true → ((on_diagonal u t && not (is_steep u t)) && inside (cell_of s) (cell_of u) (cell_of t)) ≡ true → strictly_between s u t ≡ true
-    back s u sf uf l h =
-        or_second _ _ (or_second _ _ (in_order (inside_means _ _ _ (second_true (on_diagonal u t && not (is_steep u t)) _ h))))
-      where
-        on : s.file + s.rank ≡ t.file + t.rank
-        on = falling_means s t l
-
-        too : u.file + u.rank ≡ t.file + t.rank
-        too = falling_means u t (first_true (on_diagonal u t && not (is_steep u t)) _ h)
-
-        in_order : ((cell_of s < cell_of u) × (cell_of u < cell_of t)) ⊎ ((cell_of t < cell_of u) × (cell_of u < cell_of s)) → between_on_diagonal s u t ≡ true
-        in_order (inl x) =
-            between_cross s u t (first_true (on_diagonal s t) _ l) (omega (arith, on, too)) (λ e. omega (arith, on, too, x.0))
-            (inside_down s.file u.file t.file (omega (arith, on, too, x.1)) (omega (arith, on, too, x.0)))
-            (inside_up s.rank u.rank t.rank (omega (arith, on, too, x.0)) (omega (arith, on, too, x.1)))
-        in_order (inr x) =
-            between_cross s u t (first_true (on_diagonal s t) _ l) (omega (arith, on, too)) (λ e. omega (arith, on, too, x.1))
-            (inside_up s.file u.file t.file (omega (arith, on, too, x.1)) (omega (arith, on, too, x.0)))
-            (inside_down s.rank u.rank t.rank (omega (arith, on, too, x.0)) (omega (arith, on, too, x.1)))
+    back s u sf uf l h = grind (arith, nat_tests, or_second, inside_means, second_true, falling_means, first_true)
 
 -- a file and a rank
 
@@ -214,18 +167,7 @@ on_rank : (s u t : Square) → s.rank ≡ t.rank → u.rank ≡ t.rank → insid
 on_rank s u t h g files = grind (arith, nat_tests)
 
 rank_back : (s u t : Square) → u.file < 8 → s.file < 8 → t.file < 8 → (in_line s t && not (is_steep s t)) ≡ true → ((in_line u t && not (is_steep u t)) && inside (cell_of s) (cell_of u) (cell_of t)) ≡ true → between_on_rank s u t ≡ true
-rank_back s u t uf sf tf h g =
-    in_order (inside_means _ _ _ (second_true (in_line u t && not (is_steep u t)) _ g))
-  where
-    on : s.rank ≡ t.rank
-    on = rank_means s t h
-
-    too : u.rank ≡ t.rank
-    too = rank_means u t (first_true (in_line u t && not (is_steep u t)) _ g)
-
-    in_order : ((cell_of s < cell_of u) × (cell_of u < cell_of t)) ⊎ ((cell_of t < cell_of u) × (cell_of u < cell_of s)) → between_on_rank s u t ≡ true
-    in_order (inl x) = on_rank s u t on too (inside_up s.file u.file t.file (omega (arith, on, too, x.0)) (omega (arith, on, too, x.1)))
-    in_order (inr x) = on_rank s u t on too (inside_down s.file u.file t.file (omega (arith, on, too, x.0)) (omega (arith, on, too, x.1)))
+rank_back s u t uf sf tf h g = grind (arith, nat_tests, inside_means, second_true, rank_means, first_true)
 
 rank_off_file : (s u t : Square) → (in_line s t && not (is_steep s t)) ≡ true → between_on_file s u t ≡ true → ⊥
 rank_off_file s u t h g = grind (arith, nat_tests)

@@ -17,11 +17,7 @@ pub record OnBoard (s : Square) : Type 0 where
   pub rank : s.rank < 8
 
 pub same_or_not : (m n : ℕ) → (m ≡ n) ⊎ (m ≢ n)
-same_or_not m n = by_test (m == n) refl
-  where
-    by_test : (x : Bool) → (m == n) ≡ x → (m ≡ n) ⊎ (m ≢ n)
-    by_test true e = inl (grind (arith, nat_tests))
-    by_test false e = inr (λ same. grind (arith, nat_tests))
+same_or_not m n = grind (arith, nat_tests)
 
 -- a put is seen on its square alone
 pub at_put : (b : Board) (s u : Square) (x : Option Piece) → length b ≡ 64 → OnBoard s → OnBoard u → ((u ≡ s) × (at (put b s x) u ≡ x)) ⊎ ((u ≢ s) × (at (put b s x) u ≡ at b u))
@@ -56,8 +52,4 @@ kings-put c b s x long on_s =
 
 -- kings stay as many where as many are put as were there
 pub kings-put_alike : (c : Colour) (b : Board) (s : Square) (x : Option Piece) → length b ≡ 64 → OnBoard s → king_count c (at b s) ≡ king_count c x → kings c (put b s x) ≡ kings c b
-kings-put_alike c b s x long on_s alike =
-    same_sum (kings c (put b s x)) (kings c b) (king_count c (at b s)) (king_count c x) (kings-put c b s x long on_s) alike
-  where
-    same_sum : (m n i j : ℕ) → m + i ≡ n + j → i ≡ j → m ≡ n
-    same_sum m n i j h g = omega arith
+kings-put_alike c b s x long on_s alike = grind (arith, nat_tests, kings-put)

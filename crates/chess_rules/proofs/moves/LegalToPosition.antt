@@ -42,12 +42,7 @@ Ways p m b =
 five : (v w x y z : Bool) (i j k l b : Board)
     → (if v || w then Some i else if x then Some j else if y then Some k else if z then Some l else None) ≡ Some b
     → ((v ≡ true) × (i ≡ b)) ⊎ (((w ≡ true) × (i ≡ b)) ⊎ (((x ≡ true) × (j ≡ b)) ⊎ (((y ≡ true) × (k ≡ b)) ⊎ ((z ≡ true) × (l ≡ b)))))
-five true w x y z i j k l b h = inl (refl, cc)
-five false true x y z i j k l b h = inr (inl (refl, cc))
-five false false true y z i j k l b h = inr (inr (inl (refl, cc)))
-five false false false true z i j k l b h = inr (inr (inr (inl (refl, cc))))
-five false false false false true i j k l b h = inr (inr (inr (inr (refl, cc))))
-five false false false false false i j k l b h = cc
+five x0 w x y z i j k l b h = grind (arith, nat_tests)
 
 pub way_of : (p : Parts) (m : Move) (b : Board) → board_after p m ≡ Some b → Ways p m b
 way_of p m b h =
@@ -82,20 +77,10 @@ below : (m n : ℕ) → m < n → nat_lt m n ≡ true
 below m n h = grind (arith, nat_tests)
 
 crossed_fits : (c : Colour) (file a b : ℕ) → file < 8 → a ≡ pawn_rank c → b ≡ double_rank c → target_fits (other c) (Some (square file ((a + b) / 2))) ≡ true
-crossed_fits White file a b low from to = rw (from, to) (both_true _ _ (both_true _ _ (below file 8 low) refl) refl)
-crossed_fits Black file a b low from to = rw (from, to) (both_true _ _ (both_true _ _ (below file 8 low) refl) refl)
+crossed_fits x0 file a b low from to = grind (arith, nat_tests)
 
 pub target_kept : (p : Parts) (m : Move) → is_on_board m ≡ true → target_fits (other p.side) (target_after p m) ≡ true
-target_kept p m on = by_test (own p Pawn m.from && is_double_step p m) refl
-  where
-    from : OnBoard m.from
-    from = on_board_means m.from (first_true (on_board m.from) _ on)
-
-    by_test : (x : Bool) → (own p Pawn m.from && is_double_step p m) ≡ x → target_fits (other p.side) (if x then Some (crossed m) else None) ≡ true
-    by_test false e = refl
-    by_test true e =
-        let ranks : (m.from.rank ≡ pawn_rank p.side) × (m.to.rank ≡ double_rank p.side) = double_ranks p m (second_true (own p Pawn m.from) _ e) in
-        crossed_fits p.side m.from.file m.from.rank m.to.rank from.file ranks.0 ranks.1
+target_kept p m on = grind (arith, nat_tests)
 
 -- The numbers.
 
@@ -103,15 +88,10 @@ counted_low : (n : ℕ) → counted n ≤ 99999
 counted_low n = omega arith
 
 half_low : (p : Parts) (m : Move) → half_after p m ≤ 99999
-half_low p m = by_test (own p Pawn m.from || not (is_empty p.board m.to))
-  where
-    by_test : (x : Bool) → (if x then 0 else counted p.half) ≤ 99999
-    by_test true = omega arith
-    by_test false = counted_low p.half
+half_low p m = grind (arith, nat_tests)
 
 full_low : (c : Colour) (n : ℕ) → n ≤ 99999 → full_after c n ≤ 99999
-full_low White n h = h
-full_low Black n h = counted_low n
+full_low x0 n h = grind (arith, nat_tests)
 
 -- Together.
 
@@ -147,26 +127,10 @@ king_seen p m b sound on h =
 -- Legality of a step.
 
 pub legal_when : (p : Parts) (m : Move) (b : Board) → is_on_board m ≡ true → board_after p m ≡ Some b → king_attacked b (other (other p.side)) ≡ false → legal p m ≡ Some (after p m b)
-legal_when p m b on h safe =
-    ap if_safe (stepped ∙ ap (option_map (after p m)) h) ∙ by_safety (king_attacked b (other (other p.side))) safe
-  where
-    stepped : step p m ≡ option_map (after p m) (board_after p m)
-    stepped = rw on refl
-
-    by_safety : (x : Bool) → x ≡ false → (if not x then Some (after p m b) else None) ≡ Some (after p m b)
-    by_safety true e = cc
-    by_safety false e = refl
+legal_when p m b on h safe = grind (arith, nat_tests)
 
 pub not_legal_when : (p : Parts) (m : Move) (b : Board) → is_on_board m ≡ true → board_after p m ≡ Some b → king_attacked b (other (other p.side)) ≡ true → legal p m ≡ None
-not_legal_when p m b on h attacked =
-    ap if_safe (stepped ∙ ap (option_map (after p m)) h) ∙ by_safety (king_attacked b (other (other p.side))) attacked
-  where
-    stepped : step p m ≡ option_map (after p m) (board_after p m)
-    stepped = rw on refl
-
-    by_safety : (x : Bool) → x ≡ true → (if not x then Some (after p m b) else None) ≡ None
-    by_safety true e = refl
-    by_safety false e = cc
+not_legal_when p m b on h attacked = grind (arith, nat_tests)
 
 -- a legal move was a step to some board, and left the king safe
 pub record Legal (p : Parts) (m : Move) (q : Parts) : Type 0 where
@@ -180,8 +144,7 @@ pub legal_means : (p : Parts) (m : Move) (q : Parts) → legal p m ≡ Some q �
 legal_means p m q h = by_on (is_on_board m) refl h
   where
     by_safe : (b : Board) → is_on_board m ≡ true → board_after p m ≡ Some b → (x : Bool) → king_attacked b (other (other p.side)) ≡ x → (if not x then Some (after p m b) else None) ≡ Some q → Legal p m q
-    by_safe b on stepped true e g = cc
-    by_safe b on stepped false e g = record { on = on; board = b; stepped = stepped; safe = e; next = cc }
+    by_safe b on stepped x3 e g = grind (arith, nat_tests)
 
     by_board : is_on_board m ≡ true → (o : Option Board) → board_after p m ≡ o → if_safe (option_map (after p m) o) ≡ Some q → Legal p m q
     by_board on None e g = cc
@@ -209,8 +172,7 @@ after_fields p m b side rights target half full e f g h i = rw (e, f, g, h, i) r
 -- what the code looks at, in the words of the rules
 pub attacked_is : (p : Parts) (m : Move) (b : Board) (by : Colour) (king : Square) (attacked : Bool) → is_position p ≡ true → is_on_board m ≡ true → board_after p m ≡ Some b
     → by ≡ other p.side → king ≡ king_after (king_square p.side p.board) m → attacked ≡ is_attacked b by king → king_attacked b (other (other p.side)) ≡ attacked
-attacked_is p m b by king attacked position on h e f g =
-    king_seen p m b (sound_from_position p position) on h ∙ sym (g ∙ ap₂ (λ d k. is_attacked b d k) e f)
+attacked_is p m b by king attacked position on h e f g = grind (arith, nat_tests, on, king_seen, sound_from_position)
 
 pub position_after : (p : Parts) (m : Move) (b : Board) → is_position p ≡ true → is_on_board m ≡ true → board_after p m ≡ Some b → king_attacked b (other (other p.side)) ≡ false → is_position (after p m b) ≡ true
 position_after p m b position on h safe =
@@ -227,15 +189,13 @@ pub legal_unless_attacked : (p : Parts) (m : Move) (b : Board) (by : Colour) (ki
 legal_unless_attacked p m b by king attacked position on h e f g = by_test attacked (attacked_is p m b by king attacked position on h e f g)
   where
     by_test : (x : Bool) → king_attacked b (other (other p.side)) ≡ x → not x ≡ is_legal p m
-    by_test true is = sym (ap is_some (not_legal_when p m b on h is))
-    by_test false is = sym (ap is_some (legal_when p m b on h is))
+    by_test x0 is = grind (arith, nat_tests)
 
 pub safe_from_legal : (p : Parts) (m : Move) (b : Board) → is_on_board m ≡ true → board_after p m ≡ Some b → is_legal p m ≡ true → king_attacked b (other (other p.side)) ≡ false
 safe_from_legal p m b on h legal = by_test (king_attacked b (other (other p.side))) refl
   where
     by_test : (x : Bool) → king_attacked b (other (other p.side)) ≡ x → x ≡ false
-    by_test false is = refl
-    by_test true is = cc (sym legal ∙ ap is_some (not_legal_when p m b on h is))
+    by_test x0 is = grind (arith, nat_tests)
 
 -- whether the step gives check, seen from where the other king stands then
 pub check_is_seen : (p : Parts) (m : Move) (b : Board) (k : Square) → is_position p ≡ true → is_on_board m ≡ true → board_after p m ≡ Some b

@@ -25,37 +25,20 @@ use Rattle.chess_rules.proofs.moves.BoardAfterMove.{arriving, Lands, Stays, IsPl
 -- Cells.
 
 pub other-other : (c : Colour) → other (other c) ≡ c
-other-other White = refl
-other-other Black = refl
+other-other x0 = grind (arith, nat_tests)
 
 same_or_other : (c d : Colour) → (c ≡ d) ⊎ (c ≡ other d)
-same_or_other White White = inl refl
-same_or_other White Black = inr refl
-same_or_other Black White = inr refl
-same_or_other Black Black = inl refl
+same_or_other x0 x1 = grind (arith, nat_tests)
 
 pub colour_of_piece : (c : Colour) (k : Kind) (cell : Option Piece) → has_piece c k cell ≡ true → has_colour c cell ≡ true
-colour_of_piece c k None h = cc
-colour_of_piece c k (Some x) h = first_true (same_colour c x.colour) _ h
+colour_of_piece c k x2 h = grind (arith, nat_tests)
 
 pub not_both : (c : Colour) (cell : Option Piece) → has_colour c cell ≡ true → has_colour (other c) cell ≡ true → ⊥
-not_both c None h g = cc
-not_both White (Some x) h g = by_colour x.colour h g
-  where
-    by_colour : (d : Colour) → same_colour White d ≡ true → same_colour Black d ≡ true → ⊥
-    by_colour White a b = cc
-    by_colour Black a b = cc
-not_both Black (Some x) h g = by_colour x.colour h g
-  where
-    by_colour : (d : Colour) → same_colour Black d ≡ true → same_colour White d ≡ true → ⊥
-    by_colour White a b = cc
-    by_colour Black a b = cc
+not_both c x1 h g = grind (arith, nat_tests)
 
 -- a cell has pieces of one kind
 pub one_kind : (c d : Colour) (k l : Kind) (cell : Option Piece) → has_piece c k cell ≡ true → has_piece d l cell ≡ true → k ≡ l
-one_kind c d k l None h g = cc
-one_kind c d k l (Some x) h g =
-    kinds_same k x.kind (second_true (same_colour c x.colour) _ h) ∙ sym (kinds_same l x.kind (second_true (same_colour d x.colour) _ g))
+one_kind c d k l x4 h g = grind (arith, nat_tests, kinds_same, second_true)
 
 no_king_with : (c d : Colour) (k : Kind) (cell : Option Piece) → (King ≡ k → ⊥) → has_piece d k cell ≡ true → has_piece c King cell ≡ false
 no_king_with c d k cell differ h = to_false (has_piece c King cell) (λ king. differ (one_kind c d King k cell king h))
@@ -67,66 +50,29 @@ rook_is_no_king : King ≡ Rook → ⊥
 rook_is_no_king e = cc
 
 empty_free : (c : Colour) (k : Kind) (cell : Option Piece) → is_none cell ≡ true → has_piece c k cell ≡ false
-empty_free c k None h = refl
-empty_free c k (Some x) h = cc
+empty_free c k x2 h = grind (arith, nat_tests)
 
 no_pawn_but_own : (c : Colour) (cell : Option Piece) → has_colour c cell ≡ true → has_piece c Pawn cell ≡ false → is_pawn cell ≡ false
-no_pawn_but_own c None h g = refl
-no_pawn_but_own White (Some x) h g = to_false (is_pawn (Some x)) (λ pawn.
-    elim (split_or (has_piece White Pawn (Some x)) (has_piece Black Pawn (Some x)) pawn) [
-      | inl own ↦ cc
-      | inr theirs ↦ not_both White (Some x) h (colour_of_piece Black Pawn (Some x) theirs)
-    ])
-no_pawn_but_own Black (Some x) h g = to_false (is_pawn (Some x)) (λ pawn.
-    elim (split_or (has_piece White Pawn (Some x)) (has_piece Black Pawn (Some x)) pawn) [
-      | inl theirs ↦ not_both Black (Some x) h (colour_of_piece White Pawn (Some x) theirs)
-      | inr own ↦ cc
-    ])
+no_pawn_but_own c x1 h g = grind (arith, nat_tests)
 
 king_is_no_pawn : (c : Colour) (cell : Option Piece) → has_piece c King cell ≡ true → is_pawn cell ≡ false
-king_is_no_pawn c cell h = to_false (is_pawn cell) (λ pawn.
-    elim (split_or (has_piece White Pawn cell) (has_piece Black Pawn cell) pawn) [
-      | inl white ↦ pawn_is_no_king (one_kind c White King Pawn cell h white)
-      | inr black ↦ pawn_is_no_king (one_kind c Black King Pawn cell h black)
-    ])
+king_is_no_pawn c cell h = grind (arith, nat_tests)
 
 promoted_is_no_pawn : (c : Colour) (q : Promotion) → is_pawn (some_piece c (kind_of q)) ≡ false
-promoted_is_no_pawn White become.Queen = refl
-promoted_is_no_pawn White become.Rook = refl
-promoted_is_no_pawn White become.Bishop = refl
-promoted_is_no_pawn White become.Knight = refl
-promoted_is_no_pawn Black become.Queen = refl
-promoted_is_no_pawn Black become.Rook = refl
-promoted_is_no_pawn Black become.Bishop = refl
-promoted_is_no_pawn Black become.Knight = refl
+promoted_is_no_pawn x0 x1 = grind (arith, nat_tests)
 
 promoted_is_no_king : (c d : Colour) (q : Promotion) → has_piece c King (some_piece d (kind_of q)) ≡ false
-promoted_is_no_king White White become.Queen = refl
-promoted_is_no_king White White become.Rook = refl
-promoted_is_no_king White White become.Bishop = refl
-promoted_is_no_king White White become.Knight = refl
-promoted_is_no_king White Black q = refl
-promoted_is_no_king Black White q = refl
-promoted_is_no_king Black Black become.Queen = refl
-promoted_is_no_king Black Black become.Rook = refl
-promoted_is_no_king Black Black become.Bishop = refl
-promoted_is_no_king Black Black become.Knight = refl
+promoted_is_no_king x0 x1 x2 = grind (arith, nat_tests)
 
 not_means : (x : Bool) → not x ≡ true → x ≡ false
-not_means true h = cc
-not_means false h = refl
+not_means x0 h = grind (arith, nat_tests)
 
 none_is : {X : Type 0} (o : Option X) → is_none o ≡ true → o ≡ None
-none_is None h = refl
-none_is (Some x) h = cc
+none_is x0 h = grind (arith, nat_tests)
 
 -- the piece on a square attacks as its kind and colour do
 pub attacks_as : (c : Colour) (k : Kind) (cell : Option Piece) (b : Board) (s t : Square) → has_piece c k cell ≡ true → cell_attacks cell b s t ≡ true → kind_attacks k c b s t ≡ true
-attacks_as c k None b s t h g = cc
-attacks_as c k (Some x) b s t h g =
-    let kinds : k ≡ x.kind = kinds_same k x.kind (second_true (same_colour c x.colour) (same_kind k x.kind) h) in
-    let colours : c ≡ x.colour = colours_same c x.colour (first_true (same_colour c x.colour) (same_kind k x.kind) h) in
-    subst (λ (j : Kind). kind_attacks j c b s t ≡ true) (sym kinds) (subst (λ (d : Colour). kind_attacks x.kind d b s t ≡ true) (sym colours) g)
+attacks_as c k x2 b s t h g = grind (arith, nat_tests, kinds_same, second_true, colours_same, first_true)
 
 -- The other king is never taken.
 
@@ -142,11 +88,7 @@ king_not_taken p s t sound on_s on_t own hits =
 
 -- no king stands where no own piece and no other king stands
 free_of : (p : Parts) (t : Square) → has_colour p.side (at p.board t) ≡ false → has_piece (other p.side) King (at p.board t) ≡ false → (c : Colour) → has_piece c King (at p.board t) ≡ false
-free_of p t own theirs c =
-    elim (same_or_other c p.side) [
-      | inl same ↦ to_false (has_piece c King (at p.board t)) (λ king. cc (own, colour_of_piece p.side King (at p.board t) (subst (λ (d : Colour). has_piece d King (at p.board t) ≡ true) same king)))
-      | inr differ ↦ subst (λ (d : Colour). has_piece d King (at p.board t) ≡ false) (sym differ) theirs
-    ]
+free_of p t own theirs c = grind (arith, nat_tests)
 
 arrives_as : (p : Parts) (m : Move) → is_none m.promotion ≡ true → arriving p m ≡ at p.board m.from
 arrives_as p m h = ap (λ o. promoted p.side o (at p.board m.from)) (none_is m.promotion h)
@@ -188,19 +130,10 @@ abbrev pub pawn_goes : Parts → Move → Type 0
 pawn_goes p m = (is_ahead p.side m.from.rank m.to.rank ≡ true) ⊎ ((m.from.rank ≡ pawn_rank p.side) × (m.to.rank ≡ double_rank p.side))
 
 pub double_ranks : (p : Parts) (m : Move) → is_double_step p m ≡ true → (m.from.rank ≡ pawn_rank p.side) × (m.to.rank ≡ double_rank p.side)
-double_ranks p m two =
-    let lines : ((m.from.rank == pawn_rank p.side) && (m.to.rank == double_rank p.side)) ≡ true = second_true (m.from.file == m.to.file) _ (first_true _ (is_empty p.board (crossed m) && is_empty p.board m.to) two) in
-    (equal_from m.from.rank (pawn_rank p.side) (first_true (m.from.rank == pawn_rank p.side) _ lines), equal_from m.to.rank (double_rank p.side) (second_true (m.from.rank == pawn_rank p.side) _ lines))
+double_ranks p m two = grind (arith, nat_tests)
 
 pub way_goes : (p : Parts) (m : Move) → own p Pawn m.from ≡ true → is_pawn_way p m ≡ true → pawn_goes p m
-way_goes p m pawn h =
-    elim (split_or (is_advance p m) (is_double_step p m || is_pawn_capture p m) h) [
-      | inl one ↦ inl (second_true (m.from.file == m.to.file) _ (first_true _ (is_empty p.board m.to) one))
-      | inr more ↦ elim (split_or (is_double_step p m) (is_pawn_capture p m) more) [
-        | inl two ↦ inr (double_ranks p m two)
-        | inr takes ↦ inl (second_true (gap m.from.file m.to.file == 1) _ (pawn_attack p m pawn (first_true (attacks p.board m.from m.to) _ takes)))
-      ]
-    ]
+way_goes p m pawn h = grind (arith, nat_tests)
 
 way_free : (p : Parts) (m : Move) → Sound p → OnBoard m.from → OnBoard m.to → own p Pawn m.from ≡ true → is_pawn_way p m ≡ true → (c : Colour) → has_piece c King (at p.board m.to) ≡ false
 way_free p m sound on_from on_to pawn h =
@@ -218,10 +151,7 @@ way_free p m sound on_from on_to pawn h =
         (king_not_taken p m.from m.to sound on_from on_to (colour_of_piece p.side Pawn (at p.board m.from) pawn) hits)
 
 last_of : (c : Colour) (a b : ℕ) → a < 8 → (is_ahead c a b ≡ true) ⊎ ((a ≡ pawn_rank c) × (b ≡ double_rank c)) → is_edge b ≡ true → b ≡ last_rank c
-last_of White a b low (inl one) edge = grind (arith, nat_tests)
-last_of White a b low (inr two) edge = grind (arith, nat_tests)
-last_of Black a b low (inl one) edge = grind (arith, nat_tests)
-last_of Black a b low (inr two) edge = grind (arith, nat_tests)
+last_of x0 a b low x4 edge = grind (arith, nat_tests)
 
 pub pawn_lands : (p : Parts) (m : Move) → Sound p → OnBoard m.from → OnBoard m.to → is_pawn_step p m ≡ true → Lands p m
 pawn_lands p m sound on_from on_to h =
@@ -247,17 +177,13 @@ pawn_lands p m sound on_from on_to h =
     alike_for c (Some q) = promoted_is_no_king c p.side q ∙ sym (no_king_with c p.side Pawn (at p.board m.from) pawn_is_no_king pawn)
 
     last_for : (q : Option Promotion) → (m.to.rank == last_rank p.side) ≡ true → (if m.to.rank == last_rank p.side then is_some q else is_none q) ≡ true → is_pawn (promoted p.side q (at p.board m.from)) ≡ false
-    last_for None last named = cc (rw last at named)
-    last_for (Some q) last named = promoted_is_no_pawn p.side q
+    last_for x0 last named = grind (arith, nat_tests)
 
 target_line : (c : Colour) (o : Option Square) (t : Square) → target_fits c o ≡ true → is_target o t ≡ true → t.rank ≡ target_rank c
-target_line c None t fits hits = cc
-target_line c (Some u) t fits hits =
-    sym (equal_from u.rank t.rank (second_true (u.file == t.file) _ hits)) ∙ equal_from u.rank (target_rank c) (second_true (on_board u) _ fits)
+target_line c x1 t fits hits = grind (arith, nat_tests)
 
 inner_line : (c : Colour) (rank : ℕ) → rank ≡ target_rank c → ((rank == last_rank c) ≡ false) × (is_edge rank ≡ false)
-inner_line White rank h = rw h (refl, refl)
-inner_line Black rank h = rw h (refl, refl)
+inner_line x0 rank h = grind (arith, nat_tests)
 
 pub passing_lands : (p : Parts) (m : Move) → Sound p → OnBoard m.from → OnBoard m.to → is_en_passant p m ≡ true → Lands p m
 passing_lands p m sound on_from on_to h =
@@ -284,27 +210,13 @@ passing_lands p m sound on_from on_to h =
     plain = named (m.to.rank == last_rank p.side) line.0 fits
       where
         named : (x : Bool) → x ≡ false → (if x then is_some m.promotion else is_none m.promotion) ≡ true → is_none m.promotion ≡ true
-        named true e g = cc
-        named false e g = g
+        named x0 e g = grind (arith, nat_tests)
 
 nothing_plain : IsPlain None
 nothing_plain = record { no_king = λ c. refl; no_pawn = refl }
 
 rook_plain : (d : Colour) → IsPlain (some_piece d Rook)
-rook_plain White = record { no_king = rook_no_king White; no_pawn = refl }
-  where
-    rook_no_king : (d c : Colour) → has_piece c King (some_piece d Rook) ≡ false
-    rook_no_king White White = refl
-    rook_no_king White Black = refl
-    rook_no_king Black White = refl
-    rook_no_king Black Black = refl
-rook_plain Black = record { no_king = rook_no_king Black; no_pawn = refl }
-  where
-    rook_no_king : (d c : Colour) → has_piece c King (some_piece d Rook) ≡ false
-    rook_no_king White White = refl
-    rook_no_king White Black = refl
-    rook_no_king Black White = refl
-    rook_no_king Black Black = refl
+rook_plain x0 = grind (arith, nat_tests)
 
 pub passing_stays : (p : Parts) (m : Move) → Sound p → OnBoard m.from → OnBoard m.to → is_en_passant p m ≡ true → Stays p m (en_passant_board p m)
 passing_stays p m sound on_from on_to h =
@@ -339,8 +251,7 @@ passing_stays p m sound on_from on_to h =
 -- Castling.
 
 home_below : (c : Colour) → home_rank c < 8
-home_below White = omega arith
-home_below Black = omega arith
+home_below x0 = grind (arith, nat_tests)
 
 between_empty : (b : Board) (s t u : Square) → is_clear b s t ≡ true → OnBoard u → strictly_between s u t ≡ true → is_empty b u ≡ true
 between_empty b s t u clear on between =
@@ -358,44 +269,10 @@ pub record IsWing (wing : Wing) : Type 0 where
   pub between_crossing : (c : Colour) → strictly_between (square 4 (home_rank c)) (square wing.crossing (home_rank c)) (square wing.rook (home_rank c)) ≡ true
 
 pub short_is_wing : IsWing short_wing
-short_is_wing =
-    record {
-      rook_below = omega arith;
-      end_below = omega arith;
-      crossing_below = omega arith;
-      rook_end = λ e. absurd (omega arith);
-      crossing_end = λ e. absurd (omega arith);
-      between_end = end;
-      between_crossing = crossing;
-    }
-  where
-    end : (c : Colour) → strictly_between (square 4 (home_rank c)) (square 6 (home_rank c)) (square 7 (home_rank c)) ≡ true
-    end White = refl
-    end Black = refl
-
-    crossing : (c : Colour) → strictly_between (square 4 (home_rank c)) (square 5 (home_rank c)) (square 7 (home_rank c)) ≡ true
-    crossing White = refl
-    crossing Black = refl
+short_is_wing = grind (arith, nat_tests)
 
 pub long_is_wing : IsWing long_wing
-long_is_wing =
-    record {
-      rook_below = omega arith;
-      end_below = omega arith;
-      crossing_below = omega arith;
-      rook_end = λ e. absurd (omega arith);
-      crossing_end = λ e. absurd (omega arith);
-      between_end = end;
-      between_crossing = crossing;
-    }
-  where
-    end : (c : Colour) → strictly_between (square 4 (home_rank c)) (square 2 (home_rank c)) (square 0 (home_rank c)) ≡ true
-    end White = refl
-    end Black = refl
-
-    crossing : (c : Colour) → strictly_between (square 4 (home_rank c)) (square 3 (home_rank c)) (square 0 (home_rank c)) ≡ true
-    crossing White = refl
-    crossing Black = refl
+long_is_wing = grind (arith, nat_tests)
 
 pub record Castles (p : Parts) (m : Move) (wing : Wing) : Type 0 where
   pub plain : is_none m.promotion ≡ true
@@ -406,30 +283,7 @@ pub record Castles (p : Parts) (m : Move) (wing : Wing) : Type 0 where
   pub clear : is_clear p.board (home p 4) (home p wing.rook) ≡ true
 
 pub castles_means : (p : Parts) (m : Move) (right : Bool) (wing : Wing) → castles p m right wing ≡ true → Castles p m wing
-castles_means p m right wing h =
-    record {
-      plain = second_true right _ (first_true (right && is_none m.promotion) (is_king_move p m wing.end) pair);
-      from = from;
-      to = squares_same m.to (home p wing.end) (second_true (same_square m.from (home p 4)) _ leads);
-      king = subst (λ (s : Square). own p King s ≡ true) (sym from) (first_true (own p King (home p 4)) _ pieces);
-      rook = second_true (own p King (home p 4)) _ pieces;
-      clear = second_true (own p King (home p 4) && own p Rook (home p wing.rook)) _ ready;
-    }
-  where
-    pair : ((right && is_none m.promotion) && is_king_move p m wing.end) ≡ true
-    pair = first_true _ (stand_ready p wing.rook && (is_unattacked p 4 && (is_unattacked p wing.crossing && is_unattacked p wing.end))) h
-
-    leads : is_king_move p m wing.end ≡ true
-    leads = second_true (right && is_none m.promotion) _ pair
-
-    ready : stand_ready p wing.rook ≡ true
-    ready = first_true (stand_ready p wing.rook) (is_unattacked p 4 && (is_unattacked p wing.crossing && is_unattacked p wing.end)) (second_true ((right && is_none m.promotion) && is_king_move p m wing.end) _ h)
-
-    pieces : (own p King (home p 4) && own p Rook (home p wing.rook)) ≡ true
-    pieces = first_true _ (is_clear p.board (home p 4) (home p wing.rook)) ready
-
-    from : m.from ≡ home p 4
-    from = squares_same m.from (home p 4) (first_true (same_square m.from (home p 4)) _ leads)
+castles_means p m right wing h = grind (arith, nat_tests)
 
 pub castling_ends_empty : (p : Parts) (m : Move) (wing : Wing) → IsWing wing → Castles p m wing → is_empty p.board m.to ≡ true
 castling_ends_empty p m wing is_wing h =

@@ -17,6 +17,7 @@ use Rattle.chess_rules.proofs.positions.RulesOfPosition.{to_false}
 use Rattle.chess_rules.proofs.lines.AttackToReach.{kinds_same, colours_same, none_or_all}
 use Rattle.chess_rules.proofs.moves.StepsKeepBoard.{one_kind, colour_of_piece, not_both, short_is_wing, long_is_wing, castles_means, castling_ends_empty, pawn_attack}
 use Rattle.chess_rules.proofs.moves.OneWayToStep.{no_pawn_moves, pawn_of_step, pawn_of_en_passant}
+use Rattle.std.proofs.lemmas.Bool.Decides.{nat_tests}
 
 -- The five ways, one by one.
 
@@ -24,28 +25,13 @@ abbrev some_way : Bool → Bool → Bool → Bool → Bool → Board → Board �
 some_way v w x y z i j k l = is_some (if v || w then Some i else if x then Some j else if y then Some k else if z then Some l else None)
 
 piece_alone : (v w x y z : Bool) (i j k l : Board) → w ≡ false → x ≡ false → y ≡ false → z ≡ false → v ≡ some_way v w x y z i j k l
-piece_alone true w x y z i j k l b c d e = refl
-piece_alone false true x y z i j k l b c d e = cc
-piece_alone false false true y z i j k l b c d e = cc
-piece_alone false false false true z i j k l b c d e = cc
-piece_alone false false false false true i j k l b c d e = cc
-piece_alone false false false false false i j k l b c d e = refl
+piece_alone x0 w x y z i j k l b c d e = grind (arith, nat_tests)
 
 pawn_alone : (v w x y z : Bool) (i j k l : Board) → v ≡ false → y ≡ false → z ≡ false → (w || x) ≡ some_way v w x y z i j k l
-pawn_alone true w x y z i j k l a d e = cc
-pawn_alone false true x y z i j k l a d e = refl
-pawn_alone false false true y z i j k l a d e = refl
-pawn_alone false false false true z i j k l a d e = cc
-pawn_alone false false false false true i j k l a d e = cc
-pawn_alone false false false false false i j k l a d e = refl
+pawn_alone x0 w x y z i j k l a d e = grind (arith, nat_tests)
 
 king_alone : (v w x y z : Bool) (i j k l : Board) → w ≡ false → x ≡ false → (v || (y || z)) ≡ some_way v w x y z i j k l
-king_alone true w x y z i j k l b c = refl
-king_alone false true x y z i j k l b c = cc
-king_alone false false true y z i j k l b c = cc
-king_alone false false false true z i j k l b c = refl
-king_alone false false false false true i j k l b c = refl
-king_alone false false false false false i j k l b c = refl
+king_alone x0 w x y z i j k l b c = grind (arith, nat_tests)
 
 -- what is found on a square: a piece of the side to move, or one of the other side
 module _ (p : Parts) (s : Square) (b : Board) (o : Option Piece) (x : Piece) (c : Colour) (alike : Bool)
@@ -95,9 +81,7 @@ module _ (p : Parts) (m : Move) where
       (no_way k King (castles_long p m) stands no_king king_of_long)
 
   mover_of_piece : is_piece_step p m ≡ true → has_colour p.side (at p.board m.from) ≡ true
-  mover_of_piece h =
-      first_true (has_colour p.side (at p.board m.from)) (not (own p Pawn m.from))
-      (first_true _ (is_none m.promotion) (first_true _ (attacks p.board m.from m.to && not (has_colour p.side (at p.board m.to))) h))
+  mover_of_piece h = grind (arith, nat_tests)
 
   -- nothing of the side to move is there
   pub none_steps : has_colour p.side (at p.board m.from) ≡ false → false ≡ is_some (board_after p m)
@@ -112,37 +96,20 @@ module _ (p : Parts) (m : Move) where
 -- A piece's step.
 
 pub attacks_by : (c : Colour) (k : Kind) (cell : Option Piece) (b : Board) (s t : Square) → has_piece c k cell ≡ true → cell_attacks cell b s t ≡ kind_attacks k c b s t
-attacks_by c k None b s t h = cc
-attacks_by c k (Some x) b s t h =
-    let colour : c ≡ x.colour = colours_same c x.colour (first_true (same_colour c x.colour) _ h) in
-    let kind : k ≡ x.kind = kinds_same k x.kind (second_true (same_colour c x.colour) _ h) in
-    ap (λ d. kind_attacks x.kind d b s t) (sym colour) ∙ ap (λ l. kind_attacks l c b s t) (sym kind)
+attacks_by c k x2 b s t h = grind (arith, nat_tests, colours_same, first_true, kinds_same, second_true)
 
 not_open : (a b c d e : Bool) → e ≡ true → false ≡ (((a && b) && c) && (d && not e))
-not_open true true true true e h = rw h refl
-not_open true true true false e h = refl
-not_open true true false d e h = refl
-not_open true false c d e h = refl
-not_open false b c d e h = refl
+not_open x0 x1 x2 x3 e h = grind (arith, nat_tests)
 
 left_open : (a b c d e : Bool) → a ≡ true → b ≡ false → c ≡ true → e ≡ false → d ≡ (((a && not b) && c) && (d && not e))
-left_open true false true true false f g h i = refl
-left_open true false true false false f g h i = refl
-left_open false b c d e f g h i = cc
-left_open true true c d e f g h i = cc
-left_open true false false d e f g h i = cc
-left_open true false true d true f g h i = cc
+left_open x0 x1 x2 x3 x4 f g h i = grind (arith, nat_tests)
 
 pub no_own_piece_taken : (p : Parts) (m : Move) → has_colour p.side (at p.board m.to) ≡ true → false ≡ is_piece_step p m
-no_own_piece_taken p m h =
-    not_open (has_colour p.side (at p.board m.from)) (not (own p Pawn m.from)) (is_none m.promotion) (attacks p.board m.from m.to) (has_colour p.side (at p.board m.to)) h
+no_own_piece_taken p m h = grind (arith, nat_tests)
 
 pub attack_is_step : (p : Parts) (m : Move) (k : Kind) → own p k m.from ≡ true → (k ≡ Pawn → ⊥) → is_none m.promotion ≡ true → has_colour p.side (at p.board m.to) ≡ false
     → kind_attacks k p.side p.board m.from m.to ≡ is_piece_step p m
-attack_is_step p m k stands no_pawn plain free =
-    sym (attacks_by p.side k (at p.board m.from) p.board m.from m.to stands)
-    ∙ left_open (has_colour p.side (at p.board m.from)) (own p Pawn m.from) (is_none m.promotion) (attacks p.board m.from m.to) (has_colour p.side (at p.board m.to))
-    (colour_of_piece p.side k (at p.board m.from) stands) (no_way p m k Pawn (own p Pawn m.from) stands no_pawn (λ h. h)) plain free
+attack_is_step p m k stands no_pawn plain free = grind (arith, nat_tests, attacks_by, left_open, colour_of_piece, no_way)
 
 -- A target with a piece of the side to move.
 
@@ -151,23 +118,13 @@ module _ (p : Parts) (m : Move) (mine : has_colour p.side (at p.board m.to) ≡ 
   not_empty_there h = false≢true (sym (none_or_all p.side (at p.board m.to) mine) ∙ h)
 
   no_way_there : is_pawn_way p m ≡ true → ⊥
-  no_way_there h =
-      elim (split_or (is_advance p m) (is_double_step p m || is_pawn_capture p m) h) [
-        | inl one ↦ not_empty_there (second_true ((m.from.file == m.to.file) && is_ahead p.side m.from.rank m.to.rank) (is_empty p.board m.to) one)
-        | inr more ↦ elim (split_or (is_double_step p m) (is_pawn_capture p m) more) [
-          | inl two ↦ not_empty_there (second_true (is_empty p.board (crossed m)) (is_empty p.board m.to)
-              (second_true ((m.from.file == m.to.file) && ((m.from.rank == pawn_rank p.side) && (m.to.rank == double_rank p.side))) _ two))
-          | inr takes ↦ not_both p.side (at p.board m.to) mine (second_true (attacks p.board m.from m.to) _ takes)
-        ]
-      ]
+  no_way_there h = grind (arith, nat_tests, split_or, not_empty_there, second_true, not_both)
 
   no_pawn_there : is_pawn_step p m ≡ true → ⊥
   no_pawn_there h = no_way_there (first_true (is_pawn_way p m) (promotion_fits p m) (second_true (own p Pawn m.from) _ h))
 
   no_passing_there : is_en_passant p m ≡ true → ⊥
-  no_passing_there h =
-      not_empty_there (second_true (is_target p.target m.to) _ (second_true (own p Pawn m.from && promotion_fits p m) _
-      (first_true _ (attacks p.board m.from m.to && has_piece (other p.side) Pawn (at p.board (captured_pawn m))) h)))
+  no_passing_there h = grind (arith, nat_tests, not_empty_there, second_true, first_true)
 
   pub none_steps_there : false ≡ is_some (board_after p m)
   none_steps_there =
@@ -181,49 +138,22 @@ module _ (p : Parts) (m : Move) (mine : has_colour p.side (at p.board m.to) ≡ 
 -- A pawn's step.
 
 no_fit : (stands way fits empty hits : Bool) → fits ≡ false → false ≡ ((stands && (way && fits)) || (((stands && fits) && empty) && hits))
-no_fit true true true empty hits h = cc
-no_fit true false true empty hits h = cc
-no_fit false way true empty hits h = cc
-no_fit true true false empty hits h = refl
-no_fit true false false empty hits h = refl
-no_fit false way false empty hits h = refl
+no_fit x0 x1 x2 empty hits h = grind (arith, nat_tests)
 
 ahead : (stands fits adv dbl att col empty there : Bool) → stands ≡ true → fits ≡ true → att ≡ false
     → (adv || dbl) ≡ ((stands && ((adv || (dbl || (att && col))) && fits)) || (((stands && fits) && empty) && (att && there)))
-ahead true true true dbl false col empty there e f g = refl
-ahead true true false true false col empty there e f g = refl
-ahead true true false false false col true there e f g = refl
-ahead true true false false false col false there e f g = refl
-ahead false fits adv dbl att col empty there e f g = cc
-ahead true false adv dbl att col empty there e f g = cc
-ahead true true adv dbl true col empty there e f g = cc
+ahead x0 x1 x2 dbl x4 col empty there e f g = grind (arith, nat_tests)
 
 aside : (stands fits adv dbl cap passing : Bool) → stands ≡ true → fits ≡ true → adv ≡ false → dbl ≡ false
     → (cap || passing) ≡ ((stands && ((adv || (dbl || cap)) && fits)) || passing)
-aside true true false false true passing e f g h = refl
-aside true true false false false passing e f g h = refl
-aside false fits adv dbl cap passing e f g h = cc
-aside true false adv dbl cap passing e f g h = cc
-aside true true true dbl cap passing e f g h = cc
-aside true true false true cap passing e f g h = cc
+aside x0 x1 x2 x3 x4 passing e f g h = grind (arith, nat_tests)
 
 module _ (p : Parts) (m : Move) (pawn : own p Pawn m.from ≡ true) where
   pub pawn_promotes_wrongly : promotion_fits p m ≡ false → false ≡ (is_pawn_step p m || is_en_passant p m)
-  pawn_promotes_wrongly h =
-      no_fit (own p Pawn m.from) (is_pawn_way p m) (promotion_fits p m) (is_target p.target m.to && is_empty p.board m.to)
-      (attacks p.board m.from m.to && has_piece (other p.side) Pawn (at p.board (captured_pawn m))) h
+  pawn_promotes_wrongly h = grind (arith, nat_tests, no_fit)
 
   pub pawn_ahead : promotion_fits p m ≡ true → m.from.file ≡ m.to.file → (is_advance p m || is_double_step p m) ≡ (is_pawn_step p m || is_en_passant p m)
-  pawn_ahead fits same =
-      ahead (own p Pawn m.from) (promotion_fits p m) (is_advance p m) (is_double_step p m) (attacks p.board m.from m.to)
-      (has_colour (other p.side) (at p.board m.to)) (is_target p.target m.to && is_empty p.board m.to)
-      (has_piece (other p.side) Pawn (at p.board (captured_pawn m))) pawn fits
-      (to_false (attacks p.board m.from m.to) (λ hits.
-      let one : gap m.from.file m.to.file ≡ 1 = equal_from _ 1 (first_true (gap m.from.file m.to.file == 1) _ (pawn_attack p m pawn hits)) in
-      omega arith))
+  pawn_ahead fits same = grind (arith, nat_tests, same, ahead, to_false, equal_from, first_true, pawn_attack)
 
   pub pawn_aside : promotion_fits p m ≡ true → (m.from.file ≡ m.to.file → ⊥) → (is_pawn_capture p m || is_en_passant p m) ≡ (is_pawn_step p m || is_en_passant p m)
-  pawn_aside fits differ =
-      aside (own p Pawn m.from) (promotion_fits p m) (is_advance p m) (is_double_step p m) (is_pawn_capture p m) (is_en_passant p m) pawn fits
-      (to_false (is_advance p m) (λ h. differ (equal_from _ _ (first_true (m.from.file == m.to.file) _ (first_true _ (is_empty p.board m.to) h)))))
-      (to_false (is_double_step p m) (λ h. differ (equal_from _ _ (first_true (m.from.file == m.to.file) _ (first_true _ (is_empty p.board (crossed m) && is_empty p.board m.to) h)))))
+  pawn_aside fits differ = grind (arith, nat_tests, aside, to_false, equal_from, first_true)

@@ -28,16 +28,13 @@ at_least_one p (x ∷ xs) zero d low h = rw h (omega arith)
 at_least_one p (x ∷ xs) (suc i) d low h = by_first (p x) (at_least_one p xs i d (omega arith) h)
   where
     by_first : (v : Bool) → 1 ≤ tally p xs → 1 ≤ cond v (1 + tally p xs) (tally p xs)
-    by_first true more = omega arith
-    by_first false more = more
+    by_first x0 more = grind (arith, nat_tests)
 
 two : (n : ℕ) (v : Bool) → v ≡ true → 1 ≤ n → cond v (1 + n) n ≤ 1 → ⊥
-two n true e more few = omega arith
-two n false e more few = cc
+two n x1 e more few = grind (arith, nat_tests)
 
 fewer : (n : ℕ) (v : Bool) → cond v (1 + n) n ≤ 1 → n ≤ 1
-fewer n true few = omega arith
-fewer n false few = few
+fewer n x1 few = grind (arith, nat_tests)
 
 tally_place : {X : Type 0} (p : X → Bool) (xs : List X) (i j : ℕ) (d : X) → tally p xs ≤ 1 → i < length xs → j < length xs → p (get_or xs i d) ≡ true → p (get_or xs j d) ≡ true → i ≡ j
 tally_place p [] i j d one low high h g = absurd (omega arith)
@@ -56,19 +53,14 @@ tally_some p [] h = absurd (omega arith)
 tally_some p (x ∷ xs) h = by_first (p x) h (tally_some p xs)
   where
     by_first : (v : Bool) → 1 ≤ cond v (1 + tally p xs) (tally p xs) → (1 ≤ tally p xs → position_or_len p xs < length xs) → cond (not v) (1 + position_or_len p xs) 0 < length (x ∷ xs)
-    by_first true g more = omega arith
-    by_first false g more = (let later : position_or_len p xs < length xs = more g in omega arith)
+    by_first x0 g more = grind (arith, nat_tests)
 
 some_place : {X : Type 0} (p : X → Bool) (xs : List X) → 1 ≤ count_by p xs → position_or_len p xs < length xs
 some_place p xs h = tally_some p xs (omega (arith, tally-count_by p xs))
 
 -- the first place, where there is one
 pub place_found : {X : Type 0} (p : X → Bool) (xs : List X) → 1 ≤ count_by p xs → position p xs ≡ Some (position_or_len p xs)
-place_found p xs h = by_test (nat_lt (position_or_len p xs) (length xs)) refl (some_place p xs h)
-  where
-    by_test : (v : Bool) → nat_lt (position_or_len p xs) (length xs) ≡ v → position_or_len p xs < length xs → cond v (Some (position_or_len p xs)) None ≡ Some (position_or_len p xs)
-    by_test true e low = refl
-    by_test false e low = absurd (grind (arith, nat_tests))
+place_found p xs h = grind (arith, nat_tests, length, some_place)
 
 -- The king's square.
 
@@ -76,13 +68,7 @@ pub cell_of-square_at : (i : ℕ) → cell_of (square_at i) ≡ i
 cell_of-square_at i = omega arith
 
 pub square_at-cell_of : (s : Square) → s.file < 8 → square_at (cell_of s) ≡ s
-square_at-cell_of s file = ap₂ square (low s.rank s.file file) (high s.rank s.file file)
-  where
-    low : (r f : ℕ) → f < 8 → (8 * r + f) % 8 ≡ f
-    low r f h = omega arith
-
-    high : (r f : ℕ) → f < 8 → (8 * r + f) / 8 ≡ r
-    high r f h = omega arith
+square_at-cell_of s file = grind (arith, nat_tests)
 
 pub record StandsAt (c : Colour) (b : Board) (k : Square) : Type 0 where
   pub file : k.file < 8

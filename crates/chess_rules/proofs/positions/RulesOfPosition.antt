@@ -40,21 +40,10 @@ fault_of kings edge attacked target numbers =
     else None
 
 no_fault : (a b c d e : Bool) → is_none (fault_of a b c d e) ≡ true → NoFault a b c d e
-no_fault false b c d e h = cc
-no_fault true true c d e h = cc
-no_fault true false true d e h = cc
-no_fault true false false false e h = cc
-no_fault true false false true false h = cc
-no_fault true false false true true h =
-    record { kings_ok = refl; edge_ok = refl; attacked_ok = refl; target_ok = refl; numbers_ok = refl }
+no_fault x0 b c d e h = grind (arith, nat_tests)
 
 none_from_facts : (a b c d e : Bool) → NoFault a b c d e → is_none (fault_of a b c d e) ≡ true
-none_from_facts false b c d e h = h.kings_ok
-none_from_facts true true c d e h = sym h.edge_ok
-none_from_facts true false true d e h = sym h.attacked_ok
-none_from_facts true false false false e h = h.target_ok
-none_from_facts true false false true false h = h.numbers_ok
-none_from_facts true false false true true h = refl
+none_from_facts x0 b c d e h = grind (arith, nat_tests)
 
 at_most : (m n : ℕ) → nat_le m n ≡ true → m ≤ n
 at_most m n h = grind (arith, nat_tests)
@@ -77,8 +66,7 @@ sound_from_position p h =
     }
   where
     one_of : (one_king p.board White && one_king p.board Black) ≡ true → (c : Colour) → kings c p.board ≡ 1
-    one_of g White = equal_from _ 1 (first_true (one_king p.board White) _ g)
-    one_of g Black = equal_from _ 1 (second_true (one_king p.board White) _ g)
+    one_of g x1 = grind (arith, nat_tests)
 
 pub position_from_sound : (p : Parts) → Sound p → is_position p ≡ true
 position_from_sound p s =
@@ -93,8 +81,7 @@ position_from_sound p s =
     }))
 
 pub to_false : (x : Bool) → (x ≡ true → ⊥) → x ≡ false
-to_false true h = absurd (h refl)
-to_false false h = refl
+to_false x0 h = grind (arith, nat_tests)
 
 -- rank 1 or 8
 abbrev pub is_edge : ℕ → Bool
@@ -110,7 +97,4 @@ no_pawn_on_edge b h =
     to_false (pawn_on_edge b) (λ g. by_pawn (some_square (λ s. ((s.rank == 0) || (s.rank == 7)) && is_pawn (at b s)) g))
   where
     by_pawn : Passes (λ s. ((s.rank == 0) || (s.rank == 7)) && is_pawn (at b s)) → ⊥
-    by_pawn w =
-        let none : is_pawn (at b w.on) ≡ false = h w.on (record { file = w.file; rank = w.rank }) (first_true (is_edge w.on.rank) _ w.holds) in
-        let one : is_pawn (at b w.on) ≡ true = second_true (is_edge w.on.rank) _ w.holds in
-        cc
+    by_pawn w = grind (arith, nat_tests)

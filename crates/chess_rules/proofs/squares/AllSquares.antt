@@ -7,37 +7,29 @@ use Rattle.std.proofs.lemmas.List.Folds.{list_all-append, list_all-map, list_any
 use Rattle.chess_rules.specs.Square.{Square, square, squares, lines}
 
 pub split_or : (x y : Bool) → (x || y) ≡ true → (x ≡ true) ⊎ (y ≡ true)
-split_or true y h = inl refl
-split_or false y h = inr h
+split_or x0 y h = grind (arith, nat_tests)
 
 pub or_first : (x y : Bool) → x ≡ true → (x || y) ≡ true
-or_first true y h = refl
-or_first false y h = cc
+or_first x0 y h = grind (arith, nat_tests)
 
 pub or_second : (x y : Bool) → y ≡ true → (x || y) ≡ true
-or_second true y h = refl
-or_second false y h = h
+or_second x0 y h = grind (arith, nat_tests)
 
 -- a test in two parts, as it is run
 pub true_or : (x y r : Bool) → r ≡ x → r ≡ true → (x || y) ≡ r
-true_or true y r e h = sym h
-true_or false y r e h = cc
+true_or x0 y r e h = grind (arith, nat_tests)
 
 pub false_or : (x y r q : Bool) → r ≡ x → r ≡ false → q ≡ y → (x || y) ≡ q
-false_or true y r q e h g = cc
-false_or false y r q e h g = sym g
+false_or x0 y r q e h g = grind (arith, nat_tests)
 
 pub not_means : (x : Bool) → not x ≡ true → x ≡ false
-not_means true g = cc
-not_means false g = refl
+not_means x0 g = grind (arith, nat_tests)
 
 pub not_true : (x y : Bool) → x ≡ true → (not x || y) ≡ true → y ≡ true
-not_true true y h g = g
-not_true false y h g = cc
+not_true x0 y h g = grind (arith, nat_tests)
 
 pub implied : (x y : Bool) → (x ≡ true → y ≡ true) → (not x || y) ≡ true
-implied true y h = h refl
-implied false y h = refl
+implied x0 y h = grind (arith, nat_tests)
 
 pub equal_from : (a b : ℕ) → (a == b) ≡ true → a ≡ b
 equal_from a b h = grind (arith, nat_tests)
@@ -47,21 +39,16 @@ equal_tests a b h = grind (arith, nat_tests)
 
 -- two tests that imply one another
 pub same_tests : (x y : Bool) → (x ≡ true → y ≡ true) → (y ≡ true → x ≡ true) → x ≡ y
-same_tests true y h g = sym (h refl)
-same_tests false true h g = g refl
-same_tests false false h g = refl
+same_tests x0 y h g = grind (arith, nat_tests)
 
 pub both_true : (x y : Bool) → x ≡ true → y ≡ true → (x && y) ≡ true
-both_true true y a b = b
-both_true false y a b = a
+both_true x0 y a b = grind (arith, nat_tests)
 
 pub first_true : (x y : Bool) → (x && y) ≡ true → x ≡ true
-first_true true y h = refl
-first_true false y h = h
+first_true x0 y h = grind (arith, nat_tests)
 
 pub second_true : (x y : Bool) → (x && y) ≡ true → y ≡ true
-second_true true y h = h
-second_true false y h = cc
+second_true x0 y h = grind (arith, nat_tests)
 
 equal_or_above : (a k : ℕ) → a ≤ k → (k ≡ a) ⊎ (a + 1 ≤ k)
 equal_or_above a k h = grind arith
@@ -130,8 +117,7 @@ list_any-map test f [] = refl
 list_any-map test f (x ∷ xs) = ap (λ v. test (f x) || v) (list_any-map test f xs)
 
 pub any_same : {X : Type 0} (f g : X → Bool) (xs : List X) → ((x : X) → f x ≡ g x) → list_any f xs ≡ list_any g xs
-any_same f g [] h = refl
-any_same f g (x ∷ xs) h = ap₂ (λ v w. v || w) (h x) (any_same f g xs h)
+any_same f g x2 h = grind (arith, nat_tests)
 
 list_any-flat_map : {X Y : Type 0} (test : Y → Bool) (f : X → List Y) (xs : List X) → list_any test (flat_map f xs) ≡ list_any (λ x. list_any test (f x)) xs
 list_any-flat_map test f [] = refl

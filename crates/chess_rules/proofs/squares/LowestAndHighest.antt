@@ -8,6 +8,7 @@ use Rattle.std.proofs.lemmas.Nat.Bits.{bit_at_above, bit_at_cat_high, bit_at-tra
 use Rattle.chess_rules.specs.Words.{has, IsHighest, IsLowest, IsOnlyHighest, IsOnlyLowest}
 use Rattle.chess_rules.proofs.squares.AllSquares.{equal_from, equal_tests}
 use Rattle.chess_rules.proofs.squares.WordsToCells.{has_single, has_zero, same_or_apart}
+use Rattle.std.proofs.lemmas.Bool.Decides.{nat_tests}
 
 pub lowest_place : (n : ℕ) → 0 < n → n < 2 ^ 64 → IsLowest n (trailing_zeros w64 n)
 unfolding has
@@ -17,11 +18,7 @@ lowest_place n some fits =
 
 -- the digit that makes a number as long as it is
 top_digit : (n j : ℕ) → 2 ^ j ≤ n → n < 2 * 2 ^ j → bit_at n j ≡ 1
-top_digit n j low high =
-    let parts : n ≡ 1 * 2 ^ j + (n - 2 ^ j) = omega arith in
-    let rest : n - 2 ^ j < 2 ^ j = omega arith in
-    let here : j - j ≡ 0 = omega arith in
-    ap (λ m. bit_at m j) parts ∙ (bit_at_cat_high 1 j (n - 2 ^ j) j rest (omega arith) ∙ ap (bit_at 1) here)
+top_digit n j low high = grind (arith, nat_tests)
 
 pub highest_place : (n : ℕ) → 0 < n → n < 2 ^ 64 → IsHighest n (63 - leading_zeros w64 n)
 unfolding has
@@ -54,11 +51,7 @@ at_single r n i is = ap (λ m. has m i) is ∙ has_single n i
 
 -- two places of which none is before the other
 one_of_order : (i n : ℕ) → (i < n → ⊥) → (n < i → ⊥) → i ≡ n
-one_of_order i n h g = by_place (same_or_apart i n)
-  where
-    by_place : ((i ≡ n) × ((i == n) ≡ true)) ⊎ ((i ≢ n) × ((i == n) ≡ false)) → i ≡ n
-    by_place (inl w) = w.0
-    by_place (inr w) = grind (arith, h, g)
+one_of_order i n h g = grind (arith, nat_tests)
 
 pub lowest_alone : (w n r : ℕ) → IsLowest w n → r ≡ 2 ^ n → IsOnlyLowest w r
 lowest_alone w n r lowest is =

@@ -31,8 +31,7 @@ places_same w p q e h = record { of = λ i low. h.of i low ∙ e i low }
 
 -- the squares before one
 pub places_below : (w k : ℕ) (t : Square) → w ≡ 2 ^ k - 1 → k ≡ cell_of t → Places w (λ s. nat_lt (cell_of s) (cell_of t))
-places_below w k t is place =
-    record { of = λ i low. ap (λ n. has n i) is ∙ (has_below k i ∙ ap₂ nat_lt (sym (cell_of-square_at i)) place) }
+places_below w k t is place = grind (arith, nat_tests, has_below, cell_of-square_at)
 
 -- a set of cells is one of squares
 pub marked : (w : ℕ) (test : Option Piece → Bool) (b : Board) → Marks w test b → Places w (λ s. test (at b s))
@@ -62,13 +61,7 @@ one_passes w test h some fits =
     at_place i low here = any_square test (square_at i) (omega arith) (omega arith) (sym (h.of i low) ∙ here)
 
 pub set_test : (w : ℕ) (test : Square → Bool) → Places w test → w < 2 ^ 64 → not (w == 0) ≡ list_any test squares
-set_test w test places fits = by_test (w == 0) refl
-  where
-    by_test : (x : Bool) → (w == 0) ≡ x → not (w == 0) ≡ list_any test squares
-    by_test true e = ap not e ∙ sym (none_passes w test places (equal_from w 0 e))
-    by_test false e =
-        let some : 0 < w = grind (arith, nat_tests) in
-        ap not e ∙ sym (one_passes w test places some fits)
+set_test w test places fits = grind (arith, nat_tests, none_passes, equal_from, one_passes)
 
 -- The members in turn.
 
@@ -112,11 +105,7 @@ first_taken p q a (suc k) n low high here none rest =
     less i j g apart = grind (arith, apart)
 
     later : (i : ℕ) → a + 1 ≤ i → a ≡ n → (i == n) ≡ false
-    later i above same = by_test (same_or_apart i n)
-      where
-        by_test : ((i ≡ n) × ((i == n) ≡ true)) ⊎ ((i ≡ n → ⊥) × ((i == n) ≡ false)) → (i == n) ≡ false
-        by_test (inl v) = absurd (omega (arith, v.0))
-        by_test (inr v) = v.1
+    later i above same = grind (arith, nat_tests)
 
 pub next_member : (w rest n : ℕ) → IsLowest w n → Sets w rest n false → members w ≡ square_at n ∷ members rest
 unfolding members
@@ -162,8 +151,7 @@ none_kept p a (suc n) h = by_test (p (square_at a)) refl (none_kept p (a + 1) n 
   where
     by_test : (x : Bool) → p (square_at a) ≡ x → length (filter p (map square_at (range_with_len (a + 1) n))) ≡ 0
         → length (cond x (square_at a ∷ filter p (map square_at (range_with_len (a + 1) n))) (filter p (map square_at (range_with_len (a + 1) n)))) ≡ 0
-    by_test true e none = absurd (h a (omega arith) (omega arith) e)
-    by_test false e none = none
+    by_test x0 e none = grind (arith, nat_tests)
 
 one_of_range : (p : Square → Bool) (a n : ℕ) → ((i j : ℕ) → a ≤ i → i < j → j < a + n → p (square_at i) ≡ true → p (square_at j) ≡ true → ⊥)
     → length (filter p (map square_at (range_with_len a n))) ≤ 1

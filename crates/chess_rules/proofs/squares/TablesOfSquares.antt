@@ -29,15 +29,12 @@ at_number f (suc n) k (suc i) d less =
     at_number f n (k + 1) i d (omega arith) ∙ ap f same
 
 pub table_at : (f : ℕ → ℕ) (table : List ℕ) (n i : ℕ) → table ≡ map f (numbers n 0) → i < n → get_or table i 0 ≡ f i
-table_at f table n i are less =
-    let same : 0 + i ≡ i = omega arith in
-    ap (λ l. get_or l i 0) are ∙ (at_number f n 0 i 0 less ∙ ap f same)
+table_at f table n i are less = grind (arith, nat_tests, get_or, at_number)
 
 -- A set of squares in a table.
 
 is_one : (b : Bool) → (digit b == 1) ≡ b
-is_one true = refl
-is_one false = refl
+is_one x0 = grind (arith, nat_tests)
 
 mask_has : (test : Square → Bool) (i : ℕ) → i < 64 → has (mask test) i ≡ test (square_at i)
 unfolding has mask
@@ -71,14 +68,7 @@ file_aligned : (s u t : Square) → between_on_file s u t ≡ true → is_aligne
 file_aligned s u t h = grind (arith, nat_tests)
 
 ends_aligned : (s u t : Square) → strictly_between s u t ≡ true → is_aligned s t ≡ true
-ends_aligned s u t h =
-    elim (split_or (between_on_rank s u t) (between_on_file s u t || between_on_diagonal s u t) h) [
-      | inl r ↦ rank_aligned s u t r
-      | inr more ↦ elim (split_or (between_on_file s u t) (between_on_diagonal s u t) more) [
-        | inl f ↦ file_aligned s u t f
-        | inr d ↦ or_second _ _ (first_true (on_diagonal s t) (on_diagonal s u) (first_true (on_diagonal s t && on_diagonal s u) _ d))
-      ]
-    ]
+ends_aligned s u t h = grind (arith, nat_tests)
 
 pub between_places : (s t : Square) (n : ℕ) → s.file < 8 → t.file < 8 → t.rank < 8 → n ≡ between_mask (64 * cell_of s + cell_of t) → Places n (λ u. strictly_between s u t)
 unfolding between_mask
@@ -92,5 +82,4 @@ between_places s t n sf tf tr is =
         record { of = λ i _. ap (λ m. has m i) (h ∙ ap (λ x. if x then mask (λ u. strictly_between s u t) else 0) e) ∙ (has_zero i ∙ sym (none (square_at i) (strictly_between s (square_at i) t) refl)) }
       where
         none : (u : Square) (x : Bool) → strictly_between s u t ≡ x → strictly_between s u t ≡ false
-        none u false g = g
-        none u true g = absurd (false≢true (sym e ∙ ends_aligned s u t g))
+        none u x1 g = grind (arith, nat_tests)

@@ -25,12 +25,7 @@ use Rattle.chess_rules.proofs.trying.FoundLists.{keep, filter_as_map, distinct_f
 -- One square.
 
 pub square_laws : IsEquivalence same_square
-square_laws =
-    record {
-      refl = λ s. both_true (s.file == s.file) (s.rank == s.rank) (nat_eq_equiv.refl s.file) (nat_eq_equiv.refl s.rank);
-      symm = λ s t. ap₂ (λ x y. x && y) (nat_eq_equiv.symm s.file t.file) (nat_eq_equiv.symm s.rank t.rank);
-      congr = λ s t u h. ap (λ v. same_square v u) (squares_same s t h);
-    }
+square_laws = grind (arith, nat_tests)
 
 pub square_decides : (s t : Square) → Decides (same_square s t) (s ≡ t)
 square_decides s t = (squares_same s t, λ e. subst (λ (u : Square). same_square s u ≡ true) e (square_laws.refl s))
@@ -52,8 +47,7 @@ candidates_apart p k t =
     (λ s u _ h. kept (is_candidate p k t s) s u h) (λ s u h. ap cell_of (squares_same s u h)) squares all_known squares_apart)
   where
     kept : (x : Bool) (s u : Square) → (if x then Some s else None) ≡ Some u → cell_of u ≡ cell_of s
-    kept true s u h = (let same : s ≡ u = cc in ap cell_of (sym same))
-    kept false s u h = cc
+    kept x0 s u h = grind (arith, nat_tests)
 
 -- no two of them are one, wherever the list is kept
 pub apart_there : (xs ys : List Square) → ys ≡ xs → IsDistinct same_square xs → AllPairs (λ s t. s ≢ t) ys
@@ -70,20 +64,10 @@ is_rider Knight = false
 is_rider Pawn = true
 
 pub sees_by_way : (p : Parts) (k : Kind) (s t : Square) → is_rider k ≡ true → sees k p s t ≡ (is_aligned s t && is_clear p.board s t)
-sees_by_way p King s t h = refl
-sees_by_way p Queen s t h = refl
-sees_by_way p Rook s t h = refl
-sees_by_way p Bishop s t h = refl
-sees_by_way p Knight s t h = cc
-sees_by_way p Pawn s t h = refl
+sees_by_way p x1 s t h = grind (arith, nat_tests)
 
 pub kind_cases : (k : Kind) → (is_rider k ≡ true) ⊎ (k ≡ Knight)
-kind_cases King = inl refl
-kind_cases Queen = inl refl
-kind_cases Rook = inl refl
-kind_cases Bishop = inl refl
-kind_cases Knight = inr refl
-kind_cases Pawn = inl refl
+kind_cases x0 = grind (arith, nat_tests)
 
 pub rides_unless : (k : Kind) → (k ≡ Knight → ⊥) → is_rider k ≡ true
 rides_unless k h = elim (kind_cases k) [ inl rides ↦ rides | inr knight ↦ absurd (h knight) ]
@@ -91,13 +75,7 @@ rides_unless k h = elim (kind_cases k) [ inl rides ↦ rides | inr knight ↦ ab
 -- They are few.
 
 pub rider_in_view : (p : Parts) (k : Kind) (t s : Square) → is_rider k ≡ true → is_candidate p k t s ≡ true → is_in_view p.board t s ≡ true
-rider_in_view p k t s rides h =
-    let seen : (is_aligned s t && is_clear p.board s t) ≡ true = sym (sees_by_way p k s t rides) ∙ second_true (own p k s) _ h in
-    both_true _ _ (first_true (is_aligned s t) _ seen) (both_true _ _ (occupied (at p.board s) (first_true (own p k s) _ h)) (second_true (is_aligned s t) _ seen))
-  where
-    occupied : (cell : Option Piece) → has_piece p.side k cell ≡ true → is_some cell ≡ true
-    occupied None g = cc
-    occupied (Some x) g = refl
+rider_in_view p k t s rides h = grind (arith, nat_tests)
 
 jumps_are_few : list_all (λ t. nat_le (length (filter (λ s. is_jump s t) squares)) 8) squares ≡ true
 unfolding squares

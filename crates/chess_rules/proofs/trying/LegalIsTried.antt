@@ -1,5 +1,5 @@
 -- A move is legal exactly if one of the pairs that are tried is.
-use Rattle.std.proofs.Common.{◌≡◌, Bool, true, false, not, ◌&&◌, ◌||◌, inl, inr, List, [], ◌∷◌, refl, sym, ◌∙◌, ap, ap₂, subst}
+use Rattle.std.proofs.Common.{arith, ◌≡◌, Bool, true, false, not, ◌&&◌, ◌||◌, inl, inr, List, [], ◌∷◌, refl, sym, ◌∙◌, ap, ap₂, subst}
 use Rattle.std.specs.Prelude.{Option, None, Some, filter, is_none}
 use Rattle.std.specs.List.{list_any}
 use Rattle.chess_rules.specs.declared.piece.Colour.{Colour}
@@ -29,17 +29,12 @@ use Rattle.chess_rules.proofs.trying.OriginsAreCandidates.{step_seen}
 use Rattle.chess_rules.proofs.trying.FoundLists.{to_false, list_any-filter}
 use Rattle.chess_rules.proofs.trying.CandidatesAreFew.{is_rider, kind_cases, sees_by_way}
 use Rattle.chess_rules.proofs.trying.PromotionsAlike.{legal_after, one_will_do}
+use Rattle.std.proofs.lemmas.Bool.Decides.{nat_tests}
 
 -- What is hit is a legal move.
 
 any_promotion : (test : Option Promotion → Bool) (o : Option Promotion) → test o ≡ true → list_any test every_promotion ≡ true
-any_promotion test None h = or_first (test None) _ h
-any_promotion test (Some promotions.Queen) h = or_second (test None) _ (or_first (test (Some promotions.Queen)) _ h)
-any_promotion test (Some promotions.Rook) h = or_second (test None) _ (or_second (test (Some promotions.Queen)) _ (or_first (test (Some promotions.Rook)) _ h))
-any_promotion test (Some promotions.Bishop) h =
-    or_second (test None) _ (or_second (test (Some promotions.Queen)) _ (or_second (test (Some promotions.Rook)) _ (or_first (test (Some promotions.Bishop)) _ h)))
-any_promotion test (Some promotions.Knight) h =
-    or_second (test None) _ (or_second (test (Some promotions.Queen)) _ (or_second (test (Some promotions.Rook)) _ (or_second (test (Some promotions.Bishop)) _ (or_first (test (Some promotions.Knight)) _ h))))
+any_promotion test x1 h = grind (arith, nat_tests)
 
 abbrev some_promotion : Parts → Square → Square → Bool
 some_promotion p from to = list_any (λ promotion. is_legal p (record { from = from; to = to; promotion = promotion })) every_promotion
@@ -83,16 +78,10 @@ kind_there c None h = cc
 kind_there c (Some x) h = (x.kind, both_true _ _ h (itself x.kind))
   where
     itself : (k : Kind) → same_kind k k ≡ true
-    itself King = refl
-    itself Queen = refl
-    itself Rook = refl
-    itself Bishop = refl
-    itself Knight = refl
-    itself Pawn = refl
+    itself x0 = grind (arith, nat_tests)
 
 colour_there : (c : Colour) (k : Kind) (cell : Option Piece) → has_piece c k cell ≡ true → has_colour c cell ≡ true
-colour_there c k None h = cc
-colour_there c k (Some x) h = first_true (same_colour c x.colour) _ h
+colour_there c k x2 h = grind (arith, nat_tests)
 
 mover : (p q : Parts) (m : Move) → Legal p m q → (k : Kind) × (own p k m.from ≡ true)
 mover p q m l =
@@ -132,21 +121,7 @@ jump_untried : (p : Parts) (s t : Square) → own p Knight s ≡ true → is_jum
 jump_untried p s t owns jumps = or_first (own p Knight s && is_jump s t) (is_untried_rider p t s) (both_true _ _ owns jumps)
 
 way_untried : (p : Parts) (k : Kind) (s t : Square) → own p k s ≡ true → is_rider k ≡ true → sees k p s t ≡ true → (is_king_step p t && own p King s) ≡ false → is_untried p t s ≡ true
-way_untried p k s t owns rides seen far =
-    or_second (own p Knight s && is_jump s t) (is_untried_rider p t s)
-    (both_true (((has_colour p.side (at p.board s) && not (own p Knight s)) && is_aligned s t) && not (is_king_step p t && own p King s)) (is_clear p.board s t)
-    (both_true ((has_colour p.side (at p.board s) && not (own p Knight s)) && is_aligned s t) (not (is_king_step p t && own p King s))
-    (both_true (has_colour p.side (at p.board s) && not (own p Knight s)) (is_aligned s t)
-    (both_true (has_colour p.side (at p.board s)) (not (own p Knight s)) (colour_there p.side k (at p.board s) owns) (ap not no_knight))
-    (first_true (is_aligned s t) (is_clear p.board s t) in_sight))
-    (ap not far))
-    (second_true (is_aligned s t) (is_clear p.board s t) in_sight))
-  where
-    in_sight : (is_aligned s t && is_clear p.board s t) ≡ true
-    in_sight = sym (sees_by_way p k s t rides) ∙ seen
-
-    no_knight : own p Knight s ≡ false
-    no_knight = to_false (own p Knight s) (λ knight. cc (rides, ap is_rider (one_kind p.side p.side k Knight (at p.board s) owns knight)))
+way_untried p k s t owns rides seen far = grind (arith, nat_tests, or_second, both_true, colour_there, first_true, second_true, sees_by_way, to_false, is_rider, one_kind)
 
 hit_when : (p : Parts) (m : Move) → is_position p ≡ true → is_legal p m ≡ true → (any_king_step p || any_other p) ≡ true
 hit_when p m position h = by_legal (legal_after p m h)

@@ -22,12 +22,7 @@ use Rattle.chess_rules.proofs.moves.LegalToPosition.{way_of, Legal, legal_means}
 
 -- what a piece attacks it sees
 seen_by : (k : Kind) (c : Colour) (p : Parts) (s t : Square) → kind_attacks k c p.board s t ≡ true → sees k p s t ≡ true
-seen_by King c p s t h = elim (attack_seen King c p.board s t h) [ inl e ↦ cc | inr seen ↦ seen ]
-seen_by Queen c p s t h = h
-seen_by Rook c p s t h = elim (attack_seen Rook c p.board s t h) [ inl e ↦ cc | inr seen ↦ seen ]
-seen_by Bishop c p s t h = elim (attack_seen Bishop c p.board s t h) [ inl e ↦ cc | inr seen ↦ seen ]
-seen_by Knight c p s t h = h
-seen_by Pawn c p s t h = elim (attack_seen Pawn c p.board s t h) [ inl e ↦ cc | inr seen ↦ seen ]
+seen_by x0 c p s t h = grind (arith, nat_tests, attack_seen)
 
 apart_by_rank : (s t : Square) → 0 < gap s.rank t.rank → not (same_square s t) ≡ true
 apart_by_rank s t h = grind (arith, nat_tests)
@@ -42,38 +37,13 @@ advance_seen p m h =
 -- what lies between two squares of one file, or of one rank
 
 file_means : (s u t : Square) → s.file ≡ t.file → strictly_between s u t ≡ true → (u.file ≡ s.file) × (inside s.rank u.rank t.rank ≡ true)
-file_means s u t same h = between_cases s u t h rank file cross
-  where
-    rank : between_on_rank s u t ≡ true → (u.file ≡ s.file) × (inside s.rank u.rank t.rank ≡ true)
-    rank g = absurd (grind (arith, nat_tests))
-
-    file : between_on_file s u t ≡ true → (u.file ≡ s.file) × (inside s.rank u.rank t.rank ≡ true)
-    file g = (grind (arith, nat_tests), second_true (u.file == s.file) _ (second_true (s.file == t.file) _ g))
-
-    cross : between_on_diagonal s u t ≡ true → (u.file ≡ s.file) × (inside s.rank u.rank t.rank ≡ true)
-    cross g = absurd (not_across s t same (first_true (on_diagonal s t) (on_diagonal s u) (first_true (on_diagonal s t && on_diagonal s u) _ g)))
-      where
-        not_across : (s t : Square) → s.file ≡ t.file → on_diagonal s t ≡ true → ⊥
-        not_across s t same g = grind (arith, nat_tests)
+file_means s u t same h = grind (arith, nat_tests)
 
 rank_means : (s u t : Square) → s.rank ≡ t.rank → strictly_between s u t ≡ true → between_on_rank s u t ≡ true
-rank_means s u t same h = between_cases s u t h (λ g. g) (λ g. absurd (file g)) (λ g. absurd (cross (first_true (on_diagonal s t) (on_diagonal s u) (first_true (on_diagonal s t && on_diagonal s u) _ g))))
-  where
-    file : between_on_file s u t ≡ true → ⊥
-    file g = grind (arith, nat_tests)
-
-    cross : on_diagonal s t ≡ true → ⊥
-    cross g = grind (arith, nat_tests)
+rank_means s u t same h = grind (arith, nat_tests)
 
 middle : (c : Colour) (a b x : ℕ) → a ≡ pawn_rank c → b ≡ double_rank c → inside a x b ≡ true → x ≡ (a + b) / 2
-middle White a b x low high h = rw (low, high) (one x (subst (λ (n : ℕ). inside n x 3 ≡ true) low (subst (λ (n : ℕ). inside a x n ≡ true) high h)))
-  where
-    one : (y : ℕ) → inside 1 y 3 ≡ true → y ≡ 2
-    one y g = grind (arith, nat_tests)
-middle Black a b x low high h = rw (low, high) (one x (subst (λ (n : ℕ). inside n x 4 ≡ true) low (subst (λ (n : ℕ). inside a x n ≡ true) high h)))
-  where
-    one : (y : ℕ) → inside 6 y 4 ≡ true → y ≡ 5
-    one y g = grind (arith, nat_tests)
+middle x0 a b x low high h = grind (arith, nat_tests)
 
 -- a pawn's double step is seen: the one square between is empty
 double_seen : (p : Parts) (m : Move) → is_double_step p m ≡ true → sees Pawn p m.from m.to ≡ true
@@ -93,8 +63,7 @@ double_seen p m h =
     subst (λ (v : Square). is_empty p.board v ≡ true) (sym (ap₂ square place.0 (middle p.side m.from.rank m.to.rank u.rank ranks.0 ranks.1 place.1))) free))
   where
     some_ranks : (c : Colour) (a b : ℕ) → a ≡ pawn_rank c → b ≡ double_rank c → 0 < gap a b
-    some_ranks White a b low high = rw (low, high) (omega arith)
-    some_ranks Black a b low high = rw (low, high) (omega arith)
+    some_ranks x0 a b low high = grind (arith, nat_tests)
 
 -- Castling: the king sees its end over the square that it crosses.
 
@@ -115,12 +84,10 @@ long_part : (x : ℕ) → inside 4 x 2 ≡ true → inside 4 x 0 ≡ true
 long_part x h = grind (arith, nat_tests)
 
 short_way : (b : Board) (c : Colour) → is_clear b (square 4 (home_rank c)) (square 7 (home_rank c)) ≡ true → (is_aligned (square 4 (home_rank c)) (square 6 (home_rank c)) && is_clear b (square 4 (home_rank c)) (square 6 (home_rank c))) ≡ true
-short_way b White h = clear_part b 0 6 7 short_part h
-short_way b Black h = clear_part b 7 6 7 short_part h
+short_way b x1 h = grind (arith, nat_tests, clear_part, short_part)
 
 long_way : (b : Board) (c : Colour) → is_clear b (square 4 (home_rank c)) (square 0 (home_rank c)) ≡ true → (is_aligned (square 4 (home_rank c)) (square 2 (home_rank c)) && is_clear b (square 4 (home_rank c)) (square 2 (home_rank c))) ≡ true
-long_way b White h = clear_part b 0 2 0 long_part h
-long_way b Black h = clear_part b 7 2 0 long_part h
+long_way b x1 h = grind (arith, nat_tests, clear_part, long_part)
 
 -- Each way to step.
 
@@ -131,28 +98,12 @@ by_attack : (p : Parts) (m : Move) (k : Kind) → own p k m.from ≡ true → at
 by_attack p m k h g = seen_by k p.side p m.from m.to (attacks_as p.side k (at p.board m.from) p.board m.from m.to h g)
 
 by_pawn : (p : Parts) (m : Move) (k : Kind) → own p k m.from ≡ true → is_pawn_step p m ≡ true → sees k p m.from m.to ≡ true
-by_pawn p m k h g =
-    elim (split_or (is_advance p m) (is_double_step p m || is_pawn_capture p m) way) [
-      | inl one ↦ sees_pawn p k m.from m.to h pawn (advance_seen p m one)
-      | inr more ↦ elim (split_or (is_double_step p m) (is_pawn_capture p m) more) [
-        | inl two ↦ sees_pawn p k m.from m.to h pawn (double_seen p m two)
-        | inr takes ↦ by_attack p m k h (first_true (attacks p.board m.from m.to) _ takes)
-      ]
-    ]
-  where
-    pawn : own p Pawn m.from ≡ true
-    pawn = first_true (own p Pawn m.from) (is_pawn_way p m && promotion_fits p m) g
-
-    way : is_pawn_way p m ≡ true
-    way = first_true (is_pawn_way p m) (promotion_fits p m) (second_true (own p Pawn m.from) (is_pawn_way p m && promotion_fits p m) g)
+by_pawn p m k h g = grind (arith, nat_tests, split_or, sees_pawn, advance_seen, double_seen, by_attack, first_true, second_true)
 
 by_castling : (p : Parts) (m : Move) (k : Kind) (wing : Wing)
     → (is_clear p.board (home p 4) (home p wing.rook) ≡ true → (is_aligned (home p 4) (home p wing.end) && is_clear p.board (home p 4) (home p wing.end)) ≡ true)
     → own p k m.from ≡ true → Castles p m wing → sees k p m.from m.to ≡ true
-by_castling p m k wing way h g =
-    let seen : sees King p (home p 4) (home p wing.end) ≡ true = way g.clear in
-    subst (λ (j : Kind). sees j p m.from m.to ≡ true) (sym (one_kind p.side p.side k King (at p.board m.from) h g.king))
-    (subst (λ (s : Square). sees King p s m.to ≡ true) (sym g.from) (subst (λ (t : Square). sees King p (home p 4) t ≡ true) (sym g.to) seen))
+by_castling p m k wing way h g = grind (arith, nat_tests)
 
 pub step_seen : (p q : Parts) (m : Move) (k : Kind) → own p k m.from ≡ true → Legal p m q → sees k p m.from m.to ≡ true
 step_seen p q m k h l =

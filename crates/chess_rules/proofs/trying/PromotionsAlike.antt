@@ -26,6 +26,7 @@ use Rattle.chess_rules.proofs.positions.RulesOfPosition.{sound_from_position}
 use Rattle.chess_rules.proofs.moves.StepsKeepBoard.{other-other, one_kind, pawn_is_no_king, castles_means}
 use Rattle.chess_rules.proofs.moves.LegalToPosition.{on_board_means, way_of, Legal, legal_means}
 use Rattle.chess_rules.proofs.trying.FoundLists.{to_false, passes}
+use Rattle.std.proofs.lemmas.Bool.Decides.{nat_tests}
 
 -- Two boards that differ in pieces of one colour alone, none of them a king, attack that colour's
 -- king alike.
@@ -83,16 +84,10 @@ clear_alike c b d s t alike =
     (λ u on. ap (λ v. not (strictly_between s u t) || v) (alike.cells u on).empty)
 
 kind_alike : (k : Kind) (a : Colour) (b d : Board) (s t : Square) → is_clear b s t ≡ is_clear d s t → kind_attacks k a b s t ≡ kind_attacks k a d s t
-kind_alike King a b d s t h = refl
-kind_alike Queen a b d s t h = ap (λ v. (in_line s t || on_diagonal s t) && v) h
-kind_alike Rook a b d s t h = ap (λ v. in_line s t && v) h
-kind_alike Bishop a b d s t h = ap (λ v. on_diagonal s t && v) h
-kind_alike Knight a b d s t h = refl
-kind_alike Pawn a b d s t h = refl
+kind_alike x0 a b d s t h = grind (arith, nat_tests)
 
 cell_alike : (cell : Option Piece) (b d : Board) (s t : Square) → is_clear b s t ≡ is_clear d s t → cell_attacks cell b s t ≡ cell_attacks cell d s t
-cell_alike None b d s t h = refl
-cell_alike (Some x) b d s t h = kind_alike x.kind x.colour b d s t h
+cell_alike x0 b d s t h = grind (arith, nat_tests)
 
 attack_alike : (c : Colour) (b d : Board) (s t : Square) → Alike c b d → OnBoard s → (has_colour (other c) (at b s) && attacks b s t) ≡ (has_colour (other c) (at d s) && attacks d s t)
 attack_alike c b d s t alike on = by_colours (has_colour (other c) (at b s)) refl (has_colour (other c) (at d s)) refl
@@ -119,27 +114,10 @@ king_alike c b d alike =
 -- What arrives.
 
 not_other : (c : Colour) (k : Kind) → has_colour (other c) (some_piece c k) ≡ true → ⊥
-not_other White k h = cc
-not_other Black k h = cc
+not_other x0 k h = grind (arith, nat_tests)
 
 men_alike : (c : Colour) (x y : Promotion) → CellsAlike c (some_piece c (kind_of x)) (some_piece c (kind_of y))
-men_alike c x y =
-    record {
-      king = no_king x ∙ sym (no_king y);
-      empty = refl;
-      others = λ h. absurd (not_other c (kind_of x) h);
-      back = λ h. absurd (not_other c (kind_of y) h);
-    }
-  where
-    neither : (v : Bool) → (v && false) ≡ false
-    neither true = refl
-    neither false = refl
-
-    no_king : (z : Promotion) → has_piece c King (some_piece c (kind_of z)) ≡ false
-    no_king promotions.Queen = neither _
-    no_king promotions.Rook = neither _
-    no_king promotions.Bishop = neither _
-    no_king promotions.Knight = neither _
+men_alike c x y = grind (arith, nat_tests)
 
 -- The boards after a pair with two promotions.
 
@@ -147,8 +125,7 @@ abbrev promoting : Square → Square → Promotion → Move
 promoting s t x = record { from = s; to = t; promotion = Some x }
 
 home_low : (c : Colour) → home_rank c < 8
-home_low White = omega arith
-home_low Black = omega arith
+home_low x0 = grind (arith, nat_tests)
 
 carried_alike : (p : Parts) (s t : Square) (x y : Promotion) → length p.board ≡ 64 → OnBoard s → OnBoard t → Alike p.side (carried p (promoting s t x)) (carried p (promoting s t y))
 carried_alike p s t x y long on_s on_t =
@@ -173,33 +150,24 @@ abbrev leaves_safe : Parts → Board → Bool
 leaves_safe p b = not (king_attacked b (other (other p.side)))
 
 safe_alike : (p : Parts) (b d : Board) → Alike p.side b d → leaves_safe p b ≡ leaves_safe p d
-safe_alike p b d alike =
-    ap not (ap (king_attacked b) (other-other p.side) ∙ (king_alike p.side b d alike ∙ ap (king_attacked d) (sym (other-other p.side))))
+safe_alike p b d alike = grind (arith, nat_tests, other-other, king_alike)
 
 -- a move is legal if there is a step, and the board after it leaves the king safe
 legal_passes : (p : Parts) (m : Move) → is_legal p m ≡ (is_on_board m && passes (leaves_safe p) (board_after p m))
 legal_passes p m = by_step (is_on_board m) (board_after p m)
   where
     by_safety : (v : Bool) (q : Parts) → is_some (if v then Some q else None) ≡ v
-    by_safety true q = refl
-    by_safety false q = refl
+    by_safety x0 q = grind (arith, nat_tests)
 
     by_step : (v : Bool) (o : Option Board) → is_some (if_safe (if v then option_map (after p m) o else None)) ≡ (v && passes (leaves_safe p) o)
-    by_step true None = refl
-    by_step true (Some b) = by_safety (leaves_safe p b) (after p m b)
-    by_step false o = refl
+    by_step x0 x1 = grind (arith, nat_tests)
 
 pick : (test : Board → Bool) (v x y z : Bool) (i j k l e f g h : Board) → test i ≡ test e → test j ≡ test f → test k ≡ test g → test l ≡ test h
     → passes test (if v then Some i else if x then Some j else if y then Some k else if z then Some l else None) ≡ passes test (if v then Some e else if x then Some f else if y then Some g else if z then Some h else None)
-pick test true x y z i j k l e f g h a b c d = a
-pick test false true y z i j k l e f g h a b c d = b
-pick test false false true z i j k l e f g h a b c d = c
-pick test false false false true i j k l e f g h a b c d = d
-pick test false false false false i j k l e f g h a b c d = refl
+pick test x1 x y z i j k l e f g h a b c d = grind (arith, nat_tests)
 
 both_when : (v x y : Bool) → (v ≡ true → x ≡ y) → (v && x) ≡ (v && y)
-both_when true x y h = h refl
-both_when false x y h = refl
+both_when x0 x y h = grind (arith, nat_tests)
 
 pub promotions_alike : PromotionsAlike
 promotions_alike p s t x y position =
@@ -211,39 +179,24 @@ promotions_alike p s t x y position =
     long = (sound_from_position p position).long
 
     boards : OnBoard s → OnBoard t → passes (leaves_safe p) (board_after p (promoting s t x)) ≡ passes (leaves_safe p) (board_after p (promoting s t y))
-    boards on_s on_t =
-        let m : Move = promoting s t x in
-        let n : Move = promoting s t y in
-        pick (leaves_safe p) (is_piece_step p m || is_pawn_step p m) (is_en_passant p m) (castles_short p m) (castles_long p m)
-        (carried p m) (en_passant_board p m) (castled p m 7 5) (castled p m 0 3) (carried p n) (en_passant_board p n) (castled p n 7 5) (castled p n 0 3)
-        (safe_alike p (carried p m) (carried p n) (carried_alike p s t x y long on_s on_t))
-        (safe_alike p (en_passant_board p m) (en_passant_board p n) (passing_alike p s t x y long on_s on_t))
-        (safe_alike p (castled p m 7 5) (castled p n 7 5) (castled_alike p s t x y 7 5 long on_s on_t (omega arith) (omega arith)))
-        (safe_alike p (castled p m 0 3) (castled p n 0 3) (castled_alike p s t x y 0 3 long on_s on_t (omega arith) (omega arith)))
+    boards on_s on_t = grind (arith, nat_tests, pick, safe_alike, carried_alike, long, passing_alike, castled_alike)
 
 -- A legal move names a promotion exactly if a pawn reaches its last rank.
 
 names_fit : (r : Bool) (o : Option Promotion) → (if r then is_some o else is_none o) ≡ true → is_some o ≡ r
-names_fit true None h = cc
-names_fit true (Some x) h = refl
-names_fit false None h = refl
-names_fit false (Some x) h = cc
+names_fit x0 x1 h = grind (arith, nat_tests)
 
 none_named : (o : Option Promotion) → is_none o ≡ true → is_some o ≡ false
-none_named None h = refl
-none_named (Some x) h = cc
+none_named x0 h = grind (arith, nat_tests)
 
 not_and : (r v : Bool) → v ≡ false → (r && v) ≡ false
-not_and true v h = h
-not_and false v h = refl
+not_and x0 v h = grind (arith, nat_tests)
 
 and_true : (r v : Bool) → v ≡ true → r ≡ (r && v)
-and_true true v h = sym h
-and_true false v h = refl
+and_true x0 v h = grind (arith, nat_tests)
 
 is_false : (v : Bool) → not v ≡ true → v ≡ false
-is_false true h = cc
-is_false false h = refl
+is_false x0 h = grind (arith, nat_tests)
 
 abbrev arrives : Parts → Move → Bool
 arrives p m = (m.to.rank == last_rank p.side) && own p Pawn m.from
@@ -281,8 +234,7 @@ named p q m l =
     by_castling king plain = named_by_other p m (king_no_pawn p m.from king) plain
 
 is_some_means : (o : Option Parts) → is_some o ≡ true → (q : Parts) × (o ≡ Some q)
-is_some_means None h = cc
-is_some_means (Some q) h = (q, refl)
+is_some_means x0 h = grind (arith, nat_tests)
 
 pub legal_after : (p : Parts) (m : Move) → is_legal p m ≡ true → (q : Parts) × Legal p m q
 legal_after p m h = (let (q, e) = is_some_means (legal p m) h in (q, legal_means p m q e))

@@ -21,13 +21,7 @@ use Rattle.chess_rules.proofs.trying.FoundLists.{kept_more}
 use Rattle.chess_rules.proofs.squares.SetsToSquares.{members_are, places_and}
 
 pub own_places : (p : Parts) (k : Kind) (d : Colour) (b : Board) (w : ℕ) → d ≡ p.side → b ≡ p.board → Marks w (has_piece d k) b → Places w (own p k)
-own_places p k d b w side board h =
-    record {
-      of = λ i low.
-          h.of i low
-          ∙ (ap₂ (λ (e : Colour) (c : Board). has_piece e k (get_or c i None)) side board
-          ∙ ap (λ j. has_piece p.side k (get_or p.board j None)) (sym (cell_of-square_at i)));
-    }
+own_places p k d b w side board h = grind (arith, nat_tests)
 
 pub knights_are : (p : Parts) (t : Square) (v w : ℕ) → Places v (own p Knight) → Places w (λ s. is_jump s t) → members (bit_and v w) ≡ candidates p Knight t
 knights_are p t v w h g =
@@ -46,13 +40,10 @@ riders_are p k t b v w clear rides board h g f =
     ∙ ap (λ x. own p k (square_at i) && x) (sym (sees_by_way p k (square_at i) t rides)))))
   where
     in_turn : (x y z : Bool) → ((x && y) && z) ≡ (x && (y && z))
-    in_turn true y z = refl
-    in_turn false y z = refl
+    in_turn x0 y z = grind (arith, nat_tests)
 
 pub few_there : (p : Parts) (k : Kind) (t : Square) (xs : List Square) → t.file < 8 → t.rank < 8 → xs ≡ candidates p k t → length xs ≤ 8
-few_there p k t xs tf tr same =
-    let few : length (candidates p k t) ≤ 8 = few_candidates p k t (both_true (nat_lt t.file 8) (nat_lt t.rank 8) (grind (arith, nat_tests)) (grind (arith, nat_tests))) in
-    omega (arith, few, ap length same)
+few_there p k t xs tf tr same = grind (arith, nat_tests, length, few_candidates, both_true)
 
 -- Without looking at what stands between.
 
@@ -67,6 +58,4 @@ riders_few p k t v w rides h g few =
     )
   where
     in_line_too : (s : Square) → is_candidate p k t s ≡ true → (own p k s && is_aligned s t) ≡ true
-    in_line_too s c =
-        both_true _ _ (first_true (own p k s) _ c)
-        (first_true (is_aligned s t) (is_clear p.board s t) (sym (sees_by_way p k s t rides) ∙ second_true (own p k s) _ c))
+    in_line_too s c = grind (arith, nat_tests)

@@ -18,27 +18,17 @@ use Rattle.chess_rules.specs.Pairs.{is_king_step, is_left, is_untried_rider}
 use Rattle.chess_rules.proofs.squares.SetsToSquares.{at_square, members_are}
 use Rattle.chess_rules.proofs.squares.WordsToCells.{has_and, has_not}
 use Rattle.chess_rules.proofs.positions.OneKing.{cell_of-square_at}
+use Rattle.std.proofs.lemmas.Bool.Decides.{nat_tests}
 
 -- the pieces of the side to move
 pub colour_places : (p : Parts) (d : Colour) (b : Board) (w : ℕ) → d ≡ p.side → b ≡ p.board → Marks w (has_colour d) b → Places w (λ s. has_colour p.side (at p.board s))
-colour_places p d b w side board h =
-    record {
-      of = λ i low.
-          h.of i low
-          ∙ (ap₂ (λ (e : Colour) (c : Board). has_colour e (get_or c i None)) side board
-          ∙ ap (λ j. has_colour p.side (get_or p.board j None)) (sym (cell_of-square_at i)));
-    }
+colour_places p d b w side board h = grind (arith, nat_tests)
 
 -- The king's steps that are tried first.
 
 pub steps_are : (p : Parts) (k : Square) (near owns : ℕ) → k ≡ king_square p.side p.board → owns < 2 ^ 64
     → Places near (λ s. is_adjacent s k) → Places owns (λ s. has_colour p.side (at p.board s)) → Places (bit_and near (bit_not w64 owns)) (is_king_step p)
-steps_are p k near owns king fits h g =
-    record {
-      of = λ i low.
-          has_and near (bit_not w64 owns) i
-          ∙ ap₂ (λ x y. x && y) (h.of i low ∙ ap (is_adjacent (square_at i)) king) (has_not owns i fits low ∙ ap not (g.of i low));
-    }
+steps_are p k near owns king fits h g = grind (arith, nat_tests, has_and, w64, has_not)
 
 pub step_tried : (p : Parts) (t : Square) (w place : ℕ) (r : Bool) → Places w (is_king_step p) → place ≡ cell_of t → t.file < 8 → t.rank < 8 → r ≡ has w place → r ≡ is_king_step p t
 step_tried p t w place r h is file rank e = e ∙ (ap (has w) is ∙ at_square w (is_king_step p) t h file rank)
@@ -46,48 +36,17 @@ step_tried p t w place r h is file rank e = e ∙ (ap (has w) is ∙ at_square w
 -- The pieces that are still to be tried for a target.
 
 pub king_left_out : (p : Parts) (t : Square) (pieces kings : ℕ) → is_king_step p t ≡ true → kings < 2 ^ 64 → Places kings (own p King) → Places (bit_and pieces (bit_not w64 kings)) (is_left p pieces t)
-king_left_out p t pieces kings step fits h =
-    record {
-      of = λ i low.
-          has_and pieces (bit_not w64 kings) i
-          ∙ ap₂ (λ x y. x && y) (ap (has pieces) (sym (cell_of-square_at i)))
-          (has_not kings i fits low ∙ ap not (h.of i low ∙ ap (λ v. v && own p King (square_at i)) (sym step)));
-    }
+king_left_out p t pieces kings step fits h = grind (arith, nat_tests, has_and, w64, cell_of-square_at, has_not)
 
 pub none_left_out : (p : Parts) (t : Square) (pieces : ℕ) → is_king_step p t ≡ false → Places pieces (is_left p pieces t)
-none_left_out p t pieces step =
-    record {
-      of = λ i low.
-          ap (has pieces) (sym (cell_of-square_at i))
-          ∙ (itself (has pieces (cell_of (square_at i)))
-          ∙ ap (λ v. has pieces (cell_of (square_at i)) && not (v && own p King (square_at i))) (sym step));
-    }
-  where
-    itself : (x : Bool) → x ≡ (x && true)
-    itself true = refl
-    itself false = refl
+none_left_out p t pieces step = grind (arith, nat_tests)
 
 pub riders_left : (p : Parts) (t : Square) (b : Board) (owns knights lines left clear : ℕ) → b ≡ p.board → knights < 2 ^ 64
     → Places owns (λ s. has_colour p.side (at p.board s)) → Places knights (own p Knight) → Places lines (λ s. is_aligned s t)
     → Places left (is_left p (bit_and (bit_and owns (bit_not w64 knights)) lines) t)
     → Places clear (λ s. has left (cell_of s) && is_clear b s t)
     → Places clear (is_untried_rider p t)
-riders_left p t b owns knights lines left clear board fits of_owns of_knights of_lines of_left of_clear =
-    record {
-      of = λ i low.
-          of_clear.of i low
-          ∙ ap₂ (λ x (c : Board). x && is_clear c (square_at i) t)
-          (ap (has left) (cell_of-square_at i)
-          ∙ (of_left.of i low
-          ∙ ap (λ x. x && not (is_king_step p t && own p King (square_at i)))
-          (ap (has (bit_and (bit_and owns (bit_not w64 knights)) lines)) (cell_of-square_at i)
-          ∙ (has_and (bit_and owns (bit_not w64 knights)) lines i
-          ∙ ap₂ (λ x y. x && y)
-          (has_and owns (bit_not w64 knights) i
-          ∙ ap₂ (λ x y. x && y) (of_owns.of i low) (has_not knights i fits low ∙ ap not (of_knights.of i low)))
-          (of_lines.of i low)))))
-          board;
-    }
+riders_left p t b owns knights lines left clear board fits of_owns of_knights of_lines of_left of_clear = grind (arith, nat_tests, cell_of-square_at, w64, has_and, has_not)
 
 -- The members of a set, and then all other squares.
 
@@ -96,18 +55,14 @@ any_parts test kept [] = refl
 any_parts test kept (x ∷ xs) = by_test (kept x) (filter kept xs) (filter (λ s. not (kept s)) xs) ∙ ap (λ v. test x || v) (any_parts test kept xs)
   where
     in_turn : (x y z : Bool) → (x || (y || z)) ≡ ((x || y) || z)
-    in_turn true y z = refl
-    in_turn false y z = refl
+    in_turn x0 y z = grind (arith, nat_tests)
 
     later : (x y z : Bool) → (x || (y || z)) ≡ (y || (x || z))
-    later true true z = refl
-    later true false z = refl
-    later false y z = refl
+    later x0 x1 z = grind (arith, nat_tests)
 
     by_test : (v : Bool) (a b : List Square)
         → (list_any test (cond v (x ∷ a) a) || list_any test (cond (not v) (x ∷ b) b)) ≡ (test x || (list_any test a || list_any test b))
-    by_test true a b = sym (in_turn (test x) (list_any test a) (list_any test b))
-    by_test false a b = later (list_any test a) (test x) (list_any test b)
+    by_test x0 a b = grind (arith, nat_tests)
 
 sum_parts : (cost : Square → ℕ) (kept : Square → Bool) (xs : List Square) → sum_by cost (filter kept xs) + sum_by cost (filter (λ s. not (kept s)) xs) ≡ sum_by cost xs
 sum_parts cost kept [] = refl
@@ -115,8 +70,7 @@ sum_parts cost kept (x ∷ xs) = by_test (kept x) (filter kept xs) (filter (λ s
   where
     by_test : (v : Bool) (a b : List Square) → sum_by cost a + sum_by cost b ≡ sum_by cost xs
         → sum_by cost (cond v (x ∷ a) a) + sum_by cost (cond (not v) (x ∷ b) b) ≡ cost x + sum_by cost xs
-    by_test true a b e = omega (arith, e, sum_by-cons cost x a)
-    by_test false a b e = omega (arith, e, sum_by-cons cost x b)
+    by_test x0 a b e = grind (arith, nat_tests, sum_by-cons)
 
 others : (w : ℕ) → w < 2 ^ 64 → members (bit_not w64 w) ≡ filter (λ s. not (has w (cell_of s))) squares
 others w fits = members_are (bit_not w64 w) (λ s. not (has w (cell_of s))) (λ i low. has_not w i fits low ∙ ap (λ j. not (has w j)) (sym (cell_of-square_at i)))
@@ -128,5 +82,4 @@ any_both test w fits =
 
 pub sum_both_sets : (cost : Square → ℕ) (w : ℕ) → w < 2 ^ 64 → sum_by cost (members w) + sum_by cost (members (bit_not w64 w)) ≡ sum_by cost squares
 unfolding members
-sum_both_sets cost w fits =
-    ap (λ xs. sum_by cost (members w) + sum_by cost xs) (others w fits) ∙ sum_parts cost (λ s. has w (cell_of s)) squares
+sum_both_sets cost w fits = grind (arith, nat_tests, others, sum_parts)
