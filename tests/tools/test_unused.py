@@ -117,8 +117,7 @@ say yes
 
 class RealTree(unittest.TestCase):
     def test_nothing_is_unused(self):
-        # chess_rules has a form of its proofs that is being replaced.
-        ran = run([sys.executable, "bin/unused", "--skip", "chess_rules"])
+        ran = run([sys.executable, "bin/unused"])
         self.assertEqual((ran.returncode, ran.stdout.decode()), (0, ""), ran.stderr)
 
 

@@ -34,33 +34,33 @@ abbrev pub is_king_step : Parts → Square → Bool
 is_king_step p t = is_adjacent t (king_square p.side p.board) && not (has_colour p.side (at p.board t))
 
 -- s is of these pieces, and is no king whose step to t was tried
-abbrev pub is_left : Parts → ℕ → Square → Square → Bool
-is_left p pieces t s = has pieces (cell_of s) && not (is_king_step p t && own p King s)
+abbrev pub is_without_tried_king : Parts → ℕ → Square → Square → Bool
+is_without_tried_king p pieces t s = has pieces (cell_of s) && not (is_king_step p t && own p King s)
 
 -- the piece there is of the side to move and no knight, sees t, and is no king whose step was tried
-abbrev pub is_untried_rider : Parts → Square → Square → Bool
-is_untried_rider p t s =
+abbrev pub is_untried_aligned : Parts → Square → Square → Bool
+is_untried_aligned p t s =
     (((has_colour p.side (at p.board s) && not (own p Knight s)) && is_aligned s t) && not (is_king_step p t && own p King s))
     && is_clear p.board s t
 
 -- the piece there is still to be tried for t
 abbrev pub is_untried : Parts → Square → Square → Bool
-is_untried p t s = (own p Knight s && is_jump s t) || is_untried_rider p t s
+is_untried p t s = (own p Knight s && is_jump s t) || is_untried_aligned p t s
 
-unfoldable pub any_king_step : Parts → Bool
-any_king_step p = list_any (is_legal_pair p (king_square p.side p.board)) (filter (is_king_step p) squares)
+unfoldable pub has_king_step : Parts → Bool
+has_king_step p = list_any (is_legal_pair p (king_square p.side p.board)) (filter (is_king_step p) squares)
 
 unfoldable pub count_king_steps : Parts → ℕ
 count_king_steps p = length (filter (is_king_step p) squares)
 
-unfoldable pub any_untried : Parts → Square → Bool
-any_untried p t = list_any (λ s. is_legal_pair p s t) (filter (is_untried p t) squares)
+unfoldable pub has_untried_move : Parts → Square → Bool
+has_untried_move p t = list_any (λ s. is_legal_pair p s t) (filter (is_untried p t) squares)
 
 unfoldable pub count_untried : Parts → Square → ℕ
 count_untried p t = length (filter (is_untried p t) squares)
 
-unfoldable pub any_other : Parts → Bool
-any_other p = list_any (any_untried p) squares
+unfoldable pub has_other_move : Parts → Bool
+has_other_move p = list_any (has_untried_move p) squares
 
 unfoldable pub count_others : Parts → ℕ
 count_others p = sum_by (count_untried p) squares

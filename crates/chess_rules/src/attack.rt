@@ -174,7 +174,7 @@ pub(crate) fn is_king_attacked(board: &Board, colour: Colour, king: Square) -> b
 // unless it is a king's or en passant.
 //
 // The caller chooses an order by this and nothing else, so it has no contract.
-pub(crate) fn defences(board: &Board, by: Colour, target: Square) -> u64 {
+pub(crate) fn evasion_targets(board: &Board, by: Colour, target: Square) -> u64 {
     let attackers = clear_among(board, possible_attackers(board, by, target), target);
     if attackers == 0 {
         return 0;

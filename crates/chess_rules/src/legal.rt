@@ -5,7 +5,7 @@ ghost use Rattle.std.specs.Prelude.{IsTrue, ◌≡◌, ◌+◌, ◌<◌, ◌≤�
 ghost use Rattle.chess_rules.specs.Candidate.{pair_count};
 ghost use Rattle.chess_rules.specs.Legal as spec;
 
-use crate::pairs::{any_king_step, any_other};
+use crate::pairs::{has_king_step, has_other_move};
 use crate::position::{Move, Position};
 use crate::probes::Probes;
 use crate::step::is_step;
@@ -113,5 +113,5 @@ pub fn has_legal_move(position: &Position, probes: &mut Probes) -> bool
     ensures all { result ≡ false → probes.new ≡ probes.old + pair_count position.now }
 {
     position.recall_invariant();
-    any_king_step(position, probes) || any_other(position, probes)
+    has_king_step(position, probes) || has_other_move(position, probes)
 }

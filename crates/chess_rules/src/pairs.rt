@@ -6,7 +6,7 @@ ghost use Rattle.chess_rules.specs.Pairs as spec;
 ghost use Rattle.chess_rules.specs.Pairs.{Counts};
 ghost use Rattle.chess_rules.specs.Words.{Places, members};
 
-use crate::attack::{clear_among, defences};
+use crate::attack::{clear_among, evasion_targets};
 use crate::geometry::{adjacent, aligned, knights_to};
 use crate::legal::is_legal;
 use crate::piece::{Kind, Promotion};
@@ -44,7 +44,7 @@ fn is_legal_pair(position: &Position, from: Square, to: Square, probes: &mut Pro
 }
 
 // Whether the pair of one of these origins and the target is legal.
-fn any_from(position: &Position, origins: u64, target: Square, probes: &mut Probes) -> bool
+fn has_legal_origin(position: &Position, origins: u64, target: Square, probes: &mut Probes) -> bool
     requires { probes.old + length (members origins) < 2 ^ 32 }
     ensures found { result
         ≡ list_any (λ s. spec.is_legal_pair position.now s target) (members origins) }
@@ -62,7 +62,7 @@ fn any_from(position: &Position, origins: u64, target: Square, probes: &mut Prob
 }
 
 // Whether the pair of the origin and one of these targets is legal.
-fn any_to(position: &Position, from: Square, targets: u64, probes: &mut Probes) -> bool
+fn has_legal_target(position: &Position, from: Square, targets: u64, probes: &mut Probes) -> bool
     requires { probes.old + length (members targets) < 2 ^ 32 }
     ensures found { result ≡ list_any (spec.is_legal_pair position.now from) (members targets) }
     ensures count { Counts result probes.old probes.new (length (members targets)) }
@@ -86,31 +86,31 @@ fn king_steps(position: &Position) -> u64
 }
 
 // Whether a single step of the king is legal.
-pub(crate) fn any_king_step(position: &Position, probes: &mut Probes) -> bool
+pub(crate) fn has_king_step(position: &Position, probes: &mut Probes) -> bool
     requires { probes.old + spec.count_king_steps position.now < 2 ^ 32 }
-    ensures found { result ≡ spec.any_king_step position.now }
+    ensures found { result ≡ spec.has_king_step position.now }
     ensures count { Counts result probes.old probes.new (spec.count_king_steps position.now) }
 {
-    any_to(position, position.king(), king_steps(position), probes)
+    has_legal_target(position, position.king(), king_steps(position), probes)
 }
 
-// Whether a pair is legal that `any_king_step` has not tried.
+// Whether a pair is legal that `has_king_step` has not tried.
 //
-// In check, the targets of `defences` come first. To the others only en passant can meet the check,
-// but if no pair is legal, all of them are counted.
-pub(crate) fn any_other(position: &Position, probes: &mut Probes) -> bool
+// In check, the targets that may meet the check come first. To the others only en passant can meet
+// it, but if no pair is legal, all of them are counted.
+pub(crate) fn has_other_move(position: &Position, probes: &mut Probes) -> bool
     requires { probes.old + spec.count_others position.now < 2 ^ 32 }
-    ensures found { result ≡ spec.any_other position.now }
+    ensures found { result ≡ spec.has_other_move position.now }
     ensures count { Counts result probes.old probes.new (spec.count_others position.now) }
 {
-    let first = defences(position.board(), position.side().other(), position.king());
-    any_onto(position, first, probes) || any_onto(position, !first, probes)
+    let first = evasion_targets(position.board(), position.side().other(), position.king());
+    has_other_move_to(position, first, probes) || has_other_move_to(position, !first, probes)
 }
 
 // Whether a pair that is still to be tried for one of the targets is legal.
-fn any_onto(position: &Position, targets: u64, probes: &mut Probes) -> bool
+fn has_other_move_to(position: &Position, targets: u64, probes: &mut Probes) -> bool
     requires { probes.old + sum_by (spec.count_untried position.now) (members targets) < 2 ^ 32 }
-    ensures found { result ≡ list_any (spec.any_untried position.now) (members targets) }
+    ensures found { result ≡ list_any (spec.has_untried_move position.now) (members targets) }
     ensures count { Counts result probes.old probes.new
         (sum_by (spec.count_untried position.now) (members targets)) }
 {
@@ -118,7 +118,7 @@ fn any_onto(position: &Position, targets: u64, probes: &mut Probes) -> bool
     while left != 0 {
         let place = lowest(left);
         left = with(left, place, false);
-        if any_untried(position, Square::nth(place), probes) {
+        if has_untried_move(position, Square::nth(place), probes) {
             return true;
         }
     }
@@ -126,12 +126,12 @@ fn any_onto(position: &Position, targets: u64, probes: &mut Probes) -> bool
 }
 
 // Whether a pair that is still to be tried for the target is legal.
-fn any_untried(position: &Position, target: Square, probes: &mut Probes) -> bool
+fn has_untried_move(position: &Position, target: Square, probes: &mut Probes) -> bool
     requires { probes.old + spec.count_untried position.now target < 2 ^ 32 }
-    ensures found { result ≡ spec.any_untried position.now target }
+    ensures found { result ≡ spec.has_untried_move position.now target }
     ensures count { Counts result probes.old probes.new (spec.count_untried position.now target) }
 {
-    any_from(position, untried(position, target), target, probes)
+    has_legal_origin(position, untried(position, target), target, probes)
 }
 
 // The origins still to be tried for the target: the side's knights a jump away, and its other
@@ -144,13 +144,14 @@ fn untried(position: &Position, target: Square) -> u64
     let board = position.board();
     let side = position.side();
     let knights = board.pieces(side, Kind::Knight);
-    let riders = board.of_colour(side) & !knights & aligned(target);
-    knights & knights_to(target) | clear_among(board, left_of(position, riders, target), target)
+    let others = board.of_colour(side) & !knights & aligned(target);
+    let untried = without_tried_king(position, others, target);
+    knights & knights_to(target) | clear_among(board, untried, target)
 }
 
 // These pieces, without the king if its step to the target was tried.
-fn left_of(position: &Position, pieces: u64, target: Square) -> u64
-    ensures { Places result (spec.is_left position.now pieces target) }
+fn without_tried_king(position: &Position, pieces: u64, target: Square) -> u64
+    ensures { Places result (spec.is_without_tried_king position.now pieces target) }
 {
     target.recall_invariant();
     if has(king_steps(position), target.index()) {

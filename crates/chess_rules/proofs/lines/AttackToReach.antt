@@ -25,19 +25,19 @@ kind_at (suc (suc (suc (suc zero)))) = Knight
 kind_at (suc (suc (suc (suc (suc n))))) = Pawn
 
 kind_at-number : (k : Kind) → kind_at (kind_number k) ≡ k
-kind_at-number x0 = grind (arith, nat_tests)
+kind_at-number k = grind (arith, nat_tests)
 
 pub kinds_same : (k l : Kind) → same_kind k l ≡ true → k ≡ l
 kinds_same k l h = sym (kind_at-number k) ∙ (ap kind_at (equal_from _ _ h) ∙ kind_at-number l)
 
 pub colours_same : (c d : Colour) → same_colour c d ≡ true → c ≡ d
-colours_same x0 x1 h = grind (arith, nat_tests)
+colours_same c d h = grind (arith, nat_tests)
 
 pub squares_same : (s t : Square) → same_square s t ≡ true → s ≡ t
 squares_same s t h = ap₂ square (equal_from _ _ (first_true (s.file == t.file) _ h)) (equal_from _ _ (second_true (s.file == t.file) _ h))
 
 pub none_or_all : (c : Colour) (cell : Option Piece) → has_colour c cell ≡ true → is_none cell ≡ false
-none_or_all c x1 h = grind (arith, nat_tests)
+none_or_all c cell h = grind (arith, nat_tests)
 
 pub not_empty : (b : Board) (s : Square) → is_some (at b s) ≡ true → is_empty b s ≡ false
 not_empty b s h = grind (arith, nat_tests)
@@ -96,7 +96,7 @@ pub apart_by_file : (s t : Square) → gap s.file t.file ≡ 1 → not (same_squ
 apart_by_file s t h = grind (arith, nat_tests)
 
 pub ahead_gap : (c : Colour) (a b : ℕ) → is_ahead c a b ≡ true → gap a b ≡ 1
-ahead_gap x0 a b h = grind (arith, nat_tests)
+ahead_gap c a b h = grind (arith, nat_tests)
 
 pub adjacent_seen : (b : Board) (s t : Square) → is_adjacent s t ≡ true → (is_aligned s t && is_clear b s t) ≡ true
 adjacent_seen b s t h =
@@ -110,7 +110,7 @@ pawn_seen c b s t h = grind (arith, nat_tests, equal_from, first_true, ahead_gap
 
 -- what a piece attacks it sees, but for a knight
 pub attack_seen : (k : Kind) (c : Colour) (b : Board) (s t : Square) → kind_attacks k c b s t ≡ true → (k ≡ Knight) ⊎ ((is_aligned s t && is_clear b s t) ≡ true)
-attack_seen x0 c b s t h = grind (arith, nat_tests, adjacent_seen, both_true, or_first, first_true, second_true, or_second, pawn_seen)
+attack_seen k c b s t h = grind (arith, nat_tests, adjacent_seen, both_true, or_first, first_true, second_true, or_second, pawn_seen)
 
 -- no piece attacks from where none would on an empty board
 pub unreached : (b : Board) (s t : Square) → (is_aligned s t || is_jump s t) ≡ false → attacks b s t ≡ false
@@ -119,13 +119,13 @@ unreached b s t out = grind (arith, nat_tests)
 -- Near pieces and sliding ones.
 
 and_no : (x : Bool) → (x && false) ≡ false
-and_no x0 = grind (arith, nat_tests)
+and_no x = grind (arith, nat_tests)
 
 and_yes : (x : Bool) → (x && true) ≡ x
-and_yes x0 = grind (arith, nat_tests)
+and_yes x = grind (arith, nat_tests)
 
 or_no : (x : Bool) → (x || false) ≡ x
-or_no x0 = grind (arith, nat_tests)
+or_no x = grind (arith, nat_tests)
 
 both_no : (x y : Bool) → ((x && false) || (y && false)) ≡ false
 both_no x y = rw (and_no x, and_no y) refl
@@ -210,20 +210,17 @@ by_cell c (Some x) b s t = by_colour (same_colour c x.colour) refl
         ∙ ap₂ (λ d v. near_or_far (near_kind x.kind (is_jump s t) (is_adjacent s t) (reaches Pawn d s t)) (slide_kind x.kind (in_line s t) (on_diagonal s t)) v (is_clear b s t))
         (sym (colours_same c x.colour e)) (sym e))
 
-slides_alone : (c : Colour) (cell : Option Piece) (b : Board) (s t : Square) → slides_with c cell s t ≡ true → (is_some cell && (is_aligned s t && is_clear b s t)) ≡ is_clear b s t
-slides_alone c x1 b s t h = grind (arith, nat_tests)
-
 near_alone_seen : (c : Colour) (cell : Option Piece) (b : Board) (s t : Square) → near_with c cell s t ≡ true → (is_some cell ≡ true) × (((is_aligned s t && is_clear b s t) || is_jump s t) ≡ true)
 near_alone_seen c None b s t h = cc (sym h ∙ and_no _)
 near_alone_seen c (Some x) b s t h =
     (refl, by_near (split_or ((is_jump s t && same_kind Knight x.kind) || (is_adjacent s t && same_kind King x.kind)) _ (first_true _ (same_colour c x.colour) h)))
   where
     by_first : ((is_jump s t && same_kind Knight x.kind) ≡ true) ⊎ ((is_adjacent s t && same_kind King x.kind) ≡ true) → ((is_aligned s t && is_clear b s t) || is_jump s t) ≡ true
-    by_first x0 = grind (arith, nat_tests, or_second, first_true, or_first, adjacent_seen)
+    by_first h = grind (arith, nat_tests, or_second, first_true, or_first, adjacent_seen)
 
     by_near : (((is_jump s t && same_kind Knight x.kind) || (is_adjacent s t && same_kind King x.kind)) ≡ true) ⊎ ((reaches Pawn c s t && same_kind Pawn x.kind) ≡ true)
         → ((is_aligned s t && is_clear b s t) || is_jump s t) ≡ true
-    by_near x0 = grind (arith, nat_tests, by_first, split_or, or_first, pawn_seen, first_true)
+    by_near h = grind (arith, nat_tests, by_first, split_or, or_first, pawn_seen, first_true)
 
 -- Of a piece that may attack, three tests say the same: whether it attacks, whether the way is
 -- clear, and whether it is in view or a jump away.
@@ -238,7 +235,7 @@ attacker_is b c s t =
     ∙ join (near_with c (at b s) s t) (slides_with c (at b s) s t) (is_clear b s t) (near_is_clear c (at b s) b s t)
   where
     join : (x y z : Bool) → (x ≡ true → z ≡ true) → (x || (y && z)) ≡ ((x || y) && z)
-    join x0 y z h = grind (arith, nat_tests)
+    join x y z h = grind (arith, nat_tests)
 
 pub attacked_is : (b : Board) (c : Colour) (t : Square) → is_attacked b c t ≡ list_any (λ s. may_attack b c t s && is_clear b s t) squares
 attacked_is b c t = any_same (λ s. has_colour c (at b s) && attacks b s t) (λ s. may_attack b c t s && is_clear b s t) squares (λ s. attacker_is b c s t)

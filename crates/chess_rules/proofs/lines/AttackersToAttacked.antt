@@ -38,7 +38,7 @@ module _ (b : Board) (c : Colour) (t : Square) (set others n : ℕ) (possible : 
 
       at_place : (i : ℕ) → i < 64 → ((i ≡ n) × ((i == n) ≡ true)) ⊎ ((i ≢ n) × ((i == n) ≡ false))
           → (has others i && (is_in_view b t (square_at i) || is_jump (square_at i) t)) ≡ (may_attack b c t (square_at i) && is_clear b (square_at i) t)
-      at_place i low x2 = grind (arith, nat_tests, gone, no_attack, still, by_attack)
+      at_place i low h = grind (arith, nat_tests, gone, no_attack, still, by_attack)
 
   pub no_others : others ≡ 0 → Places others (λ s. may_attack b c t s && is_clear b s t)
   no_others none = grind (arith, nat_tests, same_or_apart, has_zero, no_attack, still)

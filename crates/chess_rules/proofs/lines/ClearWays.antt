@@ -22,13 +22,13 @@ all_unless p q r [] h = refl
 all_unless p q r (x ∷ xs) h = by_tests (p x) (q x) (r x) _ _ (h x) (all_unless p q r xs h)
   where
     by_tests : (v w u rest some : Bool) → w ≡ not u → rest ≡ not some → ((not v || u) && rest) ≡ not ((v && w) || some)
-    by_tests x0 w x2 rest some e f = grind (arith, nat_tests)
+    by_tests v w u rest some e f = grind (arith, nat_tests)
 
 filled : (o : Option Piece) → is_some o ≡ not (is_none o)
-filled x0 = grind (arith, nat_tests)
+filled o = grind (arith, nat_tests)
 
 not_again : (x y : Bool) → not x ≡ y → x ≡ not y
-not_again x0 y h = grind (arith, nat_tests)
+not_again x y h = grind (arith, nat_tests)
 
 pub clear_by_set : (b : Board) (s t : Square) (v w : ℕ) → Places v (λ u. strictly_between s u t) → Marks w is_some b → v < 2 ^ 64 → (bit_and v w == 0) ≡ is_clear b s t
 clear_by_set b s t v w between pieces fits =

@@ -90,7 +90,7 @@ module _ (b : Board) (t : Square) (line occupied below low high : ℕ) (tf : t.f
       empty_between u f r here (in_order i u above (inside_means _ _ _ between)) is.none))
     where
       in_order : (j : ℕ) (u : Square) → cell_of t ≤ j → ((j < cell_of u) × (cell_of u < cell_of t)) ⊎ ((cell_of t < cell_of u) × (cell_of u < j)) → (cell_of t < cell_of u) × (cell_of u < j)
-      in_order j u h x3 = grind (arith, nat_tests)
+      in_order j u h g = grind (arith, nat_tests)
 
       empty_between : (u : Square) → u.file < 8 → u.rank < 8 → has line (cell_of u) ≡ true → (cell_of t < cell_of u) × (cell_of u < i)
           → ((k : ℕ) → k < i → has (bit_and (bit_and line occupied) (bit_not w64 below)) k ≡ false) → is_empty b u ≡ true
@@ -108,7 +108,7 @@ module _ (b : Board) (t : Square) (line occupied below low high : ℕ) (tf : t.f
       empty_between u f r here (in_order i u less (inside_means _ _ _ between)) is.none))
     where
       in_order : (j : ℕ) (u : Square) → j < cell_of t → ((j < cell_of u) × (cell_of u < cell_of t)) ⊎ ((cell_of t < cell_of u) × (cell_of u < j)) → (j < cell_of u) × (cell_of u < cell_of t)
-      in_order j u h x3 = grind (arith, nat_tests)
+      in_order j u h g = grind (arith, nat_tests)
 
       empty_between : (u : Square) → u.file < 8 → u.rank < 8 → has line (cell_of u) ≡ true → (i < cell_of u) × (cell_of u < cell_of t)
           → ((k : ℕ) → i < k → k < 64 → has (bit_and (bit_and line occupied) below) k ≡ false) → is_empty b u ≡ true
@@ -229,7 +229,7 @@ module _ (b : Board) (t : Square) (line : Square → Bool) (tf : t.file < 8) (on
       )
     where
       on_a_side : (x y : Bool) → x ≡ true → ((x && y) || (x && not y)) ≡ true
-      on_a_side x0 x1 h = grind (arith, nat_tests)
+      on_a_side x y h = grind (arith, nat_tests)
 
 -- four lines together
 
@@ -250,7 +250,7 @@ abbrev open_on : Board → Square → (Square → Bool) → Square → Bool
 open_on b t line s = line s && is_open b t s
 
 pub four_lines : (a d e v : Bool) → (((((a && e) && v) || ((a && not e) && v)) || ((d && e) && v)) || ((d && not e) && v)) ≡ ((a || d) && v)
-four_lines x0 d x2 x3 = grind (arith, nat_tests)
+four_lines a d e v = grind (arith, nat_tests)
 
 pub few_in_view : (b : Board) (t : Square) → t.file < 8 → length (filter (is_in_view b t) squares) ≤ 8
 few_in_view b t tf =

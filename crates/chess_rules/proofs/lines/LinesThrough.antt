@@ -19,9 +19,6 @@ inside_down a x b h g = grind (arith, nat_tests)
 gaps_same : (s t : Square) → on_diagonal s t ≡ true → gap s.file t.file ≡ gap s.rank t.rank
 gaps_same s t h = grind (arith, nat_tests)
 
-on_cross : (s t : Square) → gap s.file t.file ≡ gap s.rank t.rank → s.rank ≢ t.rank → on_diagonal s t ≡ true
-on_cross s t h g = grind (arith, nat_tests)
-
 rising_means : (s t : Square) → (on_diagonal s t && is_steep s t) ≡ true → s.file + t.rank ≡ t.file + s.rank
 rising_means s t h = grind (arith, nat_tests)
 
@@ -33,12 +30,6 @@ falling_means s t h = grind (arith, nat_tests)
 
 falling_apart : (s t : Square) → (on_diagonal s t && not (is_steep s t)) ≡ true → s.rank ≢ t.rank
 falling_apart s t h e = grind (arith, nat_tests)
-
-rising_steep : (s t : Square) → s.file + t.rank ≡ t.file + s.rank → is_steep s t ≡ true
-rising_steep s t h = grind (arith, nat_tests)
-
-falling_steep : (s t : Square) → s.file + s.rank ≡ t.file + t.rank → s.rank ≢ t.rank → not (is_steep s t) ≡ true
-falling_steep s t h g = grind (arith, nat_tests)
 
 -- between on a diagonal
 record Between (s u t : Square) : Type 0 where
@@ -56,19 +47,6 @@ between_means s u t h =
       ranks = inside_means _ _ _ (second_true (inside s.file u.file t.file) _ both);
     }
 
-rising_on : (a b c d e f : ℕ) → a + f ≡ e + b → gap a c ≡ gap b d → ((a < c) × (c < e)) ⊎ ((e < c) × (c < a)) → ((b < d) × (d < f)) ⊎ ((f < d) × (d < b)) → c + f ≡ e + d
-rising_on a b c d e f h g x8 x9 = grind (arith, nat_tests)
-
-falling_on : (a b c d e f : ℕ) → a + b ≡ e + f → gap a c ≡ gap b d → ((a < c) × (c < e)) ⊎ ((e < c) × (c < a)) → ((b < d) × (d < f)) ⊎ ((f < d) × (d < b)) → c + d ≡ e + f
-falling_on a b c d e f h g x8 x9 = grind (arith, nat_tests)
-
--- in the order of squares
-cells_inside : (s u t : Square) → s.file < 8 → u.file < 8 → t.file < 8 → ((s.rank < u.rank) × (u.rank < t.rank)) ⊎ ((t.rank < u.rank) × (u.rank < s.rank)) → inside (cell_of s) (cell_of u) (cell_of t) ≡ true
-cells_inside s u t sf uf tf x6 = grind (arith, nat_tests)
-
-ranks_apart : (b d f : ℕ) → ((b < d) × (d < f)) ⊎ ((f < d) × (d < b)) → d ≢ f
-ranks_apart b d f x3 e = grind (arith, nat_tests)
-
 -- no square is on a line with itself
 cross_leaves : (x : Bool) (t : Square) → (on_diagonal t t && x) ≡ false
 cross_leaves x t = grind (arith, nat_tests)
@@ -84,10 +62,6 @@ rising_off_file s u t h apart g = grind (arith, nat_tests)
 
 falling_off_file : (s u t : Square) → s.file + s.rank ≡ t.file + t.rank → s.rank ≢ t.rank → between_on_file s u t ≡ true → ⊥
 falling_off_file s u t h apart g = grind (arith, nat_tests)
-
--- from order on a diagonal to both of its coordinates
-between_cross : (s u t : Square) → on_diagonal s t ≡ true → gap s.file u.file ≡ gap s.rank u.rank → s.rank ≢ u.rank → inside s.file u.file t.file ≡ true → inside s.rank u.rank t.rank ≡ true → between_on_diagonal s u t ≡ true
-between_cross s u t line gaps apart files ranks = both_true _ _ (both_true _ _ line (on_cross s u gaps apart)) (both_true _ _ files ranks)
 
 pub rising_line : (t : Square) → t.file < 8 → IsLine (λ s. on_diagonal s t && is_steep s t) t
 rising_line t tf = record { apart = cross_leaves (is_steep t t) t; between = λ s u sf _ uf _ l. same_tests _ _ (forth s u sf uf l) (back s u sf uf l) }
@@ -162,9 +136,6 @@ rank_forth s u t uf sf tf h g = grind (arith, nat_tests)
 
 rank_means : (s t : Square) → (in_line s t && not (is_steep s t)) ≡ true → s.rank ≡ t.rank
 rank_means s t h = grind (arith, nat_tests)
-
-on_rank : (s u t : Square) → s.rank ≡ t.rank → u.rank ≡ t.rank → inside s.file u.file t.file ≡ true → between_on_rank s u t ≡ true
-on_rank s u t h g files = grind (arith, nat_tests)
 
 rank_back : (s u t : Square) → u.file < 8 → s.file < 8 → t.file < 8 → (in_line s t && not (is_steep s t)) ≡ true → ((in_line u t && not (is_steep u t)) && inside (cell_of s) (cell_of u) (cell_of t)) ≡ true → between_on_rank s u t ≡ true
 rank_back s u t uf sf tf h g = grind (arith, nat_tests, inside_means, second_true, rank_means, first_true)

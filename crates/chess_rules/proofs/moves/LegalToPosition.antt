@@ -42,7 +42,7 @@ Ways p m b =
 five : (v w x y z : Bool) (i j k l b : Board)
     → (if v || w then Some i else if x then Some j else if y then Some k else if z then Some l else None) ≡ Some b
     → ((v ≡ true) × (i ≡ b)) ⊎ (((w ≡ true) × (i ≡ b)) ⊎ (((x ≡ true) × (j ≡ b)) ⊎ (((y ≡ true) × (k ≡ b)) ⊎ ((z ≡ true) × (l ≡ b)))))
-five x0 w x y z i j k l b h = grind (arith, nat_tests)
+five v w x y z i j k l b h = grind (arith, nat_tests)
 
 pub way_of : (p : Parts) (m : Move) (b : Board) → board_after p m ≡ Some b → Ways p m b
 way_of p m b h =
@@ -73,25 +73,16 @@ board_stays p m b sound on h =
 
 -- The target.
 
-below : (m n : ℕ) → m < n → nat_lt m n ≡ true
-below m n h = grind (arith, nat_tests)
-
-crossed_fits : (c : Colour) (file a b : ℕ) → file < 8 → a ≡ pawn_rank c → b ≡ double_rank c → target_fits (other c) (Some (square file ((a + b) / 2))) ≡ true
-crossed_fits x0 file a b low from to = grind (arith, nat_tests)
-
 pub target_kept : (p : Parts) (m : Move) → is_on_board m ≡ true → target_fits (other p.side) (target_after p m) ≡ true
 target_kept p m on = grind (arith, nat_tests)
 
 -- The numbers.
 
-counted_low : (n : ℕ) → counted n ≤ 99999
-counted_low n = omega arith
-
 half_low : (p : Parts) (m : Move) → half_after p m ≤ 99999
 half_low p m = grind (arith, nat_tests)
 
 full_low : (c : Colour) (n : ℕ) → n ≤ 99999 → full_after c n ≤ 99999
-full_low x0 n h = grind (arith, nat_tests)
+full_low c n h = grind (arith, nat_tests)
 
 -- Together.
 
@@ -129,9 +120,6 @@ king_seen p m b sound on h =
 pub legal_when : (p : Parts) (m : Move) (b : Board) → is_on_board m ≡ true → board_after p m ≡ Some b → king_attacked b (other (other p.side)) ≡ false → legal p m ≡ Some (after p m b)
 legal_when p m b on h safe = grind (arith, nat_tests)
 
-pub not_legal_when : (p : Parts) (m : Move) (b : Board) → is_on_board m ≡ true → board_after p m ≡ Some b → king_attacked b (other (other p.side)) ≡ true → legal p m ≡ None
-not_legal_when p m b on h attacked = grind (arith, nat_tests)
-
 -- a legal move was a step to some board, and left the king safe
 pub record Legal (p : Parts) (m : Move) (q : Parts) : Type 0 where
   pub on : is_on_board m ≡ true
@@ -144,7 +132,7 @@ pub legal_means : (p : Parts) (m : Move) (q : Parts) → legal p m ≡ Some q �
 legal_means p m q h = by_on (is_on_board m) refl h
   where
     by_safe : (b : Board) → is_on_board m ≡ true → board_after p m ≡ Some b → (x : Bool) → king_attacked b (other (other p.side)) ≡ x → (if not x then Some (after p m b) else None) ≡ Some q → Legal p m q
-    by_safe b on stepped x3 e g = grind (arith, nat_tests)
+    by_safe b on stepped x e g = grind (arith, nat_tests)
 
     by_board : is_on_board m ≡ true → (o : Option Board) → board_after p m ≡ o → if_safe (option_map (after p m) o) ≡ Some q → Legal p m q
     by_board on None e g = cc
@@ -189,13 +177,13 @@ pub legal_unless_attacked : (p : Parts) (m : Move) (b : Board) (by : Colour) (ki
 legal_unless_attacked p m b by king attacked position on h e f g = by_test attacked (attacked_is p m b by king attacked position on h e f g)
   where
     by_test : (x : Bool) → king_attacked b (other (other p.side)) ≡ x → not x ≡ is_legal p m
-    by_test x0 is = grind (arith, nat_tests)
+    by_test x is = grind (arith, nat_tests)
 
 pub safe_from_legal : (p : Parts) (m : Move) (b : Board) → is_on_board m ≡ true → board_after p m ≡ Some b → is_legal p m ≡ true → king_attacked b (other (other p.side)) ≡ false
 safe_from_legal p m b on h legal = by_test (king_attacked b (other (other p.side))) refl
   where
     by_test : (x : Bool) → king_attacked b (other (other p.side)) ≡ x → x ≡ false
-    by_test x0 is = grind (arith, nat_tests)
+    by_test x is = grind (arith, nat_tests)
 
 -- whether the step gives check, seen from where the other king stands then
 pub check_is_seen : (p : Parts) (m : Move) (b : Board) (k : Square) → is_position p ≡ true → is_on_board m ≡ true → board_after p m ≡ Some b

@@ -45,7 +45,7 @@ one_at_most : (a b c d e : Bool)
     → (b ≡ true → c ≡ true → ⊥) → (b ≡ true → d ≡ true → ⊥) → (b ≡ true → e ≡ true → ⊥)
     → (c ≡ true → d ≡ true → ⊥) → (c ≡ true → e ≡ true → ⊥) → (d ≡ true → e ≡ true → ⊥)
     → count_by (λ holds. holds) (a ∷ b ∷ c ∷ d ∷ e ∷ []) ≤ 1
-one_at_most x0 x1 c d e ab ac ad ae bc bd be cd ce de = grind (arith, nat_tests)
+one_at_most a b c d e ab ac ad ae bc bd be cd ce de = grind (arith, nat_tests)
 
 pub cases_apart : CasesApart
 cases_apart p m =

@@ -52,11 +52,8 @@ between_aligned s u t h =
 
 -- A piece that attacks on one board attacks on another where the way is clear too.
 
-still_attacks : (k : Kind) (c : Colour) (a b : Board) (s t : Square) → (is_clear a s t ≡ true → is_clear b s t ≡ true) → kind_attacks k c a s t ≡ true → kind_attacks k c b s t ≡ true
-still_attacks x0 c a b s t clear h = grind (arith, nat_tests)
-
 cell_still : (cell : Option Piece) (a b : Board) (s t : Square) → (is_clear a s t ≡ true → is_clear b s t ≡ true) → cell_attacks cell a s t ≡ true → cell_attacks cell b s t ≡ true
-cell_still x0 a b s t clear h = grind (arith, nat_tests)
+cell_still cell a b s t clear h = grind (arith, nat_tests)
 
 -- what does not slide attacks on each board alike
 no_slide : (c : Colour) (cell : Option Piece) (a b : Board) (s t : Square) → slides_with c cell s t ≡ false → (has_colour c cell && cell_attacks cell a s t) ≡ (has_colour c cell && cell_attacks cell b s t)
@@ -65,12 +62,6 @@ no_slide c cell a b s t none = grind (arith, nat_tests)
 -- Where a piece leaves no line to k, and the piece that arrives does not attack k, k is attacked no
 -- more than before.
 module _ (b : Board) (from to k : Square) (cell : Option Piece) (c : Colour) (long : length b ≡ 64) (on_from : OnBoard from) (on_to : OnBoard to) (on_k : OnBoard k) where
-  left : Board
-  left = put b from None
-
-  new : Board
-  new = put (put b from None) to cell
-
   left_long : length (put b from None) ≡ 64
   left_long = length-put b from None ∙ long
 
@@ -135,9 +126,6 @@ pub record PlainStep (p : Parts) (m : Move) (b : Board) : Type 0 where
   pub own : has_colour p.side (at p.board m.from) ≡ true
   pub board : carried p m ≡ b
 
-far_castling : (p : Parts) (m : Move) (wing : Wing) → 2 ≤ gap 4 wing.end → Castles p m wing → king_goes_far p m ≡ true
-far_castling p m wing far w = grind (arith, nat_tests)
-
 no_castling : (p : Parts) (m : Move) (b : Board) (wing : Wing) → 2 ≤ gap 4 wing.end → is_plain p m ≡ true → Castles p m wing → PlainStep p m b
 no_castling p m b wing far plain w = grind (arith, nat_tests)
 
@@ -164,11 +152,8 @@ plain_step p m b plain h =
       ]
     ]
 
-same_as_itself : (c : Colour) → same_colour c c ≡ true
-same_as_itself x0 = grind (arith, nat_tests)
-
 arriving_own : (c : Colour) (q : Option Promotion) (cell : Option Piece) → has_colour c cell ≡ true → has_colour c (promoted c q cell) ≡ true
-arriving_own c x1 cell h = grind (arith, nat_tests)
+arriving_own c q cell h = grind (arith, nat_tests)
 
 not_other : (c : Colour) (cell : Option Piece) → has_colour c cell ≡ true → has_colour (other c) cell ≡ false
 not_other c cell h = to_false (has_colour (other c) cell) (not_both c cell h)
@@ -241,7 +226,7 @@ no_check_when_plain p m b k position on h plain is unseen harmless =
     arrives = arriving_own p.side m.promotion (at p.board m.from) step.own
 
     no : (x : Bool) → (x && false) ≡ false
-    no x0 = grind (arith, nat_tests)
+    no x = grind (arith, nat_tests)
 
     quiet : is_attacked (carried p m) p.side k ≡ false
     quiet =
@@ -255,7 +240,7 @@ pub stepped_board : (p : Parts) (m : Move) → is_some (board_after p m) ≡ tru
 stepped_board p m h = by_board (board_after p m) refl h
   where
     by_board : (o : Option Board) → board_after p m ≡ o → is_some o ≡ true → (b : Board) × (board_after p m ≡ Some b)
-    by_board x0 e g = grind (arith, nat_tests)
+    by_board o e g = grind (arith, nat_tests)
 
 pub plain_board : (p : Parts) (m : Move) → is_plain p m ≡ true → is_some (board_after p m) ≡ true → board_after p m ≡ Some (carried p m)
 plain_board p m plain h =
@@ -264,7 +249,7 @@ plain_board p m plain h =
 
 -- a move that is no step is not legal, and a legal one is a step
 by_step : (on : Bool) (p : Parts) (m : Move) (o : Option Board) → is_some o ≡ false → if_safe (if on then option_map (after p m) o else None) ≡ None
-by_step x0 p m o h = grind (arith, nat_tests)
+by_step on p m o h = grind (arith, nat_tests)
 
 pub none_unless_step : (p : Parts) (m : Move) → is_some (board_after p m) ≡ false → is_some (legal p m) ≡ false
 none_unless_step p m h = ap is_some (by_step (is_on_board m) p m (board_after p m) h)
@@ -277,4 +262,4 @@ step_when_legal p m h = by_test (is_some (board_after p m)) refl
     by_test false e = absurd (false≢true (sym (none_unless_step p m e) ∙ h))
 
 pub none_when_not : (o : Option Parts) → is_some o ≡ false → o ≡ None
-none_when_not x0 h = grind (arith, nat_tests)
+none_when_not o h = grind (arith, nat_tests)

@@ -14,14 +14,8 @@ use Rattle.std.proofs.lemmas.Bool.Decides.{nat_tests}
 abbrev pub homes : ℕ
 homes = 10448351135499550865
 
-not_home : (s t : Square) → has homes (cell_of t) ≡ true → has homes (cell_of s) ≡ false → same_square s t ≡ false
-not_home s t home away = grind (arith, nat_tests)
-
-none_touched : (a b c d : Bool) → a ≡ false → b ≡ false → c ≡ false → d ≡ false → not ((a || b) || (c || d)) ≡ true
-none_touched a b c d e f g h = rw (e, f, g, h) refl
-
 kept : (x y : Bool) → y ≡ true → x ≡ (x && y)
-kept x0 y e = grind (arith, nat_tests)
+kept x y e = grind (arith, nat_tests)
 
 keeps_rank : (m : Move) (file rank : ℕ) → has homes (cell_of (square 4 rank)) ≡ true → has homes (cell_of (square file rank)) ≡ true
     → has homes (cell_of m.from) ≡ false → has homes (cell_of m.to) ≡ false → keeps m file rank ≡ true

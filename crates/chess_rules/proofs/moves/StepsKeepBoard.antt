@@ -25,20 +25,17 @@ use Rattle.chess_rules.proofs.moves.BoardAfterMove.{arriving, Lands, Stays, IsPl
 -- Cells.
 
 pub other-other : (c : Colour) → other (other c) ≡ c
-other-other x0 = grind (arith, nat_tests)
-
-same_or_other : (c d : Colour) → (c ≡ d) ⊎ (c ≡ other d)
-same_or_other x0 x1 = grind (arith, nat_tests)
+other-other c = grind (arith, nat_tests)
 
 pub colour_of_piece : (c : Colour) (k : Kind) (cell : Option Piece) → has_piece c k cell ≡ true → has_colour c cell ≡ true
-colour_of_piece c k x2 h = grind (arith, nat_tests)
+colour_of_piece c k cell h = grind (arith, nat_tests)
 
 pub not_both : (c : Colour) (cell : Option Piece) → has_colour c cell ≡ true → has_colour (other c) cell ≡ true → ⊥
-not_both c x1 h g = grind (arith, nat_tests)
+not_both c cell h g = grind (arith, nat_tests)
 
 -- a cell has pieces of one kind
 pub one_kind : (c d : Colour) (k l : Kind) (cell : Option Piece) → has_piece c k cell ≡ true → has_piece d l cell ≡ true → k ≡ l
-one_kind c d k l x4 h g = grind (arith, nat_tests, kinds_same, second_true)
+one_kind c d k l cell h g = grind (arith, nat_tests, kinds_same, second_true)
 
 no_king_with : (c d : Colour) (k : Kind) (cell : Option Piece) → (King ≡ k → ⊥) → has_piece d k cell ≡ true → has_piece c King cell ≡ false
 no_king_with c d k cell differ h = to_false (has_piece c King cell) (λ king. differ (one_kind c d King k cell king h))
@@ -50,29 +47,26 @@ rook_is_no_king : King ≡ Rook → ⊥
 rook_is_no_king e = cc
 
 empty_free : (c : Colour) (k : Kind) (cell : Option Piece) → is_none cell ≡ true → has_piece c k cell ≡ false
-empty_free c k x2 h = grind (arith, nat_tests)
+empty_free c k cell h = grind (arith, nat_tests)
 
 no_pawn_but_own : (c : Colour) (cell : Option Piece) → has_colour c cell ≡ true → has_piece c Pawn cell ≡ false → is_pawn cell ≡ false
-no_pawn_but_own c x1 h g = grind (arith, nat_tests)
+no_pawn_but_own c cell h g = grind (arith, nat_tests)
 
 king_is_no_pawn : (c : Colour) (cell : Option Piece) → has_piece c King cell ≡ true → is_pawn cell ≡ false
 king_is_no_pawn c cell h = grind (arith, nat_tests)
 
-promoted_is_no_pawn : (c : Colour) (q : Promotion) → is_pawn (some_piece c (kind_of q)) ≡ false
-promoted_is_no_pawn x0 x1 = grind (arith, nat_tests)
-
 promoted_is_no_king : (c d : Colour) (q : Promotion) → has_piece c King (some_piece d (kind_of q)) ≡ false
-promoted_is_no_king x0 x1 x2 = grind (arith, nat_tests)
+promoted_is_no_king c d q = grind (arith, nat_tests)
 
 not_means : (x : Bool) → not x ≡ true → x ≡ false
-not_means x0 h = grind (arith, nat_tests)
+not_means x h = grind (arith, nat_tests)
 
 none_is : {X : Type 0} (o : Option X) → is_none o ≡ true → o ≡ None
-none_is x0 h = grind (arith, nat_tests)
+none_is o h = grind (arith, nat_tests)
 
 -- the piece on a square attacks as its kind and colour do
 pub attacks_as : (c : Colour) (k : Kind) (cell : Option Piece) (b : Board) (s t : Square) → has_piece c k cell ≡ true → cell_attacks cell b s t ≡ true → kind_attacks k c b s t ≡ true
-attacks_as c k x2 b s t h g = grind (arith, nat_tests, kinds_same, second_true, colours_same, first_true)
+attacks_as c k cell b s t h g = grind (arith, nat_tests, kinds_same, second_true, colours_same, first_true)
 
 -- The other king is never taken.
 
@@ -151,7 +145,7 @@ way_free p m sound on_from on_to pawn h =
         (king_not_taken p m.from m.to sound on_from on_to (colour_of_piece p.side Pawn (at p.board m.from) pawn) hits)
 
 last_of : (c : Colour) (a b : ℕ) → a < 8 → (is_ahead c a b ≡ true) ⊎ ((a ≡ pawn_rank c) × (b ≡ double_rank c)) → is_edge b ≡ true → b ≡ last_rank c
-last_of x0 a b low x4 edge = grind (arith, nat_tests)
+last_of c a b low h edge = grind (arith, nat_tests)
 
 pub pawn_lands : (p : Parts) (m : Move) → Sound p → OnBoard m.from → OnBoard m.to → is_pawn_step p m ≡ true → Lands p m
 pawn_lands p m sound on_from on_to h =
@@ -177,13 +171,13 @@ pawn_lands p m sound on_from on_to h =
     alike_for c (Some q) = promoted_is_no_king c p.side q ∙ sym (no_king_with c p.side Pawn (at p.board m.from) pawn_is_no_king pawn)
 
     last_for : (q : Option Promotion) → (m.to.rank == last_rank p.side) ≡ true → (if m.to.rank == last_rank p.side then is_some q else is_none q) ≡ true → is_pawn (promoted p.side q (at p.board m.from)) ≡ false
-    last_for x0 last named = grind (arith, nat_tests)
+    last_for q last named = grind (arith, nat_tests)
 
 target_line : (c : Colour) (o : Option Square) (t : Square) → target_fits c o ≡ true → is_target o t ≡ true → t.rank ≡ target_rank c
-target_line c x1 t fits hits = grind (arith, nat_tests)
+target_line c o t fits hits = grind (arith, nat_tests)
 
 inner_line : (c : Colour) (rank : ℕ) → rank ≡ target_rank c → ((rank == last_rank c) ≡ false) × (is_edge rank ≡ false)
-inner_line x0 rank h = grind (arith, nat_tests)
+inner_line c rank h = grind (arith, nat_tests)
 
 pub passing_lands : (p : Parts) (m : Move) → Sound p → OnBoard m.from → OnBoard m.to → is_en_passant p m ≡ true → Lands p m
 passing_lands p m sound on_from on_to h =
@@ -210,13 +204,13 @@ passing_lands p m sound on_from on_to h =
     plain = named (m.to.rank == last_rank p.side) line.0 fits
       where
         named : (x : Bool) → x ≡ false → (if x then is_some m.promotion else is_none m.promotion) ≡ true → is_none m.promotion ≡ true
-        named x0 e g = grind (arith, nat_tests)
+        named x e g = grind (arith, nat_tests)
 
 nothing_plain : IsPlain None
 nothing_plain = record { no_king = λ c. refl; no_pawn = refl }
 
 rook_plain : (d : Colour) → IsPlain (some_piece d Rook)
-rook_plain x0 = grind (arith, nat_tests)
+rook_plain d = grind (arith, nat_tests)
 
 pub passing_stays : (p : Parts) (m : Move) → Sound p → OnBoard m.from → OnBoard m.to → is_en_passant p m ≡ true → Stays p m (en_passant_board p m)
 passing_stays p m sound on_from on_to h =
@@ -251,7 +245,7 @@ passing_stays p m sound on_from on_to h =
 -- Castling.
 
 home_below : (c : Colour) → home_rank c < 8
-home_below x0 = grind (arith, nat_tests)
+home_below c = grind (arith, nat_tests)
 
 between_empty : (b : Board) (s t u : Square) → is_clear b s t ≡ true → OnBoard u → strictly_between s u t ≡ true → is_empty b u ≡ true
 between_empty b s t u clear on between =

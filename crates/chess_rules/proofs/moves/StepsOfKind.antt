@@ -25,13 +25,13 @@ abbrev some_way : Bool → Bool → Bool → Bool → Bool → Board → Board �
 some_way v w x y z i j k l = is_some (if v || w then Some i else if x then Some j else if y then Some k else if z then Some l else None)
 
 piece_alone : (v w x y z : Bool) (i j k l : Board) → w ≡ false → x ≡ false → y ≡ false → z ≡ false → v ≡ some_way v w x y z i j k l
-piece_alone x0 w x y z i j k l b c d e = grind (arith, nat_tests)
+piece_alone v w x y z i j k l b c d e = grind (arith, nat_tests)
 
 pawn_alone : (v w x y z : Bool) (i j k l : Board) → v ≡ false → y ≡ false → z ≡ false → (w || x) ≡ some_way v w x y z i j k l
-pawn_alone x0 w x y z i j k l a d e = grind (arith, nat_tests)
+pawn_alone v w x y z i j k l a d e = grind (arith, nat_tests)
 
 king_alone : (v w x y z : Bool) (i j k l : Board) → w ≡ false → x ≡ false → (v || (y || z)) ≡ some_way v w x y z i j k l
-king_alone x0 w x y z i j k l b c = grind (arith, nat_tests)
+king_alone v w x y z i j k l b c = grind (arith, nat_tests)
 
 -- what is found on a square: a piece of the side to move, or one of the other side
 module _ (p : Parts) (s : Square) (b : Board) (o : Option Piece) (x : Piece) (c : Colour) (alike : Bool)
@@ -96,13 +96,10 @@ module _ (p : Parts) (m : Move) where
 -- A piece's step.
 
 pub attacks_by : (c : Colour) (k : Kind) (cell : Option Piece) (b : Board) (s t : Square) → has_piece c k cell ≡ true → cell_attacks cell b s t ≡ kind_attacks k c b s t
-attacks_by c k x2 b s t h = grind (arith, nat_tests, colours_same, first_true, kinds_same, second_true)
-
-not_open : (a b c d e : Bool) → e ≡ true → false ≡ (((a && b) && c) && (d && not e))
-not_open x0 x1 x2 x3 e h = grind (arith, nat_tests)
+attacks_by c k cell b s t h = grind (arith, nat_tests, colours_same, first_true, kinds_same, second_true)
 
 left_open : (a b c d e : Bool) → a ≡ true → b ≡ false → c ≡ true → e ≡ false → d ≡ (((a && not b) && c) && (d && not e))
-left_open x0 x1 x2 x3 x4 f g h i = grind (arith, nat_tests)
+left_open a b c d e f g h i = grind (arith, nat_tests)
 
 pub no_own_piece_taken : (p : Parts) (m : Move) → has_colour p.side (at p.board m.to) ≡ true → false ≡ is_piece_step p m
 no_own_piece_taken p m h = grind (arith, nat_tests)
@@ -138,15 +135,15 @@ module _ (p : Parts) (m : Move) (mine : has_colour p.side (at p.board m.to) ≡ 
 -- A pawn's step.
 
 no_fit : (stands way fits empty hits : Bool) → fits ≡ false → false ≡ ((stands && (way && fits)) || (((stands && fits) && empty) && hits))
-no_fit x0 x1 x2 empty hits h = grind (arith, nat_tests)
+no_fit stands way fits empty hits h = grind (arith, nat_tests)
 
 ahead : (stands fits adv dbl att col empty there : Bool) → stands ≡ true → fits ≡ true → att ≡ false
     → (adv || dbl) ≡ ((stands && ((adv || (dbl || (att && col))) && fits)) || (((stands && fits) && empty) && (att && there)))
-ahead x0 x1 x2 dbl x4 col empty there e f g = grind (arith, nat_tests)
+ahead stands fits adv dbl att col empty there e f g = grind (arith, nat_tests)
 
 aside : (stands fits adv dbl cap passing : Bool) → stands ≡ true → fits ≡ true → adv ≡ false → dbl ≡ false
     → (cap || passing) ≡ ((stands && ((adv || (dbl || cap)) && fits)) || passing)
-aside x0 x1 x2 x3 x4 passing e f g h = grind (arith, nat_tests)
+aside stands fits adv dbl cap passing e f g h = grind (arith, nat_tests)
 
 module _ (p : Parts) (m : Move) (pawn : own p Pawn m.from ≡ true) where
   pub pawn_promotes_wrongly : promotion_fits p m ≡ false → false ≡ (is_pawn_step p m || is_en_passant p m)

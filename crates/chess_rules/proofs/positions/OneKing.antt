@@ -28,13 +28,13 @@ at_least_one p (x ∷ xs) zero d low h = rw h (omega arith)
 at_least_one p (x ∷ xs) (suc i) d low h = by_first (p x) (at_least_one p xs i d (omega arith) h)
   where
     by_first : (v : Bool) → 1 ≤ tally p xs → 1 ≤ cond v (1 + tally p xs) (tally p xs)
-    by_first x0 more = grind (arith, nat_tests)
+    by_first v more = grind (arith, nat_tests)
 
 two : (n : ℕ) (v : Bool) → v ≡ true → 1 ≤ n → cond v (1 + n) n ≤ 1 → ⊥
-two n x1 e more few = grind (arith, nat_tests)
+two n v e more few = grind (arith, nat_tests)
 
 fewer : (n : ℕ) (v : Bool) → cond v (1 + n) n ≤ 1 → n ≤ 1
-fewer n x1 few = grind (arith, nat_tests)
+fewer n v few = grind (arith, nat_tests)
 
 tally_place : {X : Type 0} (p : X → Bool) (xs : List X) (i j : ℕ) (d : X) → tally p xs ≤ 1 → i < length xs → j < length xs → p (get_or xs i d) ≡ true → p (get_or xs j d) ≡ true → i ≡ j
 tally_place p [] i j d one low high h g = absurd (omega arith)
@@ -53,7 +53,7 @@ tally_some p [] h = absurd (omega arith)
 tally_some p (x ∷ xs) h = by_first (p x) h (tally_some p xs)
   where
     by_first : (v : Bool) → 1 ≤ cond v (1 + tally p xs) (tally p xs) → (1 ≤ tally p xs → position_or_len p xs < length xs) → cond (not v) (1 + position_or_len p xs) 0 < length (x ∷ xs)
-    by_first x0 g more = grind (arith, nat_tests)
+    by_first v g more = grind (arith, nat_tests)
 
 some_place : {X : Type 0} (p : X → Bool) (xs : List X) → 1 ≤ count_by p xs → position_or_len p xs < length xs
 some_place p xs h = tally_some p xs (omega (arith, tally-count_by p xs))

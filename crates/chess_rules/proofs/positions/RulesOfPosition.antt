@@ -40,10 +40,10 @@ fault_of kings edge attacked target numbers =
     else None
 
 no_fault : (a b c d e : Bool) → is_none (fault_of a b c d e) ≡ true → NoFault a b c d e
-no_fault x0 b c d e h = grind (arith, nat_tests)
+no_fault a b c d e h = grind (arith, nat_tests)
 
 none_from_facts : (a b c d e : Bool) → NoFault a b c d e → is_none (fault_of a b c d e) ≡ true
-none_from_facts x0 b c d e h = grind (arith, nat_tests)
+none_from_facts a b c d e h = grind (arith, nat_tests)
 
 at_most : (m n : ℕ) → nat_le m n ≡ true → m ≤ n
 at_most m n h = grind (arith, nat_tests)
@@ -66,7 +66,7 @@ sound_from_position p h =
     }
   where
     one_of : (one_king p.board White && one_king p.board Black) ≡ true → (c : Colour) → kings c p.board ≡ 1
-    one_of g x1 = grind (arith, nat_tests)
+    one_of g c = grind (arith, nat_tests)
 
 pub position_from_sound : (p : Parts) → Sound p → is_position p ≡ true
 position_from_sound p s =
@@ -81,7 +81,7 @@ position_from_sound p s =
     }))
 
 pub to_false : (x : Bool) → (x ≡ true → ⊥) → x ≡ false
-to_false x0 h = grind (arith, nat_tests)
+to_false x h = grind (arith, nat_tests)
 
 -- rank 1 or 8
 abbrev pub is_edge : ℕ → Bool

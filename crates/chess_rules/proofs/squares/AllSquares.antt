@@ -7,29 +7,29 @@ use Rattle.std.proofs.lemmas.List.Folds.{list_all-append, list_all-map, list_any
 use Rattle.chess_rules.specs.Square.{Square, square, squares, lines}
 
 pub split_or : (x y : Bool) → (x || y) ≡ true → (x ≡ true) ⊎ (y ≡ true)
-split_or x0 y h = grind (arith, nat_tests)
+split_or x y h = grind (arith, nat_tests)
 
 pub or_first : (x y : Bool) → x ≡ true → (x || y) ≡ true
-or_first x0 y h = grind (arith, nat_tests)
+or_first x y h = grind (arith, nat_tests)
 
 pub or_second : (x y : Bool) → y ≡ true → (x || y) ≡ true
-or_second x0 y h = grind (arith, nat_tests)
+or_second x y h = grind (arith, nat_tests)
 
 -- a test in two parts, as it is run
 pub true_or : (x y r : Bool) → r ≡ x → r ≡ true → (x || y) ≡ r
-true_or x0 y r e h = grind (arith, nat_tests)
+true_or x y r e h = grind (arith, nat_tests)
 
 pub false_or : (x y r q : Bool) → r ≡ x → r ≡ false → q ≡ y → (x || y) ≡ q
-false_or x0 y r q e h g = grind (arith, nat_tests)
+false_or x y r q e h g = grind (arith, nat_tests)
 
 pub not_means : (x : Bool) → not x ≡ true → x ≡ false
-not_means x0 g = grind (arith, nat_tests)
+not_means x g = grind (arith, nat_tests)
 
 pub not_true : (x y : Bool) → x ≡ true → (not x || y) ≡ true → y ≡ true
-not_true x0 y h g = grind (arith, nat_tests)
+not_true x y h g = grind (arith, nat_tests)
 
 pub implied : (x y : Bool) → (x ≡ true → y ≡ true) → (not x || y) ≡ true
-implied x0 y h = grind (arith, nat_tests)
+implied x y h = grind (arith, nat_tests)
 
 pub equal_from : (a b : ℕ) → (a == b) ≡ true → a ≡ b
 equal_from a b h = grind (arith, nat_tests)
@@ -39,16 +39,16 @@ equal_tests a b h = grind (arith, nat_tests)
 
 -- two tests that imply one another
 pub same_tests : (x y : Bool) → (x ≡ true → y ≡ true) → (y ≡ true → x ≡ true) → x ≡ y
-same_tests x0 y h g = grind (arith, nat_tests)
+same_tests x y h g = grind (arith, nat_tests)
 
 pub both_true : (x y : Bool) → x ≡ true → y ≡ true → (x && y) ≡ true
-both_true x0 y a b = grind (arith, nat_tests)
+both_true x y a b = grind (arith, nat_tests)
 
 pub first_true : (x y : Bool) → (x && y) ≡ true → x ≡ true
-first_true x0 y h = grind (arith, nat_tests)
+first_true x y h = grind (arith, nat_tests)
 
 pub second_true : (x y : Bool) → (x && y) ≡ true → y ≡ true
-second_true x0 y h = grind (arith, nat_tests)
+second_true x y h = grind (arith, nat_tests)
 
 equal_or_above : (a k : ℕ) → a ≤ k → (k ≡ a) ⊎ (a + 1 ≤ k)
 equal_or_above a k h = grind arith
@@ -117,7 +117,7 @@ list_any-map test f [] = refl
 list_any-map test f (x ∷ xs) = ap (λ v. test (f x) || v) (list_any-map test f xs)
 
 pub any_same : {X : Type 0} (f g : X → Bool) (xs : List X) → ((x : X) → f x ≡ g x) → list_any f xs ≡ list_any g xs
-any_same f g x2 h = grind (arith, nat_tests)
+any_same f g xs h = grind (arith, nat_tests)
 
 list_any-flat_map : {X Y : Type 0} (test : Y → Bool) (f : X → List Y) (xs : List X) → list_any test (flat_map f xs) ≡ list_any (λ x. list_any test (f x)) xs
 list_any-flat_map test f [] = refl

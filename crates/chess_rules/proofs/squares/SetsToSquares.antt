@@ -26,13 +26,6 @@ places_or v w p q h g = record { of = λ i low. has_or v w i ∙ ap₂ (λ x y. 
 pub places_not : (w : ℕ) (p : Square → Bool) → w < 2 ^ 64 → Places w p → Places (bit_not w64 w) (λ s. not (p s))
 places_not w p fits h = record { of = λ i low. has_not w i fits low ∙ ap not (h.of i low) }
 
-pub places_same : (w : ℕ) (p q : Square → Bool) → ((i : ℕ) → i < 64 → p (square_at i) ≡ q (square_at i)) → Places w p → Places w q
-places_same w p q e h = record { of = λ i low. h.of i low ∙ e i low }
-
--- the squares before one
-pub places_below : (w k : ℕ) (t : Square) → w ≡ 2 ^ k - 1 → k ≡ cell_of t → Places w (λ s. nat_lt (cell_of s) (cell_of t))
-places_below w k t is place = grind (arith, nat_tests, has_below, cell_of-square_at)
-
 -- a set of cells is one of squares
 pub marked : (w : ℕ) (test : Option Piece → Bool) (b : Board) → Marks w test b → Places w (λ s. test (at b s))
 marked w test b h = record { of = λ i low. h.of i low ∙ ap (λ k. test (get_or b k None)) (sym (cell_of-square_at i)) }
@@ -151,7 +144,7 @@ none_kept p a (suc n) h = by_test (p (square_at a)) refl (none_kept p (a + 1) n 
   where
     by_test : (x : Bool) → p (square_at a) ≡ x → length (filter p (map square_at (range_with_len (a + 1) n))) ≡ 0
         → length (cond x (square_at a ∷ filter p (map square_at (range_with_len (a + 1) n))) (filter p (map square_at (range_with_len (a + 1) n)))) ≡ 0
-    by_test x0 e none = grind (arith, nat_tests)
+    by_test x e none = grind (arith, nat_tests)
 
 one_of_range : (p : Square → Bool) (a n : ℕ) → ((i j : ℕ) → a ≤ i → i < j → j < a + n → p (square_at i) ≡ true → p (square_at j) ≡ true → ⊥)
     → length (filter p (map square_at (range_with_len a n))) ≤ 1

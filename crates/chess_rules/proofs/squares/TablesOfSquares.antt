@@ -34,7 +34,7 @@ table_at f table n i are less = grind (arith, nat_tests, get_or, at_number)
 -- A set of squares in a table.
 
 is_one : (b : Bool) → (digit b == 1) ≡ b
-is_one x0 = grind (arith, nat_tests)
+is_one b = grind (arith, nat_tests)
 
 mask_has : (test : Square → Bool) (i : ℕ) → i < 64 → has (mask test) i ≡ test (square_at i)
 unfolding has mask
@@ -61,15 +61,6 @@ second_of_pair s t tf tr = ap square_at (rest (cell_of s) (cell_of t) (omega ari
 
 -- two squares with one between them are on a line
 
-rank_aligned : (s u t : Square) → between_on_rank s u t ≡ true → is_aligned s t ≡ true
-rank_aligned s u t h = grind (arith, nat_tests)
-
-file_aligned : (s u t : Square) → between_on_file s u t ≡ true → is_aligned s t ≡ true
-file_aligned s u t h = grind (arith, nat_tests)
-
-ends_aligned : (s u t : Square) → strictly_between s u t ≡ true → is_aligned s t ≡ true
-ends_aligned s u t h = grind (arith, nat_tests)
-
 pub between_places : (s t : Square) (n : ℕ) → s.file < 8 → t.file < 8 → t.rank < 8 → n ≡ between_mask (64 * cell_of s + cell_of t) → Places n (λ u. strictly_between s u t)
 unfolding between_mask
 between_places s t n sf tf tr is =
@@ -82,4 +73,4 @@ between_places s t n sf tf tr is =
         record { of = λ i _. ap (λ m. has m i) (h ∙ ap (λ x. if x then mask (λ u. strictly_between s u t) else 0) e) ∙ (has_zero i ∙ sym (none (square_at i) (strictly_between s (square_at i) t) refl)) }
       where
         none : (u : Square) (x : Bool) → strictly_between s u t ≡ x → strictly_between s u t ≡ false
-        none u x1 g = grind (arith, nat_tests)
+        none u x g = grind (arith, nat_tests)

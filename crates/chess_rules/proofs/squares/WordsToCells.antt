@@ -22,13 +22,13 @@ use Rattle.chess_rules.specs.Board.{has_colour, has_piece, same_colour, same_kin
 -- One bit.
 
 both_bits : (x y : ℕ) → x < 2 → y < 2 → (min x y == 1) ≡ ((x == 1) && (y == 1))
-both_bits x0 x1 a b = grind (arith, nat_tests)
+both_bits x y a b = grind (arith, nat_tests)
 
 either_bit : (x y : ℕ) → x < 2 → y < 2 → (max x y == 1) ≡ ((x == 1) || (y == 1))
-either_bit x0 x1 a b = grind (arith, nat_tests)
+either_bit x y a b = grind (arith, nat_tests)
 
 other_bit : (x : ℕ) → x < 2 → (1 - x == 1) ≡ not (x == 1)
-other_bit x0 a = grind (arith, nat_tests)
+other_bit x a = grind (arith, nat_tests)
 
 pub has_and : (a b i : ℕ) → has (bit_and a b) i ≡ (has a i && has b i)
 unfolding has
@@ -59,10 +59,10 @@ unfolding has
 has_below k i = grind (arith, nat_tests, bit_at_ones, bit_at_ones_above)
 
 pub set_bit : (x e : Bool) → (x || e) ≡ (if e then true else x)
-set_bit x0 x1 = grind (arith, nat_tests)
+set_bit x e = grind (arith, nat_tests)
 
 pub cleared_bit : (x e : Bool) → (x && not e) ≡ (if e then false else x)
-cleared_bit x0 x1 = grind (arith, nat_tests)
+cleared_bit x e = grind (arith, nat_tests)
 
 -- What the code does to one word.
 
@@ -94,7 +94,7 @@ moved_bit (suc zero) k i low fits =
 moved_bit (suc (suc v)) k i low fits = absurd (omega arith)
 
 carried_bit : (x a b v : Bool) → ((x && not (a || b)) || (v && b)) ≡ (if b then v else (if a then false else x))
-carried_bit x0 x1 x2 x3 = grind (arith, nat_tests)
+carried_bit x a b v = grind (arith, nat_tests)
 
 pub carries : (old s t v from to : ℕ) → s < 2 ^ 64 → t < 2 ^ 64 → s ≡ 2 ^ from → t ≡ 2 ^ to → v ≡ bit_at old from
     → Carries old (bit_or (bit_and old (bit_not w64 (bit_or s t))) (v * 2 ^ to % 2 ^ 64)) from to
@@ -121,26 +121,20 @@ chosen_else word value fits e = record { of = λ i low. has_not word i fits low 
 
 -- What the bits say of a cell.
 
-pub code_of : (x : Option Piece) → is_code (straight_of x) (diagonal_of x) (near_of x) (black_of x) ≡ true
-code_of x0 = grind (arith, nat_tests)
-
-pub coded_again : (x : Option Piece) → coded (straight_of x) (diagonal_of x) (near_of x) (black_of x) ≡ x
-coded_again x0 = grind (arith, nat_tests)
-
 pub is_occupied : (a b c d : Bool) → ((a || b) || c) ≡ is_some (coded a b c d)
-is_occupied x0 x1 x2 d = grind (arith, nat_tests)
+is_occupied a b c d = grind (arith, nat_tests)
 
 pub kind_there : (k : Kind) (a b c d : Bool) → is_code a b c d ≡ true → kind_in k a b c ≡ has_kind k (coded a b c d)
-kind_there x0 x1 x2 x3 d h = grind (arith, nat_tests)
+kind_there k a b c d h = grind (arith, nat_tests)
 
 pub colour_there : (k : Colour) (a b c d : Bool) → (((a || b) || c) && is_it (is_black k) d) ≡ has_colour k (coded a b c d)
-colour_there x0 x1 x2 x3 x4 = grind (arith, nat_tests)
+colour_there k a b c d = grind (arith, nat_tests)
 
 pub piece_there : (c : Colour) (k : Kind) (x y z d : Bool) → (has_kind k (coded x y z d) && is_it (is_black c) d) ≡ has_piece c k (coded x y z d)
 piece_there c k x y z d = grind (arith, nat_tests)
 
 pub not_some : (x : Option Piece) → not (is_some x) ≡ is_none x
-not_some x0 = grind (arith, nat_tests)
+not_some x = grind (arith, nat_tests)
 
 -- What the words of a board say of its squares.
 
@@ -165,7 +159,7 @@ module _ (old new : Inside) (k : ℕ) (x : Option Piece) (one two four black : B
     (straight : Sets old.straight new.straight k one) (diagonal : Sets old.diagonal new.diagonal k two) (near : Sets old.near new.near k four) (blacks : Sets old.black new.black k black)
     (a : one ≡ straight_of x) (b : two ≡ diagonal_of x) (c : four ≡ near_of x) (d : black ≡ black_of x) where
   bits_put : (i : ℕ) → i < 64 → (v : Bool) → (i == k) ≡ v → cell_in new i ≡ (if v then x else cell_in old i)
-  bits_put i low x2 e = grind (arith, nat_tests)
+  bits_put i low v e = grind (arith, nat_tests)
 
   codes_put : ((i : ℕ) → i < 64 → is_code (has old.straight i) (has old.diagonal i) (has old.near i) (has old.black i) ≡ true) → (i : ℕ) → i < 64 → is_code (has new.straight i) (has new.diagonal i) (has new.near i) (has new.black i) ≡ true
   codes_put h i low = grind (arith, nat_tests)
@@ -179,7 +173,7 @@ module _ (old new : Inside) (k : ℕ) (x : Option Piece) (one two four black : B
       (λ i low. by_place i low (same_or_apart i k))
     where
       by_place : (i : ℕ) → i < 64 → ((i ≡ k) × ((i == k) ≡ true)) ⊎ ((i ≢ k) × ((i == k) ≡ false)) → cell_in new i ≡ get_or (set before k x) i None
-      by_place i low x2 = grind (arith, nat_tests, bits_put, get_or-set_at, long_there, cell_there, get_or-set_other)
+      by_place i low h = grind (arith, nat_tests, bits_put, get_or-set_at, long_there, cell_there, get_or-set_other)
 
 -- what one square holds is carried to another, in each word
 module _ (old new : Inside) (j k : ℕ)
@@ -201,4 +195,4 @@ module _ (old new : Inside) (j k : ℕ)
 
       by_places : (i : ℕ) → i < 64 → ((i ≡ k) × ((i == k) ≡ true)) ⊎ ((i ≢ k) × ((i == k) ≡ false)) → ((i ≡ j) × ((i == j) ≡ true)) ⊎ ((i ≢ j) × ((i == j) ≡ false))
           → (if i == k then cell_in old j else (if i == j then None else cell_in old i)) ≡ get_or (set (set before j None) k (get_or before j None)) i None
-      by_places i low x2 v = grind (arith, nat_tests, cell_there, get_or-set_at, set, get_or, length-set, long, get_or-set_other)
+      by_places i low h v = grind (arith, nat_tests, cell_there, get_or-set_at, set, get_or, length-set, long, get_or-set_other)

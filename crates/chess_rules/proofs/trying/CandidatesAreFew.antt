@@ -47,7 +47,7 @@ candidates_apart p k t =
     (λ s u _ h. kept (is_candidate p k t s) s u h) (λ s u h. ap cell_of (squares_same s u h)) squares all_known squares_apart)
   where
     kept : (x : Bool) (s u : Square) → (if x then Some s else None) ≡ Some u → cell_of u ≡ cell_of s
-    kept x0 s u h = grind (arith, nat_tests)
+    kept x s u h = grind (arith, nat_tests)
 
 -- no two of them are one, wherever the list is kept
 pub apart_there : (xs ys : List Square) → ys ≡ xs → IsDistinct same_square xs → AllPairs (λ s t. s ≢ t) ys
@@ -64,13 +64,13 @@ is_rider Knight = false
 is_rider Pawn = true
 
 pub sees_by_way : (p : Parts) (k : Kind) (s t : Square) → is_rider k ≡ true → sees k p s t ≡ (is_aligned s t && is_clear p.board s t)
-sees_by_way p x1 s t h = grind (arith, nat_tests)
+sees_by_way p k s t h = grind (arith, nat_tests)
 
 pub kind_cases : (k : Kind) → (is_rider k ≡ true) ⊎ (k ≡ Knight)
-kind_cases x0 = grind (arith, nat_tests)
+kind_cases k = grind (arith, nat_tests)
 
-pub rides_unless : (k : Kind) → (k ≡ Knight → ⊥) → is_rider k ≡ true
-rides_unless k h = elim (kind_cases k) [ inl rides ↦ rides | inr knight ↦ absurd (h knight) ]
+pub sees_unless : (k : Kind) → (k ≡ Knight → ⊥) → is_rider k ≡ true
+sees_unless k h = elim (kind_cases k) [ inl rides ↦ rides | inr knight ↦ absurd (h knight) ]
 
 -- They are few.
 

@@ -6,7 +6,7 @@ use Rattle.chess_rules.proofs.squares.AllSquares.{first_true, second_true}
 use Rattle.std.proofs.lemmas.Bool.Decides.{nat_tests}
 
 pub to_false : (x : Bool) → (x ≡ true → ⊥) → x ≡ false
-to_false x0 h = grind (arith, nat_tests)
+to_false x h = grind (arith, nat_tests)
 
 -- What is found passes a test.
 
@@ -15,7 +15,7 @@ passes test None = false
 passes test (Some y) = test y
 
 any-cond : {Y : Type 0} (test : Y → Bool) (b : Bool) (y : Y) (ys : List Y) → list_any test (cond b (y ∷ ys) ys) ≡ ((b && test y) || list_any test ys)
-any-cond test x1 y ys = grind (arith, nat_tests)
+any-cond test b y ys = grind (arith, nat_tests)
 
 pub list_any-filter : {Y : Type 0} (test p : Y → Bool) (ys : List Y) → list_any test (filter p ys) ≡ list_any (λ y. p y && test y) ys
 list_any-filter test p [] = refl
@@ -26,7 +26,7 @@ abbrev pub keep : {X : Type 0} → (X → Bool) → X → Option X
 keep p x = cond (p x) (Some x) None
 
 keep_one : {X : Type 0} (b : Bool) (x : X) (xs : List X) → cond b (x ∷ xs) xs ≡ cons_option (cond b (Some x) None) xs
-keep_one x0 x xs = grind (arith, nat_tests)
+keep_one b x xs = grind (arith, nat_tests)
 
 pub filter_as_map : {X : Type 0} (p : X → Bool) (xs : List X) → filter p xs ≡ filter_map (keep p) xs
 filter_as_map p [] = refl
@@ -35,15 +35,12 @@ filter_as_map p (x ∷ xs) = ap (λ ys. cond (p x) (x ∷ ys) ys) (filter_as_map
 -- What is found at elements with different codes differs, if the code can be read off it.
 module _ {X Y : Type 0} (e : Y → Y → Bool) (h : X → Option Y) (known : X → Bool) (code : X → ℕ) (back : Y → ℕ)
     (found : (x : X) (y : Y) → known x ≡ true → h x ≡ Some y → back y ≡ code x) (alike : (y z : Y) → e y z ≡ true → back y ≡ back z) where
-  equal_codes : (m n : ℕ) → eqb m n ≡ false → m ≡ n → ⊥
-  equal_codes m n h e = grind arith
-
   differ : (y : Y) (n : ℕ) → back y ≡ n → (xs : List X) → list_all known xs ≡ true → AllByRecursion (λ m. eqb n m ≡ false) (map code xs) → AllByRecursion (λ z. e y z ≡ false) (filter_map h xs)
   differ y n is [] k apart = tt
   differ y n is (x ∷ xs) k apart = by_found (h x) refl (differ y n is xs (second_true (known x) _ k) apart.1)
     where
       by_found : (o : Option Y) → h x ≡ o → AllByRecursion (λ z. e y z ≡ false) (filter_map h xs) → AllByRecursion (λ z. e y z ≡ false) (cons_option o (filter_map h xs))
-      by_found x0 there rest = grind (arith, nat_tests)
+      by_found o there rest = grind (arith, nat_tests)
 
   pub distinct_found : (xs : List X) → list_all known xs ≡ true → IsDistinct eqb (map code xs) → IsDistinct e (filter_map h xs)
   unfolding IsDistinct
@@ -63,7 +60,7 @@ kept_more {X = X} f g (x ∷ xs) h = by_tests (f x) (g x) (h x) (kept_more f g x
   where
     by_tests : (v w : Bool) → (v ≡ true → w ≡ true) → length (filter f xs) ≤ length (filter g xs)
         → length (cond v (x ∷ filter f xs) (filter f xs)) ≤ length (cond w (x ∷ filter g xs) (filter g xs))
-    by_tests x0 x1 more few = grind (arith, nat_tests)
+    by_tests v w more few = grind (arith, nat_tests)
 
 pub kept_either : {X : Type 0} (f g : X → Bool) (xs : List X) → length (filter (λ x. f x || g x) xs) ≤ length (filter f xs) + length (filter g xs)
 kept_either f g [] = omega arith
@@ -71,4 +68,4 @@ kept_either {X = X} f g (x ∷ xs) = by_tests (f x) (g x) (filter (λ y. f y || 
   where
     by_tests : (v w : Bool) (all one other : List X) → length all ≤ length one + length other
         → length (cond (v || w) (x ∷ all) all) ≤ length (cond v (x ∷ one) one) + length (cond w (x ∷ other) other)
-    by_tests x0 x1 all one other h = grind (arith, nat_tests)
+    by_tests v w all one other h = grind (arith, nat_tests)

@@ -18,7 +18,7 @@ use Rattle.chess_rules.specs.Legal.{is_legal, every_promotion, has_legal_move}
 use Rattle.chess_rules.specs.Candidate.{sees}
 use Rattle.chess_rules.specs.Attacks.{is_clear}
 use Rattle.chess_rules.specs.Reach.{is_aligned, king_square}
-use Rattle.chess_rules.specs.Pairs.{one_move, is_legal_pair, is_king_step, is_untried, is_untried_rider, any_untried, any_king_step, any_other}
+use Rattle.chess_rules.specs.Pairs.{one_move, is_legal_pair, is_king_step, is_untried, is_untried_aligned, has_untried_move, has_king_step, has_other_move}
 use Rattle.chess_rules.proofs.squares.AllSquares.{split_or, or_first, or_second, first_true, second_true, both_true, same_tests, Passes, some_square, any_square}
 use Rattle.chess_rules.proofs.positions.OneKing.{king_stands, king_only_there}
 use Rattle.chess_rules.proofs.moves.CellsAfterPut.{OnBoard}
@@ -34,7 +34,7 @@ use Rattle.std.proofs.lemmas.Bool.Decides.{nat_tests}
 -- What is hit is a legal move.
 
 any_promotion : (test : Option Promotion → Bool) (o : Option Promotion) → test o ≡ true → list_any test every_promotion ≡ true
-any_promotion test x1 h = grind (arith, nat_tests)
+any_promotion test o h = grind (arith, nat_tests)
 
 abbrev some_promotion : Parts → Square → Square → Bool
 some_promotion p from to = list_any (λ promotion. is_legal p (record { from = from; to = to; promotion = promotion })) every_promotion
@@ -54,15 +54,15 @@ moves_with_pair : (p : Parts) (s t : Square) → is_legal_pair p s t ≡ true �
 unfolding is_legal_pair
 moves_with_pair p s t h = moves_when p (one_move p s t) h
 
-moves_with_king : (p : Parts) → any_king_step p ≡ true → has_legal_move p ≡ true
-unfolding any_king_step
+moves_with_king : (p : Parts) → has_king_step p ≡ true → has_legal_move p ≡ true
+unfolding has_king_step
 moves_with_king p h =
     let king : Square = king_square p.side p.board in
     let to : Passes (λ t. is_king_step p t && is_legal_pair p king t) = some_square (λ t. is_king_step p t && is_legal_pair p king t) (sym (list_any-filter (is_legal_pair p king) (is_king_step p) squares) ∙ h) in
     moves_with_pair p king to.on (second_true (is_king_step p to.on) _ to.holds)
 
-moves_with_other : (p : Parts) → any_other p ≡ true → has_legal_move p ≡ true
-unfolding any_other any_untried
+moves_with_other : (p : Parts) → has_other_move p ≡ true → has_legal_move p ≡ true
+unfolding has_other_move has_untried_move
 moves_with_other p h = by_target (some_square (λ t. list_any (λ s. is_legal_pair p s t) (filter (is_untried p t) squares)) h)
   where
     by_target : Passes (λ t. list_any (λ s. is_legal_pair p s t) (filter (is_untried p t) squares)) → has_legal_move p ≡ true
@@ -78,10 +78,10 @@ kind_there c None h = cc
 kind_there c (Some x) h = (x.kind, both_true _ _ h (itself x.kind))
   where
     itself : (k : Kind) → same_kind k k ≡ true
-    itself x0 = grind (arith, nat_tests)
+    itself k = grind (arith, nat_tests)
 
 colour_there : (c : Colour) (k : Kind) (cell : Option Piece) → has_piece c k cell ≡ true → has_colour c cell ≡ true
-colour_there c k x2 h = grind (arith, nat_tests)
+colour_there c k cell h = grind (arith, nat_tests)
 
 mover : (p q : Parts) (m : Move) → Legal p m q → (k : Kind) × (own p k m.from ≡ true)
 mover p q m l =
@@ -99,8 +99,8 @@ mover p q m l =
       ]
     ]
 
-king_hit : (p : Parts) (s t : Square) → Sound p → OnBoard s → OnBoard t → own p King s ≡ true → is_king_step p t ≡ true → is_legal_pair p s t ≡ true → any_king_step p ≡ true
-unfolding any_king_step
+king_hit : (p : Parts) (s t : Square) → Sound p → OnBoard s → OnBoard t → own p King s ≡ true → is_king_step p t ≡ true → is_legal_pair p s t ≡ true → has_king_step p ≡ true
+unfolding has_king_step
 king_hit p s t sound on_s on_t owns step h =
     list_any-filter (is_legal_pair p (king_square p.side p.board)) (is_king_step p) squares
     ∙ any_square (λ u. is_king_step p u && is_legal_pair p (king_square p.side p.board) u) t on_t.file on_t.rank
@@ -110,20 +110,20 @@ king_hit p s t sound on_s on_t owns step h =
     one = king_only_there p.side p.board s (king_square p.side p.board) sound.long (sound.kings_of p.side)
         (record { file = on_s.file; rank = on_s.rank; king = owns }) (king_stands p.side p.board sound.long (sound.kings_of p.side))
 
-other_hit : (p : Parts) (s t : Square) → OnBoard s → OnBoard t → is_untried p t s ≡ true → is_legal_pair p s t ≡ true → any_other p ≡ true
-unfolding any_other any_untried
+other_hit : (p : Parts) (s t : Square) → OnBoard s → OnBoard t → is_untried p t s ≡ true → is_legal_pair p s t ≡ true → has_other_move p ≡ true
+unfolding has_other_move has_untried_move
 other_hit p s t on_s on_t left h =
     any_square (λ u. list_any (λ q. is_legal_pair p q u) (filter (is_untried p u) squares)) t on_t.file on_t.rank
     (list_any-filter (λ q. is_legal_pair p q t) (is_untried p t) squares
     ∙ any_square (λ q. is_untried p t q && is_legal_pair p q t) s on_s.file on_s.rank (both_true (is_untried p t s) (is_legal_pair p s t) left h))
 
 jump_untried : (p : Parts) (s t : Square) → own p Knight s ≡ true → is_jump s t ≡ true → is_untried p t s ≡ true
-jump_untried p s t owns jumps = or_first (own p Knight s && is_jump s t) (is_untried_rider p t s) (both_true _ _ owns jumps)
+jump_untried p s t owns jumps = or_first (own p Knight s && is_jump s t) (is_untried_aligned p t s) (both_true _ _ owns jumps)
 
 way_untried : (p : Parts) (k : Kind) (s t : Square) → own p k s ≡ true → is_rider k ≡ true → sees k p s t ≡ true → (is_king_step p t && own p King s) ≡ false → is_untried p t s ≡ true
 way_untried p k s t owns rides seen far = grind (arith, nat_tests, or_second, both_true, colour_there, first_true, second_true, sees_by_way, to_false, is_rider, one_kind)
 
-hit_when : (p : Parts) (m : Move) → is_position p ≡ true → is_legal p m ≡ true → (any_king_step p || any_other p) ≡ true
+hit_when : (p : Parts) (m : Move) → is_position p ≡ true → is_legal p m ≡ true → (has_king_step p || has_other_move p) ≡ true
 hit_when p m position h = by_legal (legal_after p m h)
   where
     pair : is_legal_pair p m.from m.to ≡ true
@@ -132,20 +132,20 @@ hit_when p m position h = by_legal (legal_after p m h)
     sound : Sound p
     sound = sound_from_position p position
 
-    by_kind : OnBoard m.from → OnBoard m.to → (k : Kind) → own p k m.from ≡ true → sees k p m.from m.to ≡ true → (any_king_step p || any_other p) ≡ true
+    by_kind : OnBoard m.from → OnBoard m.to → (k : Kind) → own p k m.from ≡ true → sees k p m.from m.to ≡ true → (has_king_step p || has_other_move p) ≡ true
     by_kind from to k owns seen =
         elim (kind_cases k) [
           | inl rides ↦ by_step (is_king_step p m.to) refl (own p King m.from) refl rides
-          | inr knight ↦ or_second (any_king_step p) _
+          | inr knight ↦ or_second (has_king_step p) _
               (other_hit p m.from m.to from to (jump_untried p m.from m.to (subst (λ (l : Kind). own p l m.from ≡ true) knight owns) (subst (λ (l : Kind). sees l p m.from m.to ≡ true) knight seen)) pair)
         ]
       where
-        by_step : (x : Bool) → is_king_step p m.to ≡ x → (y : Bool) → own p King m.from ≡ y → is_rider k ≡ true → (any_king_step p || any_other p) ≡ true
-        by_step true step true king rides = or_first _ (any_other p) (king_hit p m.from m.to sound from to king step pair)
-        by_step true step false other rides = or_second (any_king_step p) _ (other_hit p m.from m.to from to (way_untried p k m.from m.to owns rides seen (ap₂ (λ v w. v && w) step other)) pair)
-        by_step false far y other rides = or_second (any_king_step p) _ (other_hit p m.from m.to from to (way_untried p k m.from m.to owns rides seen (ap₂ (λ v w. v && w) far other)) pair)
+        by_step : (x : Bool) → is_king_step p m.to ≡ x → (y : Bool) → own p King m.from ≡ y → is_rider k ≡ true → (has_king_step p || has_other_move p) ≡ true
+        by_step true step true king rides = or_first _ (has_other_move p) (king_hit p m.from m.to sound from to king step pair)
+        by_step true step false other rides = or_second (has_king_step p) _ (other_hit p m.from m.to from to (way_untried p k m.from m.to owns rides seen (ap₂ (λ v w. v && w) step other)) pair)
+        by_step false far y other rides = or_second (has_king_step p) _ (other_hit p m.from m.to from to (way_untried p k m.from m.to owns rides seen (ap₂ (λ v w. v && w) far other)) pair)
 
-    by_legal : ((q : Parts) × Legal p m q) → (any_king_step p || any_other p) ≡ true
+    by_legal : ((q : Parts) × Legal p m q) → (has_king_step p || has_other_move p) ≡ true
     by_legal (q, l) =
         let (k, owns) = mover p q m l in
         by_kind (on_board_means m.from (first_true (on_board m.from) _ l.on)) (on_board_means m.to (second_true (on_board m.from) _ l.on)) k owns (step_seen p q m k owns l)
@@ -159,15 +159,15 @@ promotion_of p s t (o ∷ os) h =
     ]
 
 -- the search finds a legal move exactly if there is one
-pub legal_move_found : (p : Parts) → is_position p ≡ true → has_legal_move p ≡ (any_king_step p || any_other p)
+pub legal_move_found : (p : Parts) → is_position p ≡ true → has_legal_move p ≡ (has_king_step p || has_other_move p)
 legal_move_found p position =
     same_tests _ _ (λ h. by_from (some_square (λ s. list_any (λ t. some_promotion p s t) squares) h))
-    (λ h. elim (split_or (any_king_step p) (any_other p) h) [ inl king ↦ moves_with_king p king | inr other ↦ moves_with_other p other ])
+    (λ h. elim (split_or (has_king_step p) (has_other_move p) h) [ inl king ↦ moves_with_king p king | inr other ↦ moves_with_other p other ])
   where
-    by_to : (s : Square) → Passes (λ t. some_promotion p s t) → (any_king_step p || any_other p) ≡ true
+    by_to : (s : Square) → Passes (λ t. some_promotion p s t) → (has_king_step p || has_other_move p) ≡ true
     by_to s w =
         let (o, legal) = promotion_of p s w.on every_promotion w.holds in
         hit_when p (record { from = s; to = w.on; promotion = o }) position legal
 
-    by_from : Passes (λ s. list_any (λ t. some_promotion p s t) squares) → (any_king_step p || any_other p) ≡ true
+    by_from : Passes (λ s. list_any (λ t. some_promotion p s t) squares) → (has_king_step p || has_other_move p) ≡ true
     by_from w = by_to w.on (some_square (λ t. some_promotion p w.on t) w.holds)

@@ -22,7 +22,7 @@ use Rattle.chess_rules.proofs.moves.LegalToPosition.{way_of, Legal, legal_means}
 
 -- what a piece attacks it sees
 seen_by : (k : Kind) (c : Colour) (p : Parts) (s t : Square) → kind_attacks k c p.board s t ≡ true → sees k p s t ≡ true
-seen_by x0 c p s t h = grind (arith, nat_tests, attack_seen)
+seen_by k c p s t h = grind (arith, nat_tests, attack_seen)
 
 apart_by_rank : (s t : Square) → 0 < gap s.rank t.rank → not (same_square s t) ≡ true
 apart_by_rank s t h = grind (arith, nat_tests)
@@ -43,7 +43,7 @@ rank_means : (s u t : Square) → s.rank ≡ t.rank → strictly_between s u t �
 rank_means s u t same h = grind (arith, nat_tests)
 
 middle : (c : Colour) (a b x : ℕ) → a ≡ pawn_rank c → b ≡ double_rank c → inside a x b ≡ true → x ≡ (a + b) / 2
-middle x0 a b x low high h = grind (arith, nat_tests)
+middle c a b x low high h = grind (arith, nat_tests)
 
 -- a pawn's double step is seen: the one square between is empty
 double_seen : (p : Parts) (m : Move) → is_double_step p m ≡ true → sees Pawn p m.from m.to ≡ true
@@ -63,7 +63,7 @@ double_seen p m h =
     subst (λ (v : Square). is_empty p.board v ≡ true) (sym (ap₂ square place.0 (middle p.side m.from.rank m.to.rank u.rank ranks.0 ranks.1 place.1))) free))
   where
     some_ranks : (c : Colour) (a b : ℕ) → a ≡ pawn_rank c → b ≡ double_rank c → 0 < gap a b
-    some_ranks x0 a b low high = grind (arith, nat_tests)
+    some_ranks c a b low high = grind (arith, nat_tests)
 
 -- Castling: the king sees its end over the square that it crosses.
 
@@ -84,10 +84,10 @@ long_part : (x : ℕ) → inside 4 x 2 ≡ true → inside 4 x 0 ≡ true
 long_part x h = grind (arith, nat_tests)
 
 short_way : (b : Board) (c : Colour) → is_clear b (square 4 (home_rank c)) (square 7 (home_rank c)) ≡ true → (is_aligned (square 4 (home_rank c)) (square 6 (home_rank c)) && is_clear b (square 4 (home_rank c)) (square 6 (home_rank c))) ≡ true
-short_way b x1 h = grind (arith, nat_tests, clear_part, short_part)
+short_way b c h = grind (arith, nat_tests, clear_part, short_part)
 
 long_way : (b : Board) (c : Colour) → is_clear b (square 4 (home_rank c)) (square 0 (home_rank c)) ≡ true → (is_aligned (square 4 (home_rank c)) (square 2 (home_rank c)) && is_clear b (square 4 (home_rank c)) (square 2 (home_rank c))) ≡ true
-long_way b x1 h = grind (arith, nat_tests, clear_part, long_part)
+long_way b c h = grind (arith, nat_tests, clear_part, long_part)
 
 -- Each way to step.
 

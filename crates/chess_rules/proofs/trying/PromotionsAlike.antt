@@ -83,11 +83,8 @@ clear_alike c b d s t alike =
     all_same (λ u. not (strictly_between s u t) || is_empty b u) (λ u. not (strictly_between s u t) || is_empty d u)
     (λ u on. ap (λ v. not (strictly_between s u t) || v) (alike.cells u on).empty)
 
-kind_alike : (k : Kind) (a : Colour) (b d : Board) (s t : Square) → is_clear b s t ≡ is_clear d s t → kind_attacks k a b s t ≡ kind_attacks k a d s t
-kind_alike x0 a b d s t h = grind (arith, nat_tests)
-
 cell_alike : (cell : Option Piece) (b d : Board) (s t : Square) → is_clear b s t ≡ is_clear d s t → cell_attacks cell b s t ≡ cell_attacks cell d s t
-cell_alike x0 b d s t h = grind (arith, nat_tests)
+cell_alike cell b d s t h = grind (arith, nat_tests)
 
 attack_alike : (c : Colour) (b d : Board) (s t : Square) → Alike c b d → OnBoard s → (has_colour (other c) (at b s) && attacks b s t) ≡ (has_colour (other c) (at d s) && attacks d s t)
 attack_alike c b d s t alike on = by_colours (has_colour (other c) (at b s)) refl (has_colour (other c) (at d s)) refl
@@ -113,9 +110,6 @@ king_alike c b d alike =
 
 -- What arrives.
 
-not_other : (c : Colour) (k : Kind) → has_colour (other c) (some_piece c k) ≡ true → ⊥
-not_other x0 k h = grind (arith, nat_tests)
-
 men_alike : (c : Colour) (x y : Promotion) → CellsAlike c (some_piece c (kind_of x)) (some_piece c (kind_of y))
 men_alike c x y = grind (arith, nat_tests)
 
@@ -125,7 +119,7 @@ abbrev promoting : Square → Square → Promotion → Move
 promoting s t x = record { from = s; to = t; promotion = Some x }
 
 home_low : (c : Colour) → home_rank c < 8
-home_low x0 = grind (arith, nat_tests)
+home_low c = grind (arith, nat_tests)
 
 carried_alike : (p : Parts) (s t : Square) (x y : Promotion) → length p.board ≡ 64 → OnBoard s → OnBoard t → Alike p.side (carried p (promoting s t x)) (carried p (promoting s t y))
 carried_alike p s t x y long on_s on_t =
@@ -157,17 +151,17 @@ legal_passes : (p : Parts) (m : Move) → is_legal p m ≡ (is_on_board m && pas
 legal_passes p m = by_step (is_on_board m) (board_after p m)
   where
     by_safety : (v : Bool) (q : Parts) → is_some (if v then Some q else None) ≡ v
-    by_safety x0 q = grind (arith, nat_tests)
+    by_safety v q = grind (arith, nat_tests)
 
     by_step : (v : Bool) (o : Option Board) → is_some (if_safe (if v then option_map (after p m) o else None)) ≡ (v && passes (leaves_safe p) o)
-    by_step x0 x1 = grind (arith, nat_tests)
+    by_step v o = grind (arith, nat_tests)
 
 pick : (test : Board → Bool) (v x y z : Bool) (i j k l e f g h : Board) → test i ≡ test e → test j ≡ test f → test k ≡ test g → test l ≡ test h
     → passes test (if v then Some i else if x then Some j else if y then Some k else if z then Some l else None) ≡ passes test (if v then Some e else if x then Some f else if y then Some g else if z then Some h else None)
-pick test x1 x y z i j k l e f g h a b c d = grind (arith, nat_tests)
+pick test v x y z i j k l e f g h a b c d = grind (arith, nat_tests)
 
 both_when : (v x y : Bool) → (v ≡ true → x ≡ y) → (v && x) ≡ (v && y)
-both_when x0 x y h = grind (arith, nat_tests)
+both_when v x y h = grind (arith, nat_tests)
 
 pub promotions_alike : PromotionsAlike
 promotions_alike p s t x y position =
@@ -184,19 +178,19 @@ promotions_alike p s t x y position =
 -- A legal move names a promotion exactly if a pawn reaches its last rank.
 
 names_fit : (r : Bool) (o : Option Promotion) → (if r then is_some o else is_none o) ≡ true → is_some o ≡ r
-names_fit x0 x1 h = grind (arith, nat_tests)
+names_fit r o h = grind (arith, nat_tests)
 
 none_named : (o : Option Promotion) → is_none o ≡ true → is_some o ≡ false
-none_named x0 h = grind (arith, nat_tests)
+none_named o h = grind (arith, nat_tests)
 
 not_and : (r v : Bool) → v ≡ false → (r && v) ≡ false
-not_and x0 v h = grind (arith, nat_tests)
+not_and r v h = grind (arith, nat_tests)
 
 and_true : (r v : Bool) → v ≡ true → r ≡ (r && v)
-and_true x0 v h = grind (arith, nat_tests)
+and_true r v h = grind (arith, nat_tests)
 
 is_false : (v : Bool) → not v ≡ true → v ≡ false
-is_false x0 h = grind (arith, nat_tests)
+is_false v h = grind (arith, nat_tests)
 
 abbrev arrives : Parts → Move → Bool
 arrives p m = (m.to.rank == last_rank p.side) && own p Pawn m.from
@@ -234,7 +228,7 @@ named p q m l =
     by_castling king plain = named_by_other p m (king_no_pawn p m.from king) plain
 
 is_some_means : (o : Option Parts) → is_some o ≡ true → (q : Parts) × (o ≡ Some q)
-is_some_means x0 h = grind (arith, nat_tests)
+is_some_means o h = grind (arith, nat_tests)
 
 pub legal_after : (p : Parts) (m : Move) → is_legal p m ≡ true → (q : Parts) × Legal p m q
 legal_after p m h = (let (q, e) = is_some_means (legal p m) h in (q, legal_means p m q e))

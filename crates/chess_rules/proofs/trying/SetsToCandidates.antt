@@ -27,10 +27,10 @@ pub knights_are : (p : Parts) (t : Square) (v w : ℕ) → Places v (own p Knigh
 knights_are p t v w h g =
     members_are (bit_and v w) (is_candidate p Knight t) (λ i low. (places_and v w (own p Knight) (λ s. is_jump s t) h g).of i low)
 
-pub riders_are : (p : Parts) (k : Kind) (t : Square) (b : Board) (v w clear : ℕ) → is_rider k ≡ true → b ≡ p.board
+pub aligned_are : (p : Parts) (k : Kind) (t : Square) (b : Board) (v w clear : ℕ) → is_rider k ≡ true → b ≡ p.board
     → Places v (own p k) → Places w (λ s. is_aligned s t) → Places clear (λ s. has (bit_and v w) (cell_of s) && is_clear b s t)
     → members clear ≡ candidates p k t
-riders_are p k t b v w clear rides board h g f =
+aligned_are p k t b v w clear rides board h g f =
     members_are clear (is_candidate p k t)
     (λ i low.
     f.of i low
@@ -40,16 +40,16 @@ riders_are p k t b v w clear rides board h g f =
     ∙ ap (λ x. own p k (square_at i) && x) (sym (sees_by_way p k (square_at i) t rides)))))
   where
     in_turn : (x y z : Bool) → ((x && y) && z) ≡ (x && (y && z))
-    in_turn x0 y z = grind (arith, nat_tests)
+    in_turn x y z = grind (arith, nat_tests)
 
 pub few_there : (p : Parts) (k : Kind) (t : Square) (xs : List Square) → t.file < 8 → t.rank < 8 → xs ≡ candidates p k t → length xs ≤ 8
 few_there p k t xs tf tr same = grind (arith, nat_tests, length, few_candidates, both_true)
 
 -- Without looking at what stands between.
 
-pub riders_few : (p : Parts) (k : Kind) (t : Square) (v w : ℕ) → is_rider k ≡ true → Places v (own p k) → Places w (λ s. is_aligned s t)
+pub aligned_few : (p : Parts) (k : Kind) (t : Square) (v w : ℕ) → is_rider k ≡ true → Places v (own p k) → Places w (λ s. is_aligned s t)
     → length (members (bit_and v w)) ≤ 1 → length (candidates p k t) ≤ 1
-riders_few p k t v w rides h g few =
+aligned_few p k t v w rides h g few =
     omega (
       arith,
       few,

@@ -14,7 +14,7 @@ use Rattle.chess_rules.specs.Step.{own}
 use Rattle.chess_rules.specs.Attacks.{is_clear}
 use Rattle.chess_rules.specs.Reach.{is_aligned, king_square, square_at}
 use Rattle.chess_rules.specs.Words.{has, members, Marks, Places}
-use Rattle.chess_rules.specs.Pairs.{is_king_step, is_left, is_untried_rider}
+use Rattle.chess_rules.specs.Pairs.{is_king_step, is_without_tried_king, is_untried_aligned}
 use Rattle.chess_rules.proofs.squares.SetsToSquares.{at_square, members_are}
 use Rattle.chess_rules.proofs.squares.WordsToCells.{has_and, has_not}
 use Rattle.chess_rules.proofs.positions.OneKing.{cell_of-square_at}
@@ -35,18 +35,18 @@ step_tried p t w place r h is file rank e = e ∙ (ap (has w) is ∙ at_square w
 
 -- The pieces that are still to be tried for a target.
 
-pub king_left_out : (p : Parts) (t : Square) (pieces kings : ℕ) → is_king_step p t ≡ true → kings < 2 ^ 64 → Places kings (own p King) → Places (bit_and pieces (bit_not w64 kings)) (is_left p pieces t)
+pub king_left_out : (p : Parts) (t : Square) (pieces kings : ℕ) → is_king_step p t ≡ true → kings < 2 ^ 64 → Places kings (own p King) → Places (bit_and pieces (bit_not w64 kings)) (is_without_tried_king p pieces t)
 king_left_out p t pieces kings step fits h = grind (arith, nat_tests, has_and, w64, cell_of-square_at, has_not)
 
-pub none_left_out : (p : Parts) (t : Square) (pieces : ℕ) → is_king_step p t ≡ false → Places pieces (is_left p pieces t)
+pub none_left_out : (p : Parts) (t : Square) (pieces : ℕ) → is_king_step p t ≡ false → Places pieces (is_without_tried_king p pieces t)
 none_left_out p t pieces step = grind (arith, nat_tests)
 
-pub riders_left : (p : Parts) (t : Square) (b : Board) (owns knights lines left clear : ℕ) → b ≡ p.board → knights < 2 ^ 64
+pub aligned_left : (p : Parts) (t : Square) (b : Board) (owns knights lines left clear : ℕ) → b ≡ p.board → knights < 2 ^ 64
     → Places owns (λ s. has_colour p.side (at p.board s)) → Places knights (own p Knight) → Places lines (λ s. is_aligned s t)
-    → Places left (is_left p (bit_and (bit_and owns (bit_not w64 knights)) lines) t)
+    → Places left (is_without_tried_king p (bit_and (bit_and owns (bit_not w64 knights)) lines) t)
     → Places clear (λ s. has left (cell_of s) && is_clear b s t)
-    → Places clear (is_untried_rider p t)
-riders_left p t b owns knights lines left clear board fits of_owns of_knights of_lines of_left of_clear = grind (arith, nat_tests, cell_of-square_at, w64, has_and, has_not)
+    → Places clear (is_untried_aligned p t)
+aligned_left p t b owns knights lines left clear board fits of_owns of_knights of_lines of_left of_clear = grind (arith, nat_tests, cell_of-square_at, w64, has_and, has_not)
 
 -- The members of a set, and then all other squares.
 
@@ -55,14 +55,14 @@ any_parts test kept [] = refl
 any_parts test kept (x ∷ xs) = by_test (kept x) (filter kept xs) (filter (λ s. not (kept s)) xs) ∙ ap (λ v. test x || v) (any_parts test kept xs)
   where
     in_turn : (x y z : Bool) → (x || (y || z)) ≡ ((x || y) || z)
-    in_turn x0 y z = grind (arith, nat_tests)
+    in_turn x y z = grind (arith, nat_tests)
 
     later : (x y z : Bool) → (x || (y || z)) ≡ (y || (x || z))
-    later x0 x1 z = grind (arith, nat_tests)
+    later x y z = grind (arith, nat_tests)
 
     by_test : (v : Bool) (a b : List Square)
         → (list_any test (cond v (x ∷ a) a) || list_any test (cond (not v) (x ∷ b) b)) ≡ (test x || (list_any test a || list_any test b))
-    by_test x0 a b = grind (arith, nat_tests)
+    by_test v a b = grind (arith, nat_tests)
 
 sum_parts : (cost : Square → ℕ) (kept : Square → Bool) (xs : List Square) → sum_by cost (filter kept xs) + sum_by cost (filter (λ s. not (kept s)) xs) ≡ sum_by cost xs
 sum_parts cost kept [] = refl
@@ -70,7 +70,7 @@ sum_parts cost kept (x ∷ xs) = by_test (kept x) (filter kept xs) (filter (λ s
   where
     by_test : (v : Bool) (a b : List Square) → sum_by cost a + sum_by cost b ≡ sum_by cost xs
         → sum_by cost (cond v (x ∷ a) a) + sum_by cost (cond (not v) (x ∷ b) b) ≡ cost x + sum_by cost xs
-    by_test x0 a b e = grind (arith, nat_tests, sum_by-cons)
+    by_test v a b e = grind (arith, nat_tests, sum_by-cons)
 
 others : (w : ℕ) → w < 2 ^ 64 → members (bit_not w64 w) ≡ filter (λ s. not (has w (cell_of s))) squares
 others w fits = members_are (bit_not w64 w) (λ s. not (has w (cell_of s))) (λ i low. has_not w i fits low ∙ ap (λ j. not (has w j)) (sym (cell_of-square_at i)))

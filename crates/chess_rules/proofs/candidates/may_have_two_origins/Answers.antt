@@ -4,8 +4,8 @@ use Rattle.chess_rules.specs.declared.piece.Kind.{Kind}
 use Rattle.chess_rules.specs.Candidate.{candidates}
 use Rattle.chess_rules.specs.Step.{own}
 use Rattle.chess_rules.specs.Words.{members, Places}
-use Rattle.chess_rules.proofs.trying.CandidatesAreFew.{rides_unless}
-use Rattle.chess_rules.proofs.trying.SetsToCandidates.{knights_are, own_places, riders_few}
+use Rattle.chess_rules.proofs.trying.CandidatesAreFew.{sees_unless}
+use Rattle.chess_rules.proofs.trying.SetsToCandidates.{knights_are, own_places, aligned_few}
 use Rattle.chess_rules.proofs.candidates.may_have_two_origins.Goals as goal
 
 pub returns-in-Knight : goal.returns-in-Knight
@@ -21,6 +21,6 @@ returns-in-Knight c = λ none.
 
 pub returns-in_default : goal.returns-in_default
 returns-in_default c = λ none.
-    riders_few c.args.position.now c.args.kind c.args.target c.pieces-own.result c.aligned.result (rides_unless c.args.kind c.in_default.not-Knight)
+    aligned_few c.args.position.now c.args.kind c.args.target c.pieces-own.result c.aligned.result (sees_unless c.args.kind c.in_default.not-Knight)
     (own_places c.args.position.now c.args.kind c.side.result c.board.result.now c.pieces-own.result c.side.ensures c.board.ensures c.pieces-own.ensures)
     c.aligned.ensures (c.has_several-in_default.ensures none)

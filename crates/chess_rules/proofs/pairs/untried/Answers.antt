@@ -1,7 +1,7 @@
 use Rattle.chess_rules.specs.declared.piece.Kind.TheVariants.{Knight}
 use Rattle.chess_rules.proofs.squares.SetsToSquares.{places_and, places_or}
 use Rattle.chess_rules.proofs.trying.SetsToCandidates.{own_places}
-use Rattle.chess_rules.proofs.trying.SetsToPairs.{colour_places, riders_left}
+use Rattle.chess_rules.proofs.trying.SetsToPairs.{colour_places, aligned_left}
 use Rattle.chess_rules.proofs.pairs.untried.Goals as goal
 
 pub returns : goal.returns
@@ -10,7 +10,7 @@ returns c =
     let knights = own_places p Knight c.side-side.result c.board-board.result.now c.pieces-knights.result c.side-side.ensures c.board-board.ensures c.pieces-knights.ensures in
     places_or _ _ _ _
     (places_and _ _ _ _ knights c.knights_to.ensures)
-    (riders_left p c.args.target c.board-board.result.now c.of_colour.result c.pieces-knights.result c.aligned.result c.left_of.result c.clear_among.result
+    (aligned_left p c.args.target c.board-board.result.now c.of_colour.result c.pieces-knights.result c.aligned.result c.without_tried_king-untried.result c.clear_among.result
     c.board-board.ensures c.pieces-knights.type_inv
     (colour_places p c.side-side.result c.board-board.result.now c.of_colour.result c.side-side.ensures c.board-board.ensures c.of_colour.ensures)
-    knights c.aligned.ensures c.left_of.ensures c.clear_among.ensures)
+    knights c.aligned.ensures c.without_tried_king-untried.ensures c.clear_among.ensures)

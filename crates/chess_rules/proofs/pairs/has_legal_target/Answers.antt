@@ -3,8 +3,8 @@ use Rattle.chess_rules.specs.Pairs as spec
 use Rattle.chess_rules.specs.Words.{members}
 use Rattle.chess_rules.proofs.squares.SetsToSquares.{next_member}
 use Rattle.chess_rules.proofs.trying.SearchThatCounts.{all_left, left_fits, fewer_left, left_hit, none_left}
-use Rattle.chess_rules.proofs.pairs.any_to.Goals as goal
-use Rattle.chess_rules.proofs.pairs.any_to.Goals.{After-nth}
+use Rattle.chess_rules.proofs.pairs.has_legal_target.Goals as goal
+use Rattle.chess_rules.proofs.pairs.has_legal_target.Goals.{After-nth}
 
 next : (c : After-nth) → members c.loop-left.left ≡ c.nth.result ∷ members c.with-left.result
 next c =

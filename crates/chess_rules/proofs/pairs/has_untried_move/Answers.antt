@@ -3,24 +3,24 @@ use Rattle.std.specs.Prelude.{filter}
 use Rattle.std.specs.List.{list_any}
 use Rattle.chess_rules.specs.Square.{squares}
 use Rattle.chess_rules.specs.Pairs as spec
-use Rattle.chess_rules.specs.Pairs.{any_untried, count_untried}
+use Rattle.chess_rules.specs.Pairs.{has_untried_move, count_untried}
 use Rattle.chess_rules.specs.Words.{members}
 use Rattle.chess_rules.proofs.squares.SetsToSquares.{members_are}
-use Rattle.chess_rules.proofs.pairs.any_untried.Goals as goal
-use Rattle.chess_rules.proofs.pairs.any_untried.Goals.{After-untried}
+use Rattle.chess_rules.proofs.pairs.has_untried_move.Goals as goal
+use Rattle.chess_rules.proofs.pairs.has_untried_move.Goals.{After-untried}
 
 origins : (c : After-untried) → members c.untried.result ≡ filter (spec.is_untried c.args.position.now c.args.target) squares
 origins c = members_are c.untried.result (spec.is_untried c.args.position.now c.args.target) c.untried.ensures.of
 
-pub any_from-requires : goal.any_from-requires
+pub has_legal_origin-requires : goal.has_legal_origin-requires
 unfolding count_untried
-any_from-requires c = subst (λ n. c.args.probes.now + n < 2 ^ 32) (sym (ap length (origins c.before))) c.requires
+has_legal_origin-requires c = subst (λ n. c.args.probes.now + n < 2 ^ 32) (sym (ap length (origins c.before))) c.requires
 
 pub returns-clause-found : goal.returns-clause-found
-unfolding any_untried
+unfolding has_untried_move
 returns-clause-found c =
-    c.any_from.ensures.found ∙ ap (list_any (λ s. spec.is_legal_pair c.args.position.now s c.args.target)) (origins c.before.before)
+    c.has_legal_origin.ensures.found ∙ ap (list_any (λ s. spec.is_legal_pair c.args.position.now s c.args.target)) (origins c.before.before)
 
 pub returns-clause-count : goal.returns-clause-count
 unfolding count_untried
-returns-clause-count c = subst (λ n. spec.Counts c.any_from.result c.args.probes.now c.any_from.new.probes n) (ap length (origins c.before.before)) c.any_from.ensures.count
+returns-clause-count c = subst (λ n. spec.Counts c.has_legal_origin.result c.args.probes.now c.has_legal_origin.new.probes n) (ap length (origins c.before.before)) c.has_legal_origin.ensures.count

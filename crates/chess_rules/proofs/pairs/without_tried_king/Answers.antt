@@ -2,7 +2,7 @@ use Rattle.std.proofs.Common.{sym, ◌∙◌}
 use Rattle.chess_rules.specs.declared.piece.Kind.TheVariants.{King}
 use Rattle.chess_rules.proofs.trying.SetsToCandidates.{own_places}
 use Rattle.chess_rules.proofs.trying.SetsToPairs.{king_left_out, none_left_out, step_tried}
-use Rattle.chess_rules.proofs.pairs.left_of.Goals as goal
+use Rattle.chess_rules.proofs.pairs.without_tried_king.Goals as goal
 
 pub returns-then-has : goal.returns-then-has
 returns-then-has c =
