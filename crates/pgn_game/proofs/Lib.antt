@@ -6,9 +6,9 @@ mod ReaderPartsFitInMemory
 mod ReasonToDevice
 mod Words
 mod exporting
-mod judging
 mod pairs
 mod putting
 mod reading
+mod refusals
 mod tokens
 mod twice

@@ -1,4 +1,4 @@
--- What a judged token adds to the reader and to the text.
+-- What an accepted token adds to the reader and to the text.
 pub mod CodeLevelsToStored
 pub mod ItemToMovetext
 pub mod ItemToReader

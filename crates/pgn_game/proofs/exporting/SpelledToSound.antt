@@ -11,7 +11,7 @@ use Rattle.pgn_game.proofs.Words.{Parts, Kind, Item, Game, Pair, value_of, Profi
 use Rattle.pgn_game.specs.Levels.{Level, start_of}
 use Rattle.pgn_game.specs.Spells.{AreDropped, SpellsPair, pair, SpellsPairs, no_pair, next_pair, KeepsTags, by_name, IsSetUp, SpellsText, no_more, token, move, variation, StandsFor, number, new_level, BeginsBare, IsResult, SpellsGame}
 use Rattle.pgn_game.proofs.AllOfJoined.{all_front, all_behind}
-use Rattle.pgn_game.proofs.judging.RefusalsInMovetext.{score_of}
+use Rattle.pgn_game.proofs.refusals.RefusalsInMovetext.{score_of}
 use Rattle.pgn_game.proofs.exporting.PiecesToTokens.{IsSoundPair, IsWritable}
 
 -- Comments. They close behind these kinds if they close behind more before them.

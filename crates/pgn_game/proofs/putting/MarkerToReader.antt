@@ -27,7 +27,7 @@ use Rattle.pgn_game.proofs.putting.WritesInTurn.{front_of_more, front_after}
 use Rattle.pgn_game.proofs.putting.ItemToMovetext.{from_to}
 use Rattle.pgn_game.proofs.putting.ItemsAppended.{game_ends}
 use Rattle.pgn_game.proofs.putting.ItemToReader.{gain_at, open_stage, plies_before, section_is, unwritten}
-use Rattle.pgn_game.proofs.judging.RefusalsInMovetext.{depth_is, position_is}
+use Rattle.pgn_game.proofs.refusals.RefusalsInMovetext.{depth_is, position_is}
 
 -- the lines of a game whose items are these, and an empty line
 abbrev game_lines : Mode → List Pair → List Item → List ℕ → List ℕ

@@ -15,7 +15,7 @@ use Rattle.pgn_game.specs.ReaderState.{ReaderState, Agrees, plies_behind}
 use Rattle.pgn_game.specs.TokenInMovetext.{fen_position}
 use Rattle.pgn_game.specs.PutResult.{Goes, PutResult, gain_to}
 use Rattle.pgn_game.proofs.putting.ItemToMovetext.{from_to}
-use Rattle.pgn_game.proofs.judging.ReaderToPart.{begun_name, held_at, text_at}
+use Rattle.pgn_game.proofs.refusals.ReaderToPart.{begun_name, held_at, text_at}
 use Rattle.pgn_game.proofs.putting.ItemToReader.{more_comes}
 use Rattle.pgn_game.proofs.pairs.PairsToFirstPosition.{with_pair, start_found, start_kept}
 

@@ -13,9 +13,9 @@ use Rattle.pgn_game.specs.FaultTable.{refusal, is_comment, in_name, is_result, i
 use Rattle.pgn_game.specs.Progress.{next, going, whole}
 use Rattle.pgn_game.specs.Spells.{AreDropped, SpellsPair, pair, SpellsPairs, no_pair, next_pair, IsPair, by_name, IsSetUp, Names, new_level, level_after_move, SpellsText, no_more, token, move, variation, BeginsBare, IsResult, SpellsGame, SpellsGames, no_game, next_game}
 use Rattle.pgn_game.proofs.reading.RunsToEnd.{at, Runs, ends, goes, finishes}
-use Rattle.pgn_game.proofs.judging.RefusalsByStage.{pass, drops_comments, comment_free, comment_stays, comment_goes, open_refusal, open_between, name_refusal, value_refusal, close_refusal, is_textual, after_tags, leads_after_tags, between, leads_between, is_lexical, text_row}
+use Rattle.pgn_game.proofs.refusals.RefusalsByStage.{pass, drops_comments, comment_free, comment_stays, comment_goes, open_refusal, open_between, name_refusal, value_refusal, close_refusal, is_textual, after_tags, leads_after_tags, between, leads_between, is_lexical, text_row}
 use Rattle.pgn_game.proofs.reading.PairsInTurn.{with_pairs, Takes, takes}
-use Rattle.pgn_game.proofs.judging.RefusalsInMovetext.{refused_as, move_refusal, symbol_next, symbol_leads, marker_refusal, marker_whole}
+use Rattle.pgn_game.proofs.refusals.RefusalsInMovetext.{refused_as, move_refusal, symbol_next, symbol_leads, marker_refusal, marker_whole}
 use Rattle.pgn_game.proofs.reading.MovetextTokens.{levels_more, result_meets, stands_free, stands_leads, stands_levels, stands_goes}
 
 -- Comments that are dropped.

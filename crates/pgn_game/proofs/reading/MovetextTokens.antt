@@ -11,8 +11,8 @@ use Rattle.pgn_game.specs.FaultTable.{refusal, is_score, is_number, is_end, resu
 use Rattle.pgn_game.specs.Progress.{next, going}
 use Rattle.pgn_game.specs.Spells.{StandsFor, number, glyph, comment_open, word, comment_close, IsResult}
 use Rattle.pgn_game.proofs.reading.RunsToEnd.{at}
-use Rattle.pgn_game.proofs.judging.RefusalsByStage.{text_row}
-use Rattle.pgn_game.proofs.judging.RefusalsInMovetext.{number_free, number_leads}
+use Rattle.pgn_game.proofs.refusals.RefusalsByStage.{text_row}
+use Rattle.pgn_game.proofs.refusals.RefusalsInMovetext.{number_free, number_leads}
 
 -- the levels behind one item more
 pub levels_more : (items : List Item) (x : Item) → levels_of (items ++ x ∷ []) ≡ levels_after (levels_of items) x

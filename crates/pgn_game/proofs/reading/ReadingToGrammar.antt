@@ -18,8 +18,8 @@ use Rattle.pgn_game.specs.Progress.{Next, next, going, whole}
 use Rattle.pgn_game.specs.Spells.{AreDropped, pair, SpellsPairs, no_pair, next_pair, by_name, IsSetUp, StandsFor, number, period, glyph, comment_open, word, comment_close, Names, new_level, level_after_move, SpellsText, no_more, token, move, variation, BeginsBare, IsResult, SpellsGame, SpellsGames, no_game, next_game}
 use Rattle.pgn_game.proofs.reading.RunsToEnd.{at, Runs, ends, goes, finishes}
 use Rattle.pgn_game.specs.TokenInMovetext.{or_else}
-use Rattle.pgn_game.proofs.judging.RefusalsInMovetext.{marker_if, rows_for, symbol_next, symbol_refusal}
-use Rattle.pgn_game.proofs.judging.RefusalsByStage.{test_failed, rest_passed, open_refusal, open_between, name_refusal, value_refusal, is_textual, after_tags, leads_after_tags, between, leads_between, text_row}
+use Rattle.pgn_game.proofs.refusals.RefusalsInMovetext.{marker_if, rows_for, symbol_next, symbol_refusal}
+use Rattle.pgn_game.proofs.refusals.RefusalsByStage.{test_failed, rest_passed, open_refusal, open_between, name_refusal, value_refusal, is_textual, after_tags, leads_after_tags, between, leads_between, text_row}
 use Rattle.pgn_game.proofs.reading.PairsInTurn.{with_pairs, Takes, taken}
 use Rattle.pgn_game.proofs.reading.MovetextTokens.{levels_more, stands_levels, differs, result_is}
 

@@ -24,8 +24,8 @@ use Rattle.pgn_game.specs.ReaderState.{ReaderState, Agrees}
 use Rattle.pgn_game.specs.TokenInMovetext.{IsOpen, may_have_movetext, model_item, with_items}
 use Rattle.pgn_game.specs.ItemResult.{TriesItem, writes}
 use Rattle.pgn_game.proofs.tokens.OneMoreToken.{first_passes, goes_on}
-use Rattle.pgn_game.proofs.judging.RefusalsInMovetext.{depth_is, position_is}
-use Rattle.pgn_game.proofs.judging.ReaderToPart.{held_at, text_at}
+use Rattle.pgn_game.proofs.refusals.RefusalsInMovetext.{depth_is, position_is}
+use Rattle.pgn_game.proofs.refusals.ReaderToPart.{held_at, text_at}
 
 -- Tokens in turn.
 -- what is tried for tokens, and for those behind them

@@ -33,9 +33,9 @@ use Rattle.pgn_game.specs.ReaderState as reader_state
 use Rattle.pgn_game.specs.ReaderState.{ReaderState, Agrees, Answers, IsStopped, CountsStop, is_outside_the_table, Stays, FinishesAtMarker, Leads, plies_behind, plies_next, whole_plies}
 use Rattle.pgn_game.specs.TokenInMovetext.{IsEntry, IsOpen, may_have_movetext, model_item, text_refusal, with_items}
 use Rattle.pgn_game.specs.PutResult.{CountsMove, EntersMovetext, Finds, FinishesNone, GoesTo, PutResult, PutsItems, Takes, TakesEntry, TakesOutside, TakesToken, TakesUnwritten, at_game_start, counting_probes, unused}
-use Rattle.pgn_game.proofs.judging.RefusalsByStage.{begins_alike, comment_passes, drops_comments, passes_between}
-use Rattle.pgn_game.proofs.judging.RefusalsInMovetext.{marker_whole, move_free, move_leads, move_refused as move_row_refused, refused_inside}
-use Rattle.pgn_game.proofs.judging.ReaderToPart.{held_at, open_agrees, text_at, part_stage}
+use Rattle.pgn_game.proofs.refusals.RefusalsByStage.{begins_alike, comment_passes, drops_comments, passes_between}
+use Rattle.pgn_game.proofs.refusals.RefusalsInMovetext.{marker_whole, move_free, move_leads, move_refused as move_row_refused, refused_inside}
+use Rattle.pgn_game.proofs.refusals.ReaderToPart.{held_at, open_agrees, text_at, part_stage}
 use Rattle.pgn_game.proofs.putting.ItemToReader.{to_items}
 use Rattle.pgn_game.proofs.putting.MarkerToReader.{to_game}
 use Rattle.pgn_game.proofs.putting.PairStepToReader.{no_torn, puts_nothing}

@@ -21,8 +21,8 @@ use Rattle.pgn_game.specs.Movetext.{HoldsItems}
 use Rattle.pgn_game.specs.ReaderState.{ReaderState, Agrees, HoldsText, IsAccepted, Leads, is_outside_the_table}
 use Rattle.pgn_game.specs.TokenInMovetext.{game_of, or_else, with_items}
 use Rattle.pgn_game.specs.Pass.{counting, reading_under}
-use Rattle.pgn_game.proofs.judging.RefusalsByStage.{name_refusal, test_failed}
-use Rattle.pgn_game.proofs.judging.RefusalsInMovetext.{marker_whole, other_if, score_of}
+use Rattle.pgn_game.proofs.refusals.RefusalsByStage.{name_refusal, test_failed}
+use Rattle.pgn_game.proofs.refusals.RefusalsInMovetext.{marker_whole, other_if, score_of}
 
 -- the same profile, but for a missing Result
 abbrev with_missing : Profile → Missing → Profile

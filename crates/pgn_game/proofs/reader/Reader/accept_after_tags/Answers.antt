@@ -9,9 +9,8 @@ use Rattle.pgn_game.specs.MostTried.{CostsToFind}
 use Rattle.pgn_game.specs.Progress.{at_stage, next}
 use Rattle.pgn_game.specs.ReaderState.{ReaderState, Agrees}
 use Rattle.pgn_game.specs.TokenInMovetext.{may_have_movetext}
-use Rattle.pgn_game.proofs.judging.RefusalsByStage.{hit, pass, end_after_tags, open_refusal, open_next, refuses_set_up}
-use Rattle.pgn_game.proofs.judging.HandlersToRows.{no_bracket, no_end, lacks_of}
-use Rattle.pgn_game.proofs.judging.ReaderToPart.{entry_after_tags, part_stage, held_at}
+use Rattle.pgn_game.proofs.refusals.RefusalsByStage.{hit, pass, textual, end_after_tags, open_refusal, open_next, refuses_set_up}
+use Rattle.pgn_game.proofs.refusals.ReaderToPart.{entry_after_tags, lacks_of, part_stage, held_at}
 use Rattle.pgn_game.proofs.putting.PairStepToReader.{puts_left_bracket, to_stage}
 use Rattle.pgn_game.proofs.tokens.PairsTriedForToken.{adds_same}
 use Rattle.pgn_game.proofs.tokens.PutToAnswer.{counting_none, enters, refused_after, takes_step}
@@ -63,13 +62,12 @@ returns-then-lacks_fen g c =
     let old = c.args.self.now in
     let counts = c.count_move.ensures in
     λ o m. refused_after old c.count_move.new.self (Agrees old) (kind_of c.args.kind) SetUpWithoutFen counts.pairs o m counts.counted refl (λ part agrees.
-    refuses_set_up old.profile part c.args.kind (part_stage old part AfterTags agrees c.requires) (no_bracket c.args.kind c.in_default.not-LeftBracket) (no_end c.args.kind c.in_default.not-End)
+    refuses_set_up old.profile part c.args.kind (part_stage old part AfterTags agrees c.requires) (textual c.args.kind c.in_default.not-LeftBracket c.in_default.not-End)
     (lacks_of old part true agrees c.requires (sym c.lacks_fen.ensures ∙ c.if-lacks_fen.true))) counts.tried
 
 pub returns-else-lacks_fen : goal.returns-else-lacks_fen
 returns-else-lacks_fen g c =
     let old = c.args.self.now in
-    let bracket = no_bracket c.args.kind c.in_default.not-LeftBracket in
-    let over = no_end c.args.kind c.in_default.not-End in
+    let is = textual c.args.kind c.in_default.not-LeftBracket c.in_default.not-End in
     enters old c.args.kind (ap may_have_movetext c.requires) (λ part agrees.
-    entry_after_tags old c.args.kind part c.requires bracket over (lacks_of old part false agrees c.requires (sym c.lacks_fen.ensures ∙ c.if-lacks_fen.false)) agrees)
+    entry_after_tags old c.args.kind part c.requires is (lacks_of old part false agrees c.requires (sym c.lacks_fen.ensures ∙ c.if-lacks_fen.false)) agrees)

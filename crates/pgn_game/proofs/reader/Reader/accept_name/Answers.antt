@@ -7,8 +7,8 @@ use Rattle.pgn_game.specs.StoredPairs.{TagPairs}
 use Rattle.pgn_game.specs.Progress.{next}
 use Rattle.pgn_game.specs.FaultTable.{refusal, is_reduced}
 use Rattle.pgn_game.specs.ReaderState.{ReaderState, AreSound}
-use Rattle.pgn_game.proofs.judging.RefusalsByStage.{hit, pass, expected_name, name_refusal, name_next}
-use Rattle.pgn_game.proofs.judging.ReaderToPart.{part_stage, held_at, has_pair_found}
+use Rattle.pgn_game.proofs.refusals.RefusalsByStage.{hit, pass, expected_name, name_refusal, name_next}
+use Rattle.pgn_game.proofs.refusals.ReaderToPart.{part_stage, held_at, has_pair_found}
 use Rattle.pgn_game.proofs.putting.PairStepToReader.{puts_name, to_name}
 use Rattle.pgn_game.proofs.tokens.PairsTriedForToken.{adds_same}
 use Rattle.pgn_game.proofs.tokens.PutToAnswer.{comment_in_pair, refused_in_pair, step_in_pair}

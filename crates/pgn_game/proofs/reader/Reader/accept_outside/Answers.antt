@@ -3,7 +3,7 @@ use Rattle.pgn_game.proofs.Words.{Stage}
 use Rattle.pgn_game.specs.ReaderState.{ReaderState}
 use Rattle.pgn_game.specs.TokenInMovetext.{may_have_movetext}
 use Rattle.pgn_game.proofs.ReaderFitsInMemory.{reader_alike}
-use Rattle.pgn_game.proofs.judging.ReaderToPart.{entry_in_movetext}
+use Rattle.pgn_game.proofs.refusals.ReaderToPart.{entry_in_movetext}
 use Rattle.pgn_game.proofs.tokens.PutToAnswer.{enters}
 use Rattle.pgn_game.proofs.reader.Reader.accept_outside.Goals as goal
 

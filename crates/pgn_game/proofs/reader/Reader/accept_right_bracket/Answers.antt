@@ -4,9 +4,9 @@ use Rattle.pgn_lexer.specs.declared.token.TokenKind.{TokenKind}
 use Rattle.pgn_game.proofs.Words.{ExpectedBracket, AfterTags, AfterValue}
 use Rattle.pgn_game.specs.Progress.{at_stage, next}
 use Rattle.pgn_game.specs.FaultTable.{refusal}
-use Rattle.pgn_game.proofs.judging.RefusalsByStage.{expected_bracket, close_refusal, close_next}
+use Rattle.pgn_game.proofs.refusals.RefusalsByStage.{expected_bracket, close_refusal, close_next}
 use Rattle.pgn_game.specs.ReaderState.{ReaderState}
-use Rattle.pgn_game.proofs.judging.ReaderToPart.{part_stage}
+use Rattle.pgn_game.proofs.refusals.ReaderToPart.{part_stage}
 use Rattle.pgn_game.proofs.putting.PairStepToReader.{puts_right_bracket, to_stage}
 use Rattle.pgn_game.proofs.tokens.PairsTriedForToken.{adds_same}
 use Rattle.pgn_game.proofs.tokens.PutToAnswer.{comment_in_pair, refused_in_pair, step_in_pair}

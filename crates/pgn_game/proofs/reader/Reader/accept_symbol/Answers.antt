@@ -5,7 +5,7 @@ use Rattle.pgn_game.specs.declared.marker.Marker.{Marker}
 use Rattle.pgn_game.specs.FaultTable.{is_number, is_score}
 use Rattle.pgn_game.proofs.ReaderFitsInMemory.{reader_alike}
 use Rattle.pgn_game.proofs.reading.MovetextTokens.{number_no_score}
-use Rattle.pgn_game.proofs.judging.RefusalsInMovetext.{number_free, number_leads}
+use Rattle.pgn_game.proofs.refusals.RefusalsInMovetext.{number_free, number_leads}
 use Rattle.pgn_game.proofs.tokens.PairsTriedForToken.{number_untried}
 use Rattle.pgn_game.proofs.tokens.PutToAnswer.{passes_entry}
 use Rattle.pgn_game.proofs.reader.Reader.accept_symbol.Goals as goal

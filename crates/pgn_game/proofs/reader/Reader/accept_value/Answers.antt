@@ -8,10 +8,10 @@ use Rattle.pgn_game.specs.FaultTable.{refusal, is_result as is_any_result}
 use Rattle.pgn_game.specs.Progress.{next}
 use Rattle.pgn_game.specs.ReaderState.{ReaderState, Agrees}
 use Rattle.pgn_game.specs.TokenInMovetext.{fen_position as told}
-use Rattle.pgn_game.proofs.judging.RefusalsByStage.{hit, pass, expected_value, value_refusal, value_next}
+use Rattle.pgn_game.proofs.refusals.RefusalsByStage.{hit, pass, expected_value, value_refusal, value_next}
 use Rattle.pgn_game.proofs.pairs.PairsToFirstPosition.{start_fine, start_faults}
 use Rattle.pgn_game.specs.Movetext.{movetext_after_fen}
-use Rattle.pgn_game.proofs.judging.ReaderToPart.{part_stage, held_at, begun_name}
+use Rattle.pgn_game.proofs.refusals.ReaderToPart.{part_stage, held_at, begun_name}
 use Rattle.pgn_game.proofs.putting.PairStepToReader.{completed, puts_value, to_value}
 use Rattle.pgn_game.proofs.tokens.PairsTriedForToken.{adds_same}
 use Rattle.pgn_game.proofs.tokens.PutToAnswer.{comment_in_pair, refused_in_pair, step_in_pair}

@@ -7,8 +7,8 @@ use Rattle.pgn_game.specs.Levels.{depth}
 use Rattle.pgn_game.specs.FaultTable.{levels_of_part}
 use Rattle.pgn_game.specs.ReaderState.{ReaderState}
 use Rattle.pgn_game.proofs.ReaderFitsInMemory.{reader_alike}
-use Rattle.pgn_game.proofs.judging.RefusalsByStage.{hit, pass}
-use Rattle.pgn_game.proofs.judging.RefusalsInMovetext.{depth_is}
+use Rattle.pgn_game.proofs.refusals.RefusalsByStage.{hit, pass}
+use Rattle.pgn_game.proofs.refusals.RefusalsInMovetext.{depth_is}
 use Rattle.pgn_game.proofs.tokens.PutToAnswer.{entry_refused, item_entry}
 use Rattle.pgn_game.proofs.reader.Reader.close_variation.Goals as goal
 

@@ -14,7 +14,7 @@ use Rattle.pgn_game.specs.FaultTable.{levels_of_part, marker_of}
 use Rattle.pgn_game.specs.TokenInMovetext.{IsOpen, text_refusal}
 use Rattle.pgn_game.specs.ReaderState.{ReaderState}
 use Rattle.pgn_game.proofs.ReaderFitsInMemory.{reader_alike}
-use Rattle.pgn_game.proofs.judging.RefusalsInMovetext.{depth_is, marker_inside, marker_differs, marker_free, none_around, test_of, differs}
+use Rattle.pgn_game.proofs.refusals.RefusalsInMovetext.{depth_is, marker_inside, marker_differs, marker_free, none_around, test_of, differs}
 use Rattle.pgn_game.proofs.putting.WritesInTurn.{front_of_more, front_after}
 use Rattle.pgn_game.proofs.putting.ItemToReader.{begins_as}
 use Rattle.pgn_game.proofs.putting.MarkerToReader.{ends_ill, ends_unbegun, ends_well}

@@ -9,7 +9,7 @@ use Rattle.pgn_lexer.specs.Scanned.{kind_of}
 use Rattle.pgn_lexer.specs.declared.token.TokenKind.{TokenKind}
 use Rattle.pgn_lexer.specs.declared.token.TokenKind.TheVariants as variants
 use Rattle.pgn_game.proofs.Words.{Played, SanFault, Kind, Reason, ExpectedName, BadTagName, DuplicateTag, TooManyTags, ExpectedValue, BadResult, BadFen, TagLineTooLong, ExpectedBracket, SetUpWithoutFen, ReducedFen, NotAMove, IllegalMove, AmbiguousMove, MoveLimit, MarkerInVariation, ResultDiffers, UnexpectedEnd, Stage, Between, AfterLeftBracket, AfterName, AfterValue, AfterTags, InMovetext, Profile, Pair, has_pair, insert_pair, Part, no_part}
-use Rattle.pgn_game.specs.FaultTable.{refusal, is_comment, is_left_bracket, is_end, in_name, is_result, is_no_form, is_no_move, is_many_moves, is_one_move, fen_field, fen_field_of, lacks_fen, is_reduced}
+use Rattle.pgn_game.specs.FaultTable.{refusal, is_comment, is_end, in_name, is_result, is_no_form, is_no_move, is_many_moves, is_one_move, fen_field, fen_field_of, lacks_fen, is_reduced}
 use Rattle.pgn_game.specs.Progress.{going, next, at_stage, in_text}
 use Rattle.pgn_game.specs.TokenInMovetext.{or_else, text_refusal}
 
@@ -183,9 +183,9 @@ is_lexical (tokens.refused r) = true
 is_lexical _ = false
 
 -- a token that is neither a `[` nor the end may be one of movetext
-textual : (k : TokenKind) → is_left_bracket (kind_of k) ≡ false → is_end (kind_of k) ≡ false → IsTrue (is_textual (kind_of k))
-textual variants.LeftBracket bracket over = absurd (false≢true (sym bracket))
-textual variants.End bracket over = absurd (false≢true (sym over))
+pub textual : (k : TokenKind) → (k ≡ variants.LeftBracket → ⊥) → (k ≡ variants.End → ⊥) → IsTrue (is_textual (kind_of k))
+textual variants.LeftBracket bracket over = absurd (bracket refl)
+textual variants.End bracket over = absurd (over refl)
 textual _ bracket over = refl
 
 -- behind the pairs of a game
@@ -240,17 +240,17 @@ row_in_movetext p part k at = at_the_stage (λ q. refusal p q (kind_of k) ≡ te
 pub next_in_movetext : (part : Part) (k : TokenKind) → part.stage ≡ InMovetext → next part (kind_of k) ≡ in_text part (kind_of k)
 next_in_movetext part k at = at_the_stage (λ q. next q (kind_of k) ≡ in_text part (kind_of k)) part InMovetext at refl
 
-pub row_after_tags : (p : Profile) (part : Part) (k : TokenKind) → part.stage ≡ AfterTags → is_left_bracket (kind_of k) ≡ false → is_end (kind_of k) ≡ false → lacks_fen part.pairs ≡ false
+pub row_after_tags : (p : Profile) (part : Part) (k : TokenKind) → part.stage ≡ AfterTags → IsTrue (is_textual (kind_of k)) → lacks_fen part.pairs ≡ false
     → refusal p part (kind_of k) ≡ text_refusal p part (kind_of k)
-row_after_tags p part k at bracket over free =
+row_after_tags p part k at is free =
     at_the_stage (λ q. refusal p q (kind_of k) ≡ text_refusal p part (kind_of k)) part AfterTags at
-    (after_tags p part (kind_of k) (textual k bracket over) ∙ pass (lacks_fen part.pairs) SetUpWithoutFen _ free
+    (after_tags p part (kind_of k) is ∙ pass (lacks_fen part.pairs) SetUpWithoutFen _ free
     ∙ text_row p part (kind_of k) (no_lexical k))
 
-pub next_after_tags : (part : Part) (k : TokenKind) → part.stage ≡ AfterTags → is_left_bracket (kind_of k) ≡ false → is_end (kind_of k) ≡ false → next part (kind_of k) ≡ in_text part (kind_of k)
-next_after_tags part k at bracket over =
+pub next_after_tags : (part : Part) (k : TokenKind) → part.stage ≡ AfterTags → IsTrue (is_textual (kind_of k)) → next part (kind_of k) ≡ in_text part (kind_of k)
+next_after_tags part k at is =
     at_the_stage (λ q. next q (kind_of k) ≡ in_text part (kind_of k)) part AfterTags at
-    (leads_after_tags part (kind_of k) (textual k bracket over))
+    (leads_after_tags part (kind_of k) is)
 
 -- a comment between games and the end there change nothing
 pub passes_between : (p : Profile) (part : Part) (k : TokenKind) → part.stage ≡ Between → (is_comment (kind_of k) || is_end (kind_of k)) ≡ true
@@ -282,11 +282,11 @@ unfolding refusal
 end_after_tags p part at = at_the_stage (λ q. refusal p q tokens.end ≡ Some UnexpectedEnd) part AfterTags at refl
 
 -- a token after the pairs of a game whose SetUp asks for a FEN
-pub refuses_set_up : (p : Profile) (part : Part) (k : TokenKind) → part.stage ≡ AfterTags → is_left_bracket (kind_of k) ≡ false → is_end (kind_of k) ≡ false → lacks_fen part.pairs ≡ true
+pub refuses_set_up : (p : Profile) (part : Part) (k : TokenKind) → part.stage ≡ AfterTags → IsTrue (is_textual (kind_of k)) → lacks_fen part.pairs ≡ true
     → refusal p part (kind_of k) ≡ Some SetUpWithoutFen
-refuses_set_up p part k at bracket over lacks =
+refuses_set_up p part k at is lacks =
     at_the_stage (λ q. refusal p q (kind_of k) ≡ Some SetUpWithoutFen) part AfterTags at
-    (after_tags p part (kind_of k) (textual k bracket over) ∙ hit _ SetUpWithoutFen _ lacks)
+    (after_tags p part (kind_of k) is ∙ hit _ SetUpWithoutFen _ lacks)
 
 -- What a symbol is rejected for, by what it is: a number, a score, what it comes to as a move,
 -- whether the numbers are at their limit, the depth, and whether it differs from the Result.

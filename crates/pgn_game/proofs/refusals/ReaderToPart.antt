@@ -8,12 +8,12 @@ use Rattle.pgn_lexer.specs.declared.token.TokenKind.{TokenKind}
 use Rattle.pgn_game.proofs.Words.{Parts, Mode, Full, Reduced, Stage, AfterTags, InMovetext, Pair, value_of, has_pair, Item, Part}
 use Rattle.pgn_game.specs.StoredPairs.{TagPairs}
 use Rattle.pgn_game.specs.Levels.{start_of}
-use Rattle.pgn_game.specs.FaultTable.{is_left_bracket, is_end, lacks_fen}
+use Rattle.pgn_game.specs.FaultTable.{lacks_fen}
 use Rattle.pgn_game.specs.Movetext.{Movetext, HoldsItems, movetext_from}
 use Rattle.pgn_game.specs.Text.{has_move}
 use Rattle.pgn_game.specs.ReaderState.{ReaderState, Agrees, HoldsPairs, HoldsText}
 use Rattle.pgn_game.specs.TokenInMovetext.{IsEntry, IsOpen, may_have_movetext}
-use Rattle.pgn_game.proofs.judging.RefusalsByStage.{row_in_movetext, next_in_movetext, row_after_tags, next_after_tags}
+use Rattle.pgn_game.proofs.refusals.RefusalsByStage.{is_textual, row_in_movetext, next_in_movetext, row_after_tags, next_after_tags}
 
 -- The part is at the reader's stage, and what the reader holds of it there.
 pub part_stage : (old : ReaderState) (part : Part) (stage : Stage) → Agrees old part → old.stage ≡ stage → part.stage ≡ stage
@@ -30,6 +30,10 @@ pub has_pair_found : (ps qs : List Pair) (name : List ℕ) (found : Option (Bor 
     → has_pair qs name ≡ b
 has_pair_found ps qs name None b same copied is = ap (λ (l : List Pair). has_pair l name) (sym same) ∙ ap is_some (sym copied) ∙ sym is
 has_pair_found ps qs name (Some x) b same copied is = ap (λ (l : List Pair). has_pair l name) (sym same) ∙ ap is_some (sym copied) ∙ sym is
+
+-- the pairs held are those of the part, so SetUp asks for the same
+pub lacks_of : (old : ReaderState) (part : Part) (lacks : Bool) → Agrees old part → old.stage ≡ AfterTags → lacks_fen old.tags.held ≡ lacks → lacks_fen part.pairs ≡ lacks
+lacks_of old part lacks agrees at is = ap (λ (t : TagPairs). lacks_fen t.held) (sym (held_at old part AfterTags agrees at)) ∙ is
 
 -- the name that has begun is the part's
 pub begun_name : (tags : TagPairs) (part : Part) (name : List ℕ) → tags ≡ record { held = part.pairs; pending_name = Some part.name } → tags.pending_name ≡ Some name → name ≡ part.name
@@ -75,12 +79,12 @@ entry_in_movetext old k part at agrees =
     let there = part_stage old part InMovetext agrees at in
     record { is_open = open_agrees old part agrees (ap may_have_movetext at); row = row_in_movetext old.profile part k there; leads = next_in_movetext part k there }
 
-pub entry_after_tags : (old : ReaderState) (k : TokenKind) (part : Part) → old.stage ≡ AfterTags → is_left_bracket (kind_of k) ≡ false → is_end (kind_of k) ≡ false
-    → lacks_fen part.pairs ≡ false → Agrees old part → IsEntry old (kind_of k) part
-entry_after_tags old k part at bracket over free agrees =
+pub entry_after_tags : (old : ReaderState) (k : TokenKind) (part : Part) → old.stage ≡ AfterTags → IsTrue (is_textual (kind_of k)) → lacks_fen part.pairs ≡ false → Agrees old part
+    → IsEntry old (kind_of k) part
+entry_after_tags old k part at is free agrees =
     let there = part_stage old part AfterTags agrees at in
     record {
       is_open = open_agrees old part agrees (ap may_have_movetext at);
-      row = row_after_tags old.profile part k there bracket over free;
-      leads = next_after_tags part k there bracket over;
+      row = row_after_tags old.profile part k there is free;
+      leads = next_after_tags part k there is;
     }

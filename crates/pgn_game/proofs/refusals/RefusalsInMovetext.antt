@@ -15,7 +15,7 @@ use Rattle.pgn_game.specs.Progress.{Next, going, whole, in_text, move_item, item
 use Rattle.pgn_game.specs.Movetext.{StoredLevels, before_last, stored_level}
 use Rattle.pgn_game.specs.ReaderState.{ReaderState, is_outside_the_table}
 use Rattle.pgn_game.specs.TokenInMovetext.{IsOpen, game_of, or_else, text_refusal, with_items}
-use Rattle.pgn_game.proofs.judging.RefusalsByStage.{hit, pass, symbol_rows}
+use Rattle.pgn_game.proofs.refusals.RefusalsByStage.{hit, pass, symbol_rows}
 
 -- The levels.
 
