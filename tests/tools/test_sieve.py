@@ -380,6 +380,17 @@ pgn_files.run_script("script", lambda: pgn_files.Replacement(sys.argv[2]))
             self.assertEqual((started.returncode, out, err), (status, b"", text))
             self.check_untouched()
 
+    def test_a_file_that_is_overwritten_in_place(self):
+        """Its size stays the same, and so does its name."""
+        script = 'cat >/dev/null; sleep 0.05; printf new 1<>"${0%/*}/in.pgn"'
+        started = self.start(script, stdout=subprocess.PIPE, stderr=subprocess.PIPE)
+        out, err = started.communicate(timeout=20)
+        self.assertEqual((started.returncode, out, err), (
+            1, b"", b"pgn_sieve: the archive changed while it was read; nothing was written\n"))
+        for path, text in zip(self.paths, (b"new", b"old", b"old")):
+            with open(path, "rb") as file:
+                self.assertEqual(file.read(), text)
+
     def test_progress_on_a_terminal_alone(self):
         head, tail = pty.openpty()
         self.addCleanup(os.close, head)

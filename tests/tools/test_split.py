@@ -110,6 +110,10 @@ class SplitTest(unittest.TestCase):
         self.assertEqual(files["000001.pgn"], UNKNOWN)
         self.assertEqual(len(files["000002.pgn"]), 512)
 
+    def test_each_file_is_closed(self):
+        ran = self.split(b"*\n" * 200, preexec_fn=limit_open_files)
+        self.check(ran, 0, b"", {"%06d.pgn" % it: UNKNOWN for it in range(1, 201)})
+
     def test_closed_standard_streams(self):
         ran = subprocess.run(["sh", "-c", 'exec "$@" >&- 2>&-', "sh", self.program, "split",
                               self.folder], input=b"*", check=False)
@@ -122,6 +126,11 @@ def limit_files():
     import signal
     signal.signal(signal.SIGXFSZ, signal.SIG_IGN)
     resource.setrlimit(resource.RLIMIT_FSIZE, (512, 512))
+
+
+def limit_open_files():
+    import resource
+    resource.setrlimit(resource.RLIMIT_NOFILE, (64, 64))
 
 
 class InputTest(unittest.TestCase):

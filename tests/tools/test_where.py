@@ -64,6 +64,12 @@ class WhereTest(unittest.TestCase):
         self.check(b"a\r\nb\rc\n\rd", 8, 5, 1, "d", "^")
         self.check(b"a\n\r\nb", 4, 3, 1, "b", "^")
 
+    def test_line_end_over_the_border_of_a_block(self):
+        block = 1 << 20  # BLOCK of pgn_files
+        for end, lines in ((b"\r\n", 2), (b"\r", 2), (b"\n", 2), (b"\r\r", 3), (b"\n\r", 3)):
+            text = b"a" * (block - 1) + end + b"x"
+            self.check(text, len(text) - 1, lines, 1, "x", "^")
+
     def test_end_of_the_file(self):
         lines = self.check(TAGS + b"1. e4", len(TAGS) + 5, 5, 6, "1. e4", "     ^")
         self.assertIn("the end of the file", lines[0])
@@ -152,6 +158,16 @@ class WhereTest(unittest.TestCase):
             self.assertTrue(lines[0].endswith(told), lines)
             self.assertEqual(lines[1][lines[2].index("^"):], "Ke3 *")
             self.assertTrue(lines[3].startswith("game 2: "))
+
+    def test_the_last_of_several_messages_is_shown(self):
+        with open(self.file, "wb") as file:
+            file.write(TAGS + b"1. e4 *\n")
+        many = b"byte 1: no\n" * (1 << 17)  # more than a block of pgn_files
+        for before in (b"byte 1: no\n", b"byte 1: no\ngames: 1, plies: 0\n", many):
+            ran = self.call([self.file], input=before + b"byte 46: not a move\n")
+            self.assertEqual((ran.returncode, ran.stderr), (0, b""))
+            told = ": line 5, column 4 (byte 46): not a move"
+            self.assertTrue(ran.stdout.decode().split("\n")[0].endswith(told), ran.stdout)
 
     def test_errors(self):
         with open(self.file, "wb") as file:
