@@ -86,6 +86,25 @@ class Page(Folder):
             said = ["-" + it for it in re.findall(r"Fl (-[\w-]+)", row)]
             self.assertEqual(sorted(said), options(command), command)
 
+    def test_what_the_help_says_of_each_command(self):
+        page = text_of(PAGE)
+        words = re.sub(r"\s+", " ", re.sub(r"^\.(?:Nm|Pa) ?", "", page, flags=re.M))
+        listed = help_of().split("Commands:\n")[1].split("\n\n")[0]
+        rows = dict(re.findall(r"^  (\w+) +(.*)$", listed, re.M))
+        self.assertEqual(list(rows), commands())
+        for command in commands():
+            self.assertIn(rows[command], words)
+            self.assertEqual(help_of(command).split("\n")[0], rows[command])
+        about = help_of().split("\n")[0]
+        self.assertIn(about[0].lower() + about[1:] + ".", words)
+
+    def test_the_version(self):
+        said = re.search(r"^\.Ql (pgn_tool [\d.]+) \.$", text_of(PAGE), re.M)[1]
+        for word in ("-V", "--version"):
+            ran = run([programs.need_program(), word])
+            self.assertEqual((ran.returncode, ran.stdout, ran.stderr),
+                             (0, said.encode() + b"\n", b""))
+
     def test_no_warnings_of_mandoc(self):
         programs.need("mandoc")
         for name in ("pgn_tool", *SCRIPTS):
