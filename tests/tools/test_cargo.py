@@ -33,6 +33,8 @@ fn main() {
 LIBRARIES = ("chess_rules", "chess_text", "pgn_lexer", "pgn_layout", "pgn_game")
 # The crates whose calls of the toolchain are renamed. Of the others lines only go.
 RENAMED = ("pgn_tool", "pgn_arguments")
+# The tests of files, pipes and devices, which are those of the proved program too.
+DEVICES = ("program", "split", "checked", "streams", "interrupted")
 # What stands in a line of the program that is not one of the source.
 OF_STANDARD = re.compile(
     r"rattle_std|let rt = HostRuntime;|fn (main|\w+)\(\)|rt\.words\(\)|assert\w*!\(|AllocError>\("
@@ -156,14 +158,10 @@ class Built(unittest.TestCase):
         shown = printed_by(self, "rust", self.run_sample)
         self.assertIn(b'\n[Result "*"]\n\n1. e4 { a word } 1... e5 *\n\n', shown)
 
-    def test_the_program_reports_a_device_that_fails(self):
-        program = built()
-        with open("/dev/full", "wb") as full:
-            ran = run([program, "export"], input=b"e4 *", stdout=full)
-        self.assertEqual((ran.returncode, ran.stderr), (1, b"output cannot be written\n"))
-        ran = run([program, "export", "/"])
-        self.assertEqual((ran.returncode, ran.stderr), (1, b"byte 0: input cannot be read\n"))
-
+    def test_the_program_passes_the_tests_of_devices(self):
+        env = dict(os.environ, PGN_TOOL=built())
+        ran = run(["bin/test_tools", *DEVICES], env=env, timeout=500)
+        self.assertEqual(ran.returncode, 0, ran.stdout.decode())
 
     def test_want_of_memory_has_status_3_where_the_program_asks_for_it(self):
         programs.need("cc")
@@ -258,7 +256,7 @@ class Written(unittest.TestCase):
         out, _, _ = self.write()
         text = read(out + "/crates/rattle_std/src/lib.rs")
         self.assertIn("**Not proved.**", text.split("\n", 1)[0])
-        self.assertLess(text.count("\n"), 100)
+        self.assertLess(text.count("\n"), 110)
         self.assertIn("**Nothing in this folder is proved", read(out + "/README.md"))
 
     def test_another_folder_is_left_alone(self):

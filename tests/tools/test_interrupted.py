@@ -1,0 +1,146 @@
+#!/usr/bin/env python3
+"""Tests of the program with calls of the system that are interrupted once each."""
+import os
+import shutil
+import subprocess
+import sys
+import tempfile
+import unittest
+
+sys.path.insert(0, os.path.dirname(os.path.realpath(__file__)))
+from programs import need, need_program, run
+
+# Interrupts one call of read or write, or each first opening of a file: CALL is its name, AT its
+# number from 1. MET is made when it is interrupted. Only calls on files and pipes of the test count.
+SOURCE = r"""
+#define _GNU_SOURCE
+#include <dlfcn.h>
+#include <errno.h>
+#include <fcntl.h>
+#include <stdarg.h>
+#include <stdlib.h>
+#include <string.h>
+#include <unistd.h>
+
+static int (*real_open)(const char *, int, ...);
+static long calls;
+
+static int is_interrupted(const char *call) {
+  const char *wanted = getenv("CALL");
+  if (!wanted || strcmp(wanted, call) || ++calls != atol(getenv("AT"))) return 0;
+  if (!real_open) *(void **)&real_open = dlsym(RTLD_NEXT, "open");
+  int file = real_open(getenv("MET"), O_WRONLY | O_CREAT | O_CLOEXEC, 0600);
+  if (file >= 0) close(file);
+  errno = EINTR;
+  return 1;
+}
+
+ssize_t read(int file, void *to, size_t size) {
+  static ssize_t (*next)(int, void *, size_t);
+  if (!next) *(void **)&next = dlsym(RTLD_NEXT, "read");
+  return is_interrupted("read") ? -1 : next(file, to, size);
+}
+
+ssize_t write(int file, const void *from, size_t size) {
+  static ssize_t (*next)(int, const void *, size_t);
+  if (!next) *(void **)&next = dlsym(RTLD_NEXT, "write");
+  return file != 2 && is_interrupted("write") ? -1 : next(file, from, size);
+}
+
+static int opens(const char *name, const char *path, int flags, int mode) {
+  int (*next)(const char *, int, ...);
+  *(void **)&next = dlsym(RTLD_NEXT, name);
+  int is_of_test = strstr(path, ".pgn") != NULL;
+  return is_of_test && is_interrupted("open") ? -1 : next(path, flags, mode);
+}
+
+int open(const char *path, int flags, ...) {
+  va_list more;
+  va_start(more, flags);
+  int mode = va_arg(more, int);
+  va_end(more);
+  return opens("open", path, flags, mode);
+}
+
+int open64(const char *path, int flags, ...) {
+  va_list more;
+  va_start(more, flags);
+  int mode = va_arg(more, int);
+  va_end(more);
+  return opens("open64", path, flags, mode);
+}
+"""
+
+HEAD = (b'[Event "?"]\n[Site "?"]\n[Date "????.??.??"]\n[Round "?"]\n[White "?"]\n[Black "?"]\n'
+        b'[Result "*"]\n\n')
+UNKNOWN = HEAD + b"*\n\n"
+UNREAD = b"byte %d: input cannot be read\n"
+UNWRITTEN = b"output cannot be written\n"
+
+
+class InterruptedTest(unittest.TestCase):
+    def setUp(self):
+        need("cc")
+        self.program = need_program()
+        self.folder = tempfile.mkdtemp()
+        self.addCleanup(shutil.rmtree, self.folder, True)
+        source = self.folder + "/interrupt.c"
+        with open(source, "w", encoding="ascii") as file:
+            file.write(SOURCE)
+        subprocess.run(["cc", "-shared", "-fPIC", "-o", self.folder + "/interrupt.so", source,
+                        "-ldl"], check=True)
+        self.met = self.folder + "/met"
+        self.file = self.folder + "/games.pgn"
+        with open(self.file, "wb") as file:
+            file.write(b"* *")
+
+    def call(self, call, at, *words, **more):
+        """A run in which this call is interrupted; whether it came to that call is told too."""
+        if os.path.exists(self.met):
+            os.unlink(self.met)
+        env = dict(os.environ, CALL=call, AT=str(at), MET=self.met,
+                   LD_PRELOAD=self.folder + "/interrupt.so")
+        ran = run([self.program, *words], env=env, **more)
+        return os.path.exists(self.met), (ran.returncode, ran.stdout, ran.stderr)
+
+    def test_a_read_is_not_tried_again(self):
+        text = b"*\n" * 5000
+        with open(self.file, "wb") as file:
+            file.write(text)
+        answers = []
+        for at in range(1, 9):
+            is_met, answer = self.call("read", at, "check", self.file)
+            if is_met:
+                answers.append(answer)
+            else:
+                self.assertEqual(answer, (0, b"games: 5000, plies: 0\n", b""))
+        # three blocks of 4,096 bytes, and the end
+        self.assertEqual(answers, [(1, b"", UNREAD % it) for it in (0, 4096, 8192, 10000)])
+
+    def test_a_write_is_not_tried_again(self):
+        for task, text in (("check", b"games: 2, plies: 0\n"), ("export", 2 * UNKNOWN)):
+            self.assertEqual(self.call("write", 1, task, self.file), (True, (1, b"", UNWRITTEN)))
+            self.assertEqual(self.call("write", 2, task, self.file), (False, (0, text, b"")))
+
+    def test_a_write_of_split_is_not_tried_again(self):
+        folder = self.folder + "/one"
+        os.mkdir(folder)
+        is_met, answer = self.call("write", 1, "split", folder, self.file)
+        self.assertEqual((is_met, answer), (True, (1, b"", b"byte 0: " + UNWRITTEN)))
+        self.assertEqual(os.listdir(folder), ["000001.pgn"])
+        self.assertEqual(os.path.getsize(folder + "/000001.pgn"), 0)
+
+    def test_opening_and_making_a_file_is_tried_again(self):
+        folder = self.folder + "/one"
+        os.mkdir(folder)
+        right = (0, b"", b"")
+        for at in (1, 2, 3):  # the file that is read, then those that are made
+            self.assertEqual(self.call("open", at, "split", folder, self.file), (True, right))
+            self.assertEqual(sorted(os.listdir(folder)), ["000001.pgn", "000002.pgn"])
+        for at in (1, 2):
+            answer = self.call("open", at, "export", "--checked", self.file)
+            self.assertEqual(answer, (True, (0, 2 * UNKNOWN, b"")))
+
+
+if __name__ == "__main__":
+    unittest.main()
