@@ -13,6 +13,29 @@ from small_repository import CARGO, Repository
 BUILD = "bin/build_program"
 
 
+HEAD = (b'[Event "?"]\n[Site "?"]\n[Date "????.??.??"]\n[Round "?"]\n[White "?"]\n[Black "?"]\n'
+        b'[Result "*"]\n')
+FEN = b'[FEN "4k3/8/8/8/8/8/8/4K3 w - - 0 1"]'
+
+
+class Examples(unittest.TestCase):
+    def check(self, task, text, status, out, err):
+        ran = run([need_program(), task], input=text)
+        self.assertEqual((ran.returncode, ran.stdout, ran.stderr), (status, out, err))
+
+    def test_a_tag_pair_alone(self):
+        self.check("check", b'[A "1"]', 1, b"", b"byte 7: unexpected end of input\n")
+
+    def test_a_value_of_256_bytes_without_a_game(self):
+        text = b'[A "' + b"x" * 256 + b'"]'
+        self.check("check", text, 1, b"", b"byte 3: string is too long\n")
+
+    def test_pairs_before_a_space_and_the_marker(self):
+        pairs = b'[ECO "A00"]\n' + FEN + b'\n[SetUp "1"]\n[Zeta "z"]\n'
+        self.check("export", b'[Zeta "z"] ' + FEN + b' [ECO "A00"] *', 0,
+                   HEAD + pairs + b"\n*\n\n", b"")
+
+
 class EachBuild:
     """What holds of both builds."""
 
