@@ -1,5 +1,6 @@
 -- **Definition**: what the standard streams report, over any reader and any writer.
-use Rattle.std.specs.Prelude.{ℕ, List, Option}
+use Rattle.std.specs.Prelude.{ℕ, ◌+◌, Bool, not, nat_le, List, Option, Vec, vec_len, vec_capacity}
+use Rattle.std.specs.Global.{Global}
 use Rattle.pgn_tool.specs.declared.standard.Reader.{Reader}
 use Rattle.pgn_tool.specs.declared.standard.Reader.TheVariants.{Standard, Opened}
 
@@ -8,3 +9,7 @@ abbrev pub left_in : {R F : Type 0} → (R → Option (List ℕ)) → (F → Opt
     → Option (List ℕ)
 left_in standard opened (Standard input) = standard input
 left_in standard opened (Opened file) = opened file
+
+-- there is no room for a block of 64 KiB behind what the buffer has
+abbrev pub lacks_room : Vec ℕ Global → Bool
+lacks_room buffer = not (nat_le (vec_len buffer + 65536) (vec_capacity buffer))

@@ -176,6 +176,19 @@ fn writes_reduced_games(rt: HostRuntime) {
     assert!(rt; ran.is(0, REDUCED, b""));
 }
 
+#[test]
+fn writes_nothing_if_the_first_reading_fails(rt: HostRuntime) {
+    let first = Reader {
+        text: b"1. e4 *",
+        calls: 0,
+        fails_at: 5,
+        error: ErrorKind::BrokenPipe,
+        most: 1,
+    };
+    let ran = run_in_memory(rt.alloc(), false, first, whole(b"1. e4 *"));
+    assert!(rt; ran.is(1, b"", b"byte 5: input cannot be read\n"));
+}
+
 // What is written of so many bytes of `TWO`.
 fn written(bytes: usize) -> &'static [u8] {
     match bytes {

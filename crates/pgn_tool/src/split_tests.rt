@@ -179,6 +179,22 @@ fn unmade(files: usize) -> &'static [u8] {
     }
 }
 
+// Whether a split of `* *` whose second file is not made, for this reason, ends as it should.
+fn stops_at_the_second(alloc: Global, refusal: CreateFault, status: u8, err: &[u8]) -> bool {
+    let mut made = empty_shelf(alloc);
+    made.refused_at = 1;
+    made.refusal = refusal;
+    let ran = run(whole(b"* *"), &mut made);
+    ran.is(status, err) && made.has(&[UNKNOWN])
+}
+
+#[test]
+fn stops_at_the_second_file(rt: HostRuntime) {
+    let refused = b"byte 2: output cannot be written\n";
+    assert!(rt; stops_at_the_second(rt.alloc(), CreateFault::Refused, 1, refused));
+    assert!(rt; stops_at_the_second(rt.alloc(), CreateFault::NoMemory, 3, b"out of memory\n"));
+}
+
 // Nothing is tried again.
 #[test]
 fn reports_each_file_that_is_not_made(rt: HostRuntime) {

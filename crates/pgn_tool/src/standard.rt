@@ -3,6 +3,7 @@
 ghost use Rattle.std.specs.Prelude.{◌≡◌, ◌<◌, ◌≤◌, [], length, drop, OnOk, vec_len, vec_capacity};
 ghost use Rattle.std.specs.Io.KnownBytes.{Keeps, append_known};
 ghost use Rattle.pgn_layout.specs.Device.{Counts};
+ghost use Rattle.pgn_tool.specs.declared.standard.Reader.TheVariants.{Standard};
 
 use crate::file_system::FileSystem;
 use crate::machine::{Input, Output, SystemFault};
@@ -42,7 +43,10 @@ pub struct StandardInput<S: FileSystem, R> {
 
 impl<S: FileSystem, R> StandardInput<S, R> {
     /// Standard input, which this reader gives.
-    pub fn new(system: S, reader: R) -> StandardInput<S, R> {
+    pub fn new(system: S, reader: R) -> StandardInput<S, R>
+        ensures system { result.system ≡ system }
+        ensures inlet { result.inlet ≡ record { reader = Standard reader; failures = 0 } }
+    {
         StandardInput {
             system,
             inlet: Inlet::new(Reader::Standard(reader)),
@@ -79,16 +83,17 @@ impl<S: FileSystem, R: Read + Drop> Input for StandardInput<S, R> {
 pub struct StandardOutput<W> {
     pub outlet: Outlet<W>,
     pub buffer: Vec<u8>,
-    pub lacks_memory: bool,
 }
 
 impl<W: Write> StandardOutput<W> {
     /// Standard output, which this writer takes.
-    pub fn new(alloc: Global, writer: W) -> StandardOutput<W> {
+    pub fn new(alloc: Global, writer: W) -> StandardOutput<W>
+        ensures outlet { result.outlet ≡ record { writer = writer; failures = 0 } }
+        ensures empty { result.buffer.items ≡ [] }
+    {
         StandardOutput {
             outlet: Outlet::new(writer),
             buffer: Vec::new(alloc),
-            lacks_memory: false,
         }
     }
 
@@ -102,7 +107,6 @@ impl<W: Write> StandardOutput<W> {
         ensures failures { Counts result self.old.outlet.failures self.new.outlet.failures }
         ensures empty { OnOk result (self.new.buffer.items ≡ []) }
         ensures capacity { vec_capacity self.new.buffer ≡ vec_capacity self.old.buffer }
-        ensures memory { self.new.lacks_memory ≡ self.old.lacks_memory }
     {
         while !self.buffer.is_empty() {
             let count = self.outlet.write_some(self.buffer.as_slice())?;
@@ -151,14 +155,11 @@ impl<W: Write> Sink for StandardOutput<W> {
 }
 
 impl<W: Write> Output for StandardOutput<W> {
-    ghost lacks_memory = { λ s. s.lacks_memory };
+    ghost use Rattle.pgn_tool.specs.Standard.{lacks_room};
+
+    ghost lacks_memory = { λ s. lacks_room s.buffer };
 
     fn reserve(&mut self) -> Result<(), AllocError> {
-        let reserved = self.buffer.try_reserve_exact(OUTPUT_BUFFER);
-        self.lacks_memory = reserved.is_err();
-        match reserved {
-            Ok(()) => Ok(()),
-            Err(_) => Err(AllocError),
-        }
+        Ok(self.buffer.try_reserve_exact(OUTPUT_BUFFER)?)
     }
 }

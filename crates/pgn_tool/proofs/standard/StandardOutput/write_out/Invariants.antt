@@ -9,7 +9,6 @@ invariant-loop-self g l = record {
       (append_known (g.W.Write.contents l.self.outlet.writer) l.self.buffer.items);
   failures : l.self.outlet.failures ≡ l.fn.self.outlet.failures;
   capacity : vec_capacity l.self.buffer ≡ vec_capacity l.fn.self.buffer;
-  memory : l.self.lacks_memory ≡ l.fn.self.lacks_memory;
 }
 
 abbrev pub decreases-loop-self : goal.decreases-loop-self
