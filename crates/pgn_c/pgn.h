@@ -89,15 +89,16 @@ pgn_result pgn_check(const uint8_t *text, size_t length);
  *     the token whose text is not all written. Call again with a larger buffer and the whole text.
  * PGN_NO_MODE: `mode` is neither 0 nor 1.
  *
- * In each case the first `written` bytes of the buffer are a front of the export text, and its
- * other bytes are as they were.
+ * In each case the first `written` bytes of the buffer are a prefix of the export text. Its other
+ * bytes are as they were.
  */
 pgn_result pgn_convert(const uint8_t *text, size_t length,
                        uint8_t *buffer, size_t capacity, uint32_t mode);
 
 /*
- * Writes the canonical text of a FEN (PGN 16.1) into the front of a buffer: at most 93 bytes,
- * without a zero behind them.
+ * Writes the canonical text of a FEN (PGN 16.1) into the front of a buffer.
+ *
+ * The text has at most 93 bytes, and no zero behind them.
  *
  * PGN_OK: the buffer has the text, and `length` is its length.
  * PGN_FAULT: the FEN is no position; `field` says which field is at fault. The buffer is unchanged.
@@ -106,13 +107,17 @@ pgn_result pgn_convert(const uint8_t *text, size_t length,
 pgn_text pgn_fen_normalize(const uint8_t *fen, size_t length, uint8_t *buffer, size_t capacity);
 
 /*
- * Finds the one legal move that a text names in the position of a FEN (PGN 8.2.3), and returns its
- * SAN, with the mark of check or mate, and the FEN of the position after it.
+ * Finds the one legal move that a text names in the position of a FEN (PGN 8.2.3).
+ *
+ * The result has its SAN, with the mark of check or mate, and the FEN of the position after it.
  *
  * PGN_OK: there is one such move.
- * PGN_FAULT: `fault` is 26 where the FEN is no position, 33 where the text is no move's, 34 where
- *     no legal move is meant, 35 where more than one is, and 36 for a move of Black's with the
- *     number 99,999, after which no FEN has the number.
+ * PGN_FAULT: `fault` says why:
+ *     26: the FEN is no position
+ *     33: the text is no move
+ *     34: no legal move agrees with it
+ *     35: more than one does
+ *     36: it is Black's move with the number 99,999, after which no FEN has the number
  */
 pgn_move pgn_san(const uint8_t *fen, size_t fen_length, const uint8_t *text, size_t length);
 

@@ -2,8 +2,8 @@
  * pgn_check FILE: checks a PGN file and prints how many games and plies it has, or its first fault.
  * pgn_check --export FILE: writes the file in export format.
  *
- * The status is 0, 1 for a fault, or 2 where the file cannot be read, the output
- * cannot be written, or there is no memory.
+ * The status is 0, 1 for a fault, or 2 if the file cannot be read, the output cannot be written, or
+ * there is no memory.
  */
 #include <stdio.h>
 #include <stdlib.h>

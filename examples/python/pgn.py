@@ -31,7 +31,7 @@ _LIBRARY = os.environ.get("PGN_LIBRARY") or os.path.join(_HERE, "..", "out", "li
 
 
 class PgnFault(ValueError):
-    """Why a text is refused: the fault's number, its byte offset, and the reason in words.
+    """Why a text is rejected: the fault's number, its byte offset, and the reason in words.
 
     `written` has what was written of the export text before the fault; it is empty for a check.
     """
