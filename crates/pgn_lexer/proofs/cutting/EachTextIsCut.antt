@@ -20,6 +20,7 @@ use Rattle.pgn_lexer.specs.TokensOf.{tokens_from, tokens_of, column, has_mark}
 use Rattle.pgn_lexer.specs.Laws.{LexesOnce}
 use Rattle.pgn_lexer.specs.Lexes as rules
 use Rattle.pgn_lexer.specs.Lexes.{StopsAt, IsAtLineEnd, IsRun, is_escaped, is_barred, is_plain, Data, IsSuffix, SpellsToken, Refuses, Where, Cuts, Lexes}
+use Rattle.pgn_lexer.proofs.stepping.FirstBytes.{unmarked}
 use Rattle.pgn_lexer.proofs.bytes.ClassToTest.{either, both, ClassSays, class_says, blank_class, tells_control_in_comment}
 use Rattle.pgn_lexer.proofs.cutting.StringData.{StringSays, string_says}
 use Rattle.pgn_lexer.proofs.cutting.RulesToTokens.{within_of, cuts_is}
@@ -297,12 +298,9 @@ exists (suc n) (rules.comment braces) at (b ∷ bs) short = from_comment n at (e
 cut_tokens : (w : Where) (at : ℕ) (s : List ℕ) → Cuts w at s (tokens_from at (within_of w) s)
 cut_tokens w at s = let h = exists (length s) w at s (omega arith) in subst (Cuts w at s) (cuts_is w at s h.0 h.1) h.1
 
-without_mark : (s : List ℕ) → has_mark s ≡ false → tokens_of s ≡ tokens_from 0 column s
-without_mark s e = ap (λ m. elim m [ true ↦ tokens_from 3 column (drop 3 s) | false ↦ tokens_from 0 column s ]) e
-
 lexes_are : (s : List ℕ) (ts : List Token) → Lexes s ts → ts ≡ tokens_of s
 lexes_are _ _ (rules.marked s ts h) = cuts_is (rules.outside true) 3 s ts h
-lexes_are _ _ (rules.unmarked s ts none h) = cuts_is (rules.outside true) 0 s ts h ∙ sym (without_mark s none)
+lexes_are _ _ (rules.unmarked s ts none h) = cuts_is (rules.outside true) 0 s ts h ∙ sym (unmarked s none)
 
 -- a text with a mark begins with it
 mark_cut : (s : List ℕ) → has_mark s ≡ true → (rest : List ℕ) × (s ≡ 239 ∷ 187 ∷ 191 ∷ rest)
@@ -319,7 +317,7 @@ tokens_lex s = cases (has_mark s) refl
   where
     cases : (m : Bool) → has_mark s ≡ m → Lexes s (tokens_of s)
     cases true e = let h = mark_cut s e in subst (λ s. Lexes s (tokens_of s)) (sym h.1) (rules.marked h.0 _ (cut_tokens (rules.outside true) 3 h.0))
-    cases false e = subst (Lexes s) (sym (without_mark s e)) (rules.unmarked s _ e (cut_tokens (rules.outside true) 0 s))
+    cases false e = subst (Lexes s) (sym (unmarked s e)) (rules.unmarked s _ e (cut_tokens (rules.outside true) 0 s))
 
 pub lexes_once : LexesOnce
 lexes_once s ts = (lexes_are s ts, λ e. subst (Lexes s) (sym e) (tokens_lex s))

@@ -18,7 +18,7 @@ use Rattle.pgn_lexer.specs.Tokens.{Kind, Token, symbol, glyph, word}
 use Rattle.pgn_lexer.specs.Spelling as spelling
 use Rattle.pgn_lexer.specs.Laws.{IsLast, RisesTo, TokensRise}
 use Rattle.pgn_lexer.specs.Spelling.{kind_of_single, class, comment_class, string_class, Found, gives, stops, Reading, closed, broken, datum, reading, symbol_at, word_at, glyph_at, numbered_at, suffix_at, string_at, number_of}
-use Rattle.pgn_lexer.specs.TokensOf as tokens
+use Rattle.pgn_lexer.specs.TokensOf as places
 use Rattle.pgn_lexer.specs.TokensOf.{Within, begins_class, begins_first, begins_after, begins_word, begins_brace, begins_line, begins, next, onto, at_end, tokens_from}
 use Rattle.std.proofs.lemmas.List.Sums.{take_while-cons}
 
@@ -153,18 +153,18 @@ line_from at goes comments.WordByte b bs = word_from at goes b bs
 line_from at goes comments.Control b bs = omega arith
 
 begins_from : (at : ℕ) (within : Within) (b : ℕ) (bs : List ℕ) → FoundFrom at (begins at within b bs)
-begins_from at tokens.column b bs = first_from at (class b) b bs
-begins_from at tokens.outside b bs = class_from at (class b) b bs
-begins_from at tokens.in_escape_line b bs = tt
-begins_from at tokens.in_symbol b bs = after_from at (continues_symbol b) (class b) b bs
-begins_from at tokens.in_glyph b bs = after_from at (is_digit b) (class b) b bs
-begins_from at tokens.in_suffix b bs = after_from at (is_suffix b) (class b) b bs
-begins_from at tokens.quotes b bs = tt
-begins_from at tokens.backslash b bs = tt
-begins_from at tokens.brace b bs = brace_from at false (comment_class b) b bs
-begins_from at tokens.brace_word b bs = brace_from at true (comment_class b) b bs
-begins_from at tokens.line b bs = line_from at false (comment_class b) b bs
-begins_from at tokens.line_word b bs = line_from at true (comment_class b) b bs
+begins_from at places.column b bs = first_from at (class b) b bs
+begins_from at places.outside b bs = class_from at (class b) b bs
+begins_from at places.in_escape_line b bs = tt
+begins_from at places.in_symbol b bs = after_from at (continues_symbol b) (class b) b bs
+begins_from at places.in_glyph b bs = after_from at (is_digit b) (class b) b bs
+begins_from at places.in_suffix b bs = after_from at (is_suffix b) (class b) b bs
+begins_from at places.quotes b bs = tt
+begins_from at places.backslash b bs = tt
+begins_from at places.brace b bs = brace_from at false (comment_class b) b bs
+begins_from at places.brace_word b bs = brace_from at true (comment_class b) b bs
+begins_from at places.line b bs = line_from at false (comment_class b) b bs
+begins_from at places.line_word b bs = line_from at true (comment_class b) b bs
 
 -- tokens that all stand at a place or further on
 abbrev pub AllFrom : ℕ → List Token → Type 0
@@ -180,18 +180,18 @@ onto_from at (gives k) ts from all = (omega arith, all_from_less at (at + 1) ts 
 onto_from at (stops place r) ts from all = (from, tt)
 
 end_from : (at : ℕ) (within : Within) → AllFrom at (at_end at within)
-end_from at tokens.column = (omega arith, tt)
-end_from at tokens.outside = (omega arith, tt)
-end_from at tokens.in_escape_line = (omega arith, tt)
-end_from at tokens.in_symbol = (omega arith, tt)
-end_from at tokens.in_glyph = (omega arith, tt)
-end_from at tokens.in_suffix = (omega arith, tt)
-end_from at tokens.quotes = (omega arith, tt)
-end_from at tokens.backslash = (omega arith, tt)
-end_from at tokens.brace = (omega arith, tt)
-end_from at tokens.brace_word = (omega arith, tt)
-end_from at tokens.line = (omega arith, (omega arith, tt))
-end_from at tokens.line_word = (omega arith, (omega arith, tt))
+end_from at places.column = (omega arith, tt)
+end_from at places.outside = (omega arith, tt)
+end_from at places.in_escape_line = (omega arith, tt)
+end_from at places.in_symbol = (omega arith, tt)
+end_from at places.in_glyph = (omega arith, tt)
+end_from at places.in_suffix = (omega arith, tt)
+end_from at places.quotes = (omega arith, tt)
+end_from at places.backslash = (omega arith, tt)
+end_from at places.brace = (omega arith, tt)
+end_from at places.brace_word = (omega arith, tt)
+end_from at places.line = (omega arith, (omega arith, tt))
+end_from at places.line_word = (omega arith, (omega arith, tt))
 
 pub tokens_from-from : (at : ℕ) (within : Within) (s : List ℕ) → AllFrom at (tokens_from at within s)
 tokens_from-from at within [] = end_from at within
@@ -219,18 +219,18 @@ onto_rises at (gives k) (t ∷ ts) from all rises = let here : at + 1 ≤ t.at =
 onto_rises at (stops place r) ts from all rises = tt
 
 end_rises : (at : ℕ) (within : Within) → RisesTo (at_end at within)
-end_rises at tokens.column = tt
-end_rises at tokens.outside = tt
-end_rises at tokens.in_escape_line = tt
-end_rises at tokens.in_symbol = tt
-end_rises at tokens.in_glyph = tt
-end_rises at tokens.in_suffix = tt
-end_rises at tokens.quotes = tt
-end_rises at tokens.backslash = tt
-end_rises at tokens.brace = tt
-end_rises at tokens.brace_word = tt
-end_rises at tokens.line = ((λ last. last), inr (refl, omega arith), tt)
-end_rises at tokens.line_word = ((λ last. last), inr (refl, omega arith), tt)
+end_rises at places.column = tt
+end_rises at places.outside = tt
+end_rises at places.in_escape_line = tt
+end_rises at places.in_symbol = tt
+end_rises at places.in_glyph = tt
+end_rises at places.in_suffix = tt
+end_rises at places.quotes = tt
+end_rises at places.backslash = tt
+end_rises at places.brace = tt
+end_rises at places.brace_word = tt
+end_rises at places.line = ((λ last. last), inr (refl, omega arith), tt)
+end_rises at places.line_word = ((λ last. last), inr (refl, omega arith), tt)
 
 tokens_from-rises : (at : ℕ) (within : Within) (s : List ℕ) → RisesTo (tokens_from at within s)
 tokens_from-rises at within [] = end_rises at within
@@ -238,8 +238,8 @@ tokens_from-rises at within (b ∷ bs) =
     onto_rises at (begins at within b bs) (tokens_from (at + 1) (next within b) bs) (begins_from at within b bs) (tokens_from-from (at + 1) (next within b) bs) (tokens_from-rises (at + 1) (next within b) bs)
 
 pub tokens_rise : TokensRise
-tokens_rise s = cases (tokens.has_mark s)
+tokens_rise s = cases (places.has_mark s)
   where
-    cases : (m : Bool) → RisesTo (elim m [ true ↦ tokens_from 3 tokens.column (drop 3 s) | false ↦ tokens_from 0 tokens.column s ])
-    cases true = tokens_from-rises 3 tokens.column (drop 3 s)
-    cases false = tokens_from-rises 0 tokens.column s
+    cases : (m : Bool) → RisesTo (elim m [ true ↦ tokens_from 3 places.column (drop 3 s) | false ↦ tokens_from 0 places.column s ])
+    cases true = tokens_from-rises 3 places.column (drop 3 s)
+    cases false = tokens_from-rises 0 places.column s

@@ -11,6 +11,7 @@ use Rattle.pgn_lexer.specs.TokensOf as places
 use Rattle.pgn_lexer.specs.TokensOf.{after_quoted, tokens_from}
 use Rattle.pgn_lexer.specs.PartialToken.{with_front}
 use Rattle.pgn_lexer.specs.Lexes.{StopsAt, IsAtLineEnd, is_escaped, is_barred, is_plain, Data, no_data, plain, escaped, lone}
+use Rattle.pgn_lexer.proofs.stepping.ByteOutside.{with_front-nil}
 use Rattle.pgn_lexer.proofs.stepping.ByteInString.{read_plain, read_escaped}
 
 -- what the class of a byte in a string says
@@ -74,10 +75,6 @@ with_front-cons : (b : ℕ) (text : List ℕ) (r : Reading) → with_front (b �
 with_front-cons b text (closed more) = refl
 with_front-cons b text (broken at reason) = refl
 
-with_front-none : (r : Reading) → with_front [] r ≡ r
-with_front-none (closed more) = refl
-with_front-none (broken at reason) = refl
-
 -- a backslash that escapes nothing is a datum before what comes
 lone_same : (start at n : ℕ) (s : List ℕ) → n < 255 → StopsAt is_escaped s → reading start at n true s ≡ datum 92 (reading start at (n + 1) false s)
 lone_same start at n [] room stop = refl
@@ -119,7 +116,7 @@ pub reads_data : (start at n : ℕ) (raw text s : List ℕ) → Data raw text s 
 reads_data start at n _ _ _ (no_data s) fits =
     let here : at ≡ at + 0 = omega arith in
     let none : n ≡ n + 0 = omega arith in
-    ap (λ a. reading start a n false s) here ∙ ap (λ m. reading start (at + 0) m false s) none ∙ sym (with_front-none _)
+    ap (λ a. reading start a n false s) here ∙ ap (λ m. reading start (at + 0) m false s) none ∙ sym (with_front-nil _)
 reads_data start at n _ _ _ (plain b raw text s e data') fits =
     let room : n < 255 = omega arith in
     let here : at + 1 + length raw ≡ at + length (b ∷ raw) = omega arith in

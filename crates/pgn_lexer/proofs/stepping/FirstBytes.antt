@@ -25,7 +25,7 @@ same_front f front same new (EndsBefore form) g =
 same_front f front same new Fault g = record { sound = g.sound; fails = g.fails; comes = λ s. same s ∙ g.comes s }
 
 -- a text with no mark
-unmarked : (s : List ℕ) → has_mark s ≡ false → tokens_of s ≡ tokens_from 0 column s
+pub unmarked : (s : List ℕ) → has_mark s ≡ false → tokens_of s ≡ tokens_from 0 column s
 unmarked s e = ap (λ m. elim m [ true ↦ tokens_from 3 column (drop 3 s) | false ↦ tokens_from 0 column s ]) e
 
 other_first : (b : ℕ) (s : List ℕ) → (b == 239) ≡ false → has_mark (b ∷ s) ≡ false
