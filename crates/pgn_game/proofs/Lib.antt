@@ -3,7 +3,6 @@ mod EqualReadings
 mod InterruptedReadings
 mod ReaderFitsInMemory
 mod ReaderPartsFitInMemory
-mod ReasonToDevice
 mod Words
 mod exporting
 mod pairs

@@ -1,10 +1,12 @@
--- Where a converter or one of two readings fits in memory, its reader does.
+-- Where a converter or one of two readings fits in memory, its reader does; and where games fit, their
+-- converter does.
 use Rattle.std.proofs.Common.{rules, arith, ℕ, ◌+◌, ◌<◌, ◌≤◌}
 use prog.Memory.{up}
 use Rattle.std.specs.Mem.{FitsInMemory}
 use Rattle.std.specs.Borrow.{RattleType}
 use Rattle.pgn_game.specs.contracts.converter.Converter.{the_row}
 use Rattle.pgn_game.specs.contracts.checked.Pass.{the_row as pass_row}
+use Rattle.pgn_game.specs.contracts.games.Games.{the_row as games_row}
 use Rattle.pgn_game.specs.contracts.reader.Reader.{the_row as reader_row}
 
 le_up : (a n : ℕ) → n ≤ up a n
@@ -27,6 +29,10 @@ fits_alike T L fits = fits
 -- and so does a reader
 pub reader_alike : (T L : RattleType) → FitsInMemory (reader_row T L) → FitsInMemory (reader_row T L)
 reader_alike T L fits = fits
+
+-- where games fit, their converter does
+pub games_fit_converter : (T L : RattleType) → FitsInMemory (games_row T L) → FitsInMemory (the_row T L)
+games_fit_converter T L fits = second _ _ _ _ (first _ _ _ _ fits)
 
 pub pass_fits_reader : (T L : RattleType) → FitsInMemory (pass_row T L) → FitsInMemory (reader_row T L)
 pass_fits_reader T L fits = search rules

@@ -1,6 +1,8 @@
 -- One token and many: from what the reader returns to whole inputs.
 pub mod AcceptedToConverter
 pub mod GamesInPiece
+pub mod GamesInTurn
+pub mod LastTokens
 pub mod NextGrows
 pub mod OneMoreToken
 pub mod PairsTriedForToken

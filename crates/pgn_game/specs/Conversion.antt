@@ -111,12 +111,3 @@ abbrev pub Concludes : Converter → Result Totals Fault → Device → Type 0
 Concludes old result sink =
     (p : Profile) (u : List ℕ) (given : List Token)
     → Stands p old u None given → AfterEnd p u given result sink.before sink.after
-
--- What was read of a source so far, and fed.
-pub record ReadSoFar (p : Profile) (left_old left_now : Option (List ℕ)) (now : Converter) (before after : Option (List ℕ)) : Type 0 where
-  pub bytes : List ℕ
-  pub tokens : List Token
-  pub consumed : Consumes left_old left_now bytes
-  pub stands : Stands p now bytes None tokens
-  pub decided : tokens ≡ decided bytes
-  pub gains : Gains p [] tokens before after

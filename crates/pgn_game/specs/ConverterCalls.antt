@@ -236,9 +236,9 @@ Feeds old piece new result sink =
     → Stands p old u b given → Follows b piece
     → AfterFeed p u b given piece new result sink.before sink.after
 
--- Unless a game is finished no game is counted, and none is just finished.
+-- A game that is finished is counted. Unless one is, none is counted, and none is just finished.
 abbrev pub KeepsGames : Converter → Converter → Result Fed Fault → Type 0
-KeepsGames old new (Ok (GameEnd used)) = Unit {0}
+KeepsGames old new (Ok (GameEnd used)) = (new.games ≡ old.games + 1) × (old.games < 2 ^ 64)
 KeepsGames old new (Ok All) = (new.games ≡ old.games) × (new.just_finished ≡ None)
 KeepsGames old new (Err f) = (new.games ≡ old.games) × (new.just_finished ≡ None)
 

@@ -26,6 +26,7 @@ pub mod ConverterCalls
 pub mod ConverterSteps
 pub mod Size
 pub mod Conversion
+pub mod GamesCalls
 pub mod Checked
 pub mod CheckedConversion
 pub mod Pass

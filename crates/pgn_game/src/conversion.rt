@@ -2,12 +2,15 @@
 ghost use Rattle.std.specs.Prelude.{◌≡◌, ◌-◌, ◌≤◌, ◌^◌, length, false, None, OnOk, IfSome};
 ghost use Rattle.pgn_layout.specs.Device.{device};
 ghost use Rattle.pgn_game.specs.ConverterCalls.{CountsFault, profile_of};
+ghost use Rattle.pgn_game.specs.ReaderState.{whole_plies};
 ghost use Rattle.pgn_game.specs.Size.{Holds};
 ghost use Rattle.pgn_game.specs.Conversion.{Converts, ConvertsSlice, Concludes, CountsResult, CountsSink};
 
 use crate::converter::Converter;
+use crate::games::next_game;
 use crate::mode::Mode;
-use crate::reason::{Fault, Reason};
+use crate::read_buffer::ReadBuffer;
+use crate::reason::Fault;
 use crate::source::Source;
 use pgn_layout::Sink;
 
@@ -60,20 +63,10 @@ pub fn convert<const T: usize, const L: usize, R: Source, W: Sink>(
     ensures counted { CountsResult result (device R.left R.failures reader.old reader.new)
         (device W.taken W.failures writer.old writer.new) }
 {
-    let mut buffer = [0; 4096];
     let mut converter = Converter::<T, L>::new(mode);
-    loop {
-        match reader.read_some(&mut buffer) {
-            Err(_) => {
-                return Err(Fault {
-                    at: converter.count(),
-                    reason: Reason::ReadFault,
-                });
-            }
-            Ok(0) => return end(&mut converter, writer),
-            Ok(n) => converter.feed_all(&buffer[..n], writer)?,
-        }
-    }
+    let mut buffer = ReadBuffer::new();
+    while next_game(&mut converter, &mut buffer, reader, writer)? {}
+    Ok(totals_of(&converter))
 }
 
 /// Converts the games of a slice, as `convert` does.
@@ -119,9 +112,20 @@ fn end<const T: usize, const L: usize, W: Sink>(
     ensures counted { CountsFault result (device W.taken W.failures out.old out.new) }
 {
     converter.finish(out)?;
-    Ok(Totals {
+    Ok(totals_of(converter))
+}
+
+// The counts of a converter that has read all games.
+fn totals_of<const T: usize, const L: usize>(converter: &Converter<T, L>) -> Totals
+    requires no_fault { converter.now.fault ≡ None }
+    ensures games { result.games ≡ converter.now.games }
+    ensures plies { result.plies ≡ whole_plies converter.now.reading }
+    ensures probes { result.most_probes ≡ converter.now.reading.most_probes }
+    ensures bound { result.most_probes ≤ 1040 }
+{
+    Totals {
         games: converter.games(),
         plies: converter.whole_plies(),
         most_probes: converter.most_probes(),
-    })
+    }
 }

@@ -3,7 +3,7 @@ ghost use Rattle.std.specs.Prelude.{◌≡◌, ◌+◌, ◌-◌, ◌≤◌, ◌<
 ghost use Rattle.std.specs.Prelude.{None, Some, is_some, Err, is_ok, IfOk, OnOk, OnErr, length, take};
 ghost use Rattle.std.specs.Option.{option_copied};
 ghost use Rattle.pgn_layout.specs.Device.{device};
-ghost use Rattle.pgn_game.specs.declared.reason.Reason.TheVariants.{InputTooLong, Lexical};
+ghost use Rattle.pgn_game.specs.declared.reason.Reason.TheVariants.{InputTooLong, Lexical, ReadFault};
 ghost use Rattle.pgn_game.specs.ConverterSteps.{FeedsFront, Steps, StepsAtEnd};
 ghost use Rattle.pgn_game.specs.ConverterSteps.{StepAdvances, StepAtEndAdvances, outcome_at, games_after};
 ghost use Rattle.pgn_game.specs.ConverterSteps.{fault_of_step};
@@ -215,6 +215,35 @@ impl<const T: usize, const L: usize> Converter<T, L> {
                 Err(fault) => return Err(fault),
             }
         }
+    }
+
+    /// Ends the time in which a game counts as just finished.
+    pub(crate) fn forget_game(&mut self)
+        ensures { self.new ≡ record self.old { just_finished = None } }
+    {
+        self.has_finished_game = false;
+    }
+
+    /// Keeps the fault of a read that failed: each later call reports it.
+    pub(crate) fn keep_failed_read(&mut self) -> Fault
+        ensures fault { result ≡ record { at = self.old.lexer.count; reason = ReadFault } }
+        ensures kept { self.new
+            ≡ record self.old { just_finished = None; fault = Some result } }
+    {
+        let fault = Fault {
+            at: self.lexer.count(),
+            reason: Reason::ReadFault,
+        };
+        self.has_finished_game = false;
+        self.fault = Some(fault);
+        fault
+    }
+
+    /// Returns the fault that each call reports from now on, if there is one.
+    pub(crate) fn fault(&self) -> Option<Fault>
+        ensures { result ≡ self.now.fault }
+    {
+        self.fault
     }
 
     /// Returns the value of a tag of the game just finished, roster defaults included.

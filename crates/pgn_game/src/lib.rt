@@ -1,8 +1,8 @@
 //! Games of Portable Game Notation, from bytes to bytes.
 //!
-//! [`convert`] reads games from a [`Source`] and writes their export format to a [`Sink`]. A
-//! [`Converter`] does it in pieces of any length. [`convert_checked`] reads its input twice, so
-//! that a missing Result takes the marker. No call allocates.
+//! [`convert`] reads games from a [`Source`] and writes their export format to a [`Sink`]. [`Games`]
+//! do it one game at a time, and a [`Converter`] in pieces of any length. [`convert_checked`] reads
+//! its input twice, so that a missing Result takes the marker. No call allocates.
 #![tactic(auto)]
 
 mod accepted;
@@ -11,6 +11,8 @@ mod checked;
 mod conversion;
 mod converter;
 mod find;
+mod games;
+mod item;
 pub mod laws;
 mod levels;
 mod marker;
@@ -18,6 +20,7 @@ mod mode;
 mod movetext;
 mod number;
 mod pair;
+mod read_buffer;
 mod reader;
 mod reason;
 mod section;
@@ -30,6 +33,7 @@ pub use checked::convert_checked;
 pub use conversion::{Totals, convert, convert_slice};
 pub use converter::{Converter, Fed};
 pub use find::find_move;
+pub use games::Games;
 pub use mode::Mode;
 pub use pgn_layout::{Nowhere, Outlet, Sink, WriteFault};
 pub use pgn_lexer::LexReason;

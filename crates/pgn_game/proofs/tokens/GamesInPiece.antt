@@ -25,7 +25,7 @@ all_none p old u given piece o stands is_decided =
       gains = gains_none p given o;
     }
 
-behind_first : (xs : List ℕ) → still (first xs) xs ≡ None
+pub behind_first : (xs : List ℕ) → still (first xs) xs ≡ None
 behind_first [] = refl
 behind_first (x ∷ xs) = refl
 

@@ -1,5 +1,5 @@
 -- Conversions of whole inputs.
-use Rattle.std.proofs.Common.{◌≡◌, ℕ, ◌^◌, ◌<◌, ◌≤◌, List, [], ◌∷◌, ◌++◌, length, Option, None, Some, Result, Ok, Err, IfSome, OnOk, refl, sym, ap, subst, ◌∙◌, append-nil, append_assoc, map, sum}
+use Rattle.std.proofs.Common.{◌≡◌, ℕ, false, inl, ◌^◌, ◌<◌, ◌≤◌, List, [], ◌∷◌, ◌++◌, length, Option, None, Some, Result, Ok, Err, IfSome, OnOk, refl, sym, ap, subst, ◌∙◌, append-nil, append_assoc, map, sum}
 use Rattle.std.proofs.KnownBytes.{Consumes-nil, Consumes-trans}
 use Rattle.std.specs.Io.KnownBytes.{Appends, Consumes, Keeps, IsAtEnd}
 use Rattle.pgn_lexer.specs.TokensOf.{tokens_of}
@@ -9,11 +9,13 @@ use Rattle.pgn_game.proofs.Words.{Token, ReadFault, InputTooLong, Fault, Profile
 use Rattle.pgn_game.specs.declared.conversion.Totals.{Totals}
 use Rattle.pgn_game.specs.Levels.{plies_of}
 use Rattle.pgn_game.specs.ReaderState.{whole_plies}
-use Rattle.pgn_game.specs.Progress.{no_progress, Read, read, written, due, refused as is_refused, totals, verdict_of}
+use Rattle.pgn_game.specs.Progress.{no_progress, Read, read, written, due, refused as is_refused, totals, verdict, verdict_of}
 use Rattle.pgn_game.specs.Due.{Gains}
 use Rattle.pgn_game.specs.MostTried.{MostTried}
-use Rattle.pgn_game.specs.ConverterCalls.{Converter, Stands, Stops, refused, unwritten, StopsWriting, StopsIn, at_token, too_long, FedFault, FedWhole, ReadsUpTo, Finishes}
-use Rattle.pgn_game.specs.Conversion.{IsConverted, IsTotalled, ReadsNoMore, FailsOn, Fails, AfterEnd, ReadSoFar, AfterConversion, AfterSlice}
+use Rattle.pgn_game.specs.ConverterCalls.{Converter, HasRead, Stands, Stops, refused, unwritten, StopsWriting, StopsIn, at_token, too_long, FedFault, FedWhole, ReadsUpTo, Finishes}
+use Rattle.pgn_game.specs.Conversion.{IsConverted, IsTotalled, MostProbes, ReadsNoMore, FailsOn, Fails, AfterEnd, AfterConversion, AfterSlice, verdict_in}
+use Rattle.pgn_game.specs.GamesCalls as calls
+use Rattle.pgn_game.specs.GamesCalls.{Games, games_of, HaveRead, within, NextGame, NoGame, NextStops, ReadSoFar}
 use Rattle.pgn_game.specs.Conversion as conversion
 use Rattle.pgn_game.proofs.tokens.OneMoreToken.{torn-none, gains_none, gains_more, stops_more, stops_from}
 use Rattle.pgn_game.proofs.tokens.AcceptedToConverter.{in_games, still_none-none}
@@ -24,19 +26,25 @@ verdict_passes r e = ap (λ (o : Option Fault). elim o [ Some f ↦ is_refused f
 verdict_refused : (r : Read) (f : Fault) → r.fault ≡ Some f → verdict_of r ≡ is_refused f
 verdict_refused r f e = ap (λ (o : Option Fault). elim o [ Some f ↦ is_refused f | None ↦ totals (record { games = length r.progress.games; plies = sum (map plies_of r.progress.games) }) ]) e
 
-pub ended : (p : Profile) (u : List ℕ) (given : List Token) (new : Converter) (finished_game : _) (t : Totals) (a c : Option (List ℕ)) → Finishes p u given new finished_game a c
-    → t.games ≡ new.games → t.plies ≡ whole_plies new.reading → t.most_probes ≡ new.reading.most_probes → t.most_probes ≤ 1040 → AfterEnd p u given (Ok t) a c
-ended p u given new finished_game t a c done games plies probes bound = (
-  verdict_passes (read p (tokens_of u)) done.has_read.passes
-      ∙ ap (λ n. totals (record { games = n; plies = sum (map plies_of (read p (tokens_of u)).progress.games) })) (sym (games ∙ done.has_read.games))
-      ∙ ap (λ n. totals (record { games = t.games; plies = n })) (sym (plies ∙ done.has_read.plies)),
+-- the counts of a converter that has read the whole text are those of the text
+pub totalled : (p : Profile) (s : List ℕ) (c : Converter) (t : Totals) → HasRead p c (tokens_of s) → t.games ≡ c.games → t.plies ≡ whole_plies c.reading
+    → t.most_probes ≡ c.reading.most_probes → t.most_probes ≤ 1040 → (verdict p s ≡ verdict_in t) × MostProbes p s t.most_probes
+totalled p s c t has games plies probes bound = (
+  verdict_passes (read p (tokens_of s)) has.passes
+      ∙ ap (λ n. totals (record { games = n; plies = sum (map plies_of (read p (tokens_of s)).progress.games) })) (sym (games ∙ has.games))
+      ∙ ap (λ n. totals (record { games = t.games; plies = n })) (sym (plies ∙ has.plies)),
   record {
     most = bound;
-    some = λ moves. subst (λ n. 0 < n) (sym probes) (done.has_read.probed (in_games (read p (tokens_of u)).progress moves));
-    tried = subst (MostTried p (tokens_of u)) (sym probes) done.has_read.tried;
+    some = λ moves. subst (λ n. 0 < n) (sym probes) (has.probed (in_games (read p (tokens_of s)).progress moves));
+    tried = subst (MostTried p (tokens_of s)) (sym probes) has.tried;
   },
-  done.gains,
 )
+
+pub ended : (p : Profile) (u : List ℕ) (given : List Token) (new : Converter) (finished_game : _) (t : Totals) (a c : Option (List ℕ)) → Finishes p u given new finished_game a c
+    → t.games ≡ new.games → t.plies ≡ whole_plies new.reading → t.most_probes ≡ new.reading.most_probes → t.most_probes ≤ 1040 → AfterEnd p u given (Ok t) a c
+ended p u given new finished_game t a c done games plies probes bound =
+    let (is_verdict, most) = totalled p u new t done.has_read games plies probes bound in
+    (is_verdict, most, done.gains)
 
 -- what was due from the start on
 appended : (p : Profile) (tokens : List Token) (a c : Option (List ℕ)) → Gains p [] tokens a c → Appends a c (due p tokens)
@@ -44,23 +52,16 @@ appended p tokens a c gains =
     let whole : due p tokens ≡ gains.text = gains.due_for ∙ ap (λ l. l ++ gains.text) (torn-none p.missing_result p.mode) in
     subst (Appends a c) (sym whole) gains.appended
 
-pub read_none : (p : Profile) (c : Converter) (left o : Option (List ℕ)) → Stands p c [] None [] → ReadSoFar p left left c o o
-read_none p c left o stands =
-    record { bytes = []; tokens = []; consumed = Consumes-nil left; stands = stands; decided = refl; gains = gains_none p [] o }
+-- games that have read nothing
+pub none_read : (p : Profile) (c : Converter) (left : Option (List ℕ)) → Stands p c [] None [] → c.is_finished ≡ false → HaveRead p left [] (games_of c []) []
+none_read p c left stands not_finished =
+    within (record { used = []; bytes = refl; stands = stands; at_limit = λ h. refl; decided = inl refl; not_finished = not_finished })
 
-pub read_more : (p : Profile) (left_old left left_new : Option (List ℕ)) (now new : Converter) (a c d : Option (List ℕ)) (piece : List ℕ) (so : ReadSoFar p left_old left now a c)
-    → Consumes left left_new piece → FedWhole p so.bytes so.tokens piece new c d → ReadSoFar p left_old left_new new a d
-read_more p left_old left left_new now new a c d piece so consumed fed =
-    record {
-      bytes = so.bytes ++ piece;
-      tokens = fed.tokens;
-      consumed = Consumes-trans left_old left left_new so.bytes piece so.consumed consumed;
-      stands = fed.stands;
-      decided = fed.decided;
-      gains = gains_more p [] so.tokens fed.tokens a c d so.gains fed.gains;
-    }
+pub read_none : (p : Profile) (now : Games) (left o : Option (List ℕ)) → HaveRead p left [] now [] → ReadSoFar p left left now o o
+read_none p now left o have =
+    record { bytes = []; tokens = []; consumed = Consumes-nil left; have_read = have; gains = gains_none p [] o }
 
-keeps_consumed : (o m n : Option (List ℕ)) (u : List ℕ) → Consumes o m u → Keeps m n → Consumes o n u
+pub keeps_consumed : (o m n : Option (List ℕ)) (u : List ℕ) → Consumes o m u → Keeps m n → Consumes o n u
 keeps_consumed None m n u h k = tt
 keeps_consumed (Some xs) None n u h k = absurd h
 keeps_consumed (Some xs) (Some ys) None u h k = absurd k
@@ -72,14 +73,6 @@ no_more p u tokens a c is_decided passes gains =
       passes = subst (λ ts. (read p ts).fault ≡ None) is_decided passes;
       appended = subst (λ ts. Appends a c (due p ts)) is_decided (appended p tokens a c gains);
     }
-
--- a read failed
-pub unread : (p : Profile) (left_old left left_new : Option (List ℕ)) (now : Converter) (a c : Option (List ℕ)) (at : ℕ) (so : ReadSoFar p left_old left now a c) → Keeps left left_new
-    → at ≡ now.lexer.count → Fails p left_old left_new a c (record { at = at; reason = ReadFault })
-unread p left_old left left_new now a c at so keeps place =
-    subst (λ n. Fails p left_old left_new a c (record { at = n; reason = ReadFault })) (sym (place ∙ so.stands.lexer.count))
-    (conversion.unread so.bytes (keeps_consumed left_old left left_new so.bytes so.consumed keeps)
-    (no_more p so.bytes so.tokens a c so.decided so.stands.has_read.passes so.gains))
 
 -- the tokens up to a rejected one decide the verdict
 refused_text : (p : Profile) (s : List ℕ) (tokens more : List Token) (f : Fault) (a c : Option (List ℕ)) → tokens_of s ≡ tokens ++ more → (read p tokens).fault ≡ Some f → Gains p [] tokens a c
@@ -118,52 +111,62 @@ known_whole None n u P h end here = tt
 known_whole (Some s) None u P h end here = absurd h
 known_whole (Some s) (Some rest) u P h end here = subst P (sym (h ∙ ap (λ l. u ++ l) end ∙ append-nil u)) here
 
--- a piece stopped it
-pub stops_in_piece : (p : Profile) (left_old left left_new : Option (List ℕ)) (now : Converter) (a c d : Option (List ℕ)) (piece : List ℕ) (f : Fault) (so : ReadSoFar p left_old left now a c)
-    → Consumes left left_new piece
-    → StopsIn so.bytes piece (λ fault. FedFault p so.bytes None so.tokens piece fault c d) (λ front. ReadsUpTo p so.tokens (so.bytes ++ front) c d) f
-    → Fails p left_old left_new a d f
-stops_in_piece p left_old left left_new now a c d piece f so consumed (at_token g fed) =
-    by_stops (stops_more p [] so.tokens fed.tokens g a c d so.gains fed.stops)
-  where
-    all : Consumes left_old left_new (so.bytes ++ piece)
-    all = Consumes-trans left_old left left_new so.bytes piece so.consumed consumed
+-- ---- games read in turn
 
-    goes : (s : List ℕ) → (rest : List Token) × (tokens_of ((so.bytes ++ piece) ++ s) ≡ fed.tokens ++ rest)
-    goes s = fed.next s (subst (λ b. Follows b s) (sym (still_none-none piece)) tt)
+module _ (p : Profile) (left_old left left_new : Option (List ℕ)) (now : Games) (a c d : Option (List ℕ)) (so : ReadSoFar p left_old left now a c) where
+  all : (more : List ℕ) → Consumes left left_new more → Consumes left_old left_new (so.bytes ++ more)
+  all more consumed = Consumes-trans left_old left left_new so.bytes more so.consumed consumed
 
-    by_stops : {h : Fault} → Stops p [] fed.tokens a d h → Fails p left_old left_new a d h
-    by_stops (refused h fault gains) =
-        conversion.refused h (known_left left_old left_new (so.bytes ++ piece) (λ s. IsConverted p s (is_refused h) a d) all
-        (λ rest. refused_text p ((so.bytes ++ piece) ++ rest) fed.tokens (goes rest).0 h a d (goes rest).1 fault gains))
-    by_stops (unwritten at writing) =
-        let here = goes [] in
-        let cut : tokens_of (so.bytes ++ piece) ≡ fed.tokens ++ here.0 = ap tokens_of (sym (append-nil (so.bytes ++ piece))) ∙ here.1 in
-        conversion.unwritten (so.bytes ++ piece) at all (subst (λ ts. StopsWriting p [] ts at a d) (sym cut) (further_writing p [] fed.tokens here.0 at a d writing))
-stops_in_piece p left_old left left_new now a c d piece f so consumed (too_long front rest cut place some before) =
-    let all = Consumes-trans left_old left left_new so.bytes piece so.consumed consumed in
-    let text : so.bytes ++ piece ≡ (so.bytes ++ front) ++ rest = ap (λ xs. so.bytes ++ xs) cut ∙ sym (append_assoc so.bytes front rest) in
-    subst (λ n. Fails p left_old left_new a d (record { at = n; reason = InputTooLong })) place
-    (conversion.too_long (so.bytes ++ front) rest (subst (Consumes left_old left_new) text all) place some
-    (no_more p (so.bytes ++ front) before.tokens a d before.decided before.passes (gains_more p [] so.tokens before.tokens a c d so.gains before.gains)))
+  -- a game more
+  pub games_more : (new : Games) → NextGame p so.bytes so.tokens left left_new new c d → ReadSoFar p left_old left_new new a d
+  games_more new game =
+      record {
+        bytes = so.bytes ++ game.more;
+        tokens = game.tokens;
+        consumed = all game.more game.consumed;
+        have_read = game.have_read;
+        gains = gains_more p [] so.tokens game.tokens a c d so.gains game.gains;
+      }
 
--- the source's end
-pub ends_here : (p : Profile) (left_old left left_new : Option (List ℕ)) (now : Converter) (a c d : Option (List ℕ)) (r : Result Totals Fault) (so : ReadSoFar p left_old left now a c)
-    → Consumes left left_new [] → IsAtEnd left_new → AfterEnd p so.bytes so.tokens r c d → AfterConversion p left_old left_new r a d
-ends_here p left_old left left_new now a c d (Ok t) so consumed end (is_verdict, probes, gains) =
-    let all = subst (Consumes left_old left_new) (append-nil so.bytes) (Consumes-trans left_old left left_new so.bytes [] so.consumed consumed) in
-    known_whole left_old left_new so.bytes (λ s. IsTotalled p s t a d) all end
-    (record { converted = (is_verdict, appended p (tokens_of so.bytes) a d (gains_more p [] so.tokens (tokens_of so.bytes) a c d so.gains gains)); probes = probes })
-ends_here p left_old left left_new now a c d (Err f) so consumed end stops = by_stops (stops_more p [] so.tokens (tokens_of so.bytes) f a c d so.gains stops)
-  where
-    all : Consumes left_old left_new so.bytes
-    all = subst (Consumes left_old left_new) (append-nil so.bytes) (Consumes-trans left_old left left_new so.bytes [] so.consumed consumed)
+  -- all games
+  pub games_end : (new : Games) (t : Totals) → NoGame p so.bytes so.tokens left left_new new c d → t.games ≡ new.converter.games → t.plies ≡ whole_plies new.converter.reading
+      → t.most_probes ≡ new.converter.reading.most_probes → t.most_probes ≤ 1040 → AfterConversion p left_old left_new (Ok t) a d
+  games_end new t end games plies probes bound =
+      let text = so.bytes ++ end.more in
+      let (is_verdict, most) = totalled p text new.converter t end.have_read_all.has_read games plies probes bound in
+      known_whole left_old left_new text (λ s. IsTotalled p s t a d) (all end.more end.consumed) end.have_read_all.at_end
+      (record { converted = (is_verdict, appended p (tokens_of text) a d (gains_more p [] so.tokens (tokens_of text) a c d so.gains end.gains)); probes = most })
 
-    by_stops : {h : Fault} → Stops p [] (tokens_of so.bytes) a d h → Fails p left_old left_new a d h
-    by_stops (refused h fault gains) =
-        conversion.refused h (known_whole left_old left_new so.bytes (λ s. IsConverted p s (is_refused h) a d) all end
-        (refused_text p so.bytes (tokens_of so.bytes) [] h a d (sym (append-nil (tokens_of so.bytes))) fault gains))
-    by_stops (unwritten at writing) = conversion.unwritten so.bytes at all writing
+  pub games_short : (new : Games) → NoGame p so.bytes so.tokens left left_new new c d → IfSome left_old (λ s. length s ≤ 2 ^ 62)
+  games_short new end =
+      known_whole left_old left_new (so.bytes ++ end.more) (λ s. length s ≤ 2 ^ 62) (all end.more end.consumed) end.have_read_all.at_end end.have_read_all.short
+
+  -- a call stopped
+  pub games_stop : (most : ℕ) (f : Fault) → NextStops p so.bytes so.tokens left left_new most c d f → Fails p left_old left_new a d f
+  games_stop most f (calls.at_token g more consumed to) = by_stops (stops_more p [] so.tokens to.tokens g a c d so.gains to.stops)
+    where
+      by_stops : {h : Fault} → Stops p [] to.tokens a d h → Fails p left_old left_new a d h
+      by_stops (refused h fault gains) =
+          conversion.refused h (known_left left_old left_new (so.bytes ++ more) (λ s. IsConverted p s (is_refused h) a d) (all more consumed)
+          (λ rest. refused_text p ((so.bytes ++ more) ++ rest) to.tokens (to.next rest tt).0 h a d (to.next rest tt).1 fault gains))
+      by_stops (unwritten at writing) =
+          let here = to.next [] tt in
+          let cut : tokens_of (so.bytes ++ more) ≡ to.tokens ++ here.0 = ap tokens_of (sym (append-nil (so.bytes ++ more))) ∙ here.1 in
+          conversion.unwritten (so.bytes ++ more) at (all more consumed) (subst (λ ts. StopsWriting p [] ts at a d) (sym cut) (further_writing p [] to.tokens here.0 at a d writing))
+  games_stop most f (calls.at_end g more consumed end to) = by_stops (stops_more p [] so.tokens (tokens_of (so.bytes ++ more)) g a c d so.gains to.stops)
+    where
+      by_stops : {h : Fault} → Stops p [] (tokens_of (so.bytes ++ more)) a d h → Fails p left_old left_new a d h
+      by_stops (refused h fault gains) =
+          conversion.refused h (known_whole left_old left_new (so.bytes ++ more) (λ s. IsConverted p s (is_refused h) a d) (all more consumed) end
+          (refused_text p (so.bytes ++ more) (tokens_of (so.bytes ++ more)) [] h a d (sym (append-nil (tokens_of (so.bytes ++ more)))) fault gains))
+      by_stops (unwritten at writing) = conversion.unwritten (so.bytes ++ more) at (all more consumed) writing
+  games_stop most f (calls.unread more consumed none) =
+      conversion.unread (so.bytes ++ more) (all more consumed)
+      (no_more p (so.bytes ++ more) none.reads.tokens a d none.reads.decided none.reads.passes (gains_more p [] so.tokens none.reads.tokens a c d so.gains none.reads.gains))
+  games_stop most f (calls.too_long more front rest consumed cut place some none) =
+      subst (λ n. Fails p left_old left_new a d (record { at = n; reason = InputTooLong })) place
+      (conversion.too_long front rest (subst (Consumes left_old left_new) cut (all more consumed)) place some
+      (no_more p front none.reads.tokens a d none.reads.decided none.reads.passes (gains_more p [] so.tokens none.reads.tokens a c d so.gains none.reads.gains)))
 
 -- a slice, fed from the start on
 pub slice_stops : (p : Profile) (f : Fault) (text : List ℕ) (a c : Option (List ℕ))
@@ -194,11 +197,3 @@ slice_ends p text now a c d (Err f) fed stops = by_stops (stops_more p [] fed.to
     by_stops (refused h fault gains) =
         conversion.FailsOn.refused h (refused_text p text (tokens_of text) [] h a d (sym (append-nil (tokens_of text))) fault gains)
     by_stops (unwritten at writing) = conversion.FailsOn.unwritten at writing
-
--- an input that was read to its end is no longer than the places go
-pub short_input : (p : Profile) (left_old left left_new : Option (List ℕ)) (now : Converter) (a c : Option (List ℕ)) (r : Result Totals Fault) (so : ReadSoFar p left_old left now a c)
-    → Consumes left left_new [] → IsAtEnd left_new → now.lexer.count ≤ 2 ^ 62 → OnOk r (IfSome left_old (λ s. length s ≤ 2 ^ 62))
-short_input p left_old left left_new now a c (Ok t) so consumed end few =
-    let all = subst (Consumes left_old left_new) (append-nil so.bytes) (Consumes-trans left_old left left_new so.bytes [] so.consumed consumed) in
-    known_whole left_old left_new so.bytes (λ s. length s ≤ 2 ^ 62) all end (subst (λ n. n ≤ 2 ^ 62) so.stands.lexer.count few)
-short_input p left_old left left_new now a c (Err f) so consumed end few = tt

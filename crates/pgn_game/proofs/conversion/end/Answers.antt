@@ -10,19 +10,14 @@ returns-in_err-finish-clause-ends g c =
 
 pub returns-clause-ends : goal.returns-clause-ends
 returns-clause-ends g c p u given stands =
-    ended p u given c.finish.new.self _ (record { games = c.games.result; plies = c.whole_plies.result; most_probes = c.most_probes.result }) _ _ (c.in_ok-finish.ensures.ends p u _ given stands) c.games.ensures c.whole_plies.ensures c.most_probes.ensures.value c.most_probes.ensures.bound
+    ended p u given c.finish.new.self _ c.totals_of.result _ _ (c.in_ok-finish.ensures.ends p u _ given stands) c.totals_of.ensures.games c.totals_of.ensures.plies
+    c.totals_of.ensures.probes c.totals_of.ensures.bound
 
 pub finish-requires : goal.finish-requires
 finish-requires g c = (search fits_alike, c.requires.not_finished)
 
-pub games-requires : goal.games-requires
-games-requires g c = search fits_alike
-
-pub whole_plies-requires : goal.whole_plies-requires
-whole_plies-requires g c = (search fits_alike, c.in_ok-finish.ensures.fault)
-
-pub most_probes-requires : goal.most_probes-requires
-most_probes-requires g c = search fits_alike
+pub totals_of-requires : goal.totals_of-requires
+totals_of-requires g c = (search fits_alike, c.in_ok-finish.ensures.fault)
 
 pub returns-clause-counted : goal.returns-clause-counted
 returns-clause-counted g c = c.in_ok-finish.ensures.counted c.requires.no_fault

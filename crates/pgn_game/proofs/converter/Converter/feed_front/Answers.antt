@@ -1,4 +1,4 @@
-use Rattle.std.proofs.Common.{◌≡◌, ℕ, ◌+◌, ◌-◌, length, take, drop, arith, refl, sym, ap, subst, ◌∙◌, length-drop, le_refl, Ok, None, Some}
+use Rattle.std.proofs.Common.{◌≡◌, ℕ, ◌+◌, ◌-◌, ◌^◌, ◌<◌, length, take, drop, arith, refl, sym, ap, subst, ◌∙◌, length-drop, le_refl, Ok, None, Some}
 use Rattle.pgn_game.specs.declared.accepted.Accepted.TheVariants.{More, Finished}
 use Rattle.std.proofs.Math.Nat.{add_assoc}
 use Rattle.std.proofs.lemmas.List.{take_rest}
@@ -111,6 +111,9 @@ returns-in-Ok-Some-Finished g c =
     let advances = rw is at step.advances in
     let used = rw take_rest at step.used in
     let counted = rw is at step.counted in
+    let none = ap (λ (s : Converter). s.fault) c.self.view_is ∙ c.requires.no_fault in
+    let few : c.args.self.now.games < 2 ^ 64 =
+    omega (arith, c.self.invariant.few none, c.self.invariant.count none, ap (λ (s : Converter). s.games) c.self.view_is) in
     record {
       used = omega (arith, used, length-drop c.loop-at.at c.args.piece.now, c.loop-at-test.true);
       feeds = λ p u b given stands follows.
@@ -123,7 +126,7 @@ returns-in-Ok-Some-Finished g c =
       advances = omega (arith, advances, so.goes);
       not_finished = step.finished ∙ so.not_finished;
       fault = rw is at step.fault;
-      games = tt;
+      games = (rw is at step.games ∙ ap (λ n. n + 1) so.games, few);
       probes = omega (arith, step.probes, so.probes);
       counted = counted ∙ so.counted;
     }

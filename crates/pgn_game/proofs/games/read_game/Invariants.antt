@@ -1,0 +1,20 @@
+use Rattle.std.proofs.Common.{◌≡◌, ◌+◌, ◌-◌, ◌^◌, None, false, length}
+use Rattle.pgn_layout.specs.Device.{device}
+use Rattle.pgn_game.specs.GamesCalls.{ReadsSoFar, games_of}
+use Rattle.pgn_game.proofs.games.read_game.Given as goal
+
+abbrev pub invariant-loop-converter : goal.invariant-loop-converter
+invariant-loop-converter g l =
+    record {
+      not_finished : l.converter.is_finished ≡ false;
+      fault : l.converter.fault ≡ None;
+      games : l.converter.games ≡ l.fn.converter.games;
+      source : g.R.Source.failures l.source ≡ g.R.Source.failures l.fn.source;
+      sink : g.W.Sink.failures l.out ≡ g.W.Sink.failures l.fn.out;
+      reads : ReadsSoFar (games_of l.fn.converter l.fn.buffer) (games_of l.converter l.buffer)
+          (device g.R.Source.left g.R.Source.failures l.fn.source l.source)
+          (device g.W.Sink.taken g.W.Sink.failures l.fn.out l.out);
+    }
+
+abbrev pub decreases-loop-converter : goal.decreases-loop-converter
+decreases-loop-converter g l = (2 ^ 62 + 4096) - (l.converter.lexer.count + length l.buffer)

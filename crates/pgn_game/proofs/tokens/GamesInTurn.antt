@@ -1,0 +1,354 @@
+-- Games read in turn from a source.
+use Rattle.std.proofs.Common.{◌≡◌, ℕ, ◌+◌, ◌^◌, ◌<◌, ◌≤◌, Bool, true, false, List, [], ◌∷◌, ◌++◌, length, take, drop, Option, None, Some, Result, Ok, Err, refl, sym, ap, subst, ◌∙◌, inl, inr, append-nil, append_assoc, length-append, arith}
+use Rattle.std.specs.Prelude.{IsTrue, is_ok}
+use Rattle.std.proofs.lemmas.List.{take-append-drop}
+use Rattle.std.proofs.KnownBytes.{Consumes-nil, Consumes-trans}
+use Rattle.std.specs.Io.KnownBytes.{Consumes, Keeps, IsAtEnd}
+use Rattle.pgn_lexer.specs.TokensOf.{tokens_of}
+use Rattle.pgn_lexer.specs.Decided.{decided}
+use Rattle.pgn_lexer.specs.Standing.{coming}
+use Rattle.pgn_lexer.specs.Stands.{Follows, IsDecided, first, still}
+use Rattle.pgn_game.proofs.Words.{Token, ReadFault, Reason, Fault, Profile, Game, Part, no_part}
+use Rattle.pgn_game.specs.FaultTable.{refusal}
+use Rattle.pgn_game.specs.Text.{text_of}
+use Rattle.pgn_game.specs.Progress.{Next, going, whole, next, Progress, progress_with, progress_after, no_progress, Read, read, read_from, written, due}
+use Rattle.pgn_game.specs.Due.{Gains}
+use Rattle.pgn_game.specs.ConverterCalls.{Converter, FinishedGame, finished_game_of, IsLast, HasRead, Stands, AreNext, FedAll, FedGame, FedToFault, Stops, refused, unwritten, StopsIn, at_token, too_long, AfterFinish, Finishes, FinishesToFault}
+use Rattle.pgn_game.specs.GamesCalls as games
+use Rattle.pgn_game.specs.GamesCalls.{Games, games_of, ReadsOn, HasReadAll, HaveRead, within, at_end, NextGame, NoGame, StopsAtToken, StopsAtEnd, NoGameIfRefused, ReadsNoGame, NextStops, AfterNext, NextSoFar}
+use Rattle.pgn_game.proofs.tokens.OneMoreToken.{first_passes, goes_on, read-passes, read-refuses, stops_from, torn-none, gains_none, gains_more, stops_more, games_still, none_refused_still, counts_still}
+use Rattle.pgn_game.proofs.tokens.AcceptedToConverter.{still_none-none}
+use Rattle.pgn_game.proofs.tokens.StepsInPiece.{decided_at_end, stands_before_any}
+use Rattle.pgn_game.proofs.tokens.GamesInPiece.{behind_first}
+use Rattle.pgn_game.proofs.tokens.StepsAtEnd.{let_go}
+use Rattle.pgn_game.proofs.tokens.LastTokens.{AddsOne, left_games}
+use Rattle.pgn_game.proofs.tokens.WholeInput.{keeps_consumed}
+
+-- ---- the text of a game
+
+none_or_some : (o : Option Fault) (f : Fault) → o ≡ Some f → o ≡ None → ⊥
+none_or_some o f a b = cc
+
+-- tokens before those that pass do
+passes_before : (p : Profile) (ts us : List Token) → (read p (ts ++ us)).fault ≡ None → (read p ts).fault ≡ None
+passes_before p ts us passes = by_fault (read p ts).fault refl
+  where
+    by_fault : (o : Option Fault) → (read p ts).fault ≡ o → (read p ts).fault ≡ None
+    by_fault None is = is
+    by_fault (Some f) is =
+        absurd (none_or_some _ f (ap (λ (r : Read). r.fault) (stops_from p no_progress ts us f is) ∙ is) passes)
+
+-- between games all that is due is the text of games
+due_between : (p : Profile) (b : Progress) → b.part ≡ no_part → written p b ≡ text_of p b.games
+due_between p b none =
+    ap (λ part. written p (record { games = b.games; part = part })) none
+    ∙ ap (λ l. text_of p b.games ++ l) (torn-none p.missing_result p.mode) ∙ append-nil (text_of p b.games)
+
+not_one_more : (gs : List Game) (g : Game) → gs ≡ gs ++ g ∷ [] → ⊥
+not_one_more gs g e = absurd (omega (arith, ap (length {A = Game}) e, length-append gs (g ∷ [])))
+
+-- the token that finishes a game leaves no part of one
+none_behind : (p : Profile) (ts : List Token) (t : Token) (g : Game) → (read p (ts ++ t ∷ [])).fault ≡ None
+    → (read p (ts ++ t ∷ [])).progress.games ≡ (read p ts).progress.games ++ g ∷ [] → (read p (ts ++ t ∷ [])).progress.part ≡ no_part
+none_behind p ts t g passes one = by_test (refusal p (read p ts).progress.part t.kind) refl
+  where
+    before : (read p ts).fault ≡ None
+    before = passes_before p ts (t ∷ []) passes
+
+    by_next : (nx : Next) → next (read p ts).progress.part t.kind ≡ nx → (read p (ts ++ t ∷ [])).progress ≡ progress_with (read p ts).progress.games nx
+        → (read p (ts ++ t ∷ [])).progress.part ≡ no_part
+    by_next (going part) is reads = absurd (not_one_more (read p ts).progress.games g (sym (ap (λ (b : Progress). b.games) reads) ∙ one))
+    by_next (whole h) is reads = ap (λ (b : Progress). b.part) reads
+
+    by_test : (o : Option Reason) → refusal p (read p ts).progress.part t.kind ≡ o → (read p (ts ++ t ∷ [])).progress.part ≡ no_part
+    by_test (Some reason) is =
+        absurd (none_or_some _ _ (ap (λ (r : Read). r.fault) (read-refuses p ts t [] reason before is)) passes)
+    by_test None is =
+        by_next (next (read p ts).progress.part t.kind) refl (ap (λ (r : Read). r.progress) (read-passes p ts t before is))
+
+-- ---- one call
+
+not_both : {b : Bool} → b ≡ true → b ≡ false → ⊥
+not_both h k = cc
+
+pub none_yet : (p : Profile) (u : List ℕ) (given : List Token) (left : Option (List ℕ)) (now : Games) (o : Option (List ℕ)) → HaveRead p left u now given
+    → now.converter.is_finished ≡ false → NextSoFar p u given left left now o o
+none_yet p u given left now o (within on) not_finished =
+    record {
+      more = [];
+      consumed = Consumes-nil left;
+      tokens = given;
+      reads_on = subst (λ xs. ReadsOn p xs now given) (sym (append-nil u)) on;
+      no_game = refl;
+      gains = gains_none p given o;
+    }
+none_yet p u given left now o (at_end all) not_finished = absurd (not_both all.finished not_finished)
+
+-- what a call at the end finds
+pub at_end_again : (p : Profile) (u : List ℕ) (given : List Token) (left : Option (List ℕ)) (now : Games) (new : Converter) (o : Option (List ℕ)) → HaveRead p left u now given
+    → now.converter.is_finished ≡ true → new ≡ record now.converter { just_finished = None } → NoGame p u given left left (games_of new now.unused) o o
+at_end_again p u given left now new o (within on) finished is = absurd (not_both finished on.not_finished)
+at_end_again p u given left now new o (at_end all) finished is =
+    let text : tokens_of (u ++ []) ≡ given = ap tokens_of (append-nil u) ∙ sym all.whole in
+    record {
+      more = [];
+      consumed = Consumes-nil left;
+      have_read_all = record {
+        at_end = all.at_end;
+        short = subst (λ xs. length xs ≤ 2 ^ 62) (sym (append-nil u)) all.short;
+        whole = refl;
+        has_read = subst (HasRead p new) (sym text) (subst (λ (s : Converter). HasRead p s given) (sym is) (let_go p now.converter given all.has_read));
+        finished = ap (λ (s : Converter). s.is_finished) is ∙ all.finished;
+      };
+      no_game = ap (λ ts. (read p ts).progress.games) text;
+      none_just_finished = ap (λ (s : Converter). s.just_finished) is;
+      gains = subst (λ ts. Gains p given ts o o) (sym text) (gains_none p given o);
+    }
+
+-- what was read of a front of the bytes not used is decided
+front_decided : (p : Profile) (u rest front : List ℕ) (given : List Token) → (front ≡ [] → given ≡ decided u) → (new : Converter) (a c : Option (List ℕ))
+    (fed : FedAll p u (first rest) given front new a c) → fed.tokens ≡ decided (u ++ front)
+front_decided p u rest [] given none new a c fed = fed.empty refl ∙ none refl ∙ ap decided (sym (append-nil u))
+front_decided p u rest (x ∷ xs) given none new a c fed = fed.decided (omega arith)
+
+-- the last of a list
+last_is : {A : Type 0} → (xs ys : List A) (x y : A) → xs ++ x ∷ [] ≡ ys ++ y ∷ [] → x ≡ y
+last_is [] [] x y e = cc
+last_is [] (z ∷ zs) x y e = absurd (omega (arith, ap length e, length-append zs (y ∷ [])))
+last_is (z ∷ zs) [] x y e = absurd (omega (arith, ap length e, length-append zs (x ∷ [])))
+last_is (z ∷ zs) (w ∷ ws) x y e = last_is zs ws x y (cc)
+
+not_true : IsTrue false → ⊥
+not_true h = absurd (cc)
+
+-- behind tokens that pass the rest is read from where they led
+reads_behind : (p : Profile) (b : Progress) (ts us : List Token) → (read_from p b ts).fault ≡ None → read_from p b (ts ++ us) ≡ read_from p (read_from p b ts).progress us
+reads_behind p b [] us e = refl
+reads_behind p b (t ∷ ts) us e =
+    let none = first_passes p b t ts e in
+    let here : read_from p b (t ∷ ts) ≡ read_from p (progress_after b t) ts = goes_on p b t ts none in
+    goes_on p b t (ts ++ us) none ∙ reads_behind p (progress_after b t) ts us (ap (λ (r : Read). r.fault) (sym here) ∙ e)
+    ∙ ap (λ (r : Read). read_from p r.progress us) (sym here)
+
+decided_before : (u piece : List ℕ) (ts : List Token) → IsDecided u [] ts → IsDecided u piece ts
+decided_before u piece ts (inl e) = inl e
+decided_before u piece ts (inr (b, e, k)) = absurd (cc)
+
+module _ (p : Profile) (u : List ℕ) (given : List Token) (left_old left : Option (List ℕ)) (now : Games) (a c : Option (List ℕ)) (so : NextSoFar p u given left_old left now a c)
+    (d : Option (List ℕ)) where
+  -- a game was finished
+  pub game_read : (new : Converter) (used : ℕ) → FedGame p so.reads_on.used so.tokens now.unused used new c d → new.is_finished ≡ false
+      → NextGame p u given left_old left (games_of new (drop used now.unused)) a d
+  game_read new used fed not_finished =
+      let ts = fed.tokens ++ fed.marker ∷ [] in
+      record {
+        more = so.more;
+        consumed = so.consumed;
+        tokens = ts;
+        have_read = within (record {
+          used = so.reads_on.used ++ take used now.unused;
+          bytes = so.reads_on.bytes ∙ ap (λ xs. so.reads_on.used ++ xs) (sym (take-append-drop used now.unused))
+              ∙ sym (append_assoc so.reads_on.used (take used now.unused) (drop used now.unused));
+          stands = fed.stands;
+          at_limit = fed.at_limit;
+          decided = fed.decided;
+          not_finished = not_finished;
+        });
+        game = fed.game;
+        one_game = fed.one_game ∙ ap (λ gs. gs ++ fed.game ∷ []) so.no_game;
+        just_finished = fed.just_finished;
+        whole = due_between p (read p ts).progress
+            (none_behind p fed.tokens fed.marker fed.game fed.stands.has_read.passes (fed.one_game ∙ ap (λ gs. gs ++ fed.game ∷ []) (sym fed.no_game)));
+        gains = gains_more p given so.tokens ts a c d so.gains fed.gains;
+      }
+
+  -- no game was finished
+  pub rest_read : (new : Converter) → FedAll p so.reads_on.used (first now.unused) so.tokens now.unused new c d → new.is_finished ≡ false
+      → NextSoFar p u given left_old left (games_of new []) a d
+  rest_read new fed not_finished =
+      let is = front_decided p so.reads_on.used now.unused now.unused so.tokens
+      (λ none. decided_at_end so.reads_on.used so.tokens (subst (λ xs. IsDecided so.reads_on.used xs so.tokens) none so.reads_on.decided)) new c d fed in
+      record {
+        more = so.more;
+        consumed = so.consumed;
+        tokens = fed.tokens;
+        reads_on = record {
+          used = so.reads_on.used ++ now.unused;
+          bytes = so.reads_on.bytes ∙ sym (append-nil (so.reads_on.used ++ now.unused));
+          stands = subst (λ n. Stands p new (so.reads_on.used ++ now.unused) n fed.tokens) (behind_first now.unused) fed.stands;
+          at_limit = λ h. is;
+          decided = inl is;
+          not_finished = not_finished;
+        };
+        no_game = fed.no_game ∙ so.no_game;
+        gains = gains_more p given so.tokens fed.tokens a c d so.gains fed.gains;
+      }
+
+  -- a token was rejected, a write failed, or the input is too long
+  pub rest_stops : (new : Converter) (f : Fault)
+      → StopsIn so.reads_on.used now.unused
+      (λ fault. FedToFault p so.reads_on.used (first now.unused) so.tokens now.unused fault new.reading.most_probes c d)
+      (λ front. (n : Converter) × FedAll p so.reads_on.used (first now.unused) so.tokens front n c d × (new.reading ≡ n.reading)) f
+      → NextStops p u given left_old left new.reading.most_probes a d f
+  rest_stops new f (at_token h to) =
+      games.at_token h so.more so.consumed (record {
+        tokens = to.fed.tokens;
+        next = subst (λ xs. AreNext xs None to.fed.tokens) (sym so.reads_on.bytes)
+            (subst (λ n. AreNext (so.reads_on.used ++ now.unused) n to.fed.tokens) (behind_first now.unused) to.fed.next);
+        stops = stops_more p given so.tokens to.fed.tokens h a c d so.gains to.fed.stops;
+        no_game = games_still p given so.tokens to.fed.tokens h a c d so.gains to.fed.stops ∙ to.no_game ∙ so.no_game;
+        counts = counts_still p given so.tokens to.fed.tokens h a c d so.gains to.fed.stops new.reading.most_probes to.counts;
+      })
+  rest_stops new f (too_long front rest cut place some (n, fed, same)) =
+      let full : front ≡ [] → so.tokens ≡ decided so.reads_on.used =
+      λ none. so.reads_on.at_limit (ap (length {A = ℕ}) (sym (ap (λ xs. so.reads_on.used ++ xs) none ∙ append-nil so.reads_on.used)) ∙ place) in
+      games.too_long so.more (so.reads_on.used ++ front) rest so.consumed
+      (so.reads_on.bytes ∙ ap (λ xs. so.reads_on.used ++ xs) cut ∙ sym (append_assoc so.reads_on.used front rest)) place some (record {
+        reads = record {
+          tokens = fed.tokens;
+          decided = front_decided p so.reads_on.used now.unused front so.tokens full n c d fed;
+          passes = fed.stands.has_read.passes;
+          gains = gains_more p given so.tokens fed.tokens a c d so.gains fed.gains;
+        };
+        no_game = fed.no_game ∙ so.no_game;
+      })
+
+-- all bytes read are used
+module _ (p : Profile) (u : List ℕ) (given : List Token) (left_old left left_new : Option (List ℕ)) (now : Converter) (a c : Option (List ℕ))
+    (so : NextSoFar p u given left_old left (games_of now []) a c) where
+  all_used : u ++ so.more ≡ so.reads_on.used
+  all_used = so.reads_on.bytes ∙ append-nil so.reads_on.used
+
+  -- more bytes were read
+  pub filled : (piece : List ℕ) → Consumes left left_new piece → NextSoFar p u given left_old left_new (games_of now piece) a c
+  filled piece consumed =
+      record {
+        more = so.more ++ piece;
+        consumed = Consumes-trans left_old left left_new so.more piece so.consumed consumed;
+        tokens = so.tokens;
+        reads_on = record {
+          used = so.reads_on.used;
+          bytes = sym (append_assoc u so.more piece) ∙ ap (λ xs. xs ++ piece) all_used;
+          stands = stands_before_any p now so.reads_on.used (first piece) so.tokens so.reads_on.stands;
+          at_limit = so.reads_on.at_limit;
+          decided = decided_before so.reads_on.used piece so.tokens so.reads_on.decided;
+          not_finished = so.reads_on.not_finished;
+        };
+        no_game = so.no_game;
+        gains = so.gains;
+      }
+
+  -- a read failed
+  pub unread : (f : Fault) (most : ℕ) → Keeps left left_new → f ≡ record { at = now.lexer.count; reason = ReadFault } → NextStops p u given left_old left_new most a c f
+  unread f most keeps is =
+      let place : now.lexer.count ≡ length (u ++ so.more) = so.reads_on.stands.lexer.count ∙ ap (length {A = ℕ}) (sym all_used) in
+      subst (NextStops p u given left_old left_new most a c) (sym (is ∙ ap (λ n. record { at = n; reason = ReadFault }) place))
+      (games.unread so.more (keeps_consumed left_old left left_new so.more so.consumed keeps) (record {
+        reads = record {
+          tokens = so.tokens;
+          decided = decided_at_end so.reads_on.used so.tokens so.reads_on.decided ∙ ap decided (sym all_used);
+          passes = so.reads_on.stands.has_read.passes;
+          gains = so.gains;
+        };
+        no_game = so.no_game;
+      }))
+
+  -- the source has ended
+  module _ (consumed : Consumes left left_new []) (end : IsAtEnd left_new) (new : Converter) (d : Option (List ℕ)) where
+    all : Consumes left_old left_new so.more
+    all = subst (Consumes left_old left_new) (append-nil so.more) (Consumes-trans left_old left left_new so.more [] so.consumed consumed)
+
+    adds : AddsOne (read p so.tokens).progress.games (read p (tokens_of so.reads_on.used))
+    adds =
+        let left_over : tokens_of so.reads_on.used ≡ so.tokens ++ coming now.lexer [] =
+        ap tokens_of (sym (append-nil so.reads_on.used)) ∙ so.reads_on.stands.lexer.tokens [] tt in
+        let reads = ap (read p) left_over ∙ reads_behind p no_progress so.tokens (coming now.lexer []) so.reads_on.stands.has_read.passes in
+        subst (AddsOne (read p so.tokens).progress.games) (sym reads) (left_games p (read p so.tokens).progress now.lexer)
+
+    ended : (is_game : Bool) → Finishes p so.reads_on.used so.tokens new is_game c d → new.is_finished ≡ true → now.lexer.count ≤ 2 ^ 62
+        → AfterNext p u given left_old left_new (games_of new []) (Ok is_game) a d
+    ended is_game fed finished few = by_game is_game refl adds
+      where
+        ts : List Token
+        ts = tokens_of (u ++ so.more)
+
+        text : tokens_of so.reads_on.used ≡ tokens_of (u ++ so.more)
+        text = ap tokens_of (sym all_used)
+
+        read_all : HasReadAll p left_new (u ++ so.more) (games_of new []) (tokens_of (u ++ so.more))
+        read_all =
+            record {
+              at_end = end;
+              short = omega (arith, so.reads_on.stands.lexer.count, few, ap (length {A = ℕ}) all_used);
+              whole = refl;
+              has_read = subst (HasRead p new) text fed.has_read;
+              finished = finished;
+            }
+
+        gains : Gains p given (tokens_of (u ++ so.more)) a d
+        gains = subst (λ ts. Gains p given ts a d) text (gains_more p given so.tokens (tokens_of so.reads_on.used) a c d so.gains fed.gains)
+
+        none : (flag : Bool) → is_game ≡ flag → flag ≡ false → (read p (tokens_of so.reads_on.used)).progress.games ≡ (read p so.tokens).progress.games
+            → NoGame p u given left_old left_new (games_of new []) a d
+        none flag is ends same =
+            record {
+              more = so.more;
+              consumed = all;
+              have_read_all = read_all;
+              no_game = ap (λ ts. (read p ts).progress.games) (sym text) ∙ same ∙ so.no_game;
+              none_just_finished = fed.none_just_finished (is ∙ ends);
+              gains = gains;
+            }
+
+        one : (g : Game) → (read p (tokens_of so.reads_on.used)).progress ≡ record { games = (read p so.tokens).progress.games ++ g ∷ []; part = no_part }
+            → is_game ≡ true → NextGame p u given left_old left_new (games_of new []) a d
+        one g adds_one is =
+            let finished_game = fed.just_finished is in
+            let last = subst (λ o. IsLast o (read p (tokens_of so.reads_on.used)).progress.games) finished_game.1 fed.has_read.just_finished in
+            let same : last.1 ≡ g = last_is last.0 (read p so.tokens).progress.games last.1 g (sym last.2 ∙ ap (λ (b : Progress). b.games) adds_one) in
+            let progress : (read p (tokens_of (u ++ so.more))).progress ≡ record { games = (read p so.tokens).progress.games ++ g ∷ []; part = no_part } =
+            ap (λ ts. (read p ts).progress) (sym text) ∙ adds_one in
+            record {
+              more = so.more;
+              consumed = all;
+              tokens = tokens_of (u ++ so.more);
+              have_read = at_end read_all;
+              game = g;
+              one_game = ap (λ (b : Progress). b.games) progress ∙ ap (λ gs. gs ++ g ∷ []) so.no_game;
+              just_finished = finished_game.1 ∙ ap (λ h. Some h) (last.3 ∙ ap finished_game_of same);
+              whole = due_between p (read p (tokens_of (u ++ so.more))).progress (ap (λ (b : Progress). b.part) progress);
+              gains = gains;
+            }
+
+        by_game : (flag : Bool) → is_game ≡ flag → AddsOne (read p so.tokens).progress.games (read p (tokens_of so.reads_on.used))
+            → AfterNext p u given left_old left_new (games_of new []) (Ok flag) a d
+        by_game false is (inl same) = none false is refl same
+        by_game false is (inr (passes, (g, more))) =
+            absurd (not_true (subst (λ b. IsTrue b) is
+            (fed.game.1 (omega (arith, ap (λ (b : Progress). length b.games) more, length-append (read p so.tokens).progress.games (g ∷ []))))))
+        by_game true is (inl same) =
+            absurd (omega (arith, fed.game.0 (subst (λ b. IsTrue b) (sym is) (cc)), ap (length {A = Game}) same))
+        by_game true is (inr (passes, (g, more))) = one g more is
+
+    ended_at_fault : (f : Fault) → FinishesToFault p so.reads_on.used so.tokens new f c d
+        → NextStops p u given left_old left_new new.reading.most_probes a d f
+    ended_at_fault f fed =
+        games.at_end f so.more all end (subst (λ xs. StopsAtEnd p xs given new.reading.most_probes f a d) (sym all_used) (record {
+          stops = stops_more p given so.tokens (tokens_of so.reads_on.used) f a c d so.gains fed.stops;
+          no_game = none_refused_still p given so.tokens (tokens_of so.reads_on.used) f a c d so.gains fed.stops so.no_game (none_before fed.stops);
+          counts = counts_still p given so.tokens (tokens_of so.reads_on.used) f a c d so.gains fed.stops new.reading.most_probes fed.counts;
+        }))
+      where
+        none_before : {h : Fault} (stops : Stops p so.tokens (tokens_of so.reads_on.used) c d h) → NoGameIfRefused stops
+        none_before (unwritten at writing) = tt
+        none_before (refused h fault gains) = by_games adds
+          where
+            by_games : AddsOne (read p so.tokens).progress.games (read p (tokens_of so.reads_on.used))
+                → (read p (tokens_of so.reads_on.used)).progress.games ≡ (read p so.tokens).progress.games
+            by_games (inl same) = same
+            by_games (inr (passes, more)) = absurd (none_or_some _ h fault passes)
+
+    pub finished : (r : Result Bool Fault) → AfterFinish p so.reads_on.used so.tokens new r c d → new.is_finished ≡ is_ok r → now.lexer.count ≤ 2 ^ 62
+        → AfterNext p u given left_old left_new (games_of new []) r a d
+    finished (Ok is_game) fed ends few = ended is_game fed ends few
+    finished (Err f) fed ends few = ended_at_fault f fed

@@ -1,0 +1,204 @@
+-- **Definition**: what a contract sees of `Games`, and what each call does to them.
+-- Letters: p is the profile, f a fault, u the bytes that the source has given so far, `more` those
+-- that it gives during a call. `given` are the tokens read so far. `left` are the bytes that the
+-- source has left, if it reports them; `left_old` and `left_new` are these before a call and after
+-- it. `source` and `sink` are the devices before a call and after it, `before` and `after` the
+-- bytes that the sink has taken.
+use Rattle.std.specs.Prelude.{◌≡◌, ℕ, ◌+◌, ◌-◌, ◌^◌, ◌<◌, ◌≤◌, Bool, true, false, List, [], ◌∷◌, ◌++◌, length, drop, Option, None, Some, Result, Ok, Err}
+use Rattle.std.specs.Io.KnownBytes.{Consumes, IsAtEnd, Keeps}
+use Rattle.pgn_layout.specs.Device.{Device, IsStill}
+use Rattle.pgn_lexer.specs.Tokens.{Token}
+use Rattle.pgn_lexer.specs.TokensOf.{tokens_of}
+use Rattle.pgn_lexer.specs.Decided.{decided}
+use Rattle.pgn_lexer.specs.Stands.{IsDecided, first}
+use Rattle.pgn_game.specs.declared.reason.Reason.TheVariants.{ReadFault, InputTooLong}
+use Rattle.pgn_game.specs.declared.reason.Fault.{Fault}
+use Rattle.pgn_game.specs.declared.source.ReadFailed.{ReadFailed}
+use Rattle.pgn_game.specs.declared.converter.Fed.TheVariants.{All, Game as GameEnd}
+use Rattle.pgn_game.specs.Profile.{Profile}
+use Rattle.pgn_game.specs.Game.{Game}
+use Rattle.pgn_game.specs.Text.{text_of}
+use Rattle.pgn_game.specs.Progress.{read, due}
+use Rattle.pgn_game.specs.Due.{Gains}
+use Rattle.pgn_game.specs.ConverterCalls.{Converter, finished_game_of, HasRead, Stands, AreNext, Stops, refused, unwritten, games_before, ProbesAtStop, ReadsUpTo, Feeds}
+use Rattle.pgn_game.specs.Conversion.{CountsDevices}
+
+-- ---- what was read so far
+
+-- the converter, and the bytes that were read and are not used yet
+pub record Games : Type 0 where
+  pub converter : Converter
+  pub unused : List ℕ
+
+abbrev pub games_of : Converter → List ℕ → Games
+games_of converter unused = record { converter = converter; unused = unused }
+
+-- The converter stands after the bytes `used`, and the other bytes that the source gave are not
+-- used yet. The tokens read are those that are decided then.
+pub record ReadsOn (p : Profile) (u : List ℕ) (games : Games) (given : List Token) : Type 0 where
+  pub used : List ℕ
+  pub bytes : u ≡ used ++ games.unused
+  pub stands : Stands p games.converter used (first games.unused) given
+  pub at_limit : length used ≡ 2 ^ 62 → given ≡ decided used
+  pub decided : IsDecided used games.unused given
+  pub not_finished : games.converter.is_finished ≡ false
+
+-- The source is at its end, so u is the whole text, and all its tokens were read.
+pub record HasReadAll (p : Profile) (left : Option (List ℕ)) (u : List ℕ) (games : Games) (given : List Token) : Type 0 where
+  pub at_end : IsAtEnd left
+  pub short : length u ≤ 2 ^ 62
+  pub whole : given ≡ tokens_of u
+  pub has_read : HasRead p games.converter given
+  pub finished : games.converter.is_finished ≡ true
+
+-- The source has given the bytes u, and of these the tokens `given` were read: none is rejected,
+-- and the converter is what they lead to.
+pub data HaveRead (p : Profile) (left : Option (List ℕ)) (u : List ℕ) (games : Games) (given : List Token) : Type 0 where
+  within : ReadsOn p u games given → HaveRead p left u games given
+  at_end : HasReadAll p left u games given → HaveRead p left u games given
+
+-- What all calls so far have read and written together: what is due for the tokens read.
+pub record ReadSoFar (p : Profile) (left_old left_now : Option (List ℕ)) (now : Games) (before after : Option (List ℕ)) : Type 0 where
+  pub bytes : List ℕ
+  pub tokens : List Token
+  pub consumed : Consumes left_old left_now bytes
+  pub have_read : HaveRead p left_now bytes now tokens
+  pub gains : Gains p [] tokens before after
+
+-- ---- what a call of `next` does
+
+-- A game more was read. All its text is written, and nothing of a game after it.
+pub record NextGame (p : Profile) (u : List ℕ) (given : List Token) (left_old left_new : Option (List ℕ)) (new : Games) (before after : Option (List ℕ)) : Type 0 where
+  pub more : List ℕ
+  pub consumed : Consumes left_old left_new more
+  pub tokens : List Token
+  pub have_read : HaveRead p left_new (u ++ more) new tokens
+  pub game : Game
+  pub one_game : (read p tokens).progress.games ≡ (read p given).progress.games ++ game ∷ []
+  pub just_finished : new.converter.just_finished ≡ Some (finished_game_of game)
+  pub whole : due p tokens ≡ text_of p (read p tokens).progress.games
+  pub gains : Gains p given tokens before after
+
+-- The source has ended, and no game was left.
+pub record NoGame (p : Profile) (u : List ℕ) (given : List Token) (left_old left_new : Option (List ℕ)) (new : Games) (before after : Option (List ℕ)) : Type 0 where
+  pub more : List ℕ
+  pub consumed : Consumes left_old left_new more
+  pub have_read_all : HasReadAll p left_new (u ++ more) new (tokens_of (u ++ more))
+  pub no_game : (read p (tokens_of (u ++ more))).progress.games ≡ (read p given).progress.games
+  pub none_just_finished : new.converter.just_finished ≡ None
+  pub gains : Gains p given (tokens_of (u ++ more)) before after
+
+-- A token that the bytes so far decide is rejected, or a write failed. No game was finished before.
+pub record StopsAtToken (p : Profile) (u : List ℕ) (given : List Token) (most : ℕ) (f : Fault) (before after : Option (List ℕ)) : Type 0 where
+  pub tokens : List Token
+  pub next : AreNext u None tokens
+  pub stops : Stops p given tokens before after f
+  pub no_game : games_before stops ≡ (read p given).progress.games
+  pub counts : ProbesAtStop stops most
+
+-- no game was finished before a token that is rejected
+abbrev pub NoGameIfRefused : {p : Profile} {given tokens : List Token} {before after : Option (List ℕ)} {f : Fault} → Stops p given tokens before after f → Type 0
+NoGameIfRefused {p} {given} {tokens} (refused f fault gains) = (read p tokens).progress.games ≡ (read p given).progress.games
+NoGameIfRefused {p} (unwritten at writing) = Unit {0}
+
+-- The same at the end of the text u.
+pub record StopsAtEnd (p : Profile) (u : List ℕ) (given : List Token) (most : ℕ) (f : Fault) (before after : Option (List ℕ)) : Type 0 where
+  pub stops : Stops p given (tokens_of u) before after f
+  pub no_game : NoGameIfRefused stops
+  pub counts : ProbesAtStop stops most
+
+-- All tokens that the bytes u decide were read, none is rejected, none finished a game, and what
+-- they gain was written.
+pub record ReadsNoGame (p : Profile) (given : List Token) (u : List ℕ) (before after : Option (List ℕ)) : Type 0 where
+  pub reads : ReadsUpTo p given u before after
+  pub no_game : (read p reads.tokens).progress.games ≡ (read p given).progress.games
+
+-- How a call stops: at a token; at the end of the text; because a read failed; or since the byte at
+-- place 2^62 came.
+pub data NextStops (p : Profile) (u : List ℕ) (given : List Token) (left_old left_new : Option (List ℕ)) (most : ℕ) (before after : Option (List ℕ)) : Fault → Type 0 where
+  at_token : (f : Fault) (more : List ℕ) → Consumes left_old left_new more → StopsAtToken p (u ++ more) given most f before after
+      → NextStops p u given left_old left_new most before after f
+  at_end : (f : Fault) (more : List ℕ) → Consumes left_old left_new more → IsAtEnd left_new → StopsAtEnd p (u ++ more) given most f before after
+      → NextStops p u given left_old left_new most before after f
+  unread : (more : List ℕ) → Consumes left_old left_new more → ReadsNoGame p given (u ++ more) before after
+      → NextStops p u given left_old left_new most before after (record { at = length (u ++ more); reason = ReadFault })
+  too_long : (more front rest : List ℕ) → Consumes left_old left_new more → u ++ more ≡ front ++ rest → length front ≡ 2 ^ 62 → 0 < length rest
+      → ReadsNoGame p given front before after
+      → NextStops p u given left_old left_new most before after (record { at = 2 ^ 62; reason = InputTooLong })
+
+abbrev pub AfterNext : Profile → List ℕ → List Token → Option (List ℕ) → Option (List ℕ) → Games → Result Bool Fault → Option (List ℕ) → Option (List ℕ) → Type 0
+AfterNext p u given left_old left_new new (Ok true) before after = NextGame p u given left_old left_new new before after
+AfterNext p u given left_old left_new new (Ok false) before after = NoGame p u given left_old left_new new before after
+AfterNext p u given left_old left_new new (Err f) before after = NextStops p u given left_old left_new new.converter.reading.most_probes before after f
+
+-- What `next` does to games that have read any bytes of the source.
+abbrev pub ReadsNext : Games → Games → Result Bool Fault → Device → Device → Type 0
+ReadsNext old new result source sink =
+    (p : Profile) (u : List ℕ) (given : List Token) → HaveRead p source.before u old given
+    → AfterNext p u given source.before source.after new result sink.before sink.after
+
+-- Behind the end each call finds it again, and touches neither device; no game is just finished.
+abbrev pub NextAtEnd : {R W : Type 0} → Games → Games → Result Bool Fault → R → R → W → W → Type 0
+NextAtEnd old new result source_old source_new out_old out_new =
+    old.converter.fault ≡ None → old.converter.is_finished ≡ true
+    → (result ≡ Ok false) × (new ≡ games_of (record old.converter { just_finished = None }) old.unused) × (source_new ≡ source_old) × (out_new ≡ out_old)
+
+-- After a fault each call returns it again, and nothing changes.
+abbrev pub NextAgain : {R W : Type 0} → Games → Games → Result Bool Fault → R → R → W → W → Type 0
+NextAgain old new result source_old source_new out_old out_new =
+    (f : Fault) → old.converter.fault ≡ Some f
+    → (result ≡ Err f) × (new ≡ old) × (source_new ≡ source_old) × (out_new ≡ out_old)
+
+-- ReadFault is returned if the source counts one failure more, WriteFault if the sink does, and
+-- otherwise neither counts one.
+abbrev pub CountsNext : Result Bool Fault → Device → Device → Type 0
+CountsNext (Ok is_game) source sink = IsStill source × IsStill sink
+CountsNext (Err f) source sink = CountsDevices f.reason source.failures source.failures_after sink.failures sink.failures_after
+
+-- A bound on the games that are still to come: each game lowers it.
+abbrev pub most_left_behind : Bool → ℕ → ℕ
+most_left_behind true games = 0
+most_left_behind false games = 1 + (2 ^ 64 - games)
+
+abbrev pub most_left : Games → ℕ
+most_left games = most_left_behind games.converter.is_finished games.converter.games
+
+-- ---- the parts of a call
+
+-- what a read puts into the buffer
+abbrev pub FillResult : Option (List ℕ) → Option (List ℕ) → List ℕ → Result Bool ReadFailed → Type 0
+FillResult left_old left_new new (Ok true) = (0 < length new) × Consumes left_old left_new new
+FillResult left_old left_new new (Ok false) = (new ≡ []) × Consumes left_old left_new [] × IsAtEnd left_new
+FillResult left_old left_new new (Err failed) = Keeps left_old left_new
+
+-- the same for a converter: a failed read is its fault
+abbrev pub MoreResult : Option (List ℕ) → Option (List ℕ) → Converter → Converter → List ℕ → Result Bool Fault → Type 0
+MoreResult left_old left_new old new unused (Ok true) = (new ≡ old) × (0 < length unused) × Consumes left_old left_new unused
+MoreResult left_old left_new old new unused (Ok false) = (new ≡ old) × (unused ≡ []) × Consumes left_old left_new [] × IsAtEnd left_new
+MoreResult left_old left_new old new unused (Err f) = (f ≡ record { at = old.lexer.count; reason = ReadFault }) × (new.reading ≡ old.reading) × Keeps left_old left_new
+
+-- The bytes not used yet are fed: up to the end of a game, or all.
+abbrev pub RestResult : Games → Games → Result Bool Fault → Device → Type 0
+RestResult old new (Ok true) sink = (used : ℕ) × (new.unused ≡ drop used old.unused) × Feeds old.converter old.unused new.converter (Ok (GameEnd used)) sink
+RestResult old new (Ok false) sink = (new.unused ≡ []) × Feeds old.converter old.unused new.converter (Ok All) sink
+RestResult old new (Err f) sink = Feeds old.converter old.unused new.converter (Err f) sink
+
+-- a game more is counted, or none
+abbrev pub CountsGame : Games → Games → Result Bool Fault → Type 0
+CountsGame old new (Ok true) = (new.converter.games ≡ old.converter.games + 1) × (old.converter.games < 2 ^ 64)
+CountsGame old new (Ok false) = new.converter.lexer.count ≡ old.converter.lexer.count + length old.unused
+CountsGame old new (Err f) = Unit {0}
+
+-- What was read since the call began: no game was finished by it.
+pub record NextSoFar (p : Profile) (u : List ℕ) (given : List Token) (left_old left_now : Option (List ℕ)) (now : Games) (before after : Option (List ℕ)) : Type 0 where
+  pub more : List ℕ
+  pub consumed : Consumes left_old left_now more
+  pub tokens : List Token
+  pub reads_on : ReadsOn p (u ++ more) now tokens
+  pub no_game : (read p tokens).progress.games ≡ (read p given).progress.games
+  pub gains : Gains p given tokens before after
+
+abbrev pub ReadsSoFar : Games → Games → Device → Device → Type 0
+ReadsSoFar old now source sink =
+    (p : Profile) (u : List ℕ) (given : List Token) → HaveRead p source.before u old given
+    → NextSoFar p u given source.before source.after now sink.before sink.after
