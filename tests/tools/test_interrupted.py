@@ -11,7 +11,8 @@ sys.path.insert(0, os.path.dirname(os.path.realpath(__file__)))
 from programs import need, need_program, run
 
 # Interrupts one call of read or write, or each first opening of a file: CALL is its name, AT its
-# number from 1. MET is made when it is interrupted. Only calls on files and pipes of the test count.
+# number from 1. MET is made when it is interrupted. Only calls on files and pipes of the test
+# count.
 SOURCE = r"""
 #define _GNU_SOURCE
 #include <dlfcn.h>

@@ -1,5 +1,5 @@
--- Where a converter or one of two readings fits in memory, its reader does; and where games fit, their
--- converter does.
+-- Where a converter or one of two readings fits in memory, its reader does; and where games fit,
+-- their converter does.
 use Rattle.std.proofs.Common.{rules, arith, ℕ, ◌+◌, ◌<◌, ◌≤◌}
 use prog.Memory.{up}
 use Rattle.std.specs.Mem.{FitsInMemory}

@@ -1,8 +1,9 @@
 //! Games of Portable Game Notation, from bytes to bytes.
 //!
-//! [`convert`] reads games from a [`Source`] and writes their export format to a [`Sink`]. [`Games`]
-//! do it one game at a time, and a [`Converter`] in pieces of any length. [`convert_checked`] reads
-//! its input twice, so that a missing Result takes the marker. No call allocates.
+//! [`convert`] reads games from a [`Source`] and writes their export format to a [`Sink`].
+//! [`Games`] does it one game at a time, and a [`Converter`] in pieces of any length.
+//! [`convert_checked`] reads its input twice, so that a missing Result takes the marker. No call
+//! allocates.
 #![tactic(auto)]
 
 mod accepted;
