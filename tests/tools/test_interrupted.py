@@ -10,9 +10,8 @@ import unittest
 sys.path.insert(0, os.path.dirname(os.path.realpath(__file__)))
 from programs import need, need_program, run
 
-# Interrupts one call of read or write, or each first opening of a file: CALL is its name, AT its
-# number from 1. MET is made when it is interrupted. Only calls on files and pipes of the test
-# count.
+# Interrupts one call of read, of write, or of open for a file of games: CALL is its name, AT its
+# number from 1. The file MET is made when that happens. Standard error is left alone.
 SOURCE = r"""
 #define _GNU_SOURCE
 #include <dlfcn.h>
