@@ -13,7 +13,6 @@ mod conversion;
 mod converter;
 mod find;
 mod games;
-mod item;
 pub mod laws;
 mod levels;
 mod marker;
