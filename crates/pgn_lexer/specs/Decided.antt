@@ -1,6 +1,6 @@
 -- **Definition**: the tokens of a text that no byte after it changes.
 -- In `decided` and `known`, u is the text so far, and b the byte after it.
-use Rattle.std.specs.Prelude.{ℕ, Bool, true, false, ◌&&◌, List, [], ◌∷◌, ◌++◌, ◌==◌, nat_lt, length, bytes_eq, take_while}
+use Rattle.std.specs.Prelude.{ℕ, Bool, true, false, ◌&&◌, List, [], ◌∷◌, ◌++◌, ◌==◌, nat_lt, length, bytes_eq, take_while, codes}
 use Rattle.pgn_lexer.specs.declared.token.LexReason.{LexReason}
 use Rattle.pgn_lexer.specs.declared.token.LexReason.TheVariants.{StrayByte, ControlByte, Reserved, SymbolTooLong, StringTooLong, WordTooLong, LoneDollar, GlyphRange, BadSuffix, BraceInLineComment, UnclosedString, UnclosedComment}
 use Rattle.pgn_lexer.specs.Tokens.{Kind, Token, left_bracket, right_bracket, left_paren, right_paren, period, asterisk, symbol, str, glyph, comment_open, word, comment_close, end, refused}
@@ -55,9 +55,9 @@ common (t ∷ ts) (u ∷ us) = elim (same_token t u) [ true ↦ t ∷ common ts 
 abbrev pub decided : List ℕ → List Token
 decided u =
     common (tokens_of u) (
-    common (tokens_of (u ++ 49 ∷ [])) (
-    common (tokens_of (u ++ 33 ∷ [])) (
-    common (tokens_of (u ++ 34 ∷ 34 ∷ [])) (
+    common (tokens_of (u ++ codes "1")) (
+    common (tokens_of (u ++ codes "!")) (
+    common (tokens_of (u ++ codes "\"\"")) (
     common (tokens_of (u ++ 191 ∷ [])) (tokens_of (u ++ 187 ∷ 191 ∷ []))))))
 
 -- the tokens that u and the byte b after it decide, without those that begin at b or later

@@ -41,8 +41,8 @@ is_plain b = not (is_barred b || is_escaped b)
 pub data Data : List ℕ → List ℕ → List ℕ → Type 0 where
   no_data : (s : List ℕ) → Data [] [] s
   plain : (b : ℕ) (raw text s : List ℕ) → IsTrue (is_plain b) → Data raw text s → Data (b ∷ raw) (b ∷ text) s
-  escaped : (b : ℕ) (raw text s : List ℕ) → IsTrue (is_escaped b) → Data raw text s → Data (92 ∷ b ∷ raw) (b ∷ text) s
-  lone : (raw text s : List ℕ) → StopsAt is_escaped (raw ++ s) → Data raw text s → Data (92 ∷ raw) (92 ∷ text) s
+  escaped : (b : ℕ) (raw text s : List ℕ) → IsTrue (is_escaped b) → Data raw text s → Data (codes "\\" ++ b ∷ raw) (b ∷ text) s
+  lone : (raw text s : List ℕ) → StopsAt is_escaped (raw ++ s) → Data raw text s → Data (codes "\\" ++ raw) (codes "\\" ++ text) s
 
 -- the tokens of one byte (PGN 7): [ ] ( ) . *
 pub data IsSingle : ℕ → Kind → Type 0 where
@@ -67,8 +67,8 @@ pub data IsSuffix : List ℕ → ℕ → Type 0 where
 pub data SpellsToken : List ℕ → List ℕ → Kind → Type 0 where
   symbol : (b : ℕ) (run s : List ℕ) → IsTrue (starts_symbol b) → IsRun continues_symbol run s → length (b ∷ run) ≤ 255
       → SpellsToken (b ∷ run) s (tokens.symbol (b ∷ run))
-  string : (raw text s : List ℕ) → Data raw text (34 ∷ s) → length text ≤ 255 → SpellsToken (34 ∷ (raw ++ 34 ∷ [])) s (tokens.str text)
-  glyph : (d : ℕ) (ds s : List ℕ) → IsTrue (is_digit d) → IsRun is_digit ds s → number_of (d ∷ ds) ≤ 255 → SpellsToken (36 ∷ d ∷ ds) s (tokens.glyph (number_of (d ∷ ds)))
+  string : (raw text s : List ℕ) → Data raw text (codes "\"" ++ s) → length text ≤ 255 → SpellsToken (codes "\"" ++ raw ++ codes "\"") s (tokens.str text)
+  glyph : (d : ℕ) (ds s : List ℕ) → IsTrue (is_digit d) → IsRun is_digit ds s → number_of (d ∷ ds) ≤ 255 → SpellsToken (codes "$" ++ d ∷ ds) s (tokens.glyph (number_of (d ∷ ds)))
   suffix : (run s : List ℕ) (n : ℕ) → IsSuffix run n → StopsAt is_suffix s → SpellsToken run s (tokens.glyph n)
   single : (b : ℕ) (s : List ℕ) (k : Kind) → IsSingle b k → SpellsToken (b ∷ []) s k
 
@@ -87,12 +87,12 @@ pub data Refuses : List ℕ → ℕ → LexReason → Type 0 where
   long_symbol : (b : ℕ) (run s : List ℕ) → IsTrue (starts_symbol b) → IsRun continues_symbol run s → 255 < length (b ∷ run)
       → Refuses (b ∷ (run ++ s)) 0 SymbolTooLong
   long_string : (b : ℕ) (raw text s : List ℕ) → Data raw text (b ∷ s) → length text ≡ 255 → IsTrue (is_plain b || (b == 92))
-      → Refuses (34 ∷ (raw ++ b ∷ s)) 0 StringTooLong
+      → Refuses (codes "\"" ++ raw ++ b ∷ s) 0 StringTooLong
   control_in_string : (b : ℕ) (raw text s : List ℕ) → Data raw text (b ∷ s) → length text ≤ 255 → IsTrue (is_barred b) → IsFalse (is_line_end b)
-      → Refuses (34 ∷ (raw ++ b ∷ s)) (1 + length raw) ControlByte
-  open_string : (raw text s : List ℕ) → Data raw text s → length text ≤ 255 → IsAtLineEnd s → Refuses (34 ∷ (raw ++ s)) 0 UnclosedString
-  lone_dollar : (s : List ℕ) → StopsAt is_digit s → Refuses (36 ∷ s) 0 LoneDollar
-  large_glyph : (d : ℕ) (ds s : List ℕ) → IsTrue (is_digit d) → IsRun is_digit ds s → 255 < number_of (d ∷ ds) → Refuses (36 ∷ d ∷ (ds ++ s)) 0 GlyphRange
+      → Refuses (codes "\"" ++ raw ++ b ∷ s) (1 + length raw) ControlByte
+  open_string : (raw text s : List ℕ) → Data raw text s → length text ≤ 255 → IsAtLineEnd s → Refuses (codes "\"" ++ raw ++ s) 0 UnclosedString
+  lone_dollar : (s : List ℕ) → StopsAt is_digit s → Refuses (codes "$" ++ s) 0 LoneDollar
+  large_glyph : (d : ℕ) (ds s : List ℕ) → IsTrue (is_digit d) → IsRun is_digit ds s → 255 < number_of (d ∷ ds) → Refuses (codes "$" ++ d ∷ ds ++ s) 0 GlyphRange
   bad_suffix : (run s : List ℕ) → IsRun is_suffix run s → 2 < length run → Refuses (run ++ s) 0 BadSuffix
 
 -- What a byte is inside of. Outside strings and comments: whether it is in the first column. In a
@@ -107,15 +107,15 @@ pub data Cuts : Where → ℕ → List ℕ → List Token → Type 0 where
   space : (first : Bool) (at b : ℕ) (s : List ℕ) (ts : List Token) → IsTrue (is_space b) → Cuts (outside (is_line_end b)) (at + 1) s ts
       → Cuts (outside first) at (b ∷ s) ts
   escape_line : (at : ℕ) (run s : List ℕ) (ts : List Token) → IsRun (λ b. not (is_line_end b)) run s → Cuts (outside false) (at + 1 + length run) s ts
-      → Cuts (outside true) at (37 ∷ (run ++ s)) ts
-  stray_percent : (at : ℕ) (s : List ℕ) → Cuts (outside false) at (37 ∷ s) (record { at = at; kind = tokens.refused StrayByte } ∷ [])
+      → Cuts (outside true) at (codes "%" ++ run ++ s) ts
+  stray_percent : (at : ℕ) (s : List ℕ) → Cuts (outside false) at (codes "%" ++ s) (record { at = at; kind = tokens.refused StrayByte } ∷ [])
   token : (first : Bool) (at : ℕ) (run s : List ℕ) (k : Kind) (ts : List Token) → SpellsToken run s k → Cuts (outside false) (at + length run) s ts
       → Cuts (outside first) at (run ++ s) (record { at = at; kind = k } ∷ ts)
   refuses : (first : Bool) (at n : ℕ) (s : List ℕ) (r : LexReason) → Refuses s n r → Cuts (outside first) at s (record { at = at + n; kind = tokens.refused r } ∷ [])
   opens_brace : (first : Bool) (at : ℕ) (s : List ℕ) (ts : List Token) → Cuts (comment true) (at + 1) s ts
-      → Cuts (outside first) at (123 ∷ s) (record { at = at; kind = tokens.comment_open } ∷ ts)
+      → Cuts (outside first) at (codes "{" ++ s) (record { at = at; kind = tokens.comment_open } ∷ ts)
   opens_line : (first : Bool) (at : ℕ) (s : List ℕ) (ts : List Token) → Cuts (comment false) (at + 1) s ts
-      → Cuts (outside first) at (59 ∷ s) (record { at = at; kind = tokens.comment_open } ∷ ts)
+      → Cuts (outside first) at (codes ";" ++ s) (record { at = at; kind = tokens.comment_open } ∷ ts)
   open_at_end : (at : ℕ) → Cuts (comment true) at [] (record { at = at; kind = tokens.refused UnclosedComment } ∷ [])
   closed_at_end : (at : ℕ) → Cuts (comment false) at [] (record { at = at; kind = tokens.comment_close } ∷ record { at = at; kind = tokens.end } ∷ [])
   between_words : (braces : Bool) (at b : ℕ) (s : List ℕ) (ts : List Token) → IsTrue (is_space b) → IsTrue (braces || not (is_line_end b))
@@ -125,8 +125,8 @@ pub data Cuts : Where → ℕ → List ℕ → List Token → Type 0 where
   long_word : (braces : Bool) (at b : ℕ) (run s : List ℕ) → IsTrue (continues_word b) → IsRun continues_word run s → 79 < length (b ∷ run)
       → Cuts (comment braces) at (b ∷ (run ++ s)) (record { at = at; kind = tokens.refused WordTooLong } ∷ [])
   control_in_comment : (braces : Bool) (at b : ℕ) (s : List ℕ) → IsTrue (is_control b) → Cuts (comment braces) at (b ∷ s) (record { at = at; kind = tokens.refused ControlByte } ∷ [])
-  closes_brace : (at : ℕ) (s : List ℕ) (ts : List Token) → Cuts (outside false) (at + 1) s ts → Cuts (comment true) at (125 ∷ s) (record { at = at; kind = tokens.comment_close } ∷ ts)
-  brace_in_line : (at : ℕ) (s : List ℕ) → Cuts (comment false) at (125 ∷ s) (record { at = at; kind = tokens.refused BraceInLineComment } ∷ [])
+  closes_brace : (at : ℕ) (s : List ℕ) (ts : List Token) → Cuts (outside false) (at + 1) s ts → Cuts (comment true) at (codes "}" ++ s) (record { at = at; kind = tokens.comment_close } ∷ ts)
+  brace_in_line : (at : ℕ) (s : List ℕ) → Cuts (comment false) at (codes "}" ++ s) (record { at = at; kind = tokens.refused BraceInLineComment } ∷ [])
   closes_line : (at b : ℕ) (s : List ℕ) (ts : List Token) → IsTrue (is_line_end b) → Cuts (outside true) (at + 1) s ts
       → Cuts (comment false) at (b ∷ s) (record { at = at; kind = tokens.comment_close } ∷ ts)
 

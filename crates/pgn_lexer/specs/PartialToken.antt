@@ -1,8 +1,7 @@
 -- **Bookkeeping**: what a lexer holds of the current token, and the tokens that it still gives.
 -- Letters: h is what is held, s the bytes that come. `place` is the number of bytes used, `at` the
--- place of the current token, `text` its bytes so far. Bytes are numbers: 33 is `!`, 63 is `?`, and
--- 239 187 191 is the byte order mark EF BB BF.
-use Rattle.std.specs.Prelude.{◌≡◌, ℕ, ◌+◌, ◌<◌, ◌≤◌, true, false, List, [], ◌∷◌, ◌++◌, take_while, length}
+-- place of the current token, `text` its bytes so far. 239 187 191 is the byte order mark EF BB BF.
+use Rattle.std.specs.Prelude.{◌≡◌, ℕ, ◌+◌, ◌<◌, ◌≤◌, true, false, List, [], ◌∷◌, ◌++◌, take_while, length, codes}
 use Rattle.pgn_lexer.specs.declared.token.LexFault.{LexFault}
 use Rattle.pgn_lexer.specs.declared.token.LexReason.{LexReason}
 use Rattle.pgn_lexer.specs.declared.token.LexReason.TheVariants.{StrayByte}
@@ -45,14 +44,14 @@ abbrev pub with_front : List ℕ → Reading → Reading
 with_front text (closed more) = closed (text ++ more)
 with_front text (broken at reason) = broken at reason
 
--- the suffix so far: `!` is 33, `?` is 63
+-- the suffix so far
 abbrev pub spelling : SuffixRun → List ℕ
-spelling runs.Good = 33 ∷ []
-spelling runs.Poor = 63 ∷ []
-spelling runs.VeryGood = 33 ∷ 33 ∷ []
-spelling runs.VeryPoor = 63 ∷ 63 ∷ []
-spelling runs.Speculative = 33 ∷ 63 ∷ []
-spelling runs.Questionable = 63 ∷ 33 ∷ []
+spelling runs.Good = codes "!"
+spelling runs.Poor = codes "?"
+spelling runs.VeryGood = codes "!!"
+spelling runs.VeryPoor = codes "??"
+spelling runs.Speculative = codes "!?"
+spelling runs.Questionable = codes "?!"
 
 -- the tokens that come, if the bytes from the place on are s
 abbrev pub tokens_to_come_in : Mode → ℕ → ℕ → List ℕ → List ℕ → List Token

@@ -10,7 +10,7 @@ use Rattle.pgn_lexer.specs.Tokens.{Kind, Token}
 
 -- a datum of a string: a quote and a backslash have a backslash before them (PGN 7)
 abbrev pub escape_of : ℕ → List ℕ
-escape_of b = (if is_escaped b then 92 ∷ b ∷ [] else b ∷ [])
+escape_of b = (if is_escaped b then codes "\\" ++ b ∷ [] else b ∷ [])
 
 abbrev pub escaped : List ℕ → List ℕ
 escaped [] = []
@@ -26,8 +26,8 @@ written tokens.right_paren = codes ")"
 written tokens.period = codes "."
 written tokens.asterisk = codes "*"
 written (tokens.symbol text) = text
-written (tokens.str text) = 34 ∷ (escaped text ++ 34 ∷ [])
-written (tokens.glyph n) = 36 ∷ decimal n
+written (tokens.str text) = codes "\"" ++ escaped text ++ codes "\""
+written (tokens.glyph n) = codes "$" ++ decimal n
 written tokens.comment_open = codes "{"
 written (tokens.word text) = text
 written tokens.comment_close = codes "}"
