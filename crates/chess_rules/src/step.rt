@@ -33,19 +33,6 @@ pub(crate) fn last_rank(colour: Colour) -> u8
     }
 }
 
-// Whether a king, queen, rook, bishop or knight may go so. (FIDE Laws 3.1)
-fn is_piece_step(position: &Position, mv: &Move) -> bool
-    ensures { result ≡ spec.is_piece_step position.now mv.now }
-{
-    let board = position.board();
-    let side = position.side();
-    board.has_colour(mv.from, side)
-        && !board.has_piece(mv.from, side, Kind::Pawn)
-        && mv.promotion.is_none()
-        && !board.has_colour(mv.to, side)
-        && attacks(board, mv.from, mv.to)
-}
-
 // Whether a pawn of the side to move may go one square forward. (FIDE Laws 3.7.1)
 fn is_advance(position: &Position, mv: &Move) -> bool
     ensures { result ≡ spec.is_advance position.now mv.now }
@@ -109,24 +96,6 @@ fn promotion_fits(position: &Position, mv: &Move) -> bool
     ensures { result ≡ spec.promotion_fits position.now mv.now }
 {
     (mv.to.rank() == last_rank(position.side())) == mv.promotion.is_some()
-}
-
-// Whether a pawn of the side to move may go so, but for the promotion.
-fn is_pawn_way(position: &Position, mv: &Move) -> bool
-    ensures { result ≡ spec.is_pawn_way position.now mv.now }
-{
-    is_advance(position, mv) || is_double_step(position, mv) || is_pawn_capture(position, mv)
-}
-
-// Whether a pawn may go so, except for en passant. (FIDE Laws 3.7)
-fn is_pawn_step(position: &Position, mv: &Move) -> bool
-    ensures { result ≡ spec.is_pawn_step position.now mv.now }
-{
-    let board = position.board();
-    if !board.has_piece(mv.from, position.side(), Kind::Pawn) {
-        return false;
-    }
-    promotion_fits(position, mv) && is_pawn_way(position, mv)
 }
 
 // The square of the pawn that is taken in passing.
@@ -308,31 +277,6 @@ fn castle(position: &Position, mv: &Move, rook: u8, crossing: u8, board: &mut Bo
     );
 }
 
-// Makes the move on the position's board, if it is a step of the side to move.
-#[inline(always)]
-fn make_step(position: &Position, mv: &Move, board: &mut Board) -> bool
-    requires { board.old ≡ position.now.board }
-    ensures { spec.board_after position.now mv.now ≡ (if result then Some board.new else None) }
-{
-    if is_piece_step(position, mv) || is_pawn_step(position, mv) {
-        carry(position, mv, board);
-        return true;
-    }
-    if is_en_passant(position, mv) {
-        take_in_passing(position, mv, board);
-        return true;
-    }
-    if castles_short(position, mv) {
-        castle(position, mv, 7, 5, board);
-        return true;
-    }
-    if castles_long(position, mv) {
-        castle(position, mv, 0, 3, board);
-        return true;
-    }
-    false
-}
-
 // Whether the move is a pawn's advance by one or two squares. (FIDE Laws 3.7.1, 3.7.2)
 fn pawn_advances(position: &Position, mv: &Move) -> bool
     ensures { result ≡ ways.pawn_advances position.now mv.now }
@@ -427,7 +371,7 @@ pub(crate) fn is_plain(position: &Position, mv: &Move) -> bool
     !is_target(position.target(), mv.to) && !king_goes_far(position, mv)
 }
 
-// The board after en passant or castling.
+// The board after a step, of whatever kind. No rule is asked but that of en passant.
 //
 // All that writes to the board is inlined here. So the compiler sees that a test of legality writes
 // to nothing else, and drops it if nobody asks for the result.
@@ -437,7 +381,19 @@ fn rare_board(position: &Position, mv: &Move) -> Board
     ensures { spec.board_after position.now mv.now ≡ Some result }
 {
     let mut board = *position.board();
-    let _made = make_step(position, mv, &mut board);
+    if is_en_passant(position, mv) {
+        take_in_passing(position, mv, &mut board);
+        return board;
+    }
+    if !king_goes_far(position, mv) {
+        carry(position, mv, &mut board);
+        return board;
+    }
+    if mv.to.file() == 6 {
+        castle(position, mv, 7, 5, &mut board);
+        return board;
+    }
+    castle(position, mv, 0, 3, &mut board);
     board
 }
 

@@ -1,40 +1,28 @@
 -- What a piece attacks it reaches over empty squares, whatever its kind.
-use Rattle.std.proofs.Common.{◌≡◌, ℕ, zero, suc, ◌+◌, ◌<◌, ◌≤◌, Bool, true, false, not, ◌&&◌, ◌||◌, ◌⊎◌, inl, inr, refl, sym, ◌∙◌, ap, ap₂, subst, arith}
-use Rattle.std.specs.Prelude.{◌==◌, Option, None, Some, is_none, is_some, nat_le}
+use Rattle.std.proofs.Common.{◌≡◌, ℕ, ◌<◌, ◌≤◌, Bool, true, false, not, ◌&&◌, ◌||◌, ◌⊎◌, inl, inr, refl, sym, ◌∙◌, ap, ap₂, arith}
+use Rattle.std.specs.Prelude.{Option, None, Some, is_none, is_some, nat_le}
 use Rattle.std.specs.List.{list_any}
 use Rattle.std.proofs.lemmas.Bool.Decides.{nat_tests}
 use Rattle.chess_rules.specs.declared.piece.Colour.{Colour}
-use Rattle.chess_rules.specs.declared.piece.Colour.TheVariants.{White, Black}
 use Rattle.chess_rules.specs.declared.piece.Kind.{Kind}
 use Rattle.chess_rules.specs.declared.piece.Kind.TheVariants.{King, Queen, Rook, Bishop, Knight, Pawn}
 use Rattle.chess_rules.specs.declared.piece.Piece.{Piece}
-use Rattle.chess_rules.specs.Square.{Square, square, squares, gap, same_square, is_adjacent, is_jump, in_line, on_diagonal, strictly_between, between_on_rank, between_on_file, between_on_diagonal}
-use Rattle.chess_rules.specs.Board.{Board, at, is_empty, has_colour, same_colour, same_kind, kind_number}
+use Rattle.chess_rules.specs.Square.{Square, squares, gap, same_square, is_adjacent, is_jump, in_line, on_diagonal, strictly_between, between_on_rank, between_on_file, between_on_diagonal}
+use Rattle.chess_rules.specs.Board.{Board, at, is_empty, has_colour, same_colour, same_kind}
 use Rattle.chess_rules.specs.Attacks.{is_clear, is_ahead, kind_attacks, cell_attacks, attacks, is_attacked}
 use Rattle.chess_rules.specs.Reach.{is_aligned, is_in_view, may_attack, near_with, reaches, slides_with}
 use Rattle.chess_rules.proofs.squares.AllSquares.{split_or, or_first, or_second, first_true, second_true, both_true, all_squares, any_same, equal_from, implied}
 
 -- What a cell holds is determined.
 
-abbrev kind_at : ℕ → Kind
-kind_at zero = King
-kind_at (suc zero) = Queen
-kind_at (suc (suc zero)) = Rook
-kind_at (suc (suc (suc zero))) = Bishop
-kind_at (suc (suc (suc (suc zero)))) = Knight
-kind_at (suc (suc (suc (suc (suc n))))) = Pawn
-
-kind_at-number : (k : Kind) → kind_at (kind_number k) ≡ k
-kind_at-number k = grind (arith, nat_tests)
-
 pub kinds_same : (k l : Kind) → same_kind k l ≡ true → k ≡ l
-kinds_same k l h = sym (kind_at-number k) ∙ (ap kind_at (equal_from _ _ h) ∙ kind_at-number l)
+kinds_same k l h = grind (arith, nat_tests)
 
 pub colours_same : (c d : Colour) → same_colour c d ≡ true → c ≡ d
 colours_same c d h = grind (arith, nat_tests)
 
 pub squares_same : (s t : Square) → same_square s t ≡ true → s ≡ t
-squares_same s t h = ap₂ square (equal_from _ _ (first_true (s.file == t.file) _ h)) (equal_from _ _ (second_true (s.file == t.file) _ h))
+squares_same s t h = grind (arith, nat_tests)
 
 pub none_or_all : (c : Colour) (cell : Option Piece) → has_colour c cell ≡ true → is_none cell ≡ false
 none_or_all c cell h = grind (arith, nat_tests)
@@ -79,7 +67,7 @@ jump_clear b s t jump = clear_if b s t (λ u _ _ h. absurd (between_cases s u t 
     line h = grind (arith, nat_tests)
 
     on_cross : (u : Square) → between_on_diagonal s u t ≡ true → ⊥
-    on_cross u h = line (first_true (on_diagonal s t) (on_diagonal s u) (first_true (on_diagonal s t && on_diagonal s u) _ h))
+    on_cross u h = grind (arith, nat_tests)
 
 -- Squares side by side see one another.
 
@@ -121,48 +109,36 @@ unreached b s t out = grind (arith, nat_tests)
 and_no : (x : Bool) → (x && false) ≡ false
 and_no x = grind (arith, nat_tests)
 
-and_yes : (x : Bool) → (x && true) ≡ x
-and_yes x = grind (arith, nat_tests)
-
-or_no : (x : Bool) → (x || false) ≡ x
-or_no x = grind (arith, nat_tests)
-
 both_no : (x y : Bool) → ((x && false) || (y && false)) ≡ false
-both_no x y = rw (and_no x, and_no y) refl
+both_no x y = grind (arith, nat_tests)
 
 -- near it, or far
 abbrev near_or_far : Bool → Bool → Bool → Bool → Bool
 near_or_far near slide same first = (near && same) || ((slide && same) && first)
 
-near_alone : (x f : Bool) → near_or_far x false true f ≡ x
-near_alone x f = rw (and_yes x, or_no x) refl
-
-far_alone : (x f : Bool) → near_or_far false x true f ≡ (x && f)
-far_alone x f = rw (and_yes x) refl
-
 no_colour : (x y f : Bool) → false ≡ near_or_far x y false f
-no_colour x y f = rw (and_no x, and_no y) refl
+no_colour x y f = grind (arith, nat_tests)
 
 jumps : (j a p : Bool) → (((j && true) || (a && false)) || (p && false)) ≡ j
-jumps j a p = rw (and_yes j, and_no a, and_no p, or_no j, or_no j) refl
+jumps j a p = grind (arith, nat_tests)
 
 steps : (j a p : Bool) → (((j && false) || (a && true)) || (p && false)) ≡ a
-steps j a p = rw (and_no j, and_yes a, and_no p, or_no a) refl
+steps j a p = grind (arith, nat_tests)
 
 takes : (j a p : Bool) → (((j && false) || (a && false)) || (p && true)) ≡ p
-takes j a p = rw (and_no j, and_no a, and_yes p) refl
+takes j a p = grind (arith, nat_tests)
 
 none_near : (j a p : Bool) → (((j && false) || (a && false)) || (p && false)) ≡ false
-none_near j a p = rw (and_no j, and_no a, and_no p) refl
+none_near j a p = grind (arith, nat_tests)
 
 along_lines : (l c clear : Bool) → (((l && true) || (c && false)) && clear) ≡ (l && clear)
-along_lines l c clear = rw (and_yes l, and_no c, or_no l) refl
+along_lines l c clear = grind (arith, nat_tests)
 
 along_cross : (l c clear : Bool) → (((l && false) || (c && true)) && clear) ≡ (c && clear)
-along_cross l c clear = rw (and_no l, and_yes c) refl
+along_cross l c clear = grind (arith, nat_tests)
 
 along_both : (l c clear : Bool) → (((l && true) || (c && true)) && clear) ≡ ((l || c) && clear)
-along_both l c clear = rw (and_yes l, and_yes c) refl
+along_both l c clear = grind (arith, nat_tests)
 
 -- what is near, if a piece of that kind stands there, and what slides
 abbrev near_kind : Kind → Bool → Bool → Bool → Bool
@@ -177,10 +153,10 @@ by_kind : (k : Kind) (c : Colour) (b : Board) (s t : Square)
 by_kind k c b s t = of k
   where
     near : (x m n : Bool) → m ≡ x → n ≡ false → x ≡ near_or_far m n true (is_clear b s t)
-    near x m n e h = sym (ap₂ (λ v w. near_or_far v w true (is_clear b s t)) e h ∙ near_alone x (is_clear b s t))
+    near x m n e h = grind (arith, nat_tests)
 
     far : (x m n : Bool) → m ≡ false → (n && is_clear b s t) ≡ x → x ≡ near_or_far m n true (is_clear b s t)
-    far x m n e h = sym (ap (λ v. near_or_far v n true (is_clear b s t)) e ∙ (far_alone n (is_clear b s t) ∙ h))
+    far x m n e h = grind (arith, nat_tests)
 
     of : (l : Kind) → kind_attacks l c b s t
         ≡ near_or_far (near_kind l (is_jump s t) (is_adjacent s t) (reaches Pawn c s t)) (slide_kind l (in_line s t) (on_diagonal s t)) true (is_clear b s t)

@@ -1,6 +1,6 @@
 -- Of the pieces that may attack, one whose way is blocked is left out, and of the others those in
 -- view attack, and those a jump away.
-use Rattle.std.proofs.Common.{arith, ◌≡◌, ℕ, ◌<◌, Bool, true, false, ◌&&◌, ◌||◌, ◌⊎◌, inl, inr, refl, sym, ◌∙◌, ap, ap₂}
+use Rattle.std.proofs.Common.{arith, ◌≡◌, ℕ, ◌<◌, Bool, true, false, ◌&&◌, ◌||◌, ◌⊎◌, refl, ◌∙◌, ap, ap₂}
 use Rattle.std.specs.Prelude.{◌==◌, ◌≢◌, if◌then◌else◌}
 use Rattle.std.specs.Int.Bits.{bit_and, bit_or}
 use Rattle.chess_rules.specs.declared.piece.Colour.{Colour}

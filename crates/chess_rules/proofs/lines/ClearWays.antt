@@ -1,7 +1,7 @@
 -- All squares between two are empty exactly if the set of them has no piece; and the squares of a
 -- set from which the way is so clear.
-use Rattle.std.proofs.Common.{◌≡◌, ℕ, ◌<◌, ◌^◌, Bool, true, false, not, ◌&&◌, ◌||◌, ◌⊎◌, inl, inr, List, [], ◌∷◌, refl, sym, ◌∙◌, ap, ap₂, arith}
-use Rattle.std.specs.Prelude.{◌==◌, Option, None, Some, is_none, is_some, if◌then◌else◌}
+use Rattle.std.proofs.Common.{◌≡◌, ℕ, ◌<◌, ◌^◌, Bool, not, ◌&&◌, ◌||◌, List, [], ◌∷◌, refl, sym, ◌∙◌, ap, ap₂, arith}
+use Rattle.std.specs.Prelude.{◌==◌, Option, is_none, is_some}
 use Rattle.std.specs.Int.Bits.{bit_and}
 use Rattle.std.specs.List.{list_all, list_any}
 use Rattle.std.proofs.lemmas.Nat.{and_le_l}
@@ -10,10 +10,9 @@ use Rattle.chess_rules.specs.Square.{Square, squares, strictly_between}
 use Rattle.chess_rules.specs.Board.{Board, at, cell_of, is_empty}
 use Rattle.chess_rules.specs.Attacks.{is_clear}
 use Rattle.chess_rules.specs.Reach.{square_at}
-use Rattle.chess_rules.specs.Words.{has, IsLowest, Marks, Places, Sets}
+use Rattle.chess_rules.specs.Words.{has, Marks, Places}
 use Rattle.chess_rules.proofs.positions.OneKing.{cell_of-square_at}
-use Rattle.chess_rules.proofs.squares.AllSquares.{or_second}
-use Rattle.chess_rules.proofs.squares.WordsToCells.{has_zero, same_or_apart}
+use Rattle.chess_rules.proofs.squares.WordsToCells.{has_zero}
 use Rattle.chess_rules.proofs.squares.SetsToSquares.{marked, places_and, set_test}
 use Rattle.std.proofs.lemmas.Bool.Decides.{nat_tests}
 
@@ -43,16 +42,6 @@ module _ (test : Square → Bool) (set : ℕ) where
   -- of the set, those are kept that pass or are left
   pub record Keeps (left kept : ℕ) : Type 0 where
     pub of : (i : ℕ) → i < 64 → has kept i ≡ (has set i && (has left i || test (square_at i)))
-
-  pub all_kept : Keeps set set
-  all_kept = grind (arith, nat_tests)
-
-  module _ (left rest n kept : ℕ) (lowest : IsLowest left n) (sets : Sets left rest n false) (w : Keeps left kept) where
-    pub passes_on : test (square_at n) ≡ true → Keeps rest kept
-    passes_on passes = grind (arith, nat_tests)
-
-    pub fails_out : (fewer : ℕ) → test (square_at n) ≡ false → Sets kept fewer n false → Keeps rest fewer
-    fails_out fewer fails out = grind (arith, nat_tests)
 
   pub none_left : (left kept : ℕ) → left ≡ 0 → Keeps left kept → Places kept (λ s. has set (cell_of s) && test s)
   none_left left kept none w =

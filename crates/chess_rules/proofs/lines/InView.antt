@@ -1,18 +1,17 @@
 -- On a line through a square, the nearest piece on either side is the one in view. So at most eight
 -- pieces are in view of a square.
-use Rattle.std.proofs.Common.{◌≡◌, ◌≢◌, ℕ, ◌<◌, ◌≤◌, ◌^◌, Bool, true, false, not, ◌&&◌, ◌||◌, ◌⊎◌, inl, inr, length, refl, sym, ◌∙◌, ap, ap₂, w64, arith}
-use Rattle.std.specs.Prelude.{Option, None, Some, filter, is_none, is_some, nat_lt}
+use Rattle.std.proofs.Common.{◌≡◌, ◌≢◌, ℕ, ◌<◌, ◌≤◌, ◌^◌, Bool, true, false, not, ◌&&◌, ◌||◌, ◌⊎◌, length, refl, sym, ◌∙◌, ap, ap₂, w64, arith}
+use Rattle.std.specs.Prelude.{filter, is_some, nat_lt}
 use Rattle.std.specs.Int.{bit_not}
 use Rattle.std.specs.Int.Bits.{bit_and, bit_or}
 use Rattle.std.proofs.lemmas.Bool.{false≢true}
 use Rattle.std.proofs.lemmas.Bool.Decides.{nat_tests}
-use Rattle.chess_rules.specs.declared.piece.Piece.{Piece}
 use Rattle.chess_rules.specs.Square.{Square, squares, inside, in_line, on_diagonal, strictly_between}
 use Rattle.chess_rules.specs.Board.{Board, at, cell_of, is_empty}
 use Rattle.chess_rules.specs.Attacks.{is_clear}
 use Rattle.chess_rules.specs.Reach.{IsLine, is_in_view, is_open, is_steep, square_at}
 use Rattle.chess_rules.specs.Words.{has, IsHighest, IsLowest, IsOnlyHighest, IsOnlyLowest, Places}
-use Rattle.chess_rules.proofs.positions.OneKing.{cell_of-square_at, square_at-cell_of}
+use Rattle.chess_rules.proofs.positions.OneKing.{cell_of-square_at}
 use Rattle.chess_rules.proofs.squares.AllSquares.{split_or, or_first, or_second, first_true, second_true, both_true, same_tests, each_square, not_means, not_true}
 use Rattle.chess_rules.proofs.squares.SetsToSquares.{at_square, one_kept}
 use Rattle.chess_rules.proofs.trying.FoundLists.{kept_either, kept_more}
@@ -44,7 +43,7 @@ module _ (b : Board) (t : Square) (line : Square → Bool) (on : IsLine line t) 
       (ap (λ m. inside m (cell_of u) (cell_of t)) (sym (cell_of-square_at j)) ∙ second_true (line u) _ both))
 
   not_there : (i : ℕ) → i < 64 → line (square_at i) ≡ true → t.file < 8 → i ≢ cell_of t
-  not_there i low here file e = false≢true (sym on.apart ∙ (ap line (sym (ap square_at e ∙ square_at-cell_of t file)) ∙ here))
+  not_there i low here file e = grind (arith, nat_tests)
 
 -- The nearest pieces on a line, as sets.
 module _ (b : Board) (t : Square) (line occupied below low high : ℕ) (tf : t.file < 8) (tr : t.rank < 8)
@@ -58,7 +57,7 @@ module _ (b : Board) (t : Square) (line occupied below low high : ℕ) (tf : t.f
   before i h = has_and (bit_and line occupied) below i ∙ ap₂ (λ x y. x && y) (has_and line occupied i) (first i h)
 
   on_line : (i : ℕ) → i < 64 → has line i ≡ true → has line (cell_of (square_at i)) ≡ true
-  on_line i h e = ap (has line) (cell_of-square_at i) ∙ e
+  on_line i h e = grind (arith, nat_tests)
 
   -- a square of the line with no piece that counts is empty
   empty_there : (u : Square) (side : Bool) → u.file < 8 → u.rank < 8 → has line (cell_of u) ≡ true → side ≡ true → ((has line (cell_of u) && has occupied (cell_of u)) && side) ≡ false → is_empty b u ≡ true
@@ -77,7 +76,7 @@ module _ (b : Board) (t : Square) (line occupied below low high : ℕ) (tf : t.f
   above_test i n h = grind (arith, nat_tests)
 
   open_there : (i : ℕ) → i < 64 → has line i ≡ true → has occupied i ≡ true → is_clear b (square_at i) t ≡ true → (has line (cell_of (square_at i)) && is_open b t (square_at i)) ≡ true
-  open_there i h here full clear = both_true _ _ (on_line i h here) (both_true _ _ (sym (pieces.of i h) ∙ full) clear)
+  open_there i h here full clear = grind (arith, nat_tests)
 
   from_low : (i : ℕ) → i < 64 → has low i ≡ true → (has line (cell_of (square_at i)) && is_open b t (square_at i)) ≡ true
   from_low i h e =
@@ -120,16 +119,16 @@ module _ (b : Board) (t : Square) (line occupied below low high : ℕ) (tf : t.f
   found i h e = by_side (nat_lt i (cell_of t)) refl
     where
       here : has line (cell_of (square_at i)) ≡ true
-      here = first_true _ (is_open b t (square_at i)) e
+      here = grind (arith, nat_tests)
 
       opened : is_open b t (square_at i) ≡ true
-      opened = second_true (has line (cell_of (square_at i))) _ e
+      opened = grind (arith, nat_tests)
 
       at_i : (has line i && has occupied i) ≡ true
-      at_i = both_true _ _ (sym (ap (has line) (cell_of-square_at i)) ∙ here) (pieces.of i h ∙ first_true (is_some (at b (square_at i))) _ opened)
+      at_i = grind (arith, nat_tests)
 
       clear : is_clear b (square_at i) t ≡ true
-      clear = second_true (is_some (at b (square_at i))) _ opened
+      clear = grind (arith, nat_tests)
 
       -- no other piece of the line is between
       none_between : (k : ℕ) → k < 64 → inside i k (cell_of t) ≡ true → (has line k && has occupied k) ≡ true → ⊥

@@ -4,7 +4,7 @@ use Rattle.std.proofs.lemmas.Bool.Decides.{nat_tests}
 use Rattle.chess_rules.specs.Square.{Square, gap, inside, in_line, on_diagonal, strictly_between, between_on_rank, between_on_file, between_on_diagonal}
 use Rattle.chess_rules.specs.Board.{cell_of}
 use Rattle.chess_rules.specs.Reach.{IsLine, is_steep}
-use Rattle.chess_rules.proofs.squares.AllSquares.{split_or, or_first, or_second, first_true, second_true, both_true, same_tests}
+use Rattle.chess_rules.proofs.squares.AllSquares.{split_or, or_first, or_second, first_true, second_true, same_tests}
 
 pub inside_means : (a x b : ℕ) → inside a x b ≡ true → ((a < x) × (x < b)) ⊎ ((b < x) × (x < a))
 inside_means a x b h = grind (arith, nat_tests)
@@ -116,7 +116,7 @@ line_off_cross : (s t : Square) → in_line s t ≡ true → on_diagonal s t ≡
 line_off_cross s t h g = grind (arith, nat_tests)
 
 cross_there : (s u t : Square) → between_on_diagonal s u t ≡ true → on_diagonal s t ≡ true
-cross_there s u t h = first_true (on_diagonal s t) (on_diagonal s u) (first_true (on_diagonal s t && on_diagonal s u) _ h)
+cross_there s u t h = grind (arith, nat_tests)
 
 pub file_line : (t : Square) → t.file < 8 → IsLine (λ s. in_line s t && is_steep s t) t
 file_line t tf = record { apart = line_leaves (is_steep t t) t; between = λ s u sf _ uf _ l. same_tests _ _ (forth s u sf uf l) (λ h. or_second _ _ (or_first _ _ (file_back s u t uf sf tf l h))) }

@@ -11,11 +11,11 @@ use Rattle.chess_rules.specs.Square.{Square, same_square}
 use Rattle.chess_rules.specs.Board.{Board, at, put, kings, has_piece, is_pawn}
 use Rattle.chess_rules.specs.Step.{promoted, carried}
 use Rattle.chess_rules.specs.Reach.{king_after}
-use Rattle.chess_rules.proofs.squares.AllSquares.{both_true, equal_tests}
 use Rattle.chess_rules.proofs.lines.AttackToReach.{squares_same}
 use Rattle.chess_rules.proofs.positions.OneKing.{StandsAt}
 use Rattle.chess_rules.proofs.moves.CellsAfterPut.{OnBoard, at_put, at_put_here, length-put, king_count, kings-put, kings-put_alike}
 use Rattle.chess_rules.proofs.positions.RulesOfPosition.{Sound, is_edge, no_pawn_there}
+use Rattle.std.proofs.lemmas.Bool.Decides.{nat_tests}
 
 abbrev pub arriving : Parts → Move → Option Piece
 arriving p m = promoted p.side m.promotion (at p.board m.from)
@@ -39,7 +39,7 @@ count_none : (c : Colour) (cell : Option Piece) → has_piece c King cell ≡ fa
 count_none c cell h = ap (λ v. cond v 1 0) h
 
 itself : (s : Square) → same_square s s ≡ true
-itself s = both_true _ _ (equal_tests s.file s.file refl) (equal_tests s.rank s.rank refl)
+itself s = grind (arith, nat_tests)
 
 pub carried_stays : (p : Parts) (m : Move) → Sound p → Lands p m → Stays p m (carried p m)
 carried_stays p m sound lands =

@@ -1,6 +1,6 @@
 -- What stands where after a piece is put on a square, and how many kings there are then.
-use Rattle.std.proofs.Common.{◌≡◌, ◌≢◌, ℕ, ◌+◌, ◌<◌, Bool, true, false, ◌⊎◌, inl, inr, refl, sym, ◌∙◌, ap, subst, arith, length, length-set, set, get_or, cond}
-use Rattle.std.specs.Prelude.{◌==◌, Option, None}
+use Rattle.std.proofs.Common.{◌≡◌, ◌≢◌, ℕ, ◌+◌, ◌<◌, ◌⊎◌, inl, inr, sym, ap, subst, arith, length, length-set, set, get_or, cond}
+use Rattle.std.specs.Prelude.{Option, None}
 use Rattle.std.proofs.lemmas.Bool.Decides.{nat_tests}
 use Rattle.std.proofs.lemmas.List.{get_or-set_same, get_or-set_other}
 use Rattle.std.proofs.lemmas.List.Sums.{sum_by-set}
@@ -9,8 +9,6 @@ use Rattle.chess_rules.specs.declared.piece.Kind.TheVariants.{King}
 use Rattle.chess_rules.specs.declared.piece.Piece.{Piece}
 use Rattle.chess_rules.specs.Square.{Square}
 use Rattle.chess_rules.specs.Board.{Board, at, put, cell_of, kings, has_piece}
-use Rattle.chess_rules.specs.Reach.{square_at}
-use Rattle.chess_rules.proofs.positions.OneKing.{square_at-cell_of}
 
 pub record OnBoard (s : Square) : Type 0 where
   pub file : s.file < 8
@@ -28,10 +26,10 @@ at_put b s u x long on_s on_u =
     ]
   where
     low : cell_of s < length b
-    low = (let f : s.file < 8 = on_s.file in let r : s.rank < 8 = on_s.rank in omega arith)
+    low = grind (arith, nat_tests)
 
     square_same : cell_of u ≡ cell_of s → u ≡ s
-    square_same same = sym (square_at-cell_of u on_u.file) ∙ (ap square_at same ∙ square_at-cell_of s on_s.file)
+    square_same same = grind (arith, nat_tests)
 
 pub at_put_here : (b : Board) (s : Square) (x : Option Piece) → length b ≡ 64 → OnBoard s → at (put b s x) s ≡ x
 at_put_here b s x long on_s =

@@ -1,27 +1,24 @@
 -- A legal move leaves a position, and the kings where they are said to be.
-use Rattle.std.proofs.Common.{◌≡◌, ℕ, ◌+◌, ◌/◌, ◌<◌, ◌≤◌, Bool, true, false, not, ◌&&◌, ◌||◌, ◌⊎◌, inl, inr, refl, sym, ◌∙◌, ap, ap₂, subst, arith}
-use Rattle.std.specs.Prelude.{nat_lt, Option, None, Some, is_some, option_map, if◌then◌else◌}
+use Rattle.std.proofs.Common.{◌≡◌, ℕ, ◌<◌, ◌≤◌, Bool, true, false, not, ◌||◌, ◌⊎◌, inl, inr, refl, sym, ◌∙◌, ap, subst, arith}
+use Rattle.std.specs.Prelude.{nat_lt, Option, None, Some, option_map, if◌then◌else◌}
 use Rattle.std.proofs.lemmas.Bool.Decides.{nat_tests}
 use Rattle.chess_rules.specs.declared.piece.Colour.{Colour}
-use Rattle.chess_rules.specs.declared.piece.Colour.TheVariants.{White, Black}
-use Rattle.chess_rules.specs.declared.piece.Kind.TheVariants.{Pawn}
 use Rattle.chess_rules.specs.declared.position.Move.{Move}
 use Rattle.chess_rules.specs.declared.position.Parts.{Parts}
-use Rattle.chess_rules.specs.declared.position.Rights.{Rights}
-use Rattle.chess_rules.specs.Square.{Square, square, on_board}
-use Rattle.chess_rules.specs.Board.{Board, is_empty, other}
+use Rattle.chess_rules.specs.Square.{Square, on_board}
+use Rattle.chess_rules.specs.Board.{Board, other}
 use Rattle.chess_rules.specs.Attacks.{is_attacked, king_attacked}
 use Rattle.chess_rules.specs.Position.{is_position, target_fits}
-use Rattle.chess_rules.specs.Step.{own, pawn_rank, double_rank, is_on_board, is_double_step, is_piece_step, is_pawn_step, is_en_passant, crossed, castles_short, castles_long, short_right, long_right, short_wing, long_wing, carried, en_passant_board, castled, board_after, after, step, rights_after, target_after, half_after, full_after, counted}
+use Rattle.chess_rules.specs.Step.{is_on_board, is_piece_step, is_pawn_step, is_en_passant, castles_short, castles_long, short_right, long_right, short_wing, long_wing, carried, en_passant_board, castled, board_after, after, target_after, half_after, full_after}
 use Rattle.chess_rules.specs.Legal.{legal, if_safe, is_legal}
 use Rattle.chess_rules.specs.Reach.{king_square, king_after}
-use Rattle.chess_rules.specs.Laws.{LeavesPosition, OneAfter}
-use Rattle.chess_rules.proofs.squares.AllSquares.{first_true, second_true, both_true}
+use Rattle.chess_rules.specs.Laws.{LeavesPosition}
+use Rattle.chess_rules.proofs.squares.AllSquares.{first_true, second_true}
 use Rattle.chess_rules.proofs.positions.OneKing.{king_stands, king_only_there, king_attacked_there}
 use Rattle.chess_rules.proofs.moves.CellsAfterPut.{OnBoard}
 use Rattle.chess_rules.proofs.positions.RulesOfPosition.{Sound, sound_from_position, position_from_sound, no_pawn_on_edge}
 use Rattle.chess_rules.proofs.moves.BoardAfterMove.{Stays, carried_stays}
-use Rattle.chess_rules.proofs.moves.StepsKeepBoard.{other-other, piece_lands, pawn_lands, passing_stays, castling_stays, castles_means, short_is_wing, long_is_wing, double_ranks}
+use Rattle.chess_rules.proofs.moves.StepsKeepBoard.{other-other, piece_lands, pawn_lands, passing_stays, castling_stays, castles_means, short_is_wing, long_is_wing}
 
 at_most : (m n : ℕ) → nat_lt m n ≡ true → m < n
 at_most m n h = grind (arith, nat_tests)
@@ -66,10 +63,10 @@ board_stays p m b sound on h =
     ]
   where
     from : OnBoard m.from
-    from = on_board_means m.from (first_true (on_board m.from) _ on)
+    from = grind (arith, nat_tests)
 
     to : OnBoard m.to
-    to = on_board_means m.to (second_true (on_board m.from) _ on)
+    to = grind (arith, nat_tests)
 
 -- The target.
 
@@ -148,15 +145,6 @@ leaves_position p q m position h =
     subst (λ (r : Parts). is_position r ≡ true) l.next
     (position_from_sound (after p m l.board) (after_sound p m l.board (sound_from_position p position) l.on l.stepped l.safe))
 
-pub one_after : OneAfter
-one_after p q r m h g = cc
-
--- the parts after a move, field by field
-pub after_fields : (p : Parts) (m : Move) (b : Board) (side : Colour) (rights : Rights) (target : Option Square) (half full : ℕ)
-    → side ≡ other p.side → rights ≡ rights_after m p.rights → target ≡ target_after p m → half ≡ half_after p m → full ≡ full_after p.side p.full
-    → record { board = b; side = side; rights = rights; target = target; half = half; full = full } ≡ after p m b
-after_fields p m b side rights target half full e f g h i = rw (e, f, g, h, i) refl
-
 -- what the code looks at, in the words of the rules
 pub attacked_is : (p : Parts) (m : Move) (b : Board) (by : Colour) (king : Square) (attacked : Bool) → is_position p ≡ true → is_on_board m ≡ true → board_after p m ≡ Some b
     → by ≡ other p.side → king ≡ king_after (king_square p.side p.board) m → attacked ≡ is_attacked b by king → king_attacked b (other (other p.side)) ≡ attacked
@@ -177,12 +165,6 @@ pub legal_unless_attacked : (p : Parts) (m : Move) (b : Board) (by : Colour) (ki
 legal_unless_attacked p m b by king attacked position on h e f g = by_test attacked (attacked_is p m b by king attacked position on h e f g)
   where
     by_test : (x : Bool) → king_attacked b (other (other p.side)) ≡ x → not x ≡ is_legal p m
-    by_test x is = grind (arith, nat_tests)
-
-pub safe_from_legal : (p : Parts) (m : Move) (b : Board) → is_on_board m ≡ true → board_after p m ≡ Some b → is_legal p m ≡ true → king_attacked b (other (other p.side)) ≡ false
-safe_from_legal p m b on h legal = by_test (king_attacked b (other (other p.side))) refl
-  where
-    by_test : (x : Bool) → king_attacked b (other (other p.side)) ≡ x → x ≡ false
     by_test x is = grind (arith, nat_tests)
 
 -- whether the step gives check, seen from where the other king stands then

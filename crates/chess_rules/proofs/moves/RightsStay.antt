@@ -1,13 +1,11 @@
 -- A move that begins and ends on no square of a king or a rook at the start keeps every right.
-use Rattle.std.proofs.Common.{arith, ◌≡◌, ℕ, Bool, true, false, not, ◌&&◌, ◌||◌, refl, sym, ◌∙◌, ap, ap₂}
-use Rattle.std.proofs.lemmas.Bool.{false≢true}
+use Rattle.std.proofs.Common.{arith, ◌≡◌, ℕ, Bool, true, false, ◌&&◌}
 use Rattle.chess_rules.specs.declared.position.Move.{Move}
 use Rattle.chess_rules.specs.declared.position.Rights.{Rights}
-use Rattle.chess_rules.specs.Square.{Square, square, same_square}
+use Rattle.chess_rules.specs.Square.{square}
 use Rattle.chess_rules.specs.Board.{cell_of}
 use Rattle.chess_rules.specs.Step.{keeps, rights_after}
 use Rattle.chess_rules.specs.Words.{has}
-use Rattle.chess_rules.proofs.lines.AttackToReach.{squares_same}
 use Rattle.std.proofs.lemmas.Bool.Decides.{nat_tests}
 
 -- a1, e1, h1, a8, e8, h8

@@ -3,21 +3,19 @@ use Rattle.std.proofs.Common.{◌≡◌, ◌≢◌, ℕ, ◌<◌, Bool, true, fa
 use Rattle.std.specs.Prelude.{◌==◌, Option, None, Some, is_none, is_some, if◌then◌else◌}
 use Rattle.std.proofs.lemmas.Bool.Decides.{nat_tests}
 use Rattle.chess_rules.specs.declared.piece.Colour.{Colour}
-use Rattle.chess_rules.specs.declared.piece.Colour.TheVariants.{White, Black}
 use Rattle.chess_rules.specs.declared.piece.Kind.{Kind}
 use Rattle.chess_rules.specs.declared.piece.Kind.TheVariants.{King, Rook, Pawn}
 use Rattle.chess_rules.specs.declared.piece.Piece.{Piece}
 use Rattle.chess_rules.specs.declared.piece.Promotion.{Promotion}
-use Rattle.chess_rules.specs.declared.piece.Promotion.TheVariants as become
 use Rattle.chess_rules.specs.declared.position.Move.{Move}
 use Rattle.chess_rules.specs.declared.position.Parts.{Parts}
-use Rattle.chess_rules.specs.Square.{Square, square, on_board, gap, same_square, strictly_between}
-use Rattle.chess_rules.specs.Board.{Board, some_piece, at, put, is_empty, other, same_colour, same_kind, has_colour, has_piece, is_pawn}
+use Rattle.chess_rules.specs.Square.{Square, square, gap, strictly_between}
+use Rattle.chess_rules.specs.Board.{Board, some_piece, at, put, is_empty, other, has_colour, has_piece, is_pawn}
 use Rattle.chess_rules.specs.Attacks.{is_clear, is_ahead, kind_attacks, cell_attacks, attacks, is_attacked, king_attacked}
 use Rattle.chess_rules.specs.Position.{target_fits, target_rank}
-use Rattle.chess_rules.specs.Step.{own, home, home_rank, pawn_rank, double_rank, last_rank, is_piece_step, is_advance, is_double_step, is_pawn_capture, is_pawn_way, is_pawn_step, promotion_fits, is_en_passant, is_target, captured_pawn, crossed, is_king_move, stand_ready, is_unattacked, castles, Wing, short_wing, long_wing, kind_of, promoted, carried, en_passant_board, castled}
-use Rattle.chess_rules.proofs.squares.AllSquares.{split_or, first_true, second_true, both_true, each_square, any_square, equal_from, equal_tests, not_true}
-use Rattle.chess_rules.proofs.lines.AttackToReach.{kinds_same, colours_same, squares_same, ahead_gap}
+use Rattle.chess_rules.specs.Step.{own, home, home_rank, pawn_rank, double_rank, last_rank, is_piece_step, is_advance, is_double_step, is_pawn_capture, is_pawn_way, is_pawn_step, promotion_fits, is_en_passant, is_target, captured_pawn, crossed, castles, Wing, short_wing, long_wing, kind_of, promoted, carried, en_passant_board, castled}
+use Rattle.chess_rules.proofs.squares.AllSquares.{split_or, first_true, second_true, both_true, each_square, any_square, equal_tests, not_true}
+use Rattle.chess_rules.proofs.lines.AttackToReach.{kinds_same, colours_same, ahead_gap}
 use Rattle.chess_rules.proofs.moves.CellsAfterPut.{OnBoard, at_put}
 use Rattle.chess_rules.proofs.positions.RulesOfPosition.{Sound, to_false, is_edge}
 use Rattle.chess_rules.proofs.moves.BoardAfterMove.{arriving, Lands, Stays, IsPlain, carried_stays, put_stays, carried_free}
@@ -38,7 +36,7 @@ pub one_kind : (c d : Colour) (k l : Kind) (cell : Option Piece) → has_piece c
 one_kind c d k l cell h g = grind (arith, nat_tests, kinds_same, second_true)
 
 no_king_with : (c d : Colour) (k : Kind) (cell : Option Piece) → (King ≡ k → ⊥) → has_piece d k cell ≡ true → has_piece c King cell ≡ false
-no_king_with c d k cell differ h = to_false (has_piece c King cell) (λ king. differ (one_kind c d King k cell king h))
+no_king_with c d k cell differ h = grind (arith, nat_tests)
 
 pub pawn_is_no_king : King ≡ Pawn → ⊥
 pawn_is_no_king e = cc
@@ -61,9 +59,6 @@ promoted_is_no_king c d q = grind (arith, nat_tests)
 not_means : (x : Bool) → not x ≡ true → x ≡ false
 not_means x h = grind (arith, nat_tests)
 
-none_is : {X : Type 0} (o : Option X) → is_none o ≡ true → o ≡ None
-none_is o h = grind (arith, nat_tests)
-
 -- the piece on a square attacks as its kind and colour do
 pub attacks_as : (c : Colour) (k : Kind) (cell : Option Piece) (b : Board) (s t : Square) → has_piece c k cell ≡ true → cell_attacks cell b s t ≡ true → kind_attacks k c b s t ≡ true
 attacks_as c k cell b s t h g = grind (arith, nat_tests, kinds_same, second_true, colours_same, first_true)
@@ -85,7 +80,7 @@ free_of : (p : Parts) (t : Square) → has_colour p.side (at p.board t) ≡ fals
 free_of p t own theirs c = grind (arith, nat_tests)
 
 arrives_as : (p : Parts) (m : Move) → is_none m.promotion ≡ true → arriving p m ≡ at p.board m.from
-arrives_as p m h = ap (λ o. promoted p.side o (at p.board m.from)) (none_is m.promotion h)
+arrives_as p m h = grind (arith, nat_tests)
 
 -- A king, queen, rook, bishop or knight.
 
@@ -100,24 +95,24 @@ piece_lands p m sound on_from on_to h =
     }
   where
     stands : ((has_colour p.side (at p.board m.from) && not (own p Pawn m.from)) && is_none m.promotion) ≡ true
-    stands = first_true _ (attacks p.board m.from m.to && not (has_colour p.side (at p.board m.to))) h
+    stands = grind (arith, nat_tests)
 
     goes : (attacks p.board m.from m.to && not (has_colour p.side (at p.board m.to))) ≡ true
-    goes = second_true ((has_colour p.side (at p.board m.from) && not (own p Pawn m.from)) && is_none m.promotion) _ h
+    goes = grind (arith, nat_tests)
 
     whose : (has_colour p.side (at p.board m.from) && not (own p Pawn m.from)) ≡ true
-    whose = first_true _ (is_none m.promotion) stands
+    whose = grind (arith, nat_tests)
 
     plain : is_none m.promotion ≡ true
-    plain = second_true (has_colour p.side (at p.board m.from) && not (own p Pawn m.from)) _ stands
+    plain = grind (arith, nat_tests)
 
     own_piece : has_colour p.side (at p.board m.from) ≡ true
-    own_piece = first_true (has_colour p.side (at p.board m.from)) _ whose
+    own_piece = grind (arith, nat_tests)
 
 -- A pawn.
 
 pub pawn_attack : (p : Parts) (m : Move) → own p Pawn m.from ≡ true → attacks p.board m.from m.to ≡ true → ((gap m.from.file m.to.file == 1) && is_ahead p.side m.from.rank m.to.rank) ≡ true
-pawn_attack p m pawn hits = attacks_as p.side Pawn (at p.board m.from) p.board m.from m.to pawn hits
+pawn_attack p m pawn hits = grind (arith, nat_tests)
 
 -- one rank ahead, or from the pawns' first rank to that of the double step
 abbrev pub pawn_goes : Parts → Move → Type 0
@@ -309,7 +304,7 @@ castling_stays p m wing sound is_wing on_from on_to h =
     on_crossing = record { file = is_wing.crossing_below; rank = home_below p.side }
 
     apart_from : (file : ℕ) → file ≢ wing.end → home p file ≢ m.to
-    apart_from file differ e = differ (ap (λ s. s.file) (e ∙ h.to))
+    apart_from file differ e = grind (arith, nat_tests)
 
     cornered : Stays p m (put (carried p m) (home p wing.rook) None)
     cornered =

@@ -1,6 +1,6 @@
 -- A piece steps only in the ways of its kind.
-use Rattle.std.proofs.Common.{◌≡◌, arith, Bool, true, false, not, ◌&&◌, ◌||◌, inl, inr, refl, sym, ◌∙◌, ap}
-use Rattle.std.specs.Prelude.{Option, None, Some, is_none, is_some, ◌==◌, if◌then◌else◌}
+use Rattle.std.proofs.Common.{◌≡◌, arith, Bool, true, false, not, ◌&&◌, ◌||◌, sym, ◌∙◌, ap}
+use Rattle.std.specs.Prelude.{Option, None, Some, is_none, is_some, if◌then◌else◌}
 use Rattle.std.proofs.lemmas.Bool.{false≢true}
 use Rattle.chess_rules.specs.declared.piece.Colour.{Colour}
 use Rattle.chess_rules.specs.declared.piece.Kind.{Kind}
@@ -8,13 +8,13 @@ use Rattle.chess_rules.specs.declared.piece.Kind.TheVariants.{King, Pawn}
 use Rattle.chess_rules.specs.declared.piece.Piece.{Piece}
 use Rattle.chess_rules.specs.declared.position.Move.{Move}
 use Rattle.chess_rules.specs.declared.position.Parts.{Parts}
-use Rattle.chess_rules.specs.Square.{Square, gap}
-use Rattle.chess_rules.specs.Board.{Board, at, is_empty, other, has_colour, has_piece, kind_number, same_colour}
-use Rattle.chess_rules.specs.Attacks.{attacks, cell_attacks, is_ahead, kind_attacks}
-use Rattle.chess_rules.specs.Step.{own, pawn_rank, double_rank, is_target, is_piece_step, is_pawn_way, is_pawn_step, promotion_fits, is_advance, is_double_step, crossed, is_pawn_capture, captured_pawn, is_en_passant, castles_short, castles_long, short_right, long_right, short_wing, long_wing, board_after}
-use Rattle.chess_rules.proofs.squares.AllSquares.{split_or, first_true, second_true, both_true, equal_from, equal_tests}
+use Rattle.chess_rules.specs.Square.{Square}
+use Rattle.chess_rules.specs.Board.{Board, at, is_empty, has_colour, has_piece, same_colour}
+use Rattle.chess_rules.specs.Attacks.{cell_attacks, kind_attacks}
+use Rattle.chess_rules.specs.Step.{own, is_piece_step, is_pawn_way, is_pawn_step, promotion_fits, is_advance, is_double_step, is_pawn_capture, is_en_passant, castles_short, castles_long, short_right, long_right, short_wing, long_wing, board_after}
+use Rattle.chess_rules.proofs.squares.AllSquares.{split_or, first_true, second_true, equal_from}
 use Rattle.chess_rules.proofs.positions.RulesOfPosition.{to_false}
-use Rattle.chess_rules.proofs.lines.AttackToReach.{kinds_same, colours_same, none_or_all}
+use Rattle.chess_rules.proofs.lines.AttackToReach.{kinds_same, colours_same}
 use Rattle.chess_rules.proofs.moves.StepsKeepBoard.{one_kind, colour_of_piece, not_both, short_is_wing, long_is_wing, castles_means, castling_ends_empty, pawn_attack}
 use Rattle.chess_rules.proofs.moves.OneWayToStep.{no_pawn_moves, pawn_of_step, pawn_of_en_passant}
 use Rattle.std.proofs.lemmas.Bool.Decides.{nat_tests}
@@ -43,10 +43,10 @@ module _ (p : Parts) (s : Square) (b : Board) (o : Option Piece) (x : Piece) (c 
   same = ap (λ d. same_colour d x.colour) (sym side) ∙ sym compared
 
   pub own_found : alike ≡ true → own p x.kind s ≡ true
-  own_found h = ap (has_piece p.side x.kind) here ∙ both_true _ _ (same ∙ h) (equal_tests (kind_number x.kind) (kind_number x.kind) refl)
+  own_found h = grind (arith, nat_tests)
 
   pub other_found : alike ≡ false → has_colour p.side (at p.board s) ≡ false
-  other_found h = ap (has_colour p.side) here ∙ (same ∙ h)
+  other_found h = grind (arith, nat_tests)
 
 module _ (p : Parts) (m : Move) where
   -- a way that only such a piece has
@@ -54,10 +54,10 @@ module _ (p : Parts) (m : Move) where
   no_way k l way here differ needs = to_false way (λ h. differ (one_kind p.side p.side k l (at p.board m.from) here (needs h)))
 
   king_of_short : castles_short p m ≡ true → own p King m.from ≡ true
-  king_of_short h = (castles_means p m (short_right p.side p.rights) short_wing h).king
+  king_of_short h = grind (arith, nat_tests)
 
   king_of_long : castles_long p m ≡ true → own p King m.from ≡ true
-  king_of_long h = (castles_means p m (long_right p.side p.rights) long_wing h).king
+  king_of_long h = grind (arith, nat_tests)
 
   pub pawn_steps : own p Pawn m.from ≡ true → (is_pawn_step p m || is_en_passant p m) ≡ is_some (board_after p m)
   pawn_steps stands =
@@ -112,7 +112,7 @@ attack_is_step p m k stands no_pawn plain free = grind (arith, nat_tests, attack
 
 module _ (p : Parts) (m : Move) (mine : has_colour p.side (at p.board m.to) ≡ true) where
   not_empty_there : is_empty p.board m.to ≡ true → ⊥
-  not_empty_there h = false≢true (sym (none_or_all p.side (at p.board m.to) mine) ∙ h)
+  not_empty_there h = grind (arith, nat_tests)
 
   no_way_there : is_pawn_way p m ≡ true → ⊥
   no_way_there h = grind (arith, nat_tests, split_or, not_empty_there, second_true, not_both)

@@ -1,9 +1,9 @@
 -- What a test of all 64 squares says of each square.
-use Rattle.std.proofs.Common.{◌≡◌, ℕ, zero, suc, ◌+◌, ◌<◌, ◌≤◌, Bool, true, false, not, ◌&&◌, ◌||◌, ◌⊎◌, inl, inr, List, [], ◌∷◌, map, refl, sym, ◌∙◌, ap, ap₂, subst, arith}
+use Rattle.std.proofs.Common.{◌≡◌, ℕ, zero, suc, ◌+◌, ◌<◌, ◌≤◌, Bool, true, false, not, ◌&&◌, ◌||◌, ◌⊎◌, inl, inr, List, [], ◌∷◌, map, refl, sym, ◌∙◌, ap, subst, arith}
 use Rattle.std.specs.Prelude.{◌==◌}
 use Rattle.std.proofs.lemmas.Bool.Decides.{nat_tests}
 use Rattle.std.specs.List.{list_all, range_with_len, list_any, flat_map}
-use Rattle.std.proofs.lemmas.List.Folds.{list_all-append, list_all-map, list_any-append}
+use Rattle.std.proofs.lemmas.List.Folds.{list_all-append, list_any-append}
 use Rattle.chess_rules.specs.Square.{Square, square, squares, lines}
 
 pub split_or : (x y : Bool) → (x || y) ≡ true → (x ≡ true) ⊎ (y ≡ true)
@@ -77,7 +77,7 @@ unfolding squares
 by_ranks test = list_all-flat_map test (λ rank. map (λ file. square file rank) lines) lines
 
 by_files : (test : Square → Bool) (rank : ℕ) → list_all test (map (λ file. square file rank) lines) ≡ list_all (λ file. test (square file rank)) lines
-by_files test rank = list_all-map test (λ file. square file rank) lines
+by_files test rank = grind (arith, nat_tests)
 
 -- what passes on all squares passes on each square of the board
 pub each_square : (test : Square → Bool) (u : Square) → list_all test squares ≡ true → u.file < 8 → u.rank < 8 → test u ≡ true
@@ -112,10 +112,6 @@ range_of_any test a (suc n) k low high h =
       | inr above ↦ or_second _ _ (range_of_any test (a + 1) n k above (omega arith) h)
     ]
 
-pub list_any-map : {X Y : Type 0} (test : Y → Bool) (f : X → Y) (xs : List X) → list_any test (map f xs) ≡ list_any (λ x. test (f x)) xs
-list_any-map test f [] = refl
-list_any-map test f (x ∷ xs) = ap (λ v. test (f x) || v) (list_any-map test f xs)
-
 pub any_same : {X : Type 0} (f g : X → Bool) (xs : List X) → ((x : X) → f x ≡ g x) → list_any f xs ≡ list_any g xs
 any_same f g xs h = grind (arith, nat_tests)
 
@@ -129,7 +125,7 @@ unfolding squares
 any_by_ranks test = list_any-flat_map test (λ rank. map (λ file. square file rank) lines) lines
 
 any_by_files : (test : Square → Bool) (rank : ℕ) → list_any test (map (λ file. square file rank) lines) ≡ list_any (λ file. test (square file rank)) lines
-any_by_files test rank = list_any-map test (λ file. square file rank) lines
+any_by_files test rank = grind (arith, nat_tests)
 
 -- some square of the board passes
 pub record Passes (test : Square → Bool) : Type 0 where

@@ -1,6 +1,6 @@
 -- Sets of squares: what is in a meet or a union, whether a set is empty, and its members in turn.
-use Rattle.std.proofs.Common.{◌≡◌, ℕ, zero, suc, ◌+◌, ◌-◌, ◌/◌, ◌%◌, ◌<◌, ◌≤◌, ◌^◌, Bool, true, false, not, ◌&&◌, ◌||◌, ◌⊎◌, inl, inr, List, [], ◌∷◌, length, map, cond, get_or, refl, sym, ◌∙◌, ap, ap₂, subst, w64, arith}
-use Rattle.std.specs.Prelude.{◌==◌, Option, None, filter, nat_lt, if◌then◌else◌}
+use Rattle.std.proofs.Common.{◌≡◌, ℕ, zero, suc, ◌+◌, ◌/◌, ◌%◌, ◌<◌, ◌≤◌, ◌^◌, Bool, true, false, not, ◌&&◌, ◌||◌, inl, inr, List, [], ◌∷◌, length, map, cond, get_or, refl, sym, ◌∙◌, ap, ap₂, subst, w64, arith}
+use Rattle.std.specs.Prelude.{◌==◌, Option, None, filter, if◌then◌else◌}
 use Rattle.std.specs.List.{list_any, range_with_len}
 use Rattle.std.specs.Int.Bits.{bit_and, bit_or}
 use Rattle.std.specs.Int.{bit_not, trailing_zeros}
@@ -11,9 +11,9 @@ use Rattle.chess_rules.specs.Square.{Square, same_square, squares}
 use Rattle.chess_rules.specs.Board.{Board, at, cell_of}
 use Rattle.chess_rules.specs.Reach.{square_at}
 use Rattle.chess_rules.specs.Words.{has, members, IsLowest, Marks, Places, Sets}
-use Rattle.chess_rules.proofs.squares.WordsToCells.{has_and, has_below, has_not, has_or, has_zero, same_or_apart}
+use Rattle.chess_rules.proofs.squares.WordsToCells.{has_and, has_not, has_or, has_zero, same_or_apart}
 use Rattle.chess_rules.proofs.squares.LowestAndHighest.{lowest_place}
-use Rattle.chess_rules.proofs.positions.OneKing.{cell_of-square_at, square_at-cell_of}
+use Rattle.chess_rules.proofs.positions.OneKing.{cell_of-square_at}
 use Rattle.chess_rules.proofs.squares.AllSquares.{both_true, Passes, some_square, any_square, equal_from, equal_tests}
 use Rattle.chess_rules.proofs.trying.FoundLists.{list_any-filter}
 
@@ -31,7 +31,7 @@ pub marked : (w : ℕ) (test : Option Piece → Bool) (b : Board) → Marks w te
 marked w test b h = record { of = λ i low. h.of i low ∙ ap (λ k. test (get_or b k None)) (sym (cell_of-square_at i)) }
 
 pub at_square : (w : ℕ) (test : Square → Bool) (s : Square) → Places w test → s.file < 8 → s.rank < 8 → has w (cell_of s) ≡ test s
-at_square w test s h file rank = h.of (cell_of s) (omega arith) ∙ ap test (square_at-cell_of s file)
+at_square w test s h file rank = grind (arith, nat_tests)
 
 -- A set is empty exactly if no square passes.
 

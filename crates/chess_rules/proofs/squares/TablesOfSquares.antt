@@ -1,11 +1,9 @@
 -- The tables of squares hold what is said of each square.
-use Rattle.std.proofs.Common.{◌≡◌, ℕ, zero, suc, ◌+◌, ◌*◌, ◌/◌, ◌%◌, ◌<◌, Bool, true, false, ◌&&◌, ◌||◌, inl, inr, sym, List, [], ◌∷◌, refl, ◌∙◌, ap, ap₂, arith, get_or}
+use Rattle.std.proofs.Common.{◌≡◌, ℕ, zero, suc, ◌+◌, ◌*◌, ◌/◌, ◌%◌, ◌<◌, Bool, true, false, sym, List, [], ◌∷◌, refl, ◌∙◌, ap, ap₂, arith, get_or}
 use Rattle.std.specs.Prelude.{◌==◌, map, if◌then◌else◌}
-use Rattle.std.proofs.lemmas.Bool.{false≢true}
 use Rattle.std.proofs.lemmas.Bool.Decides.{nat_tests}
-use Rattle.chess_rules.proofs.squares.AllSquares.{split_or, or_second, first_true}
 use Rattle.chess_rules.proofs.squares.WordsToCells.{has_zero}
-use Rattle.chess_rules.specs.Square.{Square, on_diagonal, strictly_between, between_on_rank, between_on_file, between_on_diagonal}
+use Rattle.chess_rules.specs.Square.{Square, strictly_between}
 use Rattle.std.specs.List.{range_with_len}
 use Rattle.std.proofs.lemmas.List.FromFn.{get_or-range_with_len, length-range_with_len}
 use Rattle.chess_rules.specs.Board.{cell_of}
@@ -13,7 +11,6 @@ use Rattle.chess_rules.specs.WordsAndCells.{digit, word_bit}
 use Rattle.chess_rules.specs.Masks.{between_mask}
 use Rattle.chess_rules.specs.Words.{has, mask, Places}
 use Rattle.chess_rules.specs.Reach.{square_at, is_aligned}
-use Rattle.chess_rules.proofs.positions.OneKing.{square_at-cell_of}
 
 -- n numbers from k on
 abbrev pub numbers : ℕ → ℕ → List ℕ
@@ -46,18 +43,12 @@ mask_has test i low =
 pub places : (test : Square → Bool) (n : ℕ) → n ≡ mask test → Places n test
 places test n is = record { of = λ i low. ap (λ m. has m i) is ∙ mask_has test i low }
 
-quotient : (m n : ℕ) → n < 64 → (64 * m + n) / 64 ≡ m
-quotient m n h = omega arith
-
-rest : (m n : ℕ) → n < 64 → (64 * m + n) % 64 ≡ n
-rest m n h = omega arith
-
 -- two squares again from the number of their pair
 first_of_pair : (s t : Square) → s.file < 8 → t.file < 8 → t.rank < 8 → square_at ((64 * cell_of s + cell_of t) / 64) ≡ s
-first_of_pair s t sf tf tr = ap square_at (quotient (cell_of s) (cell_of t) (omega arith)) ∙ square_at-cell_of s sf
+first_of_pair s t sf tf tr = grind (arith, nat_tests)
 
 second_of_pair : (s t : Square) → t.file < 8 → t.rank < 8 → square_at ((64 * cell_of s + cell_of t) % 64) ≡ t
-second_of_pair s t tf tr = ap square_at (rest (cell_of s) (cell_of t) (omega arith)) ∙ square_at-cell_of t tf
+second_of_pair s t tf tr = grind (arith, nat_tests)
 
 -- two squares with one between them are on a line
 

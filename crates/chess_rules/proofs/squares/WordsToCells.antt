@@ -1,23 +1,21 @@
 -- Words as sets of places, and what the four words of a board say of its cells.
-use Rattle.std.proofs.Common.{◌≡◌, ℕ, zero, suc, ◌-◌, ◌*◌, ◌%◌, ◌^◌, ◌<◌, ◌≤◌, ◌≢◌, min, max, Bool, true, false, not, ◌&&◌, ◌||◌, ◌⊎◌, inl, inr, List, get_or, set, length, length-set, refl, sym, ◌∙◌, ap, ap₂, w64, arith}
-use Rattle.std.specs.Prelude.{⊤, Option, None, Some, ◌==◌, is_some, is_none, nat_lt, if◌then◌else◌}
+use Rattle.std.proofs.Common.{◌≡◌, ℕ, zero, suc, ◌-◌, ◌*◌, ◌%◌, ◌^◌, ◌<◌, ◌≢◌, min, max, Bool, true, false, not, ◌&&◌, ◌||◌, ◌⊎◌, List, get_or, set, length, length-set, sym, ◌∙◌, ap, ap₂, w64, arith}
+use Rattle.std.specs.Prelude.{Option, None, ◌==◌, is_some, nat_lt, if◌then◌else◌}
 use Rattle.std.specs.Int.{bit_at, bit_not}
 use Rattle.std.specs.Int.Bits.{bit_and, bit_or}
 use Rattle.std.proofs.lemmas.Bool.Decides.{nat_tests}
 use Rattle.std.proofs.lemmas.Grind.{get_or-set_at}
 use Rattle.std.proofs.lemmas.List.{ext_get_or, get_or-set_other}
 use Rattle.std.proofs.lemmas.Nat.{and_le_r, or_lt}
-use Rattle.std.proofs.lemmas.Nat.Bits.{bit_at_and, bit_at_or, bit_at_not, bit_at-lt, bit_at-zero, bit_at-pow_same, bit_at-pow_other, bit_at_ones, bit_at_ones_above}
+use Rattle.std.proofs.lemmas.Nat.Bits.{bit_at_and, bit_at_or, bit_at_not, bit_at-lt, bit_at-pow_same, bit_at-pow_other, bit_at_ones, bit_at_ones_above}
 use Rattle.chess_rules.specs.declared.piece.Colour.{Colour}
-use Rattle.chess_rules.specs.declared.piece.Colour.TheVariants.{White, Black}
 use Rattle.chess_rules.specs.declared.piece.Kind.{Kind}
-use Rattle.chess_rules.specs.declared.piece.Kind.TheVariants.{King, Queen, Rook, Bishop, Knight, Pawn}
 use Rattle.chess_rules.specs.declared.piece.Piece.{Piece}
 use Rattle.chess_rules.specs.declared.board.Board.TheInside.{Inside}
 use Rattle.chess_rules.specs.WordsAndCells.{cell_at, cells_long}
-use Rattle.chess_rules.specs.Words.{AreWords, Marks, cell_in, cells, has, Sets, Carries, Chosen, coded, is_code, is_it, kind_in, is_straight, is_diagonal, is_near, is_black, straight_of, diagonal_of, near_of, black_of, colour_of}
+use Rattle.chess_rules.specs.Words.{Marks, cell_in, cells, has, Sets, Carries, Chosen, coded, is_code, is_it, kind_in, is_black, straight_of, diagonal_of, near_of, black_of}
 use Rattle.chess_rules.specs.Reach.{has_kind}
-use Rattle.chess_rules.specs.Board.{has_colour, has_piece, same_colour, same_kind}
+use Rattle.chess_rules.specs.Board.{has_colour, has_piece}
 
 -- One bit.
 
@@ -44,7 +42,7 @@ has_not a i fits low = ap (λ n. n == 1) (bit_at_not w64 a i fits low) ∙ other
 
 pub has_zero : (i : ℕ) → has 0 i ≡ false
 unfolding has
-has_zero i = ap (λ n. n == 1) (bit_at-zero i)
+has_zero i = grind (arith, nat_tests)
 
 pub same_or_apart : (i k : ℕ) → ((i ≡ k) × ((i == k) ≡ true)) ⊎ ((i ≢ k) × ((i == k) ≡ false))
 same_or_apart i k = grind (arith, nat_tests)
@@ -133,9 +131,6 @@ colour_there k a b c d = grind (arith, nat_tests)
 pub piece_there : (c : Colour) (k : Kind) (x y z d : Bool) → (has_kind k (coded x y z d) && is_it (is_black c) d) ≡ has_piece c k (coded x y z d)
 piece_there c k x y z d = grind (arith, nat_tests)
 
-pub not_some : (x : Option Piece) → not (is_some x) ≡ is_none x
-not_some x = grind (arith, nat_tests)
-
 -- What the words of a board say of its squares.
 
 pub cell_there : (w : Inside) (b : List (Option Piece)) (i : ℕ) → cells w ≡ b → i < 64 → cell_in w i ≡ get_or b i None
@@ -161,12 +156,6 @@ module _ (old new : Inside) (k : ℕ) (x : Option Piece) (one two four black : B
   bits_put : (i : ℕ) → i < 64 → (v : Bool) → (i == k) ≡ v → cell_in new i ≡ (if v then x else cell_in old i)
   bits_put i low v e = grind (arith, nat_tests)
 
-  codes_put : ((i : ℕ) → i < 64 → is_code (has old.straight i) (has old.diagonal i) (has old.near i) (has old.black i) ≡ true) → (i : ℕ) → i < 64 → is_code (has new.straight i) (has new.diagonal i) (has new.near i) (has new.black i) ≡ true
-  codes_put h i low = grind (arith, nat_tests)
-
-  pub words_put : AreWords old → AreWords new
-  words_put h = record { straight = straight.fits; diagonal = diagonal.fits; near = near.fits; black = blacks.fits; codes = codes_put h.codes }
-
   pub cells_put : (before : List (Option Piece)) → cells old ≡ before → cells new ≡ set before k x
   cells_put before is =
       same_cells new (set before k x) (length-set before k x ∙ long_there old before is)
@@ -180,9 +169,6 @@ module _ (old new : Inside) (j k : ℕ)
     (straight : Carries old.straight new.straight j k) (diagonal : Carries old.diagonal new.diagonal j k) (near : Carries old.near new.near j k) (blacks : Carries old.black new.black j k) where
   bits_carried : (i : ℕ) → i < 64 → cell_in new i ≡ (if i == k then cell_in old j else (if i == j then None else cell_in old i))
   bits_carried i low = grind (arith, nat_tests)
-
-  pub words_carried : j < 64 → AreWords old → AreWords new
-  words_carried inside h = grind (arith, nat_tests)
 
   pub cells_carried : (before : List (Option Piece)) → j < 64 → cells old ≡ before → cells new ≡ set (set before j None) k (get_or before j None)
   cells_carried before inside is =

@@ -1,6 +1,6 @@
 -- The candidates of one kind are different squares, and at most eight.
-use Rattle.std.proofs.Common.{◌≡◌, ℕ, ◌<◌, ◌≤◌, Bool, true, false, ◌&&◌, eqb, List, map, length, Decides, ◌⊎◌, inl, inr, refl, sym, ◌∙◌, ap, ap₂, subst, arith}
-use Rattle.std.specs.Prelude.{◌==◌, Option, None, Some, is_some, filter, AllPairs, ◌≢◌, if◌then◌else◌, nat_le, nat_lt}
+use Rattle.std.proofs.Common.{◌≡◌, ℕ, ◌<◌, ◌≤◌, Bool, true, false, ◌&&◌, eqb, List, map, length, Decides, ◌⊎◌, inl, inr, refl, sym, ap, subst, arith}
+use Rattle.std.specs.Prelude.{None, Some, filter, AllPairs, ◌≢◌, if◌then◌else◌, nat_le, nat_lt}
 use Rattle.std.specs.List.{list_all, IsDistinct}
 use Rattle.std.specs.Cmp.{IsEquivalence}
 use Rattle.std.proofs.lemmas.Bool.Decides.{nat_tests}
@@ -8,16 +8,15 @@ use Rattle.std.proofs.lemmas.Cmp.{nat_eq_equiv}
 use Rattle.std.proofs.lemmas.Map.Made.{IsDistinct-from_count, AllPairs-from_IsDistinct}
 use Rattle.chess_rules.specs.declared.piece.Kind.{Kind}
 use Rattle.chess_rules.specs.declared.piece.Kind.TheVariants.{King, Queen, Rook, Bishop, Knight, Pawn}
-use Rattle.chess_rules.specs.declared.piece.Piece.{Piece}
 use Rattle.chess_rules.specs.declared.position.Parts.{Parts}
 use Rattle.chess_rules.specs.Square.{Square, squares, same_square, is_jump}
-use Rattle.chess_rules.specs.Board.{at, cell_of, has_piece}
+use Rattle.chess_rules.specs.Board.{cell_of}
 use Rattle.chess_rules.specs.Attacks.{is_clear}
 use Rattle.chess_rules.specs.Step.{own}
 use Rattle.chess_rules.specs.Candidate.{sees, is_candidate, candidates}
 use Rattle.chess_rules.specs.Reach.{is_aligned, is_in_view}
 use Rattle.chess_rules.specs.Laws.{FewCandidates}
-use Rattle.chess_rules.proofs.squares.AllSquares.{first_true, second_true, both_true, each_square}
+use Rattle.chess_rules.proofs.squares.AllSquares.{second_true, each_square}
 use Rattle.chess_rules.proofs.lines.AttackToReach.{squares_same}
 use Rattle.chess_rules.proofs.lines.InView.{few_in_view}
 use Rattle.chess_rules.proofs.trying.FoundLists.{keep, filter_as_map, distinct_found, kept_more}
@@ -28,7 +27,7 @@ pub square_laws : IsEquivalence same_square
 square_laws = grind (arith, nat_tests)
 
 pub square_decides : (s t : Square) → Decides (same_square s t) (s ≡ t)
-square_decides s t = (squares_same s t, λ e. subst (λ (u : Square). same_square s u ≡ true) e (square_laws.refl s))
+square_decides s t = grind (arith, nat_tests)
 
 -- No square is listed twice.
 
@@ -70,7 +69,7 @@ pub kind_cases : (k : Kind) → (is_rider k ≡ true) ⊎ (k ≡ Knight)
 kind_cases k = grind (arith, nat_tests)
 
 pub sees_unless : (k : Kind) → (k ≡ Knight → ⊥) → is_rider k ≡ true
-sees_unless k h = elim (kind_cases k) [ inl rides ↦ rides | inr knight ↦ absurd (h knight) ]
+sees_unless k h = grind (arith, nat_tests)
 
 -- They are few.
 
@@ -99,7 +98,7 @@ few_candidates p k t inside =
     below n h = grind (arith, nat_tests)
 
     file : t.file < 8
-    file = below t.file (first_true _ _ inside)
+    file = grind (arith, nat_tests)
 
     rank : t.rank < 8
-    rank = below t.rank (second_true (nat_lt t.file 8) _ inside)
+    rank = grind (arith, nat_tests)

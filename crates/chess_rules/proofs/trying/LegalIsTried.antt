@@ -1,24 +1,22 @@
 -- A move is legal exactly if one of the pairs that are tried is.
-use Rattle.std.proofs.Common.{arith, ◌≡◌, Bool, true, false, not, ◌&&◌, ◌||◌, inl, inr, List, [], ◌∷◌, refl, sym, ◌∙◌, ap, ap₂, subst}
+use Rattle.std.proofs.Common.{arith, ◌≡◌, Bool, true, false, not, ◌&&◌, ◌||◌, inl, inr, List, [], ◌∷◌, refl, sym, ◌∙◌, ap₂, subst}
 use Rattle.std.specs.Prelude.{Option, None, Some, filter, is_none}
 use Rattle.std.specs.List.{list_any}
 use Rattle.chess_rules.specs.declared.piece.Colour.{Colour}
 use Rattle.chess_rules.specs.declared.piece.Kind.{Kind}
-use Rattle.chess_rules.specs.declared.piece.Kind.TheVariants.{King, Queen, Rook, Bishop, Knight, Pawn}
+use Rattle.chess_rules.specs.declared.piece.Kind.TheVariants.{King, Knight, Pawn}
 use Rattle.chess_rules.specs.declared.piece.Piece.{Piece}
 use Rattle.chess_rules.specs.declared.piece.Promotion.{Promotion}
-use Rattle.chess_rules.specs.declared.piece.Promotion.TheVariants as promotions
 use Rattle.chess_rules.specs.declared.position.Move.{Move}
 use Rattle.chess_rules.specs.declared.position.Parts.{Parts}
 use Rattle.chess_rules.specs.Square.{Square, squares, on_board, is_jump}
-use Rattle.chess_rules.specs.Board.{at, same_colour, same_kind, has_colour, has_piece, is_empty}
+use Rattle.chess_rules.specs.Board.{at, same_kind, has_colour, has_piece, is_empty}
 use Rattle.chess_rules.specs.Position.{is_position}
 use Rattle.chess_rules.specs.Step.{own, promotion_fits, is_target, short_right, long_right, short_wing, long_wing}
 use Rattle.chess_rules.specs.Legal.{is_legal, every_promotion, has_legal_move}
 use Rattle.chess_rules.specs.Candidate.{sees}
-use Rattle.chess_rules.specs.Attacks.{is_clear}
-use Rattle.chess_rules.specs.Reach.{is_aligned, king_square}
-use Rattle.chess_rules.specs.Pairs.{one_move, is_legal_pair, is_king_step, is_untried, is_untried_aligned, has_untried_move, has_king_step, has_other_move}
+use Rattle.chess_rules.specs.Reach.{king_square}
+use Rattle.chess_rules.specs.Pairs.{one_move, is_legal_pair, is_king_step, is_untried, has_untried_move, has_king_step, has_other_move}
 use Rattle.chess_rules.proofs.squares.AllSquares.{split_or, or_first, or_second, first_true, second_true, both_true, same_tests, Passes, some_square, any_square}
 use Rattle.chess_rules.proofs.positions.OneKing.{king_stands, king_only_there}
 use Rattle.chess_rules.proofs.moves.CellsAfterPut.{OnBoard}
@@ -118,7 +116,7 @@ other_hit p s t on_s on_t left h =
     ∙ any_square (λ q. is_untried p t q && is_legal_pair p q t) s on_s.file on_s.rank (both_true (is_untried p t s) (is_legal_pair p s t) left h))
 
 jump_untried : (p : Parts) (s t : Square) → own p Knight s ≡ true → is_jump s t ≡ true → is_untried p t s ≡ true
-jump_untried p s t owns jumps = or_first (own p Knight s && is_jump s t) (is_untried_aligned p t s) (both_true _ _ owns jumps)
+jump_untried p s t owns jumps = grind (arith, nat_tests)
 
 way_untried : (p : Parts) (k : Kind) (s t : Square) → own p k s ≡ true → is_rider k ≡ true → sees k p s t ≡ true → (is_king_step p t && own p King s) ≡ false → is_untried p t s ≡ true
 way_untried p k s t owns rides seen far = grind (arith, nat_tests, or_second, both_true, colour_there, first_true, second_true, sees_by_way, to_false, is_rider, one_kind)

@@ -3,21 +3,20 @@ use Rattle.std.proofs.Common.{◌≡◌, ℕ, ◌+◌, ◌/◌, ◌<◌, true, n
 use Rattle.std.specs.Prelude.{◌==◌, is_none}
 use Rattle.std.proofs.lemmas.Bool.Decides.{nat_tests}
 use Rattle.chess_rules.specs.declared.piece.Colour.{Colour}
-use Rattle.chess_rules.specs.declared.piece.Colour.TheVariants.{White, Black}
 use Rattle.chess_rules.specs.declared.piece.Kind.{Kind}
-use Rattle.chess_rules.specs.declared.piece.Kind.TheVariants.{King, Queen, Rook, Bishop, Knight, Pawn}
+use Rattle.chess_rules.specs.declared.piece.Kind.TheVariants.{Pawn}
 use Rattle.chess_rules.specs.declared.position.Move.{Move}
 use Rattle.chess_rules.specs.declared.position.Parts.{Parts}
-use Rattle.chess_rules.specs.Square.{Square, square, gap, inside, same_square, on_diagonal, strictly_between, between_on_rank, between_on_file, between_on_diagonal}
+use Rattle.chess_rules.specs.Square.{Square, square, gap, inside, same_square, strictly_between, between_on_rank}
 use Rattle.chess_rules.specs.Board.{Board, at, is_empty, has_colour}
 use Rattle.chess_rules.specs.Attacks.{is_clear, is_ahead, kind_attacks, attacks}
-use Rattle.chess_rules.specs.Step.{own, home, home_rank, pawn_rank, double_rank, is_advance, is_double_step, is_pawn_capture, is_pawn_way, is_pawn_step, promotion_fits, is_target, crossed, short_right, long_right, short_wing, long_wing, Wing}
+use Rattle.chess_rules.specs.Step.{own, home, home_rank, pawn_rank, double_rank, is_advance, is_double_step, is_pawn_step, promotion_fits, is_target, crossed, short_right, long_right, short_wing, long_wing, Wing}
 use Rattle.chess_rules.specs.Candidate.{sees}
 use Rattle.chess_rules.specs.Reach.{is_aligned}
 use Rattle.chess_rules.specs.Laws.{CandidatesComplete}
 use Rattle.chess_rules.proofs.squares.AllSquares.{split_or, or_first, or_second, first_true, second_true, both_true, each_square, equal_from, equal_tests, not_true}
-use Rattle.chess_rules.proofs.lines.AttackToReach.{near, ahead_gap, attack_seen, between_cases, clear_if}
-use Rattle.chess_rules.proofs.moves.StepsKeepBoard.{one_kind, attacks_as, double_ranks, Castles, castles_means}
+use Rattle.chess_rules.proofs.lines.AttackToReach.{near, ahead_gap, attack_seen, clear_if}
+use Rattle.chess_rules.proofs.moves.StepsKeepBoard.{attacks_as, double_ranks, Castles, castles_means}
 use Rattle.chess_rules.proofs.moves.LegalToPosition.{way_of, Legal, legal_means}
 
 -- what a piece attacks it sees
@@ -92,7 +91,7 @@ long_way b c h = grind (arith, nat_tests, clear_part, long_part)
 -- Each way to step.
 
 sees_pawn : (p : Parts) (k : Kind) (s t : Square) → own p k s ≡ true → own p Pawn s ≡ true → sees Pawn p s t ≡ true → sees k p s t ≡ true
-sees_pawn p k s t h g seen = subst (λ (j : Kind). sees j p s t ≡ true) (sym (one_kind p.side p.side k Pawn (at p.board s) h g)) seen
+sees_pawn p k s t h g seen = grind (arith, nat_tests)
 
 by_attack : (p : Parts) (m : Move) (k : Kind) → own p k m.from ≡ true → attacks p.board m.from m.to ≡ true → sees k p m.from m.to ≡ true
 by_attack p m k h g = seen_by k p.side p m.from m.to (attacks_as p.side k (at p.board m.from) p.board m.from m.to h g)

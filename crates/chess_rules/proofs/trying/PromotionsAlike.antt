@@ -4,28 +4,25 @@ use Rattle.std.proofs.Common.{◌≡◌, ℕ, ◌<◌, Bool, true, false, not, �
 use Rattle.std.specs.Prelude.{Option, None, Some, is_none, is_some, option_map, ◌==◌, if◌then◌else◌}
 use Rattle.std.specs.List.{list_any, list_all}
 use Rattle.chess_rules.specs.declared.piece.Colour.{Colour}
-use Rattle.chess_rules.specs.declared.piece.Colour.TheVariants.{White, Black}
-use Rattle.chess_rules.specs.declared.piece.Kind.{Kind}
-use Rattle.chess_rules.specs.declared.piece.Kind.TheVariants.{King, Queen, Rook, Bishop, Knight, Pawn}
+use Rattle.chess_rules.specs.declared.piece.Kind.TheVariants.{King, Rook, Pawn}
 use Rattle.chess_rules.specs.declared.piece.Piece.{Piece}
 use Rattle.chess_rules.specs.declared.piece.Promotion.{Promotion}
 use Rattle.chess_rules.specs.declared.piece.Promotion.TheVariants as promotions
 use Rattle.chess_rules.specs.declared.position.Move.{Move}
 use Rattle.chess_rules.specs.declared.position.Parts.{Parts}
-use Rattle.chess_rules.specs.Square.{Square, squares, on_board, in_line, on_diagonal, strictly_between}
+use Rattle.chess_rules.specs.Square.{Square, squares, on_board, strictly_between}
 use Rattle.chess_rules.specs.Board.{Board, at, put, some_piece, is_empty, other, has_colour, has_piece}
-use Rattle.chess_rules.specs.Attacks.{is_clear, kind_attacks, cell_attacks, attacks, is_attacked, king_attacked}
+use Rattle.chess_rules.specs.Attacks.{is_clear, cell_attacks, attacks, is_attacked, king_attacked}
 use Rattle.chess_rules.specs.Position.{is_position}
-use Rattle.chess_rules.specs.Step.{own, home, home_rank, last_rank, is_on_board, is_piece_step, is_pawn_step, is_pawn_way, is_en_passant, promotion_fits, is_target, castles_short, castles_long, short_right, long_right, short_wing, long_wing, captured_pawn, kind_of, carried, en_passant_board, castled, board_after, after}
+use Rattle.chess_rules.specs.Step.{own, home, home_rank, last_rank, is_on_board, is_pawn_way, promotion_fits, is_target, short_right, long_right, short_wing, long_wing, captured_pawn, kind_of, carried, en_passant_board, castled, board_after, after}
 use Rattle.chess_rules.specs.Legal.{legal, is_legal, if_safe}
 use Rattle.chess_rules.specs.Pairs.{one_move, is_legal_pair}
 use Rattle.chess_rules.specs.Laws.{PromotionsAlike}
 use Rattle.chess_rules.proofs.squares.AllSquares.{first_true, second_true, same_tests, Passes, some_square, any_square, each_square, all_squares}
 use Rattle.chess_rules.proofs.moves.CellsAfterPut.{OnBoard, at_put, length-put}
-use Rattle.chess_rules.proofs.positions.RulesOfPosition.{sound_from_position}
-use Rattle.chess_rules.proofs.moves.StepsKeepBoard.{other-other, one_kind, pawn_is_no_king, castles_means}
+use Rattle.chess_rules.proofs.moves.StepsKeepBoard.{other-other, castles_means}
 use Rattle.chess_rules.proofs.moves.LegalToPosition.{on_board_means, way_of, Legal, legal_means}
-use Rattle.chess_rules.proofs.trying.FoundLists.{to_false, passes}
+use Rattle.chess_rules.proofs.trying.FoundLists.{passes}
 use Rattle.std.proofs.lemmas.Bool.Decides.{nat_tests}
 
 -- Two boards that differ in pieces of one colour alone, none of them a king, attack that colour's
@@ -170,24 +167,12 @@ promotions_alike p s t x y position =
     ∙ sym (legal_passes p (promoting s t y)))
   where
     long : length p.board ≡ 64
-    long = (sound_from_position p position).long
+    long = grind (arith, nat_tests)
 
     boards : OnBoard s → OnBoard t → passes (leaves_safe p) (board_after p (promoting s t x)) ≡ passes (leaves_safe p) (board_after p (promoting s t y))
     boards on_s on_t = grind (arith, nat_tests, pick, safe_alike, carried_alike, long, passing_alike, castled_alike)
 
 -- A legal move names a promotion exactly if a pawn reaches its last rank.
-
-names_fit : (r : Bool) (o : Option Promotion) → (if r then is_some o else is_none o) ≡ true → is_some o ≡ r
-names_fit r o h = grind (arith, nat_tests)
-
-none_named : (o : Option Promotion) → is_none o ≡ true → is_some o ≡ false
-none_named o h = grind (arith, nat_tests)
-
-not_and : (r v : Bool) → v ≡ false → (r && v) ≡ false
-not_and r v h = grind (arith, nat_tests)
-
-and_true : (r v : Bool) → v ≡ true → r ≡ (r && v)
-and_true r v h = grind (arith, nat_tests)
 
 is_false : (v : Bool) → not v ≡ true → v ≡ false
 is_false v h = grind (arith, nat_tests)
@@ -196,13 +181,13 @@ abbrev arrives : Parts → Move → Bool
 arrives p m = (m.to.rank == last_rank p.side) && own p Pawn m.from
 
 named_by_pawn : (p : Parts) (m : Move) → own p Pawn m.from ≡ true → promotion_fits p m ≡ true → is_some m.promotion ≡ arrives p m
-named_by_pawn p m owns fits = names_fit (m.to.rank == last_rank p.side) m.promotion fits ∙ and_true (m.to.rank == last_rank p.side) (own p Pawn m.from) owns
+named_by_pawn p m owns fits = grind (arith, nat_tests)
 
 named_by_other : (p : Parts) (m : Move) → own p Pawn m.from ≡ false → is_none m.promotion ≡ true → is_some m.promotion ≡ arrives p m
-named_by_other p m owns none = none_named m.promotion none ∙ sym (not_and (m.to.rank == last_rank p.side) (own p Pawn m.from) owns)
+named_by_other p m owns none = grind (arith, nat_tests)
 
 king_no_pawn : (p : Parts) (s : Square) → own p King s ≡ true → own p Pawn s ≡ false
-king_no_pawn p s h = to_false (own p Pawn s) (λ pawn. pawn_is_no_king (one_kind p.side p.side King Pawn (at p.board s) h pawn))
+king_no_pawn p s h = grind (arith, nat_tests)
 
 named : (p q : Parts) (m : Move) → Legal p m q → is_some m.promotion ≡ arrives p m
 named p q m l =

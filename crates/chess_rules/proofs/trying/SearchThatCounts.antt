@@ -1,39 +1,22 @@
 -- A search that counts, step by step.
-use Rattle.std.proofs.Common.{◌≡◌, ℕ, ◌+◌, ◌<◌, ◌≤◌, Bool, true, false, ◌||◌, ◌∷◌, length, refl, sym, ◌∙◌, ap, arith}
+use Rattle.std.proofs.Common.{◌≡◌, ℕ, ◌+◌, ◌<◌, ◌≤◌, Bool, true, false, ◌||◌, ◌∷◌, length, sym, ◌∙◌, ap, arith}
 use Rattle.std.specs.List.{list_any, sum_by}
 use Rattle.std.proofs.lemmas.List.Sums.{sum_by-cons}
 use Rattle.chess_rules.specs.Square.{Square}
 use Rattle.chess_rules.specs.Words.{members}
 use Rattle.chess_rules.proofs.squares.SetsToSquares.{no_member}
 use Rattle.chess_rules.specs.Pairs.{Counts}
+use Rattle.std.proofs.lemmas.Bool.Decides.{nat_tests}
 
 pub counts_exactly : (found : Bool) (old new whole : ℕ) → (found ≡ true → 0 < whole) → new ≡ old + whole → Counts found old new whole
-counts_exactly found old new whole one h =
-    record {
-      rises = omega arith;
-      most = omega arith;
-      all = λ _. h;
-      some = λ passed. (let counted : 0 < whole = one passed in omega arith);
-    }
+counts_exactly found old new whole one h = grind (arith, nat_tests)
 
 -- two searches, one after the other
 pub counts_then : (found : Bool) (old now new first second : ℕ) → now ≡ old + first → Counts found now new second → Counts found old new (first + second)
-counts_then found old now new first second h w =
-    record {
-      rises = (let up : now ≤ new = w.rises in omega arith);
-      most = (let up : new ≤ now + second = w.most in omega arith);
-      all = λ none. (let e : new ≡ now + second = w.all none in omega arith);
-      some = λ passed. (let up : now < new = w.some passed in omega arith);
-    }
+counts_then found old now new first second h w = grind (arith, nat_tests)
 
 pub counts_first : (found : Bool) (old new first second : ℕ) → found ≡ true → Counts found old new first → Counts found old new (first + second)
-counts_first found old new first second h w =
-    record {
-      rises = w.rises;
-      most = (let up : new ≤ old + first = w.most in omega arith);
-      all = λ none. cc;
-      some = w.some;
-    }
+counts_first found old new first second h w = grind (arith, nat_tests)
 
 -- The members of a set, one by one.
 
@@ -44,31 +27,15 @@ module _ (test : Square → Bool) (set : ℕ) where
     pub counted : now + length (members left) ≡ old + length (members set)
     pub same : list_any test (members left) ≡ list_any test (members set)
 
-  pub all_left : (old : ℕ) → LeftOf set old old
-  all_left old = record { rises = omega arith; counted = refl; same = refl }
-
   module _ (left rest old now : ℕ) (s : Square) (next : members left ≡ s ∷ members rest) (w : LeftOf left old now) where
     pub left_fits : (limit : ℕ) → old + length (members set) < limit → now + 1 < limit
     left_fits limit room = omega (arith, room, w.counted, ap length next)
 
     pub fewer_left : (later : ℕ) → test s ≡ false → later ≡ now + 1 → LeftOf rest old later
-    fewer_left later misses one =
-        record {
-          rises = omega (arith, one, w.rises);
-          counted = omega (arith, one, w.counted, ap length next);
-          same = ap (λ v. v || list_any test (members rest)) (sym misses) ∙ (ap (list_any test) (sym next) ∙ w.same);
-        }
+    fewer_left later misses one = grind (arith, nat_tests)
 
     pub left_hit : (later : ℕ) → test s ≡ true → later ≡ now + 1 → (true ≡ list_any test (members set)) × Counts true old later (length (members set))
-    left_hit later passes one = (
-      ap (λ v. v || list_any test (members rest)) (sym passes) ∙ (ap (list_any test) (sym next) ∙ w.same),
-      record {
-        rises = omega (arith, one, w.rises);
-        most = omega (arith, one, w.counted, ap length next);
-        all = λ none. cc;
-        some = λ _. omega (arith, one, w.rises);
-      },
-    )
+    left_hit later passes one = grind (arith, nat_tests)
 
   pub none_left : (left old now : ℕ) → LeftOf left old now → left ≡ 0 → (false ≡ list_any test (members set)) × Counts false old now (length (members set))
   none_left left old now w none = (
@@ -83,9 +50,6 @@ module _ (test : Square → Bool) (cost : Square → ℕ) (set : ℕ) where
     pub rises : old ≤ now
     pub counted : now + sum_by cost (members left) ≡ old + sum_by cost (members set)
     pub same : list_any test (members left) ≡ list_any test (members set)
-
-  pub all_targets : (old : ℕ) → TargetsLeft set old old
-  all_targets old = record { rises = omega arith; counted = refl; same = refl }
 
   module _ (left rest old now : ℕ) (s : Square) (next : members left ≡ s ∷ members rest) (w : TargetsLeft left old now) where
     next_counted : sum_by cost (members left) ≡ cost s + sum_by cost (members rest)

@@ -1,6 +1,5 @@
 -- The sets of the code have exactly the candidates.
-use Rattle.std.proofs.Common.{◌≡◌, ℕ, ◌<◌, ◌≤◌, Bool, true, false, ◌&&◌, List, length, get_or, refl, sym, ◌∙◌, ap, ap₂, arith}
-use Rattle.std.specs.Prelude.{None, nat_lt}
+use Rattle.std.proofs.Common.{◌≡◌, ℕ, ◌<◌, ◌≤◌, Bool, true, ◌&&◌, List, length, sym, ◌∙◌, ap, ap₂, arith}
 use Rattle.std.specs.Int.Bits.{bit_and}
 use Rattle.std.proofs.lemmas.Bool.Decides.{nat_tests}
 use Rattle.chess_rules.specs.declared.piece.Colour.{Colour}
@@ -14,7 +13,7 @@ use Rattle.chess_rules.specs.Attacks.{is_clear}
 use Rattle.chess_rules.specs.Candidate.{candidates, is_candidate}
 use Rattle.chess_rules.specs.Reach.{is_aligned, square_at}
 use Rattle.chess_rules.specs.Words.{has, members, Marks, Places}
-use Rattle.chess_rules.proofs.squares.AllSquares.{first_true, second_true, both_true}
+use Rattle.chess_rules.proofs.squares.AllSquares.{both_true}
 use Rattle.chess_rules.proofs.positions.OneKing.{cell_of-square_at}
 use Rattle.chess_rules.proofs.trying.CandidatesAreFew.{few_candidates, is_rider, sees_by_way}
 use Rattle.chess_rules.proofs.trying.FoundLists.{kept_more}

@@ -1,6 +1,6 @@
 -- The sets whose members are tried have the pairs of the definitions.
-use Rattle.std.proofs.Common.{◌≡◌, ℕ, ◌+◌, ◌<◌, ◌^◌, Bool, true, false, not, cond, ◌&&◌, ◌||◌, List, [], ◌∷◌, refl, sym, ◌∙◌, ap, ap₂, get_or, w64, arith}
-use Rattle.std.specs.Prelude.{None, filter}
+use Rattle.std.proofs.Common.{◌≡◌, ℕ, ◌+◌, ◌<◌, ◌^◌, Bool, true, not, cond, ◌&&◌, ◌||◌, List, [], ◌∷◌, refl, sym, ◌∙◌, ap, w64, arith}
+use Rattle.std.specs.Prelude.{filter}
 use Rattle.std.specs.Int.{bit_not}
 use Rattle.std.specs.Int.Bits.{bit_and}
 use Rattle.std.specs.List.{list_any, sum_by}
@@ -12,10 +12,10 @@ use Rattle.chess_rules.specs.Square.{Square, squares, is_adjacent}
 use Rattle.chess_rules.specs.Board.{Board, at, cell_of, has_colour}
 use Rattle.chess_rules.specs.Step.{own}
 use Rattle.chess_rules.specs.Attacks.{is_clear}
-use Rattle.chess_rules.specs.Reach.{is_aligned, king_square, square_at}
+use Rattle.chess_rules.specs.Reach.{is_aligned, king_square}
 use Rattle.chess_rules.specs.Words.{has, members, Marks, Places}
 use Rattle.chess_rules.specs.Pairs.{is_king_step, is_without_tried_king, is_untried_aligned}
-use Rattle.chess_rules.proofs.squares.SetsToSquares.{at_square, members_are}
+use Rattle.chess_rules.proofs.squares.SetsToSquares.{members_are}
 use Rattle.chess_rules.proofs.squares.WordsToCells.{has_and, has_not}
 use Rattle.chess_rules.proofs.positions.OneKing.{cell_of-square_at}
 use Rattle.std.proofs.lemmas.Bool.Decides.{nat_tests}
@@ -31,15 +31,12 @@ pub steps_are : (p : Parts) (k : Square) (near owns : ℕ) → k ≡ king_square
 steps_are p k near owns king fits h g = grind (arith, nat_tests, has_and, w64, has_not)
 
 pub step_tried : (p : Parts) (t : Square) (w place : ℕ) (r : Bool) → Places w (is_king_step p) → place ≡ cell_of t → t.file < 8 → t.rank < 8 → r ≡ has w place → r ≡ is_king_step p t
-step_tried p t w place r h is file rank e = e ∙ (ap (has w) is ∙ at_square w (is_king_step p) t h file rank)
+step_tried p t w place r h is file rank e = grind (arith, nat_tests)
 
 -- The pieces that are still to be tried for a target.
 
 pub king_left_out : (p : Parts) (t : Square) (pieces kings : ℕ) → is_king_step p t ≡ true → kings < 2 ^ 64 → Places kings (own p King) → Places (bit_and pieces (bit_not w64 kings)) (is_without_tried_king p pieces t)
 king_left_out p t pieces kings step fits h = grind (arith, nat_tests, has_and, w64, cell_of-square_at, has_not)
-
-pub none_left_out : (p : Parts) (t : Square) (pieces : ℕ) → is_king_step p t ≡ false → Places pieces (is_without_tried_king p pieces t)
-none_left_out p t pieces step = grind (arith, nat_tests)
 
 pub aligned_left : (p : Parts) (t : Square) (b : Board) (owns knights lines left clear : ℕ) → b ≡ p.board → knights < 2 ^ 64
     → Places owns (λ s. has_colour p.side (at p.board s)) → Places knights (own p Knight) → Places lines (λ s. is_aligned s t)

@@ -1,10 +1,11 @@
 use Rattle.std.proofs.Common.{◌≡◌, ◌∷◌, length, sym, ◌∙◌, ap, arith}
 use Rattle.chess_rules.specs.Attacks.{is_clear}
 use Rattle.chess_rules.specs.Words.{members}
-use Rattle.chess_rules.proofs.lines.ClearWays.{all_kept, fails_out, none_left, passes_on}
+use Rattle.chess_rules.proofs.lines.ClearWays.{none_left}
 use Rattle.chess_rules.proofs.squares.SetsToSquares.{next_member}
 use Rattle.chess_rules.proofs.attack.clear_among.Goals as goal
 use Rattle.chess_rules.proofs.attack.clear_among.Goals.{After-nth}
+use Rattle.std.proofs.lemmas.Bool.Decides.{nat_tests}
 
 next : (c : After-nth) → members c.loop-left.left ≡ c.nth.result ∷ members c.with-left.result
 next c =
@@ -12,25 +13,19 @@ next c =
     ∙ ap (λ s. s ∷ members c.with-left.result) (sym c.nth.ensures)
 
 pub loop-left-init : goal.loop-left-init
-loop-left-init c = all_kept (λ s. is_clear c.args.board.now s c.args.target) c.args.set
+loop-left-init c = grind (arith, nat_tests)
 
 pub loop-left-smaller-then-not-is_clear : goal.loop-left-smaller-then-not-is_clear
 loop-left-smaller-then-not-is_clear c = omega (arith, ap length (next c.before.before.before))
 
 pub loop-left-preserved-then-not-is_clear : goal.loop-left-preserved-then-not-is_clear
-loop-left-preserved-then-not-is_clear c =
-    fails_out (λ s. is_clear c.args.board.now s c.args.target) c.args.set c.loop-left.left c.with-left.result c.lowest-place.result c.loop-left.clear
-    c.lowest-place.ensures c.with-left.ensures c.loop-left.invariant c.with-clear.result
-    (ap (λ s. is_clear c.args.board.now s c.args.target) (sym c.nth.ensures) ∙ (sym c.is_clear.ensures ∙ c.if-not-is_clear.true)) c.with-clear.ensures
+loop-left-preserved-then-not-is_clear c = grind (arith, nat_tests)
 
 pub loop-left-smaller : goal.loop-left-smaller
 loop-left-smaller c = omega (arith, ap length (next c.before.before))
 
 pub loop-left-preserved : goal.loop-left-preserved
-loop-left-preserved c =
-    passes_on (λ s. is_clear c.args.board.now s c.args.target) c.args.set c.loop-left.left c.with-left.result c.lowest-place.result c.loop-left.clear
-    c.lowest-place.ensures c.with-left.ensures c.loop-left.invariant
-    (ap (λ s. is_clear c.args.board.now s c.args.target) (sym c.nth.ensures) ∙ (sym c.is_clear.ensures ∙ c.if-not-is_clear.false))
+loop-left-preserved c = grind (arith, nat_tests)
 
 pub returns : goal.returns
 returns c = none_left (λ s. is_clear c.args.board.now s c.args.target) c.args.set c.loop-left.left c.loop-left.clear c.loop-left-test.false c.loop-left.invariant

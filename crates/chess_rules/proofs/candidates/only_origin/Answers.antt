@@ -1,4 +1,4 @@
-use Rattle.std.proofs.Common.{◌≡◌, ◌<◌, List, [], ◌∷◌, length, refl, sym, ◌∙◌, ap, arith}
+use Rattle.std.proofs.Common.{◌≡◌, ◌<◌, List, ◌∷◌, length, sym, ◌∙◌, ap, arith}
 use Rattle.std.specs.Prelude.{None, Some}
 use Rattle.chess_rules.specs.Square.{Square}
 use Rattle.chess_rules.specs.Candidate.{candidates, lone}
@@ -7,10 +7,10 @@ use Rattle.chess_rules.specs.Words.{members}
 use Rattle.chess_rules.proofs.squares.SetsToSquares.{next_member, no_member, one_member}
 use Rattle.chess_rules.proofs.candidates.only_origin.Goals as goal
 use Rattle.chess_rules.proofs.candidates.only_origin.Goals.{After-with}
+use Rattle.std.proofs.lemmas.Bool.Decides.{nat_tests}
 
 lone_of_several : (x : Square) (xs : List Square) → 0 < length xs → None ≡ lone (x ∷ xs)
-lone_of_several x [] some = absurd (omega (arith, some))
-lone_of_several x (y ∷ ys) some = refl
+lone_of_several x x1 some = grind (arith, nat_tests)
 
 -- the first of them, and the others
 first : (c : After-with) → candidates c.args.position.now c.args.kind c.args.target ≡ square_at c.lowest-place.result ∷ members c.with.result

@@ -1,24 +1,18 @@
-use Rattle.std.proofs.Common.{◌≡◌, List, sym, ◌∙◌, subst}
-use Rattle.std.specs.List.Sorted.{IsPermutation}
-use Rattle.std.proofs.lemmas.List.Sorted.{IsPermutation-refl}
-use Rattle.chess_rules.specs.Square.{Square}
+use Rattle.std.proofs.Common.{arith, ◌∙◌}
 use Rattle.chess_rules.specs.Candidate.{candidates}
 use Rattle.chess_rules.specs.Words.{members}
 use Rattle.chess_rules.proofs.trying.CandidatesAreFew.{apart_there, candidates_apart}
 use Rattle.chess_rules.proofs.trying.SetsToCandidates.{few_there}
 use Rattle.chess_rules.proofs.candidates.origins.Goals as goal
+use Rattle.std.proofs.lemmas.Bool.Decides.{nat_tests}
 
 pub squares_of-requires : goal.squares_of-requires
 squares_of-requires c =
     few_there c.args.position.now c.args.kind c.args.target (members c.origin_set.result)
     c.recall_invariant.ensures.file c.recall_invariant.ensures.rank c.origin_set.ensures
 
-same_list : (xs ys : List Square) → ys ≡ xs → IsPermutation xs ys
-same_list xs ys e = subst (λ (zs : List Square). IsPermutation xs zs) (sym e) (IsPermutation-refl xs)
-
 pub returns-clause-exactly : goal.returns-clause-exactly
-returns-clause-exactly c =
-    same_list (candidates c.args.position.now c.args.kind c.args.target) c.squares_of.result.items (c.squares_of.ensures ∙ c.origin_set.ensures)
+returns-clause-exactly c = grind (arith, nat_tests)
 
 pub returns-clause-once : goal.returns-clause-once
 returns-clause-once c =

@@ -1,18 +1,15 @@
-use Rattle.std.proofs.Common.{true, ◌≡◌}
-use Rattle.std.specs.Prelude.{nat_lt}
-use Rattle.std.proofs.lemmas.Bool.{ltb-true}
+use Rattle.std.proofs.Common.{arith, true, ◌≡◌}
 use Rattle.chess_rules.specs.declared.piece.Colour.{Colour}
 use Rattle.chess_rules.specs.declared.piece.Kind.TheVariants.{King}
 use Rattle.chess_rules.specs.Square.{Square, on_board}
 use Rattle.chess_rules.specs.Board.{Board, at, has_piece}
-use Rattle.chess_rules.proofs.squares.AllSquares.{first_true, second_true}
 use Rattle.chess_rules.proofs.positions.OneKing.{StandsAt, king_only_there}
 use Rattle.chess_rules.proofs.positions.RulesOfPosition.{Sound, sound_from_position}
 use Rattle.chess_rules.proofs.laws.one_king_a_side.Goals as goal
+use Rattle.std.proofs.lemmas.Bool.Decides.{nat_tests}
 
 stands : (b : Board) (c : Colour) (s : Square) → on_board s ≡ true → has_piece c King (at b s) ≡ true → StandsAt c b s
-stands b c s h king =
-    record { file = ltb-true s.file 8 (first_true (nat_lt s.file 8) (nat_lt s.rank 8) h); rank = ltb-true s.rank 8 (second_true (nat_lt s.file 8) (nat_lt s.rank 8) h); king = king }
+stands b c s h king = grind (arith, nat_tests)
 
 pub returns : goal.returns
 returns c0 = λ p c s t position on_s on_t king_s king_t.

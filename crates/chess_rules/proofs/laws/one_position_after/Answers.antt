@@ -1,5 +1,6 @@
-use Rattle.chess_rules.proofs.moves.LegalToPosition.{one_after}
 use Rattle.chess_rules.proofs.laws.one_position_after.Goals as goal
+use Rattle.std.proofs.lemmas.Bool.Decides.{nat_tests}
+use Rattle.std.proofs.Common.{arith}
 
 pub returns : goal.returns
-returns c = one_after
+returns c = grind (arith, nat_tests)

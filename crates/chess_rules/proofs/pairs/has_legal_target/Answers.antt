@@ -2,9 +2,10 @@ use Rattle.std.proofs.Common.{◌≡◌, ◌∷◌, ◌^◌, length, sym, ◌∙
 use Rattle.chess_rules.specs.Pairs as spec
 use Rattle.chess_rules.specs.Words.{members}
 use Rattle.chess_rules.proofs.squares.SetsToSquares.{next_member}
-use Rattle.chess_rules.proofs.trying.SearchThatCounts.{all_left, left_fits, fewer_left, left_hit, none_left}
+use Rattle.chess_rules.proofs.trying.SearchThatCounts.{left_fits, fewer_left, left_hit, none_left}
 use Rattle.chess_rules.proofs.pairs.has_legal_target.Goals as goal
 use Rattle.chess_rules.proofs.pairs.has_legal_target.Goals.{After-nth}
+use Rattle.std.proofs.lemmas.Bool.Decides.{nat_tests}
 
 next : (c : After-nth) → members c.loop-left.left ≡ c.nth.result ∷ members c.with-left.result
 next c =
@@ -12,7 +13,7 @@ next c =
     ∙ ap (λ s. s ∷ members c.with-left.result) (sym c.nth.ensures)
 
 pub loop-left-init : goal.loop-left-init
-loop-left-init c = all_left (spec.is_legal_pair c.args.position.now c.args.from) c.args.targets c.args.probes.now
+loop-left-init c = grind (arith, nat_tests)
 
 pub is_legal_pair-requires : goal.is_legal_pair-requires
 is_legal_pair-requires c =

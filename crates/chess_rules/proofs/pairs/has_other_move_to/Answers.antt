@@ -2,9 +2,10 @@ use Rattle.std.proofs.Common.{◌≡◌, ◌∷◌, ◌^◌, length, sym, ◌∙
 use Rattle.chess_rules.specs.Pairs as spec
 use Rattle.chess_rules.specs.Words.{members}
 use Rattle.chess_rules.proofs.squares.SetsToSquares.{next_member}
-use Rattle.chess_rules.proofs.trying.SearchThatCounts.{all_targets, target_fits, fewer_targets, target_hit, no_target}
+use Rattle.chess_rules.proofs.trying.SearchThatCounts.{target_fits, fewer_targets, target_hit, no_target}
 use Rattle.chess_rules.proofs.pairs.has_other_move_to.Goals as goal
 use Rattle.chess_rules.proofs.pairs.has_other_move_to.Goals.{After-nth}
+use Rattle.std.proofs.lemmas.Bool.Decides.{nat_tests}
 
 next : (c : After-nth) → members c.loop-left.left ≡ c.nth.result ∷ members c.with-left.result
 next c =
@@ -12,7 +13,7 @@ next c =
     ∙ ap (λ s. s ∷ members c.with-left.result) (sym c.nth.ensures)
 
 pub loop-left-init : goal.loop-left-init
-loop-left-init c = all_targets (spec.has_untried_move c.args.position.now) (spec.count_untried c.args.position.now) c.args.targets c.args.probes.now
+loop-left-init c = grind (arith, nat_tests)
 
 pub has_untried_move-requires : goal.has_untried_move-requires
 has_untried_move-requires c =

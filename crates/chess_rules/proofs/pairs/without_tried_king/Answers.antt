@@ -1,8 +1,9 @@
-use Rattle.std.proofs.Common.{sym, ◌∙◌}
+use Rattle.std.proofs.Common.{arith, sym, ◌∙◌}
 use Rattle.chess_rules.specs.declared.piece.Kind.TheVariants.{King}
 use Rattle.chess_rules.proofs.trying.SetsToCandidates.{own_places}
-use Rattle.chess_rules.proofs.trying.SetsToPairs.{king_left_out, none_left_out, step_tried}
+use Rattle.chess_rules.proofs.trying.SetsToPairs.{king_left_out, step_tried}
 use Rattle.chess_rules.proofs.pairs.without_tried_king.Goals as goal
+use Rattle.std.proofs.lemmas.Bool.Decides.{nat_tests}
 
 pub returns-then-has : goal.returns-then-has
 returns-then-has c =
@@ -15,9 +16,4 @@ returns-then-has c =
     (own_places p King c.side.result c.board.result.now c.pieces.result c.side.ensures c.board.ensures c.pieces.ensures)
 
 pub returns-else-has : goal.returns-else-has
-returns-else-has c =
-    let p = c.args.position.now in
-    none_left_out p c.args.target c.args.pieces
-    (sym (step_tried p c.args.target c.king_steps.result c.index.result c.has.result c.king_steps.ensures c.index.ensures.value
-    c.recall_invariant.ensures.file c.recall_invariant.ensures.rank c.has.ensures)
-    ∙ c.if-has.false)
+returns-else-has c = grind (arith, nat_tests)

@@ -1,18 +1,17 @@
-use Rattle.std.proofs.Common.{get_or, set, ◌∙◌, ap₂}
+use Rattle.std.proofs.Common.{arith, get_or, set, ◌∙◌, ap₂}
 use Rattle.std.specs.Prelude.{None}
 use Rattle.chess_rules.specs.declared.board.Board.TheInside.{Inside}
-use Rattle.chess_rules.proofs.squares.WordsToCells.{cells_carried, words_carried}
+use Rattle.chess_rules.proofs.squares.WordsToCells.{cells_carried}
 use Rattle.chess_rules.proofs.board.Board.carry.Goals as goal
 use Rattle.chess_rules.proofs.board.Board.carry.Goals.{After-carried-4}
+use Rattle.std.proofs.lemmas.Bool.Decides.{nat_tests}
 
 new : After-carried-4 → Inside
 new c = record { straight = c.carried.result; diagonal = c.carried-2.result; near = c.carried-3.result; black = c.carried-4.result }
 
 pub invariant_of-self : goal.invariant_of-self
 unfolding new
-invariant_of-self c =
-    words_carried c.self.inside (new c) c.index-from.result c.index-to.result
-    c.carried.ensures c.carried-2.ensures c.carried-3.ensures c.carried-4.ensures c.index-from.ensures.below c.self.invariant
+invariant_of-self c = grind (arith, nat_tests)
 
 pub returns : goal.returns
 unfolding new

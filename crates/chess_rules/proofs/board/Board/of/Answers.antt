@@ -1,16 +1,12 @@
 use Rattle.std.proofs.Common.{◌≡◌, ◌+◌, ◌++◌, ◌∷◌, [], length, length-set, get_or, set, take, sym, ◌∙◌, ap, arith}
 use Rattle.std.specs.Prelude.{None}
 use Rattle.std.proofs.lemmas.List.{take_all, take_more, take_more_set}
-use Rattle.chess_rules.specs.Board.{cell_of}
-use Rattle.chess_rules.proofs.positions.OneKing.{cell_of-square_at}
 use Rattle.chess_rules.proofs.board.Board.of.Goals as goal
 use Rattle.chess_rules.proofs.board.Board.of.Goals.{After-put}
+use Rattle.std.proofs.lemmas.Bool.Decides.{nat_tests}
 
 there : (c : After-put) → c.put.new.self ≡ set c.loop-i.board c.loop-i.i (get_or c.args.contents.now c.loop-i.i None)
-there c =
-    c.put.ensures
-    ∙ ap (λ n. set c.loop-i.board n (get_or c.args.contents.now c.loop-i.i None))
-    (ap cell_of c.nth.ensures ∙ cell_of-square_at c.loop-i.i)
+there c = grind (arith, nat_tests)
 
 pub loop-i-preserved : goal.loop-i-preserved
 loop-i-preserved c =

@@ -1,4 +1,4 @@
-use Rattle.std.proofs.Common.{◌≡◌, true, false, sym, ◌∙◌, ap, subst}
+use Rattle.std.proofs.Common.{arith, ◌≡◌, true, false, sym, ◌∙◌, ap, subst}
 use Rattle.std.specs.Prelude.{Some}
 use Rattle.chess_rules.specs.declared.piece.Colour.TheVariants.{White, Black}
 use Rattle.chess_rules.specs.declared.position.Parts.{Parts}
@@ -6,29 +6,25 @@ use Rattle.chess_rules.specs.Board.{other}
 use Rattle.chess_rules.specs.Attacks.{king_attacked}
 use Rattle.chess_rules.specs.Position.{is_position}
 use Rattle.chess_rules.specs.Legal.{is_check}
-use Rattle.chess_rules.specs.Step.{after, rights_after, full_after}
+use Rattle.chess_rules.specs.Step.{after}
 use Rattle.chess_rules.specs.Reach.{king_square}
 use Rattle.chess_rules.specs.StoredPosition.{parts_of, FitsPosition}
 use Rattle.chess_rules.specs.declared.position.Position.TheInside.{Inside}
-use Rattle.chess_rules.proofs.moves.LegalToPosition.{after_fields, position_after, king_kept, legal_when, safe_from_legal}
+use Rattle.chess_rules.proofs.moves.LegalToPosition.{position_after, king_kept, legal_when}
 use Rattle.chess_rules.proofs.moves.PlainStepAttacks.{step_when_legal}
 use Rattle.chess_rules.proofs.position.Position.after.Goals as goal
+use Rattle.std.proofs.lemmas.Bool.Decides.{nat_tests}
 
 -- the position before the move is one
 before : (a : Inside) (p : Parts) → FitsPosition a → parts_of a ≡ p → is_position p ≡ true
 before a p kept view = subst (λ (q : Parts). is_position q ≡ true) view kept.position
 
 safe : (c : goal.After-king_after-2) → king_attacked c.board_after-board.result (other (other c.args.self.now.side)) ≡ false
-safe c = safe_from_legal c.args.self.now c.args.mv.now c.board_after-board.result c.requires.on_board c.board_after-board.ensures c.requires.legal
+safe c = grind (arith, nat_tests)
 
 -- the parts that are made
 same : (c : goal.After-king_after-2) → parts_of (record { board = c.board_after-board.result; side = c.other.result; rights = c.rights_after.result; target = c.target_after.result; half = c.half_after.result; full = c.full_after.result; white_king = c.king_after.result; black_king = c.king_after-2.result; checked = c.gives_check-checked.result }) ≡ after c.args.self.now c.args.mv.now c.board_after-board.result
-same c =
-    after_fields c.args.self.now c.args.mv.now c.board_after-board.result c.other.result c.rights_after.result c.target_after.result c.half_after.result c.full_after.result
-    (c.other.ensures ∙ ap (λ p. other p.side) c.self.view_is)
-    (c.rights_after.ensures ∙ ap (λ p. rights_after c.args.mv.now p.rights) c.self.view_is)
-    c.target_after.ensures c.half_after.ensures
-    (c.full_after.ensures ∙ ap (λ p. full_after p.side p.full) c.self.view_is)
+same c = grind (arith, nat_tests)
 
 pub invariant_of-result : goal.invariant_of-result
 invariant_of-result c =
