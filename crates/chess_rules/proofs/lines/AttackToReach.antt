@@ -11,7 +11,7 @@ use Rattle.chess_rules.specs.Square.{Square, squares, gap, same_square, is_adjac
 use Rattle.chess_rules.specs.Board.{Board, at, is_empty, has_colour, same_colour, same_kind}
 use Rattle.chess_rules.specs.Attacks.{is_clear, is_ahead, kind_attacks, cell_attacks, attacks, is_attacked}
 use Rattle.chess_rules.specs.Reach.{is_aligned, is_in_view, may_attack, near_with, reaches, slides_with}
-use Rattle.chess_rules.proofs.squares.AllSquares.{split_or, or_first, or_second, first_true, second_true, both_true, all_squares, any_same, equal_from, implied}
+use Rattle.chess_rules.proofs.squares.AllSquares.{split_or, or_first, first_true, second_true, both_true, all_squares, any_same, implied}
 
 -- What a cell holds is determined.
 
@@ -94,11 +94,11 @@ adjacent_seen b s t h =
     (second_true (nat_le (gap s.file t.file) 1 && nat_le (gap s.rank t.rank) 1) _ h)
 
 pub pawn_seen : (c : Colour) (b : Board) (s t : Square) → reaches Pawn c s t ≡ true → (is_aligned s t && is_clear b s t) ≡ true
-pawn_seen c b s t h = grind (arith, nat_tests, equal_from, first_true, ahead_gap, second_true, near, apart_by_file)
+pawn_seen c b s t h = grind (arith, nat_tests, ahead_gap, near, apart_by_file)
 
 -- what a piece attacks it sees, but for a knight
 pub attack_seen : (k : Kind) (c : Colour) (b : Board) (s t : Square) → kind_attacks k c b s t ≡ true → (k ≡ Knight) ⊎ ((is_aligned s t && is_clear b s t) ≡ true)
-attack_seen k c b s t h = grind (arith, nat_tests, adjacent_seen, both_true, or_first, first_true, second_true, or_second, pawn_seen)
+attack_seen k c b s t h = grind (arith, nat_tests, adjacent_seen, pawn_seen)
 
 -- no piece attacks from where none would on an empty board
 pub unreached : (b : Board) (s t : Square) → (is_aligned s t || is_jump s t) ≡ false → attacks b s t ≡ false
@@ -192,7 +192,7 @@ near_alone_seen c (Some x) b s t h =
     (refl, by_near (split_or ((is_jump s t && same_kind Knight x.kind) || (is_adjacent s t && same_kind King x.kind)) _ (first_true _ (same_colour c x.colour) h)))
   where
     by_first : ((is_jump s t && same_kind Knight x.kind) ≡ true) ⊎ ((is_adjacent s t && same_kind King x.kind) ≡ true) → ((is_aligned s t && is_clear b s t) || is_jump s t) ≡ true
-    by_first h = grind (arith, nat_tests, or_second, first_true, or_first, adjacent_seen)
+    by_first h = grind (arith, nat_tests, adjacent_seen)
 
     by_near : (((is_jump s t && same_kind Knight x.kind) || (is_adjacent s t && same_kind King x.kind)) ≡ true) ⊎ ((reaches Pawn c s t && same_kind Pawn x.kind) ≡ true)
         → ((is_aligned s t && is_clear b s t) || is_jump s t) ≡ true

@@ -12,7 +12,7 @@ use Rattle.chess_rules.specs.Attacks.{is_clear}
 use Rattle.chess_rules.specs.Reach.{IsLine, is_in_view, is_open, is_steep, square_at}
 use Rattle.chess_rules.specs.Words.{has, IsHighest, IsLowest, IsOnlyHighest, IsOnlyLowest, Places}
 use Rattle.chess_rules.proofs.positions.OneKing.{cell_of-square_at}
-use Rattle.chess_rules.proofs.squares.AllSquares.{split_or, or_first, or_second, first_true, second_true, both_true, same_tests, each_square, not_means, not_true}
+use Rattle.chess_rules.proofs.squares.AllSquares.{or_first, or_second, first_true, second_true, both_true, same_tests, each_square, not_means, not_true}
 use Rattle.chess_rules.proofs.squares.SetsToSquares.{at_square, one_kept}
 use Rattle.chess_rules.proofs.trying.FoundLists.{kept_either, kept_more}
 use Rattle.chess_rules.proofs.squares.WordsToCells.{has_and, has_not, has_or}
@@ -177,7 +177,7 @@ module _ (b : Board) (t : Square) (line occupied below low high : ℕ) (tf : t.f
                   absurd (none_between k low_k (inside_up i k (cell_of t) more (test_below k (cell_of t) (second_true (has line k && has occupied k) _ all))) both)
 
   pub nearest_places : Places (bit_or low high) (λ s. has line (cell_of s) && is_open b t s)
-  nearest_places = grind (arith, nat_tests, has_or, same_tests, split_or, from_low, from_high, found)
+  nearest_places = grind (arith, nat_tests, has_or, same_tests, from_low, from_high, found)
 
 -- How many are in view.
 

@@ -138,7 +138,7 @@ rank_means : (s t : Square) → (in_line s t && not (is_steep s t)) ≡ true →
 rank_means s t h = grind (arith, nat_tests)
 
 rank_back : (s u t : Square) → u.file < 8 → s.file < 8 → t.file < 8 → (in_line s t && not (is_steep s t)) ≡ true → ((in_line u t && not (is_steep u t)) && inside (cell_of s) (cell_of u) (cell_of t)) ≡ true → between_on_rank s u t ≡ true
-rank_back s u t uf sf tf h g = grind (arith, nat_tests, inside_means, second_true, rank_means, first_true)
+rank_back s u t uf sf tf h g = grind (arith, nat_tests, inside_means, rank_means)
 
 rank_off_file : (s u t : Square) → (in_line s t && not (is_steep s t)) ≡ true → between_on_file s u t ≡ true → ⊥
 rank_off_file s u t h g = grind (arith, nat_tests)

@@ -12,7 +12,7 @@ use Rattle.chess_rules.specs.Square.{Square}
 use Rattle.chess_rules.specs.Board.{Board, at, is_empty, has_colour, has_piece, same_colour}
 use Rattle.chess_rules.specs.Attacks.{cell_attacks, kind_attacks}
 use Rattle.chess_rules.specs.Step.{own, is_piece_step, is_pawn_way, is_pawn_step, promotion_fits, is_advance, is_double_step, is_pawn_capture, is_en_passant, castles_short, castles_long, short_right, long_right, short_wing, long_wing, board_after}
-use Rattle.chess_rules.proofs.squares.AllSquares.{split_or, first_true, second_true, equal_from}
+use Rattle.chess_rules.proofs.squares.AllSquares.{first_true, second_true, equal_from}
 use Rattle.chess_rules.proofs.positions.RulesOfPosition.{to_false}
 use Rattle.chess_rules.proofs.lines.AttackToReach.{kinds_same, colours_same}
 use Rattle.chess_rules.proofs.moves.StepsKeepBoard.{one_kind, colour_of_piece, not_both, short_is_wing, long_is_wing, castles_means, castling_ends_empty, pawn_attack}
@@ -115,7 +115,7 @@ module _ (p : Parts) (m : Move) (mine : has_colour p.side (at p.board m.to) ≡ 
   not_empty_there h = grind (arith, nat_tests)
 
   no_way_there : is_pawn_way p m ≡ true → ⊥
-  no_way_there h = grind (arith, nat_tests, split_or, not_empty_there, second_true, not_both)
+  no_way_there h = grind (arith, nat_tests, not_empty_there, not_both)
 
   no_pawn_there : is_pawn_step p m ≡ true → ⊥
   no_pawn_there h = no_way_there (first_true (is_pawn_way p m) (promotion_fits p m) (second_true (own p Pawn m.from) _ h))
@@ -153,4 +153,4 @@ module _ (p : Parts) (m : Move) (pawn : own p Pawn m.from ≡ true) where
   pawn_ahead fits same = grind (arith, nat_tests, same, ahead, to_false, equal_from, first_true, pawn_attack)
 
   pub pawn_aside : promotion_fits p m ≡ true → (m.from.file ≡ m.to.file → ⊥) → (is_pawn_capture p m || is_en_passant p m) ≡ (is_pawn_step p m || is_en_passant p m)
-  pawn_aside fits differ = grind (arith, nat_tests, aside, to_false, equal_from, first_true)
+  pawn_aside fits differ = grind (arith, nat_tests, aside)

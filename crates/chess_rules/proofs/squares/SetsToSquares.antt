@@ -14,7 +14,7 @@ use Rattle.chess_rules.specs.Words.{has, members, IsLowest, Marks, Places, Sets}
 use Rattle.chess_rules.proofs.squares.WordsToCells.{has_and, has_not, has_or, has_zero, same_or_apart}
 use Rattle.chess_rules.proofs.squares.LowestAndHighest.{lowest_place}
 use Rattle.chess_rules.proofs.positions.OneKing.{cell_of-square_at}
-use Rattle.chess_rules.proofs.squares.AllSquares.{both_true, Passes, some_square, any_square, equal_from, equal_tests}
+use Rattle.chess_rules.proofs.squares.AllSquares.{both_true, Passes, some_square, any_square, equal_tests}
 use Rattle.chess_rules.proofs.trying.FoundLists.{list_any-filter}
 
 pub places_and : (v w : ℕ) (p q : Square → Bool) → Places v p → Places w q → Places (bit_and v w) (λ s. p s && q s)
@@ -54,7 +54,7 @@ one_passes w test h some fits =
     at_place i low here = any_square test (square_at i) (omega arith) (omega arith) (sym (h.of i low) ∙ here)
 
 pub set_test : (w : ℕ) (test : Square → Bool) → Places w test → w < 2 ^ 64 → not (w == 0) ≡ list_any test squares
-set_test w test places fits = grind (arith, nat_tests, none_passes, equal_from, one_passes)
+set_test w test places fits = grind (arith, nat_tests, none_passes, one_passes)
 
 -- The members in turn.
 

@@ -13,7 +13,6 @@ use Rattle.chess_rules.specs.Attacks.{is_clear}
 use Rattle.chess_rules.specs.Candidate.{candidates, is_candidate}
 use Rattle.chess_rules.specs.Reach.{is_aligned, square_at}
 use Rattle.chess_rules.specs.Words.{has, members, Marks, Places}
-use Rattle.chess_rules.proofs.squares.AllSquares.{both_true}
 use Rattle.chess_rules.proofs.positions.OneKing.{cell_of-square_at}
 use Rattle.chess_rules.proofs.trying.CandidatesAreFew.{few_candidates, is_rider, sees_by_way}
 use Rattle.chess_rules.proofs.trying.FoundLists.{kept_more}
@@ -42,7 +41,7 @@ aligned_are p k t b v w clear rides board h g f =
     in_turn x y z = grind (arith, nat_tests)
 
 pub few_there : (p : Parts) (k : Kind) (t : Square) (xs : List Square) → t.file < 8 → t.rank < 8 → xs ≡ candidates p k t → length xs ≤ 8
-few_there p k t xs tf tr same = grind (arith, nat_tests, length, few_candidates, both_true)
+few_there p k t xs tf tr same = grind (arith, nat_tests, length, few_candidates)
 
 -- Without looking at what stands between.
 

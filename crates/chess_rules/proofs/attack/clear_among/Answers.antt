@@ -1,4 +1,4 @@
-use Rattle.std.proofs.Common.{◌≡◌, ◌∷◌, length, sym, ◌∙◌, ap, arith}
+use Rattle.std.proofs.Common.{◌≡◌, ◌∷◌, length, ap, arith}
 use Rattle.chess_rules.specs.Attacks.{is_clear}
 use Rattle.chess_rules.specs.Words.{members}
 use Rattle.chess_rules.proofs.lines.ClearWays.{none_left}
@@ -8,9 +8,7 @@ use Rattle.chess_rules.proofs.attack.clear_among.Goals.{After-nth}
 use Rattle.std.proofs.lemmas.Bool.Decides.{nat_tests}
 
 next : (c : After-nth) → members c.loop-left.left ≡ c.nth.result ∷ members c.with-left.result
-next c =
-    next_member c.loop-left.left c.with-left.result c.lowest-place.result c.lowest-place.ensures c.with-left.ensures
-    ∙ ap (λ s. s ∷ members c.with-left.result) (sym c.nth.ensures)
+next c = grind (arith, nat_tests, next_member)
 
 pub loop-left-init : goal.loop-left-init
 loop-left-init c = grind (arith, nat_tests)

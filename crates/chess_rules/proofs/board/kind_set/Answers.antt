@@ -1,16 +1,15 @@
-use Rattle.std.proofs.Common.{◌≡◌, ℕ, ◌<◌, ◌^◌, not, ◌&&◌, sym, ◌∙◌, ap, ap₂, w64}
+use Rattle.std.proofs.Common.{arith, ◌≡◌, ℕ, ◌<◌, ◌^◌, not, ◌&&◌, sym, ◌∙◌, ap, w64}
 use Rattle.std.specs.Int.{bit_not}
 use Rattle.std.specs.Int.Bits.{bit_and}
 use Rattle.chess_rules.specs.declared.piece.Kind.{Kind}
 use Rattle.chess_rules.specs.Words.{has, kind_in}
 use Rattle.chess_rules.proofs.squares.WordsToCells.{has_and, has_not}
 use Rattle.chess_rules.proofs.board.kind_set.Goals as goal
+use Rattle.std.proofs.lemmas.Bool.Decides.{nat_tests}
 
 -- of one set, and not of the two others
 alone : (a b c i : ℕ) → b < 2 ^ 64 → c < 2 ^ 64 → i < 64 → has (bit_and (bit_and a (bit_not w64 b)) (bit_not w64 c)) i ≡ ((has a i && not (has b i)) && not (has c i))
-alone a b c i fits small low =
-    has_and (bit_and a (bit_not w64 b)) (bit_not w64 c) i
-    ∙ ap₂ (λ x y. x && y) (has_and a (bit_not w64 b) i ∙ ap (λ x. has a i && x) (has_not b i fits low)) (has_not c i small low)
+alone a b c i fits small low = grind (arith, nat_tests, has_and, w64, has_not)
 
 of_kind : (k l : Kind) (w a b c i : ℕ) → k ≡ l → has w i ≡ kind_in l (has a i) (has b i) (has c i) → has w i ≡ kind_in k (has a i) (has b i) (has c i)
 of_kind k l w a b c i is h = h ∙ ap (λ (m : Kind). kind_in m (has a i) (has b i) (has c i)) (sym is)
@@ -19,16 +18,16 @@ pub returns-in-King : goal.returns-in-King
 returns-in-King c = record { of = λ i low. of_kind c.args.kind _ _ c.args.straight c.args.diagonal c.args.near i c.in-King.is (has_and c.args.near c.args.diagonal i) }
 
 pub returns-in-Queen : goal.returns-in-Queen
-returns-in-Queen c = record { of = λ i low. of_kind c.args.kind _ _ c.args.straight c.args.diagonal c.args.near i c.in-Queen.is (has_and c.args.straight c.args.diagonal i) }
+returns-in-Queen c = grind (arith, nat_tests, of_kind, has_and)
 
 pub returns-in-Rook : goal.returns-in-Rook
-returns-in-Rook c = record { of = λ i low. of_kind c.args.kind _ _ c.args.straight c.args.diagonal c.args.near i c.in-Rook.is (alone c.args.straight c.args.diagonal c.args.near i c.ranges.diagonal.fits c.ranges.near.fits low) }
+returns-in-Rook c = grind (arith, nat_tests, of_kind, alone)
 
 pub returns-in-Bishop : goal.returns-in-Bishop
-returns-in-Bishop c = record { of = λ i low. of_kind c.args.kind _ _ c.args.straight c.args.diagonal c.args.near i c.in-Bishop.is (alone c.args.diagonal c.args.straight c.args.near i c.ranges.straight.fits c.ranges.near.fits low) }
+returns-in-Bishop c = grind (arith, nat_tests, of_kind, alone)
 
 pub returns-in-Knight : goal.returns-in-Knight
-returns-in-Knight c = record { of = λ i low. of_kind c.args.kind _ _ c.args.straight c.args.diagonal c.args.near i c.in-Knight.is (has_and c.args.near c.args.straight i) }
+returns-in-Knight c = grind (arith, nat_tests, of_kind, has_and)
 
 pub returns-in-Pawn : goal.returns-in-Pawn
-returns-in-Pawn c = record { of = λ i low. of_kind c.args.kind _ _ c.args.straight c.args.diagonal c.args.near i c.in-Pawn.is (alone c.args.near c.args.straight c.args.diagonal i c.ranges.straight.fits c.ranges.diagonal.fits low) }
+returns-in-Pawn c = grind (arith, nat_tests, of_kind, alone)

@@ -1,5 +1,5 @@
 use Rattle.std.proofs.Common.{◌≡◌, ◌<◌, List, ◌∷◌, length, sym, ◌∙◌, ap, arith}
-use Rattle.std.specs.Prelude.{None, Some}
+use Rattle.std.specs.Prelude.{None}
 use Rattle.chess_rules.specs.Square.{Square}
 use Rattle.chess_rules.specs.Candidate.{candidates, lone}
 use Rattle.chess_rules.specs.Reach.{square_at}
@@ -10,7 +10,7 @@ use Rattle.chess_rules.proofs.candidates.only_origin.Goals.{After-with}
 use Rattle.std.proofs.lemmas.Bool.Decides.{nat_tests}
 
 lone_of_several : (x : Square) (xs : List Square) → 0 < length xs → None ≡ lone (x ∷ xs)
-lone_of_several x x1 some = grind (arith, nat_tests)
+lone_of_several x xs some = grind (arith, nat_tests)
 
 -- the first of them, and the others
 first : (c : After-with) → candidates c.args.position.now c.args.kind c.args.target ≡ square_at c.lowest-place.result ∷ members c.with.result
@@ -20,12 +20,7 @@ pub returns-then-origins-eq0 : goal.returns-then-origins-eq0
 returns-then-origins-eq0 c = ap lone (sym (no_member c.origin_set-origins.result c.if-origins-eq0.true) ∙ c.origin_set-origins.ensures)
 
 pub returns-then-with-ne0 : goal.returns-then-with-ne0
-returns-then-with-ne0 c =
-    lone_of_several (square_at c.lowest-place.result) (members c.with.result) (one_member c.with.result (omega (arith, c.if-with-ne0.true)) c.with.type_inv)
-    ∙ ap lone (sym (first c.before))
+returns-then-with-ne0 c = grind (arith, nat_tests, lone_of_several, one_member, first)
 
 pub returns : goal.returns
-returns c =
-    ap Some c.nth.ensures
-    ∙ ap (λ xs. lone (square_at c.lowest-place.result ∷ xs)) (sym (no_member c.with.result c.if-with-ne0.false))
-    ∙ ap lone (sym (first c.before.before))
+returns c = grind (arith, nat_tests, no_member, first)

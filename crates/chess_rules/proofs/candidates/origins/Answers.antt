@@ -1,15 +1,12 @@
 use Rattle.std.proofs.Common.{arith, ◌∙◌}
 use Rattle.chess_rules.specs.Candidate.{candidates}
-use Rattle.chess_rules.specs.Words.{members}
 use Rattle.chess_rules.proofs.trying.CandidatesAreFew.{apart_there, candidates_apart}
 use Rattle.chess_rules.proofs.trying.SetsToCandidates.{few_there}
 use Rattle.chess_rules.proofs.candidates.origins.Goals as goal
 use Rattle.std.proofs.lemmas.Bool.Decides.{nat_tests}
 
 pub squares_of-requires : goal.squares_of-requires
-squares_of-requires c =
-    few_there c.args.position.now c.args.kind c.args.target (members c.origin_set.result)
-    c.recall_invariant.ensures.file c.recall_invariant.ensures.rank c.origin_set.ensures
+squares_of-requires c = grind (arith, nat_tests, few_there)
 
 pub returns-clause-exactly : goal.returns-clause-exactly
 returns-clause-exactly c = grind (arith, nat_tests)

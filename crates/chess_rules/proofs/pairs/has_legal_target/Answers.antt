@@ -1,4 +1,4 @@
-use Rattle.std.proofs.Common.{◌≡◌, ◌∷◌, ◌^◌, length, sym, ◌∙◌, ap, arith}
+use Rattle.std.proofs.Common.{◌≡◌, ◌∷◌, length, ap, arith}
 use Rattle.chess_rules.specs.Pairs as spec
 use Rattle.chess_rules.specs.Words.{members}
 use Rattle.chess_rules.proofs.squares.SetsToSquares.{next_member}
@@ -8,35 +8,25 @@ use Rattle.chess_rules.proofs.pairs.has_legal_target.Goals.{After-nth}
 use Rattle.std.proofs.lemmas.Bool.Decides.{nat_tests}
 
 next : (c : After-nth) → members c.loop-left.left ≡ c.nth.result ∷ members c.with-left.result
-next c =
-    next_member c.loop-left.left c.with-left.result c.lowest-place.result c.lowest-place.ensures c.with-left.ensures
-    ∙ ap (λ s. s ∷ members c.with-left.result) (sym c.nth.ensures)
+next c = grind (arith, nat_tests, next_member)
 
 pub loop-left-init : goal.loop-left-init
 loop-left-init c = grind (arith, nat_tests)
 
 pub is_legal_pair-requires : goal.is_legal_pair-requires
-is_legal_pair-requires c =
-    left_fits (spec.is_legal_pair c.args.position.now c.args.from) c.args.targets c.loop-left.left c.with-left.result c.args.probes.now c.loop-left.probes c.nth.result
-    (next c.before) c.loop-left.invariant (2 ^ 32) c.requires
+is_legal_pair-requires c = grind (arith, nat_tests, left_fits, next)
 
 pub returns-then-is_legal_pair-clause-found : goal.returns-then-is_legal_pair-clause-found
-returns-then-is_legal_pair-clause-found c =
-    (left_hit (spec.is_legal_pair c.args.position.now c.args.from) c.args.targets c.loop-left.left c.with-left.result c.args.probes.now c.loop-left.probes c.nth.result
-    (next c.before.before.before) c.loop-left.invariant c.is_legal_pair.new.probes (sym c.is_legal_pair.ensures.found ∙ c.if-is_legal_pair.true) c.is_legal_pair.ensures.count).0
+returns-then-is_legal_pair-clause-found c = grind (arith, nat_tests, left_hit, next)
 
 pub returns-then-is_legal_pair-clause-count : goal.returns-then-is_legal_pair-clause-count
-returns-then-is_legal_pair-clause-count c =
-    (left_hit (spec.is_legal_pair c.args.position.now c.args.from) c.args.targets c.loop-left.left c.with-left.result c.args.probes.now c.loop-left.probes c.nth.result
-    (next c.before.before.before) c.loop-left.invariant c.is_legal_pair.new.probes (sym c.is_legal_pair.ensures.found ∙ c.if-is_legal_pair.true) c.is_legal_pair.ensures.count).1
+returns-then-is_legal_pair-clause-count c = grind (arith, nat_tests, left_hit, next)
 
 pub loop-left-smaller : goal.loop-left-smaller
 loop-left-smaller c = omega (arith, ap length (next c.before.before.before))
 
 pub loop-left-preserved : goal.loop-left-preserved
-loop-left-preserved c =
-    fewer_left (spec.is_legal_pair c.args.position.now c.args.from) c.args.targets c.loop-left.left c.with-left.result c.args.probes.now c.loop-left.probes c.nth.result
-    (next c.before.before.before) c.loop-left.invariant c.is_legal_pair.new.probes (sym c.is_legal_pair.ensures.found ∙ c.if-is_legal_pair.false) c.is_legal_pair.ensures.count
+loop-left-preserved c = grind (arith, nat_tests, fewer_left, next)
 
 pub returns-clause-found : goal.returns-clause-found
 returns-clause-found c =

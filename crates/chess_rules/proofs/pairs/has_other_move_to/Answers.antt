@@ -1,4 +1,4 @@
-use Rattle.std.proofs.Common.{◌≡◌, ◌∷◌, ◌^◌, length, sym, ◌∙◌, ap, arith}
+use Rattle.std.proofs.Common.{◌≡◌, ◌∷◌, ◌^◌, length, ap, arith}
 use Rattle.chess_rules.specs.Pairs as spec
 use Rattle.chess_rules.specs.Words.{members}
 use Rattle.chess_rules.proofs.squares.SetsToSquares.{next_member}
@@ -8,9 +8,7 @@ use Rattle.chess_rules.proofs.pairs.has_other_move_to.Goals.{After-nth}
 use Rattle.std.proofs.lemmas.Bool.Decides.{nat_tests}
 
 next : (c : After-nth) → members c.loop-left.left ≡ c.nth.result ∷ members c.with-left.result
-next c =
-    next_member c.loop-left.left c.with-left.result c.lowest-place.result c.lowest-place.ensures c.with-left.ensures
-    ∙ ap (λ s. s ∷ members c.with-left.result) (sym c.nth.ensures)
+next c = grind (arith, nat_tests, next_member)
 
 pub loop-left-init : goal.loop-left-init
 loop-left-init c = grind (arith, nat_tests)
@@ -21,9 +19,7 @@ has_untried_move-requires c =
     (next c.before) c.loop-left.invariant (2 ^ 32) c.requires
 
 pub returns-then-has_untried_move-clause-found : goal.returns-then-has_untried_move-clause-found
-returns-then-has_untried_move-clause-found c =
-    (target_hit (spec.has_untried_move c.args.position.now) (spec.count_untried c.args.position.now) c.args.targets c.loop-left.left c.with-left.result c.args.probes.now c.loop-left.probes c.nth.result
-    (next c.before.before.before) c.loop-left.invariant c.has_untried_move.result c.has_untried_move.new.probes c.has_untried_move.ensures.found c.if-has_untried_move.true c.has_untried_move.ensures.count).0
+returns-then-has_untried_move-clause-found c = grind (arith, nat_tests, target_hit, next)
 
 pub returns-then-has_untried_move-clause-count : goal.returns-then-has_untried_move-clause-count
 returns-then-has_untried_move-clause-count c =

@@ -1,6 +1,5 @@
-use Rattle.std.proofs.Common.{◌≡◌, ◌+◌, ◌<◌, ◌^◌, length, sym, ◌∙◌, ap, subst}
+use Rattle.std.proofs.Common.{arith, ◌≡◌, ◌+◌, ◌<◌, ◌^◌, length, sym, ap, subst}
 use Rattle.std.specs.Prelude.{filter}
-use Rattle.std.specs.List.{list_any}
 use Rattle.chess_rules.specs.Square.{squares}
 use Rattle.chess_rules.specs.Pairs as spec
 use Rattle.chess_rules.specs.Pairs.{has_untried_move, count_untried}
@@ -8,6 +7,7 @@ use Rattle.chess_rules.specs.Words.{members}
 use Rattle.chess_rules.proofs.squares.SetsToSquares.{members_are}
 use Rattle.chess_rules.proofs.pairs.has_untried_move.Goals as goal
 use Rattle.chess_rules.proofs.pairs.has_untried_move.Goals.{After-untried}
+use Rattle.std.proofs.lemmas.Bool.Decides.{nat_tests}
 
 origins : (c : After-untried) → members c.untried.result ≡ filter (spec.is_untried c.args.position.now c.args.target) squares
 origins c = members_are c.untried.result (spec.is_untried c.args.position.now c.args.target) c.untried.ensures.of
@@ -18,9 +18,8 @@ has_legal_origin-requires c = subst (λ n. c.args.probes.now + n < 2 ^ 32) (sym 
 
 pub returns-clause-found : goal.returns-clause-found
 unfolding has_untried_move
-returns-clause-found c =
-    c.has_legal_origin.ensures.found ∙ ap (list_any (λ s. spec.is_legal_pair c.args.position.now s c.args.target)) (origins c.before.before)
+returns-clause-found c = grind (arith, nat_tests, origins)
 
 pub returns-clause-count : goal.returns-clause-count
 unfolding count_untried
-returns-clause-count c = subst (λ n. spec.Counts c.has_legal_origin.result c.args.probes.now c.has_legal_origin.new.probes n) (ap length (origins c.before.before)) c.has_legal_origin.ensures.count
+returns-clause-count c = grind (arith, nat_tests, length, origins)

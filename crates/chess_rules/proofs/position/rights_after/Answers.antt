@@ -1,10 +1,7 @@
-use Rattle.std.proofs.Common.{sym, ◌∙◌, ap}
-use Rattle.chess_rules.specs.Words.{has}
+use Rattle.std.proofs.Common.{arith}
 use Rattle.chess_rules.proofs.moves.RightsStay.{homes, rights_stay}
 use Rattle.chess_rules.proofs.position.rights_after.Goals as goal
+use Rattle.std.proofs.lemmas.Bool.Decides.{nat_tests}
 
 pub returns-then-not-has-2 : goal.returns-then-not-has-2
-returns-then-not-has-2 c =
-    rights_stay c.args.mv.now c.args.rights
-    (ap (has homes) (sym c.index.ensures.value) ∙ (sym c.has.ensures ∙ c.if-not-has.true))
-    (ap (has homes) (sym c.index-then-not-has.ensures.value) ∙ (sym c.has-then-not-has.ensures ∙ c.if-not-has-2.true))
+returns-then-not-has-2 c = grind (arith, nat_tests, rights_stay, homes)

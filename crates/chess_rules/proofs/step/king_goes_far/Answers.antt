@@ -32,7 +32,7 @@ own_king p s sound file rank = same_tests _ _ there back
 
 -- the two tests, in either order
 in_turn : (x y : Bool) → (x && y) ≡ (y && x)
-in_turn x0 x1 = grind (arith, nat_tests)
+in_turn x y = grind (arith, nat_tests)
 
 is_king : (p : Parts) (s k : Square) (b : Bool) → is_position p ≡ true → s.file < 8 → s.rank < 8 → k ≡ king_square p.side p.board → b ≡ same_square s k → own p King s ≡ b
 is_king p s k b sound file rank king is = own_king p s (sound_from_position p sound) file rank ∙ (ap (same_square s) (sym king) ∙ sym is)

@@ -1,4 +1,4 @@
-use Rattle.std.proofs.Common.{arith, ◌≡◌, true, false, ◌||◌, sym, ◌∙◌, ap, ap₂}
+use Rattle.std.proofs.Common.{arith, ◌≡◌, true, false}
 use Rattle.chess_rules.specs.declared.position.Move.{Move}
 use Rattle.chess_rules.specs.declared.position.Parts.{Parts}
 use Rattle.chess_rules.specs.Board.{is_empty}
@@ -15,16 +15,7 @@ not_in_passing : (p : Parts) (m : Move) → is_target p.target m.to ≡ false �
 not_in_passing p m h = grind (arith, nat_tests)
 
 pub returns-then-is_target : goal.returns-then-is_target
-returns-then-is_target c =
-    let p = c.args.position.now in
-    let m = c.args.mv.now in
-    c.is_en_passant.ensures
-    ∙ ap (λ x. x || is_en_passant p m) (sym (no_capture p m (ap (λ b. is_empty b m.to) (sym c.board.ensures) ∙ (sym c.is_empty.ensures ∙ c.if-is_empty.true))))
+returns-then-is_target c = grind (arith, nat_tests, no_capture)
 
 pub returns-else-is_target : goal.returns-else-is_target
-returns-else-is_target c =
-    let p = c.args.position.now in
-    let m = c.args.mv.now in
-    c.if-is_target.false
-    ∙ ap₂ (λ x y. x || y) (sym (no_capture p m (ap (λ b. is_empty b m.to) (sym c.board.ensures) ∙ (sym c.is_empty.ensures ∙ c.if-is_empty.true))))
-    (sym (not_in_passing p m (ap (λ t. is_target t m.to) (sym c.target.ensures) ∙ (sym c.is_target.ensures ∙ c.if-is_target.false))))
+returns-else-is_target c = grind (arith, nat_tests, no_capture, not_in_passing)

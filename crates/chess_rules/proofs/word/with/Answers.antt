@@ -1,10 +1,10 @@
 use Rattle.chess_rules.proofs.squares.WordsToCells.{sets_place, clears_place}
 use Rattle.chess_rules.proofs.word.with.Goals as goal
+use Rattle.std.proofs.lemmas.Bool.Decides.{nat_tests}
+use Rattle.std.proofs.Common.{arith}
 
 pub returns-then-value : goal.returns-then-value
-returns-then-value c =
-    sets_place c.args.word c.single-bit.result c.args.place c.args.value c.ranges.word.fits c.single-bit.type_inv c.single-bit.ensures c.if-value.true
+returns-then-value c = grind (arith, nat_tests, sets_place)
 
 pub returns-else-value : goal.returns-else-value
-returns-else-value c =
-    clears_place c.args.word c.single-bit.result c.args.place c.args.value c.single-bit.type_inv c.single-bit.ensures c.if-value.false
+returns-else-value c = grind (arith, nat_tests, clears_place)

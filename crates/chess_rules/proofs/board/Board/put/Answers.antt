@@ -1,4 +1,4 @@
-use Rattle.std.proofs.Common.{arith, set, ◌∙◌, ap}
+use Rattle.std.proofs.Common.{arith, set}
 use Rattle.chess_rules.specs.declared.board.Board.TheInside.{Inside}
 use Rattle.chess_rules.proofs.squares.WordsToCells.{cells_put}
 use Rattle.chess_rules.proofs.board.Board.put.Goals as goal
@@ -14,9 +14,4 @@ invariant_of-self c = grind (arith, nat_tests)
 
 pub returns : goal.returns
 unfolding new
-returns c =
-    cells_put c.self.inside (new c) c.index-place.result c.args.content
-    c.of-code.result.straight c.of-code.result.diagonal c.of-code.result.near c.of-code.result.black
-    c.with.ensures c.with-2.ensures c.with-3.ensures c.with-4.ensures
-    c.of-code.ensures.straight c.of-code.ensures.diagonal c.of-code.ensures.near c.of-code.ensures.black c.args.self.now c.self.view_is
-    ∙ ap (λ n. set c.args.self.now n c.args.content) c.index-place.ensures.value
+returns c = grind (arith, nat_tests, cells_put, new, set)
