@@ -3,6 +3,7 @@ use Rattle.std.proofs.Common.{◌≡◌, ℕ, ◌<◌, ◌≤◌, Bool, true, fa
 use Rattle.std.specs.Prelude.{Option, None, Some, is_none, is_some, nat_le}
 use Rattle.std.specs.List.{list_any}
 use Rattle.std.proofs.lemmas.Bool.Decides.{nat_tests}
+use Rattle.std.proofs.lemmas.Bool.{or_cases, or_left, and_from}
 use Rattle.chess_rules.specs.declared.piece.Colour.{Colour}
 use Rattle.chess_rules.specs.declared.piece.Kind.{Kind}
 use Rattle.chess_rules.specs.declared.piece.Kind.TheVariants.{King, Queen, Rook, Bishop, Knight, Pawn}
@@ -11,7 +12,7 @@ use Rattle.chess_rules.specs.Square.{Square, squares, gap, same_square, is_adjac
 use Rattle.chess_rules.specs.Board.{Board, at, is_empty, has_colour, same_colour, same_kind}
 use Rattle.chess_rules.specs.Attacks.{is_clear, is_ahead, kind_attacks, cell_attacks, attacks, is_attacked}
 use Rattle.chess_rules.specs.Reach.{is_aligned, is_in_view, may_attack, near_with, reaches, slides_with}
-use Rattle.chess_rules.proofs.squares.AllSquares.{split_or, or_first, first_true, second_true, both_true, all_squares, any_same, implied}
+use Rattle.chess_rules.proofs.squares.AllSquares.{first_true, second_true, all_squares, any_same, implied}
 
 -- What a cell holds is determined.
 
@@ -37,9 +38,9 @@ clear_if b s t h = all_squares (λ u. not (strictly_between s u t) || is_empty b
 
 pub between_cases : {A : Type 0} (s u t : Square) → strictly_between s u t ≡ true → (between_on_rank s u t ≡ true → A) → (between_on_file s u t ≡ true → A) → (between_on_diagonal s u t ≡ true → A) → A
 between_cases s u t h rank file cross =
-    elim (split_or (between_on_rank s u t) (between_on_file s u t || between_on_diagonal s u t) h) [
+    elim (or_cases (between_on_rank s u t) (between_on_file s u t || between_on_diagonal s u t) h) [
       | inl r ↦ rank r
-      | inr more ↦ elim (split_or (between_on_file s u t) (between_on_diagonal s u t) more) [ inl f ↦ file f | inr d ↦ cross d ]
+      | inr more ↦ elim (or_cases (between_on_file s u t) (between_on_diagonal s u t) more) [ inl f ↦ file f | inr d ↦ cross d ]
     ]
 
 near_clear : (b : Board) (s t : Square) → gap s.file t.file ≤ 1 → gap s.rank t.rank ≤ 1 → is_clear b s t ≡ true
@@ -75,7 +76,7 @@ near_aligned : (s t : Square) → gap s.file t.file ≤ 1 → gap s.rank t.rank 
 near_aligned s t files ranks apart = grind (arith, nat_tests)
 
 pub near : (b : Board) (s t : Square) → gap s.file t.file ≤ 1 → gap s.rank t.rank ≤ 1 → not (same_square s t) ≡ true → (is_aligned s t && is_clear b s t) ≡ true
-near b s t files ranks apart = both_true _ _ (near_aligned s t files ranks apart) (near_clear b s t files ranks)
+near b s t files ranks apart = and_from _ _ (near_aligned s t files ranks apart) (near_clear b s t files ranks)
 
 at_most : (a b : ℕ) → nat_le a b ≡ true → a ≤ b
 at_most a b h = grind (arith, nat_tests)
@@ -189,21 +190,21 @@ by_cell c (Some x) b s t = by_colour (same_colour c x.colour) refl
 near_alone_seen : (c : Colour) (cell : Option Piece) (b : Board) (s t : Square) → near_with c cell s t ≡ true → (is_some cell ≡ true) × (((is_aligned s t && is_clear b s t) || is_jump s t) ≡ true)
 near_alone_seen c None b s t h = cc (sym h ∙ and_no _)
 near_alone_seen c (Some x) b s t h =
-    (refl, by_near (split_or ((is_jump s t && same_kind Knight x.kind) || (is_adjacent s t && same_kind King x.kind)) _ (first_true _ (same_colour c x.colour) h)))
+    (refl, by_near (or_cases ((is_jump s t && same_kind Knight x.kind) || (is_adjacent s t && same_kind King x.kind)) _ (first_true _ (same_colour c x.colour) h)))
   where
     by_first : ((is_jump s t && same_kind Knight x.kind) ≡ true) ⊎ ((is_adjacent s t && same_kind King x.kind) ≡ true) → ((is_aligned s t && is_clear b s t) || is_jump s t) ≡ true
     by_first h = grind (arith, nat_tests, adjacent_seen)
 
     by_near : (((is_jump s t && same_kind Knight x.kind) || (is_adjacent s t && same_kind King x.kind)) ≡ true) ⊎ ((reaches Pawn c s t && same_kind Pawn x.kind) ≡ true)
         → ((is_aligned s t && is_clear b s t) || is_jump s t) ≡ true
-    by_near h = grind (arith, nat_tests, by_first, split_or, or_first, pawn_seen, first_true)
+    by_near h = grind (arith, nat_tests, by_first, or_cases, or_left, pawn_seen, first_true)
 
 -- Of a piece that may attack, three tests say the same: whether it attacks, whether the way is
 -- clear, and whether it is in view or a jump away.
 
 near_is_clear : (c : Colour) (cell : Option Piece) (b : Board) (s t : Square) → near_with c cell s t ≡ true → is_clear b s t ≡ true
 near_is_clear c cell b s t h =
-    elim (split_or (is_aligned s t && is_clear b s t) (is_jump s t) ((near_alone_seen c cell b s t h).1)) [ inl seen ↦ second_true (is_aligned s t) _ seen | inr jump ↦ jump_clear b s t jump ]
+    elim (or_cases (is_aligned s t && is_clear b s t) (is_jump s t) ((near_alone_seen c cell b s t h).1)) [ inl seen ↦ second_true (is_aligned s t) _ seen | inr jump ↦ jump_clear b s t jump ]
 
 pub attacker_is : (b : Board) (c : Colour) (s t : Square) → (has_colour c (at b s) && attacks b s t) ≡ (may_attack b c t s && is_clear b s t)
 attacker_is b c s t =
@@ -217,7 +218,7 @@ pub attacked_is : (b : Board) (c : Colour) (t : Square) → is_attacked b c t �
 attacked_is b c t = any_same (λ s. has_colour c (at b s) && attacks b s t) (λ s. may_attack b c t s && is_clear b s t) squares (λ s. attacker_is b c s t)
 
 pub open_or_jump : (b : Board) (c : Colour) (s t : Square) → may_attack b c t s ≡ true → (is_in_view b t s || is_jump s t) ≡ is_clear b s t
-open_or_jump b c s t h = elim (split_or (near_with c (at b s) s t) (slides_with c (at b s) s t) h) [ inl near ↦ by_near near | inr slide ↦ by_slide slide ]
+open_or_jump b c s t h = elim (or_cases (near_with c (at b s) s t) (slides_with c (at b s) s t) h) [ inl near ↦ by_near near | inr slide ↦ by_slide slide ]
   where
     by_near : near_with c (at b s) s t ≡ true → (is_in_view b t s || is_jump s t) ≡ is_clear b s t
     by_near near =

@@ -4,7 +4,7 @@ use Rattle.std.proofs.Common.{◌≡◌, ◌≢◌, ℕ, ◌<◌, ◌≤◌, ◌
 use Rattle.std.specs.Prelude.{filter, is_some, nat_lt}
 use Rattle.std.specs.Int.{bit_not}
 use Rattle.std.specs.Int.Bits.{bit_and, bit_or}
-use Rattle.std.proofs.lemmas.Bool.{false≢true}
+use Rattle.std.proofs.lemmas.Bool.{false≢true, or_left, or_right, not-true, and_from}
 use Rattle.std.proofs.lemmas.Bool.Decides.{nat_tests}
 use Rattle.chess_rules.specs.Square.{Square, squares, inside, in_line, on_diagonal, strictly_between}
 use Rattle.chess_rules.specs.Board.{Board, at, cell_of, is_empty}
@@ -12,12 +12,15 @@ use Rattle.chess_rules.specs.Attacks.{is_clear}
 use Rattle.chess_rules.specs.Reach.{IsLine, is_in_view, is_open, is_steep, square_at}
 use Rattle.chess_rules.specs.Words.{has, IsHighest, IsLowest, IsOnlyHighest, IsOnlyLowest, Places}
 use Rattle.chess_rules.proofs.positions.OneKing.{cell_of-square_at}
-use Rattle.chess_rules.proofs.squares.AllSquares.{or_first, or_second, first_true, second_true, both_true, same_tests, each_square, not_means, not_true}
+use Rattle.chess_rules.proofs.squares.AllSquares.{first_true, second_true, same_tests, each_square, not_true}
 use Rattle.chess_rules.proofs.squares.SetsToSquares.{at_square, one_kept}
 use Rattle.chess_rules.proofs.trying.FoundLists.{kept_either, kept_more}
 use Rattle.chess_rules.proofs.squares.WordsToCells.{has_and, has_not, has_or}
 use Rattle.chess_rules.proofs.lines.AttackToReach.{clear_if, not_empty}
 use Rattle.chess_rules.proofs.lines.LinesThrough.{file_line, rank_line, rising_line, falling_line, inside_means, inside_up, inside_down}
+
+strict : (m n : ℕ) → m ≤ n → (m ≡ n → ⊥) → m < n
+strict m n a g = grind (arith, g)
 
 -- One line through t.
 module _ (b : Board) (t : Square) (line : Square → Bool) (on : IsLine line t) where
@@ -26,7 +29,7 @@ module _ (b : Board) (t : Square) (line : Square → Bool) (on : IsLine line t) 
   blocked i j low high there from full clear between =
       let apart : strictly_between (square_at j) (square_at i) t ≡ true =
       on.between (square_at j) (square_at i) (omega arith) (omega arith) (omega arith) (omega arith) from
-      ∙ both_true (line (square_at i)) _ there (ap₂ (λ m n. inside m n (cell_of t)) (cell_of-square_at j) (cell_of-square_at i) ∙ between) in
+      ∙ and_from (line (square_at i)) _ there (ap₂ (λ m n. inside m n (cell_of t)) (cell_of-square_at j) (cell_of-square_at i) ∙ between) in
       let empty : is_empty b (square_at i) ≡ true =
       not_true (strictly_between (square_at j) (square_at i) t) _ apart
       (each_square (λ u. not (strictly_between (square_at j) u t) || is_empty b u) (square_at i) clear (omega arith) (omega arith)) in
@@ -83,7 +86,7 @@ module _ (b : Board) (t : Square) (line occupied below low high : ℕ) (tf : t.f
       let is : IsLowest (bit_and (bit_and line occupied) (bit_not w64 below)) i = lowest.here i h e in
       let all : ((has line i && has occupied i) && not (nat_lt i (cell_of t))) ≡ true = sym (after i h) ∙ is.here in
       let both : (has line i && has occupied i) ≡ true = first_true _ (not (nat_lt i (cell_of t))) all in
-      let above : cell_of t ≤ i = test_above i (cell_of t) (not_means _ (second_true (has line i && has occupied i) _ all)) in
+      let above : cell_of t ≤ i = test_above i (cell_of t) (not-true _ (second_true (has line i && has occupied i) _ all)) in
       open_there i h (first_true (has line i) _ both) (second_true (has line i) _ both)
       (clear_when b t (λ s. has line (cell_of s)) on i h (on_line i h (first_true (has line i) _ both)) (λ u f r here between.
       empty_between u f r here (in_order i u above (inside_means _ _ _ between)) is.none))
@@ -138,9 +141,9 @@ module _ (b : Board) (t : Square) (line occupied below low high : ℕ) (tf : t.f
 
       by_side : (x : Bool) → nat_lt i (cell_of t) ≡ x → (has low i || has high i) ≡ true
       by_side false above =
-          or_first _ _ (lowest.there i (record {
+          or_left _ _ (lowest.there i (record {
             inside = h;
-            here = after i h ∙ both_true _ _ at_i (ap not above);
+            here = after i h ∙ and_from _ _ at_i (ap not above);
             none = λ k less. out_after k less;
           }))
         where
@@ -153,16 +156,13 @@ module _ (b : Board) (t : Square) (line occupied below low high : ℕ) (tf : t.f
                   let low_k : k < 64 = omega arith in
                   let all : ((has line k && has occupied k) && not (nat_lt k (cell_of t))) ≡ true = sym (after k low_k) ∙ g in
                   let both : (has line k && has occupied k) ≡ true = first_true _ (not (nat_lt k (cell_of t))) all in
-                  let past : cell_of t ≤ k = test_above k (cell_of t) (not_means _ (second_true (has line k && has occupied k) _ all)) in
+                  let past : cell_of t ≤ k = test_above k (cell_of t) (not-true _ (second_true (has line k && has occupied k) _ all)) in
                   let other : k ≢ cell_of t = not_there b t (λ s. has line (cell_of s)) on k low_k (on_line k low_k (first_true (has line k) _ both)) tf in
                   absurd (none_between k low_k (inside_down i k (cell_of t) (strict (cell_of t) k past (λ s. other (sym s))) less) both)
-                where
-                  strict : (m n : ℕ) → m ≤ n → (m ≡ n → ⊥) → m < n
-                  strict m n a g = grind (arith, g)
       by_side true less =
-          or_second _ _ (highest.there i (record {
+          or_right _ _ (highest.there i (record {
             inside = h;
-            here = before i h ∙ both_true _ _ at_i less;
+            here = before i h ∙ and_from _ _ at_i less;
             none = λ k more low. out_before k more low;
           }))
         where
@@ -212,9 +212,6 @@ module _ (b : Board) (t : Square) (line : Square → Bool) (tf : t.file < 8) (on
     where
       not_less : (k : ℕ) → not (nat_lt (cell_of (square_at k)) (cell_of t)) ≡ true → cell_of t ≤ k
       not_less k e = grind (arith, nat_tests)
-
-      strict : (m n : ℕ) → m ≤ n → (m ≡ n → ⊥) → m < n
-      strict m n a g = grind (arith, g)
 
   pub two_on_line : length (filter (λ s. line s && is_open b t s) squares) ≤ 2
   two_on_line =

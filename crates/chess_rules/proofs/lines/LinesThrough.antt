@@ -1,10 +1,11 @@
 -- Four lines go through a square. Of two squares on one, those between are between in order too.
 use Rattle.std.proofs.Common.{◌≡◌, ℕ, ◌+◌, ◌<◌, ◌≢◌, Bool, true, false, not, ◌&&◌, ◌||◌, ◌⊎◌, inl, inr, arith}
 use Rattle.std.proofs.lemmas.Bool.Decides.{nat_tests}
+use Rattle.std.proofs.lemmas.Bool.{or_cases, or_left, or_right}
 use Rattle.chess_rules.specs.Square.{Square, gap, inside, in_line, on_diagonal, strictly_between, between_on_rank, between_on_file, between_on_diagonal}
 use Rattle.chess_rules.specs.Board.{cell_of}
 use Rattle.chess_rules.specs.Reach.{IsLine, is_steep}
-use Rattle.chess_rules.proofs.squares.AllSquares.{split_or, or_first, or_second, first_true, second_true, same_tests}
+use Rattle.chess_rules.proofs.squares.AllSquares.{first_true, second_true, same_tests}
 
 pub inside_means : (a x b : ℕ) → inside a x b ≡ true → ((a < x) × (x < b)) ⊎ ((b < x) × (x < a))
 inside_means a x b h = grind (arith, nat_tests)
@@ -68,9 +69,9 @@ rising_line t tf = record { apart = cross_leaves (is_steep t t) t; between = λ 
   where
     forth : (s u : Square) → s.file < 8 → u.file < 8 → (on_diagonal s t && is_steep s t) ≡ true → strictly_between s u t ≡ true → ((on_diagonal u t && is_steep u t) && inside (cell_of s) (cell_of u) (cell_of t)) ≡ true
     forth s u sf uf l h =
-        elim (split_or (between_on_rank s u t) (between_on_file s u t || between_on_diagonal s u t) h) [
+        elim (or_cases (between_on_rank s u t) (between_on_file s u t || between_on_diagonal s u t) h) [
           | inl r ↦ absurd (not_on_rank s u t (rising_apart s t l) r)
-          | inr more ↦ elim (split_or (between_on_file s u t) (between_on_diagonal s u t) more) [
+          | inr more ↦ elim (or_cases (between_on_file s u t) (between_on_diagonal s u t) more) [
             | inl f ↦ absurd (rising_off_file s u t (rising_means s t l) (rising_apart s t l) f)
             | inr d ↦ here (between_means s u t d)
           ]
@@ -80,16 +81,16 @@ rising_line t tf = record { apart = cross_leaves (is_steep t t) t; between = λ 
         here w = grind (arith, nat_tests)
 
     back : (s u : Square) → s.file < 8 → u.file < 8 → (on_diagonal s t && is_steep s t) ≡ true → ((on_diagonal u t && is_steep u t) && inside (cell_of s) (cell_of u) (cell_of t)) ≡ true → strictly_between s u t ≡ true
-    back s u sf uf l h = grind (arith, nat_tests, or_second, inside_means, second_true, rising_means, first_true)
+    back s u sf uf l h = grind (arith, nat_tests, or_right, inside_means, second_true, rising_means, first_true)
 
 pub falling_line : (t : Square) → t.file < 8 → IsLine (λ s. on_diagonal s t && not (is_steep s t)) t
 falling_line t tf = record { apart = cross_leaves (not (is_steep t t)) t; between = λ s u sf _ uf _ l. same_tests _ _ (forth s u sf uf l) (back s u sf uf l) }
   where
     forth : (s u : Square) → s.file < 8 → u.file < 8 → (on_diagonal s t && not (is_steep s t)) ≡ true → strictly_between s u t ≡ true → ((on_diagonal u t && not (is_steep u t)) && inside (cell_of s) (cell_of u) (cell_of t)) ≡ true
     forth s u sf uf l h =
-        elim (split_or (between_on_rank s u t) (between_on_file s u t || between_on_diagonal s u t) h) [
+        elim (or_cases (between_on_rank s u t) (between_on_file s u t || between_on_diagonal s u t) h) [
           | inl r ↦ absurd (not_on_rank s u t (falling_apart s t l) r)
-          | inr more ↦ elim (split_or (between_on_file s u t) (between_on_diagonal s u t) more) [
+          | inr more ↦ elim (or_cases (between_on_file s u t) (between_on_diagonal s u t) more) [
             | inl f ↦ absurd (falling_off_file s u t (falling_means s t l) (falling_apart s t l) f)
             | inr d ↦ here (between_means s u t d)
           ]
@@ -99,7 +100,7 @@ falling_line t tf = record { apart = cross_leaves (not (is_steep t t)) t; betwee
         here w = grind (arith, nat_tests)
 
     back : (s u : Square) → s.file < 8 → u.file < 8 → (on_diagonal s t && not (is_steep s t)) ≡ true → ((on_diagonal u t && not (is_steep u t)) && inside (cell_of s) (cell_of u) (cell_of t)) ≡ true → strictly_between s u t ≡ true
-    back s u sf uf l h = grind (arith, nat_tests, or_second, inside_means, second_true, falling_means, first_true)
+    back s u sf uf l h = grind (arith, nat_tests, or_right, inside_means, second_true, falling_means, first_true)
 
 -- a file and a rank
 
@@ -119,13 +120,13 @@ cross_there : (s u t : Square) → between_on_diagonal s u t ≡ true → on_dia
 cross_there s u t h = grind (arith, nat_tests)
 
 pub file_line : (t : Square) → t.file < 8 → IsLine (λ s. in_line s t && is_steep s t) t
-file_line t tf = record { apart = line_leaves (is_steep t t) t; between = λ s u sf _ uf _ l. same_tests _ _ (forth s u sf uf l) (λ h. or_second _ _ (or_first _ _ (file_back s u t uf sf tf l h))) }
+file_line t tf = record { apart = line_leaves (is_steep t t) t; between = λ s u sf _ uf _ l. same_tests _ _ (forth s u sf uf l) (λ h. or_right _ _ (or_left _ _ (file_back s u t uf sf tf l h))) }
   where
     forth : (s u : Square) → s.file < 8 → u.file < 8 → (in_line s t && is_steep s t) ≡ true → strictly_between s u t ≡ true → ((in_line u t && is_steep u t) && inside (cell_of s) (cell_of u) (cell_of t)) ≡ true
     forth s u sf uf l h =
-        elim (split_or (between_on_rank s u t) (between_on_file s u t || between_on_diagonal s u t) h) [
+        elim (or_cases (between_on_rank s u t) (between_on_file s u t || between_on_diagonal s u t) h) [
           | inl r ↦ absurd (file_off_rank s u t l r)
-          | inr more ↦ elim (split_or (between_on_file s u t) (between_on_diagonal s u t) more) [
+          | inr more ↦ elim (or_cases (between_on_file s u t) (between_on_diagonal s u t) more) [
             | inl f ↦ file_forth s u t uf sf tf l f
             | inr d ↦ absurd (line_off_cross s t (first_true (in_line s t) _ l) (cross_there s u t d))
           ]
@@ -144,13 +145,13 @@ rank_off_file : (s u t : Square) → (in_line s t && not (is_steep s t)) ≡ tru
 rank_off_file s u t h g = grind (arith, nat_tests)
 
 pub rank_line : (t : Square) → t.file < 8 → IsLine (λ s. in_line s t && not (is_steep s t)) t
-rank_line t tf = record { apart = line_leaves (not (is_steep t t)) t; between = λ s u sf _ uf _ l. same_tests _ _ (forth s u sf uf l) (λ h. or_first _ _ (rank_back s u t uf sf tf l h)) }
+rank_line t tf = record { apart = line_leaves (not (is_steep t t)) t; between = λ s u sf _ uf _ l. same_tests _ _ (forth s u sf uf l) (λ h. or_left _ _ (rank_back s u t uf sf tf l h)) }
   where
     forth : (s u : Square) → s.file < 8 → u.file < 8 → (in_line s t && not (is_steep s t)) ≡ true → strictly_between s u t ≡ true → ((in_line u t && not (is_steep u t)) && inside (cell_of s) (cell_of u) (cell_of t)) ≡ true
     forth s u sf uf l h =
-        elim (split_or (between_on_rank s u t) (between_on_file s u t || between_on_diagonal s u t) h) [
+        elim (or_cases (between_on_rank s u t) (between_on_file s u t || between_on_diagonal s u t) h) [
           | inl r ↦ rank_forth s u t uf sf tf l r
-          | inr more ↦ elim (split_or (between_on_file s u t) (between_on_diagonal s u t) more) [
+          | inr more ↦ elim (or_cases (between_on_file s u t) (between_on_diagonal s u t) more) [
             | inl f ↦ absurd (rank_off_file s u t l f)
             | inr d ↦ absurd (line_off_cross s t (first_true (in_line s t) _ l) (cross_there s u t d))
           ]

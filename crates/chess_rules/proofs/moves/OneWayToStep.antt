@@ -2,6 +2,7 @@
 use Rattle.std.proofs.Common.{◌≡◌, ◌≤◌, Bool, true, ◌&&◌, arith, [], ◌∷◌}
 use Rattle.std.specs.Prelude.{count_by}
 use Rattle.std.proofs.lemmas.Bool.Decides.{nat_tests}
+use Rattle.std.proofs.lemmas.Bool.{or_cases}
 use Rattle.chess_rules.specs.declared.piece.Kind.TheVariants.{Pawn}
 use Rattle.chess_rules.specs.declared.position.Move.{Move}
 use Rattle.chess_rules.specs.declared.position.Parts.{Parts}
@@ -10,7 +11,7 @@ use Rattle.chess_rules.specs.Board.{at, is_empty, other, has_piece}
 use Rattle.chess_rules.specs.Attacks.{attacks}
 use Rattle.chess_rules.specs.Step.{own, is_piece_step, is_pawn_way, is_pawn_step, promotion_fits, is_target, captured_pawn, is_en_passant, castles_short, castles_long, short_wing, long_wing, Wing}
 use Rattle.chess_rules.specs.Laws.{CasesApart}
-use Rattle.chess_rules.proofs.squares.AllSquares.{split_or, first_true, second_true, equal_from}
+use Rattle.chess_rules.proofs.squares.AllSquares.{first_true, second_true, equal_from}
 use Rattle.chess_rules.proofs.moves.StepsKeepBoard.{pawn_attack, Castles}
 
 pub no_pawn_moves : (p : Parts) (m : Move) → is_piece_step p m ≡ true → own p Pawn m.from ≡ true → ⊥
@@ -30,7 +31,7 @@ king_is_no_pawn p m wing h pawn = grind (arith, nat_tests)
 
 -- a pawn that goes ahead keeps its file, and one that captures finds a piece
 pub pawn_steps_apart : (p : Parts) (m : Move) → is_pawn_step p m ≡ true → is_en_passant p m ≡ true → ⊥
-pawn_steps_apart p m h g = grind (arith, nat_tests, split_or, first_true, second_true, equal_from, en_passant_stands, pawn_attack, pawn_of_en_passant)
+pawn_steps_apart p m h g = grind (arith, nat_tests, or_cases, first_true, second_true, equal_from, en_passant_stands, pawn_attack, pawn_of_en_passant)
 
 -- a king steps to a square beside it
 king_steps_apart : (p : Parts) (m : Move) (wing : Wing) → 2 ≤ gap 4 wing.end → is_piece_step p m ≡ true → Castles p m wing → ⊥

@@ -2,7 +2,7 @@
 use Rattle.std.proofs.Common.{◌≡◌, ◌≢◌, ◌≤◌, Bool, true, false, not, ◌&&◌, ◌||◌, ◌⊎◌, inl, inr, refl, sym, ◌∙◌, ap, ap₂, subst, arith, length}
 use Rattle.std.specs.Prelude.{nat_lt, Option, None, Some, is_none, is_some, option_map, if◌then◌else◌}
 use Rattle.std.specs.List.{list_any}
-use Rattle.std.proofs.lemmas.Bool.{false≢true}
+use Rattle.std.proofs.lemmas.Bool.{false≢true, or_cases, not-true, and_from, false_from_ne_true}
 use Rattle.std.proofs.lemmas.Bool.Decides.{nat_tests}
 use Rattle.chess_rules.specs.declared.piece.Colour.{Colour}
 use Rattle.chess_rules.specs.declared.piece.Kind.TheVariants.{King, Pawn}
@@ -18,11 +18,11 @@ use Rattle.chess_rules.specs.Step.{own, is_target, is_piece_step, is_pawn_step, 
 use Rattle.chess_rules.specs.Legal.{legal, if_safe, is_legal, is_check}
 use Rattle.chess_rules.specs.Reach.{is_aligned, king_square, king_after, slides, slides_with}
 use Rattle.chess_rules.specs.Plain.{is_plain, king_goes_far}
-use Rattle.chess_rules.proofs.squares.AllSquares.{split_or, first_true, second_true, both_true, each_square, all_squares, Passes, some_square, any_square, not_true, implied, not_means}
+use Rattle.chess_rules.proofs.squares.AllSquares.{first_true, second_true, each_square, all_squares, Passes, some_square, any_square, not_true, implied}
 use Rattle.chess_rules.proofs.lines.AttackToReach.{squares_same, none_or_all}
 use Rattle.chess_rules.proofs.positions.OneKing.{StandsAt, king_stands, king_attacked_there}
 use Rattle.chess_rules.proofs.moves.CellsAfterPut.{OnBoard, at_put, at_put_here, length-put}
-use Rattle.chess_rules.proofs.positions.RulesOfPosition.{Sound, sound_from_position, to_false}
+use Rattle.chess_rules.proofs.positions.RulesOfPosition.{Sound, sound_from_position}
 use Rattle.chess_rules.proofs.moves.BoardAfterMove.{arriving}
 use Rattle.chess_rules.proofs.moves.StepsKeepBoard.{other-other, colour_of_piece, not_both, Castles, castles_means, attacks_as, one_kind, pawn_is_no_king}
 use Rattle.chess_rules.proofs.moves.OneWayToStep.{no_pawn_moves, pawn_of_en_passant, pawn_steps_apart}
@@ -41,9 +41,9 @@ between_on_diagonal_aligned s u t h = grind (arith, nat_tests)
 
 between_aligned : (s u t : Square) → strictly_between s u t ≡ true → is_aligned u t ≡ true
 between_aligned s u t h =
-    elim (split_or (between_on_rank s u t) (between_on_file s u t || between_on_diagonal s u t) h) [
+    elim (or_cases (between_on_rank s u t) (between_on_file s u t || between_on_diagonal s u t) h) [
       | inl rank ↦ between_on_rank_aligned s u t rank
-      | inr more ↦ elim (split_or (between_on_file s u t) (between_on_diagonal s u t) more) [
+      | inr more ↦ elim (or_cases (between_on_file s u t) (between_on_diagonal s u t) more) [
         | inl file ↦ between_on_file_aligned s u t file
         | inr diagonal ↦ between_on_diagonal_aligned s u t diagonal
       ]
@@ -100,15 +100,15 @@ module _ (b : Board) (from to k : Square) (cell : Option Piece) (c : Colour) (lo
     where
       as_before : (has_colour c (at b s) && cell_attacks (at b s) (put (put b from None) to cell) s k) ≡ true → Opens → (has_colour c (at b s) && attacks b s k) ≡ true
       as_before g (inl apart) =
-          both_true _ _ (first_true _ _ g)
+          and_from _ _ (first_true _ _ g)
           (cell_still (at b s) (put (put b from None) to cell) b s k (clear_before s full apart) (second_true (has_colour c (at b s)) _ g))
       as_before g (inr none) =
           sym (no_slide c (at b s) (put (put b from None) to cell) b s k
-          (to_false (slides b c k s) (λ slides_there. false≢true (sym none ∙ any_square (slides b c k) s on.file on.rank slides_there)))) ∙ g
+          (false_from_ne_true (slides b c k s) (λ slides_there. false≢true (sym none ∙ any_square (slides b c k) s on.file on.rank slides_there)))) ∙ g
 
   pub calm : is_none cell ≡ false → Opens → (has_colour c cell && attacks (put (put b from None) to cell) to k) ≡ false
       → is_attacked b c k ≡ false → is_attacked (put (put b from None) to cell) c k ≡ false
-  calm full opens quiet before = to_false (is_attacked (put (put b from None) to cell) c k) (λ h. by_square (some_square (λ s. has_colour c (at (put (put b from None) to cell) s) && attacks (put (put b from None) to cell) s k) h))
+  calm full opens quiet before = false_from_ne_true (is_attacked (put (put b from None) to cell) c k) (λ h. by_square (some_square (λ s. has_colour c (at (put (put b from None) to cell) s) && attacks (put (put b from None) to cell) s k) h))
     where
       by_square : Passes (λ s. has_colour c (at (put (put b from None) to cell) s) && attacks (put (put b from None) to cell) s k) → ⊥
       by_square w =
@@ -156,8 +156,8 @@ no_target_no_passing p m h = grind (arith, nat_tests)
 
 pub plain_step : (p : Parts) (m : Move) (b : Board) → is_plain p m ≡ true → board_after p m ≡ Some b → PlainStep p m b
 plain_step p m b plain h =
-    near_step p m b (no_target_no_passing p m (not_means (is_target p.target m.to) (first_true _ _ plain)))
-    (not_means (king_goes_far p m) (second_true (not (is_target p.target m.to)) _ plain)) h
+    near_step p m b (no_target_no_passing p m (not-true (is_target p.target m.to) (first_true _ _ plain)))
+    (not-true (king_goes_far p m) (second_true (not (is_target p.target m.to)) _ plain)) h
 
 arriving_own : (c : Colour) (q : Option Promotion) (cell : Option Piece) → has_colour c cell ≡ true → has_colour c (promoted c q cell) ≡ true
 arriving_own c q cell h = grind (arith, nat_tests)
@@ -222,7 +222,7 @@ no_check_when_plain p m b k position on h plain is unseen harmless =
     stands_k = subst (λ (s : Square). StandsAt (other p.side) p.board s) (sym is) stands
 
     apart : same_square m.from k ≡ false
-    apart = to_false (same_square m.from k) (λ same. not_both p.side (at p.board k)
+    apart = false_from_ne_true (same_square m.from k) (λ same. not_both p.side (at p.board k)
         (subst (λ (s : Square). has_colour p.side (at p.board s) ≡ true) (squares_same m.from k same) step.own)
         (colour_of_piece (other p.side) King (at p.board k) stands_k.king))
 
@@ -267,7 +267,7 @@ third v w x y z i j k l e f g = grind arith
 pub passing_board : (p : Parts) (m : Move) → is_en_passant p m ≡ true → board_after p m ≡ Some (en_passant_board p m)
 passing_board p m h =
     third (is_piece_step p m) (is_pawn_step p m) (is_en_passant p m) (castles_short p m) (castles_long p m) _ _ _ _
-    (to_false _ (λ piece. no_pawn_moves p m piece (pawn_of_en_passant p m h))) (to_false _ (λ pawn. pawn_steps_apart p m pawn h)) h
+    (false_from_ne_true _ (λ piece. no_pawn_moves p m piece (pawn_of_en_passant p m h))) (false_from_ne_true _ (λ pawn. pawn_steps_apart p m pawn h)) h
 
 -- a king that goes far castles, to the wing of its target
 far_step : (p : Parts) (m : Move) (b : Board) → is_en_passant p m ≡ false → king_goes_far p m ≡ true → board_after p m ≡ Some b

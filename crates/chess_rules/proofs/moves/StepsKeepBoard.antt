@@ -2,6 +2,7 @@
 use Rattle.std.proofs.Common.{◌≡◌, ◌≢◌, ℕ, ◌<◌, Bool, true, false, not, ◌&&◌, ◌||◌, ◌⊎◌, inl, inr, refl, sym, ◌∙◌, ap, subst, arith}
 use Rattle.std.specs.Prelude.{◌==◌, Option, None, Some, is_none, is_some, if◌then◌else◌}
 use Rattle.std.proofs.lemmas.Bool.Decides.{nat_tests}
+use Rattle.std.proofs.lemmas.Bool.{or_cases, not-true, and_from, false_from_ne_true}
 use Rattle.chess_rules.specs.declared.piece.Colour.{Colour}
 use Rattle.chess_rules.specs.declared.piece.Kind.{Kind}
 use Rattle.chess_rules.specs.declared.piece.Kind.TheVariants.{King, Rook, Pawn}
@@ -14,10 +15,10 @@ use Rattle.chess_rules.specs.Board.{Board, some_piece, at, put, is_empty, other,
 use Rattle.chess_rules.specs.Attacks.{is_clear, is_ahead, kind_attacks, cell_attacks, attacks, is_attacked, king_attacked}
 use Rattle.chess_rules.specs.Position.{target_fits, target_rank}
 use Rattle.chess_rules.specs.Step.{own, home, home_rank, pawn_rank, double_rank, last_rank, is_piece_step, is_advance, is_double_step, is_pawn_capture, is_pawn_way, is_pawn_step, promotion_fits, is_en_passant, is_target, captured_pawn, crossed, castles, Wing, short_wing, long_wing, kind_of, promoted, carried, en_passant_board, castled}
-use Rattle.chess_rules.proofs.squares.AllSquares.{split_or, first_true, second_true, both_true, each_square, any_square, equal_tests, not_true}
+use Rattle.chess_rules.proofs.squares.AllSquares.{first_true, second_true, each_square, any_square, equal_tests, not_true}
 use Rattle.chess_rules.proofs.lines.AttackToReach.{kinds_same, colours_same, ahead_gap}
 use Rattle.chess_rules.proofs.moves.CellsAfterPut.{OnBoard, at_put}
-use Rattle.chess_rules.proofs.positions.RulesOfPosition.{Sound, to_false, is_edge}
+use Rattle.chess_rules.proofs.positions.RulesOfPosition.{Sound, is_edge}
 use Rattle.chess_rules.proofs.moves.BoardAfterMove.{arriving, Lands, Stays, IsPlain, carried_stays, put_stays, carried_free}
 
 -- Cells.
@@ -56,9 +57,6 @@ king_is_no_pawn c cell h = grind (arith, nat_tests)
 promoted_is_no_king : (c d : Colour) (q : Promotion) → has_piece c King (some_piece d (kind_of q)) ≡ false
 promoted_is_no_king c d q = grind (arith, nat_tests)
 
-not_means : (x : Bool) → not x ≡ true → x ≡ false
-not_means x h = grind (arith, nat_tests)
-
 -- the piece on a square attacks as its kind and colour do
 pub attacks_as : (c : Colour) (k : Kind) (cell : Option Piece) (b : Board) (s t : Square) → has_piece c k cell ≡ true → cell_attacks cell b s t ≡ true → kind_attacks k c b s t ≡ true
 attacks_as c k cell b s t h g = grind (arith, nat_tests, kinds_same, second_true, colours_same, first_true)
@@ -67,12 +65,12 @@ attacks_as c k cell b s t h g = grind (arith, nat_tests, kinds_same, second_true
 
 king_not_taken : (p : Parts) (s t : Square) → Sound p → OnBoard s → OnBoard t → has_colour p.side (at p.board s) ≡ true → attacks p.board s t ≡ true → has_piece (other p.side) King (at p.board t) ≡ false
 king_not_taken p s t sound on_s on_t own hits =
-    to_false (has_piece (other p.side) King (at p.board t)) (λ king.
+    false_from_ne_true (has_piece (other p.side) King (at p.board t)) (λ king.
     let attacked : is_attacked p.board (other (other p.side)) t ≡ true =
     subst (λ (c : Colour). is_attacked p.board c t ≡ true) (sym (other-other p.side))
-    (any_square (λ u. has_colour p.side (at p.board u) && attacks p.board u t) s on_s.file on_s.rank (both_true _ _ own hits)) in
+    (any_square (λ u. has_colour p.side (at p.board u) && attacks p.board u t) s on_s.file on_s.rank (and_from _ _ own hits)) in
     let taken : king_attacked p.board (other p.side) ≡ true =
-    any_square (λ k. has_piece (other p.side) King (at p.board k) && is_attacked p.board (other (other p.side)) k) t on_t.file on_t.rank (both_true _ _ king attacked) in
+    any_square (λ k. has_piece (other p.side) King (at p.board k) && is_attacked p.board (other (other p.side)) k) t on_t.file on_t.rank (and_from _ _ king attacked) in
     cc (taken, sound.safe))
 
 -- no king stands where no own piece and no other king stands
@@ -89,9 +87,9 @@ piece_lands p m sound on_from on_to h =
     record {
       on_from = on_from;
       on_to = on_to;
-      free = free_of p m.to (not_means (has_colour p.side (at p.board m.to)) (second_true (attacks p.board m.from m.to) _ goes)) (king_not_taken p m.from m.to sound on_from on_to own_piece (first_true (attacks p.board m.from m.to) _ goes));
+      free = free_of p m.to (not-true (has_colour p.side (at p.board m.to)) (second_true (attacks p.board m.from m.to) _ goes)) (king_not_taken p m.from m.to sound on_from on_to own_piece (first_true (attacks p.board m.from m.to) _ goes));
       alike = λ c. ap (has_piece c King) (arrives_as p m plain);
-      no_pawn = λ edge. ap is_pawn (arrives_as p m plain) ∙ no_pawn_but_own p.side (at p.board m.from) own_piece (not_means (own p Pawn m.from) (second_true (has_colour p.side (at p.board m.from)) _ whose));
+      no_pawn = λ edge. ap is_pawn (arrives_as p m plain) ∙ no_pawn_but_own p.side (at p.board m.from) own_piece (not-true (own p Pawn m.from) (second_true (has_colour p.side (at p.board m.from)) _ whose));
     }
   where
     stands : ((has_colour p.side (at p.board m.from) && not (own p Pawn m.from)) && is_none m.promotion) ≡ true
@@ -126,9 +124,9 @@ way_goes p m pawn h = grind (arith, nat_tests)
 
 way_free : (p : Parts) (m : Move) → Sound p → OnBoard m.from → OnBoard m.to → own p Pawn m.from ≡ true → is_pawn_way p m ≡ true → (c : Colour) → has_piece c King (at p.board m.to) ≡ false
 way_free p m sound on_from on_to pawn h =
-    elim (split_or (is_advance p m) (is_double_step p m || is_pawn_capture p m) h) [
+    elim (or_cases (is_advance p m) (is_double_step p m || is_pawn_capture p m) h) [
       | inl one ↦ λ c. empty_free c King (at p.board m.to) (second_true ((m.from.file == m.to.file) && is_ahead p.side m.from.rank m.to.rank) _ one)
-      | inr more ↦ elim (split_or (is_double_step p m) (is_pawn_capture p m) more) [
+      | inr more ↦ elim (or_cases (is_double_step p m) (is_pawn_capture p m) more) [
         | inl two ↦ λ c. empty_free c King (at p.board m.to) (second_true (is_empty p.board (crossed m)) _ (second_true ((m.from.file == m.to.file) && ((m.from.rank == pawn_rank p.side) && (m.to.rank == double_rank p.side))) _ two))
         | inr takes ↦ by_capture (first_true (attacks p.board m.from m.to) _ takes) (second_true (attacks p.board m.from m.to) _ takes)
       ]
@@ -136,7 +134,7 @@ way_free p m sound on_from on_to pawn h =
   where
     by_capture : attacks p.board m.from m.to ≡ true → has_colour (other p.side) (at p.board m.to) ≡ true → (c : Colour) → has_piece c King (at p.board m.to) ≡ false
     by_capture hits theirs =
-        free_of p m.to (to_false (has_colour p.side (at p.board m.to)) (λ mine. not_both p.side (at p.board m.to) mine theirs))
+        free_of p m.to (false_from_ne_true (has_colour p.side (at p.board m.to)) (λ mine. not_both p.side (at p.board m.to) mine theirs))
         (king_not_taken p m.from m.to sound on_from on_to (colour_of_piece p.side Pawn (at p.board m.from) pawn) hits)
 
 last_of : (c : Colour) (a b : ℕ) → a < 8 → (is_ahead c a b ≡ true) ⊎ ((a ≡ pawn_rank c) × (b ≡ double_rank c)) → is_edge b ≡ true → b ≡ last_rank c
@@ -239,7 +237,7 @@ passing_stays p m sound on_from on_to h =
 
 -- Castling.
 
-home_below : (c : Colour) → home_rank c < 8
+pub home_below : (c : Colour) → home_rank c < 8
 home_below c = grind (arith, nat_tests)
 
 between_empty : (b : Board) (s t u : Square) → is_clear b s t ≡ true → OnBoard u → strictly_between s u t ≡ true → is_empty b u ≡ true

@@ -1,7 +1,7 @@
 -- A piece steps only in the ways of its kind.
 use Rattle.std.proofs.Common.{◌≡◌, arith, Bool, true, false, not, ◌&&◌, ◌||◌, sym, ◌∙◌, ap}
 use Rattle.std.specs.Prelude.{Option, None, Some, is_none, is_some, if◌then◌else◌}
-use Rattle.std.proofs.lemmas.Bool.{false≢true}
+use Rattle.std.proofs.lemmas.Bool.{false≢true, false_from_ne_true}
 use Rattle.chess_rules.specs.declared.piece.Colour.{Colour}
 use Rattle.chess_rules.specs.declared.piece.Kind.{Kind}
 use Rattle.chess_rules.specs.declared.piece.Kind.TheVariants.{King, Pawn}
@@ -13,7 +13,6 @@ use Rattle.chess_rules.specs.Board.{Board, at, is_empty, has_colour, has_piece, 
 use Rattle.chess_rules.specs.Attacks.{cell_attacks, kind_attacks}
 use Rattle.chess_rules.specs.Step.{own, is_piece_step, is_pawn_way, is_pawn_step, promotion_fits, is_advance, is_double_step, is_pawn_capture, is_en_passant, castles_short, castles_long, short_right, long_right, short_wing, long_wing, board_after}
 use Rattle.chess_rules.proofs.squares.AllSquares.{first_true, second_true, equal_from}
-use Rattle.chess_rules.proofs.positions.RulesOfPosition.{to_false}
 use Rattle.chess_rules.proofs.lines.AttackToReach.{kinds_same, colours_same}
 use Rattle.chess_rules.proofs.moves.StepsKeepBoard.{one_kind, colour_of_piece, not_both, short_is_wing, long_is_wing, castles_means, castling_ends_empty, pawn_attack}
 use Rattle.chess_rules.proofs.moves.OneWayToStep.{no_pawn_moves, pawn_of_step, pawn_of_en_passant}
@@ -51,7 +50,7 @@ module _ (p : Parts) (s : Square) (b : Board) (o : Option Piece) (x : Piece) (c 
 module _ (p : Parts) (m : Move) where
   -- a way that only such a piece has
   no_way : (k l : Kind) (way : Bool) → own p k m.from ≡ true → (k ≡ l → ⊥) → (way ≡ true → own p l m.from ≡ true) → way ≡ false
-  no_way k l way here differ needs = to_false way (λ h. differ (one_kind p.side p.side k l (at p.board m.from) here (needs h)))
+  no_way k l way here differ needs = false_from_ne_true way (λ h. differ (one_kind p.side p.side k l (at p.board m.from) here (needs h)))
 
   king_of_short : castles_short p m ≡ true → own p King m.from ≡ true
   king_of_short h = grind (arith, nat_tests)
@@ -62,7 +61,7 @@ module _ (p : Parts) (m : Move) where
   pub pawn_steps : own p Pawn m.from ≡ true → (is_pawn_step p m || is_en_passant p m) ≡ is_some (board_after p m)
   pawn_steps stands =
       pawn_alone (is_piece_step p m) (is_pawn_step p m) (is_en_passant p m) (castles_short p m) (castles_long p m) _ _ _ _
-      (to_false (is_piece_step p m) (λ h. no_pawn_moves p m h stands))
+      (false_from_ne_true (is_piece_step p m) (λ h. no_pawn_moves p m h stands))
       (no_way Pawn King (castles_short p m) stands (λ e. cc) king_of_short)
       (no_way Pawn King (castles_long p m) stands (λ e. cc) king_of_long)
 
@@ -86,12 +85,12 @@ module _ (p : Parts) (m : Move) where
   -- nothing of the side to move is there
   pub none_steps : has_colour p.side (at p.board m.from) ≡ false → false ≡ is_some (board_after p m)
   none_steps free =
-      sym (to_false (is_piece_step p m) (λ h. false≢true (sym free ∙ mover_of_piece h)))
+      sym (false_from_ne_true (is_piece_step p m) (λ h. false≢true (sym free ∙ mover_of_piece h)))
       ∙ piece_alone (is_piece_step p m) (is_pawn_step p m) (is_en_passant p m) (castles_short p m) (castles_long p m) _ _ _ _
-      (to_false (is_pawn_step p m) (λ h. false≢true (sym free ∙ colour_of_piece p.side Pawn (at p.board m.from) (pawn_of_step p m h))))
-      (to_false (is_en_passant p m) (λ h. false≢true (sym free ∙ colour_of_piece p.side Pawn (at p.board m.from) (pawn_of_en_passant p m h))))
-      (to_false (castles_short p m) (λ h. false≢true (sym free ∙ colour_of_piece p.side King (at p.board m.from) (king_of_short h))))
-      (to_false (castles_long p m) (λ h. false≢true (sym free ∙ colour_of_piece p.side King (at p.board m.from) (king_of_long h))))
+      (false_from_ne_true (is_pawn_step p m) (λ h. false≢true (sym free ∙ colour_of_piece p.side Pawn (at p.board m.from) (pawn_of_step p m h))))
+      (false_from_ne_true (is_en_passant p m) (λ h. false≢true (sym free ∙ colour_of_piece p.side Pawn (at p.board m.from) (pawn_of_en_passant p m h))))
+      (false_from_ne_true (castles_short p m) (λ h. false≢true (sym free ∙ colour_of_piece p.side King (at p.board m.from) (king_of_short h))))
+      (false_from_ne_true (castles_long p m) (λ h. false≢true (sym free ∙ colour_of_piece p.side King (at p.board m.from) (king_of_long h))))
 
 -- A piece's step.
 
@@ -127,10 +126,10 @@ module _ (p : Parts) (m : Move) (mine : has_colour p.side (at p.board m.to) ≡ 
   none_steps_there =
       no_own_piece_taken p m mine
       ∙ piece_alone (is_piece_step p m) (is_pawn_step p m) (is_en_passant p m) (castles_short p m) (castles_long p m) _ _ _ _
-      (to_false (is_pawn_step p m) no_pawn_there)
-      (to_false (is_en_passant p m) no_passing_there)
-      (to_false (castles_short p m) (λ h. not_empty_there (castling_ends_empty p m short_wing short_is_wing (castles_means p m (short_right p.side p.rights) short_wing h))))
-      (to_false (castles_long p m) (λ h. not_empty_there (castling_ends_empty p m long_wing long_is_wing (castles_means p m (long_right p.side p.rights) long_wing h))))
+      (false_from_ne_true (is_pawn_step p m) no_pawn_there)
+      (false_from_ne_true (is_en_passant p m) no_passing_there)
+      (false_from_ne_true (castles_short p m) (λ h. not_empty_there (castling_ends_empty p m short_wing short_is_wing (castles_means p m (short_right p.side p.rights) short_wing h))))
+      (false_from_ne_true (castles_long p m) (λ h. not_empty_there (castling_ends_empty p m long_wing long_is_wing (castles_means p m (long_right p.side p.rights) long_wing h))))
 
 -- A pawn's step.
 
@@ -150,7 +149,7 @@ module _ (p : Parts) (m : Move) (pawn : own p Pawn m.from ≡ true) where
   pawn_promotes_wrongly h = grind (arith, nat_tests, no_fit)
 
   pub pawn_ahead : promotion_fits p m ≡ true → m.from.file ≡ m.to.file → (is_advance p m || is_double_step p m) ≡ (is_pawn_step p m || is_en_passant p m)
-  pawn_ahead fits same = grind (arith, nat_tests, same, ahead, to_false, equal_from, first_true, pawn_attack)
+  pawn_ahead fits same = grind (arith, nat_tests, same, ahead, false_from_ne_true, equal_from, first_true, pawn_attack)
 
   pub pawn_aside : promotion_fits p m ≡ true → (m.from.file ≡ m.to.file → ⊥) → (is_pawn_capture p m || is_en_passant p m) ≡ (is_pawn_step p m || is_en_passant p m)
   pawn_aside fits differ = grind (arith, nat_tests, aside)

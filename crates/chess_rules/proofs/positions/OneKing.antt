@@ -5,13 +5,14 @@ use Rattle.std.specs.List.{position_or_len}
 use Rattle.std.proofs.lemmas.Bool.Decides.{nat_tests}
 use Rattle.std.proofs.lemmas.List.Quantifiers.{position-Some}
 use Rattle.std.proofs.lemmas.List.Recursion.{is_count_by}
+use Rattle.std.proofs.lemmas.Bool.{and_from}
 use Rattle.chess_rules.specs.declared.piece.Colour.{Colour}
 use Rattle.chess_rules.specs.declared.piece.Kind.TheVariants.{King}
 use Rattle.chess_rules.specs.Square.{Square}
 use Rattle.chess_rules.specs.Board.{Board, at, cell_of, kings, other, has_piece}
 use Rattle.chess_rules.specs.Attacks.{is_attacked, king_attacked}
 use Rattle.chess_rules.specs.Reach.{square_at, king_square}
-use Rattle.chess_rules.proofs.squares.AllSquares.{first_true, second_true, both_true, same_tests, Passes, some_square, any_square}
+use Rattle.chess_rules.proofs.squares.AllSquares.{first_true, second_true, same_tests, Passes, some_square, any_square}
 
 -- How many elements pass, an element at a time.
 
@@ -116,4 +117,4 @@ king_attacked_there c b long one = same_tests _ _ there from_there
     from_there : is_attacked b (other c) (king_square c b) ≡ true → king_attacked b c ≡ true
     from_there h =
         let place : StandsAt c b (king_square c b) = king_stands c b long one in
-        any_square (λ k. has_piece c King (at b k) && is_attacked b (other c) k) (king_square c b) place.file place.rank (both_true _ _ place.king h)
+        any_square (λ k. has_piece c King (at b k) && is_attacked b (other c) k) (king_square c b) place.file place.rank (and_from _ _ place.king h)

@@ -2,6 +2,7 @@
 use Rattle.std.proofs.Common.{◌≡◌, ℕ, ◌≤◌, Bool, true, false, not, ◌&&◌, ◌||◌, arith, length}
 use Rattle.std.specs.Prelude.{◌==◌, nat_le, Option, None, Some, is_none, if◌then◌else◌}
 use Rattle.std.proofs.lemmas.Bool.Decides.{nat_tests}
+use Rattle.std.proofs.lemmas.Bool.{and_from, false_from_ne_true}
 use Rattle.chess_rules.specs.declared.piece.Colour.{Colour}
 use Rattle.chess_rules.specs.declared.piece.Colour.TheVariants.{White, Black}
 use Rattle.chess_rules.specs.declared.position.Parts.{Parts}
@@ -11,7 +12,7 @@ use Rattle.chess_rules.specs.Square.{Square}
 use Rattle.chess_rules.specs.Board.{Board, at, other, kings, is_pawn}
 use Rattle.chess_rules.specs.Attacks.{king_attacked}
 use Rattle.chess_rules.specs.Position.{is_position, one_king, pawn_on_edge, target_fits}
-use Rattle.chess_rules.proofs.squares.AllSquares.{first_true, second_true, both_true, Passes, some_square, any_square, equal_from, equal_tests}
+use Rattle.chess_rules.proofs.squares.AllSquares.{first_true, second_true, Passes, some_square, any_square, equal_from, equal_tests}
 use Rattle.chess_rules.proofs.moves.CellsAfterPut.{OnBoard}
 
 pub record Sound (p : Parts) : Type 0 where
@@ -70,18 +71,15 @@ sound_from_position p h =
 
 pub position_from_sound : (p : Parts) → Sound p → is_position p ≡ true
 position_from_sound p s =
-    both_true _ _ (equal_tests _ 64 s.long)
+    and_from _ _ (equal_tests _ 64 s.long)
     (none_from_facts (one_king p.board White && one_king p.board Black) (pawn_on_edge p.board) (king_attacked p.board (other p.side)) (target_fits p.side p.target) (nat_le p.half 99999 && nat_le p.full 99999)
     (record {
-      kings_ok = both_true _ _ (equal_tests _ 1 (s.kings_of White)) (equal_tests _ 1 (s.kings_of Black));
+      kings_ok = and_from _ _ (equal_tests _ 1 (s.kings_of White)) (equal_tests _ 1 (s.kings_of Black));
       edge_ok = s.edge;
       attacked_ok = s.safe;
       target_ok = s.target;
-      numbers_ok = both_true _ _ (at_most_holds p.half 99999 s.half) (at_most_holds p.full 99999 s.full);
+      numbers_ok = and_from _ _ (at_most_holds p.half 99999 s.half) (at_most_holds p.full 99999 s.full);
     }))
-
-pub to_false : (x : Bool) → (x ≡ true → ⊥) → x ≡ false
-to_false x h = grind (arith, nat_tests)
 
 -- rank 1 or 8
 abbrev pub is_edge : ℕ → Bool
@@ -89,12 +87,12 @@ is_edge rank = (rank == 0) || (rank == 7)
 
 pub no_pawn_there : (b : Board) → pawn_on_edge b ≡ false → (u : Square) → OnBoard u → is_edge u.rank ≡ true → is_pawn (at b u) ≡ false
 no_pawn_there b h u on edge =
-    to_false (is_pawn (at b u)) (λ pawn.
-    cc (any_square (λ s. ((s.rank == 0) || (s.rank == 7)) && is_pawn (at b s)) u on.file on.rank (both_true _ _ edge pawn)))
+    false_from_ne_true (is_pawn (at b u)) (λ pawn.
+    cc (any_square (λ s. ((s.rank == 0) || (s.rank == 7)) && is_pawn (at b s)) u on.file on.rank (and_from _ _ edge pawn)))
 
 pub no_pawn_on_edge : (b : Board) → ((u : Square) → OnBoard u → is_edge u.rank ≡ true → is_pawn (at b u) ≡ false) → pawn_on_edge b ≡ false
 no_pawn_on_edge b h =
-    to_false (pawn_on_edge b) (λ g. by_pawn (some_square (λ s. ((s.rank == 0) || (s.rank == 7)) && is_pawn (at b s)) g))
+    false_from_ne_true (pawn_on_edge b) (λ g. by_pawn (some_square (λ s. ((s.rank == 0) || (s.rank == 7)) && is_pawn (at b s)) g))
   where
     by_pawn : Passes (λ s. ((s.rank == 0) || (s.rank == 7)) && is_pawn (at b s)) → ⊥
     by_pawn w = grind (arith, nat_tests)

@@ -4,16 +4,8 @@ use Rattle.std.specs.Prelude.{◌==◌}
 use Rattle.std.proofs.lemmas.Bool.Decides.{nat_tests}
 use Rattle.std.specs.List.{list_all, range_with_len, list_any, flat_map}
 use Rattle.std.proofs.lemmas.List.Folds.{list_all-append, list_any-append}
+use Rattle.std.proofs.lemmas.Bool.{or_cases, or_left, or_right, and_from}
 use Rattle.chess_rules.specs.Square.{Square, square, squares, lines}
-
-pub split_or : (x y : Bool) → (x || y) ≡ true → (x ≡ true) ⊎ (y ≡ true)
-split_or x y h = grind (arith, nat_tests)
-
-pub or_first : (x y : Bool) → x ≡ true → (x || y) ≡ true
-or_first x y h = grind (arith, nat_tests)
-
-pub or_second : (x y : Bool) → y ≡ true → (x || y) ≡ true
-or_second x y h = grind (arith, nat_tests)
 
 -- a test in two parts, as it is run
 pub true_or : (x y r : Bool) → r ≡ x → r ≡ true → (x || y) ≡ r
@@ -21,9 +13,6 @@ true_or x y r e h = grind (arith, nat_tests)
 
 pub false_or : (x y r q : Bool) → r ≡ x → r ≡ false → q ≡ y → (x || y) ≡ q
 false_or x y r q e h g = grind (arith, nat_tests)
-
-pub not_means : (x : Bool) → not x ≡ true → x ≡ false
-not_means x g = grind (arith, nat_tests)
 
 pub not_true : (x y : Bool) → x ≡ true → (not x || y) ≡ true → y ≡ true
 not_true x y h g = grind (arith, nat_tests)
@@ -40,9 +29,6 @@ equal_tests a b h = grind (arith, nat_tests)
 -- two tests that imply one another
 pub same_tests : (x y : Bool) → (x ≡ true → y ≡ true) → (y ≡ true → x ≡ true) → x ≡ y
 same_tests x y h g = grind (arith, nat_tests)
-
-pub both_true : (x y : Bool) → x ≡ true → y ≡ true → (x && y) ≡ true
-both_true x y a b = grind (arith, nat_tests)
 
 pub first_true : (x y : Bool) → (x && y) ≡ true → x ≡ true
 first_true x y h = grind (arith, nat_tests)
@@ -64,7 +50,7 @@ each_of_range test a (suc n) k h low high =
 pub range_of_each : (test : ℕ → Bool) (a n : ℕ) → ((k : ℕ) → a ≤ k → k < a + n → test k ≡ true) → list_all test (range_with_len a n) ≡ true
 range_of_each test a zero h = refl
 range_of_each test a (suc n) h =
-    both_true _ _ (h a (omega arith) (omega arith)) (range_of_each test (a + 1) n (λ k low high. h k (omega arith) (omega arith)))
+    and_from _ _ (h a (omega arith) (omega arith)) (range_of_each test (a + 1) n (λ k low high. h k (omega arith) (omega arith)))
 
 list_all-flat_map : {X Y : Type 0} (test : Y → Bool) (f : X → List Y) (xs : List X) → list_all test (flat_map f xs) ≡ list_all (λ x. list_all test (f x)) xs
 list_all-flat_map test f [] = refl
@@ -96,7 +82,7 @@ all_squares test h =
 pub any_of_range : (test : ℕ → Bool) (a n : ℕ) → list_any test (range_with_len a n) ≡ true → (k : ℕ) × (a ≤ k) × (k < a + n) × (test k ≡ true)
 any_of_range test a zero h = cc
 any_of_range test a (suc n) h =
-    elim (split_or (test a) (list_any test (range_with_len (a + 1) n)) h) [
+    elim (or_cases (test a) (list_any test (range_with_len (a + 1) n)) h) [
       | inl here ↦ (a, omega arith, omega arith, here)
       | inr later ↦ later_of n (any_of_range test (a + 1) n later)
     ]
@@ -108,8 +94,8 @@ pub range_of_any : (test : ℕ → Bool) (a n k : ℕ) → a ≤ k → k < a + n
 range_of_any test a zero k low high h = absurd (omega arith)
 range_of_any test a (suc n) k low high h =
     elim (equal_or_above a k low) [
-      | inl e ↦ or_first _ _ (subst (λ (j : ℕ). test j ≡ true) e h)
-      | inr above ↦ or_second _ _ (range_of_any test (a + 1) n k above (omega arith) h)
+      | inl e ↦ or_left _ _ (subst (λ (j : ℕ). test j ≡ true) e h)
+      | inr above ↦ or_right _ _ (range_of_any test (a + 1) n k above (omega arith) h)
     ]
 
 pub any_same : {X : Type 0} (f g : X → Bool) (xs : List X) → ((x : X) → f x ≡ g x) → list_any f xs ≡ list_any g xs

@@ -4,7 +4,7 @@ use Rattle.std.specs.Prelude.{◌==◌, Option, None, filter, if◌then◌else�
 use Rattle.std.specs.List.{list_any, range_with_len}
 use Rattle.std.specs.Int.Bits.{bit_and, bit_or}
 use Rattle.std.specs.Int.{bit_not, trailing_zeros}
-use Rattle.std.proofs.lemmas.Bool.{false≢true}
+use Rattle.std.proofs.lemmas.Bool.{false≢true, and_from}
 use Rattle.std.proofs.lemmas.Bool.Decides.{nat_tests}
 use Rattle.chess_rules.specs.declared.piece.Piece.{Piece}
 use Rattle.chess_rules.specs.Square.{Square, same_square, squares}
@@ -14,7 +14,7 @@ use Rattle.chess_rules.specs.Words.{has, members, IsLowest, Marks, Places, Sets}
 use Rattle.chess_rules.proofs.squares.WordsToCells.{has_and, has_not, has_or, has_zero, same_or_apart}
 use Rattle.chess_rules.proofs.squares.LowestAndHighest.{lowest_place}
 use Rattle.chess_rules.proofs.positions.OneKing.{cell_of-square_at}
-use Rattle.chess_rules.proofs.squares.AllSquares.{both_true, Passes, some_square, any_square, equal_tests}
+use Rattle.chess_rules.proofs.squares.AllSquares.{Passes, some_square, any_square, equal_tests}
 use Rattle.chess_rules.proofs.trying.FoundLists.{list_any-filter}
 
 pub places_and : (v w : ℕ) (p q : Square → Bool) → Places v p → Places w q → Places (bit_and v w) (λ s. p s && q s)
@@ -125,8 +125,8 @@ some_member w n lowest = by_length (members w) (there lowest.inside)
     there low = ap (list_any (same_square (square_at n))) (members_are w (λ s. has w (cell_of s)) (λ i below. ap (has w) (sym (cell_of-square_at i))))
         ∙ (list_any-filter (same_square (square_at n)) (λ s. has w (cell_of s)) squares
         ∙ any_square (λ s. has w (cell_of s) && same_square (square_at n) s) (square_at n) (omega arith) (omega arith)
-        (both_true (has w (cell_of (square_at n))) (same_square (square_at n) (square_at n)) (ap (has w) (cell_of-square_at n) ∙ lowest.here)
-        (both_true (n % 8 == n % 8) (n / 8 == n / 8) (equal_tests (n % 8) (n % 8) refl) (equal_tests (n / 8) (n / 8) refl))))
+        (and_from (has w (cell_of (square_at n))) (same_square (square_at n) (square_at n)) (ap (has w) (cell_of-square_at n) ∙ lowest.here)
+        (and_from (n % 8 == n % 8) (n / 8 == n / 8) (equal_tests (n % 8) (n % 8) refl) (equal_tests (n / 8) (n / 8) refl))))
 
     by_length : (xs : List Square) → list_any (same_square (square_at n)) xs ≡ true → 0 < length xs
     by_length [] h = cc

@@ -4,9 +4,6 @@ use Rattle.std.specs.List.{list_any, list_all, filter, filter_map, cons_option, 
 use Rattle.chess_rules.proofs.squares.AllSquares.{first_true, second_true}
 use Rattle.std.proofs.lemmas.Bool.Decides.{nat_tests}
 
-pub to_false : (x : Bool) → (x ≡ true → ⊥) → x ≡ false
-to_false x h = grind (arith, nat_tests)
-
 -- What is found passes a test.
 
 abbrev pub passes : {Y : Type 0} → (Y → Bool) → Option Y → Bool

@@ -17,17 +17,18 @@ use Rattle.chess_rules.specs.Legal.{is_legal, every_promotion, has_legal_move}
 use Rattle.chess_rules.specs.Candidate.{sees}
 use Rattle.chess_rules.specs.Reach.{king_square}
 use Rattle.chess_rules.specs.Pairs.{one_move, is_legal_pair, is_king_step, is_untried, has_untried_move, has_king_step, has_other_move}
-use Rattle.chess_rules.proofs.squares.AllSquares.{split_or, or_first, or_second, first_true, second_true, both_true, same_tests, Passes, some_square, any_square}
+use Rattle.chess_rules.proofs.squares.AllSquares.{first_true, second_true, same_tests, Passes, some_square, any_square}
 use Rattle.chess_rules.proofs.positions.OneKing.{king_stands, king_only_there}
 use Rattle.chess_rules.proofs.moves.CellsAfterPut.{OnBoard}
 use Rattle.chess_rules.proofs.positions.RulesOfPosition.{Sound, sound_from_position}
 use Rattle.chess_rules.proofs.moves.StepsKeepBoard.{one_kind, castles_means}
 use Rattle.chess_rules.proofs.moves.LegalToPosition.{on_board_means, way_of, Legal}
 use Rattle.chess_rules.proofs.trying.OriginsAreCandidates.{step_seen}
-use Rattle.chess_rules.proofs.trying.FoundLists.{to_false, list_any-filter}
+use Rattle.chess_rules.proofs.trying.FoundLists.{list_any-filter}
 use Rattle.chess_rules.proofs.trying.CandidatesAreFew.{is_rider, kind_cases, sees_by_way}
 use Rattle.chess_rules.proofs.trying.PromotionsAlike.{legal_after, one_will_do}
 use Rattle.std.proofs.lemmas.Bool.Decides.{nat_tests}
+use Rattle.std.proofs.lemmas.Bool.{or_cases, or_left, or_right, and_from, false_from_ne_true}
 
 -- What is hit is a legal move.
 
@@ -73,7 +74,7 @@ moves_with_other p h = by_target (some_square (λ t. list_any (λ s. is_legal_pa
 -- the piece is one of some kind
 kind_there : (c : Colour) (cell : Option Piece) → has_colour c cell ≡ true → (k : Kind) × (has_piece c k cell ≡ true)
 kind_there c None h = cc
-kind_there c (Some x) h = (x.kind, both_true _ _ h (itself x.kind))
+kind_there c (Some x) h = (x.kind, and_from _ _ h (itself x.kind))
   where
     itself : (k : Kind) → same_kind k k ≡ true
     itself k = grind (arith, nat_tests)
@@ -102,7 +103,7 @@ unfolding has_king_step
 king_hit p s t sound on_s on_t owns step h =
     list_any-filter (is_legal_pair p (king_square p.side p.board)) (is_king_step p) squares
     ∙ any_square (λ u. is_king_step p u && is_legal_pair p (king_square p.side p.board) u) t on_t.file on_t.rank
-    (both_true (is_king_step p t) (is_legal_pair p (king_square p.side p.board) t) step (subst (λ (u : Square). is_legal_pair p u t ≡ true) one h))
+    (and_from (is_king_step p t) (is_legal_pair p (king_square p.side p.board) t) step (subst (λ (u : Square). is_legal_pair p u t ≡ true) one h))
   where
     one : s ≡ king_square p.side p.board
     one = king_only_there p.side p.board s (king_square p.side p.board) sound.long (sound.kings_of p.side)
@@ -113,13 +114,13 @@ unfolding has_other_move has_untried_move
 other_hit p s t on_s on_t left h =
     any_square (λ u. list_any (λ q. is_legal_pair p q u) (filter (is_untried p u) squares)) t on_t.file on_t.rank
     (list_any-filter (λ q. is_legal_pair p q t) (is_untried p t) squares
-    ∙ any_square (λ q. is_untried p t q && is_legal_pair p q t) s on_s.file on_s.rank (both_true (is_untried p t s) (is_legal_pair p s t) left h))
+    ∙ any_square (λ q. is_untried p t q && is_legal_pair p q t) s on_s.file on_s.rank (and_from (is_untried p t s) (is_legal_pair p s t) left h))
 
 jump_untried : (p : Parts) (s t : Square) → own p Knight s ≡ true → is_jump s t ≡ true → is_untried p t s ≡ true
 jump_untried p s t owns jumps = grind (arith, nat_tests)
 
 way_untried : (p : Parts) (k : Kind) (s t : Square) → own p k s ≡ true → is_rider k ≡ true → sees k p s t ≡ true → (is_king_step p t && own p King s) ≡ false → is_untried p t s ≡ true
-way_untried p k s t owns rides seen far = grind (arith, nat_tests, or_second, both_true, colour_there, first_true, second_true, sees_by_way, to_false, is_rider, one_kind)
+way_untried p k s t owns rides seen far = grind (arith, nat_tests, or_right, and_from, colour_there, first_true, second_true, sees_by_way, false_from_ne_true, is_rider, one_kind)
 
 hit_when : (p : Parts) (m : Move) → is_position p ≡ true → is_legal p m ≡ true → (has_king_step p || has_other_move p) ≡ true
 hit_when p m position h = by_legal (legal_after p m h)
@@ -134,14 +135,14 @@ hit_when p m position h = by_legal (legal_after p m h)
     by_kind from to k owns seen =
         elim (kind_cases k) [
           | inl rides ↦ by_step (is_king_step p m.to) refl (own p King m.from) refl rides
-          | inr knight ↦ or_second (has_king_step p) _
+          | inr knight ↦ or_right (has_king_step p) _
               (other_hit p m.from m.to from to (jump_untried p m.from m.to (subst (λ (l : Kind). own p l m.from ≡ true) knight owns) (subst (λ (l : Kind). sees l p m.from m.to ≡ true) knight seen)) pair)
         ]
       where
         by_step : (x : Bool) → is_king_step p m.to ≡ x → (y : Bool) → own p King m.from ≡ y → is_rider k ≡ true → (has_king_step p || has_other_move p) ≡ true
-        by_step true step true king rides = or_first _ (has_other_move p) (king_hit p m.from m.to sound from to king step pair)
-        by_step true step false other rides = or_second (has_king_step p) _ (other_hit p m.from m.to from to (way_untried p k m.from m.to owns rides seen (ap₂ (λ v w. v && w) step other)) pair)
-        by_step false far y other rides = or_second (has_king_step p) _ (other_hit p m.from m.to from to (way_untried p k m.from m.to owns rides seen (ap₂ (λ v w. v && w) far other)) pair)
+        by_step true step true king rides = or_left _ (has_other_move p) (king_hit p m.from m.to sound from to king step pair)
+        by_step true step false other rides = or_right (has_king_step p) _ (other_hit p m.from m.to from to (way_untried p k m.from m.to owns rides seen (ap₂ (λ v w. v && w) step other)) pair)
+        by_step false far y other rides = or_right (has_king_step p) _ (other_hit p m.from m.to from to (way_untried p k m.from m.to owns rides seen (ap₂ (λ v w. v && w) far other)) pair)
 
     by_legal : ((q : Parts) × Legal p m q) → (has_king_step p || has_other_move p) ≡ true
     by_legal (q, l) =
@@ -151,7 +152,7 @@ hit_when p m position h = by_legal (legal_after p m h)
 promotion_of : (p : Parts) (s t : Square) (os : List (Option Promotion)) → list_any (λ promotion. is_legal p (record { from = s; to = t; promotion = promotion })) os ≡ true → (o : Option Promotion) × (is_legal p (record { from = s; to = t; promotion = o }) ≡ true)
 promotion_of p s t [] h = cc
 promotion_of p s t (o ∷ os) h =
-    elim (split_or (is_legal p (record { from = s; to = t; promotion = o })) _ h) [
+    elim (or_cases (is_legal p (record { from = s; to = t; promotion = o })) _ h) [
       | inl here ↦ (o, here)
       | inr later ↦ promotion_of p s t os later
     ]
@@ -160,7 +161,7 @@ promotion_of p s t (o ∷ os) h =
 pub legal_move_found : (p : Parts) → is_position p ≡ true → has_legal_move p ≡ (has_king_step p || has_other_move p)
 legal_move_found p position =
     same_tests _ _ (λ h. by_from (some_square (λ s. list_any (λ t. some_promotion p s t) squares) h))
-    (λ h. elim (split_or (has_king_step p) (has_other_move p) h) [ inl king ↦ moves_with_king p king | inr other ↦ moves_with_other p other ])
+    (λ h. elim (or_cases (has_king_step p) (has_other_move p) h) [ inl king ↦ moves_with_king p king | inr other ↦ moves_with_other p other ])
   where
     by_to : (s : Square) → Passes (λ t. some_promotion p s t) → (has_king_step p || has_other_move p) ≡ true
     by_to s w =

@@ -2,6 +2,7 @@
 use Rattle.std.proofs.Common.{◌≡◌, ℕ, ◌+◌, ◌/◌, ◌<◌, true, not, ◌&&◌, ◌||◌, inl, inr, refl, sym, ap₂, subst, arith}
 use Rattle.std.specs.Prelude.{◌==◌, is_none}
 use Rattle.std.proofs.lemmas.Bool.Decides.{nat_tests}
+use Rattle.std.proofs.lemmas.Bool.{or_cases, or_left, or_right, and_from}
 use Rattle.chess_rules.specs.declared.piece.Colour.{Colour}
 use Rattle.chess_rules.specs.declared.piece.Kind.{Kind}
 use Rattle.chess_rules.specs.declared.piece.Kind.TheVariants.{Pawn}
@@ -14,7 +15,7 @@ use Rattle.chess_rules.specs.Step.{own, home, home_rank, pawn_rank, double_rank,
 use Rattle.chess_rules.specs.Candidate.{sees}
 use Rattle.chess_rules.specs.Reach.{is_aligned}
 use Rattle.chess_rules.specs.Laws.{CandidatesComplete}
-use Rattle.chess_rules.proofs.squares.AllSquares.{split_or, or_first, or_second, first_true, second_true, both_true, each_square, equal_from, equal_tests, not_true}
+use Rattle.chess_rules.proofs.squares.AllSquares.{first_true, second_true, each_square, equal_from, equal_tests, not_true}
 use Rattle.chess_rules.proofs.lines.AttackToReach.{near, ahead_gap, attack_seen, clear_if}
 use Rattle.chess_rules.proofs.moves.StepsKeepBoard.{attacks_as, double_ranks, Castles, castles_means}
 use Rattle.chess_rules.proofs.moves.LegalToPosition.{way_of, Legal, legal_means}
@@ -55,8 +56,8 @@ double_seen p m h =
     let file : m.from.file ≡ m.to.file = equal_from m.from.file m.to.file (first_true (m.from.file == m.to.file) _ way) in
     let ranks : (m.from.rank ≡ pawn_rank p.side) × (m.to.rank ≡ double_rank p.side) = double_ranks p m h in
     let apart : 0 < gap m.from.rank m.to.rank = some_ranks p.side m.from.rank m.to.rank ranks.0 ranks.1 in
-    both_true _ _
-    (or_first _ _ (both_true _ _ (or_second _ _ (equal_tests m.from.file m.to.file file)) (apart_by_rank m.from m.to apart)))
+    and_from _ _
+    (or_left _ _ (and_from _ _ (or_right _ _ (equal_tests m.from.file m.to.file file)) (apart_by_rank m.from m.to apart)))
     (clear_if p.board m.from m.to (λ u _ _ between.
     let place : (u.file ≡ m.from.file) × (inside m.from.rank u.rank m.to.rank ≡ true) = file_means m.from u m.to file between in
     subst (λ (v : Square). is_empty p.board v ≡ true) (sym (ap₂ square place.0 (middle p.side m.from.rank m.to.rank u.rank ranks.0 ranks.1 place.1))) free))
@@ -73,7 +74,7 @@ clear_part b r e k wider h =
     let on : between_on_rank (square 4 r) u (square e r) ≡ true = rank_means (square 4 r) u (square e r) refl between in
     let rest : ((u.rank == r) && inside 4 u.file e) ≡ true = second_true (r == r) _ on in
     not_true (strictly_between (square 4 r) u (square k r)) _
-    (or_first _ _ (both_true (r == r) _ (first_true (r == r) _ on) (both_true (u.rank == r) _ (first_true (u.rank == r) _ rest) (wider u.file (second_true (u.rank == r) _ rest)))))
+    (or_left _ _ (and_from (r == r) _ (first_true (r == r) _ on) (and_from (u.rank == r) _ (first_true (u.rank == r) _ rest) (wider u.file (second_true (u.rank == r) _ rest)))))
     (each_square (λ v. not (strictly_between (square 4 r) v (square k r)) || is_empty b v) u h file rank))
 
 short_part : (x : ℕ) → inside 4 x 6 ≡ true → inside 4 x 7 ≡ true
@@ -97,7 +98,7 @@ by_attack : (p : Parts) (m : Move) (k : Kind) → own p k m.from ≡ true → at
 by_attack p m k h g = seen_by k p.side p m.from m.to (attacks_as p.side k (at p.board m.from) p.board m.from m.to h g)
 
 by_pawn : (p : Parts) (m : Move) (k : Kind) → own p k m.from ≡ true → is_pawn_step p m ≡ true → sees k p m.from m.to ≡ true
-by_pawn p m k h g = grind (arith, nat_tests, split_or, sees_pawn, advance_seen, double_seen, by_attack, first_true, second_true)
+by_pawn p m k h g = grind (arith, nat_tests, or_cases, sees_pawn, advance_seen, double_seen, by_attack, first_true, second_true)
 
 by_castling : (p : Parts) (m : Move) (k : Kind) (wing : Wing)
     → (is_clear p.board (home p 4) (home p wing.rook) ≡ true → (is_aligned (home p 4) (home p wing.end) && is_clear p.board (home p 4) (home p wing.end)) ≡ true)
@@ -121,4 +122,4 @@ step_seen p q m k h l =
     ]
 
 pub candidates_complete : CandidatesComplete
-candidates_complete p q m k h own = both_true _ _ own (step_seen p q m k own (legal_means p m q h))
+candidates_complete p q m k h own = and_from _ _ own (step_seen p q m k own (legal_means p m q h))

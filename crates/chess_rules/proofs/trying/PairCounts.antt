@@ -17,7 +17,7 @@ use Rattle.chess_rules.specs.Step.{own}
 use Rattle.chess_rules.specs.Candidate.{sees, is_candidate, candidates, kinds, pair_count}
 use Rattle.chess_rules.specs.Reach.{is_aligned, is_in_view, king_square, square_at}
 use Rattle.chess_rules.specs.Pairs.{is_king_step, is_untried, count_untried, count_king_steps, count_others}
-use Rattle.chess_rules.proofs.squares.AllSquares.{split_or, or_first, first_true, second_true, both_true, same_tests, Passes, some_square, any_square}
+use Rattle.chess_rules.proofs.squares.AllSquares.{first_true, second_true, same_tests, Passes, some_square, any_square}
 use Rattle.chess_rules.proofs.positions.OneKing.{StandsAt, king_stands, king_only_there}
 use Rattle.chess_rules.proofs.positions.RulesOfPosition.{Sound}
 use Rattle.chess_rules.proofs.moves.CellsAfterPut.{OnBoard}
@@ -26,6 +26,7 @@ use Rattle.chess_rules.proofs.trying.FoundLists.{list_any-filter}
 use Rattle.chess_rules.proofs.lines.InView.{few_in_view}
 use Rattle.chess_rules.proofs.trying.CandidatesAreFew.{square_laws, candidates_apart, few_jumps}
 use Rattle.std.proofs.lemmas.Bool.Decides.{nat_tests}
+use Rattle.std.proofs.lemmas.Bool.{or_cases, or_left, and_from}
 
 -- Sums.
 
@@ -87,13 +88,13 @@ one_king_near p t sound near =
     found q w =
         let owns : own p King w.on ≡ true = first_true (own p King w.on) _ (first_true (is_candidate p King t w.on) _ w.holds) in
         let one : w.on ≡ king_square p.side p.board = king_only_there p.side p.board w.on (king_square p.side p.board) sound.long (sound.kings_of p.side) (record { file = w.file; rank = w.rank; king = owns }) stands in
-        or_first _ _ (subst (λ (u : Square). same_square q u ≡ true) one (second_true (is_candidate p King t w.on) _ w.holds))
+        or_left _ _ (subst (λ (u : Square). same_square q u ≡ true) one (second_true (is_candidate p King t w.on) _ w.holds))
 
     there : (q : Square) → list_any (same_square q) (king_square p.side p.board ∷ []) ≡ true → list_any (λ u. is_candidate p King t u && same_square q u) squares ≡ true
     there q h =
-        elim (split_or (same_square q (king_square p.side p.board)) false h) [
+        elim (or_cases (same_square q (king_square p.side p.board)) false h) [
           | inl same ↦ any_square (λ u. is_candidate p King t u && same_square q u) (king_square p.side p.board) stands.file stands.rank
-              (both_true _ _ (both_true _ _ stands.king (sees_near near)) same)
+              (and_from _ _ (and_from _ _ stands.king (sees_near near)) same)
           | inr none ↦ cc
         ]
 

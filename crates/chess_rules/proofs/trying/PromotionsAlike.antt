@@ -14,16 +14,17 @@ use Rattle.chess_rules.specs.Square.{Square, squares, on_board, strictly_between
 use Rattle.chess_rules.specs.Board.{Board, at, put, some_piece, is_empty, other, has_colour, has_piece}
 use Rattle.chess_rules.specs.Attacks.{is_clear, cell_attacks, attacks, is_attacked, king_attacked}
 use Rattle.chess_rules.specs.Position.{is_position}
-use Rattle.chess_rules.specs.Step.{own, home, home_rank, last_rank, is_on_board, is_pawn_way, promotion_fits, is_target, short_right, long_right, short_wing, long_wing, captured_pawn, kind_of, carried, en_passant_board, castled, board_after, after}
+use Rattle.chess_rules.specs.Step.{own, home, last_rank, is_on_board, is_pawn_way, promotion_fits, is_target, short_right, long_right, short_wing, long_wing, captured_pawn, kind_of, carried, en_passant_board, castled, board_after, after}
 use Rattle.chess_rules.specs.Legal.{legal, is_legal, if_safe}
 use Rattle.chess_rules.specs.Pairs.{one_move, is_legal_pair}
 use Rattle.chess_rules.specs.Laws.{PromotionsAlike}
 use Rattle.chess_rules.proofs.squares.AllSquares.{first_true, second_true, same_tests, Passes, some_square, any_square, each_square, all_squares}
 use Rattle.chess_rules.proofs.moves.CellsAfterPut.{OnBoard, at_put, length-put}
-use Rattle.chess_rules.proofs.moves.StepsKeepBoard.{other-other, castles_means}
+use Rattle.chess_rules.proofs.moves.StepsKeepBoard.{other-other, castles_means, home_below}
 use Rattle.chess_rules.proofs.moves.LegalToPosition.{on_board_means, way_of, Legal, legal_means}
 use Rattle.chess_rules.proofs.trying.FoundLists.{passes}
 use Rattle.std.proofs.lemmas.Bool.Decides.{nat_tests}
+use Rattle.std.proofs.lemmas.Bool.{not-true}
 
 -- Two boards that differ in pieces of one colour alone, none of them a king, attack that colour's
 -- king alike.
@@ -115,9 +116,6 @@ men_alike c x y = grind (arith, nat_tests)
 abbrev promoting : Square → Square → Promotion → Move
 promoting s t x = record { from = s; to = t; promotion = Some x }
 
-home_low : (c : Colour) → home_rank c < 8
-home_low c = grind (arith, nat_tests)
-
 carried_alike : (p : Parts) (s t : Square) (x y : Promotion) → length p.board ≡ 64 → OnBoard s → OnBoard t → Alike p.side (carried p (promoting s t x)) (carried p (promoting s t y))
 carried_alike p s t x y long on_s on_t =
     put_alike p.side (put p.board s None) (put p.board s None) t (some_piece p.side (kind_of x)) (some_piece p.side (kind_of y))
@@ -133,8 +131,8 @@ castled_alike : (p : Parts) (s t : Square) (x y : Promotion) (rook crossing : �
 castled_alike p s t x y rook crossing long on_s on_t low_rook low_crossing =
     put_alike p.side (put (carried p (promoting s t x)) (home p rook) None) (put (carried p (promoting s t y)) (home p rook) None) (home p crossing) (some_piece p.side Rook) (some_piece p.side Rook)
     (put_alike p.side (carried p (promoting s t x)) (carried p (promoting s t y)) (home p rook) None None
-    (carried_alike p s t x y long on_s on_t) (record { file = low_rook; rank = home_low p.side }) (itself p.side None))
-    (record { file = low_crossing; rank = home_low p.side }) (itself p.side (some_piece p.side Rook))
+    (carried_alike p s t x y long on_s on_t) (record { file = low_rook; rank = home_below p.side }) (itself p.side None))
+    (record { file = low_crossing; rank = home_below p.side }) (itself p.side (some_piece p.side Rook))
 
 -- the mover's king is not attacked on the board
 abbrev leaves_safe : Parts → Board → Bool
@@ -174,9 +172,6 @@ promotions_alike p s t x y position =
 
 -- A legal move names a promotion exactly if a pawn reaches its last rank.
 
-is_false : (v : Bool) → not v ≡ true → v ≡ false
-is_false v h = grind (arith, nat_tests)
-
 abbrev arrives : Parts → Move → Bool
 arrives p m = (m.to.rank == last_rank p.side) && own p Pawn m.from
 
@@ -194,7 +189,7 @@ named p q m l =
     elim (way_of p m l.board l.stepped) [
       | inl piece ↦ (let goes : ((has_colour p.side (at p.board m.from) && not (own p Pawn m.from)) && is_none m.promotion) ≡ true = first_true _ _ piece.0 in
           named_by_other p m
-          (is_false (own p Pawn m.from) (second_true (has_colour p.side (at p.board m.from)) _ (first_true _ (is_none m.promotion) goes)))
+          (not-true (own p Pawn m.from) (second_true (has_colour p.side (at p.board m.from)) _ (first_true _ (is_none m.promotion) goes)))
           (second_true (has_colour p.side (at p.board m.from) && not (own p Pawn m.from)) _ goes))
       | inr more ↦ elim more [
         | inl pawn ↦ named_by_pawn p m (first_true (own p Pawn m.from) _ pawn.0) (second_true (is_pawn_way p m) _ (second_true (own p Pawn m.from) _ pawn.0))

@@ -1,12 +1,13 @@
 use Rattle.std.proofs.Common.{◌≡◌, ℕ, ◌&&◌, false, sym, ◌∙◌, ap, arith}
 use Rattle.std.specs.Int.Bits.{bit_and, bit_or}
 use Rattle.std.proofs.lemmas.Nat.{and_le_l}
+use Rattle.std.proofs.lemmas.Bool.{and_from}
 use Rattle.chess_rules.specs.Attacks.{is_clear}
 use Rattle.chess_rules.specs.Reach.{may_attack, square_at}
 use Rattle.chess_rules.specs.Words.{has}
 use Rattle.chess_rules.proofs.lines.AttackToReach.{attacked_is}
 use Rattle.chess_rules.proofs.lines.AttackersToAttacked.{no_others, others_seen}
-use Rattle.chess_rules.proofs.squares.AllSquares.{any_square, both_true}
+use Rattle.chess_rules.proofs.squares.AllSquares.{any_square}
 use Rattle.chess_rules.proofs.squares.SetsToSquares.{none_passes, set_test}
 use Rattle.chess_rules.proofs.squares.WordsToCells.{has_zero}
 use Rattle.chess_rules.proofs.attack.is_attacked.Goals as goal
@@ -31,7 +32,7 @@ returns-then-is_clear c =
     let low = c.lowest-place.ensures in
     sym (attacked_is b c.args.by t
     ∙ any_square (λ s. may_attack b c.args.by t s && is_clear b s t) (square_at n) (omega arith) (omega (arith, low.inside))
-    (both_true (may_attack b c.args.by t (square_at n)) (is_clear b (square_at n) t)
+    (and_from (may_attack b c.args.by t (square_at n)) (is_clear b (square_at n) t)
     (sym (c.possible_attackers-possible.ensures.of n low.inside) ∙ low.here) (ap (λ s. is_clear b s t) (sym c.nth.ensures) ∙ (sym c.is_clear.ensures ∙ c.if-is_clear.true))))
 
 pub returns-then-others-ne0 : goal.returns-then-others-ne0

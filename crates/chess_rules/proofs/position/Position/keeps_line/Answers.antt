@@ -1,12 +1,12 @@
 use Rattle.std.proofs.Common.{◌≡◌, true, inl, inr, sym, ◌∙◌, ap, ap₂, subst}
 use Rattle.std.specs.List.{list_any}
+use Rattle.std.proofs.lemmas.Bool.{not-true}
 use Rattle.chess_rules.specs.declared.position.Parts.{Parts}
 use Rattle.chess_rules.specs.Board.{other}
 use Rattle.chess_rules.specs.Legal.{is_check}
 use Rattle.chess_rules.specs.Reach.{slides}
 use Rattle.chess_rules.specs.Position.{is_position}
 use Rattle.chess_rules.specs.Square.{squares}
-use Rattle.chess_rules.proofs.squares.AllSquares.{not_means}
 use Rattle.chess_rules.proofs.moves.PlainStepAttacks.{safe_when_plain, stepped_board}
 use Rattle.chess_rules.proofs.position.Position.keeps_line.Goals as goal
 
@@ -27,4 +27,4 @@ returns c none =
     safe_when_plain p m b c.king-king.result (subst (λ (q : Parts). is_position q ≡ true) c.self.view_is c.self.invariant.position)
     c.requires.on_board stepped (sym c.is_plain.ensures ∙ c.if-not-is_plain.false) c.king-king.ensures
     (ap is_check (sym c.self.view_is) ∙ (sym c.self.invariant.checked ∙ c.if-self.false)) (sym c.is.ensures ∙ c.if-is.false)
-    (inr (ap₂ (λ a d. list_any (slides a d c.king-king.result) squares) (sym (ap (λ q. q.board) c.self.view_is)) (sym (c.other.ensures ∙ ap (λ q. other q.side) c.self.view_is)) ∙ (sym c.has_sliders.ensures ∙ not_means c.has_sliders.result none)))
+    (inr (ap₂ (λ a d. list_any (slides a d c.king-king.result) squares) (sym (ap (λ q. q.board) c.self.view_is)) (sym (c.other.ensures ∙ ap (λ q. other q.side) c.self.view_is)) ∙ (sym c.has_sliders.ensures ∙ not-true c.has_sliders.result none)))
