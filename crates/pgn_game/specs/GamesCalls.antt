@@ -163,7 +163,7 @@ most_left_behind false games = 1 + (2 ^ 64 - games)
 abbrev pub most_left : Games → ℕ
 most_left games = most_left_behind games.converter.is_finished games.converter.games
 
--- ---- the parts of a call
+-- ---- the parts of a call: what is stored on the way, on which no statement of the subject rests
 
 -- what a read puts into the buffer
 abbrev pub FillResult : Option (List ℕ) → Option (List ℕ) → List ℕ → Result Bool ReadFailed → Type 0
