@@ -3,7 +3,7 @@
 //! `demo FILE` reads a file, and `demo` standard input.
 #![tactic(auto)]
 
-ghost use Rattle.std.specs.Prelude.{◌≡◌, ◌+◌, ◌≤◌, ◌^◌, ◌⊎◌, length, false, Ok, OnOk, IfErr, Some, IsSomeAnd};
+ghost use Rattle.std.specs.Prelude.{◌≡◌, Ok, Some, IsSomeAnd};
 ghost use Rattle.chess_rules.specs.declared.position.Parts.{Parts};
 ghost use Rattle.chess_text.specs.declared.form.Form.{Form};
 ghost use Rattle.chess_text.specs.declared.resolution.Played.{Played};
@@ -16,16 +16,19 @@ use arrayvec::ArrayVec;
 use chess_rules::Probes;
 use chess_text::laws::the_one_move_is_read;
 use chess_text::{read_fen, read_form, resolve, write_fen, write_san};
-use pgn_game::{
-    Converter, Fault, Fed, Inlet, Mode, Nowhere, Outlet, Reason, Sink, Source, WriteFault,
-};
+use pgn_game::{Fault, Games, Inlet, Mode, Nowhere, Outlet, Sink, Source, WriteFault};
 use pgn_layout::write_all;
 use std::env;
 use std::fs::File;
 use std::io::{self, ErrorKind};
 
-/// Room for 64 tag pairs a game, and for variations to depth 32.
-type Games = Converter<64, 33>;
+/// Why a list ends before its input does.
+enum Stopped {
+    /// The input has a fault.
+    Refused(Fault),
+    /// A line could not be written.
+    Unwritten,
+}
 
 fn main(rt: HostRuntime) -> io::Result<()> {
     let words: Vec<String> = env::args(&rt)?.collect(rt.alloc())?;
@@ -37,54 +40,34 @@ fn main(rt: HostRuntime) -> io::Result<()> {
     let fen = b"r1bqkb1r/pppp1ppp/2n2n2/4p2Q/2B1P3/8/PPPP1PPP/RNB1K1NR w KQkq - 4 4";
     let san = san_of(fen, b"Qf7").unwrap_or_default();
     let written = write_words(&[b"Qf7 is ", san.as_slice()], out);
-    if let Err(fault) = listed {
-        let _ = write_words(&[fault.line().as_slice()], &mut Outlet::new(rt.stderr()));
-        return Err(io::Error::from(ErrorKind::InvalidData));
+    match listed {
+        Ok(()) => written.map_err(|_| io::Error::from(ErrorKind::BrokenPipe)),
+        Err(Stopped::Unwritten) => Err(io::Error::from(ErrorKind::BrokenPipe)),
+        Err(Stopped::Refused(fault)) => {
+            let _ = write_words(&[fault.line().as_slice()], &mut Outlet::new(rt.stderr()));
+            Err(io::Error::from(ErrorKind::InvalidData))
+        }
     }
-    written.map_err(|_| io::Error::from(ErrorKind::BrokenPipe))
 }
 
 /// Writes a line for each game that the source gives, up to its end or its first fault.
-fn list_games<R: Source, W: Sink>(source: &mut R, out: &mut W) -> Result<(), Fault> {
-    let mut buffer = [0; 4096];
-    let mut games = Games::new(Mode::Full);
+fn list_games<R: Source, W: Sink>(source: &mut R, out: &mut W) -> Result<(), Stopped> {
+    // Room for 64 tag pairs a game, and for variations to depth 32.
+    let mut games = Games::<64, 33>::new(Mode::Full);
     loop {
-        match source.read_some(&mut buffer) {
-            Err(_) => return Err(device_fault(&games, Reason::ReadFault)),
-            Ok(0) => break,
-            Ok(count) => list_piece(&mut games, &buffer[..count], out)?,
+        match games.next(source, &mut Nowhere) {
+            Ok(true) => {}
+            Ok(false) => return Ok(()),
+            Err(fault) => return Err(Stopped::Refused(fault)),
         }
-    }
-    games.finish(&mut Nowhere)?;
-    list_game(&games, out)
-}
-
-/// Writes a line for each game that ends in this piece of the input.
-///
-/// An error is the fault of the input, or that of a write that failed.
-fn list_piece<W: Sink>(games: &mut Games, piece: &[u8], out: &mut W) -> Result<(), Fault>
-    requires not_finished { games.old.is_finished ≡ false }
-    ensures not_finished { games.new.is_finished ≡ false }
-    ensures short { OnOk result (games.new.lexer.count ≤ 2 ^ 62) }
-    ensures count { OnOk result
-        (games.new.lexer.count ≡ games.old.lexer.count + length piece.now) }
-    ensures fault { IfErr result (λ fault.
-        (games.new.fault ≡ Some fault) ⊎ (fault.reason ≡ Reason.WriteFault)) }
-{
-    let mut at = 0;
-    loop {
-        match games.feed(&piece[at..], &mut Nowhere)? {
-            Fed::All => return Ok(()),
-            Fed::Game(used) => at += used,
+        if let Err(WriteFault) = list_game(&games, out) {
+            return Err(Stopped::Unwritten);
         }
-        list_game(games, out)?;
     }
 }
 
 /// Writes the players, the result and the final position of the game just finished.
-fn list_game<W: Sink>(games: &Games, out: &mut W) -> Result<(), Fault>
-    ensures { IfErr result (λ fault. fault.reason ≡ Reason.WriteFault) }
-{
+fn list_game<W: Sink>(games: &Games<64, 33>, out: &mut W) -> Result<(), WriteFault> {
     let Some(position) = games.position() else {
         return Ok(());
     };
@@ -93,18 +76,7 @@ fn list_game<W: Sink>(games: &Games, out: &mut W) -> Result<(), Fault>
     let result = games.tag(b"Result").unwrap_or(b"*");
     let fen = write_fen(position);
     let words = &[white, b" - ", black, b": ", result, b", ", fen.as_slice()];
-    match write_words(words, out) {
-        Ok(()) => Ok(()),
-        Err(_) => Err(device_fault(games, Reason::WriteFault)),
-    }
-}
-
-/// The fault of a device, behind the bytes used so far.
-fn device_fault(games: &Games, reason: Reason) -> Fault
-    ensures { result ≡ record { at = games.now.lexer.count; reason = reason } }
-{
-    let at = games.count();
-    Fault { at, reason }
+    write_words(words, out)
 }
 
 /// Writes the words on a line.
