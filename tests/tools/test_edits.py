@@ -323,3 +323,7 @@ class Lanes(unittest.TestCase):
             "HANDLES", "crates.txt", "crates/low/src/lib.rt", "crates/low/out/rlib/low",
             "crates/top/src/lib.rt", "crates/top/out/incremental/b", "crates/other/src/lib.rt",
         ]))
+
+
+if __name__ == "__main__":
+    unittest.main()
