@@ -17,19 +17,19 @@ use Rattle.chess_rules.proofs.squares.AllSquares.{first_true, second_true, all_s
 -- What a cell holds is determined.
 
 pub kinds_same : (k l : Kind) → same_kind k l ≡ true → k ≡ l
-kinds_same k l h = grind (arith, nat_tests)
+kinds_same k l h = grind arith
 
 pub colours_same : (c d : Colour) → same_colour c d ≡ true → c ≡ d
-colours_same c d h = grind (arith, nat_tests)
+colours_same c d h = grind arith
 
 pub squares_same : (s t : Square) → same_square s t ≡ true → s ≡ t
-squares_same s t h = grind (arith, nat_tests)
+squares_same s t h = grind arith
 
 pub none_or_all : (c : Colour) (cell : Option Piece) → has_colour c cell ≡ true → is_none cell ≡ false
-none_or_all c cell h = grind (arith, nat_tests)
+none_or_all c cell h = grind arith
 
 pub not_empty : (b : Board) (s : Square) → is_some (at b s) ≡ true → is_empty b s ≡ false
-not_empty b s h = grind (arith, nat_tests)
+not_empty b s h = grind arith
 
 -- The way is clear if each square between is empty, and if there is none.
 
@@ -47,10 +47,10 @@ near_clear : (b : Board) (s t : Square) → gap s.file t.file ≤ 1 → gap s.ra
 near_clear b s t files ranks = clear_if b s t (λ u _ _ h. absurd (between_cases s u t h (on_rank u) (on_file u) (on_cross u)))
   where
     on_rank : (u : Square) → between_on_rank s u t ≡ true → ⊥
-    on_rank u h = grind (arith, nat_tests)
+    on_rank u h = grind arith
 
     on_file : (u : Square) → between_on_file s u t ≡ true → ⊥
-    on_file u h = grind (arith, nat_tests)
+    on_file u h = grind arith
 
     on_cross : (u : Square) → between_on_diagonal s u t ≡ true → ⊥
     on_cross u h = grind (arith, nat_tests)
@@ -59,10 +59,10 @@ pub jump_clear : (b : Board) (s t : Square) → is_jump s t ≡ true → is_clea
 jump_clear b s t jump = clear_if b s t (λ u _ _ h. absurd (between_cases s u t h (on_rank u) (on_file u) (on_cross u)))
   where
     on_rank : (u : Square) → between_on_rank s u t ≡ true → ⊥
-    on_rank u h = grind (arith, nat_tests)
+    on_rank u h = grind arith
 
     on_file : (u : Square) → between_on_file s u t ≡ true → ⊥
-    on_file u h = grind (arith, nat_tests)
+    on_file u h = grind arith
 
     line : on_diagonal s t ≡ true → ⊥
     line h = grind (arith, nat_tests)
@@ -73,19 +73,19 @@ jump_clear b s t jump = clear_if b s t (λ u _ _ h. absurd (between_cases s u t 
 -- Squares side by side see one another.
 
 near_aligned : (s t : Square) → gap s.file t.file ≤ 1 → gap s.rank t.rank ≤ 1 → not (same_square s t) ≡ true → is_aligned s t ≡ true
-near_aligned s t files ranks apart = grind (arith, nat_tests)
+near_aligned s t files ranks apart = grind arith
 
 pub near : (b : Board) (s t : Square) → gap s.file t.file ≤ 1 → gap s.rank t.rank ≤ 1 → not (same_square s t) ≡ true → (is_aligned s t && is_clear b s t) ≡ true
 near b s t files ranks apart = and_from _ _ (near_aligned s t files ranks apart) (near_clear b s t files ranks)
 
 at_most : (a b : ℕ) → nat_le a b ≡ true → a ≤ b
-at_most a b h = grind (arith, nat_tests)
+at_most a b h = grind arith
 
 pub apart_by_file : (s t : Square) → gap s.file t.file ≡ 1 → not (same_square s t) ≡ true
-apart_by_file s t h = grind (arith, nat_tests)
+apart_by_file s t h = grind arith
 
 pub ahead_gap : (c : Colour) (a b : ℕ) → is_ahead c a b ≡ true → gap a b ≡ 1
-ahead_gap c a b h = grind (arith, nat_tests)
+ahead_gap c a b h = grind arith
 
 pub adjacent_seen : (b : Board) (s t : Square) → is_adjacent s t ≡ true → (is_aligned s t && is_clear b s t) ≡ true
 adjacent_seen b s t h =
@@ -95,11 +95,11 @@ adjacent_seen b s t h =
     (second_true (nat_le (gap s.file t.file) 1 && nat_le (gap s.rank t.rank) 1) _ h)
 
 pub pawn_seen : (c : Colour) (b : Board) (s t : Square) → reaches Pawn c s t ≡ true → (is_aligned s t && is_clear b s t) ≡ true
-pawn_seen c b s t h = grind (arith, nat_tests, ahead_gap, near, apart_by_file)
+pawn_seen c b s t h = grind (arith, ahead_gap, near, apart_by_file)
 
 -- what a piece attacks it sees, but for a knight
 pub attack_seen : (k : Kind) (c : Colour) (b : Board) (s t : Square) → kind_attacks k c b s t ≡ true → (k ≡ Knight) ⊎ ((is_aligned s t && is_clear b s t) ≡ true)
-attack_seen k c b s t h = grind (arith, nat_tests, adjacent_seen, pawn_seen)
+attack_seen k c b s t h = grind (arith, adjacent_seen, pawn_seen)
 
 -- no piece attacks from where none would on an empty board
 pub unreached : (b : Board) (s t : Square) → (is_aligned s t || is_jump s t) ≡ false → attacks b s t ≡ false
@@ -108,38 +108,38 @@ unreached b s t out = grind (arith, nat_tests)
 -- Near pieces and sliding ones.
 
 and_no : (x : Bool) → (x && false) ≡ false
-and_no x = grind (arith, nat_tests)
+and_no x = grind arith
 
 both_no : (x y : Bool) → ((x && false) || (y && false)) ≡ false
-both_no x y = grind (arith, nat_tests)
+both_no x y = grind arith
 
 -- near it, or far
 abbrev near_or_far : Bool → Bool → Bool → Bool → Bool
 near_or_far near slide same first = (near && same) || ((slide && same) && first)
 
 no_colour : (x y f : Bool) → false ≡ near_or_far x y false f
-no_colour x y f = grind (arith, nat_tests)
+no_colour x y f = grind arith
 
 jumps : (j a p : Bool) → (((j && true) || (a && false)) || (p && false)) ≡ j
-jumps j a p = grind (arith, nat_tests)
+jumps j a p = grind arith
 
 steps : (j a p : Bool) → (((j && false) || (a && true)) || (p && false)) ≡ a
-steps j a p = grind (arith, nat_tests)
+steps j a p = grind arith
 
 takes : (j a p : Bool) → (((j && false) || (a && false)) || (p && true)) ≡ p
-takes j a p = grind (arith, nat_tests)
+takes j a p = grind arith
 
 none_near : (j a p : Bool) → (((j && false) || (a && false)) || (p && false)) ≡ false
-none_near j a p = grind (arith, nat_tests)
+none_near j a p = grind arith
 
 along_lines : (l c clear : Bool) → (((l && true) || (c && false)) && clear) ≡ (l && clear)
-along_lines l c clear = grind (arith, nat_tests)
+along_lines l c clear = grind arith
 
 along_cross : (l c clear : Bool) → (((l && false) || (c && true)) && clear) ≡ (c && clear)
-along_cross l c clear = grind (arith, nat_tests)
+along_cross l c clear = grind arith
 
 along_both : (l c clear : Bool) → (((l && true) || (c && true)) && clear) ≡ ((l || c) && clear)
-along_both l c clear = grind (arith, nat_tests)
+along_both l c clear = grind arith
 
 -- what is near, if a piece of that kind stands there, and what slides
 abbrev near_kind : Kind → Bool → Bool → Bool → Bool
@@ -154,10 +154,10 @@ by_kind : (k : Kind) (c : Colour) (b : Board) (s t : Square)
 by_kind k c b s t = of k
   where
     near : (x m n : Bool) → m ≡ x → n ≡ false → x ≡ near_or_far m n true (is_clear b s t)
-    near x m n e h = grind (arith, nat_tests)
+    near x m n e h = grind arith
 
     far : (x m n : Bool) → m ≡ false → (n && is_clear b s t) ≡ x → x ≡ near_or_far m n true (is_clear b s t)
-    far x m n e h = grind (arith, nat_tests)
+    far x m n e h = grind arith
 
     of : (l : Kind) → kind_attacks l c b s t
         ≡ near_or_far (near_kind l (is_jump s t) (is_adjacent s t) (reaches Pawn c s t)) (slide_kind l (in_line s t) (on_diagonal s t)) true (is_clear b s t)
@@ -197,7 +197,7 @@ near_alone_seen c (Some x) b s t h =
 
     by_near : (((is_jump s t && same_kind Knight x.kind) || (is_adjacent s t && same_kind King x.kind)) ≡ true) ⊎ ((reaches Pawn c s t && same_kind Pawn x.kind) ≡ true)
         → ((is_aligned s t && is_clear b s t) || is_jump s t) ≡ true
-    by_near h = grind (arith, nat_tests, by_first, or_cases, or_left, pawn_seen, first_true)
+    by_near h = grind (arith, by_first, or_cases, or_left, pawn_seen, first_true)
 
 -- Of a piece that may attack, three tests say the same: whether it attacks, whether the way is
 -- clear, and whether it is in view or a jump away.
@@ -212,7 +212,7 @@ attacker_is b c s t =
     ∙ join (near_with c (at b s) s t) (slides_with c (at b s) s t) (is_clear b s t) (near_is_clear c (at b s) b s t)
   where
     join : (x y z : Bool) → (x ≡ true → z ≡ true) → (x || (y && z)) ≡ ((x || y) && z)
-    join x y z h = grind (arith, nat_tests)
+    join x y z h = grind arith
 
 pub attacked_is : (b : Board) (c : Colour) (t : Square) → is_attacked b c t ≡ list_any (λ s. may_attack b c t s && is_clear b s t) squares
 attacked_is b c t = any_same (λ s. has_colour c (at b s) && attacks b s t) (λ s. may_attack b c t s && is_clear b s t) squares (λ s. attacker_is b c s t)

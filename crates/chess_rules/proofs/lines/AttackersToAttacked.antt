@@ -11,11 +11,10 @@ use Rattle.chess_rules.specs.Reach.{is_in_view, may_attack, square_at}
 use Rattle.chess_rules.specs.Words.{has, Places, Sets}
 use Rattle.chess_rules.proofs.lines.AttackToReach.{open_or_jump}
 use Rattle.chess_rules.proofs.squares.WordsToCells.{has_and, has_or, has_zero, same_or_apart}
-use Rattle.std.proofs.lemmas.Bool.Decides.{nat_tests}
 
 module _ (b : Board) (c : Colour) (t : Square) (set others n : ℕ) (possible : Places set (may_attack b c t)) (sets : Sets set others n false) (blocked : is_clear b (square_at n) t ≡ false) where
   no_attack : (x : Bool) (i : ℕ) → i ≡ n → (x && is_clear b (square_at i) t) ≡ false
-  no_attack x i here = grind (arith, nat_tests)
+  no_attack x i here = grind arith
 
   still : (i : ℕ) → i < 64 → (i == n) ≡ false → has others i ≡ may_attack b c t (square_at i)
   still i low apart = sets.of i low ∙ (ap (λ x. if x then false else has set i) apart ∙ possible.of i low)
@@ -38,7 +37,7 @@ module _ (b : Board) (c : Colour) (t : Square) (set others n : ℕ) (possible : 
 
       at_place : (i : ℕ) → i < 64 → ((i ≡ n) × ((i == n) ≡ true)) ⊎ ((i ≢ n) × ((i == n) ≡ false))
           → (has others i && (is_in_view b t (square_at i) || is_jump (square_at i) t)) ≡ (may_attack b c t (square_at i) && is_clear b (square_at i) t)
-      at_place i low h = grind (arith, nat_tests, gone, no_attack, still, by_attack)
+      at_place i low h = grind (arith, gone, no_attack, still, by_attack)
 
   pub no_others : others ≡ 0 → Places others (λ s. may_attack b c t s && is_clear b s t)
-  no_others none = grind (arith, nat_tests, same_or_apart, has_zero, no_attack, still)
+  no_others none = grind (arith, same_or_apart, has_zero, no_attack, still)

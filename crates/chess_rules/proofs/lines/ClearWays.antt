@@ -14,20 +14,19 @@ use Rattle.chess_rules.specs.Words.{has, Marks, Places}
 use Rattle.chess_rules.proofs.positions.OneKing.{cell_of-square_at}
 use Rattle.chess_rules.proofs.squares.WordsToCells.{has_zero}
 use Rattle.chess_rules.proofs.squares.SetsToSquares.{marked, places_and, set_test}
-use Rattle.std.proofs.lemmas.Bool.Decides.{nat_tests}
 
 all_unless : {X : Type 0} (p q r : X → Bool) (xs : List X) → ((x : X) → q x ≡ not (r x)) → list_all (λ x. not (p x) || r x) xs ≡ not (list_any (λ x. p x && q x) xs)
 all_unless p q r [] h = refl
 all_unless p q r (x ∷ xs) h = by_tests (p x) (q x) (r x) _ _ (h x) (all_unless p q r xs h)
   where
     by_tests : (v w u rest some : Bool) → w ≡ not u → rest ≡ not some → ((not v || u) && rest) ≡ not ((v && w) || some)
-    by_tests v w u rest some e f = grind (arith, nat_tests)
+    by_tests v w u rest some e f = grind arith
 
 filled : (o : Option Piece) → is_some o ≡ not (is_none o)
-filled o = grind (arith, nat_tests)
+filled o = grind arith
 
 not_again : (x y : Bool) → not x ≡ y → x ≡ not y
-not_again x y h = grind (arith, nat_tests)
+not_again x y h = grind arith
 
 pub clear_by_set : (b : Board) (s t : Square) (v w : ℕ) → Places v (λ u. strictly_between s u t) → Marks w is_some b → v < 2 ^ 64 → (bit_and v w == 0) ≡ is_clear b s t
 clear_by_set b s t v w between pieces fits =

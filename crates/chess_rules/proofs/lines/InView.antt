@@ -5,7 +5,6 @@ use Rattle.std.specs.Prelude.{filter, is_some, nat_lt}
 use Rattle.std.specs.Int.{bit_not}
 use Rattle.std.specs.Int.Bits.{bit_and, bit_or}
 use Rattle.std.proofs.lemmas.Bool.{false≢true, or_left, or_right, not-true, and_from}
-use Rattle.std.proofs.lemmas.Bool.Decides.{nat_tests}
 use Rattle.chess_rules.specs.Square.{Square, squares, inside, in_line, on_diagonal, strictly_between}
 use Rattle.chess_rules.specs.Board.{Board, at, cell_of, is_empty}
 use Rattle.chess_rules.specs.Attacks.{is_clear}
@@ -46,7 +45,7 @@ module _ (b : Board) (t : Square) (line : Square → Bool) (on : IsLine line t) 
       (ap (λ m. inside m (cell_of u) (cell_of t)) (sym (cell_of-square_at j)) ∙ second_true (line u) _ both))
 
   not_there : (i : ℕ) → i < 64 → line (square_at i) ≡ true → t.file < 8 → i ≢ cell_of t
-  not_there i low here file e = grind (arith, nat_tests)
+  not_there i low here file e = grind arith
 
 -- The nearest pieces on a line, as sets.
 module _ (b : Board) (t : Square) (line occupied below low high : ℕ) (tf : t.file < 8) (tr : t.rank < 8)
@@ -60,26 +59,26 @@ module _ (b : Board) (t : Square) (line occupied below low high : ℕ) (tf : t.f
   before i h = has_and (bit_and line occupied) below i ∙ ap₂ (λ x y. x && y) (has_and line occupied i) (first i h)
 
   on_line : (i : ℕ) → i < 64 → has line i ≡ true → has line (cell_of (square_at i)) ≡ true
-  on_line i h e = grind (arith, nat_tests)
+  on_line i h e = grind arith
 
   -- a square of the line with no piece that counts is empty
   empty_there : (u : Square) (side : Bool) → u.file < 8 → u.rank < 8 → has line (cell_of u) ≡ true → side ≡ true → ((has line (cell_of u) && has occupied (cell_of u)) && side) ≡ false → is_empty b u ≡ true
-  empty_there u side f r here is none = grind (arith, nat_tests)
+  empty_there u side f r here is none = grind arith
 
   test_below : (i n : ℕ) → nat_lt i n ≡ true → i < n
-  test_below i n h = grind (arith, nat_tests)
+  test_below i n h = grind arith
 
   test_above : (i n : ℕ) → nat_lt i n ≡ false → n ≤ i
-  test_above i n h = grind (arith, nat_tests)
+  test_above i n h = grind arith
 
   below_test : (i n : ℕ) → i < n → nat_lt i n ≡ true
-  below_test i n h = grind (arith, nat_tests)
+  below_test i n h = grind arith
 
   above_test : (i n : ℕ) → n ≤ i → not (nat_lt i n) ≡ true
-  above_test i n h = grind (arith, nat_tests)
+  above_test i n h = grind arith
 
   open_there : (i : ℕ) → i < 64 → has line i ≡ true → has occupied i ≡ true → is_clear b (square_at i) t ≡ true → (has line (cell_of (square_at i)) && is_open b t (square_at i)) ≡ true
-  open_there i h here full clear = grind (arith, nat_tests)
+  open_there i h here full clear = grind arith
 
   from_low : (i : ℕ) → i < 64 → has low i ≡ true → (has line (cell_of (square_at i)) && is_open b t (square_at i)) ≡ true
   from_low i h e =
@@ -92,7 +91,7 @@ module _ (b : Board) (t : Square) (line occupied below low high : ℕ) (tf : t.f
       empty_between u f r here (in_order i u above (inside_means _ _ _ between)) is.none))
     where
       in_order : (j : ℕ) (u : Square) → cell_of t ≤ j → ((j < cell_of u) × (cell_of u < cell_of t)) ⊎ ((cell_of t < cell_of u) × (cell_of u < j)) → (cell_of t < cell_of u) × (cell_of u < j)
-      in_order j u h g = grind (arith, nat_tests)
+      in_order j u h g = grind arith
 
       empty_between : (u : Square) → u.file < 8 → u.rank < 8 → has line (cell_of u) ≡ true → (cell_of t < cell_of u) × (cell_of u < i)
           → ((k : ℕ) → k < i → has (bit_and (bit_and line occupied) (bit_not w64 below)) k ≡ false) → is_empty b u ≡ true
@@ -110,7 +109,7 @@ module _ (b : Board) (t : Square) (line occupied below low high : ℕ) (tf : t.f
       empty_between u f r here (in_order i u less (inside_means _ _ _ between)) is.none))
     where
       in_order : (j : ℕ) (u : Square) → j < cell_of t → ((j < cell_of u) × (cell_of u < cell_of t)) ⊎ ((cell_of t < cell_of u) × (cell_of u < j)) → (j < cell_of u) × (cell_of u < cell_of t)
-      in_order j u h g = grind (arith, nat_tests)
+      in_order j u h g = grind arith
 
       empty_between : (u : Square) → u.file < 8 → u.rank < 8 → has line (cell_of u) ≡ true → (i < cell_of u) × (cell_of u < cell_of t)
           → ((k : ℕ) → i < k → k < 64 → has (bit_and (bit_and line occupied) below) k ≡ false) → is_empty b u ≡ true
@@ -122,16 +121,16 @@ module _ (b : Board) (t : Square) (line occupied below low high : ℕ) (tf : t.f
   found i h e = by_side (nat_lt i (cell_of t)) refl
     where
       here : has line (cell_of (square_at i)) ≡ true
-      here = grind (arith, nat_tests)
+      here = grind arith
 
       opened : is_open b t (square_at i) ≡ true
-      opened = grind (arith, nat_tests)
+      opened = grind arith
 
       at_i : (has line i && has occupied i) ≡ true
-      at_i = grind (arith, nat_tests)
+      at_i = grind arith
 
       clear : is_clear b (square_at i) t ≡ true
-      clear = grind (arith, nat_tests)
+      clear = grind arith
 
       -- no other piece of the line is between
       none_between : (k : ℕ) → k < 64 → inside i k (cell_of t) ≡ true → (has line k && has occupied k) ≡ true → ⊥
@@ -177,7 +176,7 @@ module _ (b : Board) (t : Square) (line occupied below low high : ℕ) (tf : t.f
                   absurd (none_between k low_k (inside_up i k (cell_of t) more (test_below k (cell_of t) (second_true (has line k && has occupied k) _ all))) both)
 
   pub nearest_places : Places (bit_or low high) (λ s. has line (cell_of s) && is_open b t s)
-  nearest_places = grind (arith, nat_tests, has_or, same_tests, from_low, from_high, found)
+  nearest_places = grind (arith, has_or, same_tests, from_low, from_high, found)
 
 -- How many are in view.
 
@@ -200,7 +199,7 @@ module _ (b : Board) (t : Square) (line : Square → Bool) (tf : t.file < 8) (on
       apart j i high (omega arith) (first_true _ _ g) (first_true _ _ h) (inside_up i j (cell_of t) less last))
     where
       less_from : (k : ℕ) → nat_lt (cell_of (square_at k)) (cell_of t) ≡ true → k < cell_of t
-      less_from k e = grind (arith, nat_tests)
+      less_from k e = grind arith
 
   one_after : length (filter (one_side b t line (λ s. not (nat_lt (cell_of s) (cell_of t)))) squares) ≤ 1
   one_after =
@@ -211,7 +210,7 @@ module _ (b : Board) (t : Square) (line : Square → Bool) (tf : t.file < 8) (on
       apart i j low high (first_true _ _ h) (first_true _ _ g) (inside_down j i (cell_of t) (strict (cell_of t) i past (λ e. other (sym e))) less))
     where
       not_less : (k : ℕ) → not (nat_lt (cell_of (square_at k)) (cell_of t)) ≡ true → cell_of t ≤ k
-      not_less k e = grind (arith, nat_tests)
+      not_less k e = grind arith
 
   pub two_on_line : length (filter (λ s. line s && is_open b t s) squares) ≤ 2
   two_on_line =
@@ -225,7 +224,7 @@ module _ (b : Board) (t : Square) (line : Square → Bool) (tf : t.file < 8) (on
       )
     where
       on_a_side : (x y : Bool) → x ≡ true → ((x && y) || (x && not y)) ≡ true
-      on_a_side x y h = grind (arith, nat_tests)
+      on_a_side x y h = grind arith
 
 -- four lines together
 
@@ -246,7 +245,7 @@ abbrev open_on : Board → Square → (Square → Bool) → Square → Bool
 open_on b t line s = line s && is_open b t s
 
 pub four_lines : (a d e v : Bool) → (((((a && e) && v) || ((a && not e) && v)) || ((d && e) && v)) || ((d && not e) && v)) ≡ ((a || d) && v)
-four_lines a d e v = grind (arith, nat_tests)
+four_lines a d e v = grind arith
 
 pub few_in_view : (b : Board) (t : Square) → t.file < 8 → length (filter (is_in_view b t) squares) ≤ 8
 few_in_view b t tf =
@@ -279,4 +278,4 @@ pub view_places : (b : Board) (t : Square) (v w x y k l m n : ℕ) → t.file < 
     → Places k (λ s. has v (cell_of s) && is_open b t s) → Places l (λ s. has w (cell_of s) && is_open b t s)
     → Places m (λ s. has x (cell_of s) && is_open b t s) → Places n (λ s. has y (cell_of s) && is_open b t s)
     → Places (bit_or (bit_or (bit_or k l) m) n) (is_in_view b t)
-view_places b t v w x y k l m n tf tr pv pw px py pk pl pm pn = grind (arith, nat_tests, has_or, four_lines)
+view_places b t v w x y k l m n tf tr pv pw px py pk pl pm pn = grind (arith, has_or, four_lines)

@@ -8,29 +8,29 @@ use Rattle.chess_rules.specs.Reach.{IsLine, is_steep}
 use Rattle.chess_rules.proofs.squares.AllSquares.{first_true, second_true, same_tests}
 
 pub inside_means : (a x b : ℕ) → inside a x b ≡ true → ((a < x) × (x < b)) ⊎ ((b < x) × (x < a))
-inside_means a x b h = grind (arith, nat_tests)
+inside_means a x b h = grind arith
 
 pub inside_up : (a x b : ℕ) → a < x → x < b → inside a x b ≡ true
-inside_up a x b h g = grind (arith, nat_tests)
+inside_up a x b h g = grind arith
 
 pub inside_down : (a x b : ℕ) → b < x → x < a → inside a x b ≡ true
-inside_down a x b h g = grind (arith, nat_tests)
+inside_down a x b h g = grind arith
 
 -- what a test of two squares on one diagonal says
 gaps_same : (s t : Square) → on_diagonal s t ≡ true → gap s.file t.file ≡ gap s.rank t.rank
-gaps_same s t h = grind (arith, nat_tests)
+gaps_same s t h = grind arith
 
 rising_means : (s t : Square) → (on_diagonal s t && is_steep s t) ≡ true → s.file + t.rank ≡ t.file + s.rank
-rising_means s t h = grind (arith, nat_tests)
+rising_means s t h = grind arith
 
 rising_apart : (s t : Square) → (on_diagonal s t && is_steep s t) ≡ true → s.rank ≢ t.rank
-rising_apart s t h e = grind (arith, nat_tests)
+rising_apart s t h e = grind arith
 
 falling_means : (s t : Square) → (on_diagonal s t && not (is_steep s t)) ≡ true → s.file + s.rank ≡ t.file + t.rank
-falling_means s t h = grind (arith, nat_tests)
+falling_means s t h = grind arith
 
 falling_apart : (s t : Square) → (on_diagonal s t && not (is_steep s t)) ≡ true → s.rank ≢ t.rank
-falling_apart s t h e = grind (arith, nat_tests)
+falling_apart s t h e = grind arith
 
 -- between on a diagonal
 record Between (s u t : Square) : Type 0 where
@@ -50,19 +50,19 @@ between_means s u t h =
 
 -- no square is on a line with itself
 cross_leaves : (x : Bool) (t : Square) → (on_diagonal t t && x) ≡ false
-cross_leaves x t = grind (arith, nat_tests)
+cross_leaves x t = grind arith
 
 line_leaves : (x : Bool) (t : Square) → (in_line t t && x) ≡ false
-line_leaves x t = grind (arith, nat_tests)
+line_leaves x t = grind arith
 
 not_on_rank : (s u t : Square) → s.rank ≢ t.rank → between_on_rank s u t ≡ true → ⊥
-not_on_rank s u t h g = grind (arith, nat_tests)
+not_on_rank s u t h g = grind arith
 
 rising_off_file : (s u t : Square) → s.file + t.rank ≡ t.file + s.rank → s.rank ≢ t.rank → between_on_file s u t ≡ true → ⊥
-rising_off_file s u t h apart g = grind (arith, nat_tests)
+rising_off_file s u t h apart g = grind arith
 
 falling_off_file : (s u t : Square) → s.file + s.rank ≡ t.file + t.rank → s.rank ≢ t.rank → between_on_file s u t ≡ true → ⊥
-falling_off_file s u t h apart g = grind (arith, nat_tests)
+falling_off_file s u t h apart g = grind arith
 
 pub rising_line : (t : Square) → t.file < 8 → IsLine (λ s. on_diagonal s t && is_steep s t) t
 rising_line t tf = record { apart = cross_leaves (is_steep t t) t; between = λ s u sf _ uf _ l. same_tests _ _ (forth s u sf uf l) (back s u sf uf l) }
@@ -111,13 +111,13 @@ file_back : (s u t : Square) → u.file < 8 → s.file < 8 → t.file < 8 → (i
 file_back s u t uf sf tf h g = grind (arith, nat_tests)
 
 file_off_rank : (s u t : Square) → (in_line s t && is_steep s t) ≡ true → between_on_rank s u t ≡ true → ⊥
-file_off_rank s u t h g = grind (arith, nat_tests)
+file_off_rank s u t h g = grind arith
 
 line_off_cross : (s t : Square) → in_line s t ≡ true → on_diagonal s t ≡ true → ⊥
-line_off_cross s t h g = grind (arith, nat_tests)
+line_off_cross s t h g = grind arith
 
 cross_there : (s u t : Square) → between_on_diagonal s u t ≡ true → on_diagonal s t ≡ true
-cross_there s u t h = grind (arith, nat_tests)
+cross_there s u t h = grind arith
 
 pub file_line : (t : Square) → t.file < 8 → IsLine (λ s. in_line s t && is_steep s t) t
 file_line t tf = record { apart = line_leaves (is_steep t t) t; between = λ s u sf _ uf _ l. same_tests _ _ (forth s u sf uf l) (λ h. or_right _ _ (or_left _ _ (file_back s u t uf sf tf l h))) }
@@ -136,13 +136,13 @@ rank_forth : (s u t : Square) → u.file < 8 → s.file < 8 → t.file < 8 → (
 rank_forth s u t uf sf tf h g = grind (arith, nat_tests)
 
 rank_means : (s t : Square) → (in_line s t && not (is_steep s t)) ≡ true → s.rank ≡ t.rank
-rank_means s t h = grind (arith, nat_tests)
+rank_means s t h = grind arith
 
 rank_back : (s u t : Square) → u.file < 8 → s.file < 8 → t.file < 8 → (in_line s t && not (is_steep s t)) ≡ true → ((in_line u t && not (is_steep u t)) && inside (cell_of s) (cell_of u) (cell_of t)) ≡ true → between_on_rank s u t ≡ true
 rank_back s u t uf sf tf h g = grind (arith, nat_tests, inside_means, rank_means)
 
 rank_off_file : (s u t : Square) → (in_line s t && not (is_steep s t)) ≡ true → between_on_file s u t ≡ true → ⊥
-rank_off_file s u t h g = grind (arith, nat_tests)
+rank_off_file s u t h g = grind arith
 
 pub rank_line : (t : Square) → t.file < 8 → IsLine (λ s. in_line s t && not (is_steep s t)) t
 rank_line t tf = record { apart = line_leaves (not (is_steep t t)) t; between = λ s u sf _ uf _ l. same_tests _ _ (forth s u sf uf l) (λ h. or_left _ _ (rank_back s u t uf sf tf l h)) }

@@ -15,7 +15,6 @@ use Rattle.chess_rules.proofs.lines.AttackToReach.{squares_same}
 use Rattle.chess_rules.proofs.positions.OneKing.{StandsAt}
 use Rattle.chess_rules.proofs.moves.CellsAfterPut.{OnBoard, at_put, at_put_here, length-put, king_count, kings-put, kings-put_alike}
 use Rattle.chess_rules.proofs.positions.RulesOfPosition.{Sound, is_edge, no_pawn_there}
-use Rattle.std.proofs.lemmas.Bool.Decides.{nat_tests}
 
 abbrev pub arriving : Parts → Move → Option Piece
 arriving p m = promoted p.side m.promotion (at p.board m.from)
@@ -39,7 +38,7 @@ count_none : (c : Colour) (cell : Option Piece) → has_piece c King cell ≡ fa
 count_none c cell h = ap (λ v. cond v 1 0) h
 
 itself : (s : Square) → same_square s s ≡ true
-itself s = grind (arith, nat_tests)
+itself s = grind arith
 
 pub carried_stays : (p : Parts) (m : Move) → Sound p → Lands p m → Stays p m (carried p m)
 carried_stays p m sound lands =

@@ -1,7 +1,6 @@
 -- What stands where after a piece is put on a square, and how many kings there are then.
 use Rattle.std.proofs.Common.{◌≡◌, ◌≢◌, ℕ, ◌+◌, ◌<◌, ◌⊎◌, inl, inr, sym, ap, subst, arith, length, length-set, set, get_or, cond}
 use Rattle.std.specs.Prelude.{Option, None}
-use Rattle.std.proofs.lemmas.Bool.Decides.{nat_tests}
 use Rattle.std.proofs.lemmas.List.{get_or-set_same, get_or-set_other}
 use Rattle.std.proofs.lemmas.List.Sums.{sum_by-set}
 use Rattle.chess_rules.specs.declared.piece.Colour.{Colour}
@@ -15,7 +14,7 @@ pub record OnBoard (s : Square) : Type 0 where
   pub rank : s.rank < 8
 
 pub same_or_not : (m n : ℕ) → (m ≡ n) ⊎ (m ≢ n)
-same_or_not m n = grind (arith, nat_tests)
+same_or_not m n = grind arith
 
 -- a put is seen on its square alone
 pub at_put : (b : Board) (s u : Square) (x : Option Piece) → length b ≡ 64 → OnBoard s → OnBoard u → ((u ≡ s) × (at (put b s x) u ≡ x)) ⊎ ((u ≢ s) × (at (put b s x) u ≡ at b u))
@@ -26,10 +25,10 @@ at_put b s u x long on_s on_u =
     ]
   where
     low : cell_of s < length b
-    low = grind (arith, nat_tests)
+    low = grind arith
 
     square_same : cell_of u ≡ cell_of s → u ≡ s
-    square_same same = grind (arith, nat_tests)
+    square_same same = grind arith
 
 pub at_put_here : (b : Board) (s : Square) (x : Option Piece) → length b ≡ 64 → OnBoard s → at (put b s x) s ≡ x
 at_put_here b s x long on_s =
@@ -50,4 +49,4 @@ kings-put c b s x long on_s =
 
 -- kings stay as many where as many are put as were there
 pub kings-put_alike : (c : Colour) (b : Board) (s : Square) (x : Option Piece) → length b ≡ 64 → OnBoard s → king_count c (at b s) ≡ king_count c x → kings c (put b s x) ≡ kings c b
-kings-put_alike c b s x long on_s alike = grind (arith, nat_tests, kings-put)
+kings-put_alike c b s x long on_s alike = grind (arith, kings-put)

@@ -21,7 +21,7 @@ use Rattle.chess_rules.proofs.moves.BoardAfterMove.{Stays, carried_stays}
 use Rattle.chess_rules.proofs.moves.StepsKeepBoard.{other-other, piece_lands, pawn_lands, passing_stays, castling_stays, castles_means, short_is_wing, long_is_wing}
 
 at_most : (m n : ℕ) → nat_lt m n ≡ true → m < n
-at_most m n h = grind (arith, nat_tests)
+at_most m n h = grind arith
 
 pub on_board_means : (s : Square) → on_board s ≡ true → OnBoard s
 on_board_means s h = record { file = at_most s.file 8 (first_true (nat_lt s.file 8) _ h); rank = at_most s.rank 8 (second_true (nat_lt s.file 8) _ h) }
@@ -39,7 +39,7 @@ Ways p m b =
 five : (v w x y z : Bool) (i j k l b : Board)
     → (if v || w then Some i else if x then Some j else if y then Some k else if z then Some l else None) ≡ Some b
     → ((v ≡ true) × (i ≡ b)) ⊎ (((w ≡ true) × (i ≡ b)) ⊎ (((x ≡ true) × (j ≡ b)) ⊎ (((y ≡ true) × (k ≡ b)) ⊎ ((z ≡ true) × (l ≡ b)))))
-five v w x y z i j k l b h = grind (arith, nat_tests)
+five v w x y z i j k l b h = grind arith
 
 pub way_of : (p : Parts) (m : Move) (b : Board) → board_after p m ≡ Some b → Ways p m b
 way_of p m b h =
@@ -71,15 +71,15 @@ board_stays p m b sound on h =
 -- The target.
 
 pub target_kept : (p : Parts) (m : Move) → is_on_board m ≡ true → target_fits (other p.side) (target_after p m) ≡ true
-target_kept p m on = grind (arith, nat_tests)
+target_kept p m on = grind arith
 
 -- The numbers.
 
 half_low : (p : Parts) (m : Move) → half_after p m ≤ 99999
-half_low p m = grind (arith, nat_tests)
+half_low p m = grind arith
 
 full_low : (c : Colour) (n : ℕ) → n ≤ 99999 → full_after c n ≤ 99999
-full_low c n h = grind (arith, nat_tests)
+full_low c n h = grind arith
 
 -- Together.
 
@@ -115,7 +115,7 @@ king_seen p m b sound on h =
 -- Legality of a step.
 
 pub legal_when : (p : Parts) (m : Move) (b : Board) → is_on_board m ≡ true → board_after p m ≡ Some b → king_attacked b (other (other p.side)) ≡ false → legal p m ≡ Some (after p m b)
-legal_when p m b on h safe = grind (arith, nat_tests)
+legal_when p m b on h safe = grind arith
 
 -- a legal move was a step to some board, and left the king safe
 pub record Legal (p : Parts) (m : Move) (q : Parts) : Type 0 where
@@ -129,7 +129,7 @@ pub legal_means : (p : Parts) (m : Move) (q : Parts) → legal p m ≡ Some q �
 legal_means p m q h = by_on (is_on_board m) refl h
   where
     by_safe : (b : Board) → is_on_board m ≡ true → board_after p m ≡ Some b → (x : Bool) → king_attacked b (other (other p.side)) ≡ x → (if not x then Some (after p m b) else None) ≡ Some q → Legal p m q
-    by_safe b on stepped x e g = grind (arith, nat_tests)
+    by_safe b on stepped x e g = grind arith
 
     by_board : is_on_board m ≡ true → (o : Option Board) → board_after p m ≡ o → if_safe (option_map (after p m) o) ≡ Some q → Legal p m q
     by_board on None e g = cc
@@ -148,7 +148,7 @@ leaves_position p q m position h =
 -- what the code looks at, in the words of the rules
 pub attacked_is : (p : Parts) (m : Move) (b : Board) (by : Colour) (king : Square) (attacked : Bool) → is_position p ≡ true → is_on_board m ≡ true → board_after p m ≡ Some b
     → by ≡ other p.side → king ≡ king_after (king_square p.side p.board) m → attacked ≡ is_attacked b by king → king_attacked b (other (other p.side)) ≡ attacked
-attacked_is p m b by king attacked position on h e f g = grind (arith, nat_tests, on, king_seen, sound_from_position)
+attacked_is p m b by king attacked position on h e f g = grind (arith, on, king_seen, sound_from_position)
 
 pub position_after : (p : Parts) (m : Move) (b : Board) → is_position p ≡ true → is_on_board m ≡ true → board_after p m ≡ Some b → king_attacked b (other (other p.side)) ≡ false → is_position (after p m b) ≡ true
 position_after p m b position on h safe =
@@ -165,7 +165,7 @@ pub legal_unless_attacked : (p : Parts) (m : Move) (b : Board) (by : Colour) (ki
 legal_unless_attacked p m b by king attacked position on h e f g = by_test attacked (attacked_is p m b by king attacked position on h e f g)
   where
     by_test : (x : Bool) → king_attacked b (other (other p.side)) ≡ x → not x ≡ is_legal p m
-    by_test x is = grind (arith, nat_tests)
+    by_test x is = grind arith
 
 -- whether the step gives check, seen from where the other king stands then
 pub check_is_seen : (p : Parts) (m : Move) (b : Board) (k : Square) → is_position p ≡ true → is_on_board m ≡ true → board_after p m ≡ Some b

@@ -15,7 +15,7 @@ use Rattle.chess_rules.proofs.squares.AllSquares.{first_true, second_true, equal
 use Rattle.chess_rules.proofs.moves.StepsKeepBoard.{pawn_attack, Castles}
 
 pub no_pawn_moves : (p : Parts) (m : Move) → is_piece_step p m ≡ true → own p Pawn m.from ≡ true → ⊥
-no_pawn_moves p m h pawn = grind (arith, nat_tests)
+no_pawn_moves p m h pawn = grind arith
 
 pub pawn_of_step : (p : Parts) (m : Move) → is_pawn_step p m ≡ true → own p Pawn m.from ≡ true
 pawn_of_step p m h = first_true (own p Pawn m.from) (is_pawn_way p m && promotion_fits p m) h
@@ -27,25 +27,25 @@ pub pawn_of_en_passant : (p : Parts) (m : Move) → is_en_passant p m ≡ true �
 pawn_of_en_passant p m h = first_true (own p Pawn m.from) _ (first_true _ (is_target p.target m.to && is_empty p.board m.to) (en_passant_stands p m h))
 
 king_is_no_pawn : (p : Parts) (m : Move) (wing : Wing) → Castles p m wing → own p Pawn m.from ≡ true → ⊥
-king_is_no_pawn p m wing h pawn = grind (arith, nat_tests)
+king_is_no_pawn p m wing h pawn = grind arith
 
 -- a pawn that goes ahead keeps its file, and one that captures finds a piece
 pub pawn_steps_apart : (p : Parts) (m : Move) → is_pawn_step p m ≡ true → is_en_passant p m ≡ true → ⊥
-pawn_steps_apart p m h g = grind (arith, nat_tests, or_cases, first_true, second_true, equal_from, en_passant_stands, pawn_attack, pawn_of_en_passant)
+pawn_steps_apart p m h g = grind (arith, or_cases, first_true, second_true, equal_from, en_passant_stands, pawn_attack, pawn_of_en_passant)
 
 -- a king steps to a square beside it
 king_steps_apart : (p : Parts) (m : Move) (wing : Wing) → 2 ≤ gap 4 wing.end → is_piece_step p m ≡ true → Castles p m wing → ⊥
-king_steps_apart p m wing far h g = grind (arith, nat_tests)
+king_steps_apart p m wing far h g = grind arith
 
 wings_apart : (p : Parts) (m : Move) → Castles p m short_wing → Castles p m long_wing → ⊥
-wings_apart p m h g = grind (arith, nat_tests)
+wings_apart p m h g = grind arith
 
 one_at_most : (a b c d e : Bool)
     → (a ≡ true → b ≡ true → ⊥) → (a ≡ true → c ≡ true → ⊥) → (a ≡ true → d ≡ true → ⊥) → (a ≡ true → e ≡ true → ⊥)
     → (b ≡ true → c ≡ true → ⊥) → (b ≡ true → d ≡ true → ⊥) → (b ≡ true → e ≡ true → ⊥)
     → (c ≡ true → d ≡ true → ⊥) → (c ≡ true → e ≡ true → ⊥) → (d ≡ true → e ≡ true → ⊥)
     → count_by (λ holds. holds) (a ∷ b ∷ c ∷ d ∷ e ∷ []) ≤ 1
-one_at_most a b c d e ab ac ad ae bc bd be cd ce de = grind (arith, nat_tests)
+one_at_most a b c d e ab ac ad ae bc bd be cd ce de = grind arith
 
 pub cases_apart : CasesApart
 cases_apart p m =

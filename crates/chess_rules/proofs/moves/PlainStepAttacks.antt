@@ -31,10 +31,10 @@ use Rattle.chess_rules.proofs.moves.LegalToPosition.{on_board_means, way_of, leg
 -- A square between two lies on a line with the second.
 
 between_on_rank_aligned : (s u t : Square) → between_on_rank s u t ≡ true → is_aligned u t ≡ true
-between_on_rank_aligned s u t h = grind (arith, nat_tests)
+between_on_rank_aligned s u t h = grind arith
 
 between_on_file_aligned : (s u t : Square) → between_on_file s u t ≡ true → is_aligned u t ≡ true
-between_on_file_aligned s u t h = grind (arith, nat_tests)
+between_on_file_aligned s u t h = grind arith
 
 between_on_diagonal_aligned : (s u t : Square) → between_on_diagonal s u t ≡ true → is_aligned u t ≡ true
 between_on_diagonal_aligned s u t h = grind (arith, nat_tests)
@@ -52,11 +52,11 @@ between_aligned s u t h =
 -- A piece that attacks on one board attacks on another where the way is clear too.
 
 cell_still : (cell : Option Piece) (a b : Board) (s t : Square) → (is_clear a s t ≡ true → is_clear b s t ≡ true) → cell_attacks cell a s t ≡ true → cell_attacks cell b s t ≡ true
-cell_still cell a b s t clear h = grind (arith, nat_tests)
+cell_still cell a b s t clear h = grind arith
 
 -- what does not slide attacks on each board alike
 no_slide : (c : Colour) (cell : Option Piece) (a b : Board) (s t : Square) → slides_with c cell s t ≡ false → (has_colour c cell && cell_attacks cell a s t) ≡ (has_colour c cell && cell_attacks cell b s t)
-no_slide c cell a b s t none = grind (arith, nat_tests)
+no_slide c cell a b s t none = grind arith
 
 -- Where a piece leaves no line to k, and the piece that arrives does not attack k, k is attacked no
 -- more than before.
@@ -149,10 +149,10 @@ near_step p m b passes far h =
     ]
   where
     no_castling : (wing : Wing) → 2 ≤ gap 4 wing.end → Castles p m wing → ⊥
-    no_castling wing distant w = grind (arith, nat_tests)
+    no_castling wing distant w = grind arith
 
 no_target_no_passing : (p : Parts) (m : Move) → is_target p.target m.to ≡ false → is_en_passant p m ≡ false
-no_target_no_passing p m h = grind (arith, nat_tests)
+no_target_no_passing p m h = grind arith
 
 pub plain_step : (p : Parts) (m : Move) (b : Board) → is_plain p m ≡ true → board_after p m ≡ Some b → PlainStep p m b
 plain_step p m b plain h =
@@ -160,13 +160,13 @@ plain_step p m b plain h =
     (not-true (king_goes_far p m) (second_true (not (is_target p.target m.to)) _ plain)) h
 
 arriving_own : (c : Colour) (q : Option Promotion) (cell : Option Piece) → has_colour c cell ≡ true → has_colour c (promoted c q cell) ≡ true
-arriving_own c q cell h = grind (arith, nat_tests)
+arriving_own c q cell h = grind arith
 
 not_other : (c : Colour) (cell : Option Piece) → has_colour c cell ≡ true → has_colour (other c) cell ≡ false
-not_other c cell h = grind (arith, nat_tests)
+not_other c cell h = grind arith
 
 king_waits : (m : Move) (k : Square) → same_square m.from k ≡ false → king_after k m ≡ k
-king_waits m k apart = grind (arith, nat_tests)
+king_waits m k apart = grind arith
 
 -- the king that stays is safe, if it was not attacked and sees no square that is left
 pub safe_when_plain : (p : Parts) (m : Move) (b : Board) (k : Square) → is_position p ≡ true → is_on_board m ≡ true → board_after p m ≡ Some b → is_plain p m ≡ true
@@ -233,7 +233,7 @@ no_check_when_plain p m b k position on h plain is unseen harmless =
     arrives = arriving_own p.side m.promotion (at p.board m.from) step.own
 
     no : (x : Bool) → (x && false) ≡ false
-    no x = grind (arith, nat_tests)
+    no x = grind arith
 
     quiet : is_attacked (carried p m) p.side k ≡ false
     quiet =
@@ -305,7 +305,7 @@ long_board p m h passes far file =
 
 -- a move that is no step is not legal, and a legal one is a step
 by_step : (on : Bool) (p : Parts) (m : Move) (o : Option Board) → is_some o ≡ false → if_safe (if on then option_map (after p m) o else None) ≡ None
-by_step on p m o h = grind (arith, nat_tests)
+by_step on p m o h = grind arith
 
 pub none_unless_step : (p : Parts) (m : Move) → is_some (board_after p m) ≡ false → is_some (legal p m) ≡ false
 none_unless_step p m h = ap is_some (by_step (is_on_board m) p m (board_after p m) h)
@@ -318,4 +318,4 @@ step_when_legal p m h = by_test (is_some (board_after p m)) refl
     by_test false e = absurd (false≢true (sym (none_unless_step p m e) ∙ h))
 
 pub none_when_not : (o : Option Parts) → is_some o ≡ false → o ≡ None
-none_when_not o h = grind (arith, nat_tests)
+none_when_not o h = grind arith

@@ -24,20 +24,20 @@ use Rattle.chess_rules.proofs.moves.BoardAfterMove.{arriving, Lands, Stays, IsPl
 -- Cells.
 
 pub other-other : (c : Colour) → other (other c) ≡ c
-other-other c = grind (arith, nat_tests)
+other-other c = grind arith
 
 pub colour_of_piece : (c : Colour) (k : Kind) (cell : Option Piece) → has_piece c k cell ≡ true → has_colour c cell ≡ true
-colour_of_piece c k cell h = grind (arith, nat_tests)
+colour_of_piece c k cell h = grind arith
 
 pub not_both : (c : Colour) (cell : Option Piece) → has_colour c cell ≡ true → has_colour (other c) cell ≡ true → ⊥
-not_both c cell h g = grind (arith, nat_tests)
+not_both c cell h g = grind arith
 
 -- a cell has pieces of one kind
 pub one_kind : (c d : Colour) (k l : Kind) (cell : Option Piece) → has_piece c k cell ≡ true → has_piece d l cell ≡ true → k ≡ l
-one_kind c d k l cell h g = grind (arith, nat_tests, kinds_same, second_true)
+one_kind c d k l cell h g = grind (arith, kinds_same, second_true)
 
 no_king_with : (c d : Colour) (k : Kind) (cell : Option Piece) → (King ≡ k → ⊥) → has_piece d k cell ≡ true → has_piece c King cell ≡ false
-no_king_with c d k cell differ h = grind (arith, nat_tests)
+no_king_with c d k cell differ h = grind arith
 
 pub pawn_is_no_king : King ≡ Pawn → ⊥
 pawn_is_no_king e = cc
@@ -46,20 +46,20 @@ rook_is_no_king : King ≡ Rook → ⊥
 rook_is_no_king e = cc
 
 empty_free : (c : Colour) (k : Kind) (cell : Option Piece) → is_none cell ≡ true → has_piece c k cell ≡ false
-empty_free c k cell h = grind (arith, nat_tests)
+empty_free c k cell h = grind arith
 
 no_pawn_but_own : (c : Colour) (cell : Option Piece) → has_colour c cell ≡ true → has_piece c Pawn cell ≡ false → is_pawn cell ≡ false
-no_pawn_but_own c cell h g = grind (arith, nat_tests)
+no_pawn_but_own c cell h g = grind arith
 
 king_is_no_pawn : (c : Colour) (cell : Option Piece) → has_piece c King cell ≡ true → is_pawn cell ≡ false
-king_is_no_pawn c cell h = grind (arith, nat_tests)
+king_is_no_pawn c cell h = grind arith
 
 promoted_is_no_king : (c d : Colour) (q : Promotion) → has_piece c King (some_piece d (kind_of q)) ≡ false
-promoted_is_no_king c d q = grind (arith, nat_tests)
+promoted_is_no_king c d q = grind arith
 
 -- the piece on a square attacks as its kind and colour do
 pub attacks_as : (c : Colour) (k : Kind) (cell : Option Piece) (b : Board) (s t : Square) → has_piece c k cell ≡ true → cell_attacks cell b s t ≡ true → kind_attacks k c b s t ≡ true
-attacks_as c k cell b s t h g = grind (arith, nat_tests, kinds_same, second_true, colours_same, first_true)
+attacks_as c k cell b s t h g = grind (arith, kinds_same, second_true, colours_same, first_true)
 
 -- The other king is never taken.
 
@@ -75,10 +75,10 @@ king_not_taken p s t sound on_s on_t own hits =
 
 -- no king stands where no own piece and no other king stands
 free_of : (p : Parts) (t : Square) → has_colour p.side (at p.board t) ≡ false → has_piece (other p.side) King (at p.board t) ≡ false → (c : Colour) → has_piece c King (at p.board t) ≡ false
-free_of p t own theirs c = grind (arith, nat_tests)
+free_of p t own theirs c = grind arith
 
 arrives_as : (p : Parts) (m : Move) → is_none m.promotion ≡ true → arriving p m ≡ at p.board m.from
-arrives_as p m h = grind (arith, nat_tests)
+arrives_as p m h = grind arith
 
 -- A king, queen, rook, bishop or knight.
 
@@ -93,31 +93,31 @@ piece_lands p m sound on_from on_to h =
     }
   where
     stands : ((has_colour p.side (at p.board m.from) && not (own p Pawn m.from)) && is_none m.promotion) ≡ true
-    stands = grind (arith, nat_tests)
+    stands = grind arith
 
     goes : (attacks p.board m.from m.to && not (has_colour p.side (at p.board m.to))) ≡ true
-    goes = grind (arith, nat_tests)
+    goes = grind arith
 
     whose : (has_colour p.side (at p.board m.from) && not (own p Pawn m.from)) ≡ true
-    whose = grind (arith, nat_tests)
+    whose = grind arith
 
     plain : is_none m.promotion ≡ true
-    plain = grind (arith, nat_tests)
+    plain = grind arith
 
     own_piece : has_colour p.side (at p.board m.from) ≡ true
-    own_piece = grind (arith, nat_tests)
+    own_piece = grind arith
 
 -- A pawn.
 
 pub pawn_attack : (p : Parts) (m : Move) → own p Pawn m.from ≡ true → attacks p.board m.from m.to ≡ true → ((gap m.from.file m.to.file == 1) && is_ahead p.side m.from.rank m.to.rank) ≡ true
-pawn_attack p m pawn hits = grind (arith, nat_tests)
+pawn_attack p m pawn hits = grind arith
 
 -- one rank ahead, or from the pawns' first rank to that of the double step
 abbrev pub pawn_goes : Parts → Move → Type 0
 pawn_goes p m = (is_ahead p.side m.from.rank m.to.rank ≡ true) ⊎ ((m.from.rank ≡ pawn_rank p.side) × (m.to.rank ≡ double_rank p.side))
 
 pub double_ranks : (p : Parts) (m : Move) → is_double_step p m ≡ true → (m.from.rank ≡ pawn_rank p.side) × (m.to.rank ≡ double_rank p.side)
-double_ranks p m two = grind (arith, nat_tests)
+double_ranks p m two = grind arith
 
 pub way_goes : (p : Parts) (m : Move) → own p Pawn m.from ≡ true → is_pawn_way p m ≡ true → pawn_goes p m
 way_goes p m pawn h = grind (arith, nat_tests)
@@ -138,7 +138,7 @@ way_free p m sound on_from on_to pawn h =
         (king_not_taken p m.from m.to sound on_from on_to (colour_of_piece p.side Pawn (at p.board m.from) pawn) hits)
 
 last_of : (c : Colour) (a b : ℕ) → a < 8 → (is_ahead c a b ≡ true) ⊎ ((a ≡ pawn_rank c) × (b ≡ double_rank c)) → is_edge b ≡ true → b ≡ last_rank c
-last_of c a b low h edge = grind (arith, nat_tests)
+last_of c a b low h edge = grind arith
 
 pub pawn_lands : (p : Parts) (m : Move) → Sound p → OnBoard m.from → OnBoard m.to → is_pawn_step p m ≡ true → Lands p m
 pawn_lands p m sound on_from on_to h =
@@ -164,13 +164,13 @@ pawn_lands p m sound on_from on_to h =
     alike_for c (Some q) = promoted_is_no_king c p.side q ∙ sym (no_king_with c p.side Pawn (at p.board m.from) pawn_is_no_king pawn)
 
     last_for : (q : Option Promotion) → (m.to.rank == last_rank p.side) ≡ true → (if m.to.rank == last_rank p.side then is_some q else is_none q) ≡ true → is_pawn (promoted p.side q (at p.board m.from)) ≡ false
-    last_for q last named = grind (arith, nat_tests)
+    last_for q last named = grind arith
 
 target_line : (c : Colour) (o : Option Square) (t : Square) → target_fits c o ≡ true → is_target o t ≡ true → t.rank ≡ target_rank c
-target_line c o t fits hits = grind (arith, nat_tests)
+target_line c o t fits hits = grind arith
 
 inner_line : (c : Colour) (rank : ℕ) → rank ≡ target_rank c → ((rank == last_rank c) ≡ false) × (is_edge rank ≡ false)
-inner_line c rank h = grind (arith, nat_tests)
+inner_line c rank h = grind arith
 
 pub passing_lands : (p : Parts) (m : Move) → Sound p → OnBoard m.from → OnBoard m.to → is_en_passant p m ≡ true → Lands p m
 passing_lands p m sound on_from on_to h =
@@ -197,13 +197,13 @@ passing_lands p m sound on_from on_to h =
     plain = named (m.to.rank == last_rank p.side) line.0 fits
       where
         named : (x : Bool) → x ≡ false → (if x then is_some m.promotion else is_none m.promotion) ≡ true → is_none m.promotion ≡ true
-        named x e g = grind (arith, nat_tests)
+        named x e g = grind arith
 
 nothing_plain : IsPlain None
 nothing_plain = record { no_king = λ c. refl; no_pawn = refl }
 
 rook_plain : (d : Colour) → IsPlain (some_piece d Rook)
-rook_plain d = grind (arith, nat_tests)
+rook_plain d = grind arith
 
 pub passing_stays : (p : Parts) (m : Move) → Sound p → OnBoard m.from → OnBoard m.to → is_en_passant p m ≡ true → Stays p m (en_passant_board p m)
 passing_stays p m sound on_from on_to h =
@@ -238,7 +238,7 @@ passing_stays p m sound on_from on_to h =
 -- Castling.
 
 pub home_below : (c : Colour) → home_rank c < 8
-home_below c = grind (arith, nat_tests)
+home_below c = grind arith
 
 between_empty : (b : Board) (s t u : Square) → is_clear b s t ≡ true → OnBoard u → strictly_between s u t ≡ true → is_empty b u ≡ true
 between_empty b s t u clear on between =
@@ -256,10 +256,10 @@ pub record IsWing (wing : Wing) : Type 0 where
   pub between_crossing : (c : Colour) → strictly_between (square 4 (home_rank c)) (square wing.crossing (home_rank c)) (square wing.rook (home_rank c)) ≡ true
 
 pub short_is_wing : IsWing short_wing
-short_is_wing = grind (arith, nat_tests)
+short_is_wing = grind arith
 
 pub long_is_wing : IsWing long_wing
-long_is_wing = grind (arith, nat_tests)
+long_is_wing = grind arith
 
 pub record Castles (p : Parts) (m : Move) (wing : Wing) : Type 0 where
   pub plain : is_none m.promotion ≡ true
@@ -302,7 +302,7 @@ castling_stays p m wing sound is_wing on_from on_to h =
     on_crossing = record { file = is_wing.crossing_below; rank = home_below p.side }
 
     apart_from : (file : ℕ) → file ≢ wing.end → home p file ≢ m.to
-    apart_from file differ e = grind (arith, nat_tests)
+    apart_from file differ e = grind arith
 
     cornered : Stays p m (put (carried p m) (home p wing.rook) None)
     cornered =

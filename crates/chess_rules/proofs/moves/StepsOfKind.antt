@@ -24,13 +24,13 @@ abbrev some_way : Bool → Bool → Bool → Bool → Bool → Board → Board �
 some_way v w x y z i j k l = is_some (if v || w then Some i else if x then Some j else if y then Some k else if z then Some l else None)
 
 piece_alone : (v w x y z : Bool) (i j k l : Board) → w ≡ false → x ≡ false → y ≡ false → z ≡ false → v ≡ some_way v w x y z i j k l
-piece_alone v w x y z i j k l b c d e = grind (arith, nat_tests)
+piece_alone v w x y z i j k l b c d e = grind arith
 
 pawn_alone : (v w x y z : Bool) (i j k l : Board) → v ≡ false → y ≡ false → z ≡ false → (w || x) ≡ some_way v w x y z i j k l
-pawn_alone v w x y z i j k l a d e = grind (arith, nat_tests)
+pawn_alone v w x y z i j k l a d e = grind arith
 
 king_alone : (v w x y z : Bool) (i j k l : Board) → w ≡ false → x ≡ false → (v || (y || z)) ≡ some_way v w x y z i j k l
-king_alone v w x y z i j k l b c = grind (arith, nat_tests)
+king_alone v w x y z i j k l b c = grind arith
 
 -- what is found on a square: a piece of the side to move, or one of the other side
 module _ (p : Parts) (s : Square) (b : Board) (o : Option Piece) (x : Piece) (c : Colour) (alike : Bool)
@@ -42,10 +42,10 @@ module _ (p : Parts) (s : Square) (b : Board) (o : Option Piece) (x : Piece) (c 
   same = ap (λ d. same_colour d x.colour) (sym side) ∙ sym compared
 
   pub own_found : alike ≡ true → own p x.kind s ≡ true
-  own_found h = grind (arith, nat_tests)
+  own_found h = grind arith
 
   pub other_found : alike ≡ false → has_colour p.side (at p.board s) ≡ false
-  other_found h = grind (arith, nat_tests)
+  other_found h = grind arith
 
 module _ (p : Parts) (m : Move) where
   -- a way that only such a piece has
@@ -80,7 +80,7 @@ module _ (p : Parts) (m : Move) where
       (no_way k King (castles_long p m) stands no_king king_of_long)
 
   mover_of_piece : is_piece_step p m ≡ true → has_colour p.side (at p.board m.from) ≡ true
-  mover_of_piece h = grind (arith, nat_tests)
+  mover_of_piece h = grind arith
 
   -- nothing of the side to move is there
   pub none_steps : has_colour p.side (at p.board m.from) ≡ false → false ≡ is_some (board_after p m)
@@ -95,23 +95,23 @@ module _ (p : Parts) (m : Move) where
 -- A piece's step.
 
 pub attacks_by : (c : Colour) (k : Kind) (cell : Option Piece) (b : Board) (s t : Square) → has_piece c k cell ≡ true → cell_attacks cell b s t ≡ kind_attacks k c b s t
-attacks_by c k cell b s t h = grind (arith, nat_tests, colours_same, first_true, kinds_same, second_true)
+attacks_by c k cell b s t h = grind (arith, colours_same, first_true, kinds_same, second_true)
 
 left_open : (a b c d e : Bool) → a ≡ true → b ≡ false → c ≡ true → e ≡ false → d ≡ (((a && not b) && c) && (d && not e))
-left_open a b c d e f g h i = grind (arith, nat_tests)
+left_open a b c d e f g h i = grind arith
 
 pub no_own_piece_taken : (p : Parts) (m : Move) → has_colour p.side (at p.board m.to) ≡ true → false ≡ is_piece_step p m
-no_own_piece_taken p m h = grind (arith, nat_tests)
+no_own_piece_taken p m h = grind arith
 
 pub attack_is_step : (p : Parts) (m : Move) (k : Kind) → own p k m.from ≡ true → (k ≡ Pawn → ⊥) → is_none m.promotion ≡ true → has_colour p.side (at p.board m.to) ≡ false
     → kind_attacks k p.side p.board m.from m.to ≡ is_piece_step p m
-attack_is_step p m k stands no_pawn plain free = grind (arith, nat_tests, attacks_by, left_open, colour_of_piece, no_way)
+attack_is_step p m k stands no_pawn plain free = grind (arith, attacks_by, left_open, colour_of_piece, no_way)
 
 -- A target with a piece of the side to move.
 
 module _ (p : Parts) (m : Move) (mine : has_colour p.side (at p.board m.to) ≡ true) where
   not_empty_there : is_empty p.board m.to ≡ true → ⊥
-  not_empty_there h = grind (arith, nat_tests)
+  not_empty_there h = grind arith
 
   no_way_there : is_pawn_way p m ≡ true → ⊥
   no_way_there h = grind (arith, nat_tests, not_empty_there, not_both)
@@ -120,7 +120,7 @@ module _ (p : Parts) (m : Move) (mine : has_colour p.side (at p.board m.to) ≡ 
   no_pawn_there h = no_way_there (first_true (is_pawn_way p m) (promotion_fits p m) (second_true (own p Pawn m.from) _ h))
 
   no_passing_there : is_en_passant p m ≡ true → ⊥
-  no_passing_there h = grind (arith, nat_tests, not_empty_there, second_true, first_true)
+  no_passing_there h = grind (arith, not_empty_there, second_true, first_true)
 
   pub none_steps_there : false ≡ is_some (board_after p m)
   none_steps_there =
@@ -134,19 +134,19 @@ module _ (p : Parts) (m : Move) (mine : has_colour p.side (at p.board m.to) ≡ 
 -- A pawn's step.
 
 no_fit : (stands way fits empty hits : Bool) → fits ≡ false → false ≡ ((stands && (way && fits)) || (((stands && fits) && empty) && hits))
-no_fit stands way fits empty hits h = grind (arith, nat_tests)
+no_fit stands way fits empty hits h = grind arith
 
 ahead : (stands fits adv dbl att col empty there : Bool) → stands ≡ true → fits ≡ true → att ≡ false
     → (adv || dbl) ≡ ((stands && ((adv || (dbl || (att && col))) && fits)) || (((stands && fits) && empty) && (att && there)))
-ahead stands fits adv dbl att col empty there e f g = grind (arith, nat_tests)
+ahead stands fits adv dbl att col empty there e f g = grind arith
 
 aside : (stands fits adv dbl cap passing : Bool) → stands ≡ true → fits ≡ true → adv ≡ false → dbl ≡ false
     → (cap || passing) ≡ ((stands && ((adv || (dbl || cap)) && fits)) || passing)
-aside stands fits adv dbl cap passing e f g h = grind (arith, nat_tests)
+aside stands fits adv dbl cap passing e f g h = grind arith
 
 module _ (p : Parts) (m : Move) (pawn : own p Pawn m.from ≡ true) where
   pub pawn_promotes_wrongly : promotion_fits p m ≡ false → false ≡ (is_pawn_step p m || is_en_passant p m)
-  pawn_promotes_wrongly h = grind (arith, nat_tests, no_fit)
+  pawn_promotes_wrongly h = grind (arith, no_fit)
 
   pub pawn_ahead : promotion_fits p m ≡ true → m.from.file ≡ m.to.file → (is_advance p m || is_double_step p m) ≡ (is_pawn_step p m || is_en_passant p m)
   pawn_ahead fits same = grind (arith, nat_tests, same, ahead, false_from_ne_true, equal_from, first_true, pawn_attack)

@@ -2,7 +2,6 @@
 use Rattle.std.proofs.Common.{◌≡◌, ℕ, zero, suc, ◌+◌, ◌<◌, ◌≤◌, Bool, true, false, not, ◌&&◌, refl, sym, ◌∙◌, ap, subst, arith, List, [], ◌∷◌, length, get_or, cond}
 use Rattle.std.specs.Prelude.{None, Some, unwrap_or, position, count_by}
 use Rattle.std.specs.List.{position_or_len}
-use Rattle.std.proofs.lemmas.Bool.Decides.{nat_tests}
 use Rattle.std.proofs.lemmas.List.Quantifiers.{position-Some}
 use Rattle.std.proofs.lemmas.List.Recursion.{is_count_by}
 use Rattle.std.proofs.lemmas.Bool.{and_from}
@@ -29,13 +28,13 @@ at_least_one p (x ∷ xs) zero d low h = rw h (omega arith)
 at_least_one p (x ∷ xs) (suc i) d low h = by_first (p x) (at_least_one p xs i d (omega arith) h)
   where
     by_first : (v : Bool) → 1 ≤ tally p xs → 1 ≤ cond v (1 + tally p xs) (tally p xs)
-    by_first v more = grind (arith, nat_tests)
+    by_first v more = grind arith
 
 two : (n : ℕ) (v : Bool) → v ≡ true → 1 ≤ n → cond v (1 + n) n ≤ 1 → ⊥
-two n v e more few = grind (arith, nat_tests)
+two n v e more few = grind arith
 
 fewer : (n : ℕ) (v : Bool) → cond v (1 + n) n ≤ 1 → n ≤ 1
-fewer n v few = grind (arith, nat_tests)
+fewer n v few = grind arith
 
 tally_place : {X : Type 0} (p : X → Bool) (xs : List X) (i j : ℕ) (d : X) → tally p xs ≤ 1 → i < length xs → j < length xs → p (get_or xs i d) ≡ true → p (get_or xs j d) ≡ true → i ≡ j
 tally_place p [] i j d one low high h g = absurd (omega arith)
@@ -54,14 +53,14 @@ tally_some p [] h = absurd (omega arith)
 tally_some p (x ∷ xs) h = by_first (p x) h (tally_some p xs)
   where
     by_first : (v : Bool) → 1 ≤ cond v (1 + tally p xs) (tally p xs) → (1 ≤ tally p xs → position_or_len p xs < length xs) → cond (not v) (1 + position_or_len p xs) 0 < length (x ∷ xs)
-    by_first v g more = grind (arith, nat_tests)
+    by_first v g more = grind arith
 
 some_place : {X : Type 0} (p : X → Bool) (xs : List X) → 1 ≤ count_by p xs → position_or_len p xs < length xs
 some_place p xs h = tally_some p xs (omega (arith, tally-count_by p xs))
 
 -- the first place, where there is one
 pub place_found : {X : Type 0} (p : X → Bool) (xs : List X) → 1 ≤ count_by p xs → position p xs ≡ Some (position_or_len p xs)
-place_found p xs h = grind (arith, nat_tests, length, some_place)
+place_found p xs h = grind (arith, length, some_place)
 
 -- The king's square.
 
@@ -69,7 +68,7 @@ pub cell_of-square_at : (i : ℕ) → cell_of (square_at i) ≡ i
 cell_of-square_at i = omega arith
 
 pub square_at-cell_of : (s : Square) → s.file < 8 → square_at (cell_of s) ≡ s
-square_at-cell_of s file = grind (arith, nat_tests)
+square_at-cell_of s file = grind arith
 
 pub record StandsAt (c : Colour) (b : Board) (k : Square) : Type 0 where
   pub file : k.file < 8

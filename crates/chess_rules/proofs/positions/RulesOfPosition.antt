@@ -1,7 +1,6 @@
 -- The rules of a position, one by one.
 use Rattle.std.proofs.Common.{◌≡◌, ℕ, ◌≤◌, Bool, true, false, not, ◌&&◌, ◌||◌, arith, length}
 use Rattle.std.specs.Prelude.{◌==◌, nat_le, Option, None, Some, is_none, if◌then◌else◌}
-use Rattle.std.proofs.lemmas.Bool.Decides.{nat_tests}
 use Rattle.std.proofs.lemmas.Bool.{and_from, false_from_ne_true}
 use Rattle.chess_rules.specs.declared.piece.Colour.{Colour}
 use Rattle.chess_rules.specs.declared.piece.Colour.TheVariants.{White, Black}
@@ -41,16 +40,16 @@ fault_of kings edge attacked target numbers =
     else None
 
 no_fault : (a b c d e : Bool) → is_none (fault_of a b c d e) ≡ true → NoFault a b c d e
-no_fault a b c d e h = grind (arith, nat_tests)
+no_fault a b c d e h = grind arith
 
 none_from_facts : (a b c d e : Bool) → NoFault a b c d e → is_none (fault_of a b c d e) ≡ true
-none_from_facts a b c d e h = grind (arith, nat_tests)
+none_from_facts a b c d e h = grind arith
 
 at_most : (m n : ℕ) → nat_le m n ≡ true → m ≤ n
-at_most m n h = grind (arith, nat_tests)
+at_most m n h = grind arith
 
 at_most_holds : (m n : ℕ) → m ≤ n → nat_le m n ≡ true
-at_most_holds m n h = grind (arith, nat_tests)
+at_most_holds m n h = grind arith
 
 pub sound_from_position : (p : Parts) → is_position p ≡ true → Sound p
 sound_from_position p h =
@@ -67,7 +66,7 @@ sound_from_position p h =
     }
   where
     one_of : (one_king p.board White && one_king p.board Black) ≡ true → (c : Colour) → kings c p.board ≡ 1
-    one_of g c = grind (arith, nat_tests)
+    one_of g c = grind arith
 
 pub position_from_sound : (p : Parts) → Sound p → is_position p ≡ true
 position_from_sound p s =
@@ -95,4 +94,4 @@ no_pawn_on_edge b h =
     false_from_ne_true (pawn_on_edge b) (λ g. by_pawn (some_square (λ s. ((s.rank == 0) || (s.rank == 7)) && is_pawn (at b s)) g))
   where
     by_pawn : Passes (λ s. ((s.rank == 0) || (s.rank == 7)) && is_pawn (at b s)) → ⊥
-    by_pawn w = grind (arith, nat_tests)
+    by_pawn w = grind arith

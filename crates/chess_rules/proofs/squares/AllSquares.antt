@@ -1,7 +1,6 @@
 -- What a test of all 64 squares says of each square.
 use Rattle.std.proofs.Common.{◌≡◌, ℕ, zero, suc, ◌+◌, ◌<◌, ◌≤◌, Bool, true, false, not, ◌&&◌, ◌||◌, ◌⊎◌, inl, inr, List, [], ◌∷◌, map, refl, sym, ◌∙◌, ap, subst, arith}
 use Rattle.std.specs.Prelude.{◌==◌}
-use Rattle.std.proofs.lemmas.Bool.Decides.{nat_tests}
 use Rattle.std.specs.List.{list_all, range_with_len, list_any, flat_map}
 use Rattle.std.proofs.lemmas.List.Folds.{list_all-append, list_any-append}
 use Rattle.std.proofs.lemmas.Bool.{or_cases, or_left, or_right, and_from}
@@ -9,32 +8,32 @@ use Rattle.chess_rules.specs.Square.{Square, square, squares, lines}
 
 -- a test in two parts, as it is run
 pub true_or : (x y r : Bool) → r ≡ x → r ≡ true → (x || y) ≡ r
-true_or x y r e h = grind (arith, nat_tests)
+true_or x y r e h = grind arith
 
 pub false_or : (x y r q : Bool) → r ≡ x → r ≡ false → q ≡ y → (x || y) ≡ q
-false_or x y r q e h g = grind (arith, nat_tests)
+false_or x y r q e h g = grind arith
 
 pub not_true : (x y : Bool) → x ≡ true → (not x || y) ≡ true → y ≡ true
-not_true x y h g = grind (arith, nat_tests)
+not_true x y h g = grind arith
 
 pub implied : (x y : Bool) → (x ≡ true → y ≡ true) → (not x || y) ≡ true
-implied x y h = grind (arith, nat_tests)
+implied x y h = grind arith
 
 pub equal_from : (a b : ℕ) → (a == b) ≡ true → a ≡ b
-equal_from a b h = grind (arith, nat_tests)
+equal_from a b h = grind arith
 
 pub equal_tests : (a b : ℕ) → a ≡ b → (a == b) ≡ true
-equal_tests a b h = grind (arith, nat_tests)
+equal_tests a b h = grind arith
 
 -- two tests that imply one another
 pub same_tests : (x y : Bool) → (x ≡ true → y ≡ true) → (y ≡ true → x ≡ true) → x ≡ y
-same_tests x y h g = grind (arith, nat_tests)
+same_tests x y h g = grind arith
 
 pub first_true : (x y : Bool) → (x && y) ≡ true → x ≡ true
-first_true x y h = grind (arith, nat_tests)
+first_true x y h = grind arith
 
 pub second_true : (x y : Bool) → (x && y) ≡ true → y ≡ true
-second_true x y h = grind (arith, nat_tests)
+second_true x y h = grind arith
 
 equal_or_above : (a k : ℕ) → a ≤ k → (k ≡ a) ⊎ (a + 1 ≤ k)
 equal_or_above a k h = grind arith
@@ -63,7 +62,7 @@ unfolding squares
 by_ranks test = list_all-flat_map test (λ rank. map (λ file. square file rank) lines) lines
 
 by_files : (test : Square → Bool) (rank : ℕ) → list_all test (map (λ file. square file rank) lines) ≡ list_all (λ file. test (square file rank)) lines
-by_files test rank = grind (arith, nat_tests)
+by_files test rank = grind arith
 
 -- what passes on all squares passes on each square of the board
 pub each_square : (test : Square → Bool) (u : Square) → list_all test squares ≡ true → u.file < 8 → u.rank < 8 → test u ≡ true
@@ -99,7 +98,7 @@ range_of_any test a (suc n) k low high h =
     ]
 
 pub any_same : {X : Type 0} (f g : X → Bool) (xs : List X) → ((x : X) → f x ≡ g x) → list_any f xs ≡ list_any g xs
-any_same f g xs h = grind (arith, nat_tests)
+any_same f g xs h = grind arith
 
 list_any-flat_map : {X Y : Type 0} (test : Y → Bool) (f : X → List Y) (xs : List X) → list_any test (flat_map f xs) ≡ list_any (λ x. list_any test (f x)) xs
 list_any-flat_map test f [] = refl
@@ -111,7 +110,7 @@ unfolding squares
 any_by_ranks test = list_any-flat_map test (λ rank. map (λ file. square file rank) lines) lines
 
 any_by_files : (test : Square → Bool) (rank : ℕ) → list_any test (map (λ file. square file rank) lines) ≡ list_any (λ file. test (square file rank)) lines
-any_by_files test rank = grind (arith, nat_tests)
+any_by_files test rank = grind arith
 
 -- some square of the board passes
 pub record Passes (test : Square → Bool) : Type 0 where

@@ -8,7 +8,6 @@ use Rattle.std.proofs.lemmas.Nat.Bits.{bit_at_above, bit_at-trailing_zeros}
 use Rattle.chess_rules.specs.Words.{has, IsHighest, IsLowest, IsOnlyHighest, IsOnlyLowest}
 use Rattle.chess_rules.proofs.squares.AllSquares.{equal_from, equal_tests}
 use Rattle.chess_rules.proofs.squares.WordsToCells.{has_single, has_zero}
-use Rattle.std.proofs.lemmas.Bool.Decides.{nat_tests}
 
 pub lowest_place : (n : ℕ) → 0 < n → n < 2 ^ 64 → IsLowest n (trailing_zeros w64 n)
 unfolding has
@@ -18,7 +17,7 @@ lowest_place n some fits =
 
 -- the digit that makes a number as long as it is
 top_digit : (n j : ℕ) → 2 ^ j ≤ n → n < 2 * 2 ^ j → bit_at n j ≡ 1
-top_digit n j low high = grind (arith, nat_tests)
+top_digit n j low high = grind arith
 
 pub highest_place : (n : ℕ) → 0 < n → n < 2 ^ 64 → IsHighest n (63 - leading_zeros w64 n)
 unfolding has
@@ -51,7 +50,7 @@ at_single r n i is = ap (λ m. has m i) is ∙ has_single n i
 
 -- two places of which none is before the other
 one_of_order : (i n : ℕ) → (i < n → ⊥) → (n < i → ⊥) → i ≡ n
-one_of_order i n h g = grind (arith, nat_tests)
+one_of_order i n h g = grind arith
 
 pub lowest_alone : (w n r : ℕ) → IsLowest w n → r ≡ 2 ^ n → IsOnlyLowest w r
 lowest_alone w n r lowest is =

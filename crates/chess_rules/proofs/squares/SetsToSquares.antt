@@ -5,7 +5,6 @@ use Rattle.std.specs.List.{list_any, range_with_len}
 use Rattle.std.specs.Int.Bits.{bit_and, bit_or}
 use Rattle.std.specs.Int.{bit_not, trailing_zeros}
 use Rattle.std.proofs.lemmas.Bool.{false≢true, and_from}
-use Rattle.std.proofs.lemmas.Bool.Decides.{nat_tests}
 use Rattle.chess_rules.specs.declared.piece.Piece.{Piece}
 use Rattle.chess_rules.specs.Square.{Square, same_square, squares}
 use Rattle.chess_rules.specs.Board.{Board, at, cell_of}
@@ -31,7 +30,7 @@ pub marked : (w : ℕ) (test : Option Piece → Bool) (b : Board) → Marks w te
 marked w test b h = record { of = λ i low. h.of i low ∙ ap (λ k. test (get_or b k None)) (sym (cell_of-square_at i)) }
 
 pub at_square : (w : ℕ) (test : Square → Bool) (s : Square) → Places w test → s.file < 8 → s.rank < 8 → has w (cell_of s) ≡ test s
-at_square w test s h file rank = grind (arith, nat_tests)
+at_square w test s h file rank = grind arith
 
 -- A set is empty exactly if no square passes.
 
@@ -54,7 +53,7 @@ one_passes w test h some fits =
     at_place i low here = any_square test (square_at i) (omega arith) (omega arith) (sym (h.of i low) ∙ here)
 
 pub set_test : (w : ℕ) (test : Square → Bool) → Places w test → w < 2 ^ 64 → not (w == 0) ≡ list_any test squares
-set_test w test places fits = grind (arith, nat_tests, none_passes, one_passes)
+set_test w test places fits = grind (arith, none_passes, one_passes)
 
 -- The members in turn.
 
@@ -98,7 +97,7 @@ first_taken p q a (suc k) n low high here none rest =
     less i j g apart = grind (arith, apart)
 
     later : (i : ℕ) → a + 1 ≤ i → a ≡ n → (i == n) ≡ false
-    later i above same = grind (arith, nat_tests)
+    later i above same = grind arith
 
 pub next_member : (w rest n : ℕ) → IsLowest w n → Sets w rest n false → members w ≡ square_at n ∷ members rest
 unfolding members
@@ -144,7 +143,7 @@ none_kept p a (suc n) h = by_test (p (square_at a)) refl (none_kept p (a + 1) n 
   where
     by_test : (x : Bool) → p (square_at a) ≡ x → length (filter p (map square_at (range_with_len (a + 1) n))) ≡ 0
         → length (cond x (square_at a ∷ filter p (map square_at (range_with_len (a + 1) n))) (filter p (map square_at (range_with_len (a + 1) n)))) ≡ 0
-    by_test x e none = grind (arith, nat_tests)
+    by_test x e none = grind arith
 
 one_of_range : (p : Square → Bool) (a n : ℕ) → ((i j : ℕ) → a ≤ i → i < j → j < a + n → p (square_at i) ≡ true → p (square_at j) ≡ true → ⊥)
     → length (filter p (map square_at (range_with_len a n))) ≤ 1

@@ -26,12 +26,12 @@ at_number f (suc n) k (suc i) d less =
     at_number f n (k + 1) i d (omega arith) ∙ ap f same
 
 pub table_at : (f : ℕ → ℕ) (table : List ℕ) (n i : ℕ) → table ≡ map f (numbers n 0) → i < n → get_or table i 0 ≡ f i
-table_at f table n i are less = grind (arith, nat_tests, get_or, at_number)
+table_at f table n i are less = grind (arith, get_or, at_number)
 
 -- A set of squares in a table.
 
 is_one : (b : Bool) → (digit b == 1) ≡ b
-is_one b = grind (arith, nat_tests)
+is_one b = grind arith
 
 mask_has : (test : Square → Bool) (i : ℕ) → i < 64 → has (mask test) i ≡ test (square_at i)
 unfolding has mask
@@ -45,10 +45,10 @@ places test n is = record { of = λ i low. ap (λ m. has m i) is ∙ mask_has te
 
 -- two squares again from the number of their pair
 first_of_pair : (s t : Square) → s.file < 8 → t.file < 8 → t.rank < 8 → square_at ((64 * cell_of s + cell_of t) / 64) ≡ s
-first_of_pair s t sf tf tr = grind (arith, nat_tests)
+first_of_pair s t sf tf tr = grind arith
 
 second_of_pair : (s t : Square) → t.file < 8 → t.rank < 8 → square_at ((64 * cell_of s + cell_of t) % 64) ≡ t
-second_of_pair s t tf tr = grind (arith, nat_tests)
+second_of_pair s t tf tr = grind arith
 
 -- two squares with one between them are on a line
 

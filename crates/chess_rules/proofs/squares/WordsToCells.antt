@@ -3,7 +3,6 @@ use Rattle.std.proofs.Common.{◌≡◌, ℕ, zero, suc, ◌-◌, ◌*◌, ◌%�
 use Rattle.std.specs.Prelude.{Option, None, ◌==◌, is_some, nat_lt, if◌then◌else◌}
 use Rattle.std.specs.Int.{bit_at, bit_not}
 use Rattle.std.specs.Int.Bits.{bit_and, bit_or}
-use Rattle.std.proofs.lemmas.Bool.Decides.{nat_tests}
 use Rattle.std.proofs.lemmas.Grind.{get_or-set_at}
 use Rattle.std.proofs.lemmas.List.{ext_get_or, get_or-set_other}
 use Rattle.std.proofs.lemmas.Nat.{and_le_r, or_lt}
@@ -20,13 +19,13 @@ use Rattle.chess_rules.specs.Board.{has_colour, has_piece}
 -- One bit.
 
 both_bits : (x y : ℕ) → x < 2 → y < 2 → (min x y == 1) ≡ ((x == 1) && (y == 1))
-both_bits x y a b = grind (arith, nat_tests)
+both_bits x y a b = grind arith
 
 either_bit : (x y : ℕ) → x < 2 → y < 2 → (max x y == 1) ≡ ((x == 1) || (y == 1))
-either_bit x y a b = grind (arith, nat_tests)
+either_bit x y a b = grind arith
 
 other_bit : (x : ℕ) → x < 2 → (1 - x == 1) ≡ not (x == 1)
-other_bit x a = grind (arith, nat_tests)
+other_bit x a = grind arith
 
 pub has_and : (a b i : ℕ) → has (bit_and a b) i ≡ (has a i && has b i)
 unfolding has
@@ -42,25 +41,25 @@ has_not a i fits low = ap (λ n. n == 1) (bit_at_not w64 a i fits low) ∙ other
 
 pub has_zero : (i : ℕ) → has 0 i ≡ false
 unfolding has
-has_zero i = grind (arith, nat_tests)
+has_zero i = grind arith
 
 pub same_or_apart : (i k : ℕ) → ((i ≡ k) × ((i == k) ≡ true)) ⊎ ((i ≢ k) × ((i == k) ≡ false))
-same_or_apart i k = grind (arith, nat_tests)
+same_or_apart i k = grind arith
 
 pub has_single : (k i : ℕ) → has (2 ^ k) i ≡ (i == k)
 unfolding has
-has_single k i = grind (arith, nat_tests, same_or_apart, bit_at-pow_same, bit_at-pow_other)
+has_single k i = grind (arith, same_or_apart, bit_at-pow_same, bit_at-pow_other)
 
 -- the places before one
 pub has_below : (k i : ℕ) → has (2 ^ k - 1) i ≡ nat_lt i k
 unfolding has
-has_below k i = grind (arith, nat_tests, bit_at_ones, bit_at_ones_above)
+has_below k i = grind (arith, bit_at_ones, bit_at_ones_above)
 
 pub set_bit : (x e : Bool) → (x || e) ≡ (if e then true else x)
-set_bit x e = grind (arith, nat_tests)
+set_bit x e = grind arith
 
 pub cleared_bit : (x e : Bool) → (x && not e) ≡ (if e then false else x)
-cleared_bit x e = grind (arith, nat_tests)
+cleared_bit x e = grind arith
 
 -- What the code does to one word.
 
@@ -79,7 +78,7 @@ sets_place old bit k value fits small is e =
     }
 
 pub clears_place : (old bit k : ℕ) (value : Bool) → bit < 2 ^ 64 → bit ≡ 2 ^ k → value ≡ false → Sets old (bit_and old (bit_not w64 bit)) k value
-clears_place old bit k value small is e = grind (arith, nat_tests, and_fits, w64, has_and, has_not, has_single, cleared_bit)
+clears_place old bit k value small is e = grind (arith, and_fits, w64, has_and, has_not, has_single, cleared_bit)
 
 -- a bit that is moved to a place
 moved_bit : (v k i : ℕ) → v < 2 → 2 ^ k < 2 ^ 64 → has (v * 2 ^ k % 2 ^ 64) i ≡ ((v == 1) && (i == k))
@@ -92,7 +91,7 @@ moved_bit (suc zero) k i low fits =
 moved_bit (suc (suc v)) k i low fits = absurd (omega arith)
 
 carried_bit : (x a b v : Bool) → ((x && not (a || b)) || (v && b)) ≡ (if b then v else (if a then false else x))
-carried_bit x a b v = grind (arith, nat_tests)
+carried_bit x a b v = grind arith
 
 pub carries : (old s t v from to : ℕ) → s < 2 ^ 64 → t < 2 ^ 64 → s ≡ 2 ^ from → t ≡ 2 ^ to → v ≡ bit_at old from
     → Carries old (bit_or (bit_and old (bit_not w64 (bit_or s t))) (v * 2 ^ to % 2 ^ 64)) from to
@@ -120,16 +119,16 @@ chosen_else word value fits e = record { of = λ i low. has_not word i fits low 
 -- What the bits say of a cell.
 
 pub is_occupied : (a b c d : Bool) → ((a || b) || c) ≡ is_some (coded a b c d)
-is_occupied a b c d = grind (arith, nat_tests)
+is_occupied a b c d = grind arith
 
 pub kind_there : (k : Kind) (a b c d : Bool) → is_code a b c d ≡ true → kind_in k a b c ≡ has_kind k (coded a b c d)
-kind_there k a b c d h = grind (arith, nat_tests)
+kind_there k a b c d h = grind arith
 
 pub colour_there : (k : Colour) (a b c d : Bool) → (((a || b) || c) && is_it (is_black k) d) ≡ has_colour k (coded a b c d)
-colour_there k a b c d = grind (arith, nat_tests)
+colour_there k a b c d = grind arith
 
 pub piece_there : (c : Colour) (k : Kind) (x y z d : Bool) → (has_kind k (coded x y z d) && is_it (is_black c) d) ≡ has_piece c k (coded x y z d)
-piece_there c k x y z d = grind (arith, nat_tests)
+piece_there c k x y z d = grind arith
 
 -- What the words of a board say of its squares.
 
@@ -154,7 +153,7 @@ module _ (old new : Inside) (k : ℕ) (x : Option Piece) (one two four black : B
     (straight : Sets old.straight new.straight k one) (diagonal : Sets old.diagonal new.diagonal k two) (near : Sets old.near new.near k four) (blacks : Sets old.black new.black k black)
     (a : one ≡ straight_of x) (b : two ≡ diagonal_of x) (c : four ≡ near_of x) (d : black ≡ black_of x) where
   bits_put : (i : ℕ) → i < 64 → (v : Bool) → (i == k) ≡ v → cell_in new i ≡ (if v then x else cell_in old i)
-  bits_put i low v e = grind (arith, nat_tests)
+  bits_put i low v e = grind arith
 
   pub cells_put : (before : List (Option Piece)) → cells old ≡ before → cells new ≡ set before k x
   cells_put before is =
@@ -162,13 +161,13 @@ module _ (old new : Inside) (k : ℕ) (x : Option Piece) (one two four black : B
       (λ i low. by_place i low (same_or_apart i k))
     where
       by_place : (i : ℕ) → i < 64 → ((i ≡ k) × ((i == k) ≡ true)) ⊎ ((i ≢ k) × ((i == k) ≡ false)) → cell_in new i ≡ get_or (set before k x) i None
-      by_place i low h = grind (arith, nat_tests, bits_put, get_or-set_at, long_there, cell_there, get_or-set_other)
+      by_place i low h = grind (arith, bits_put, get_or-set_at, long_there, cell_there, get_or-set_other)
 
 -- what one square holds is carried to another, in each word
 module _ (old new : Inside) (j k : ℕ)
     (straight : Carries old.straight new.straight j k) (diagonal : Carries old.diagonal new.diagonal j k) (near : Carries old.near new.near j k) (blacks : Carries old.black new.black j k) where
   bits_carried : (i : ℕ) → i < 64 → cell_in new i ≡ (if i == k then cell_in old j else (if i == j then None else cell_in old i))
-  bits_carried i low = grind (arith, nat_tests)
+  bits_carried i low = grind arith
 
   pub cells_carried : (before : List (Option Piece)) → j < 64 → cells old ≡ before → cells new ≡ set (set before j None) k (get_or before j None)
   cells_carried before inside is =
@@ -181,4 +180,4 @@ module _ (old new : Inside) (j k : ℕ)
 
       by_places : (i : ℕ) → i < 64 → ((i ≡ k) × ((i == k) ≡ true)) ⊎ ((i ≢ k) × ((i == k) ≡ false)) → ((i ≡ j) × ((i == j) ≡ true)) ⊎ ((i ≢ j) × ((i == j) ≡ false))
           → (if i == k then cell_in old j else (if i == j then None else cell_in old i)) ≡ get_or (set (set before j None) k (get_or before j None)) i None
-      by_places i low h v = grind (arith, nat_tests, cell_there, get_or-set_at, set, get_or, length-set, long, get_or-set_other)
+      by_places i low h v = grind (arith, cell_there, get_or-set_at, set, get_or, length-set, long, get_or-set_other)

@@ -24,10 +24,10 @@ use Rattle.chess_rules.proofs.trying.FoundLists.{keep, filter_as_map, distinct_f
 -- One square.
 
 pub square_laws : IsEquivalence same_square
-square_laws = grind (arith, nat_tests)
+square_laws = grind arith
 
 pub square_decides : (s t : Square) → Decides (same_square s t) (s ≡ t)
-square_decides s t = grind (arith, nat_tests)
+square_decides s t = grind arith
 
 -- No square is listed twice.
 
@@ -46,7 +46,7 @@ candidates_apart p k t =
     (λ s u _ h. kept (is_candidate p k t s) s u h) (λ s u h. ap cell_of (squares_same s u h)) squares all_known squares_apart)
   where
     kept : (x : Bool) (s u : Square) → (if x then Some s else None) ≡ Some u → cell_of u ≡ cell_of s
-    kept x s u h = grind (arith, nat_tests)
+    kept x s u h = grind arith
 
 -- no two of them are one, wherever the list is kept
 pub apart_there : (xs ys : List Square) → ys ≡ xs → IsDistinct same_square xs → AllPairs (λ s t. s ≢ t) ys
@@ -63,13 +63,13 @@ is_rider Knight = false
 is_rider Pawn = true
 
 pub sees_by_way : (p : Parts) (k : Kind) (s t : Square) → is_rider k ≡ true → sees k p s t ≡ (is_aligned s t && is_clear p.board s t)
-sees_by_way p k s t h = grind (arith, nat_tests)
+sees_by_way p k s t h = grind arith
 
 pub kind_cases : (k : Kind) → (is_rider k ≡ true) ⊎ (k ≡ Knight)
-kind_cases k = grind (arith, nat_tests)
+kind_cases k = grind arith
 
 pub sees_unless : (k : Kind) → (k ≡ Knight → ⊥) → is_rider k ≡ true
-sees_unless k h = grind (arith, nat_tests)
+sees_unless k h = grind arith
 
 -- They are few.
 
@@ -84,7 +84,7 @@ pub few_jumps : (t : Square) → t.file < 8 → t.rank < 8 → length (filter (�
 few_jumps t file rank = at_most (length (filter (λ s. is_jump s t) squares)) (each_square (λ t. nat_le (length (filter (λ s. is_jump s t) squares)) 8) t jumps_are_few file rank)
   where
     at_most : (n : ℕ) → nat_le n 8 ≡ true → n ≤ 8
-    at_most n h = grind (arith, nat_tests)
+    at_most n h = grind arith
 
 pub few_candidates : FewCandidates
 few_candidates p k t inside =
@@ -95,10 +95,10 @@ few_candidates p k t inside =
     ]
   where
     below : (n : ℕ) → nat_lt n 8 ≡ true → n < 8
-    below n h = grind (arith, nat_tests)
+    below n h = grind arith
 
     file : t.file < 8
-    file = grind (arith, nat_tests)
+    file = grind arith
 
     rank : t.rank < 8
-    rank = grind (arith, nat_tests)
+    rank = grind arith

@@ -2,7 +2,6 @@
 use Rattle.std.proofs.Common.{◌≡◌, ℕ, ◌+◌, ◌≤◌, Bool, true, false, cond, eqb, ◌&&◌, ◌||◌, List, [], ◌∷◌, map, length, Option, None, Some, refl, ◌∙◌, ap, arith}
 use Rattle.std.specs.List.{list_any, list_all, filter, filter_map, cons_option, AllByRecursion, IsDistinct}
 use Rattle.chess_rules.proofs.squares.AllSquares.{first_true, second_true}
-use Rattle.std.proofs.lemmas.Bool.Decides.{nat_tests}
 
 -- What is found passes a test.
 
@@ -11,7 +10,7 @@ passes test None = false
 passes test (Some y) = test y
 
 any-cond : {Y : Type 0} (test : Y → Bool) (b : Bool) (y : Y) (ys : List Y) → list_any test (cond b (y ∷ ys) ys) ≡ ((b && test y) || list_any test ys)
-any-cond test b y ys = grind (arith, nat_tests)
+any-cond test b y ys = grind arith
 
 pub list_any-filter : {Y : Type 0} (test p : Y → Bool) (ys : List Y) → list_any test (filter p ys) ≡ list_any (λ y. p y && test y) ys
 list_any-filter test p [] = refl
@@ -22,7 +21,7 @@ abbrev pub keep : {X : Type 0} → (X → Bool) → X → Option X
 keep p x = cond (p x) (Some x) None
 
 keep_one : {X : Type 0} (b : Bool) (x : X) (xs : List X) → cond b (x ∷ xs) xs ≡ cons_option (cond b (Some x) None) xs
-keep_one b x xs = grind (arith, nat_tests)
+keep_one b x xs = grind arith
 
 pub filter_as_map : {X : Type 0} (p : X → Bool) (xs : List X) → filter p xs ≡ filter_map (keep p) xs
 filter_as_map p [] = refl
@@ -36,7 +35,7 @@ module _ {X Y : Type 0} (e : Y → Y → Bool) (h : X → Option Y) (known : X �
   differ y n is (x ∷ xs) k apart = by_found (h x) refl (differ y n is xs (second_true (known x) _ k) apart.1)
     where
       by_found : (o : Option Y) → h x ≡ o → AllByRecursion (λ z. e y z ≡ false) (filter_map h xs) → AllByRecursion (λ z. e y z ≡ false) (cons_option o (filter_map h xs))
-      by_found o there rest = grind (arith, nat_tests)
+      by_found o there rest = grind arith
 
   pub distinct_found : (xs : List X) → list_all known xs ≡ true → IsDistinct eqb (map code xs) → IsDistinct e (filter_map h xs)
   unfolding IsDistinct
@@ -56,7 +55,7 @@ kept_more {X = X} f g (x ∷ xs) h = by_tests (f x) (g x) (h x) (kept_more f g x
   where
     by_tests : (v w : Bool) → (v ≡ true → w ≡ true) → length (filter f xs) ≤ length (filter g xs)
         → length (cond v (x ∷ filter f xs) (filter f xs)) ≤ length (cond w (x ∷ filter g xs) (filter g xs))
-    by_tests v w more few = grind (arith, nat_tests)
+    by_tests v w more few = grind arith
 
 pub kept_either : {X : Type 0} (f g : X → Bool) (xs : List X) → length (filter (λ x. f x || g x) xs) ≤ length (filter f xs) + length (filter g xs)
 kept_either f g [] = omega arith
@@ -64,4 +63,4 @@ kept_either {X = X} f g (x ∷ xs) = by_tests (f x) (g x) (filter (λ y. f y || 
   where
     by_tests : (v w : Bool) (all one other : List X) → length all ≤ length one + length other
         → length (cond (v || w) (x ∷ all) all) ≤ length (cond v (x ∷ one) one) + length (cond w (x ∷ other) other)
-    by_tests v w all one other h = grind (arith, nat_tests)
+    by_tests v w all one other h = grind arith

@@ -27,13 +27,12 @@ use Rattle.chess_rules.proofs.trying.OriginsAreCandidates.{step_seen}
 use Rattle.chess_rules.proofs.trying.FoundLists.{list_any-filter}
 use Rattle.chess_rules.proofs.trying.CandidatesAreFew.{is_rider, kind_cases, sees_by_way}
 use Rattle.chess_rules.proofs.trying.PromotionsAlike.{legal_after, one_will_do}
-use Rattle.std.proofs.lemmas.Bool.Decides.{nat_tests}
 use Rattle.std.proofs.lemmas.Bool.{or_cases, or_left, or_right, and_from, false_from_ne_true}
 
 -- What is hit is a legal move.
 
 any_promotion : (test : Option Promotion → Bool) (o : Option Promotion) → test o ≡ true → list_any test every_promotion ≡ true
-any_promotion test o h = grind (arith, nat_tests)
+any_promotion test o h = grind arith
 
 abbrev some_promotion : Parts → Square → Square → Bool
 some_promotion p from to = list_any (λ promotion. is_legal p (record { from = from; to = to; promotion = promotion })) every_promotion
@@ -77,10 +76,10 @@ kind_there c None h = cc
 kind_there c (Some x) h = (x.kind, and_from _ _ h (itself x.kind))
   where
     itself : (k : Kind) → same_kind k k ≡ true
-    itself k = grind (arith, nat_tests)
+    itself k = grind arith
 
 colour_there : (c : Colour) (k : Kind) (cell : Option Piece) → has_piece c k cell ≡ true → has_colour c cell ≡ true
-colour_there c k cell h = grind (arith, nat_tests)
+colour_there c k cell h = grind arith
 
 mover : (p q : Parts) (m : Move) → Legal p m q → (k : Kind) × (own p k m.from ≡ true)
 mover p q m l =
@@ -117,10 +116,10 @@ other_hit p s t on_s on_t left h =
     ∙ any_square (λ q. is_untried p t q && is_legal_pair p q t) s on_s.file on_s.rank (and_from (is_untried p t s) (is_legal_pair p s t) left h))
 
 jump_untried : (p : Parts) (s t : Square) → own p Knight s ≡ true → is_jump s t ≡ true → is_untried p t s ≡ true
-jump_untried p s t owns jumps = grind (arith, nat_tests)
+jump_untried p s t owns jumps = grind arith
 
 way_untried : (p : Parts) (k : Kind) (s t : Square) → own p k s ≡ true → is_rider k ≡ true → sees k p s t ≡ true → (is_king_step p t && own p King s) ≡ false → is_untried p t s ≡ true
-way_untried p k s t owns rides seen far = grind (arith, nat_tests, or_right, and_from, colour_there, first_true, second_true, sees_by_way, false_from_ne_true, is_rider, one_kind)
+way_untried p k s t owns rides seen far = grind (arith, or_right, and_from, colour_there, first_true, second_true, sees_by_way, false_from_ne_true, is_rider, one_kind)
 
 hit_when : (p : Parts) (m : Move) → is_position p ≡ true → is_legal p m ≡ true → (has_king_step p || has_other_move p) ≡ true
 hit_when p m position h = by_legal (legal_after p m h)

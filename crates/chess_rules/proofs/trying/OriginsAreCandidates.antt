@@ -22,10 +22,10 @@ use Rattle.chess_rules.proofs.moves.LegalToPosition.{way_of, Legal, legal_means}
 
 -- what a piece attacks it sees
 seen_by : (k : Kind) (c : Colour) (p : Parts) (s t : Square) → kind_attacks k c p.board s t ≡ true → sees k p s t ≡ true
-seen_by k c p s t h = grind (arith, nat_tests, attack_seen)
+seen_by k c p s t h = grind (arith, attack_seen)
 
 apart_by_rank : (s t : Square) → 0 < gap s.rank t.rank → not (same_square s t) ≡ true
-apart_by_rank s t h = grind (arith, nat_tests)
+apart_by_rank s t h = grind arith
 
 advance_seen : (p : Parts) (m : Move) → is_advance p m ≡ true → sees Pawn p m.from m.to ≡ true
 advance_seen p m h =
@@ -43,7 +43,7 @@ rank_means : (s u t : Square) → s.rank ≡ t.rank → strictly_between s u t �
 rank_means s u t same h = grind (arith, nat_tests)
 
 middle : (c : Colour) (a b x : ℕ) → a ≡ pawn_rank c → b ≡ double_rank c → inside a x b ≡ true → x ≡ (a + b) / 2
-middle c a b x low high h = grind (arith, nat_tests)
+middle c a b x low high h = grind arith
 
 -- a pawn's double step is seen: the one square between is empty
 double_seen : (p : Parts) (m : Move) → is_double_step p m ≡ true → sees Pawn p m.from m.to ≡ true
@@ -63,7 +63,7 @@ double_seen p m h =
     subst (λ (v : Square). is_empty p.board v ≡ true) (sym (ap₂ square place.0 (middle p.side m.from.rank m.to.rank u.rank ranks.0 ranks.1 place.1))) free))
   where
     some_ranks : (c : Colour) (a b : ℕ) → a ≡ pawn_rank c → b ≡ double_rank c → 0 < gap a b
-    some_ranks c a b low high = grind (arith, nat_tests)
+    some_ranks c a b low high = grind arith
 
 -- Castling: the king sees its end over the square that it crosses.
 
@@ -78,32 +78,32 @@ clear_part b r e k wider h =
     (each_square (λ v. not (strictly_between (square 4 r) v (square k r)) || is_empty b v) u h file rank))
 
 short_part : (x : ℕ) → inside 4 x 6 ≡ true → inside 4 x 7 ≡ true
-short_part x h = grind (arith, nat_tests)
+short_part x h = grind arith
 
 long_part : (x : ℕ) → inside 4 x 2 ≡ true → inside 4 x 0 ≡ true
-long_part x h = grind (arith, nat_tests)
+long_part x h = grind arith
 
 short_way : (b : Board) (c : Colour) → is_clear b (square 4 (home_rank c)) (square 7 (home_rank c)) ≡ true → (is_aligned (square 4 (home_rank c)) (square 6 (home_rank c)) && is_clear b (square 4 (home_rank c)) (square 6 (home_rank c))) ≡ true
-short_way b c h = grind (arith, nat_tests, clear_part, short_part)
+short_way b c h = grind (arith, clear_part, short_part)
 
 long_way : (b : Board) (c : Colour) → is_clear b (square 4 (home_rank c)) (square 0 (home_rank c)) ≡ true → (is_aligned (square 4 (home_rank c)) (square 2 (home_rank c)) && is_clear b (square 4 (home_rank c)) (square 2 (home_rank c))) ≡ true
-long_way b c h = grind (arith, nat_tests, clear_part, long_part)
+long_way b c h = grind (arith, clear_part, long_part)
 
 -- Each way to step.
 
 sees_pawn : (p : Parts) (k : Kind) (s t : Square) → own p k s ≡ true → own p Pawn s ≡ true → sees Pawn p s t ≡ true → sees k p s t ≡ true
-sees_pawn p k s t h g seen = grind (arith, nat_tests)
+sees_pawn p k s t h g seen = grind arith
 
 by_attack : (p : Parts) (m : Move) (k : Kind) → own p k m.from ≡ true → attacks p.board m.from m.to ≡ true → sees k p m.from m.to ≡ true
 by_attack p m k h g = seen_by k p.side p m.from m.to (attacks_as p.side k (at p.board m.from) p.board m.from m.to h g)
 
 by_pawn : (p : Parts) (m : Move) (k : Kind) → own p k m.from ≡ true → is_pawn_step p m ≡ true → sees k p m.from m.to ≡ true
-by_pawn p m k h g = grind (arith, nat_tests, or_cases, sees_pawn, advance_seen, double_seen, by_attack, first_true, second_true)
+by_pawn p m k h g = grind (arith, or_cases, sees_pawn, advance_seen, double_seen, by_attack, first_true, second_true)
 
 by_castling : (p : Parts) (m : Move) (k : Kind) (wing : Wing)
     → (is_clear p.board (home p 4) (home p wing.rook) ≡ true → (is_aligned (home p 4) (home p wing.end) && is_clear p.board (home p 4) (home p wing.end)) ≡ true)
     → own p k m.from ≡ true → Castles p m wing → sees k p m.from m.to ≡ true
-by_castling p m k wing way h g = grind (arith, nat_tests)
+by_castling p m k wing way h g = grind arith
 
 pub step_seen : (p q : Parts) (m : Move) (k : Kind) → own p k m.from ≡ true → Legal p m q → sees k p m.from m.to ≡ true
 step_seen p q m k h l =

@@ -25,13 +25,12 @@ use Rattle.chess_rules.proofs.lines.AttackToReach.{attack_seen}
 use Rattle.chess_rules.proofs.trying.FoundLists.{list_any-filter}
 use Rattle.chess_rules.proofs.lines.InView.{few_in_view}
 use Rattle.chess_rules.proofs.trying.CandidatesAreFew.{square_laws, candidates_apart, few_jumps}
-use Rattle.std.proofs.lemmas.Bool.Decides.{nat_tests}
 use Rattle.std.proofs.lemmas.Bool.{or_cases, or_left, and_from}
 
 -- Sums.
 
 pub sum_same : {X : Type 0} (f g : X → ℕ) (xs : List X) → ((x : X) → f x ≡ g x) → sum_by f xs ≡ sum_by g xs
-sum_same f g xs h = grind (arith, nat_tests)
+sum_same f g xs h = grind arith
 
 pub sum_both : {X : Type 0} (f g : X → ℕ) (xs : List X) → sum_by (λ x. f x + g x) xs ≡ sum_by f xs + sum_by g xs
 sum_both f g [] = refl
@@ -62,7 +61,7 @@ sum_five f g h i j xs =
     omega arith
 
 adjacent_back : (s t : Square) → is_adjacent s t ≡ is_adjacent t s
-adjacent_back s t = grind (arith, nat_tests)
+adjacent_back s t = grind arith
 
 -- The king is the one candidate of its kind where it stands side by side with the target.
 
@@ -114,7 +113,7 @@ length_by_bits f [] = refl
 length_by_bits {X = X} f (x ∷ xs) = one_more (f x) (filter f xs) ∙ (ap (λ n. bit (f x) + n) (length_by_bits f xs) ∙ sym (sum_by-cons (λ y. bit (f y)) x xs))
   where
     one_more : (v : Bool) (ys : List X) → length (cond v (x ∷ ys) ys) ≡ bit v + length ys
-    one_more v ys = grind (arith, nat_tests)
+    one_more v ys = grind arith
 
 sum_none : {X : Type 0} (xs : List X) → sum_by (λ x. 0) xs ≡ 0
 sum_none [] = refl
@@ -127,7 +126,7 @@ one_kind : (v : Bool) (k : Kind) (step jumps aligned clear : Bool)
     → kind_bit v King k (aligned && clear) + kind_bit v Queen k (aligned && clear) + kind_bit v Rook k (aligned && clear) + kind_bit v Bishop k (aligned && clear) + kind_bit v Knight k jumps + kind_bit v Pawn k (aligned && clear)
     ≡ bit (((v && same_kind Knight k) && jumps) || ((((v && not (v && same_kind Knight k)) && aligned) && not (step && (v && same_kind King k))) && clear))
     + bit (step && ((v && same_kind King k) && (aligned && clear)))
-one_kind v k step jumps aligned clear = grind (arith, nat_tests)
+one_kind v k step jumps aligned clear = grind arith
 
 abbrev of_six : Parts → Square → Square → ℕ
 of_six p t s =
@@ -140,7 +139,7 @@ one_piece p t s = by_cell (at p.board s) (is_king_step p t) (is_jump s t) (is_al
         → bit (has_piece p.side King cell && (aligned && clear)) + bit (has_piece p.side Queen cell && (aligned && clear)) + bit (has_piece p.side Rook cell && (aligned && clear)) + bit (has_piece p.side Bishop cell && (aligned && clear)) + bit (has_piece p.side Knight cell && jumps) + bit (has_piece p.side Pawn cell && (aligned && clear))
         ≡ bit ((has_piece p.side Knight cell && jumps) || ((((has_colour p.side cell && not (has_piece p.side Knight cell)) && aligned) && not (step && has_piece p.side King cell)) && clear))
         + bit (step && (has_piece p.side King cell && (aligned && clear)))
-    by_cell cell step jumps aligned clear = grind (arith, nat_tests, one_kind)
+    by_cell cell step jumps aligned clear = grind (arith, one_kind)
 
 sum_six : {X : Type 0} (f g h i j k : X → ℕ) (xs : List X) → sum_by (λ x. f x + g x + h x + i x + j x + k x) xs ≡ sum_by f xs + sum_by g xs + sum_by h xs + sum_by i xs + sum_by j xs + sum_by k xs
 sum_six f g h i j k xs = sum_both (λ x. f x + g x + h x + i x + j x) k xs ∙ ap (λ n. n + sum_by k xs) (sum_five f g h i j xs)
@@ -165,12 +164,12 @@ six_most p t s = by_cell (at p.board s) (is_jump s t) (is_aligned s t) (is_clear
     one_at_most : (v : Bool) (k : Kind) (jumps aligned clear : Bool)
         → kind_bit v King k (aligned && clear) + kind_bit v Queen k (aligned && clear) + kind_bit v Rook k (aligned && clear) + kind_bit v Bishop k (aligned && clear) + kind_bit v Knight k jumps + kind_bit v Pawn k (aligned && clear)
         ≤ bit (aligned && clear) + bit jumps
-    one_at_most v k jumps aligned clear = grind (arith, nat_tests)
+    one_at_most v k jumps aligned clear = grind arith
 
     by_cell : (cell : Option Piece) (jumps aligned clear : Bool)
         → bit (has_piece p.side King cell && (aligned && clear)) + bit (has_piece p.side Queen cell && (aligned && clear)) + bit (has_piece p.side Rook cell && (aligned && clear)) + bit (has_piece p.side Bishop cell && (aligned && clear)) + bit (has_piece p.side Knight cell && jumps) + bit (has_piece p.side Pawn cell && (aligned && clear))
         ≤ bit (aligned && (is_some cell && clear)) + bit jumps
-    by_cell cell jumps aligned clear = grind (arith, nat_tests)
+    by_cell cell jumps aligned clear = grind arith
 
 target_most : (p : Parts) (t : Square) → OnBoard t → of_target p t ≤ 16
 target_most p t on =
@@ -231,4 +230,4 @@ pair_count_parts p sound =
 
 pub pair_count_most : (p : Parts) → pair_count p ≤ 1024
 unfolding indexes
-pair_count_most p = grind (arith, nat_tests, pair_count_is, sum_range_most, target_most, on_board_at)
+pair_count_most p = grind (arith, pair_count_is, sum_range_most, target_most, on_board_at)

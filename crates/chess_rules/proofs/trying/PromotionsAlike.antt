@@ -23,7 +23,6 @@ use Rattle.chess_rules.proofs.moves.CellsAfterPut.{OnBoard, at_put, length-put}
 use Rattle.chess_rules.proofs.moves.StepsKeepBoard.{other-other, castles_means, home_below}
 use Rattle.chess_rules.proofs.moves.LegalToPosition.{on_board_means, way_of, Legal, legal_means}
 use Rattle.chess_rules.proofs.trying.FoundLists.{passes}
-use Rattle.std.proofs.lemmas.Bool.Decides.{nat_tests}
 use Rattle.std.proofs.lemmas.Bool.{not-true}
 
 -- Two boards that differ in pieces of one colour alone, none of them a king, attack that colour's
@@ -82,7 +81,7 @@ clear_alike c b d s t alike =
     (λ u on. ap (λ v. not (strictly_between s u t) || v) (alike.cells u on).empty)
 
 cell_alike : (cell : Option Piece) (b d : Board) (s t : Square) → is_clear b s t ≡ is_clear d s t → cell_attacks cell b s t ≡ cell_attacks cell d s t
-cell_alike cell b d s t h = grind (arith, nat_tests)
+cell_alike cell b d s t h = grind arith
 
 attack_alike : (c : Colour) (b d : Board) (s t : Square) → Alike c b d → OnBoard s → (has_colour (other c) (at b s) && attacks b s t) ≡ (has_colour (other c) (at d s) && attacks d s t)
 attack_alike c b d s t alike on = by_colours (has_colour (other c) (at b s)) refl (has_colour (other c) (at d s)) refl
@@ -109,7 +108,7 @@ king_alike c b d alike =
 -- What arrives.
 
 men_alike : (c : Colour) (x y : Promotion) → CellsAlike c (some_piece c (kind_of x)) (some_piece c (kind_of y))
-men_alike c x y = grind (arith, nat_tests)
+men_alike c x y = grind arith
 
 -- The boards after a pair with two promotions.
 
@@ -139,24 +138,24 @@ abbrev leaves_safe : Parts → Board → Bool
 leaves_safe p b = not (king_attacked b (other (other p.side)))
 
 safe_alike : (p : Parts) (b d : Board) → Alike p.side b d → leaves_safe p b ≡ leaves_safe p d
-safe_alike p b d alike = grind (arith, nat_tests, other-other, king_alike)
+safe_alike p b d alike = grind (arith, other-other, king_alike)
 
 -- a move is legal if there is a step, and the board after it leaves the king safe
 legal_passes : (p : Parts) (m : Move) → is_legal p m ≡ (is_on_board m && passes (leaves_safe p) (board_after p m))
 legal_passes p m = by_step (is_on_board m) (board_after p m)
   where
     by_safety : (v : Bool) (q : Parts) → is_some (if v then Some q else None) ≡ v
-    by_safety v q = grind (arith, nat_tests)
+    by_safety v q = grind arith
 
     by_step : (v : Bool) (o : Option Board) → is_some (if_safe (if v then option_map (after p m) o else None)) ≡ (v && passes (leaves_safe p) o)
-    by_step v o = grind (arith, nat_tests)
+    by_step v o = grind arith
 
 pick : (test : Board → Bool) (v x y z : Bool) (i j k l e f g h : Board) → test i ≡ test e → test j ≡ test f → test k ≡ test g → test l ≡ test h
     → passes test (if v then Some i else if x then Some j else if y then Some k else if z then Some l else None) ≡ passes test (if v then Some e else if x then Some f else if y then Some g else if z then Some h else None)
-pick test v x y z i j k l e f g h a b c d = grind (arith, nat_tests)
+pick test v x y z i j k l e f g h a b c d = grind arith
 
 both_when : (v x y : Bool) → (v ≡ true → x ≡ y) → (v && x) ≡ (v && y)
-both_when v x y h = grind (arith, nat_tests)
+both_when v x y h = grind arith
 
 pub promotions_alike : PromotionsAlike
 promotions_alike p s t x y position =
@@ -165,10 +164,10 @@ promotions_alike p s t x y position =
     ∙ sym (legal_passes p (promoting s t y)))
   where
     long : length p.board ≡ 64
-    long = grind (arith, nat_tests)
+    long = grind arith
 
     boards : OnBoard s → OnBoard t → passes (leaves_safe p) (board_after p (promoting s t x)) ≡ passes (leaves_safe p) (board_after p (promoting s t y))
-    boards on_s on_t = grind (arith, nat_tests, pick, safe_alike, carried_alike, long, passing_alike, castled_alike)
+    boards on_s on_t = grind (arith, pick, safe_alike, carried_alike, long, passing_alike, castled_alike)
 
 -- A legal move names a promotion exactly if a pawn reaches its last rank.
 
@@ -176,13 +175,13 @@ abbrev arrives : Parts → Move → Bool
 arrives p m = (m.to.rank == last_rank p.side) && own p Pawn m.from
 
 named_by_pawn : (p : Parts) (m : Move) → own p Pawn m.from ≡ true → promotion_fits p m ≡ true → is_some m.promotion ≡ arrives p m
-named_by_pawn p m owns fits = grind (arith, nat_tests)
+named_by_pawn p m owns fits = grind arith
 
 named_by_other : (p : Parts) (m : Move) → own p Pawn m.from ≡ false → is_none m.promotion ≡ true → is_some m.promotion ≡ arrives p m
-named_by_other p m owns none = grind (arith, nat_tests)
+named_by_other p m owns none = grind arith
 
 king_no_pawn : (p : Parts) (s : Square) → own p King s ≡ true → own p Pawn s ≡ false
-king_no_pawn p s h = grind (arith, nat_tests)
+king_no_pawn p s h = grind arith
 
 named : (p q : Parts) (m : Move) → Legal p m q → is_some m.promotion ≡ arrives p m
 named p q m l =
@@ -208,7 +207,7 @@ named p q m l =
     by_castling king plain = named_by_other p m (king_no_pawn p m.from king) plain
 
 is_some_means : (o : Option Parts) → is_some o ≡ true → (q : Parts) × (o ≡ Some q)
-is_some_means o h = grind (arith, nat_tests)
+is_some_means o h = grind arith
 
 pub legal_after : (p : Parts) (m : Move) → is_legal p m ≡ true → (q : Parts) × Legal p m q
 legal_after p m h = (let (q, e) = is_some_means (legal p m) h in (q, legal_means p m q e))

@@ -6,17 +6,16 @@ use Rattle.chess_rules.specs.Square.{Square}
 use Rattle.chess_rules.specs.Words.{members}
 use Rattle.chess_rules.proofs.squares.SetsToSquares.{no_member}
 use Rattle.chess_rules.specs.Pairs.{Counts}
-use Rattle.std.proofs.lemmas.Bool.Decides.{nat_tests}
 
 pub counts_exactly : (found : Bool) (old new whole : ℕ) → (found ≡ true → 0 < whole) → new ≡ old + whole → Counts found old new whole
-counts_exactly found old new whole one h = grind (arith, nat_tests)
+counts_exactly found old new whole one h = grind arith
 
 -- two searches, one after the other
 pub counts_then : (found : Bool) (old now new first second : ℕ) → now ≡ old + first → Counts found now new second → Counts found old new (first + second)
-counts_then found old now new first second h w = grind (arith, nat_tests)
+counts_then found old now new first second h w = grind arith
 
 pub counts_first : (found : Bool) (old new first second : ℕ) → found ≡ true → Counts found old new first → Counts found old new (first + second)
-counts_first found old new first second h w = grind (arith, nat_tests)
+counts_first found old new first second h w = grind arith
 
 -- The members of a set, one by one.
 
@@ -32,10 +31,10 @@ module _ (test : Square → Bool) (set : ℕ) where
     left_fits limit room = omega (arith, room, w.counted, ap length next)
 
     pub fewer_left : (later : ℕ) → test s ≡ false → later ≡ now + 1 → LeftOf rest old later
-    fewer_left later misses one = grind (arith, nat_tests)
+    fewer_left later misses one = grind arith
 
     pub left_hit : (later : ℕ) → test s ≡ true → later ≡ now + 1 → (true ≡ list_any test (members set)) × Counts true old later (length (members set))
-    left_hit later passes one = grind (arith, nat_tests)
+    left_hit later passes one = grind arith
 
   pub none_left : (left old now : ℕ) → LeftOf left old now → left ≡ 0 → (false ≡ list_any test (members set)) × Counts false old now (length (members set))
   none_left left old now w none = (

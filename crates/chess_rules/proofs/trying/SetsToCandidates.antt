@@ -1,7 +1,6 @@
 -- The sets of the code have exactly the candidates.
 use Rattle.std.proofs.Common.{◌≡◌, ℕ, ◌<◌, ◌≤◌, Bool, true, ◌&&◌, List, length, sym, ◌∙◌, ap, ap₂, arith}
 use Rattle.std.specs.Int.Bits.{bit_and}
-use Rattle.std.proofs.lemmas.Bool.Decides.{nat_tests}
 use Rattle.chess_rules.specs.declared.piece.Colour.{Colour}
 use Rattle.chess_rules.specs.declared.piece.Kind.{Kind}
 use Rattle.chess_rules.specs.declared.piece.Kind.TheVariants.{Knight}
@@ -19,7 +18,7 @@ use Rattle.chess_rules.proofs.trying.FoundLists.{kept_more}
 use Rattle.chess_rules.proofs.squares.SetsToSquares.{members_are, places_and}
 
 pub own_places : (p : Parts) (k : Kind) (d : Colour) (b : Board) (w : ℕ) → d ≡ p.side → b ≡ p.board → Marks w (has_piece d k) b → Places w (own p k)
-own_places p k d b w side board h = grind (arith, nat_tests)
+own_places p k d b w side board h = grind arith
 
 pub knights_are : (p : Parts) (t : Square) (v w : ℕ) → Places v (own p Knight) → Places w (λ s. is_jump s t) → members (bit_and v w) ≡ candidates p Knight t
 knights_are p t v w h g =
@@ -38,10 +37,10 @@ aligned_are p k t b v w clear rides board h g f =
     ∙ ap (λ x. own p k (square_at i) && x) (sym (sees_by_way p k (square_at i) t rides)))))
   where
     in_turn : (x y z : Bool) → ((x && y) && z) ≡ (x && (y && z))
-    in_turn x y z = grind (arith, nat_tests)
+    in_turn x y z = grind arith
 
 pub few_there : (p : Parts) (k : Kind) (t : Square) (xs : List Square) → t.file < 8 → t.rank < 8 → xs ≡ candidates p k t → length xs ≤ 8
-few_there p k t xs tf tr same = grind (arith, nat_tests, length, few_candidates)
+few_there p k t xs tf tr same = grind (arith, length, few_candidates)
 
 -- Without looking at what stands between.
 
@@ -56,4 +55,4 @@ aligned_few p k t v w rides h g few =
     )
   where
     in_line_too : (s : Square) → is_candidate p k t s ≡ true → (own p k s && is_aligned s t) ≡ true
-    in_line_too s c = grind (arith, nat_tests)
+    in_line_too s c = grind arith

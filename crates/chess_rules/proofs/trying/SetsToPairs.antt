@@ -22,13 +22,13 @@ use Rattle.std.proofs.lemmas.Bool.Decides.{nat_tests}
 
 -- the pieces of the side to move
 pub colour_places : (p : Parts) (d : Colour) (b : Board) (w : ℕ) → d ≡ p.side → b ≡ p.board → Marks w (has_colour d) b → Places w (λ s. has_colour p.side (at p.board s))
-colour_places p d b w side board h = grind (arith, nat_tests)
+colour_places p d b w side board h = grind arith
 
 -- The king's steps that are tried first.
 
 pub steps_are : (p : Parts) (k : Square) (near owns : ℕ) → k ≡ king_square p.side p.board → owns < 2 ^ 64
     → Places near (λ s. is_adjacent s k) → Places owns (λ s. has_colour p.side (at p.board s)) → Places (bit_and near (bit_not w64 owns)) (is_king_step p)
-steps_are p k near owns king fits h g = grind (arith, nat_tests, has_and, w64, has_not)
+steps_are p k near owns king fits h g = grind (arith, has_and, w64, has_not)
 
 pub step_tried : (p : Parts) (t : Square) (w place : ℕ) (r : Bool) → Places w (is_king_step p) → place ≡ cell_of t → t.file < 8 → t.rank < 8 → r ≡ has w place → r ≡ is_king_step p t
 step_tried p t w place r h is file rank e = grind (arith, nat_tests)
@@ -36,14 +36,14 @@ step_tried p t w place r h is file rank e = grind (arith, nat_tests)
 -- The pieces that are still to be tried for a target.
 
 pub king_left_out : (p : Parts) (t : Square) (pieces kings : ℕ) → is_king_step p t ≡ true → kings < 2 ^ 64 → Places kings (own p King) → Places (bit_and pieces (bit_not w64 kings)) (is_without_tried_king p pieces t)
-king_left_out p t pieces kings step fits h = grind (arith, nat_tests, has_and, w64, cell_of-square_at, has_not)
+king_left_out p t pieces kings step fits h = grind (arith, has_and, w64, cell_of-square_at, has_not)
 
 pub aligned_left : (p : Parts) (t : Square) (b : Board) (owns knights lines left clear : ℕ) → b ≡ p.board → knights < 2 ^ 64
     → Places owns (λ s. has_colour p.side (at p.board s)) → Places knights (own p Knight) → Places lines (λ s. is_aligned s t)
     → Places left (is_without_tried_king p (bit_and (bit_and owns (bit_not w64 knights)) lines) t)
     → Places clear (λ s. has left (cell_of s) && is_clear b s t)
     → Places clear (is_untried_aligned p t)
-aligned_left p t b owns knights lines left clear board fits of_owns of_knights of_lines of_left of_clear = grind (arith, nat_tests, cell_of-square_at, w64, has_and, has_not)
+aligned_left p t b owns knights lines left clear board fits of_owns of_knights of_lines of_left of_clear = grind (arith, cell_of-square_at, w64, has_and, has_not)
 
 -- The members of a set, and then all other squares.
 
@@ -52,14 +52,14 @@ any_parts test kept [] = refl
 any_parts test kept (x ∷ xs) = by_test (kept x) (filter kept xs) (filter (λ s. not (kept s)) xs) ∙ ap (λ v. test x || v) (any_parts test kept xs)
   where
     in_turn : (x y z : Bool) → (x || (y || z)) ≡ ((x || y) || z)
-    in_turn x y z = grind (arith, nat_tests)
+    in_turn x y z = grind arith
 
     later : (x y z : Bool) → (x || (y || z)) ≡ (y || (x || z))
-    later x y z = grind (arith, nat_tests)
+    later x y z = grind arith
 
     by_test : (v : Bool) (a b : List Square)
         → (list_any test (cond v (x ∷ a) a) || list_any test (cond (not v) (x ∷ b) b)) ≡ (test x || (list_any test a || list_any test b))
-    by_test v a b = grind (arith, nat_tests)
+    by_test v a b = grind arith
 
 sum_parts : (cost : Square → ℕ) (kept : Square → Bool) (xs : List Square) → sum_by cost (filter kept xs) + sum_by cost (filter (λ s. not (kept s)) xs) ≡ sum_by cost xs
 sum_parts cost kept [] = refl
@@ -67,7 +67,7 @@ sum_parts cost kept (x ∷ xs) = by_test (kept x) (filter kept xs) (filter (λ s
   where
     by_test : (v : Bool) (a b : List Square) → sum_by cost a + sum_by cost b ≡ sum_by cost xs
         → sum_by cost (cond v (x ∷ a) a) + sum_by cost (cond (not v) (x ∷ b) b) ≡ cost x + sum_by cost xs
-    by_test v a b e = grind (arith, nat_tests, sum_by-cons)
+    by_test v a b e = grind (arith, sum_by-cons)
 
 others : (w : ℕ) → w < 2 ^ 64 → members (bit_not w64 w) ≡ filter (λ s. not (has w (cell_of s))) squares
 others w fits = members_are (bit_not w64 w) (λ s. not (has w (cell_of s))) (λ i low. has_not w i fits low ∙ ap (λ j. not (has w j)) (sym (cell_of-square_at i)))
@@ -79,4 +79,4 @@ any_both test w fits =
 
 pub sum_both_sets : (cost : Square → ℕ) (w : ℕ) → w < 2 ^ 64 → sum_by cost (members w) + sum_by cost (members (bit_not w64 w)) ≡ sum_by cost squares
 unfolding members
-sum_both_sets cost w fits = grind (arith, nat_tests, others, sum_parts)
+sum_both_sets cost w fits = grind (arith, others, sum_parts)

@@ -2,7 +2,6 @@ use Rattle.std.proofs.Common.{arith}
 use Rattle.chess_rules.proofs.squares.AllSquares.{equal_from}
 use Rattle.chess_rules.proofs.positions.OneKing.{king_attacked_there}
 use Rattle.chess_rules.proofs.attack.is_king_attacked.Goals as goal
-use Rattle.std.proofs.lemmas.Bool.Decides.{nat_tests}
 
 pub returns : goal.returns
-returns c = grind (arith, nat_tests, king_attacked_there, equal_from)
+returns c = grind (arith, king_attacked_there, equal_from)

@@ -2,10 +2,9 @@ use Rattle.std.proofs.Common.{length, arith}
 use Rattle.chess_rules.proofs.trying.CandidatesAreFew.{sees_unless}
 use Rattle.chess_rules.proofs.trying.SetsToCandidates.{knights_are, own_places, aligned_few}
 use Rattle.chess_rules.proofs.candidates.may_have_two_origins.Goals as goal
-use Rattle.std.proofs.lemmas.Bool.Decides.{nat_tests}
 
 pub returns-in-Knight : goal.returns-in-Knight
-returns-in-Knight c = grind (arith, nat_tests, knights_are, own_places, length)
+returns-in-Knight c = grind (arith, knights_are, own_places, length)
 
 pub returns-in_default : goal.returns-in_default
 returns-in_default c = λ none.

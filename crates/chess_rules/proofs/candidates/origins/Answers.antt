@@ -3,13 +3,12 @@ use Rattle.chess_rules.specs.Candidate.{candidates}
 use Rattle.chess_rules.proofs.trying.CandidatesAreFew.{apart_there, candidates_apart}
 use Rattle.chess_rules.proofs.trying.SetsToCandidates.{few_there}
 use Rattle.chess_rules.proofs.candidates.origins.Goals as goal
-use Rattle.std.proofs.lemmas.Bool.Decides.{nat_tests}
 
 pub squares_of-requires : goal.squares_of-requires
-squares_of-requires c = grind (arith, nat_tests, few_there)
+squares_of-requires c = grind (arith, few_there)
 
 pub returns-clause-exactly : goal.returns-clause-exactly
-returns-clause-exactly c = grind (arith, nat_tests)
+returns-clause-exactly c = grind arith
 
 pub returns-clause-once : goal.returns-clause-once
 returns-clause-once c =

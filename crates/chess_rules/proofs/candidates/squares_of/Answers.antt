@@ -3,19 +3,18 @@ use Rattle.chess_rules.specs.Words.{members}
 use Rattle.chess_rules.proofs.squares.SetsToSquares.{next_member, no_member, some_member}
 use Rattle.chess_rules.proofs.candidates.squares_of.Goals as goal
 use Rattle.chess_rules.proofs.candidates.squares_of.Goals.{After-with-left}
-use Rattle.std.proofs.lemmas.Bool.Decides.{nat_tests}
 
 next : (c : After-with-left) → members c.loop-left.left ≡ c.nth.result ∷ members c.with-left.result
-next c = grind (arith, nat_tests, next_member)
+next c = grind (arith, next_member)
 
 pub loop-left-preserved : goal.loop-left-preserved
-loop-left-preserved c = grind (arith, nat_tests, append_assoc, next)
+loop-left-preserved c = grind (arith, append_assoc, next)
 
 pub loop-left-smaller : goal.loop-left-smaller
 loop-left-smaller c = omega (arith, ap length (next c))
 
 pub push-requires : goal.push-requires
-push-requires c = grind (arith, nat_tests, length, length-append, some_member)
+push-requires c = grind (arith, length, length-append, some_member)
 
 pub returns : goal.returns
-returns c = grind (arith, nat_tests, append-nil, no_member)
+returns c = grind (arith, append-nil, no_member)

@@ -6,10 +6,9 @@ use Rattle.chess_rules.specs.Board.{Board, at, has_piece}
 use Rattle.chess_rules.proofs.positions.OneKing.{StandsAt, king_only_there}
 use Rattle.chess_rules.proofs.positions.RulesOfPosition.{Sound, sound_from_position}
 use Rattle.chess_rules.proofs.laws.one_king_a_side.Goals as goal
-use Rattle.std.proofs.lemmas.Bool.Decides.{nat_tests}
 
 stands : (b : Board) (c : Colour) (s : Square) → on_board s ≡ true → has_piece c King (at b s) ≡ true → StandsAt c b s
-stands b c s h king = grind (arith, nat_tests)
+stands b c s h king = grind arith
 
 pub returns : goal.returns
 returns c0 = λ p c s t position on_s on_t king_s king_t.

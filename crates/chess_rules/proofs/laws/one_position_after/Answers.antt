@@ -1,6 +1,5 @@
 use Rattle.chess_rules.proofs.laws.one_position_after.Goals as goal
-use Rattle.std.proofs.lemmas.Bool.Decides.{nat_tests}
 use Rattle.std.proofs.Common.{arith}
 
 pub returns : goal.returns
-returns c = grind (arith, nat_tests)
+returns c = grind arith

@@ -1,7 +1,6 @@
 use Rattle.std.proofs.Common.{arith}
 use Rattle.chess_rules.proofs.moves.PlainStepAttacks.{none_unless_step}
 use Rattle.chess_rules.proofs.legal.allows.Goals as goal
-use Rattle.std.proofs.lemmas.Bool.Decides.{nat_tests}
 
 pub returns-else-is_step : goal.returns-else-is_step
-returns-else-is_step c = grind (arith, nat_tests, none_unless_step)
+returns-else-is_step c = grind (arith, none_unless_step)

@@ -1,7 +1,6 @@
 use Rattle.std.proofs.Common.{arith}
 use Rattle.chess_rules.proofs.moves.PlainStepAttacks.{none_when_not}
 use Rattle.chess_rules.proofs.legal.try_pair.Goals as goal
-use Rattle.std.proofs.lemmas.Bool.Decides.{nat_tests}
 
 pub returns-else-is_legal-clause-after : goal.returns-else-is_legal-clause-after
-returns-else-is_legal-clause-after c = grind (arith, nat_tests, none_when_not)
+returns-else-is_legal-clause-after c = grind (arith, none_when_not)

@@ -7,7 +7,6 @@ use Rattle.chess_rules.specs.Words.{members}
 use Rattle.chess_rules.proofs.squares.SetsToSquares.{members_are}
 use Rattle.chess_rules.proofs.pairs.has_king_step.Goals as goal
 use Rattle.chess_rules.proofs.pairs.has_king_step.Goals.{After-king_steps}
-use Rattle.std.proofs.lemmas.Bool.Decides.{nat_tests}
 
 targets : (c : After-king_steps) → members c.king_steps.result ≡ filter (spec.is_king_step c.args.position.now) squares
 targets c = members_are c.king_steps.result (spec.is_king_step c.args.position.now) c.king_steps.ensures.of
@@ -18,8 +17,8 @@ has_legal_target-requires c = subst (λ n. c.args.probes.now + n < 2 ^ 32) (sym 
 
 pub returns-clause-found : goal.returns-clause-found
 unfolding has_king_step
-returns-clause-found c = grind (arith, nat_tests, targets)
+returns-clause-found c = grind (arith, targets)
 
 pub returns-clause-count : goal.returns-clause-count
 unfolding count_king_steps
-returns-clause-count c = grind (arith, nat_tests, length, targets)
+returns-clause-count c = grind (arith, length, targets)

@@ -5,28 +5,27 @@ use Rattle.chess_rules.proofs.squares.SetsToSquares.{next_member}
 use Rattle.chess_rules.proofs.trying.SearchThatCounts.{left_fits, fewer_left, left_hit, none_left}
 use Rattle.chess_rules.proofs.pairs.has_legal_origin.Goals as goal
 use Rattle.chess_rules.proofs.pairs.has_legal_origin.Goals.{After-nth}
-use Rattle.std.proofs.lemmas.Bool.Decides.{nat_tests}
 
 next : (c : After-nth) → members c.loop-left.left ≡ c.nth.result ∷ members c.with-left.result
-next c = grind (arith, nat_tests, next_member)
+next c = grind (arith, next_member)
 
 pub loop-left-init : goal.loop-left-init
-loop-left-init c = grind (arith, nat_tests)
+loop-left-init c = grind arith
 
 pub is_legal_pair-requires : goal.is_legal_pair-requires
-is_legal_pair-requires c = grind (arith, nat_tests, left_fits, next)
+is_legal_pair-requires c = grind (arith, left_fits, next)
 
 pub returns-then-is_legal_pair-clause-found : goal.returns-then-is_legal_pair-clause-found
-returns-then-is_legal_pair-clause-found c = grind (arith, nat_tests, left_hit, next)
+returns-then-is_legal_pair-clause-found c = grind (arith, left_hit, next)
 
 pub returns-then-is_legal_pair-clause-count : goal.returns-then-is_legal_pair-clause-count
-returns-then-is_legal_pair-clause-count c = grind (arith, nat_tests, left_hit, next)
+returns-then-is_legal_pair-clause-count c = grind (arith, left_hit, next)
 
 pub loop-left-smaller : goal.loop-left-smaller
 loop-left-smaller c = omega (arith, ap length (next c.before.before.before))
 
 pub loop-left-preserved : goal.loop-left-preserved
-loop-left-preserved c = grind (arith, nat_tests, fewer_left, next)
+loop-left-preserved c = grind (arith, fewer_left, next)
 
 pub returns-clause-found : goal.returns-clause-found
 returns-clause-found c =

@@ -9,7 +9,6 @@ use Rattle.chess_rules.proofs.squares.AllSquares.{true_or, false_or}
 use Rattle.chess_rules.proofs.trying.SearchThatCounts.{counts_first, counts_then}
 use Rattle.chess_rules.proofs.trying.SetsToPairs.{any_both, sum_both_sets}
 use Rattle.chess_rules.proofs.pairs.has_other_move.Goals as goal
-use Rattle.std.proofs.lemmas.Bool.Decides.{nat_tests}
 
 in_all : (p : Parts) (w : ℕ) → w < 2 ^ 64 → sum_by (spec.count_untried p) (members w) + sum_by (spec.count_untried p) (members (bit_not w64 w)) ≡ spec.count_others p
 unfolding count_others
@@ -28,7 +27,7 @@ returns-then-has_other_move_to-clause-found c =
     ∙ true_or _ _ c.has_other_move_to.result c.has_other_move_to.ensures.found c.if-has_other_move_to.true)
 
 pub returns-then-has_other_move_to-clause-count : goal.returns-then-has_other_move_to-clause-count
-returns-then-has_other_move_to-clause-count c = grind (arith, nat_tests, in_all, counts_first)
+returns-then-has_other_move_to-clause-count c = grind (arith, in_all, counts_first)
 
 pub returns-else-has_other_move_to-clause-found : goal.returns-else-has_other_move_to-clause-found
 unfolding has_other_move
@@ -37,4 +36,4 @@ returns-else-has_other_move_to-clause-found c =
     ∙ false_or _ _ c.has_other_move_to.result c.has_other_move_to-else-has_other_move_to.result c.has_other_move_to.ensures.found c.if-has_other_move_to.false c.has_other_move_to-else-has_other_move_to.ensures.found)
 
 pub returns-else-has_other_move_to-clause-count : goal.returns-else-has_other_move_to-clause-count
-returns-else-has_other_move_to-clause-count c = grind (arith, nat_tests, in_all, counts_then)
+returns-else-has_other_move_to-clause-count c = grind (arith, in_all, counts_then)

@@ -5,13 +5,12 @@ use Rattle.chess_rules.proofs.squares.SetsToSquares.{next_member}
 use Rattle.chess_rules.proofs.trying.SearchThatCounts.{target_fits, fewer_targets, target_hit, no_target}
 use Rattle.chess_rules.proofs.pairs.has_other_move_to.Goals as goal
 use Rattle.chess_rules.proofs.pairs.has_other_move_to.Goals.{After-nth}
-use Rattle.std.proofs.lemmas.Bool.Decides.{nat_tests}
 
 next : (c : After-nth) → members c.loop-left.left ≡ c.nth.result ∷ members c.with-left.result
-next c = grind (arith, nat_tests, next_member)
+next c = grind (arith, next_member)
 
 pub loop-left-init : goal.loop-left-init
-loop-left-init c = grind (arith, nat_tests)
+loop-left-init c = grind arith
 
 pub has_untried_move-requires : goal.has_untried_move-requires
 has_untried_move-requires c =
@@ -19,7 +18,7 @@ has_untried_move-requires c =
     (next c.before) c.loop-left.invariant (2 ^ 32) c.requires
 
 pub returns-then-has_untried_move-clause-found : goal.returns-then-has_untried_move-clause-found
-returns-then-has_untried_move-clause-found c = grind (arith, nat_tests, target_hit, next)
+returns-then-has_untried_move-clause-found c = grind (arith, target_hit, next)
 
 pub returns-then-has_untried_move-clause-count : goal.returns-then-has_untried_move-clause-count
 returns-then-has_untried_move-clause-count c =

@@ -7,7 +7,6 @@ use Rattle.chess_rules.specs.Words.{members}
 use Rattle.chess_rules.proofs.squares.SetsToSquares.{members_are}
 use Rattle.chess_rules.proofs.pairs.has_untried_move.Goals as goal
 use Rattle.chess_rules.proofs.pairs.has_untried_move.Goals.{After-untried}
-use Rattle.std.proofs.lemmas.Bool.Decides.{nat_tests}
 
 origins : (c : After-untried) → members c.untried.result ≡ filter (spec.is_untried c.args.position.now c.args.target) squares
 origins c = members_are c.untried.result (spec.is_untried c.args.position.now c.args.target) c.untried.ensures.of
@@ -18,8 +17,8 @@ has_legal_origin-requires c = subst (λ n. c.args.probes.now + n < 2 ^ 32) (sym 
 
 pub returns-clause-found : goal.returns-clause-found
 unfolding has_untried_move
-returns-clause-found c = grind (arith, nat_tests, origins)
+returns-clause-found c = grind (arith, origins)
 
 pub returns-clause-count : goal.returns-clause-count
 unfolding count_untried
-returns-clause-count c = grind (arith, nat_tests, length, origins)
+returns-clause-count c = grind (arith, length, origins)

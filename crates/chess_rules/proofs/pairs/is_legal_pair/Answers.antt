@@ -1,8 +1,7 @@
 use Rattle.std.proofs.Common.{arith}
 use Rattle.chess_rules.specs.Pairs.{is_legal_pair}
 use Rattle.chess_rules.proofs.pairs.is_legal_pair.Goals as goal
-use Rattle.std.proofs.lemmas.Bool.Decides.{nat_tests}
 
 pub returns-clause-found : goal.returns-clause-found
 unfolding is_legal_pair
-returns-clause-found c = grind (arith, nat_tests)
+returns-clause-found c = grind arith

@@ -1,7 +1,6 @@
 use Rattle.chess_rules.proofs.trying.SetsToPairs.{colour_places, steps_are}
 use Rattle.chess_rules.proofs.pairs.king_steps.Goals as goal
-use Rattle.std.proofs.lemmas.Bool.Decides.{nat_tests}
 use Rattle.std.proofs.Common.{arith}
 
 pub returns : goal.returns
-returns c = grind (arith, nat_tests, steps_are, colour_places)
+returns c = grind (arith, steps_are, colour_places)

@@ -1,7 +1,6 @@
 use Rattle.std.proofs.Common.{arith}
 use Rattle.chess_rules.proofs.moves.RightsStay.{homes, rights_stay}
 use Rattle.chess_rules.proofs.position.rights_after.Goals as goal
-use Rattle.std.proofs.lemmas.Bool.Decides.{nat_tests}
 
 pub returns-then-not-has-2 : goal.returns-then-not-has-2
-returns-then-not-has-2 c = grind (arith, nat_tests, rights_stay, homes)
+returns-then-not-has-2 c = grind (arith, rights_stay, homes)

@@ -1,19 +1,18 @@
 use Rattle.std.proofs.Common.{arith, ◌∙◌}
 use Rattle.chess_rules.proofs.moves.StepsOfKind.{king_steps, none_steps, none_steps_there, other_found, own_found, pawn_steps, piece_steps}
 use Rattle.chess_rules.proofs.step.is_step.Goals as goal
-use Rattle.std.proofs.lemmas.Bool.Decides.{nat_tests}
 
 pub returns-then-has_colour : goal.returns-then-has_colour
-returns-then-has_colour c = grind (arith, nat_tests, none_steps_there)
+returns-then-has_colour c = grind (arith, none_steps_there)
 
 pub returns-then-not-is : goal.returns-then-not-is
-returns-then-not-is c = grind (arith, nat_tests, none_steps, other_found)
+returns-then-not-is c = grind (arith, none_steps, other_found)
 
 pub returns-in-Pawn : goal.returns-in-Pawn
-returns-in-Pawn c = grind (arith, nat_tests, pawn_steps, own_found)
+returns-in-Pawn c = grind (arith, pawn_steps, own_found)
 
 pub returns-in-King : goal.returns-in-King
-returns-in-King c = grind (arith, nat_tests, king_steps, own_found)
+returns-in-King c = grind (arith, king_steps, own_found)
 
 pub returns-in_default-kind : goal.returns-in_default-kind
 returns-in_default-kind c =

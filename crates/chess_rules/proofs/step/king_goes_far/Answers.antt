@@ -12,7 +12,6 @@ use Rattle.chess_rules.proofs.positions.RulesOfPosition.{Sound, sound_from_posit
 use Rattle.chess_rules.proofs.lines.AttackToReach.{squares_same}
 use Rattle.chess_rules.proofs.trying.CandidatesAreFew.{square_laws}
 use Rattle.chess_rules.proofs.step.king_goes_far.Goals as goal
-use Rattle.std.proofs.lemmas.Bool.Decides.{nat_tests}
 
 -- the king of the side to move is on its square alone
 own_king : (p : Parts) (s : Square) → Sound p → s.file < 8 → s.rank < 8 → own p King s ≡ same_square s (king_square p.side p.board)
@@ -32,7 +31,7 @@ own_king p s sound file rank = same_tests _ _ there back
 
 -- the two tests, in either order
 in_turn : (x y : Bool) → (x && y) ≡ (y && x)
-in_turn x y = grind (arith, nat_tests)
+in_turn x y = grind arith
 
 is_king : (p : Parts) (s k : Square) (b : Bool) → is_position p ≡ true → s.file < 8 → s.rank < 8 → k ≡ king_square p.side p.board → b ≡ same_square s k → own p King s ≡ b
 is_king p s k b sound file rank king is = own_king p s (sound_from_position p sound) file rank ∙ (ap (same_square s) (sym king) ∙ sym is)

@@ -1,7 +1,6 @@
 use Rattle.std.proofs.Common.{arith}
 use Rattle.chess_rules.proofs.moves.StepsOfKind.{attack_is_step}
 use Rattle.chess_rules.proofs.step.piece_goes.Goals as goal
-use Rattle.std.proofs.lemmas.Bool.Decides.{nat_tests}
 
 pub returns : goal.returns
-returns c = grind (arith, nat_tests, attack_is_step)
+returns c = grind (arith, attack_is_step)

@@ -2,7 +2,6 @@ use Rattle.std.proofs.Common.{arith, bit_and}
 use Rattle.std.proofs.lemmas.Nat.Bits.{shr_and_one}
 use Rattle.chess_rules.proofs.squares.WordsToCells.{carries}
 use Rattle.chess_rules.proofs.word.carried.Goals as goal
-use Rattle.std.proofs.lemmas.Bool.Decides.{nat_tests}
 
 pub returns : goal.returns
-returns c = grind (arith, nat_tests, carries, bit_and, shr_and_one)
+returns c = grind (arith, carries, bit_and, shr_and_one)

@@ -1,11 +1,10 @@
 use Rattle.std.proofs.Common.{◌≡◌, ℕ, false, not, length, arith, ap}
 use Rattle.std.specs.Prelude.{◌==◌}
-use Rattle.std.proofs.lemmas.Bool.Decides.{nat_tests}
 use Rattle.chess_rules.proofs.squares.SetsToSquares.{next_member, no_member}
 use Rattle.chess_rules.proofs.word.has_several.Goals as goal
 
 is_zero : (n : ℕ) → not (n == 0) ≡ false → n ≡ 0
-is_zero n h = grind (arith, nat_tests)
+is_zero n h = grind arith
 
 pub returns-then-word-ne0 : goal.returns-then-word-ne0
 returns-then-word-ne0 c = λ none.

@@ -1,7 +1,6 @@
 use Rattle.std.proofs.Common.{arith, get_or}
 use Rattle.chess_rules.proofs.squares.WordsToCells.{cell_there}
 use Rattle.chess_rules.proofs.board.Board.at.Goals as goal
-use Rattle.std.proofs.lemmas.Bool.Decides.{nat_tests}
 
 pub returns : goal.returns
-returns c = grind (arith, nat_tests, cell_there, get_or)
+returns c = grind (arith, cell_there, get_or)

@@ -14,4 +14,4 @@ invariant_of-self c = grind (arith, nat_tests)
 
 pub returns : goal.returns
 unfolding new
-returns c = grind (arith, nat_tests, cells_carried, new, set, get_or)
+returns c = grind (arith, cells_carried, new, set, get_or)

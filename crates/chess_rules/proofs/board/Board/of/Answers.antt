@@ -3,13 +3,12 @@ use Rattle.std.specs.Prelude.{None}
 use Rattle.std.proofs.lemmas.List.{take_all, take_more, take_more_set}
 use Rattle.chess_rules.proofs.board.Board.of.Goals as goal
 use Rattle.chess_rules.proofs.board.Board.of.Goals.{After-put}
-use Rattle.std.proofs.lemmas.Bool.Decides.{nat_tests}
 
 there : (c : After-put) → c.put.new.self ≡ set c.loop-i.board c.loop-i.i (get_or c.args.contents.now c.loop-i.i None)
-there c = grind (arith, nat_tests)
+there c = grind arith
 
 pub loop-i-preserved : goal.loop-i-preserved
-loop-i-preserved c = grind (arith, nat_tests, get_or, length, there, length-set, take, take_more_set, take_more)
+loop-i-preserved c = grind (arith, get_or, length, there, length-set, take, take_more_set, take_more)
 
 pub returns : goal.returns
-returns c = grind (arith, nat_tests, take_all)
+returns c = grind (arith, take_all)

@@ -14,4 +14,4 @@ invariant_of-self c = grind (arith, nat_tests)
 
 pub returns : goal.returns
 unfolding new
-returns c = grind (arith, nat_tests, cells_put, new, set)
+returns c = grind (arith, cells_put, new, set)

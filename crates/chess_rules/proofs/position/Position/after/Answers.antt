@@ -13,18 +13,17 @@ use Rattle.chess_rules.specs.declared.position.Position.TheInside.{Inside}
 use Rattle.chess_rules.proofs.moves.LegalToPosition.{position_after, king_kept, legal_when}
 use Rattle.chess_rules.proofs.moves.PlainStepAttacks.{step_when_legal}
 use Rattle.chess_rules.proofs.position.Position.after.Goals as goal
-use Rattle.std.proofs.lemmas.Bool.Decides.{nat_tests}
 
 -- the position before the move is one
 before : (a : Inside) (p : Parts) → FitsPosition a → parts_of a ≡ p → is_position p ≡ true
 before a p kept view = subst (λ (q : Parts). is_position q ≡ true) view kept.position
 
 safe : (c : goal.After-king_after-2) → king_attacked c.board_after-board.result (other (other c.args.self.now.side)) ≡ false
-safe c = grind (arith, nat_tests)
+safe c = grind arith
 
 -- the parts that are made
 same : (c : goal.After-king_after-2) → parts_of (record { board = c.board_after-board.result; side = c.other.result; rights = c.rights_after.result; target = c.target_after.result; half = c.half_after.result; full = c.full_after.result; white_king = c.king_after.result; black_king = c.king_after-2.result; checked = c.gives_check-checked.result }) ≡ after c.args.self.now c.args.mv.now c.board_after-board.result
-same c = grind (arith, nat_tests)
+same c = grind arith
 
 pub invariant_of-result : goal.invariant_of-result
 invariant_of-result c =

@@ -1,6 +1,5 @@
 use Rattle.chess_rules.proofs.position.Position.half.Goals as goal
-use Rattle.std.proofs.lemmas.Bool.Decides.{nat_tests}
 use Rattle.std.proofs.Common.{arith}
 
 pub returns-clause-limit : goal.returns-clause-limit
-returns-clause-limit c = grind (arith, nat_tests)
+returns-clause-limit c = grind arith

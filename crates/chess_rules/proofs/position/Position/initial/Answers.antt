@@ -3,7 +3,6 @@ use Rattle.chess_rules.specs.Square.{squares}
 use Rattle.chess_rules.specs.Position.{is_position, initial}
 use Rattle.chess_rules.specs.Legal.{is_check}
 use Rattle.chess_rules.proofs.position.Position.initial.Goals as goal
-use Rattle.std.proofs.lemmas.Bool.Decides.{nat_tests}
 
 is_first_position : is_position initial ≡ true
 unfolding squares
@@ -14,4 +13,4 @@ unfolding squares
 no_check = refl
 
 pub invariant_of-result : goal.invariant_of-result
-invariant_of-result c = grind (arith, nat_tests, is_first_position, no_check)
+invariant_of-result c = grind (arith, is_first_position, no_check)
