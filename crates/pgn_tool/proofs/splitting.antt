@@ -1,4 +1,5 @@
 -- Each game in a file of its own.
+pub mod BytesOfPiece
 pub mod CallToFiles
 pub mod EndToFiles
 pub mod FileKeepsText

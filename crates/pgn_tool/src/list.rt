@@ -1,14 +1,13 @@
 //! Writes a line for each game.
-ghost use Rattle.std.specs.Prelude.{◌≡◌, ◌+◌, ◌^◌, ◌≤◌, [], length, false, None, OnOk, unwrap_or};
+ghost use Rattle.std.specs.Prelude.{◌≡◌, [], unwrap_or};
 ghost use Rattle.pgn_layout.specs.Device.{Counts, Writes};
 ghost use Rattle.pgn_tool.specs.ListLines.{CountsList, ListResult, field, line_just_finished, six_fields};
-ghost use Rattle.pgn_tool.specs.ListState.{CountsListSink, ListEndResult, ListPieceResult};
 ghost use Rattle.pgn_game.specs.ConverterCalls.{finished_game_value};
 
-use crate::stream::{LEVELS, READ_LENGTH, TAGS};
+use crate::stream::{LEVELS, TAGS};
 use chess_text::write_fen;
 use itoa::Buffer;
-use pgn_game::{Converter, Fault, Fed, Mode, Nowhere, Reason, Sink, Source, WriteFault};
+use pgn_game::{Fault, Games, Mode, Nowhere, Sink, Source, WriteFault};
 use pgn_layout::write_all;
 
 /// Why a list ends before the input does.
@@ -31,7 +30,7 @@ struct Line<'a> {
     position: &'a [u8],
 }
 
-type Lister = Converter<TAGS, LEVELS>;
+type Lister = Games<TAGS, LEVELS>;
 
 /// Writes a line for each game that the source gives, up to its end.
 ///
@@ -48,92 +47,47 @@ pub fn list_games<R: Source, O: Sink>(source: &mut R, out: &mut O) -> Result<(),
     ensures counted { CountsList result (R.failures source.old) (R.failures source.new)
         (O.failures out.old) (O.failures out.new) }
 {
-    let mut buffer = [0; READ_LENGTH];
-    let mut converter = Lister::new(Mode::Full);
+    let mut games = Lister::new(Mode::Full);
     loop {
-        match source.read_some(&mut buffer) {
-            Err(_) => {
-                return Err(Stopped::Refused(Fault {
-                    at: converter.count(),
-                    reason: Reason::ReadFault,
-                }));
-            }
-            Ok(0) => return list_last(&mut converter, out),
-            Ok(n) => list_piece(&mut converter, &buffer[..n], out)?,
-        }
-    }
-}
-
-// Lists the games that are finished in the piece.
-fn list_piece<O: Sink>(converter: &mut Lister, piece: &[u8], out: &mut O) -> Result<(), Stopped>
-    requires not_finished { converter.old.is_finished ≡ false }
-    requires no_fault { converter.old.fault ≡ None }
-    ensures lists { ListPieceResult converter.old piece.now converter.new result (O.taken out.old)
-        (O.taken out.new) }
-    ensures count { OnOk result
-        (converter.new.lexer.count ≡ converter.old.lexer.count + length piece.now) }
-    ensures short { OnOk result (converter.new.lexer.count ≤ 2 ^ 62) }
-    ensures not_finished { converter.new.is_finished ≡ false }
-    ensures no_fault { OnOk result (converter.new.fault ≡ None) }
-    ensures counted { CountsListSink result (O.failures out.old) (O.failures out.new) }
-{
-    let mut at = 0;
-    loop {
-        match converter.feed(&piece[at..], &mut Nowhere) {
-            Ok(Fed::All) => return Ok(()),
-            Ok(Fed::Game(used)) => at += used,
+        match games.next(source, &mut Nowhere) {
+            Ok(true) => {}
+            Ok(false) => return Ok(()),
             Err(fault) => return Err(Stopped::Refused(fault)),
         }
-        if let Err(WriteFault) = write_game(converter, out) {
+        if let Err(WriteFault) = write_game(&games, out) {
             return Err(Stopped::Unwritten);
         }
     }
 }
 
-// Ends the input, and lists the game that this finishes.
-fn list_last<O: Sink>(converter: &mut Lister, out: &mut O) -> Result<(), Stopped>
-    requires not_finished { converter.old.is_finished ≡ false }
-    requires no_fault { converter.old.fault ≡ None }
-    ensures lists { ListEndResult converter.old result (O.taken out.old) (O.taken out.new) }
-    ensures counted { CountsListSink result (O.failures out.old) (O.failures out.new) }
-{
-    if let Err(fault) = converter.finish(&mut Nowhere) {
-        return Err(Stopped::Refused(fault));
-    }
-    match write_game(converter, out) {
-        Ok(()) => Ok(()),
-        Err(_) => Err(Stopped::Unwritten),
-    }
-}
-
 // Writes the line of the game just finished, or nothing if there is none.
-fn write_game<O: Sink>(converter: &Lister, out: &mut O) -> Result<(), WriteFault>
+fn write_game<O: Sink>(games: &Lister, out: &mut O) -> Result<(), WriteFault>
     ensures written { Writes (O.taken out.old) (O.taken out.new) result
-        (line_just_finished converter.now) }
+        (line_just_finished games.now.converter) }
     ensures failures { Counts result (O.failures out.old) (O.failures out.new) }
 {
-    let Some(position) = converter.position() else {
+    let Some(position) = games.position() else {
         return Ok(());
     };
     let mut number = Buffer::new();
     let mut plies = Buffer::new();
     let fen = write_fen(position);
     let line = Line {
-        number: number.format(converter.games()).as_bytes(),
-        white: value(converter, b"White"),
-        black: value(converter, b"Black"),
-        result: value(converter, b"Result"),
-        plies: plies.format(converter.plies()).as_bytes(),
+        number: number.format(games.games()).as_bytes(),
+        white: value(games, b"White"),
+        black: value(games, b"Black"),
+        result: value(games, b"Result"),
+        plies: plies.format(games.plies()).as_bytes(),
         position: fen.as_slice(),
     };
     write_line(&line, out)
 }
 
 // The value of a tag of the game just finished.
-fn value<'a>(converter: &'a Lister, name: &[u8]) -> &'a [u8]
-    ensures { result.now ≡ unwrap_or (finished_game_value converter.now name.now) [] }
+fn value<'a>(games: &'a Lister, name: &[u8]) -> &'a [u8]
+    ensures { result.now ≡ unwrap_or (finished_game_value games.now.converter name.now) [] }
 {
-    converter.tag(name).unwrap_or(b"")
+    games.tag(name).unwrap_or(b"")
 }
 
 // Writes the fields with a tab after each but the last, and LF.

@@ -30,7 +30,7 @@ use Rattle.pgn_tool.specs.SplitGames as games
 use Rattle.pgn_tool.specs.SplitState as state
 use Rattle.pgn_tool.specs.SplitGames.{CutFile, CutsFile, Logs, LogsCut, SplitsNoMore, StopsAt, cut, files_of, texts_in, torn_text}
 use Rattle.pgn_tool.specs.SplitState.{AreFiles, FilesOf, SplitSoFar, SplitsToFault, SplitStopsInPiece}
-use Rattle.pgn_tool.proofs.runs.CallToLines.{decided_here, decided_last, further, still_own, whole}
+use Rattle.pgn_tool.proofs.splitting.BytesOfPiece.{decided_here, decided_last, further, still_own, whole}
 use Rattle.pgn_tool.proofs.runs.TokensInTwoParts.{not_both, read_stops}
 use Rattle.pgn_tool.proofs.splitting.FilesToGames.{after_marker, files_on, game_closed, grown, if_on, last_closed, told_none, told_some, whole_on}
 use Rattle.pgn_tool.proofs.splitting.NoWriteFaultInTable.{read_own}

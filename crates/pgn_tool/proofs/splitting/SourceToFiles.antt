@@ -18,7 +18,8 @@ use Rattle.pgn_tool.specs.SplitGames as games
 use Rattle.pgn_tool.specs.SplitState as state
 use Rattle.pgn_tool.specs.SplitGames.{IsSplit, IsSplitWhole, Logs, SplitResult, SplitsNoMore, SplitStops, files_of, torn_file}
 use Rattle.pgn_tool.specs.SplitState.{AfterSplitEnd, AreFiles, SourceSplitSoFar, SplitSoFar, SplitStopsInPiece}
-use Rattle.pgn_tool.proofs.runs.CallToLines.{decided_last, keeps_consumed, known_left, known_whole}
+use Rattle.pgn_tool.proofs.splitting.BytesOfPiece.{decided_last, keeps_consumed}
+use Rattle.pgn_tool.proofs.runs.CallToLines.{known_left, known_whole}
 use Rattle.pgn_tool.proofs.runs.TokensInTwoParts.{read_stops}
 use Rattle.pgn_tool.proofs.splitting.FilesToGames.{if_on, last_closed}
 

@@ -5,7 +5,7 @@ use Rattle.pgn_tool.proofs.list.write_game.Goals as goal
 
 pub returns-clause-written : goal.returns-clause-written
 returns-clause-written g c =
-    let told = line_just_finished-told c.args.converter.now c.in-Some.position.now c.in-Some.ensures in
+    let told = line_just_finished-told c.args.games.now.converter c.in-Some.position.now c.in-Some.ensures in
     let number = c.as_bytes.ensures.value ∙ c.format.ensures.text ∙ ap decimal c.games.ensures in
     let plies = c.as_bytes-2.ensures.value ∙ c.format-2.ensures.text ∙ ap decimal c.plies.ensures in
     let position = c.as_slice.ensures.value ∙ c.write_fen-fen.ensures.text in

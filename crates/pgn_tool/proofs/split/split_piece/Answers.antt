@@ -3,7 +3,7 @@ use Rattle.std.specs.Prelude.{Ok}
 use Rattle.std.proofs.lemmas.List.{take_rest}
 use Rattle.std.proofs.lemmas.Result.{err_from_is_err_and}
 use Rattle.pgn_tool.proofs.splitting.FilesAfterCall.{answered, closed_on, closed_well, fed_counts, fed_stops, fed_well, turned_well}
-use Rattle.pgn_tool.proofs.runs.CallToLines.{own_follows, whole}
+use Rattle.pgn_tool.proofs.splitting.BytesOfPiece.{own_follows, whole}
 use Rattle.pgn_tool.proofs.splitting.CallToFiles.{call_stops, calm, game_on_at, piece_begins, rest_on, stops_on_further}
 use Rattle.pgn_tool.specs.SplitState.{SplitSoFar}
 use Rattle.pgn_tool.proofs.split.split_piece.Goals as goal
