@@ -1,5 +1,5 @@
 -- Games listed one by one.
-use Rattle.std.proofs.Common.{◌≡◌, ℕ, ◌+◌, List, [], ◌∷◌, ◌++◌, length, take, Option, None, Some, Result, Ok, Err, IfSome, refl, sym, ap, subst, ◌∙◌, append-nil, append_assoc, length-append, arith}
+use Rattle.std.proofs.Common.{◌≡◌, ℕ, ◌+◌, List, [], ◌∷◌, ◌++◌, length, take, Option, None, Some, IfSome, refl, sym, ap, subst, ◌∙◌, append-nil, append_assoc, length-append, arith}
 use Rattle.std.specs.Io.KnownBytes.{Appends, Consumes, IsAtEnd}
 use Rattle.std.proofs.KnownBytes.{Appends-trans, Consumes-trans, Consumes-nil}
 use Rattle.std.proofs.Math.Seq.{take-append-add}
@@ -7,12 +7,10 @@ use Rattle.std.proofs.lemmas.List.{take-append-le}
 use Rattle.pgn_layout.specs.Device.{AppendsFront}
 use Rattle.pgn_lexer.specs.Tokens.{Token}
 use Rattle.pgn_lexer.specs.TokensOf.{tokens_of}
-use Rattle.pgn_lexer.specs.Decided.{decided}
 use Rattle.pgn_lexer.specs.Standing.{coming}
 use Rattle.pgn_lexer.specs.Stands.{Follows, first}
 use Rattle.pgn_game.specs.Profile.{Profile}
-use Rattle.pgn_game.specs.declared.reason.Reason.{Reason}
-use Rattle.pgn_game.specs.declared.reason.Reason.TheVariants.{ReadFault, WriteFault, InputTooLong}
+use Rattle.pgn_game.specs.declared.reason.Reason.TheVariants.{WriteFault, InputTooLong}
 use Rattle.pgn_game.specs.declared.reason.Fault.{Fault}
 use Rattle.pgn_game.specs.Game.{Game}
 use Rattle.pgn_game.specs.Progress.{Read, no_progress, read}
@@ -21,7 +19,7 @@ use Rattle.pgn_game.specs.ConverterCalls.{Converter, FinishedGame, HasRead, fini
 use Rattle.pgn_game.specs.Conversion.{CountsDevices}
 use Rattle.pgn_game.specs.GamesCalls as calls
 use Rattle.pgn_game.specs.GamesCalls.{Games, HaveRead, within, at_end, NextGame, NoGame, NextStops, ReadsNoGame}
-use Rattle.pgn_tool.specs.ListLines.{CountsReadFault, CutsLine, IsListed, ListsNoMore, ListStops, game_line, finished_game_line, line_just_finished, lines_from, lines_of, list_profile, list_text, too_long, unread, unwritten}
+use Rattle.pgn_tool.specs.ListLines.{CutsLine, IsListed, ListsNoMore, ListStops, game_line, finished_game_line, line_just_finished, lines_from, lines_of, list_profile, list_text, too_long, unread, unwritten}
 use Rattle.pgn_tool.specs.ListState.{ListedSoFar}
 use Rattle.pgn_tool.specs.ListLines as list_lines
 use Rattle.pgn_tool.specs.declared.list.Stopped.TheVariants.{Refused, Unwritten}
@@ -81,11 +79,6 @@ none_listed left games o have none =
 -- a sink that keeps nothing counts no failure
 not_unwritten : (s t : ℕ) → CountsDevices WriteFault s t 0 0 → ⊥
 not_unwritten s t (same, more) = absurd (omega (arith, more))
-
-pub counts_refused : (r : Reason) (s t : ℕ) → CountsDevices r s t 0 0 → CountsReadFault r s t
-counts_refused ReadFault s t h = h.0
-counts_refused WriteFault s t h = absurd (not_unwritten s t h)
-counts_refused _ s t h = h.0
 
 module _ (left_old left left_new : Option (List ℕ)) (old new : Games) (a b : Option (List ℕ)) (so : ListedSoFar left_old left old a b) where
   all : (more : List ℕ) → Consumes left left_new more → Consumes left_old left_new (so.bytes ++ more)

@@ -1,7 +1,6 @@
-use Rattle.std.proofs.Common.{refl, ◌∙◌, ap}
+use Rattle.std.proofs.Common.{refl, ◌∙◌}
 use Rattle.std.proofs.KnownBytes.{Appends-nil}
-use Rattle.pgn_layout.specs.Device.{one_more}
-use Rattle.pgn_tool.proofs.runs.CallToLines.{all_listed, counts_refused, game_cut, game_listed, list_stops, none_listed}
+use Rattle.pgn_tool.proofs.runs.CallToLines.{all_listed, game_cut, game_listed, list_stops, none_listed}
 use Rattle.pgn_tool.proofs.list.list_games.Goals as goal
 
 pub loop-fault-init : goal.loop-fault-init
