@@ -122,6 +122,18 @@ class InterruptedTest(unittest.TestCase):
             self.assertEqual(self.call("write", 1, task, self.file), (True, (1, b"", UNWRITTEN)))
             self.assertEqual(self.call("write", 2, task, self.file), (False, (0, text, b"")))
 
+    def test_the_last_flush_writes_the_block_in_hand_once_more(self):
+        text = 1000 * UNKNOWN
+        with open(self.file, "wb") as file:
+            file.write(1000 * b"* ")
+        is_met, (status, out, err) = self.call("write", 1, "export", self.file)
+        self.assertTrue(is_met and text.startswith(out))
+        # the block of 64 KiB, which has no room for the next line
+        self.assertTrue(2**16 - 80 < len(out) <= 2**16, len(out))
+        # the place is that of the first token with text missing: games are two bytes apart
+        place = 2 * (len(out) // len(UNKNOWN))
+        self.assertEqual((status, err), (1, b"byte %d: " % place + UNWRITTEN))
+
     def test_a_write_of_split_is_not_tried_again(self):
         folder = self.folder + "/one"
         os.mkdir(folder)
