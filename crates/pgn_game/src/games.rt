@@ -92,24 +92,28 @@ impl<const T: usize, const L: usize> Games<T, L> {
         next_game(&mut self.converter, &mut self.buffer, source, out)
     }
 
-    /// Returns the value of a tag of the game just finished, roster defaults included; `None` if no
-    /// game is just finished.
+    /// Returns the value of a tag of the game just finished, roster defaults included.
+    ///
+    /// The result is `None` if no game is just finished.
     pub fn tag(&self, name: &[u8]) -> Option<&[u8]>
         ensures { option_copied result ≡ finished_game_value self.now.converter name.now }
     {
         self.converter.tag(name)
     }
 
-    /// Returns the number of plies of the game just finished, without its variations; 0 if no game
-    /// is just finished.
+    /// Returns the number of plies of the game just finished, without its variations.
+    ///
+    /// It is 0 if no game is just finished.
     pub fn plies(&self) -> u64
         ensures { result ≡ finished_game_plies self.now.converter }
     {
         self.converter.plies()
     }
 
-    /// Returns the position at the end of the game just finished, after its moves outside
-    /// variations; `None` if no game is just finished.
+    /// Returns the position at the end of the game just finished.
+    ///
+    /// It is the one after all moves outside variations. The result is `None` if no game is just
+    /// finished.
     pub fn position(&self) -> Option<&Position>
         ensures { option_copied result ≡ finished_game_position self.now.converter }
     {
@@ -123,8 +127,9 @@ impl<const T: usize, const L: usize> Games<T, L> {
         self.converter.games()
     }
 
-    /// Returns the most pairs of an origin and a target that were tried for one move so far, as
-    /// `Converter::most_probes` counts them; at most 1,040.
+    /// Returns the most pairs of an origin and a target that were tried for one move so far.
+    ///
+    /// They are counted as by `Converter::most_probes`, and are at most 1,040.
     pub fn most_probes(&self) -> u32
         ensures value { result ≡ self.now.converter.reading.most_probes }
         ensures bound { result ≤ 1040 }
