@@ -13,6 +13,8 @@ mod folder;
 mod game_sink;
 mod list;
 mod machine;
+#[cfg(test)]
+mod memory_tests;
 mod replies;
 mod run;
 #[cfg(test)]

@@ -89,8 +89,8 @@ fn run_answer<I: Input, O: Output, F: GameFolder, E: Sink>(
     }
 }
 
-// Opens the file of the task, and carries the task out.
-fn run_task<I: Input, O: Output, F: GameFolder, E: Sink>(
+/// Opens the file of the task, carries the task out, and returns the exit status.
+pub fn run_task<I: Input, O: Output, F: GameFolder, E: Sink>(
     task: Task,
     input: &mut I,
     second: &mut I,

@@ -1,0 +1,327 @@
+//! Whole runs of the program on a machine in memory, which reports its bytes and its files to the
+//! prover: so the clauses about bytes say something of them.
+ghost use Rattle.std.specs.Prelude.{◌≡◌, ℕ, ◌-◌, ◌^◌, ◌<◌, ◌≤◌, List, [], ◌∷◌, ◌++◌, Some, length, string_bytes};
+ghost use Rattle.std.specs.Io.KnownBytes.{Appends};
+ghost use Rattle.pgn_game.specs.declared.mode.Mode.TheVariants.{Full};
+ghost use Rattle.pgn_game.specs.ConverterCalls.{profile_of};
+ghost use Rattle.pgn_game.specs.Progress.{output};
+ghost use Rattle.pgn_lexer.specs.TokensOf.{tokens_of};
+ghost use Rattle.pgn_tool.specs.Files.{whole_files};
+ghost use Rattle.pgn_tool.specs.Machine.{holds};
+ghost use Rattle.pgn_tool.specs.SplitGames.{Logs, texts_in};
+
+use crate::file_system::FileSystem;
+use crate::files::GameFiles;
+use crate::folder::Folder;
+use crate::machine::{GameFolder, Input, Output, SystemFault};
+use crate::run::{run, run_task};
+use crate::split::split_to;
+use crate::standard::{StandardInput, StandardOutput};
+use crate::stream_tests::{UNKNOWN, WON};
+use pgn_arguments::Task;
+use pgn_game::{Inlet, Outlet, Sink, WriteFault};
+use std::alloc::{AllocError, Global};
+use std::collections::VecDeque;
+use std::io::Write;
+use std::process::Abort;
+use std::test::Fail;
+
+/// What was done with a file that is written.
+#[derive(Drop)]
+pub enum Step {
+    Entered(String),
+    Made(String),
+    Closed(Vec<u8>),
+}
+
+/// A file that is written. Without memory for it the test ends, so no write fails.
+#[derive(Drop)]
+pub struct Paper<A> {
+    rt: A,
+    text: Vec<u8>,
+}
+
+impl<A: Abort + Copy + Drop> Sink for Paper<A> {
+    ghost use Rattle.std.specs.Prelude.{Some};
+
+    ghost taken = { λ p. Some p.text.items };
+
+    ghost failures = { λ _. 0 };
+
+    fn write_some(&mut self, bytes: &[u8]) -> Result<usize, WriteFault> {
+        let kept = self.text.extend_from_slice(bytes);
+        assert!(self.rt; kept.is_ok());
+        Ok(bytes.len())
+    }
+
+    fn flush(&mut self) -> Result<(), WriteFault> {
+        Ok(())
+    }
+}
+
+/// A file system with one file to read, which makes each file.
+#[derive(Drop)]
+pub struct Memory<A> {
+    rt: A,
+    alloc: Global,
+    name: String,
+    text: Vec<u8>,
+    steps: Vec<Step>,
+}
+
+impl<A: Abort + Copy + Drop> Memory<A> {
+    fn new(rt: A, alloc: Global, name: String, text: Vec<u8>) -> Memory<A> {
+        Memory {
+            rt,
+            alloc,
+            name,
+            text,
+            steps: Vec::new(alloc),
+        }
+    }
+
+    // Without memory for it the test ends.
+    fn note(&mut self, step: Step)
+        ensures { self.new.steps.items ≡ self.old.steps.items ++ step ∷ [] }
+    {
+        let kept = self.steps.push(step);
+        assert!(self.rt; kept.is_ok());
+    }
+
+    fn copy_of(&self, name: &str) -> String
+        ensures { string_bytes result ≡ name.now }
+    {
+        let copy = String::from_str(self.alloc, name);
+        assert!(self.rt; copy.is_ok());
+        copy.unwrap()
+    }
+}
+
+impl<A: Abort + Copy + Drop> FileSystem for Memory<A> {
+    ghost use Rattle.std.specs.Prelude.{◌≡◌, Some, Ok, map, bytes_eq, not, if◌then◌else◌, string_bytes};
+    ghost use Rattle.pgn_tool.specs.declared.memory_tests.Step.TheVariants.{Entered, Made, Closed};
+    ghost use Rattle.pgn_tool.specs.Machine.{holds, missing};
+    ghost use Rattle.pgn_tool.specs.Files.{entered, closed};
+    ghost use Rattle.pgn_tool.specs.FileSystem.{making, other};
+
+    type File = VecDeque<u8>;
+
+    type Out = Paper<A>;
+
+    ghost holding = { λ m path.
+        if bytes_eq path (string_bytes m.name) then holds (Some m.text.items) else missing };
+
+    ghost refuses = { λ m path _. not (bytes_eq path (string_bytes m.name)) };
+
+    ghost log = { λ m. Some (map (elim [
+      | Entered folder ↦ other (entered (string_bytes folder))
+      | Made name ↦ making (string_bytes name) (Ok tt)
+      | Closed text ↦ other (closed (Some text.items) 0)
+    ]) m.steps.items) };
+
+    fn open(&self, path: &str) -> Result<VecDeque<u8>, SystemFault> {
+        if path != self.name.as_str() {
+            return Err(SystemFault::Refused);
+        }
+        let mut file = VecDeque::new(self.alloc);
+        let kept = file.write_all(self.text.as_slice());
+        assert!(self.rt; kept.is_ok());
+        Ok(file)
+    }
+
+    fn enter(&mut self, folder: String) {
+        self.note(Step::Entered(folder));
+    }
+
+    fn create(&mut self, name: &str) -> Result<Paper<A>, SystemFault> {
+        let copy = self.copy_of(name);
+        self.note(Step::Made(copy));
+        Ok(Paper {
+            rt: self.rt,
+            text: Vec::new(self.alloc),
+        })
+    }
+
+    fn close(&mut self, out: Paper<A>) {
+        self.note(Step::Closed(out.text));
+    }
+}
+
+/// What a run left.
+#[derive(Drop)]
+struct Ran {
+    status: u8,
+    out: Vec<u8>,
+    steps: Vec<Step>,
+    err: Vec<u8>,
+}
+
+/// A run with these words, where `games.pgn` has the text and standard input is empty.
+fn run_words<A: Abort + Copy + Drop>(
+    rt: A,
+    alloc: Global,
+    words: &[&str],
+    text: &'static [u8],
+) -> Result<Ran, AllocError> {
+    let mut owned = Vec::new(alloc);
+    for word in words {
+        owned.push(String::from_str(alloc, word)?)?;
+    }
+    let mut out = StandardOutput::new(alloc, Vec::new(alloc));
+    let mut folder = Folder {
+        system: memory_of(rt, alloc, text)?,
+    };
+    let mut err = Outlet::new(Vec::new(alloc));
+    let status = run(
+        alloc,
+        Ok(owned),
+        &mut StandardInput::new(memory_of(rt, alloc, text)?, VecDeque::new(alloc)),
+        &mut StandardInput::new(memory_of(rt, alloc, text)?, VecDeque::new(alloc)),
+        &mut out,
+        &mut folder,
+        &mut err,
+    );
+    Ok(Ran {
+        status,
+        out: out.outlet.into_inner(),
+        steps: folder.system.steps,
+        err: err.into_inner(),
+    })
+}
+
+/// A machine whose file `games.pgn` has this text.
+fn memory_of<A: Abort + Copy + Drop>(
+    rt: A,
+    alloc: Global,
+    text: &[u8],
+) -> Result<Memory<A>, AllocError> {
+    let mut copy = Vec::new(alloc);
+    copy.extend_from_slice(text)?;
+    let name = String::from_str(alloc, "games.pgn")?;
+    Ok(Memory::new(rt, alloc, name, copy))
+}
+
+impl Ran {
+    fn is(&self, status: u8, out: &[u8], err: &[u8]) -> bool {
+        self.status == status && self.out.as_slice() == out && self.err.as_slice() == err
+    }
+}
+
+/// Whether these files were made in this folder, each closed before the next.
+fn made(steps: &[Step], folder: &str, files: &[(&str, &[u8])]) -> bool {
+    let [Step::Entered(path), rest @ ..] = steps else {
+        return false;
+    };
+    let mut left = rest;
+    for (name, text) in files {
+        let [Step::Made(made), Step::Closed(kept), rest @ ..] = left else {
+            return false;
+        };
+        if made.as_str() != *name || kept.as_slice() != *text {
+            return false;
+        }
+        left = rest;
+    }
+    path.as_str() == folder && left.is_empty()
+}
+
+/// Two games, of 30 bytes. The second one has White, so its tag section is not all unknown.
+const TWO: &[u8] = b"* [White \"A\"] 1. e4 (1. d4) *";
+
+const SECOND: &[u8] =
+    b"[Event \"?\"]\n[Site \"?\"]\n[Date \"????.??.??\"]\n[Round \"?\"]\n[White \"A\"]\n[Black \"?\"]\n[Result \"*\"]\n\n1. e4 ( 1. d4 ) *\n\n";
+
+const SECOND_REDUCED: &[u8] =
+    b"[Event \"?\"]\n[Site \"?\"]\n[Date \"????.??.??\"]\n[Round \"?\"]\n[White \"A\"]\n[Black \"?\"]\n[Result \"*\"]\n\n1. e4 *\n\n";
+
+const LINES: &[u8] =
+    b"1\t?\t?\t*\t0\trnbqkbnr/pppppppp/8/8/8/8/PPPPPPPP/RNBQKBNR w KQkq - 0 1\n2\tA\t?\t*\t1\trnbqkbnr/pppppppp/8/8/4P3/8/PPPP1PPP/RNBQKBNR b KQkq e3 0 1\n";
+
+#[test]
+fn carries_out_each_task(rt: HostRuntime) -> Result<(), Fail> {
+    let exported = run_words(rt, rt.alloc(), &["p", "export", "games.pgn"], TWO)?;
+    assert!(rt; exported.status == 0 && exported.err.is_empty());
+    assert!(rt; exported.out.starts_with(UNKNOWN) && exported.out.ends_with(SECOND));
+    assert_eq!(rt; exported.out.len(), UNKNOWN.len() + SECOND.len());
+    let reduced = run_words(
+        rt,
+        rt.alloc(),
+        &["p", "export", "--reduced", "games.pgn"],
+        TWO,
+    )?;
+    assert!(rt; reduced.status == 0 && reduced.out.ends_with(SECOND_REDUCED));
+    assert_eq!(rt; reduced.out.len(), UNKNOWN.len() + SECOND_REDUCED.len());
+    let twice = run_words(
+        rt,
+        rt.alloc(),
+        &["p", "export", "--checked", "games.pgn"],
+        b"1-0",
+    )?;
+    assert!(rt; twice.is(0, WON, b""));
+    let checked = run_words(rt, rt.alloc(), &["p", "check", "games.pgn"], TWO)?;
+    assert!(rt; checked.is(0, b"games: 2, plies: 1\n", b""));
+    let listed = run_words(rt, rt.alloc(), &["p", "list", "games.pgn"], TWO)?;
+    assert!(rt; listed.is(0, LINES, b""));
+    let split = run_words(rt, rt.alloc(), &["p", "split", "one", "games.pgn"], TWO)?;
+    assert!(rt; split.is(0, b"", b""));
+    assert!(rt;
+        made(
+            split.steps.as_slice(),
+            "one",
+            &[("000001.pgn", UNKNOWN), ("000002.pgn", SECOND)]
+        )
+    );
+    Ok(())
+}
+
+/// Exports the file of this name. If the status is 0, the export text of the file was written.
+fn export_named<I: Input, O: Output, F: GameFolder, E: Sink>(
+    name: String,
+    input: &mut I,
+    second: &mut I,
+    out: &mut O,
+    files: &mut F,
+    err: &mut E,
+) -> u8
+    requires { O.failures out.old < 2 ^ 64 - 1 }
+    ensures { result ≡ 0 → (text : List ℕ)
+        → I.holding input.old (string_bytes name) ≡ holds (Some text) → length text ≤ 2 ^ 62
+        → Appends (O.taken out.old) (O.taken out.new) (output (profile_of 64 32 Full) text) }
+{
+    let task = Task::Export {
+        reduced: false,
+        file: Some(name),
+    };
+    run_task(task, input, second, out, files, err)
+}
+
+/// Splits a text. If the status is 0, each of its games has a file, with its export text.
+fn split_text<F: GameFiles, E: Sink>(text: &'static [u8], files: &mut F, err: &mut E) -> u8
+    ensures { result ≡ 0 → Logs (F.log files.old) (F.log files.new)
+        (whole_files 0 (texts_in (tokens_of text.now))) }
+{
+    split_to(&mut Inlet::new(text), files, err)
+}
+
+#[test]
+fn meets_the_clauses_about_bytes(rt: HostRuntime) -> Result<(), Fail> {
+    let alloc = rt.alloc();
+    let mut out = StandardOutput::new(alloc, Vec::new(alloc));
+    let mut folder = Folder {
+        system: memory_of(rt, alloc, TWO)?,
+    };
+    let mut err = Outlet::new(Vec::new(alloc));
+    let status = export_named(
+        String::from_str(alloc, "games.pgn")?,
+        &mut StandardInput::new(memory_of(rt, alloc, TWO)?, VecDeque::new(alloc)),
+        &mut StandardInput::new(memory_of(rt, alloc, TWO)?, VecDeque::new(alloc)),
+        &mut out,
+        &mut folder,
+        &mut err,
+    );
+    let text = out.outlet.into_inner();
+    assert!(rt; status == 0 && text.starts_with(UNKNOWN) && text.ends_with(SECOND));
+    assert_eq!(rt; split_text(TWO, &mut folder, &mut err), 0);
+    assert_eq!(rt; folder.system.steps.len(), 4);
+    Ok(())
+}
