@@ -75,7 +75,7 @@ impl Square {
         ensures value { result ≡ cell_of self }
         ensures below { result < 64 }
     {
-        (self.index % 64) as usize
+        self.index as usize
     }
     // The square with that place among all.
     pub(crate) fn nth(index: usize) -> Square
