@@ -38,7 +38,7 @@ DEVICES = ("program", "split", "checked", "streams", "interrupted")
 # What stands in a line of the program that is not one of the source.
 OF_STANDARD = re.compile(
     r"rattle_std|let rt = HostRuntime;|fn (main|\w+)\(\)|rt\.words\(\)|assert\w*!\(|AllocError>\("
-    r"|File::\w+\(|(String|Vec)::new\(\)|\.try_\w+\(|PhantomData;")
+    r"|File::\w+\(|(String|Vec|VecDeque)::new\(\)|\.try_\w+\(|PhantomData;")
 
 
 def need_cargo():
@@ -75,6 +75,10 @@ def built():
 def read(path):
     with open(path, encoding="utf-8") as lines:
         return lines.read()
+
+
+# The one line of a library that is another for Cargo.
+INDEX, MASKED_INDEX = "        self.index as usize", "        (self.index % 64) as usize"
 
 
 class Built(unittest.TestCase):
@@ -308,6 +312,19 @@ class Written(unittest.TestCase):
             ("    ghost failures = { λ _. 0 };", "    ghost failures = { λ _. 0 }; fn f() {}"),
         ])
 
+    def test_the_index_of_a_square_is_masked(self):
+        out, _, _ = self.write()
+        lines = read(out + "/crates/chess_rules/src/square.rs").split("\n")
+        self.assertEqual((lines.count(INDEX), lines.count(MASKED_INDEX)), (0, 1))
+
+    def test_an_index_that_is_not_there_once_stops_it(self):
+        shift = INDEX.replace("index as usize", "index as usize + 0")
+        for new in (shift + "\n", (INDEX + "\n") * 2):
+            copy = self.copied("crates/chess_rules/src/square.rt", INDEX + "\n", new)
+            _, status, said = self.write(copy + "/bin/to_cargo")
+            self.assertEqual(status, 1, said)
+            self.assertIn("square.rt: not there once: self.index as usize", said)
+
     def test_a_call_of_the_toolchain_that_is_not_understood_stops_it(self):
         version, text = "        .version(VERSION)\n", 'matches.get_str("file") {'
         self.check_stops("crates/pgn_arguments/src/arguments.rt", [
@@ -349,6 +366,8 @@ def is_made(line, source):
     made.append(source.replace("#[rattlefmt::", "#[rustfmt::"))
     if source == "use std::marker::{Brand, PhantomData};":
         made.append("use std::marker::PhantomData;")
+    if source == INDEX:
+        made.append(MASKED_INDEX)
     return line in made
 
 
