@@ -1,5 +1,5 @@
 mod lines
 mod moves
 mod positions
-mod squares
+mod sets
 mod trying

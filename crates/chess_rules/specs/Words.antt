@@ -2,7 +2,7 @@
 -- Bit i of each belongs to the square with number i. No rule of play rests on it.
 use Rattle.std.specs.Prelude.{◌≡◌, ◌<◌, ℕ, ◌+◌, ◌*◌, ◌^◌, Bool, true, false, ◌&&◌, ◌||◌, not, List, [], ◌∷◌, filter, map, Option, None, Some, ◌==◌, if◌then◌else◌, slice_index_or}
 use Rattle.std.specs.Int.{bit_at}
-use Rattle.std.specs.List.{range_with_len}
+use Rattle.std.specs.List.{list_any, range_with_len}
 use Rattle.chess_rules.specs.declared.piece.Colour.{Colour}
 use Rattle.chess_rules.specs.declared.piece.Colour.TheVariants.{White, Black}
 use Rattle.chess_rules.specs.declared.piece.Kind.{Kind}
@@ -124,13 +124,26 @@ pub record Marks (word : ℕ) (test : Option Piece → Bool) (b : List (Option P
 
 -- a place is set or cleared, and no other changes
 pub record Sets (old new : ℕ) (place : ℕ) (value : Bool) : Type 0 where
+  pub inside : place < 64
   pub fits : new < 2 ^ 64
   pub of : (i : ℕ) → i < 64 → has new i ≡ (if i == place then value else has old i)
 
 -- one place is cleared, and what it had goes to another
 pub record Carries (old new : ℕ) (from to : ℕ) : Type 0 where
+  pub from_inside : from < 64
+  pub to_inside : to < 64
   pub fits : new < 2 ^ 64
   pub of : (i : ℕ) → i < 64 → has new i ≡ (if i == to then has old from else (if i == from then false else has old i))
+
+-- what is in both sets, in one of them or both, and not in a set
+pub record Meets (a b both : ℕ) : Type 0 where
+  pub of : (i : ℕ) → i < 64 → has both i ≡ (has a i && has b i)
+
+pub record Joins (a b either : ℕ) : Type 0 where
+  pub of : (i : ℕ) → i < 64 → has either i ≡ (has a i || has b i)
+
+pub record Misses (a rest : ℕ) : Type 0 where
+  pub of : (i : ℕ) → i < 64 → has rest i ≡ not (has a i)
 
 -- the set has exactly the places with a piece of the kind, by the three words
 pub record HasKinds (kinds : ℕ) (kind : Kind) (straight diagonal near : ℕ) : Type 0 where
@@ -175,3 +188,24 @@ pub record IsOnlyHighest (word only : ℕ) : Type 0 where
 -- the squares of a set, in the order of their places
 unfoldable pub members : ℕ → List Square
 members word = filter (λ s. has word (cell_of s)) squares
+
+-- a square is in the set
+unfoldable pub has_any : ℕ → Bool
+has_any set = list_any (λ s. has set (cell_of s)) squares
+
+-- The first square of a set is taken out, if there is one.
+
+pub record HasNone (set : ℕ) : Type 0 where
+  pub of : (i : ℕ) → i < 64 → has set i ≡ false
+  pub none : members set ≡ []
+
+pub record TakesLowest (old new : ℕ) (s : Square) : Type 0 where
+  pub file : s.file < 8
+  pub rank : s.rank < 8
+  pub here : has old (cell_of s) ≡ true
+  pub rest : Sets old new (cell_of s) false
+  pub next : members old ≡ s ∷ members new
+
+abbrev pub Takes : Option Square → ℕ → ℕ → Type 0
+Takes None old new = HasNone old
+Takes (Some s) old new = TakesLowest old new s

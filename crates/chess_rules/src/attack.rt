@@ -16,44 +16,42 @@ use crate::geometry::{
 };
 use crate::piece::{Colour, Kind};
 use crate::square::Square;
-use crate::word::{below, has, lowest, only_highest, only_lowest, with};
+use crate::squares::Squares;
 
 // Whether all squares strictly between are empty.
 pub(crate) fn is_clear(board: &Board, from: Square, to: Square) -> bool
     ensures { result ≡ spec.is_clear board.now from to }
 {
-    between(from, to) & board.occupied() == 0
+    (between(from, to) & board.occupied()).is_empty()
 }
 
 // The squares of the set from which the way to the target is clear: all squares between are empty.
-pub(crate) fn clear_among(board: &Board, set: u64, target: Square) -> u64
+pub(crate) fn clear_among(board: &Board, set: Squares, target: Square) -> Squares
     ensures { Places result (λ s. has set (cell_of s) && spec.is_clear board.now s target) }
 {
     let mut clear = set;
     let mut left = set;
-    while left != 0 {
-        let place = lowest(left);
-        left = with(left, place, false);
-        if !is_clear(board, Square::nth(place), target) {
-            clear = with(clear, place, false);
+    while let Some(square) = left.take_lowest() {
+        if !is_clear(board, square, target) {
+            clear = clear.with(square, false);
         }
     }
     clear
 }
 
 // The pieces nearest to the target on a line through it, on either side of it.
-fn nearest(board: &Board, line: u64, target: Square) -> u64
+fn nearest(board: &Board, line: Squares, target: Square) -> Squares
     requires { IsLine (λ s. has line (cell_of s)) target }
     ensures { Places result (λ s. has line (cell_of s) && reach.is_open board.now target s) }
 {
     target.recall_invariant();
     let pieces = line & board.occupied();
-    let first = below(target.index());
-    only_lowest(pieces & !first) | only_highest(pieces & first)
+    let before = Squares::before(target);
+    (pieces & !before).only_lowest() | (pieces & before).only_highest()
 }
 
 // The pieces nearest to the target on the four lines through it.
-fn pieces_in_view(board: &Board, target: Square) -> u64
+fn pieces_in_view(board: &Board, target: Square) -> Squares
     ensures { Places result (reach.is_in_view board.now target) }
 {
     target.recall_invariant();
@@ -103,7 +101,7 @@ pub(crate) fn may_attack(board: &Board, from: Square, to: Square) -> bool
     ensures { result ≡ false → spec.attacks board.now from to ≡ false }
 {
     from.recall_invariant();
-    if !has(aligned(to) | knights_to(to), from.index()) {
+    if !(aligned(to) | knights_to(to)).has(from) {
         return false;
     }
     match board.at(from) {
@@ -114,7 +112,7 @@ pub(crate) fn may_attack(board: &Board, from: Square, to: Square) -> bool
 
 // The rooks, bishops and queens of the colour that would attack the target if all squares between
 // were empty.
-fn sliders(board: &Board, by: Colour, target: Square) -> u64
+fn sliders(board: &Board, by: Colour, target: Square) -> Squares
     ensures { Places result (reach.slides board.now by target) }
 {
     (lines(target) & (board.of_kind(Kind::Rook) | board.of_kind(Kind::Queen))
@@ -126,11 +124,11 @@ fn sliders(board: &Board, by: Colour, target: Square) -> u64
 pub(crate) fn has_sliders(board: &Board, by: Colour, target: Square) -> bool
     ensures { result ≡ list_any (reach.slides board.now by target) squares }
 {
-    sliders(board, by, target) != 0
+    !sliders(board, by, target).is_empty()
 }
 
 // All pieces of the colour that would attack the target if all squares between were empty.
-fn possible_attackers(board: &Board, by: Colour, target: Square) -> u64
+fn possible_attackers(board: &Board, by: Colour, target: Square) -> Squares
     ensures { Places result (reach.may_attack board.now by target) }
 {
     let near = knights_to(target) & board.of_kind(Kind::Knight)
@@ -147,16 +145,17 @@ pub(crate) fn is_attacked(board: &Board, by: Colour, target: Square) -> bool
     ensures { result ≡ spec.is_attacked board.now by target }
 {
     target.recall_invariant();
-    let possible = possible_attackers(board, by, target);
-    if possible == 0 {
+    let mut others = possible_attackers(board, by, target);
+    let Some(first) = others.take_lowest() else {
         return false;
-    }
-    let place = lowest(possible);
-    if is_clear(board, Square::nth(place), target) {
+    };
+    if is_clear(board, first, target) {
         return true;
     }
-    let others = with(possible, place, false);
-    others != 0 && others & (pieces_in_view(board, target) | knights_to(target)) != 0
+    if others.is_empty() {
+        return false;
+    }
+    !(others & (pieces_in_view(board, target) | knights_to(target))).is_empty()
 }
 
 // Whether the colour's one king, on that square, is attacked.
@@ -174,10 +173,11 @@ pub(crate) fn is_king_attacked(board: &Board, colour: Colour, king: Square) -> b
 // unless it is a king's or en passant.
 //
 // The caller chooses an order by this and nothing else, so it has no contract.
-pub(crate) fn evasion_targets(board: &Board, by: Colour, target: Square) -> u64 {
+pub(crate) fn evasion_targets(board: &Board, by: Colour, target: Square) -> Squares {
     let attackers = clear_among(board, possible_attackers(board, by, target), target);
-    if attackers == 0 {
-        return 0;
+    let mut others = attackers;
+    match others.take_lowest() {
+        None => attackers,
+        Some(first) => attackers | between(first, target),
     }
-    attackers | between(Square::nth(lowest(attackers)), target)
 }

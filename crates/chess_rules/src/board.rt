@@ -9,7 +9,7 @@ ghost use Rattle.chess_rules.specs.Words.{Marks};
 
 use crate::piece::{Colour, Kind, Piece};
 use crate::square::Square;
-use crate::word::{carried, has, with};
+use crate::squares::Squares;
 use std::marker::Model;
 
 // Each word has a bit for each square. A rook is in `straight`, a bishop in `diagonal`, a queen in
@@ -17,10 +17,10 @@ use std::marker::Model;
 // too, a king in `diagonal` too. An empty square is in none of the four.
 #[derive(Clone, Copy)]
 pub(crate) struct Board {
-    straight: u64,
-    diagonal: u64,
-    near: u64,
-    black: u64,
+    straight: Squares,
+    diagonal: Squares,
+    near: Squares,
+    black: Squares,
 }
 
 impl Model for Board {
@@ -118,7 +118,7 @@ fn is_black(colour: Colour) -> bool
 }
 
 // The squares with a piece of the kind, by the three words that tell kinds apart.
-fn kind_set(kind: Kind, straight: u64, diagonal: u64, near: u64) -> u64
+fn kind_set(kind: Kind, straight: Squares, diagonal: Squares, near: Squares) -> Squares
     ensures { words.HasKinds result kind straight diagonal near }
 {
     match kind {
@@ -132,36 +132,36 @@ fn kind_set(kind: Kind, straight: u64, diagonal: u64, near: u64) -> u64
 }
 
 // The places whose bit is of that value.
-fn chosen(word: u64, value: bool) -> u64
-    ensures { words.Chosen word result value }
+fn chosen(set: Squares, value: bool) -> Squares
+    ensures { words.Chosen set result value }
 {
-    if value { word } else { !word }
+    if value { set } else { !set }
 }
 
 impl Board {
     // The squares that are not empty.
-    pub(crate) fn occupied(&self) -> u64
+    pub(crate) fn occupied(&self) -> Squares
         ensures { Marks result is_some self.now }
     {
         self.straight | self.diagonal | self.near
     }
 
     // The squares with a piece of the kind, of either colour.
-    pub(crate) fn of_kind(&self, kind: Kind) -> u64
+    pub(crate) fn of_kind(&self, kind: Kind) -> Squares
         ensures { Marks result (reach.has_kind kind) self.now }
     {
         kind_set(kind, self.straight, self.diagonal, self.near)
     }
 
     // The squares with a piece of the colour.
-    pub(crate) fn of_colour(&self, colour: Colour) -> u64
+    pub(crate) fn of_colour(&self, colour: Colour) -> Squares
         ensures { Marks result (spec.has_colour colour) self.now }
     {
         self.occupied() & chosen(self.black, is_black(colour))
     }
 
     // The squares with such a piece.
-    pub(crate) fn pieces(&self, colour: Colour, kind: Kind) -> u64
+    pub(crate) fn pieces(&self, colour: Colour, kind: Kind) -> Squares
         ensures { Marks result (spec.has_piece colour kind) self.now }
     {
         self.of_kind(kind) & chosen(self.black, is_black(colour))
@@ -170,12 +170,11 @@ impl Board {
     pub(crate) fn at(&self, square: Square) -> Option<Piece>
         ensures { result ≡ spec.at self.now square }
     {
-        let place = square.index();
         let code = Code {
-            straight: has(self.straight, place),
-            diagonal: has(self.diagonal, place),
-            near: has(self.near, place),
-            black: has(self.black, place),
+            straight: self.straight.has(square),
+            diagonal: self.diagonal.has(square),
+            near: self.near.has(square),
+            black: self.black.has(square),
         };
         code.content()
     }
@@ -183,32 +182,31 @@ impl Board {
     pub(crate) fn is_empty(&self, square: Square) -> bool
         ensures { result ≡ spec.is_empty self.now square }
     {
-        !has(self.occupied(), square.index())
+        !self.occupied().has(square)
     }
 
     pub(crate) fn has_colour(&self, square: Square, colour: Colour) -> bool
         ensures { result ≡ spec.has_colour colour (spec.at self.now square) }
     {
-        has(self.of_colour(colour), square.index())
+        self.of_colour(colour).has(square)
     }
 
     pub(crate) fn has_piece(&self, square: Square, colour: Colour, kind: Kind) -> bool
         ensures { result ≡ spec.has_piece colour kind (spec.at self.now square) }
     {
-        has(self.pieces(colour, kind), square.index())
+        self.pieces(colour, kind).has(square)
     }
 
     #[inline(always)]
     pub(crate) fn put(&mut self, square: Square, content: Option<Piece>)
         ensures { self.new ≡ spec.put self.old square content }
     {
-        let place = square.index();
         let code = Code::of(content);
         *self = Board {
-            straight: with(self.straight, place, code.straight),
-            diagonal: with(self.diagonal, place, code.diagonal),
-            near: with(self.near, place, code.near),
-            black: with(self.black, place, code.black),
+            straight: self.straight.with(square, code.straight),
+            diagonal: self.diagonal.with(square, code.diagonal),
+            near: self.near.with(square, code.near),
+            black: self.black.with(square, code.black),
         };
     }
 
@@ -217,13 +215,11 @@ impl Board {
     pub(crate) fn carry(&mut self, from: Square, to: Square)
         ensures { self.new ≡ spec.put (spec.put self.old from None) to (spec.at self.old from) }
     {
-        let from = from.index();
-        let to = to.index();
         *self = Board {
-            straight: carried(self.straight, from, to),
-            diagonal: carried(self.diagonal, from, to),
-            near: carried(self.near, from, to),
-            black: carried(self.black, from, to),
+            straight: self.straight.with_moved(from, to),
+            diagonal: self.diagonal.with_moved(from, to),
+            near: self.near.with_moved(from, to),
+            black: self.black.with_moved(from, to),
         };
     }
 
@@ -232,10 +228,10 @@ impl Board {
         ensures { result ≡ initial_board }
     {
         Board {
-            straight: 0xcb00_0000_0000_00cb,
-            diagonal: 0x3c00_0000_0000_003c,
-            near: 0x52ff_0000_0000_ff52,
-            black: 0xffff_0000_0000_0000,
+            straight: Squares::of_bits(0xcb00_0000_0000_00cb),
+            diagonal: Squares::of_bits(0x3c00_0000_0000_003c),
+            near: Squares::of_bits(0x52ff_0000_0000_ff52),
+            black: Squares::of_bits(0xffff_0000_0000_0000),
         }
     }
 
@@ -244,10 +240,10 @@ impl Board {
         ensures { length result ≡ 64 }
     {
         Board {
-            straight: 0,
-            diagonal: 0,
-            near: 0,
-            black: 0,
+            straight: Squares::of_bits(0),
+            diagonal: Squares::of_bits(0),
+            near: Squares::of_bits(0),
+            black: Squares::of_bits(0),
         }
     }
 

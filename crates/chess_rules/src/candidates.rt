@@ -11,7 +11,7 @@ use crate::geometry::{aligned, knights_to};
 use crate::piece::Kind;
 use crate::position::Position;
 use crate::square::Square;
-use crate::word::{has_several, lowest, with};
+use crate::squares::Squares;
 use arrayvec::ArrayVec;
 
 /// Returns the squares from which a piece of the kind, of the side to move, sees the target.
@@ -46,20 +46,19 @@ pub fn origins(position: &Position, kind: Kind, target: Square) -> ArrayVec<Squa
 pub fn only_origin(position: &Position, kind: Kind, target: Square) -> Option<Square>
     ensures { result ≡ lone (candidates position.now kind target) }
 {
-    let origins = origin_set(position, kind, target);
-    if origins == 0 {
+    let mut origins = origin_set(position, kind, target);
+    let Some(first) = origins.take_lowest() else {
         return None;
+    };
+    match origins.take_lowest() {
+        None => Some(first),
+        Some(_) => None,
     }
-    let place = lowest(origins);
-    if with(origins, place, false) != 0 {
-        return None;
-    }
-    Some(Square::nth(place))
 }
 
 // The squares from which a piece of the kind sees the target, as a set.
 #[inline(always)]
-fn origin_set(position: &Position, kind: Kind, target: Square) -> u64
+fn origin_set(position: &Position, kind: Kind, target: Square) -> Squares
     ensures { members result ≡ candidates position.now kind target }
 {
     let own = position.board().pieces(position.side(), kind);
@@ -78,22 +77,20 @@ pub fn may_have_two_origins(position: &Position, kind: Kind, target: Square) -> 
 {
     let own = position.board().pieces(position.side(), kind);
     match kind {
-        Kind::Knight => has_several(own & knights_to(target)),
-        _ => has_several(own & aligned(target)),
+        Kind::Knight => (own & knights_to(target)).has_several(),
+        _ => (own & aligned(target)).has_several(),
     }
 }
 
 // The squares of a set of 8 at most.
-fn squares_of(set: u64) -> ArrayVec<Square, 8>
+fn squares_of(set: Squares) -> ArrayVec<Square, 8>
     requires { length (members set) ≤ 8 }
     ensures { result.items ≡ members set }
 {
     let mut squares = ArrayVec::new();
     let mut left = set;
-    while left != 0 {
-        let place = lowest(left);
-        squares.push(Square::nth(place));
-        left = with(left, place, false);
+    while let Some(square) = left.take_lowest() {
+        squares.push(square);
     }
     squares
 }

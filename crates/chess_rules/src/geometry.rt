@@ -9,53 +9,53 @@ ghost use Rattle.chess_rules.specs.declared.piece.Kind.TheVariants.{Pawn};
 
 use crate::piece::{Colour, Kind};
 use crate::square::Square;
+use crate::squares::Squares;
 use crate::tables::{
     ADJACENT, BETWEEN, BLACK_PAWNS, DIAGONALS, KNIGHT_JUMPS, LINES, STEEP, WHITE_PAWNS,
 };
-use crate::word::has;
 
 // The squares a knight's jump away.
-pub(crate) fn knights_to(target: Square) -> u64
+pub(crate) fn knights_to(target: Square) -> Squares
     ensures { Places result (λ s. square.is_jump s target) }
 {
     target.recall_invariant();
-    KNIGHT_JUMPS[target.index()]
+    Squares::of_bits(KNIGHT_JUMPS[target.index()])
 }
 
 // The squares side by side with it.
-pub(crate) fn adjacent(target: Square) -> u64
+pub(crate) fn adjacent(target: Square) -> Squares
     ensures { Places result (λ s. square.is_adjacent s target) }
 {
     target.recall_invariant();
-    ADJACENT[target.index()]
+    Squares::of_bits(ADJACENT[target.index()])
 }
 
 // The others of its rank and its file.
-pub(crate) fn lines(target: Square) -> u64
+pub(crate) fn lines(target: Square) -> Squares
     ensures { Places result (λ s. square.in_line s target) }
 {
     target.recall_invariant();
-    LINES[target.index()]
+    Squares::of_bits(LINES[target.index()])
 }
 
 // The others of its diagonals.
-pub(crate) fn diagonals(target: Square) -> u64
+pub(crate) fn diagonals(target: Square) -> Squares
     ensures { Places result (λ s. square.on_diagonal s target) }
 {
     target.recall_invariant();
-    DIAGONALS[target.index()]
+    Squares::of_bits(DIAGONALS[target.index()])
 }
 
 // The squares of its file and of the diagonal that rises to the right.
-pub(crate) fn steep(target: Square) -> u64
+pub(crate) fn steep(target: Square) -> Squares
     ensures { Places result (λ s. reach.is_steep s target) }
 {
     target.recall_invariant();
-    STEEP[target.index()]
+    Squares::of_bits(STEEP[target.index()])
 }
 
 // The others of its rank, its file and its diagonals.
-pub(crate) fn aligned(target: Square) -> u64
+pub(crate) fn aligned(target: Square) -> Squares
     ensures { Places result (λ s. reach.is_aligned s target) }
 {
     lines(target) | diagonals(target)
@@ -66,22 +66,22 @@ pub(crate) fn sees(from: Square, to: Square) -> bool
     ensures { result ≡ reach.is_aligned from to }
 {
     from.recall_invariant();
-    has(aligned(to), from.index())
+    aligned(to).has(from)
 }
 
 // The squares from which a pawn of the colour attacks it.
-pub(crate) fn pawns_to(by: Colour, target: Square) -> u64
+pub(crate) fn pawns_to(by: Colour, target: Square) -> Squares
     ensures { Places result (λ s. reach.reaches Pawn by s target) }
 {
     target.recall_invariant();
     match by {
-        Colour::White => WHITE_PAWNS[target.index()],
-        Colour::Black => BLACK_PAWNS[target.index()],
+        Colour::White => Squares::of_bits(WHITE_PAWNS[target.index()]),
+        Colour::Black => Squares::of_bits(BLACK_PAWNS[target.index()]),
     }
 }
 
 // The squares from which such a piece attacks `to`, if all squares between are empty.
-fn reaching(kind: Kind, colour: Colour, to: Square) -> u64
+fn reaching(kind: Kind, colour: Colour, to: Square) -> Squares
     ensures { Places result (λ s. reach.reaches kind colour s to) }
 {
     match kind {
@@ -99,7 +99,7 @@ pub(crate) fn reaches(kind: Kind, colour: Colour, from: Square, to: Square) -> b
     ensures { result ≡ reach.reaches kind colour from to }
 {
     from.recall_invariant();
-    has(reaching(kind, colour, to), from.index())
+    reaching(kind, colour, to).has(from)
 }
 
 // Whether a pawn of the colour goes from the first rank to the second one.
@@ -115,10 +115,10 @@ pub(crate) fn is_ahead(colour: Colour, rank: u8, ahead: u8) -> bool
 }
 
 // The squares strictly between the two; none if they are not on one rank, file or diagonal.
-pub(crate) fn between(from: Square, to: Square) -> u64
+pub(crate) fn between(from: Square, to: Square) -> Squares
     ensures { Places result (λ s. square.strictly_between from s to) }
 {
     from.recall_invariant();
     to.recall_invariant();
-    BETWEEN[64 * from.index() + to.index()]
+    Squares::of_bits(BETWEEN[64 * from.index() + to.index()])
 }

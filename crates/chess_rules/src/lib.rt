@@ -15,11 +15,11 @@ mod piece;
 mod position;
 mod probes;
 mod square;
+mod squares;
 mod step;
 mod tables;
 #[cfg(test)]
 mod tests;
-mod word;
 
 pub use candidates::{may_have_two_origins, only_origin, origins};
 pub use legal::{has_legal_move, in_check, position_after, try_pair};

@@ -13,8 +13,8 @@ use crate::piece::{Kind, Promotion};
 use crate::position::{Move, Position};
 use crate::probes::Probes;
 use crate::square::Square;
+use crate::squares::Squares;
 use crate::step::last_rank;
-use crate::word::{has, lowest, with};
 
 // What a pawn becomes if the pair is tried: all four promotions are legal, or none.
 fn one_promotion(position: &Position, from: Square, to: Square) -> Option<Promotion>
@@ -44,17 +44,20 @@ fn is_legal_pair(position: &Position, from: Square, to: Square, probes: &mut Pro
 }
 
 // Whether the pair of one of these origins and the target is legal.
-fn has_legal_origin(position: &Position, origins: u64, target: Square, probes: &mut Probes) -> bool
+fn has_legal_origin(
+    position: &Position,
+    origins: Squares,
+    target: Square,
+    probes: &mut Probes,
+) -> bool
     requires { probes.old + length (members origins) < 2 ^ 32 }
     ensures found { result
         ≡ list_any (λ s. spec.is_legal_pair position.now s target) (members origins) }
     ensures count { Counts result probes.old probes.new (length (members origins)) }
 {
     let mut left = origins;
-    while left != 0 {
-        let place = lowest(left);
-        left = with(left, place, false);
-        if is_legal_pair(position, Square::nth(place), target, probes) {
+    while let Some(from) = left.take_lowest() {
+        if is_legal_pair(position, from, target, probes) {
             return true;
         }
     }
@@ -62,16 +65,19 @@ fn has_legal_origin(position: &Position, origins: u64, target: Square, probes: &
 }
 
 // Whether the pair of the origin and one of these targets is legal.
-fn has_legal_target(position: &Position, from: Square, targets: u64, probes: &mut Probes) -> bool
+fn has_legal_target(
+    position: &Position,
+    from: Square,
+    targets: Squares,
+    probes: &mut Probes,
+) -> bool
     requires { probes.old + length (members targets) < 2 ^ 32 }
     ensures found { result ≡ list_any (spec.is_legal_pair position.now from) (members targets) }
     ensures count { Counts result probes.old probes.new (length (members targets)) }
 {
     let mut left = targets;
-    while left != 0 {
-        let place = lowest(left);
-        left = with(left, place, false);
-        if is_legal_pair(position, from, Square::nth(place), probes) {
+    while let Some(to) = left.take_lowest() {
+        if is_legal_pair(position, from, to, probes) {
             return true;
         }
     }
@@ -79,7 +85,7 @@ fn has_legal_target(position: &Position, from: Square, targets: u64, probes: &mu
 }
 
 // The squares beside the king of the side to move without a piece of its side.
-fn king_steps(position: &Position) -> u64
+fn king_steps(position: &Position) -> Squares
     ensures { Places result (spec.is_king_step position.now) }
 {
     adjacent(position.king()) & !position.board().of_colour(position.side())
@@ -104,21 +110,20 @@ pub(crate) fn has_other_move(position: &Position, probes: &mut Probes) -> bool
     ensures count { Counts result probes.old probes.new (spec.count_others position.now) }
 {
     let first = evasion_targets(position.board(), position.side().other(), position.king());
-    has_other_move_to(position, first, probes) || has_other_move_to(position, !first, probes)
+    let others = !first;
+    has_other_move_to(position, first, probes) || has_other_move_to(position, others, probes)
 }
 
 // Whether a pair that is still to be tried for one of the targets is legal.
-fn has_other_move_to(position: &Position, targets: u64, probes: &mut Probes) -> bool
+fn has_other_move_to(position: &Position, targets: Squares, probes: &mut Probes) -> bool
     requires { probes.old + sum_by (spec.count_untried position.now) (members targets) < 2 ^ 32 }
     ensures found { result ≡ list_any (spec.has_untried_move position.now) (members targets) }
     ensures count { Counts result probes.old probes.new
         (sum_by (spec.count_untried position.now) (members targets)) }
 {
     let mut left = targets;
-    while left != 0 {
-        let place = lowest(left);
-        left = with(left, place, false);
-        if has_untried_move(position, Square::nth(place), probes) {
+    while let Some(target) = left.take_lowest() {
+        if has_untried_move(position, target, probes) {
             return true;
         }
     }
@@ -137,7 +142,7 @@ fn has_untried_move(position: &Position, target: Square, probes: &mut Probes) ->
 // The origins still to be tried for the target: the side's knights a jump away, and its other
 // pieces on a rank, a file or a diagonal with the target, if the way is clear. A king whose step
 // was tried is not among them.
-fn untried(position: &Position, target: Square) -> u64
+fn untried(position: &Position, target: Square) -> Squares
     ensures { Places result (spec.is_untried position.now target) }
 {
     target.recall_invariant();
@@ -150,11 +155,11 @@ fn untried(position: &Position, target: Square) -> u64
 }
 
 // These pieces, without the king if its step to the target was tried.
-fn without_tried_king(position: &Position, pieces: u64, target: Square) -> u64
+fn without_tried_king(position: &Position, pieces: Squares, target: Square) -> Squares
     ensures { Places result (spec.is_without_tried_king position.now pieces target) }
 {
     target.recall_invariant();
-    if has(king_steps(position), target.index()) {
+    if king_steps(position).has(target) {
         pieces & !position.board().pieces(position.side(), Kind::King)
     } else {
         pieces

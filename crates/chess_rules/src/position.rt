@@ -16,8 +16,8 @@ use crate::contents::{has_pawn_on_edge, king_square, kings};
 use crate::geometry::sees;
 use crate::piece::{Colour, Kind, Piece, Promotion};
 use crate::square::Square;
+use crate::squares::Squares;
 use crate::step::{board_after, board_to_test, crossed, is_double_step, is_plain};
-use crate::word::has;
 use std::marker::Model;
 
 /// A move: its origin, its target and what a pawn becomes.
@@ -444,7 +444,8 @@ const HOMES: u64 = 0x9100_0000_0000_0091;
 fn rights_after(mv: &Move, rights: Rights) -> Rights
     ensures { result ≡ step.rights_after mv.now rights }
 {
-    if !has(HOMES, mv.from.index()) && !has(HOMES, mv.to.index()) {
+    let homes = Squares::of_bits(HOMES);
+    if !homes.has(mv.from) && !homes.has(mv.to) {
         return rights;
     }
     rights_left(mv, rights)

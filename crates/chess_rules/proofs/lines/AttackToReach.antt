@@ -12,7 +12,7 @@ use Rattle.chess_rules.specs.Square.{Square, squares, gap, same_square, is_adjac
 use Rattle.chess_rules.specs.Board.{Board, at, is_empty, has_colour, same_colour, same_kind}
 use Rattle.chess_rules.specs.Attacks.{is_clear, is_ahead, kind_attacks, cell_attacks, attacks, is_attacked}
 use Rattle.chess_rules.specs.Reach.{is_aligned, is_in_view, may_attack, near_with, reaches, slides_with}
-use Rattle.chess_rules.proofs.squares.AllSquares.{first_true, second_true, all_squares, any_same, implied}
+use Rattle.chess_rules.proofs.sets.AllSquares.{first_true, second_true, all_squares, any_same, implied}
 
 -- What a cell holds is determined.
 

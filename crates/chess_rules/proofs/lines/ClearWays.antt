@@ -1,19 +1,16 @@
 -- All squares between two are empty exactly if the set of them has no piece; and the squares of a
 -- set from which the way is so clear.
-use Rattle.std.proofs.Common.{◌≡◌, ℕ, ◌<◌, ◌^◌, Bool, not, ◌&&◌, ◌||◌, List, [], ◌∷◌, refl, sym, ◌∙◌, ap, ap₂, arith}
-use Rattle.std.specs.Prelude.{◌==◌, Option, is_none, is_some}
-use Rattle.std.specs.Int.Bits.{bit_and}
+use Rattle.std.proofs.Common.{◌≡◌, ℕ, ◌<◌, Bool, not, ◌&&◌, ◌||◌, List, [], ◌∷◌, refl, sym, ◌∙◌, ap, ap₂, arith}
+use Rattle.std.specs.Prelude.{Option, is_none, is_some}
 use Rattle.std.specs.List.{list_all, list_any}
-use Rattle.std.proofs.lemmas.Nat.{and_le_l}
 use Rattle.chess_rules.specs.declared.piece.Piece.{Piece}
 use Rattle.chess_rules.specs.Square.{Square, squares, strictly_between}
 use Rattle.chess_rules.specs.Board.{Board, at, cell_of, is_empty}
 use Rattle.chess_rules.specs.Attacks.{is_clear}
 use Rattle.chess_rules.specs.Reach.{square_at}
-use Rattle.chess_rules.specs.Words.{has, Marks, Places}
+use Rattle.chess_rules.specs.Words.{has, has_any, HasNone, Marks, Meets, Places}
 use Rattle.chess_rules.proofs.positions.OneKing.{cell_of-square_at}
-use Rattle.chess_rules.proofs.squares.WordsToCells.{has_zero}
-use Rattle.chess_rules.proofs.squares.SetsToSquares.{marked, places_and, set_test}
+use Rattle.chess_rules.proofs.sets.SetsToSquares.{any_of_set, marked, places_and}
 
 all_unless : {X : Type 0} (p q r : X → Bool) (xs : List X) → ((x : X) → q x ≡ not (r x)) → list_all (λ x. not (p x) || r x) xs ≡ not (list_any (λ x. p x && q x) xs)
 all_unless p q r [] h = refl
@@ -25,15 +22,10 @@ all_unless p q r (x ∷ xs) h = by_tests (p x) (q x) (r x) _ _ (h x) (all_unless
 filled : (o : Option Piece) → is_some o ≡ not (is_none o)
 filled o = grind arith
 
-not_again : (x y : Bool) → not x ≡ y → x ≡ not y
-not_again x y h = grind arith
-
-pub clear_by_set : (b : Board) (s t : Square) (v w : ℕ) → Places v (λ u. strictly_between s u t) → Marks w is_some b → v < 2 ^ 64 → (bit_and v w == 0) ≡ is_clear b s t
-clear_by_set b s t v w between pieces fits =
-    not_again (bit_and v w == 0) _
-    (set_test (bit_and v w) (λ u. strictly_between s u t && is_some (at b u))
-    (places_and v w (λ u. strictly_between s u t) (λ u. is_some (at b u)) between (marked w is_some b pieces))
-    (omega (arith, and_le_l v w, fits)))
+pub clear_by_set : (b : Board) (s t : Square) (v w r : ℕ) → Places v (λ u. strictly_between s u t) → Marks w is_some b → Meets v w r → not (has_any r) ≡ is_clear b s t
+clear_by_set b s t v w r between pieces both =
+    ap not (any_of_set r (λ u. strictly_between s u t && is_some (at b u))
+    (places_and v w r (λ u. strictly_between s u t) (λ u. is_some (at b u)) both between (marked w is_some b pieces)))
     ∙ sym (all_unless (λ u. strictly_between s u t) (λ u. is_some (at b u)) (is_empty b) squares (λ u. filled (at b u)))
 
 -- The squares of a set from which the way is clear, square by square.
@@ -42,10 +34,10 @@ module _ (test : Square → Bool) (set : ℕ) where
   pub record Keeps (left kept : ℕ) : Type 0 where
     pub of : (i : ℕ) → i < 64 → has kept i ≡ (has set i && (has left i || test (square_at i)))
 
-  pub none_left : (left kept : ℕ) → left ≡ 0 → Keeps left kept → Places kept (λ s. has set (cell_of s) && test s)
+  pub none_left : (left kept : ℕ) → HasNone left → Keeps left kept → Places kept (λ s. has set (cell_of s) && test s)
   none_left left kept none w =
       record {
         of = λ i low.
             w.of i low
-            ∙ ap₂ (λ x y. x && (y || test (square_at i))) (ap (has set) (sym (cell_of-square_at i))) (ap (λ n. has n i) none ∙ has_zero i);
+            ∙ ap₂ (λ x y. x && (y || test (square_at i))) (ap (has set) (sym (cell_of-square_at i))) (none.of i low);
       }

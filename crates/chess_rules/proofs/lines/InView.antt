@@ -1,20 +1,17 @@
 -- On a line through a square, the nearest piece on either side is the one in view. So at most eight
 -- pieces are in view of a square.
-use Rattle.std.proofs.Common.{◌≡◌, ◌≢◌, ℕ, ◌<◌, ◌≤◌, ◌^◌, Bool, true, false, not, ◌&&◌, ◌||◌, ◌⊎◌, length, refl, sym, ◌∙◌, ap, ap₂, w64, arith}
+use Rattle.std.proofs.Common.{◌≡◌, ◌≢◌, ℕ, ◌<◌, ◌≤◌, Bool, true, false, not, ◌&&◌, ◌||◌, ◌⊎◌, length, refl, sym, ◌∙◌, ap, ap₂, arith}
 use Rattle.std.specs.Prelude.{filter, is_some, nat_lt}
-use Rattle.std.specs.Int.{bit_not}
-use Rattle.std.specs.Int.Bits.{bit_and, bit_or}
 use Rattle.std.proofs.lemmas.Bool.{false≢true, or_left, or_right, not-true, and_from}
 use Rattle.chess_rules.specs.Square.{Square, squares, inside, in_line, on_diagonal, strictly_between}
 use Rattle.chess_rules.specs.Board.{Board, at, cell_of, is_empty}
 use Rattle.chess_rules.specs.Attacks.{is_clear}
 use Rattle.chess_rules.specs.Reach.{IsLine, is_in_view, is_open, is_steep, square_at}
-use Rattle.chess_rules.specs.Words.{has, IsHighest, IsLowest, IsOnlyHighest, IsOnlyLowest, Places}
+use Rattle.chess_rules.specs.Words.{has, IsHighest, IsLowest, IsOnlyHighest, IsOnlyLowest, Joins, Places}
 use Rattle.chess_rules.proofs.positions.OneKing.{cell_of-square_at}
-use Rattle.chess_rules.proofs.squares.AllSquares.{first_true, second_true, same_tests, each_square, not_true}
-use Rattle.chess_rules.proofs.squares.SetsToSquares.{at_square, one_kept}
+use Rattle.chess_rules.proofs.sets.AllSquares.{first_true, second_true, same_tests, each_square, not_true}
+use Rattle.chess_rules.proofs.sets.SetsToSquares.{at_square, one_kept}
 use Rattle.chess_rules.proofs.trying.FoundLists.{kept_either, kept_more}
-use Rattle.chess_rules.proofs.squares.WordsToCells.{has_and, has_not, has_or}
 use Rattle.chess_rules.proofs.lines.AttackToReach.{clear_if, not_empty}
 use Rattle.chess_rules.proofs.lines.LinesThrough.{file_line, rank_line, rising_line, falling_line, inside_means, inside_up, inside_down}
 
@@ -47,17 +44,12 @@ module _ (b : Board) (t : Square) (line : Square → Bool) (on : IsLine line t) 
   not_there : (i : ℕ) → i < 64 → line (square_at i) ≡ true → t.file < 8 → i ≢ cell_of t
   not_there i low here file e = grind arith
 
--- The nearest pieces on a line, as sets.
-module _ (b : Board) (t : Square) (line occupied below low high : ℕ) (tf : t.file < 8) (tr : t.rank < 8)
+-- The nearest pieces on a line, as sets: of those from t on the lowest, of those below the highest.
+module _ (b : Board) (t : Square) (line occupied up down low high : ℕ) (tf : t.file < 8) (tr : t.rank < 8)
     (on : IsLine (λ s. has line (cell_of s)) t) (pieces : Places occupied (λ s. is_some (at b s)))
-    (fits : below < 2 ^ 64) (first : (i : ℕ) → i < 64 → has below i ≡ nat_lt i (cell_of t))
-    (lowest : IsOnlyLowest (bit_and (bit_and line occupied) (bit_not w64 below)) low) (highest : IsOnlyHighest (bit_and (bit_and line occupied) below) high) where
-  after : (i : ℕ) → i < 64 → has (bit_and (bit_and line occupied) (bit_not w64 below)) i ≡ ((has line i && has occupied i) && not (nat_lt i (cell_of t)))
-  after i h = has_and (bit_and line occupied) (bit_not w64 below) i ∙ ap₂ (λ x y. x && y) (has_and line occupied i) (has_not below i fits h ∙ ap not (first i h))
-
-  before : (i : ℕ) → i < 64 → has (bit_and (bit_and line occupied) below) i ≡ ((has line i && has occupied i) && nat_lt i (cell_of t))
-  before i h = has_and (bit_and line occupied) below i ∙ ap₂ (λ x y. x && y) (has_and line occupied i) (first i h)
-
+    (after : (i : ℕ) → i < 64 → has up i ≡ ((has line i && has occupied i) && not (nat_lt i (cell_of t))))
+    (before : (i : ℕ) → i < 64 → has down i ≡ ((has line i && has occupied i) && nat_lt i (cell_of t)))
+    (lowest : IsOnlyLowest up low) (highest : IsOnlyHighest down high) where
   on_line : (i : ℕ) → i < 64 → has line i ≡ true → has line (cell_of (square_at i)) ≡ true
   on_line i h e = grind arith
 
@@ -82,7 +74,7 @@ module _ (b : Board) (t : Square) (line occupied below low high : ℕ) (tf : t.f
 
   from_low : (i : ℕ) → i < 64 → has low i ≡ true → (has line (cell_of (square_at i)) && is_open b t (square_at i)) ≡ true
   from_low i h e =
-      let is : IsLowest (bit_and (bit_and line occupied) (bit_not w64 below)) i = lowest.here i h e in
+      let is : IsLowest up i = lowest.here i h e in
       let all : ((has line i && has occupied i) && not (nat_lt i (cell_of t))) ≡ true = sym (after i h) ∙ is.here in
       let both : (has line i && has occupied i) ≡ true = first_true _ (not (nat_lt i (cell_of t))) all in
       let above : cell_of t ≤ i = test_above i (cell_of t) (not-true _ (second_true (has line i && has occupied i) _ all)) in
@@ -94,13 +86,13 @@ module _ (b : Board) (t : Square) (line occupied below low high : ℕ) (tf : t.f
       in_order j u h g = grind arith
 
       empty_between : (u : Square) → u.file < 8 → u.rank < 8 → has line (cell_of u) ≡ true → (cell_of t < cell_of u) × (cell_of u < i)
-          → ((k : ℕ) → k < i → has (bit_and (bit_and line occupied) (bit_not w64 below)) k ≡ false) → is_empty b u ≡ true
+          → ((k : ℕ) → k < i → has up k ≡ false) → is_empty b u ≡ true
       empty_between u f r here x none =
           empty_there u (not (nat_lt (cell_of u) (cell_of t))) f r here (above_test (cell_of u) (cell_of t) (omega (arith, x.0))) (sym (after (cell_of u) (omega arith)) ∙ none (cell_of u) x.1)
 
   from_high : (i : ℕ) → i < 64 → has high i ≡ true → (has line (cell_of (square_at i)) && is_open b t (square_at i)) ≡ true
   from_high i h e =
-      let is : IsHighest (bit_and (bit_and line occupied) below) i = highest.here i h e in
+      let is : IsHighest down i = highest.here i h e in
       let all : ((has line i && has occupied i) && nat_lt i (cell_of t)) ≡ true = sym (before i h) ∙ is.here in
       let both : (has line i && has occupied i) ≡ true = first_true _ (nat_lt i (cell_of t)) all in
       let less : i < cell_of t = test_below i (cell_of t) (second_true (has line i && has occupied i) _ all) in
@@ -112,7 +104,7 @@ module _ (b : Board) (t : Square) (line occupied below low high : ℕ) (tf : t.f
       in_order j u h g = grind arith
 
       empty_between : (u : Square) → u.file < 8 → u.rank < 8 → has line (cell_of u) ≡ true → (i < cell_of u) × (cell_of u < cell_of t)
-          → ((k : ℕ) → i < k → k < 64 → has (bit_and (bit_and line occupied) below) k ≡ false) → is_empty b u ≡ true
+          → ((k : ℕ) → i < k → k < 64 → has down k ≡ false) → is_empty b u ≡ true
       empty_between u f r here x none =
           empty_there u (nat_lt (cell_of u) (cell_of t)) f r here (below_test (cell_of u) (cell_of t) x.1) (sym (before (cell_of u) (omega arith)) ∙ none (cell_of u) x.0 (omega arith))
 
@@ -146,10 +138,10 @@ module _ (b : Board) (t : Square) (line occupied below low high : ℕ) (tf : t.f
             none = λ k less. out_after k less;
           }))
         where
-          out_after : (k : ℕ) → k < i → has (bit_and (bit_and line occupied) (bit_not w64 below)) k ≡ false
-          out_after k less = by_bit (has (bit_and (bit_and line occupied) (bit_not w64 below)) k) refl
+          out_after : (k : ℕ) → k < i → has up k ≡ false
+          out_after k less = by_bit (has up k) refl
             where
-              by_bit : (x : Bool) → has (bit_and (bit_and line occupied) (bit_not w64 below)) k ≡ x → has (bit_and (bit_and line occupied) (bit_not w64 below)) k ≡ false
+              by_bit : (x : Bool) → has up k ≡ x → has up k ≡ false
               by_bit false g = g
               by_bit true g =
                   let low_k : k < 64 = omega arith in
@@ -165,18 +157,21 @@ module _ (b : Board) (t : Square) (line occupied below low high : ℕ) (tf : t.f
             none = λ k more low. out_before k more low;
           }))
         where
-          out_before : (k : ℕ) → i < k → k < 64 → has (bit_and (bit_and line occupied) below) k ≡ false
-          out_before k more low_k = by_bit (has (bit_and (bit_and line occupied) below) k) refl
+          out_before : (k : ℕ) → i < k → k < 64 → has down k ≡ false
+          out_before k more low_k = by_bit (has down k) refl
             where
-              by_bit : (x : Bool) → has (bit_and (bit_and line occupied) below) k ≡ x → has (bit_and (bit_and line occupied) below) k ≡ false
+              by_bit : (x : Bool) → has down k ≡ x → has down k ≡ false
               by_bit false g = g
               by_bit true g =
                   let all : ((has line k && has occupied k) && nat_lt k (cell_of t)) ≡ true = sym (before k low_k) ∙ g in
                   let both : (has line k && has occupied k) ≡ true = first_true _ (nat_lt k (cell_of t)) all in
                   absurd (none_between k low_k (inside_up i k (cell_of t) more (test_below k (cell_of t) (second_true (has line k && has occupied k) _ all))) both)
 
-  pub nearest_places : Places (bit_or low high) (λ s. has line (cell_of s) && is_open b t s)
-  nearest_places = grind (arith, has_or, same_tests, from_low, from_high, found)
+  pub nearest_places : (near : ℕ) → Joins low high near → Places near (λ s. has line (cell_of s) && is_open b t s)
+  nearest_places near either = record { of = λ i h. either.of i h ∙ same_tests (has low i || has high i) _ (one_of (has low i) (has high i) _ (from_low i h) (from_high i h)) (found i h) }
+    where
+      one_of : (x y z : Bool) → (x ≡ true → z ≡ true) → (y ≡ true → z ≡ true) → (x || y) ≡ true → z ≡ true
+      one_of x y z f g e = grind (arith, f, g)
 
 -- How many are in view.
 
@@ -273,9 +268,9 @@ line_of_set line t w tf tr on h =
           ∙ ap (λ x. x && inside (cell_of s) (cell_of u) (cell_of t)) (sym (at_square w line u h uf ur));
     }
 
-pub view_places : (b : Board) (t : Square) (v w x y k l m n : ℕ) → t.file < 8 → t.rank < 8
+pub view_places : (b : Board) (t : Square) (v w x y k l m n two three four : ℕ) → Joins k l two → Joins two m three → Joins three n four → t.file < 8 → t.rank < 8
     → Places v (on_file t) → Places w (on_rank t) → Places x (on_rising t) → Places y (on_falling t)
     → Places k (λ s. has v (cell_of s) && is_open b t s) → Places l (λ s. has w (cell_of s) && is_open b t s)
     → Places m (λ s. has x (cell_of s) && is_open b t s) → Places n (λ s. has y (cell_of s) && is_open b t s)
-    → Places (bit_or (bit_or (bit_or k l) m) n) (is_in_view b t)
-view_places b t v w x y k l m n tf tr pv pw px py pk pl pm pn = grind (arith, has_or, four_lines)
+    → Places four (is_in_view b t)
+view_places b t v w x y k l m n two three four joins more all tf tr pv pw px py pk pl pm pn = grind (arith, four_lines)

@@ -5,7 +5,7 @@ use Rattle.std.proofs.lemmas.Bool.{or_cases, or_left, or_right}
 use Rattle.chess_rules.specs.Square.{Square, gap, inside, in_line, on_diagonal, strictly_between, between_on_rank, between_on_file, between_on_diagonal}
 use Rattle.chess_rules.specs.Board.{cell_of}
 use Rattle.chess_rules.specs.Reach.{IsLine, is_steep}
-use Rattle.chess_rules.proofs.squares.AllSquares.{first_true, second_true, same_tests}
+use Rattle.chess_rules.proofs.sets.AllSquares.{first_true, second_true, same_tests}
 
 pub inside_means : (a x b : ℕ) → inside a x b ≡ true → ((a < x) × (x < b)) ⊎ ((b < x) × (x < a))
 inside_means a x b h = grind arith

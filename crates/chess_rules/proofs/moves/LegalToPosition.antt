@@ -13,7 +13,7 @@ use Rattle.chess_rules.specs.Step.{is_on_board, is_piece_step, is_pawn_step, is_
 use Rattle.chess_rules.specs.Legal.{legal, if_safe, is_legal}
 use Rattle.chess_rules.specs.Reach.{king_square, king_after}
 use Rattle.chess_rules.specs.Laws.{LeavesPosition}
-use Rattle.chess_rules.proofs.squares.AllSquares.{first_true, second_true}
+use Rattle.chess_rules.proofs.sets.AllSquares.{first_true, second_true}
 use Rattle.chess_rules.proofs.positions.OneKing.{king_stands, king_only_there, king_attacked_there}
 use Rattle.chess_rules.proofs.moves.CellsAfterPut.{OnBoard}
 use Rattle.chess_rules.proofs.positions.RulesOfPosition.{Sound, sound_from_position, position_from_sound, no_pawn_on_edge}

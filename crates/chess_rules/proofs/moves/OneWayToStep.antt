@@ -11,7 +11,7 @@ use Rattle.chess_rules.specs.Board.{at, is_empty, other, has_piece}
 use Rattle.chess_rules.specs.Attacks.{attacks}
 use Rattle.chess_rules.specs.Step.{own, is_piece_step, is_pawn_way, is_pawn_step, promotion_fits, is_target, captured_pawn, is_en_passant, castles_short, castles_long, short_wing, long_wing, Wing}
 use Rattle.chess_rules.specs.Laws.{CasesApart}
-use Rattle.chess_rules.proofs.squares.AllSquares.{first_true, second_true, equal_from}
+use Rattle.chess_rules.proofs.sets.AllSquares.{first_true, second_true, equal_from}
 use Rattle.chess_rules.proofs.moves.StepsKeepBoard.{pawn_attack, Castles}
 
 pub no_pawn_moves : (p : Parts) (m : Move) → is_piece_step p m ≡ true → own p Pawn m.from ≡ true → ⊥

@@ -18,7 +18,7 @@ use Rattle.chess_rules.specs.Step.{own, is_target, is_piece_step, is_pawn_step, 
 use Rattle.chess_rules.specs.Legal.{legal, if_safe, is_legal, is_check}
 use Rattle.chess_rules.specs.Reach.{is_aligned, king_square, king_after, slides, slides_with}
 use Rattle.chess_rules.specs.Plain.{is_plain, king_goes_far}
-use Rattle.chess_rules.proofs.squares.AllSquares.{first_true, second_true, each_square, all_squares, Passes, some_square, any_square, not_true, implied}
+use Rattle.chess_rules.proofs.sets.AllSquares.{first_true, second_true, each_square, all_squares, Passes, some_square, any_square, not_true, implied}
 use Rattle.chess_rules.proofs.lines.AttackToReach.{squares_same, none_or_all}
 use Rattle.chess_rules.proofs.positions.OneKing.{StandsAt, king_stands, king_attacked_there}
 use Rattle.chess_rules.proofs.moves.CellsAfterPut.{OnBoard, at_put, at_put_here, length-put}

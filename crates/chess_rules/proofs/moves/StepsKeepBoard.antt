@@ -15,7 +15,7 @@ use Rattle.chess_rules.specs.Board.{Board, some_piece, at, put, is_empty, other,
 use Rattle.chess_rules.specs.Attacks.{is_clear, is_ahead, kind_attacks, cell_attacks, attacks, is_attacked, king_attacked}
 use Rattle.chess_rules.specs.Position.{target_fits, target_rank}
 use Rattle.chess_rules.specs.Step.{own, home, home_rank, pawn_rank, double_rank, last_rank, is_piece_step, is_advance, is_double_step, is_pawn_capture, is_pawn_way, is_pawn_step, promotion_fits, is_en_passant, is_target, captured_pawn, crossed, castles, Wing, short_wing, long_wing, kind_of, promoted, carried, en_passant_board, castled}
-use Rattle.chess_rules.proofs.squares.AllSquares.{first_true, second_true, each_square, any_square, equal_tests, not_true}
+use Rattle.chess_rules.proofs.sets.AllSquares.{first_true, second_true, each_square, any_square, equal_tests, not_true}
 use Rattle.chess_rules.proofs.lines.AttackToReach.{kinds_same, colours_same, ahead_gap}
 use Rattle.chess_rules.proofs.moves.CellsAfterPut.{OnBoard, at_put}
 use Rattle.chess_rules.proofs.positions.RulesOfPosition.{Sound, is_edge}

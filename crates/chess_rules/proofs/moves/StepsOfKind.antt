@@ -12,7 +12,7 @@ use Rattle.chess_rules.specs.Square.{Square}
 use Rattle.chess_rules.specs.Board.{Board, at, is_empty, has_colour, has_piece, same_colour}
 use Rattle.chess_rules.specs.Attacks.{cell_attacks, kind_attacks}
 use Rattle.chess_rules.specs.Step.{own, is_piece_step, is_pawn_way, is_pawn_step, promotion_fits, is_advance, is_double_step, is_pawn_capture, is_en_passant, castles_short, castles_long, short_right, long_right, short_wing, long_wing, board_after}
-use Rattle.chess_rules.proofs.squares.AllSquares.{first_true, second_true, equal_from}
+use Rattle.chess_rules.proofs.sets.AllSquares.{first_true, second_true, equal_from}
 use Rattle.chess_rules.proofs.lines.AttackToReach.{kinds_same, colours_same}
 use Rattle.chess_rules.proofs.moves.StepsKeepBoard.{one_kind, colour_of_piece, not_both, short_is_wing, long_is_wing, castles_means, castling_ends_empty, pawn_attack}
 use Rattle.chess_rules.proofs.moves.OneWayToStep.{no_pawn_moves, pawn_of_step, pawn_of_en_passant}

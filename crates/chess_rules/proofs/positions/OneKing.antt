@@ -11,7 +11,7 @@ use Rattle.chess_rules.specs.Square.{Square}
 use Rattle.chess_rules.specs.Board.{Board, at, cell_of, kings, other, has_piece}
 use Rattle.chess_rules.specs.Attacks.{is_attacked, king_attacked}
 use Rattle.chess_rules.specs.Reach.{square_at, king_square}
-use Rattle.chess_rules.proofs.squares.AllSquares.{first_true, second_true, same_tests, Passes, some_square, any_square}
+use Rattle.chess_rules.proofs.sets.AllSquares.{first_true, second_true, same_tests, Passes, some_square, any_square}
 
 -- How many elements pass, an element at a time.
 

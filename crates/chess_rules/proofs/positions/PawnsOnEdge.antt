@@ -6,7 +6,7 @@ use Rattle.std.proofs.lemmas.Bool.{or_cases, or_left, or_right, and_from}
 use Rattle.chess_rules.specs.Square.{square}
 use Rattle.chess_rules.specs.Board.{Board, at, is_pawn}
 use Rattle.chess_rules.specs.Position.{pawn_on_edge}
-use Rattle.chess_rules.proofs.squares.AllSquares.{first_true, second_true, same_tests, Passes, some_square, any_square, any_of_range, range_of_any, equal_from}
+use Rattle.chess_rules.proofs.sets.AllSquares.{first_true, second_true, same_tests, Passes, some_square, any_square, any_of_range, range_of_any, equal_from}
 
 abbrev pub pawn_on : Board → ℕ → Bool
 pawn_on b rank = list_any (λ file. is_pawn (at b (square file rank))) (range_with_len 0 8)

@@ -11,7 +11,7 @@ use Rattle.chess_rules.specs.Square.{Square}
 use Rattle.chess_rules.specs.Board.{Board, at, other, kings, is_pawn}
 use Rattle.chess_rules.specs.Attacks.{king_attacked}
 use Rattle.chess_rules.specs.Position.{is_position, one_king, pawn_on_edge, target_fits}
-use Rattle.chess_rules.proofs.squares.AllSquares.{first_true, second_true, Passes, some_square, any_square, equal_from, equal_tests}
+use Rattle.chess_rules.proofs.sets.AllSquares.{first_true, second_true, Passes, some_square, any_square, equal_from, equal_tests}
 use Rattle.chess_rules.proofs.moves.CellsAfterPut.{OnBoard}
 
 pub record Sound (p : Parts) : Type 0 where

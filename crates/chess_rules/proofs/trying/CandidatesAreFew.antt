@@ -16,7 +16,7 @@ use Rattle.chess_rules.specs.Step.{own}
 use Rattle.chess_rules.specs.Candidate.{sees, is_candidate, candidates}
 use Rattle.chess_rules.specs.Reach.{is_aligned, is_in_view}
 use Rattle.chess_rules.specs.Laws.{FewCandidates}
-use Rattle.chess_rules.proofs.squares.AllSquares.{second_true, each_square}
+use Rattle.chess_rules.proofs.sets.AllSquares.{second_true, each_square}
 use Rattle.chess_rules.proofs.lines.AttackToReach.{squares_same}
 use Rattle.chess_rules.proofs.lines.InView.{few_in_view}
 use Rattle.chess_rules.proofs.trying.FoundLists.{keep, filter_as_map, distinct_found, kept_more}

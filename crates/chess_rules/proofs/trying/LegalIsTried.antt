@@ -17,7 +17,7 @@ use Rattle.chess_rules.specs.Legal.{is_legal, every_promotion, has_legal_move}
 use Rattle.chess_rules.specs.Candidate.{sees}
 use Rattle.chess_rules.specs.Reach.{king_square}
 use Rattle.chess_rules.specs.Pairs.{one_move, is_legal_pair, is_king_step, is_untried, has_untried_move, has_king_step, has_other_move}
-use Rattle.chess_rules.proofs.squares.AllSquares.{first_true, second_true, same_tests, Passes, some_square, any_square}
+use Rattle.chess_rules.proofs.sets.AllSquares.{first_true, second_true, same_tests, Passes, some_square, any_square}
 use Rattle.chess_rules.proofs.positions.OneKing.{king_stands, king_only_there}
 use Rattle.chess_rules.proofs.moves.CellsAfterPut.{OnBoard}
 use Rattle.chess_rules.proofs.positions.RulesOfPosition.{Sound, sound_from_position}

@@ -15,7 +15,7 @@ use Rattle.chess_rules.specs.Step.{own, home, home_rank, pawn_rank, double_rank,
 use Rattle.chess_rules.specs.Candidate.{sees}
 use Rattle.chess_rules.specs.Reach.{is_aligned}
 use Rattle.chess_rules.specs.Laws.{CandidatesComplete}
-use Rattle.chess_rules.proofs.squares.AllSquares.{first_true, second_true, each_square, equal_from, equal_tests, not_true}
+use Rattle.chess_rules.proofs.sets.AllSquares.{first_true, second_true, each_square, equal_from, equal_tests, not_true}
 use Rattle.chess_rules.proofs.lines.AttackToReach.{near, ahead_gap, attack_seen, clear_if}
 use Rattle.chess_rules.proofs.moves.StepsKeepBoard.{attacks_as, double_ranks, Castles, castles_means}
 use Rattle.chess_rules.proofs.moves.LegalToPosition.{way_of, Legal, legal_means}

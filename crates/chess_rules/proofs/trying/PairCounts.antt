@@ -17,7 +17,7 @@ use Rattle.chess_rules.specs.Step.{own}
 use Rattle.chess_rules.specs.Candidate.{sees, is_candidate, candidates, kinds, pair_count}
 use Rattle.chess_rules.specs.Reach.{is_aligned, is_in_view, king_square, square_at}
 use Rattle.chess_rules.specs.Pairs.{is_king_step, is_untried, count_untried, count_king_steps, count_others}
-use Rattle.chess_rules.proofs.squares.AllSquares.{first_true, second_true, same_tests, Passes, some_square, any_square}
+use Rattle.chess_rules.proofs.sets.AllSquares.{first_true, second_true, same_tests, Passes, some_square, any_square}
 use Rattle.chess_rules.proofs.positions.OneKing.{StandsAt, king_stands, king_only_there}
 use Rattle.chess_rules.proofs.positions.RulesOfPosition.{Sound}
 use Rattle.chess_rules.proofs.moves.CellsAfterPut.{OnBoard}

@@ -18,7 +18,7 @@ use Rattle.chess_rules.specs.Step.{own, home, last_rank, is_on_board, is_pawn_wa
 use Rattle.chess_rules.specs.Legal.{legal, is_legal, if_safe}
 use Rattle.chess_rules.specs.Pairs.{one_move, is_legal_pair}
 use Rattle.chess_rules.specs.Laws.{PromotionsAlike}
-use Rattle.chess_rules.proofs.squares.AllSquares.{first_true, second_true, same_tests, Passes, some_square, any_square, each_square, all_squares}
+use Rattle.chess_rules.proofs.sets.AllSquares.{first_true, second_true, same_tests, Passes, some_square, any_square, each_square, all_squares}
 use Rattle.chess_rules.proofs.moves.CellsAfterPut.{OnBoard, at_put, length-put}
 use Rattle.chess_rules.proofs.moves.StepsKeepBoard.{other-other, castles_means, home_below}
 use Rattle.chess_rules.proofs.moves.LegalToPosition.{on_board_means, way_of, Legal, legal_means}

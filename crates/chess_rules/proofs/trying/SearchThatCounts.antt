@@ -3,8 +3,7 @@ use Rattle.std.proofs.Common.{◌≡◌, ℕ, ◌+◌, ◌<◌, ◌≤◌, Bool,
 use Rattle.std.specs.List.{list_any, sum_by}
 use Rattle.std.proofs.lemmas.List.Sums.{sum_by-cons}
 use Rattle.chess_rules.specs.Square.{Square}
-use Rattle.chess_rules.specs.Words.{members}
-use Rattle.chess_rules.proofs.squares.SetsToSquares.{no_member}
+use Rattle.chess_rules.specs.Words.{members, HasNone}
 use Rattle.chess_rules.specs.Pairs.{Counts}
 
 pub counts_exactly : (found : Bool) (old new whole : ℕ) → (found ≡ true → 0 < whole) → new ≡ old + whole → Counts found old new whole
@@ -36,10 +35,10 @@ module _ (test : Square → Bool) (set : ℕ) where
     pub left_hit : (later : ℕ) → test s ≡ true → later ≡ now + 1 → (true ≡ list_any test (members set)) × Counts true old later (length (members set))
     left_hit later passes one = grind arith
 
-  pub none_left : (left old now : ℕ) → LeftOf left old now → left ≡ 0 → (false ≡ list_any test (members set)) × Counts false old now (length (members set))
+  pub none_left : (left old now : ℕ) → LeftOf left old now → HasNone left → (false ≡ list_any test (members set)) × Counts false old now (length (members set))
   none_left left old now w none = (
-    ap (list_any test) (sym (no_member left none)) ∙ w.same,
-    counts_exactly false old now (length (members set)) (λ found. cc) (omega (arith, w.counted, ap length (no_member left none))),
+    ap (list_any test) (sym none.none) ∙ w.same,
+    counts_exactly false old now (length (members set)) (λ found. cc) (omega (arith, w.counted, ap length none.none)),
   )
 
 -- The same, where a member costs some pairs.
@@ -76,9 +75,9 @@ module _ (test : Square → Bool) (cost : Square → ℕ) (set : ℕ) where
       },
     )
 
-  pub no_target : (left old now : ℕ) → TargetsLeft left old now → left ≡ 0 → (false ≡ list_any test (members set)) × Counts false old now (sum_by cost (members set))
+  pub no_target : (left old now : ℕ) → TargetsLeft left old now → HasNone left → (false ≡ list_any test (members set)) × Counts false old now (sum_by cost (members set))
   no_target left old now w none = (
-    ap (list_any test) (sym (no_member left none)) ∙ w.same,
+    ap (list_any test) (sym none.none) ∙ w.same,
     counts_exactly false old now (sum_by cost (members set)) (λ found. cc)
-        (let e : sum_by cost (members left) ≡ 0 = ap (sum_by cost) (no_member left none) in omega (arith, w.counted, e)),
+        (let e : sum_by cost (members left) ≡ 0 = ap (sum_by cost) none.none in omega (arith, w.counted, e)),
   )

@@ -1,8 +1,6 @@
 -- The sets whose members are tried have the pairs of the definitions.
-use Rattle.std.proofs.Common.{◌≡◌, ℕ, ◌+◌, ◌<◌, ◌^◌, Bool, true, not, cond, ◌&&◌, ◌||◌, List, [], ◌∷◌, refl, sym, ◌∙◌, ap, w64, arith}
+use Rattle.std.proofs.Common.{◌≡◌, ℕ, ◌+◌, ◌<◌, Bool, true, not, cond, ◌&&◌, ◌||◌, List, [], ◌∷◌, refl, sym, ◌∙◌, ap, arith}
 use Rattle.std.specs.Prelude.{filter}
-use Rattle.std.specs.Int.{bit_not}
-use Rattle.std.specs.Int.Bits.{bit_and}
 use Rattle.std.specs.List.{list_any, sum_by}
 use Rattle.std.proofs.lemmas.List.Sums.{sum_by-cons}
 use Rattle.chess_rules.specs.declared.piece.Colour.{Colour}
@@ -13,10 +11,9 @@ use Rattle.chess_rules.specs.Board.{Board, at, cell_of, has_colour}
 use Rattle.chess_rules.specs.Step.{own}
 use Rattle.chess_rules.specs.Attacks.{is_clear}
 use Rattle.chess_rules.specs.Reach.{is_aligned, king_square}
-use Rattle.chess_rules.specs.Words.{has, members, Marks, Places}
+use Rattle.chess_rules.specs.Words.{has, members, Marks, Meets, Misses, Places}
 use Rattle.chess_rules.specs.Pairs.{is_king_step, is_without_tried_king, is_untried_aligned}
-use Rattle.chess_rules.proofs.squares.SetsToSquares.{members_are}
-use Rattle.chess_rules.proofs.squares.WordsToCells.{has_and, has_not}
+use Rattle.chess_rules.proofs.sets.SetsToSquares.{members_are}
 use Rattle.chess_rules.proofs.positions.OneKing.{cell_of-square_at}
 use Rattle.std.proofs.lemmas.Bool.Decides.{nat_tests}
 
@@ -26,24 +23,25 @@ colour_places p d b w side board h = grind arith
 
 -- The king's steps that are tried first.
 
-pub steps_are : (p : Parts) (k : Square) (near owns : ℕ) → k ≡ king_square p.side p.board → owns < 2 ^ 64
-    → Places near (λ s. is_adjacent s k) → Places owns (λ s. has_colour p.side (at p.board s)) → Places (bit_and near (bit_not w64 owns)) (is_king_step p)
-steps_are p k near owns king fits h g = grind (arith, has_and, w64, has_not)
+pub steps_are : (p : Parts) (k : Square) (near owns rest steps : ℕ) → k ≡ king_square p.side p.board → Misses owns rest → Meets near rest steps
+    → Places near (λ s. is_adjacent s k) → Places owns (λ s. has_colour p.side (at p.board s)) → Places steps (is_king_step p)
+steps_are p k near owns rest steps king misses meets h g = grind arith
 
 pub step_tried : (p : Parts) (t : Square) (w place : ℕ) (r : Bool) → Places w (is_king_step p) → place ≡ cell_of t → t.file < 8 → t.rank < 8 → r ≡ has w place → r ≡ is_king_step p t
 step_tried p t w place r h is file rank e = grind (arith, nat_tests)
 
 -- The pieces that are still to be tried for a target.
 
-pub king_left_out : (p : Parts) (t : Square) (pieces kings : ℕ) → is_king_step p t ≡ true → kings < 2 ^ 64 → Places kings (own p King) → Places (bit_and pieces (bit_not w64 kings)) (is_without_tried_king p pieces t)
-king_left_out p t pieces kings step fits h = grind (arith, has_and, w64, cell_of-square_at, has_not)
+pub king_left_out : (p : Parts) (t : Square) (pieces kings rest left : ℕ) → is_king_step p t ≡ true → Misses kings rest → Meets pieces rest left
+    → Places kings (own p King) → Places left (is_without_tried_king p pieces t)
+king_left_out p t pieces kings rest left step misses meets h = grind (arith, cell_of-square_at)
 
-pub aligned_left : (p : Parts) (t : Square) (b : Board) (owns knights lines left clear : ℕ) → b ≡ p.board → knights < 2 ^ 64
-    → Places owns (λ s. has_colour p.side (at p.board s)) → Places knights (own p Knight) → Places lines (λ s. is_aligned s t)
-    → Places left (is_without_tried_king p (bit_and (bit_and owns (bit_not w64 knights)) lines) t)
+pub aligned_left : (p : Parts) (t : Square) (b : Board) (owns knights rest others lines pieces left clear : ℕ) → b ≡ p.board
+    → Misses knights rest → Meets owns rest others → Meets others lines pieces → Places owns (λ s. has_colour p.side (at p.board s)) → Places knights (own p Knight) → Places lines (λ s. is_aligned s t)
+    → Places left (is_without_tried_king p pieces t)
     → Places clear (λ s. has left (cell_of s) && is_clear b s t)
     → Places clear (is_untried_aligned p t)
-aligned_left p t b owns knights lines left clear board fits of_owns of_knights of_lines of_left of_clear = grind (arith, cell_of-square_at, w64, has_and, has_not)
+aligned_left p t b owns knights rest others lines pieces left clear board misses meets both of_owns of_knights of_lines of_left of_clear = grind (arith, cell_of-square_at)
 
 -- The members of a set, and then all other squares.
 
@@ -69,14 +67,14 @@ sum_parts cost kept (x ∷ xs) = by_test (kept x) (filter kept xs) (filter (λ s
         → sum_by cost (cond v (x ∷ a) a) + sum_by cost (cond (not v) (x ∷ b) b) ≡ cost x + sum_by cost xs
     by_test v a b e = grind (arith, sum_by-cons)
 
-others : (w : ℕ) → w < 2 ^ 64 → members (bit_not w64 w) ≡ filter (λ s. not (has w (cell_of s))) squares
-others w fits = members_are (bit_not w64 w) (λ s. not (has w (cell_of s))) (λ i low. has_not w i fits low ∙ ap (λ j. not (has w j)) (sym (cell_of-square_at i)))
+others : (w r : ℕ) → Misses w r → members r ≡ filter (λ s. not (has w (cell_of s))) squares
+others w r rest = members_are r (λ s. not (has w (cell_of s))) (λ i low. rest.of i low ∙ ap (λ j. not (has w j)) (sym (cell_of-square_at i)))
 
-pub any_both : (test : Square → Bool) (w : ℕ) → w < 2 ^ 64 → (list_any test (members w) || list_any test (members (bit_not w64 w))) ≡ list_any test squares
+pub any_both : (test : Square → Bool) (w r : ℕ) → Misses w r → (list_any test (members w) || list_any test (members r)) ≡ list_any test squares
 unfolding members
-any_both test w fits =
-    ap (λ xs. list_any test (members w) || list_any test xs) (others w fits) ∙ any_parts test (λ s. has w (cell_of s)) squares
+any_both test w r rest =
+    ap (λ xs. list_any test (members w) || list_any test xs) (others w r rest) ∙ any_parts test (λ s. has w (cell_of s)) squares
 
-pub sum_both_sets : (cost : Square → ℕ) (w : ℕ) → w < 2 ^ 64 → sum_by cost (members w) + sum_by cost (members (bit_not w64 w)) ≡ sum_by cost squares
+pub sum_both_sets : (cost : Square → ℕ) (w r : ℕ) → Misses w r → sum_by cost (members w) + sum_by cost (members r) ≡ sum_by cost squares
 unfolding members
-sum_both_sets cost w fits = grind (arith, others, sum_parts)
+sum_both_sets cost w r rest = grind (arith, others, sum_parts)

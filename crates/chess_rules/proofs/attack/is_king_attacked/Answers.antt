@@ -1,5 +1,5 @@
 use Rattle.std.proofs.Common.{arith}
-use Rattle.chess_rules.proofs.squares.AllSquares.{equal_from}
+use Rattle.chess_rules.proofs.sets.AllSquares.{equal_from}
 use Rattle.chess_rules.proofs.positions.OneKing.{king_attacked_there}
 use Rattle.chess_rules.proofs.attack.is_king_attacked.Goals as goal
 

@@ -8,6 +8,6 @@ returns-in-Knight c = grind (arith, knights_are, own_places, length)
 
 pub returns-in_default : goal.returns-in_default
 returns-in_default c = λ none.
-    aligned_few c.args.position.now c.args.kind c.args.target c.pieces-own.result c.aligned.result (sees_unless c.args.kind c.in_default.not-Knight)
+    aligned_few c.args.position.now c.args.kind c.args.target c.pieces-own.result c.aligned.result c.bitand-in_default.result (sees_unless c.args.kind c.in_default.not-Knight) c.bitand-in_default.ensures
     (own_places c.args.position.now c.args.kind c.side.result c.board.result.now c.pieces-own.result c.side.ensures c.board.ensures c.pieces-own.ensures)
     c.aligned.ensures (c.has_several-in_default.ensures none)

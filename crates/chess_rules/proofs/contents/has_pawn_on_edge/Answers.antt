@@ -1,5 +1,5 @@
 use Rattle.std.proofs.Common.{arith}
-use Rattle.chess_rules.proofs.squares.AllSquares.{true_or, false_or}
+use Rattle.chess_rules.proofs.sets.AllSquares.{true_or, false_or}
 use Rattle.chess_rules.proofs.positions.PawnsOnEdge.{pawn_on_edge_ranks}
 use Rattle.chess_rules.proofs.contents.has_pawn_on_edge.Goals as goal
 

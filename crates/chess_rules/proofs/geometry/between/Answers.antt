@@ -2,7 +2,7 @@ use Rattle.std.proofs.Common.{◌≡◌, ◌+◌, ◌*◌, refl, ◌∙◌, ap, 
 use Rattle.chess_rules.specs.Board.{cell_of}
 use Rattle.chess_rules.specs.Masks.{between_mask}
 use Rattle.chess_rules.specs.Words.{mask, word}
-use Rattle.chess_rules.proofs.squares.TablesOfSquares.{between_places, table_at}
+use Rattle.chess_rules.proofs.sets.TablesOfSquares.{between_places, table_at}
 use Rattle.chess_rules.proofs.geometry.between.Goals as goal
 
 pub returns : goal.returns
@@ -14,4 +14,5 @@ returns c =
     let to = c.recall_invariant-2.ensures in
     let place : 64 * c.index.result + c.index-2.result ≡ 64 * cell_of s + cell_of t = ap₂ (λ m n. 64 * m + n) c.index.ensures.value c.index-2.ensures.value in
     between_places s t _ from.file to.file to.rank
-    (table_at between_mask _ 4096 (64 * c.index.result + c.index-2.result) refl (omega arith) ∙ ap between_mask place)
+    (c.of_bits.ensures
+    ∙ (table_at between_mask _ 4096 (64 * c.index.result + c.index-2.result) refl (omega arith) ∙ ap between_mask place))

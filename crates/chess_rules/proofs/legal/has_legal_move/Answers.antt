@@ -1,5 +1,5 @@
 use Rattle.std.proofs.Common.{arith}
-use Rattle.chess_rules.proofs.squares.AllSquares.{true_or, false_or}
+use Rattle.chess_rules.proofs.sets.AllSquares.{true_or, false_or}
 use Rattle.chess_rules.proofs.positions.RulesOfPosition.{sound_from_position}
 use Rattle.chess_rules.proofs.trying.PairCounts.{pair_count_parts, pair_count_most}
 use Rattle.chess_rules.proofs.trying.LegalIsTried.{legal_move_found}

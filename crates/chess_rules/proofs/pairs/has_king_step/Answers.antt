@@ -4,7 +4,7 @@ use Rattle.chess_rules.specs.Square.{squares}
 use Rattle.chess_rules.specs.Pairs as spec
 use Rattle.chess_rules.specs.Pairs.{has_king_step, count_king_steps}
 use Rattle.chess_rules.specs.Words.{members}
-use Rattle.chess_rules.proofs.squares.SetsToSquares.{members_are}
+use Rattle.chess_rules.proofs.sets.SetsToSquares.{members_are}
 use Rattle.chess_rules.proofs.pairs.has_king_step.Goals as goal
 use Rattle.chess_rules.proofs.pairs.has_king_step.Goals.{After-king_steps}
 

@@ -4,7 +4,7 @@ use Rattle.chess_rules.specs.Square.{squares}
 use Rattle.chess_rules.specs.Pairs as spec
 use Rattle.chess_rules.specs.Pairs.{has_untried_move, count_untried}
 use Rattle.chess_rules.specs.Words.{members}
-use Rattle.chess_rules.proofs.squares.SetsToSquares.{members_are}
+use Rattle.chess_rules.proofs.sets.SetsToSquares.{members_are}
 use Rattle.chess_rules.proofs.pairs.has_untried_move.Goals as goal
 use Rattle.chess_rules.proofs.pairs.has_untried_move.Goals.{After-untried}
 

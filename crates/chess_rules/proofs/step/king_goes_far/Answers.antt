@@ -6,7 +6,7 @@ use Rattle.chess_rules.specs.Square.{Square, gap, same_square}
 use Rattle.chess_rules.specs.Position.{is_position}
 use Rattle.chess_rules.specs.Step.{own}
 use Rattle.chess_rules.specs.Reach.{king_square}
-use Rattle.chess_rules.proofs.squares.AllSquares.{same_tests}
+use Rattle.chess_rules.proofs.sets.AllSquares.{same_tests}
 use Rattle.chess_rules.proofs.positions.OneKing.{StandsAt, king_stands, king_only_there}
 use Rattle.chess_rules.proofs.positions.RulesOfPosition.{Sound, sound_from_position}
 use Rattle.chess_rules.proofs.lines.AttackToReach.{squares_same}

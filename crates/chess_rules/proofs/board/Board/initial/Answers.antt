@@ -2,7 +2,7 @@ use Rattle.std.proofs.Common.{refl, arith, ◌≡◌, true}
 use Rattle.std.specs.List.{list_all, range_with_len}
 use Rattle.chess_rules.specs.declared.board.Board.TheInside.{Inside}
 use Rattle.chess_rules.specs.Words.{has, cells, is_code}
-use Rattle.chess_rules.proofs.squares.AllSquares.{each_of_range}
+use Rattle.chess_rules.proofs.sets.AllSquares.{each_of_range}
 use Rattle.chess_rules.proofs.board.Board.initial.Goals as goal
 
 abbrev first : Inside
@@ -13,15 +13,15 @@ unfolding has
 first_codes = refl
 
 pub invariant_of-result : goal.invariant_of-result
-invariant_of-result c =
+invariant_of-result c = rw (c.of_bits.ensures, c.of_bits-2.ensures, c.of_bits-3.ensures, c.of_bits-4.ensures) (
     record {
       straight = omega arith;
       diagonal = omega arith;
       near = omega arith;
       black = omega arith;
       codes = λ i low. each_of_range (λ i. is_code (has first.straight i) (has first.diagonal i) (has first.near i) (has first.black i)) 0 64 i first_codes (omega arith) (omega arith);
-    }
+    })
 
 pub returns : goal.returns
 unfolding has cells
-returns c = refl
+returns c = rw (c.of_bits.ensures, c.of_bits-2.ensures, c.of_bits-3.ensures, c.of_bits-4.ensures) refl

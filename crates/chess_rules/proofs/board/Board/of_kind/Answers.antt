@@ -1,5 +1,5 @@
 use Rattle.std.proofs.Common.{arith}
-use Rattle.chess_rules.proofs.squares.WordsToCells.{kind_there, marks}
+use Rattle.chess_rules.proofs.sets.WordsToCells.{kind_there, marks}
 use Rattle.chess_rules.proofs.board.Board.of_kind.Goals as goal
 
 pub returns : goal.returns

@@ -1,6 +1,7 @@
-use Rattle.std.proofs.Common.{arith, set}
+use Rattle.std.proofs.Common.{arith}
+use Rattle.chess_rules.specs.Board.{cell_of}
 use Rattle.chess_rules.specs.declared.board.Board.TheInside.{Inside}
-use Rattle.chess_rules.proofs.squares.WordsToCells.{cells_put}
+use Rattle.chess_rules.proofs.sets.WordsToCells.{cells_put}
 use Rattle.chess_rules.proofs.board.Board.put.Goals as goal
 use Rattle.chess_rules.proofs.board.Board.put.Goals.{After-with-4}
 use Rattle.std.proofs.lemmas.Bool.Decides.{nat_tests}
@@ -14,4 +15,7 @@ invariant_of-self c = grind (arith, nat_tests)
 
 pub returns : goal.returns
 unfolding new
-returns c = grind (arith, cells_put, new, set)
+returns c =
+    cells_put c.self.inside (new c) (cell_of c.args.square) c.args.content c.of-code.result.straight c.of-code.result.diagonal c.of-code.result.near c.of-code.result.black
+    c.with.ensures c.with-2.ensures c.with-3.ensures c.with-4.ensures c.of-code.ensures.straight c.of-code.ensures.diagonal c.of-code.ensures.near c.of-code.ensures.black
+    c.args.self.now c.self.view_is

@@ -1,4 +1,4 @@
-use Rattle.chess_rules.proofs.squares.WordsToCells.{long_there}
+use Rattle.chess_rules.proofs.sets.WordsToCells.{long_there}
 use Rattle.chess_rules.proofs.board.Board.recall_invariant.Goals as goal
 
 pub returns : goal.returns

@@ -1,29 +1,28 @@
 -- Sets of squares: what is in a meet or a union, whether a set is empty, and its members in turn.
-use Rattle.std.proofs.Common.{◌≡◌, ℕ, zero, suc, ◌+◌, ◌/◌, ◌%◌, ◌<◌, ◌≤◌, ◌^◌, Bool, true, false, not, ◌&&◌, ◌||◌, inl, inr, List, [], ◌∷◌, length, map, cond, get_or, refl, sym, ◌∙◌, ap, ap₂, subst, w64, arith}
+use Rattle.std.proofs.Common.{◌≡◌, ℕ, zero, suc, ◌+◌, ◌<◌, ◌≤◌, ◌^◌, Bool, true, false, not, ◌&&◌, ◌||◌, inl, inr, List, [], ◌∷◌, length, map, cond, get_or, refl, sym, ◌∙◌, ap, ap₂, subst, w64, arith}
 use Rattle.std.specs.Prelude.{◌==◌, Option, None, filter, if◌then◌else◌}
 use Rattle.std.specs.List.{list_any, range_with_len}
-use Rattle.std.specs.Int.Bits.{bit_and, bit_or}
-use Rattle.std.specs.Int.{bit_not, trailing_zeros}
-use Rattle.std.proofs.lemmas.Bool.{false≢true, and_from}
+use Rattle.std.specs.Int.{trailing_zeros}
+use Rattle.std.proofs.lemmas.Bool.{false≢true}
 use Rattle.chess_rules.specs.declared.piece.Piece.{Piece}
-use Rattle.chess_rules.specs.Square.{Square, same_square, squares}
+use Rattle.chess_rules.specs.Square.{Square, squares}
 use Rattle.chess_rules.specs.Board.{Board, at, cell_of}
 use Rattle.chess_rules.specs.Reach.{square_at}
-use Rattle.chess_rules.specs.Words.{has, members, IsLowest, Marks, Places, Sets}
-use Rattle.chess_rules.proofs.squares.WordsToCells.{has_and, has_not, has_or, has_zero, same_or_apart}
-use Rattle.chess_rules.proofs.squares.LowestAndHighest.{lowest_place}
+use Rattle.chess_rules.specs.Words.{has, has_any, members, HasNone, IsLowest, Joins, Marks, Meets, Misses, Places, Sets, TakesLowest}
+use Rattle.chess_rules.proofs.sets.WordsToCells.{has_zero, same_or_apart}
+use Rattle.chess_rules.proofs.sets.LowestAndHighest.{lowest_place}
 use Rattle.chess_rules.proofs.positions.OneKing.{cell_of-square_at}
-use Rattle.chess_rules.proofs.squares.AllSquares.{Passes, some_square, any_square, equal_tests}
+use Rattle.chess_rules.proofs.sets.AllSquares.{Passes, some_square, any_square}
 use Rattle.chess_rules.proofs.trying.FoundLists.{list_any-filter}
 
-pub places_and : (v w : ℕ) (p q : Square → Bool) → Places v p → Places w q → Places (bit_and v w) (λ s. p s && q s)
-places_and v w p q h g = record { of = λ i low. has_and v w i ∙ ap₂ (λ x y. x && y) (h.of i low) (g.of i low) }
+pub places_and : (v w r : ℕ) (p q : Square → Bool) → Meets v w r → Places v p → Places w q → Places r (λ s. p s && q s)
+places_and v w r p q both h g = record { of = λ i low. both.of i low ∙ ap₂ (λ x y. x && y) (h.of i low) (g.of i low) }
 
-pub places_or : (v w : ℕ) (p q : Square → Bool) → Places v p → Places w q → Places (bit_or v w) (λ s. p s || q s)
-places_or v w p q h g = record { of = λ i low. has_or v w i ∙ ap₂ (λ x y. x || y) (h.of i low) (g.of i low) }
+pub places_or : (v w r : ℕ) (p q : Square → Bool) → Joins v w r → Places v p → Places w q → Places r (λ s. p s || q s)
+places_or v w r p q either h g = record { of = λ i low. either.of i low ∙ ap₂ (λ x y. x || y) (h.of i low) (g.of i low) }
 
-pub places_not : (w : ℕ) (p : Square → Bool) → w < 2 ^ 64 → Places w p → Places (bit_not w64 w) (λ s. not (p s))
-places_not w p fits h = record { of = λ i low. has_not w i fits low ∙ ap not (h.of i low) }
+pub places_not : (w r : ℕ) (p : Square → Bool) → Misses w r → Places w p → Places r (λ s. not (p s))
+places_not w r p rest h = record { of = λ i low. rest.of i low ∙ ap not (h.of i low) }
 
 -- a set of cells is one of squares
 pub marked : (w : ℕ) (test : Option Piece → Bool) (b : Board) → Marks w test b → Places w (λ s. test (at b s))
@@ -52,8 +51,19 @@ one_passes w test h some fits =
     at_place : (i : ℕ) → i < 64 → has w i ≡ true → list_any test squares ≡ true
     at_place i low here = any_square test (square_at i) (omega arith) (omega arith) (sym (h.of i low) ∙ here)
 
-pub set_test : (w : ℕ) (test : Square → Bool) → Places w test → w < 2 ^ 64 → not (w == 0) ≡ list_any test squares
+set_test : (w : ℕ) (test : Square → Bool) → Places w test → w < 2 ^ 64 → not (w == 0) ≡ list_any test squares
 set_test w test places fits = grind (arith, none_passes, one_passes)
+
+-- a set, as the test whether a square is in it
+itself : (w : ℕ) → Places w (λ s. has w (cell_of s))
+itself w = record { of = λ i low. ap (has w) (sym (cell_of-square_at i)) }
+
+pub empty_test : (w : ℕ) → w < 2 ^ 64 → (w == 0) ≡ not (has_any w)
+unfolding has_any
+empty_test w fits = not_again (w == 0) _ (set_test w (λ s. has w (cell_of s)) (itself w) fits)
+  where
+    not_again : (x y : Bool) → not x ≡ y → x ≡ not y
+    not_again x y h = grind arith
 
 -- The members in turn.
 
@@ -72,6 +82,44 @@ members_are w test h =
     ap (filter (λ s. has w (cell_of s))) by_places
     ∙ (same_filter (λ s. has w (cell_of s)) test 0 64 (λ i _ high. ap (has w) (cell_of-square_at i) ∙ h i (omega arith))
     ∙ ap (filter test) (sym by_places))
+
+-- what is found among those that pass is found in the set of them
+pub any_member : (w : ℕ) (p q : Square → Bool) → Places w p → list_any (λ s. p s && q s) squares ≡ list_any q (members w)
+any_member w p q h = sym (list_any-filter q p squares) ∙ ap (list_any q) (sym (members_are w p h.of))
+
+pub any_of_set : (w : ℕ) (test : Square → Bool) → Places w test → has_any w ≡ list_any test squares
+unfolding has_any
+any_of_set w test h = as_found (λ s. has w (cell_of s)) ∙ (any_member w (λ s. has w (cell_of s)) (λ s. true) (itself w)
+    ∙ (sym (any_member w test (λ s. true) h) ∙ sym (as_found test)))
+  where
+    with_true : (x : Bool) → x ≡ (x && true)
+    with_true x = grind arith
+
+    found_in : (p : Square → Bool) (xs : List Square) → list_any p xs ≡ list_any (λ s. p s && true) xs
+    found_in p [] = refl
+    found_in p (x ∷ xs) = ap₂ (λ u v. u || v) (with_true (p x)) (found_in p xs)
+
+    as_found : (p : Square → Bool) → list_any p squares ≡ list_any (λ s. p s && true) squares
+    as_found p = found_in p squares
+
+-- a set of which none is said to be empty
+pub full_when : (w : ℕ) (test : Square → Bool) (empty : Bool) → Places w test → empty ≡ not (has_any w) → not empty ≡ list_any test squares
+full_when w test empty h e = ap not e ∙ (twice (has_any w) ∙ any_of_set w test h)
+  where
+    twice : (x : Bool) → not (not x) ≡ x
+    twice x = grind arith
+
+-- nothing is in a set that is empty
+pub none_of_set : (w : ℕ) → not (has_any w) ≡ true → (i : ℕ) → i < 64 → has w i ≡ false
+unfolding has_any
+none_of_set w none i low = by_bit (has w i) refl
+  where
+    apart : (x : Bool) → not x ≡ true → x ≡ true → ⊥
+    apart x h g = grind arith
+
+    by_bit : (x : Bool) → has w i ≡ x → has w i ≡ false
+    by_bit false e = e
+    by_bit true e = absurd (apart _ none (any_square (λ s. has w (cell_of s)) (square_at i) (omega arith) (omega arith) (ap (has w) (cell_of-square_at i) ∙ e)))
 
 first_taken : (p q : Square → Bool) (a k n : ℕ) → a ≤ n → n < a + k → p (square_at n) ≡ true → ((i : ℕ) → i < n → p (square_at i) ≡ false)
     → ((i : ℕ) → i < a + k → q (square_at i) ≡ (if i == n then false else p (square_at i)))
@@ -99,7 +147,7 @@ first_taken p q a (suc k) n low high here none rest =
     later : (i : ℕ) → a + 1 ≤ i → a ≡ n → (i == n) ≡ false
     later i above same = grind arith
 
-pub next_member : (w rest n : ℕ) → IsLowest w n → Sets w rest n false → members w ≡ square_at n ∷ members rest
+next_member : (w rest n : ℕ) → IsLowest w n → Sets w rest n false → members w ≡ square_at n ∷ members rest
 unfolding members
 next_member w rest n lowest sets =
     ap (filter (λ s. has w (cell_of s))) by_places
@@ -109,31 +157,23 @@ next_member w rest n lowest sets =
     (λ i low. ap (has rest) (cell_of-square_at i) ∙ (sets.of i (omega arith) ∙ ap (λ v. if i == n then false else v) (ap (has w) (sym (cell_of-square_at i)))))
     ∙ ap (λ xs. square_at n ∷ filter (λ s. has rest (cell_of s)) xs) (sym by_places))
 
-pub no_member : (w : ℕ) → w ≡ 0 → members w ≡ []
-no_member w none = members_are w (λ s. false) (λ i low. ap (λ n. has n i) none ∙ has_zero i) ∙ nothing squares
+pub no_member : (w : ℕ) → w ≡ 0 → HasNone w
+no_member w none = record { of = λ i low. ap (λ n. has n i) none ∙ has_zero i; none = members_are w (λ s. false) (λ i low. ap (λ n. has n i) none ∙ has_zero i) ∙ nothing squares }
   where
     nothing : (xs : List Square) → filter (λ s. false) xs ≡ []
     nothing [] = refl
     nothing (x ∷ xs) = nothing xs
 
--- a set that is not empty has a member
-pub some_member : (w n : ℕ) → IsLowest w n → 0 < length (members w)
-some_member w n lowest = by_length (members w) (there lowest.inside)
-  where
-    there : n < 64 → list_any (same_square (square_at n)) (members w) ≡ true
-    there low = ap (list_any (same_square (square_at n))) (members_are w (λ s. has w (cell_of s)) (λ i below. ap (has w) (sym (cell_of-square_at i))))
-        ∙ (list_any-filter (same_square (square_at n)) (λ s. has w (cell_of s)) squares
-        ∙ any_square (λ s. has w (cell_of s) && same_square (square_at n) s) (square_at n) (omega arith) (omega arith)
-        (and_from (has w (cell_of (square_at n))) (same_square (square_at n) (square_at n)) (ap (has w) (cell_of-square_at n) ∙ lowest.here)
-        (and_from (n % 8 == n % 8) (n / 8 == n / 8) (equal_tests (n % 8) (n % 8) refl) (equal_tests (n / 8) (n / 8) refl))))
-
-    by_length : (xs : List Square) → list_any (same_square (square_at n)) xs ≡ true → 0 < length xs
-    by_length [] h = cc
-    by_length (x ∷ xs) h = omega arith
-
--- the same of a word
-pub one_member : (w : ℕ) → 0 < w → w < 2 ^ 64 → 0 < length (members w)
-one_member w some fits = some_member w (trailing_zeros w64 w) (lowest_place w some fits)
+-- the first square is taken out
+pub takes_lowest : (w rest : ℕ) (s : Square) → IsLowest w (cell_of s) → s ≡ square_at (cell_of s) → Sets w rest (cell_of s) false → TakesLowest w rest s
+takes_lowest w rest s lowest is sets =
+    record {
+      file = subst (λ (t : Square). t.file < 8) (sym is) (omega arith);
+      rank = subst (λ (t : Square). t.rank < 8) (sym is) (omega (arith, lowest.inside));
+      here = lowest.here;
+      rest = sets;
+      next = next_member w rest (cell_of s) lowest sets ∙ ap (λ t. t ∷ members rest) (sym is);
+    }
 
 -- At most one square passes, if any two that pass are one.
 

@@ -12,7 +12,7 @@ use Rattle.chess_rules.specs.declared.piece.Kind.{Kind}
 use Rattle.chess_rules.specs.declared.piece.Piece.{Piece}
 use Rattle.chess_rules.specs.declared.board.Board.TheInside.{Inside}
 use Rattle.chess_rules.specs.WordsAndCells.{cell_at, cells_long}
-use Rattle.chess_rules.specs.Words.{Marks, cell_in, cells, has, Sets, Carries, Chosen, coded, is_code, is_it, kind_in, is_black, straight_of, diagonal_of, near_of, black_of}
+use Rattle.chess_rules.specs.Words.{Marks, cell_in, cells, has, Sets, Carries, Chosen, Misses, coded, is_code, is_it, kind_in, is_black, straight_of, diagonal_of, near_of, black_of}
 use Rattle.chess_rules.specs.Reach.{has_kind}
 use Rattle.chess_rules.specs.Board.{has_colour, has_piece}
 
@@ -66,9 +66,10 @@ cleared_bit x e = grind arith
 and_fits : (a b : ℕ) → b < 2 ^ 64 → bit_and a b < 2 ^ 64
 and_fits a b g = omega (arith, and_le_r a b)
 
-pub sets_place : (old bit k : ℕ) (value : Bool) → old < 2 ^ 64 → bit < 2 ^ 64 → bit ≡ 2 ^ k → value ≡ true → Sets old (bit_or old bit) k value
-sets_place old bit k value fits small is e =
+pub sets_place : (old bit k : ℕ) (value : Bool) → k < 64 → old < 2 ^ 64 → bit < 2 ^ 64 → bit ≡ 2 ^ k → value ≡ true → Sets old (bit_or old bit) k value
+sets_place old bit k value inside fits small is e =
     record {
+      inside = inside;
       fits = or_lt 64 old bit fits small;
       of = λ i low.
           has_or old bit i
@@ -77,8 +78,8 @@ sets_place old bit k value fits small is e =
           ∙ (set_bit (has old i) (i == k) ∙ ap (λ v. if i == k then v else has old i) (sym e))));
     }
 
-pub clears_place : (old bit k : ℕ) (value : Bool) → bit < 2 ^ 64 → bit ≡ 2 ^ k → value ≡ false → Sets old (bit_and old (bit_not w64 bit)) k value
-clears_place old bit k value small is e = grind (arith, and_fits, w64, has_and, has_not, has_single, cleared_bit)
+pub clears_place : (old bit k : ℕ) (value : Bool) → k < 64 → bit < 2 ^ 64 → bit ≡ 2 ^ k → value ≡ false → Sets old (bit_and old (bit_not w64 bit)) k value
+clears_place old bit k value inside small is e = grind (arith, and_fits, w64, has_and, has_not, has_single, cleared_bit)
 
 -- a bit that is moved to a place
 moved_bit : (v k i : ℕ) → v < 2 → 2 ^ k < 2 ^ 64 → has (v * 2 ^ k % 2 ^ 64) i ≡ ((v == 1) && (i == k))
@@ -93,14 +94,16 @@ moved_bit (suc (suc v)) k i low fits = absurd (omega arith)
 carried_bit : (x a b v : Bool) → ((x && not (a || b)) || (v && b)) ≡ (if b then v else (if a then false else x))
 carried_bit x a b v = grind arith
 
-pub carries : (old s t v from to : ℕ) → s < 2 ^ 64 → t < 2 ^ 64 → s ≡ 2 ^ from → t ≡ 2 ^ to → v ≡ bit_at old from
+pub carries : (old s t v from to : ℕ) → from < 64 → to < 64 → s < 2 ^ 64 → t < 2 ^ 64 → s ≡ 2 ^ from → t ≡ 2 ^ to → v ≡ bit_at old from
     → Carries old (bit_or (bit_and old (bit_not w64 (bit_or s t))) (v * 2 ^ to % 2 ^ 64)) from to
 unfolding has
-carries old s t v from to small little is_from is_to e =
+carries old s t v from to from_inside to_inside small little is_from is_to e =
     let both : bit_or s t < 2 ^ 64 = or_lt 64 s t small little in
     let bit : v < 2 = omega (arith, e, bit_at-lt old from) in
     let fits : 2 ^ to < 2 ^ 64 = omega (arith, is_to, little) in
     record {
+      from_inside = from_inside;
+      to_inside = to_inside;
       fits = or_lt 64 (bit_and old (bit_not w64 (bit_or s t))) (v * 2 ^ to % 2 ^ 64) (and_fits old (bit_not w64 (bit_or s t)) (omega arith)) (omega arith);
       of = λ i low.
           has_or (bit_and old (bit_not w64 (bit_or s t))) (v * 2 ^ to % 2 ^ 64) i
@@ -113,8 +116,8 @@ carries old s t v from to small little is_from is_to e =
           ∙ carried_bit (has old i) (i == from) (i == to) (has old from);
     }
 
-pub chosen_else : (word : ℕ) (value : Bool) → word < 2 ^ 64 → value ≡ false → Chosen word (bit_not w64 word) value
-chosen_else word value fits e = record { of = λ i low. has_not word i fits low ∙ ap (λ v. is_it v (has word i)) (sym e) }
+pub chosen_else : (word rest : ℕ) (value : Bool) → Misses word rest → value ≡ false → Chosen word rest value
+chosen_else word rest value h e = record { of = λ i low. h.of i low ∙ ap (λ v. is_it v (has word i)) (sym e) }
 
 -- What the bits say of a cell.
 

@@ -2,7 +2,7 @@
 use Rattle.std.proofs.Common.{◌≡◌, ℕ, zero, suc, ◌+◌, ◌*◌, ◌/◌, ◌%◌, ◌<◌, Bool, true, false, sym, List, [], ◌∷◌, refl, ◌∙◌, ap, ap₂, arith, get_or}
 use Rattle.std.specs.Prelude.{◌==◌, map, if◌then◌else◌}
 use Rattle.std.proofs.lemmas.Bool.Decides.{nat_tests}
-use Rattle.chess_rules.proofs.squares.WordsToCells.{has_zero}
+use Rattle.chess_rules.proofs.sets.WordsToCells.{has_zero}
 use Rattle.chess_rules.specs.Square.{Square, strictly_between}
 use Rattle.std.specs.List.{range_with_len}
 use Rattle.std.proofs.lemmas.List.FromFn.{get_or-range_with_len, length-range_with_len}

@@ -6,8 +6,8 @@ use Rattle.std.specs.Int.{bit_at, leading_zeros, trailing_zeros}
 use Rattle.std.proofs.lemmas.Nat.{leading_length}
 use Rattle.std.proofs.lemmas.Nat.Bits.{bit_at_above, bit_at-trailing_zeros}
 use Rattle.chess_rules.specs.Words.{has, IsHighest, IsLowest, IsOnlyHighest, IsOnlyLowest}
-use Rattle.chess_rules.proofs.squares.AllSquares.{equal_from, equal_tests}
-use Rattle.chess_rules.proofs.squares.WordsToCells.{has_single, has_zero}
+use Rattle.chess_rules.proofs.sets.AllSquares.{equal_from, equal_tests}
+use Rattle.chess_rules.proofs.sets.WordsToCells.{has_single, has_zero}
 
 pub lowest_place : (n : ℕ) → 0 < n → n < 2 ^ 64 → IsLowest n (trailing_zeros w64 n)
 unfolding has

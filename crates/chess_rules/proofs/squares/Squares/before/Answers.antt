@@ -1,0 +1,7 @@
+use Rattle.std.proofs.Common.{arith}
+use Rattle.chess_rules.proofs.positions.OneKing.{cell_of-square_at}
+use Rattle.chess_rules.proofs.sets.WordsToCells.{has_below}
+use Rattle.chess_rules.proofs.squares.Squares.before.Goals as goal
+
+pub returns : goal.returns
+returns c = grind (arith, has_below, cell_of-square_at)
