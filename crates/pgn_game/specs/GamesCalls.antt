@@ -4,8 +4,8 @@
 -- source has left, if it reports them; `left_old` and `left_new` are these before a call and after
 -- it. `source` and `sink` are the devices before a call and after it, `before` and `after` the
 -- bytes that the sink has taken.
-use Rattle.std.specs.Prelude.{◌≡◌, ℕ, ◌+◌, ◌-◌, ◌^◌, ◌<◌, ◌≤◌, Bool, true, false, List, [], ◌∷◌, ◌++◌, length, drop, Option, None, Some, Result, Ok, Err}
-use Rattle.std.specs.Io.KnownBytes.{Consumes, IsAtEnd, Keeps}
+use Rattle.std.specs.Prelude.{◌≡◌, ℕ, ◌+◌, ◌-◌, ◌^◌, ◌<◌, ◌≤◌, Bool, true, false, List, [], ◌∷◌, ◌++◌, length, Option, None, Some, Result, Ok, Err}
+use Rattle.std.specs.Io.KnownBytes.{Consumes, IsAtEnd}
 use Rattle.pgn_layout.specs.Device.{Device, IsStill}
 use Rattle.pgn_lexer.specs.Tokens.{Token}
 use Rattle.pgn_lexer.specs.TokensOf.{tokens_of}
@@ -13,14 +13,12 @@ use Rattle.pgn_lexer.specs.Decided.{decided}
 use Rattle.pgn_lexer.specs.Stands.{IsDecided, first}
 use Rattle.pgn_game.specs.declared.reason.Reason.TheVariants.{ReadFault, InputTooLong}
 use Rattle.pgn_game.specs.declared.reason.Fault.{Fault}
-use Rattle.pgn_game.specs.declared.source.ReadFailed.{ReadFailed}
-use Rattle.pgn_game.specs.declared.converter.Fed.TheVariants.{All, Game as GameEnd}
 use Rattle.pgn_game.specs.Profile.{Profile}
 use Rattle.pgn_game.specs.Game.{Game}
 use Rattle.pgn_game.specs.Text.{text_of}
 use Rattle.pgn_game.specs.Progress.{read, due}
 use Rattle.pgn_game.specs.Due.{Gains}
-use Rattle.pgn_game.specs.ConverterCalls.{Converter, finished_game_of, HasRead, Stands, AreNext, Stops, refused, unwritten, games_before, ProbesAtStop, ReadsUpTo, Feeds}
+use Rattle.pgn_game.specs.ConverterCalls.{Converter, finished_game_of, HasRead, Stands, AreNext, Stops, games_before, ProbesAtStop, ReadsUpTo}
 use Rattle.pgn_game.specs.Conversion.{CountsDevices}
 
 -- ---- what was read so far
@@ -43,11 +41,13 @@ pub record ReadsOn (p : Profile) (u : List ℕ) (games : Games) (given : List To
   pub decided : IsDecided used games.unused given
   pub not_finished : games.converter.is_finished ≡ false
 
--- The source is at its end, so u is the whole text, and all its tokens were read.
+-- The source is at its end, so u is the whole text, and all its tokens were read. They leave no game
+-- begun: all that is due is the text of whole games.
 pub record HasReadAll (p : Profile) (left : Option (List ℕ)) (u : List ℕ) (games : Games) (given : List Token) : Type 0 where
   pub at_end : IsAtEnd left
   pub short : length u ≤ 2 ^ 62
   pub whole : given ≡ tokens_of u
+  pub none_begun : due p given ≡ text_of p (read p given).progress.games
   pub has_read : HasRead p games.converter given
   pub finished : games.converter.is_finished ≡ true
 
@@ -96,15 +96,10 @@ pub record StopsAtToken (p : Profile) (u : List ℕ) (given : List Token) (most 
   pub no_game : games_before stops ≡ (read p given).progress.games
   pub counts : ProbesAtStop stops most
 
--- no game was finished before a token that is rejected
-abbrev pub NoGameIfRefused : {p : Profile} {given tokens : List Token} {before after : Option (List ℕ)} {f : Fault} → Stops p given tokens before after f → Type 0
-NoGameIfRefused {p} {given} {tokens} (refused f fault gains) = (read p tokens).progress.games ≡ (read p given).progress.games
-NoGameIfRefused {p} (unwritten at writing) = Unit {0}
-
 -- The same at the end of the text u.
 pub record StopsAtEnd (p : Profile) (u : List ℕ) (given : List Token) (most : ℕ) (f : Fault) (before after : Option (List ℕ)) : Type 0 where
   pub stops : Stops p given (tokens_of u) before after f
-  pub no_game : NoGameIfRefused stops
+  pub no_game : games_before stops ≡ (read p given).progress.games
   pub counts : ProbesAtStop stops most
 
 -- All tokens that the bytes u decide were read, none is rejected, none finished a game, and what
@@ -162,43 +157,3 @@ most_left_behind false games = 1 + (2 ^ 64 - games)
 
 abbrev pub most_left : Games → ℕ
 most_left games = most_left_behind games.converter.is_finished games.converter.games
-
--- ---- the parts of a call: what is stored on the way, on which no statement of the subject rests
-
--- what a read puts into the buffer
-abbrev pub FillResult : Option (List ℕ) → Option (List ℕ) → List ℕ → Result Bool ReadFailed → Type 0
-FillResult left_old left_new new (Ok true) = (0 < length new) × Consumes left_old left_new new
-FillResult left_old left_new new (Ok false) = (new ≡ []) × Consumes left_old left_new [] × IsAtEnd left_new
-FillResult left_old left_new new (Err failed) = Keeps left_old left_new
-
--- the same for a converter: a failed read is its fault
-abbrev pub MoreResult : Option (List ℕ) → Option (List ℕ) → Converter → Converter → List ℕ → Result Bool Fault → Type 0
-MoreResult left_old left_new old new unused (Ok true) = (new ≡ old) × (0 < length unused) × Consumes left_old left_new unused
-MoreResult left_old left_new old new unused (Ok false) = (new ≡ old) × (unused ≡ []) × Consumes left_old left_new [] × IsAtEnd left_new
-MoreResult left_old left_new old new unused (Err f) = (f ≡ record { at = old.lexer.count; reason = ReadFault }) × (new.reading ≡ old.reading) × Keeps left_old left_new
-
--- The bytes not used yet are fed: up to the end of a game, or all.
-abbrev pub RestResult : Games → Games → Result Bool Fault → Device → Type 0
-RestResult old new (Ok true) sink = (used : ℕ) × (new.unused ≡ drop used old.unused) × Feeds old.converter old.unused new.converter (Ok (GameEnd used)) sink
-RestResult old new (Ok false) sink = (new.unused ≡ []) × Feeds old.converter old.unused new.converter (Ok All) sink
-RestResult old new (Err f) sink = Feeds old.converter old.unused new.converter (Err f) sink
-
--- a game more is counted, or none
-abbrev pub CountsGame : Games → Games → Result Bool Fault → Type 0
-CountsGame old new (Ok true) = (new.converter.games ≡ old.converter.games + 1) × (old.converter.games < 2 ^ 64)
-CountsGame old new (Ok false) = new.converter.lexer.count ≡ old.converter.lexer.count + length old.unused
-CountsGame old new (Err f) = Unit {0}
-
--- What was read since the call began: no game was finished by it.
-pub record NextSoFar (p : Profile) (u : List ℕ) (given : List Token) (left_old left_now : Option (List ℕ)) (now : Games) (before after : Option (List ℕ)) : Type 0 where
-  pub more : List ℕ
-  pub consumed : Consumes left_old left_now more
-  pub tokens : List Token
-  pub reads_on : ReadsOn p (u ++ more) now tokens
-  pub no_game : (read p tokens).progress.games ≡ (read p given).progress.games
-  pub gains : Gains p given tokens before after
-
-abbrev pub ReadsSoFar : Games → Games → Device → Device → Type 0
-ReadsSoFar old now source sink =
-    (p : Profile) (u : List ℕ) (given : List Token) → HaveRead p source.before u old given
-    → NextSoFar p u given source.before source.after now sink.before sink.after

@@ -27,6 +27,7 @@ pub mod ConverterSteps
 pub mod Size
 pub mod Conversion
 pub mod GamesCalls
+pub mod GamesSteps
 pub mod Checked
 pub mod CheckedConversion
 pub mod Pass

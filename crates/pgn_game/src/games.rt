@@ -4,8 +4,8 @@ ghost use Rattle.std.specs.Option.{option_copied};
 ghost use Rattle.pgn_layout.specs.Device.{Counts, device};
 ghost use Rattle.pgn_game.specs.ConverterCalls.{CountsFault, KeepsFault, profile_of};
 ghost use Rattle.pgn_game.specs.ConverterCalls.{finished_game_value, finished_game_plies, finished_game_position};
-ghost use Rattle.pgn_game.specs.GamesCalls.{HaveRead, ReadsNext, NextAgain, NextAtEnd, CountsNext, most_left};
-ghost use Rattle.pgn_game.specs.GamesCalls.{CountsGame, MoreResult, RestResult, games_of};
+ghost use Rattle.pgn_game.specs.GamesCalls.{HaveRead, ReadsNext, NextAgain, NextAtEnd, CountsNext, games_of, most_left};
+ghost use Rattle.pgn_game.specs.GamesSteps.{CountsGame, MoreResult, RestResult};
 
 use crate::converter::{Converter, Fed};
 use crate::mode::Mode;

@@ -1,27 +1,28 @@
 -- Games read in turn from a source.
-use Rattle.std.proofs.Common.{◌≡◌, ℕ, ◌+◌, ◌^◌, ◌<◌, ◌≤◌, Bool, true, false, List, [], ◌∷◌, ◌++◌, length, take, drop, Option, None, Some, Result, Ok, Err, refl, sym, ap, subst, ◌∙◌, inl, inr, append-nil, append_assoc, length-append, arith}
+use Rattle.std.proofs.Common.{◌≡◌, ℕ, ◌+◌, ◌^◌, ◌<◌, ◌≤◌, Bool, true, false, List, [], ◌∷◌, ◌++◌, length, take, drop, Option, None, Some, Result, Ok, Err, refl, sym, ap, subst, ◌∙◌, inl, inr, ◌⊎◌, append-nil, append_assoc, length-append, arith}
 use Rattle.std.specs.Prelude.{IsTrue, is_ok}
 use Rattle.std.proofs.lemmas.List.{take-append-drop}
 use Rattle.std.proofs.KnownBytes.{Consumes-nil, Consumes-trans}
 use Rattle.std.specs.Io.KnownBytes.{Consumes, Keeps, IsAtEnd}
 use Rattle.pgn_lexer.specs.TokensOf.{tokens_of}
 use Rattle.pgn_lexer.specs.Decided.{decided}
-use Rattle.pgn_lexer.specs.Standing.{coming}
+use Rattle.pgn_lexer.specs.Standing.{Standing, coming}
 use Rattle.pgn_lexer.specs.Stands.{Follows, IsDecided, first, still}
 use Rattle.pgn_game.proofs.Words.{Token, ReadFault, Reason, Fault, Profile, Game, Part, no_part}
 use Rattle.pgn_game.specs.FaultTable.{refusal}
 use Rattle.pgn_game.specs.Text.{text_of}
 use Rattle.pgn_game.specs.Progress.{Next, going, whole, next, Progress, progress_with, progress_after, no_progress, Read, read, read_from, written, due}
 use Rattle.pgn_game.specs.Due.{Gains}
-use Rattle.pgn_game.specs.ConverterCalls.{Converter, FinishedGame, finished_game_of, IsLast, HasRead, Stands, AreNext, FedAll, FedGame, FedToFault, Stops, refused, unwritten, StopsIn, at_token, too_long, AfterFinish, Finishes, FinishesToFault}
+use Rattle.pgn_game.specs.ConverterCalls.{Converter, FinishedGame, finished_game_of, IsLast, HasRead, Stands, AreNext, FedAll, FedGame, FedToFault, Stops, refused, unwritten, StopsWriting, games_before, StopsIn, at_token, too_long, AfterFinish, Finishes, FinishesToFault}
 use Rattle.pgn_game.specs.GamesCalls as games
-use Rattle.pgn_game.specs.GamesCalls.{Games, games_of, ReadsOn, HasReadAll, HaveRead, within, at_end, NextGame, NoGame, StopsAtToken, StopsAtEnd, NoGameIfRefused, ReadsNoGame, NextStops, AfterNext, NextSoFar}
-use Rattle.pgn_game.proofs.tokens.OneMoreToken.{first_passes, goes_on, read-passes, read-refuses, stops_from, torn-none, gains_none, gains_more, stops_more, games_still, none_refused_still, counts_still}
+use Rattle.pgn_game.specs.GamesCalls.{Games, games_of, ReadsOn, HasReadAll, HaveRead, within, at_end, NextGame, NoGame, StopsAtToken, StopsAtEnd, ReadsNoGame, NextStops, AfterNext}
+use Rattle.pgn_game.specs.GamesSteps.{NextSoFar}
+use Rattle.pgn_game.proofs.tokens.OneMoreToken.{first_passes, goes_on, read-passes, read-refuses, stops_from, torn-none, gains_none, gains_more, stops_more, games_still, counts_still, due_grows}
 use Rattle.pgn_game.proofs.tokens.AcceptedToConverter.{still_none-none}
 use Rattle.pgn_game.proofs.tokens.StepsInPiece.{decided_at_end, stands_before_any}
 use Rattle.pgn_game.proofs.tokens.GamesInPiece.{behind_first}
 use Rattle.pgn_game.proofs.tokens.StepsAtEnd.{let_go}
-use Rattle.pgn_game.proofs.tokens.LastTokens.{AddsOne, left_games}
+use Rattle.pgn_game.proofs.tokens.LastTokens.{AddsOne, left_games, left_none_begun, none_finished_before}
 use Rattle.pgn_game.proofs.tokens.WholeInput.{keeps_consumed}
 
 -- ---- the text of a game
@@ -97,6 +98,7 @@ at_end_again p u given left now new o (at_end all) finished is =
         at_end = all.at_end;
         short = subst (λ xs. length xs ≤ 2 ^ 62) (sym (append-nil u)) all.short;
         whole = refl;
+        none_begun = subst (λ ts. due p ts ≡ text_of p (read p ts).progress.games) (sym text) all.none_begun;
         has_read = subst (HasRead p new) (sym text) (subst (λ (s : Converter). HasRead p s given) (sym is) (let_go p now.converter given all.has_read));
         finished = ap (λ (s : Converter). s.is_finished) is ∙ all.finished;
       };
@@ -133,6 +135,64 @@ reads_behind p b (t ∷ ts) us e =
 decided_before : (u piece : List ℕ) (ts : List Token) → IsDecided u [] ts → IsDecided u piece ts
 decided_before u piece ts (inl e) = inl e
 decided_before u piece ts (inr (b, e, k)) = absurd (cc)
+
+-- ---- a write that fails at the end
+
+-- two ways to part a list: one front goes on where the other ends
+abbrev Parted : List Token → List Token → List Token → List Token → Type 0
+Parted xs ys behind_xs behind_ys =
+    ((mid : List Token) × (ys ≡ xs ++ mid) × (behind_xs ≡ mid ++ behind_ys)) ⊎ ((mid : List Token) × (xs ≡ ys ++ mid) × (behind_ys ≡ mid ++ behind_xs))
+
+parted : (xs ys behind_xs behind_ys : List Token) → xs ++ behind_xs ≡ ys ++ behind_ys → Parted xs ys behind_xs behind_ys
+parted [] ys behind_xs behind_ys e = inl (ys, refl, e)
+parted (x ∷ xs) [] behind_xs behind_ys e = inr (x ∷ xs, refl, sym e)
+parted (x ∷ xs) (y ∷ ys) behind_xs behind_ys e = further (parted xs ys behind_xs behind_ys (cc))
+  where
+    head_same : x ≡ y
+    head_same = cc
+
+    further : Parted xs ys behind_xs behind_ys → Parted (x ∷ xs) (y ∷ ys) behind_xs behind_ys
+    further (inl (mid, is, parts)) = inl (mid, ap (λ l. y ∷ l) is ∙ ap (λ z. z ∷ (xs ++ mid)) (sym head_same), parts)
+    further (inr (mid, is, parts)) = inr (mid, ap (λ l. x ∷ l) is ∙ ap (λ z. z ∷ (ys ++ mid)) head_same, parts)
+
+-- the token at fault is the first of those that are left: the games before it are those so far
+module _ (p : Profile) (given : List Token) (l : Standing) (ts : List Token) (passes : (read p given).fault ≡ None) (whole_text : ts ≡ given ++ coming l [])
+    (at : ℕ) (a b : Option (List ℕ)) (writing : StopsWriting p given ts at a b) where
+  longer : length (due p (writing.front ++ writing.token ∷ [])) ≡ length (due p given) + length writing.text
+  longer = ap (length {A = ℕ}) writing.due_for ∙ length-append (due p given) writing.text
+
+  behind_given : (mid : List Token) → writing.front ≡ given ++ mid → coming l [] ≡ mid ++ writing.token ∷ writing.rest
+      → (read p writing.front).progress.games ≡ (read p given).progress.games
+  behind_given mid is parts =
+      let start = (read p given).progress in
+      let front : read p writing.front ≡ read_from p start mid = ap (read p) is ∙ reads_behind p no_progress given mid passes in
+      let more : read p (writing.front ++ writing.token ∷ []) ≡ read_from p start (mid ++ writing.token ∷ []) =
+      ap (λ ts. read p (ts ++ writing.token ∷ [])) is ∙ ap (read p) (append_assoc given mid (writing.token ∷ []))
+      ∙ reads_behind p no_progress given (mid ++ writing.token ∷ []) passes in
+      let grows : length (due p writing.front) < length (due p (writing.front ++ writing.token ∷ [])) =
+      omega (arith, longer, writing.least, writing.short) in
+      ap (λ (r : Read). r.progress.games) front
+      ∙ none_finished_before p start l mid writing.token writing.rest parts (ap (λ (r : Read). r.fault) (sym more) ∙ writing.passes)
+      (subst (λ (r : Read). length (written p r.progress) < length (written p (read_from p start (mid ++ writing.token ∷ [])).progress)) front
+      (subst (λ (r : Read). length (due p writing.front) < length (written p r.progress)) more grows))
+
+  head : {t u : Token} {ts us : List Token} → t ∷ ts ≡ u ∷ us → t ≡ u
+  head e = cc
+
+  by_parts : Parted given writing.front (coming l []) (writing.token ∷ writing.rest) → (read p writing.front).progress.games ≡ (read p given).progress.games
+  by_parts (inl (mid, is, parts)) = behind_given mid is parts
+  by_parts (inr ([], is, parts)) = ap (λ ts. (read p ts).progress.games) (sym (is ∙ append-nil writing.front))
+  by_parts (inr (m ∷ mid, is, parts)) =
+      let all : given ≡ (writing.front ++ writing.token ∷ []) ++ mid =
+      is ∙ ap (λ x. writing.front ++ x ∷ mid) (sym (head parts)) ∙ sym (append_assoc writing.front (writing.token ∷ []) mid) in
+      let grown = due_grows p (writing.front ++ writing.token ∷ []) mid in
+      absurd (omega (
+        arith, longer, writing.short, ap (length {A = ℕ}) (ap (due p) all ∙ grown.1),
+        length-append (due p (writing.front ++ writing.token ∷ [])) grown.0,
+      ))
+
+  none_before : (read p writing.front).progress.games ≡ (read p given).progress.games
+  none_before = by_parts (parted given writing.front (coming l []) (writing.token ∷ writing.rest) (sym whole_text ∙ writing.cut))
 
 module _ (p : Profile) (u : List ℕ) (given : List Token) (left_old left : Option (List ℕ)) (now : Games) (a c : Option (List ℕ)) (so : NextSoFar p u given left_old left now a c)
     (d : Option (List ℕ)) where
@@ -258,12 +318,14 @@ module _ (p : Profile) (u : List ℕ) (given : List Token) (left_old left left_n
     all : Consumes left_old left_new so.more
     all = subst (Consumes left_old left_new) (append-nil so.more) (Consumes-trans left_old left left_new so.more [] so.consumed consumed)
 
+    left_over : tokens_of so.reads_on.used ≡ so.tokens ++ coming now.lexer []
+    left_over = ap tokens_of (sym (append-nil so.reads_on.used)) ∙ so.reads_on.stands.lexer.tokens [] tt
+
+    reads : read p (tokens_of so.reads_on.used) ≡ read_from p (read p so.tokens).progress (coming now.lexer [])
+    reads = ap (read p) left_over ∙ reads_behind p no_progress so.tokens (coming now.lexer []) so.reads_on.stands.has_read.passes
+
     adds : AddsOne (read p so.tokens).progress.games (read p (tokens_of so.reads_on.used))
-    adds =
-        let left_over : tokens_of so.reads_on.used ≡ so.tokens ++ coming now.lexer [] =
-        ap tokens_of (sym (append-nil so.reads_on.used)) ∙ so.reads_on.stands.lexer.tokens [] tt in
-        let reads = ap (read p) left_over ∙ reads_behind p no_progress so.tokens (coming now.lexer []) so.reads_on.stands.has_read.passes in
-        subst (AddsOne (read p so.tokens).progress.games) (sym reads) (left_games p (read p so.tokens).progress now.lexer)
+    adds = subst (AddsOne (read p so.tokens).progress.games) (sym reads) (left_games p (read p so.tokens).progress now.lexer)
 
     ended : (is_game : Bool) → Finishes p so.reads_on.used so.tokens new is_game c d → new.is_finished ≡ true → now.lexer.count ≤ 2 ^ 62
         → AfterNext p u given left_old left_new (games_of new []) (Ok is_game) a d
@@ -281,6 +343,9 @@ module _ (p : Profile) (u : List ℕ) (given : List Token) (left_old left left_n
               at_end = end;
               short = omega (arith, so.reads_on.stands.lexer.count, few, ap (length {A = ℕ}) all_used);
               whole = refl;
+              none_begun = subst (λ ts. due p ts ≡ text_of p (read p ts).progress.games) text
+                  (subst (λ (r : Read). written p r.progress ≡ text_of p r.progress.games) (sym reads)
+                  (left_none_begun p (read p so.tokens).progress now.lexer (ap (λ (r : Read). r.fault) (sym reads) ∙ fed.has_read.passes)));
               has_read = subst (HasRead p new) text fed.has_read;
               finished = finished;
             }
@@ -300,23 +365,21 @@ module _ (p : Profile) (u : List ℕ) (given : List Token) (left_old left left_n
               gains = gains;
             }
 
-        one : (g : Game) → (read p (tokens_of so.reads_on.used)).progress ≡ record { games = (read p so.tokens).progress.games ++ g ∷ []; part = no_part }
+        one : (g : Game) → (read p (tokens_of so.reads_on.used)).progress.games ≡ (read p so.tokens).progress.games ++ g ∷ []
             → is_game ≡ true → NextGame p u given left_old left_new (games_of new []) a d
         one g adds_one is =
             let finished_game = fed.just_finished is in
             let last = subst (λ o. IsLast o (read p (tokens_of so.reads_on.used)).progress.games) finished_game.1 fed.has_read.just_finished in
-            let same : last.1 ≡ g = last_is last.0 (read p so.tokens).progress.games last.1 g (sym last.2 ∙ ap (λ (b : Progress). b.games) adds_one) in
-            let progress : (read p (tokens_of (u ++ so.more))).progress ≡ record { games = (read p so.tokens).progress.games ++ g ∷ []; part = no_part } =
-            ap (λ ts. (read p ts).progress) (sym text) ∙ adds_one in
+            let same : last.1 ≡ g = last_is last.0 (read p so.tokens).progress.games last.1 g (sym last.2 ∙ adds_one) in
             record {
               more = so.more;
               consumed = all;
               tokens = tokens_of (u ++ so.more);
               have_read = at_end read_all;
               game = g;
-              one_game = ap (λ (b : Progress). b.games) progress ∙ ap (λ gs. gs ++ g ∷ []) so.no_game;
+              one_game = ap (λ ts. (read p ts).progress.games) (sym text) ∙ adds_one ∙ ap (λ gs. gs ++ g ∷ []) so.no_game;
               just_finished = finished_game.1 ∙ ap (λ h. Some h) (last.3 ∙ ap finished_game_of same);
-              whole = due_between p (read p (tokens_of (u ++ so.more))).progress (ap (λ (b : Progress). b.part) progress);
+              whole = read_all.none_begun;
               gains = gains;
             }
 
@@ -325,7 +388,7 @@ module _ (p : Profile) (u : List ℕ) (given : List Token) (left_old left left_n
         by_game false is (inl same) = none false is refl same
         by_game false is (inr (passes, (g, more))) =
             absurd (not_true (subst (λ b. IsTrue b) is
-            (fed.game.1 (omega (arith, ap (λ (b : Progress). length b.games) more, length-append (read p so.tokens).progress.games (g ∷ []))))))
+            (fed.game.1 (omega (arith, ap (length {A = Game}) more, length-append (read p so.tokens).progress.games (g ∷ []))))))
         by_game true is (inl same) =
             absurd (omega (arith, fed.game.0 (subst (λ b. IsTrue b) (sym is) (cc)), ap (length {A = Game}) same))
         by_game true is (inr (passes, (g, more))) = one g more is
@@ -335,13 +398,14 @@ module _ (p : Profile) (u : List ℕ) (given : List Token) (left_old left left_n
     ended_at_fault f fed =
         games.at_end f so.more all end (subst (λ xs. StopsAtEnd p xs given new.reading.most_probes f a d) (sym all_used) (record {
           stops = stops_more p given so.tokens (tokens_of so.reads_on.used) f a c d so.gains fed.stops;
-          no_game = none_refused_still p given so.tokens (tokens_of so.reads_on.used) f a c d so.gains fed.stops so.no_game (none_before fed.stops);
+          no_game = games_still p given so.tokens (tokens_of so.reads_on.used) f a c d so.gains fed.stops ∙ none_yet_before fed.stops ∙ so.no_game;
           counts = counts_still p given so.tokens (tokens_of so.reads_on.used) f a c d so.gains fed.stops new.reading.most_probes fed.counts;
         }))
       where
-        none_before : {h : Fault} (stops : Stops p so.tokens (tokens_of so.reads_on.used) c d h) → NoGameIfRefused stops
-        none_before (unwritten at writing) = tt
-        none_before (refused h fault gains) = by_games adds
+        none_yet_before : {h : Fault} (stops : Stops p so.tokens (tokens_of so.reads_on.used) c d h) → games_before stops ≡ (read p so.tokens).progress.games
+        none_yet_before (unwritten at writing) =
+            none_before p so.tokens now.lexer (tokens_of so.reads_on.used) so.reads_on.stands.has_read.passes left_over at c d writing
+        none_yet_before (refused h fault gains) = by_games adds
           where
             by_games : AddsOne (read p so.tokens).progress.games (read p (tokens_of so.reads_on.used))
                 → (read p (tokens_of so.reads_on.used)).progress.games ≡ (read p so.tokens).progress.games

@@ -10,7 +10,6 @@ use Rattle.pgn_game.specs.Progress.{Next, going, whole, next, Progress, progress
 use Rattle.pgn_game.specs.Due.{text_next, gain, Gains}
 use Rattle.pgn_game.specs.Laws.{IsPrefix, DueGrows}
 use Rattle.pgn_game.specs.ConverterCalls.{Stops, refused, unwritten, StopsWriting, games_before, ProbesAtStop}
-use Rattle.pgn_game.specs.GamesCalls.{NoGameIfRefused}
 use Rattle.pgn_game.proofs.tokens.NextGrows.{next_is}
 
 abbrev read_as : Progress → Option Fault → Read
@@ -134,12 +133,6 @@ pub games_still : (p : Profile) (x y tokens : List Token) (f : Fault) (a b c : O
 unfolding stops_more writing_more
 games_still p x y tokens f a b c first (refused g fault gains) = refl
 games_still p x y tokens f a b c first (unwritten at writing) = refl
-
-pub none_refused_still : (p : Profile) (x y tokens : List Token) (f : Fault) (a b c : Option (List ℕ)) (first : Gains p x y a b) (stops : Stops p y tokens b c f)
-    → (read p y).progress.games ≡ (read p x).progress.games → NoGameIfRefused stops → NoGameIfRefused (stops_more p x y tokens f a b c first stops)
-unfolding stops_more
-none_refused_still p x y tokens f a b c first (refused g fault gains) same none = none ∙ same
-none_refused_still p x y tokens f a b c first (unwritten at writing) same none = tt
 
 -- and the count there stays as it is
 pub counts_still : (p : Profile) (x y tokens : List Token) (f : Fault) (a b c : Option (List ℕ)) (first : Gains p x y a b) (stops : Stops p y tokens b c f) (most : ℕ)

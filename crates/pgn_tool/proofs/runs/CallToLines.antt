@@ -48,7 +48,7 @@ own_follows : (xs : List ℕ) → Follows (first xs) xs
 own_follows [] = tt
 own_follows (x ∷ xs) = refl
 
-has_read_of : (left : Option (List ℕ)) (u : List ℕ) (games : Games) (given : List Token) → HaveRead list_profile left u games given → HasRead list_profile games.converter given
+pub has_read_of : (left : Option (List ℕ)) (u : List ℕ) (games : Games) (given : List Token) → HaveRead list_profile left u games given → HasRead list_profile games.converter given
 has_read_of left u games given (within on) = on.stands.has_read
 has_read_of left u games given (at_end all) = all.has_read
 
@@ -162,7 +162,7 @@ module _ (left_old left left_new : Option (List ℕ)) (old new : Games) (a b : O
           }))
   list_stops most f s t (calls.at_end g more consumed end to) counted = by_stops to.stops to.no_game counted
     where
-      by_stops : {h : Fault} (stops : converter.Stops list_profile so.tokens (tokens_of (so.bytes ++ more)) None None h) → calls.NoGameIfRefused stops
+      by_stops : {h : Fault} (stops : converter.Stops list_profile so.tokens (tokens_of (so.bytes ++ more)) None None h) → converter.games_before stops ≡ (read list_profile so.tokens).progress.games
           → CountsDevices h.reason s t 0 0 → ListStops left_old left_new a b (Refused h)
       by_stops (converter.unwritten at writing) same counts = absurd (not_unwritten s t counts)
       by_stops (converter.refused h fault gains) same counts =
