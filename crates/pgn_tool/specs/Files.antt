@@ -2,7 +2,9 @@
 use Rattle.std.specs.Prelude.{◌≡◌, ℕ, Bool, true, false, List, [], ◌∷◌, ◌++◌, Option, None, Some, Result, Ok, Err}
 use Rattle.pgn_layout.specs.Device.{Device, one_more}
 use Rattle.pgn_tool.specs.declared.files.CreateFault.{CreateFault}
-use Rattle.pgn_tool.specs.declared.files.CreateFault.TheVariants.{Refused, NoMemory}
+use Rattle.pgn_tool.specs.declared.files.CreateFault.TheVariants as creating
+use Rattle.pgn_tool.specs.declared.game_sink.GameFile.{GameFile}
+use Rattle.pgn_tool.specs.declared.game_sink.GameFile.TheVariants.{NotMade, Open, Refused}
 
 -- Files are made in the folder with this path from now on. File n was made, or was refused, or
 -- there was no memory for it. A file was closed: the bytes that it had taken, if it reports
@@ -16,8 +18,8 @@ pub data FileStep : Type 0 where
 
 -- a file that was not made
 abbrev pub refusal_step : ℕ → CreateFault → FileStep
-refusal_step n Refused = refused n
-refusal_step n NoMemory = without_memory n
+refusal_step n creating.Refused = refused n
+refusal_step n creating.NoMemory = without_memory n
 
 -- what making file n resulted in
 abbrev pub creation_step : {A : Type 0} → ℕ → Result A CreateFault → FileStep
@@ -29,31 +31,32 @@ abbrev pub added : {A : Type 0} → Option (List A) → List A → Option (List 
 added None steps = None
 added (Some log) steps = Some (log ++ steps)
 
--- The bytes of the open file: none before it is made, and then those that it has taken. They are
--- reported if the log is.
-abbrev pub open_text : {A : Type 0} → (A → Option (List ℕ)) → Option (List FileStep) → Option A → Option (List ℕ)
-open_text taken None file = None
-open_text taken (Some log) None = Some []
-open_text taken (Some log) (Some out) = taken out
-
--- The open file as the sink of one call: its bytes, and how many writes failed in the call.
-abbrev pub open_file : {A : Type 0} → (A → Option (List ℕ)) → Option (List FileStep) → Option A → Option (List FileStep) → Option A → ℕ → Device
-open_file taken log file log_after file_after failed = record {
-  before = open_text taken log file;
-  after = open_text taken log_after file_after;
-  failures = 0;
-  failures_after = failed;
-}
-
 -- a new file has no bytes
 abbrev pub IsNew : {A : Type 0} → Option (List A) → Option (List ℕ) → Type 0
 IsNew None bytes = Unit {0}
 IsNew (Some log) bytes = bytes ≡ Some []
 
--- how many calls of the open file failed
-abbrev pub failures_in : {A : Type 0} → (A → ℕ) → Option A → ℕ
-failures_in failures None = 0
-failures_in failures (Some out) = failures out
+-- ---- the file of a game
+
+-- bytes, if the log is reported
+abbrev pub if_logged : Option (List FileStep) → Option (List ℕ) → Option (List ℕ)
+if_logged None bytes = None
+if_logged (Some log) bytes = bytes
+
+-- what it has taken: nothing before it is made
+abbrev pub taken_by : {A : Type 0} → (A → Option (List ℕ)) → GameFile A → Option (List ℕ)
+taken_by taken NotMade = Some []
+taken_by taken (Open out) = taken out
+taken_by taken (Refused fault failed) = Some []
+
+abbrev pub bytes_in : {A : Type 0} → (A → Option (List ℕ)) → Option (List FileStep) → GameFile A → Option (List ℕ)
+bytes_in taken log file = if_logged log (taken_by taken file)
+
+-- how many writes to it have failed
+abbrev pub failures_in : {A : Type 0} → (A → ℕ) → GameFile A → ℕ
+failures_in failures NotMade = 0
+failures_in failures (Open out) = failures out
+failures_in failures (Refused fault failed) = failed
 
 -- there are bytes
 abbrev pub is_text : Option (List ℕ) → Bool
@@ -61,23 +64,45 @@ is_text None = false
 is_text (Some []) = false
 is_text (Some (byte ∷ bytes)) = true
 
--- the open file has bytes, if the log is reported
-abbrev pub has_text : {A : Type 0} → (A → Option (List ℕ)) → Option (List FileStep) → Option A → Bool
-has_text taken None file = true
-has_text taken (Some log) None = false
-has_text taken (Some log) (Some out) = is_text (taken out)
+-- there are, if the log is reported
+abbrev pub has_bytes : Option (List FileStep) → Option (List ℕ) → Bool
+has_bytes None bytes = true
+has_bytes (Some log) bytes = is_text bytes
 
--- What a call that writes game n does with files: nothing where its file was open before; else it
--- may make the file, or be refused.
-abbrev pub steps : (was_open is_open : Bool) → Option CreateFault → ℕ → List FileStep
-steps was_open is_open (Some fault) n = refusal_step n fault ∷ []
-steps false true None n = made n ∷ []
-steps _ _ None n = []
+-- It is made at its first byte: if it is open, it has bytes.
+abbrev pub is_begun : {A : Type 0} → (A → Option (List ℕ)) → Option (List FileStep) → GameFile A → Bool
+is_begun taken log NotMade = true
+is_begun taken log (Open out) = has_bytes log (taken out)
+is_begun taken log (Refused fault failed) = false
 
--- the open file is closed
-abbrev pub closing_steps : {A : Type 0} → (A → Option (List ℕ)) → (A → ℕ) → Option A → List FileStep
-closing_steps taken failures None = []
-closing_steps taken failures (Some out) = closed (taken out) (failures out) ∷ []
+-- so it is unless a write has failed
+abbrev pub IsBegun : {A : Type 0} → (A → Option (List ℕ)) → (A → ℕ) → Option (List FileStep) → GameFile A → Type 0
+IsBegun taken failures log file = failures_in failures file ≡ 0 → is_begun taken log file ≡ true
+
+-- what making it resulted in, as file n
+abbrev pub making_steps : {A : Type 0} → ℕ → GameFile A → List FileStep
+making_steps n NotMade = []
+making_steps n (Open out) = made n ∷ []
+making_steps n (Refused fault failed) = refusal_step n fault ∷ []
+
+-- it is closed, if it is open
+abbrev pub closing_steps : {A : Type 0} → (A → Option (List ℕ)) → (A → ℕ) → GameFile A → List FileStep
+closing_steps taken failures NotMade = []
+closing_steps taken failures (Open out) = closed (taken out) (failures out) ∷ []
+closing_steps taken failures (Refused fault failed) = []
+
+-- both
+abbrev pub file_steps : {A : Type 0} → (A → Option (List ℕ)) → (A → ℕ) → ℕ → GameFile A → List FileStep
+file_steps taken failures n file = making_steps n file ++ closing_steps taken failures file
+
+-- the file as the sink of its game
+abbrev pub file_sink : {A : Type 0} → (A → Option (List ℕ)) → (A → ℕ) → Option (List FileStep) → GameFile A → Device
+file_sink taken failures log file = record {
+  before = bytes_in taken log NotMade;
+  after = bytes_in taken log file;
+  failures = 0;
+  failures_after = failures_in failures file;
+}
 
 -- ---- the files of a run
 
@@ -90,8 +115,3 @@ whole_files n (text ∷ texts) = made (one_more n) ∷ closed (Some text) 0 ∷ 
 abbrev pub number_after : ℕ → List (List ℕ) → ℕ
 number_after n [] = n
 number_after n (text ∷ texts) = number_after (one_more n) texts
-
--- the file that is open
-abbrev pub opening_steps : Bool → ℕ → List FileStep
-opening_steps false n = []
-opening_steps true n = made (one_more n) ∷ []

@@ -1,116 +1,49 @@
--- **Definition**: the files that a split makes, and what one call of the converter does to them.
-use Rattle.std.specs.Prelude.{◌≡◌, ℕ, ◌+◌, ◌^◌, ◌<◌, ◌≤◌, Bool, true, false, List, [], ◌∷◌, ◌++◌, length, codes, Option, None, Some, Result, Ok, Err, IfOk, OnOk, is_some}
+-- **Definition**: the files that a split makes, and what one game adds to them.
+use Rattle.std.specs.Prelude.{◌≡◌, ℕ, ◌<◌, Bool, List, [], ◌∷◌, ◌++◌, codes, Option, Result, Ok, Err}
 use Rattle.pgn_layout.specs.Device.{Device, one_more}
 use Rattle.pgn_game.specs.declared.reason.Reason.{Reason}
 use Rattle.pgn_game.specs.declared.reason.Reason.TheVariants.{ReadFault, WriteFault}
 use Rattle.pgn_game.specs.declared.reason.Fault.{Fault}
 use Rattle.pgn_game.specs.Reason.{line_of}
-use Rattle.pgn_game.specs.declared.converter.Fed.{Fed}
-use Rattle.pgn_game.specs.ConverterCalls.{Advances, Converter, CountsFault, Ends, Feeds, KeepsFault, used_of}
-use Rattle.pgn_tool.specs.declared.files.CreateFault.{CreateFault}
+use Rattle.pgn_game.specs.GamesCalls.{Games, CountsNext, ReadsNext}
 use Rattle.pgn_tool.specs.declared.files.CreateFault.TheVariants as creating
+use Rattle.pgn_tool.specs.declared.game_sink.GameFile.{GameFile}
+use Rattle.pgn_tool.specs.declared.game_sink.GameFile.TheVariants as game_file
 use Rattle.pgn_tool.specs.declared.split.Unsplit.{Unsplit}
 use Rattle.pgn_tool.specs.declared.split.Unsplit.TheVariants.{Refused, NoMemory}
 use Rattle.pgn_tool.specs.TaskRun.{IsUntouched, Tells, line}
 use Rattle.pgn_tool.specs.SplitGames.{SplitResult}
-use Rattle.pgn_tool.specs.Files.{FileStep, added, closed, failures_in, has_text, made, number_after, opening_steps, refused, steps, open_file, whole_files, without_memory}
+use Rattle.pgn_tool.specs.Files.{FileStep, IsBegun, added, closed, file_sink, file_steps, made, number_after, refused, whole_files, without_memory}
 
--- the open file has no failure, and has bytes
-pub record IsWell {A : Type 0} (taken : A → Option (List ℕ)) (failures : A → ℕ)
-    (log : Option (List FileStep)) (file : Option A) : Type 0 where
-  pub clean : failures_in failures file ≡ 0
-  pub begun : is_some file ≡ true → has_text taken log file ≡ true
+-- ---- one game
 
--- What a call does that writes game `number`: the log and the open file before it and after it, why
--- a file was not made, and how many writes failed.
-pub record TurnResult {A : Type 0} (taken : A → Option (List ℕ)) (failures : A → ℕ) (number : ℕ)
-    (log : Option (List FileStep)) (file : Option A) (log_after : Option (List FileStep)) (file_after : Option A)
-    (refusal : Option CreateFault) (failed : ℕ) : Type 0 where
-  pub logged : log_after ≡ added log (steps (is_some file) (is_some file_after) refusal number)
-  pub stays : is_some file ≡ true → is_some file_after ≡ true
-  pub shut : is_some refusal ≡ true → is_some file_after ≡ false
-  pub clean : refusal ≡ None → failed ≡ failures_in failures file_after
-  pub risen : is_some refusal ≡ true → 0 < failed
-  pub begun : failed ≡ 0 → is_some file_after ≡ true → has_text taken log_after file_after ≡ true
+-- why a game is not split: want of memory comes before the write fault that it causes
+abbrev pub reported : {A : Type 0} → GameFile A → Fault → Unsplit
+reported (game_file.Refused creating.NoMemory failed) fault = NoMemory
+reported file fault = Refused fault
 
--- what a call of `feed` says besides what it reads and writes
-pub record FeedResult (old : Converter) (piece : List ℕ) (new : Converter) (answer : Result Fed Fault) : Type 0 where
-  pub used : IfOk answer (λ fed. used_of fed piece ≤ length piece)
-  pub count : IfOk answer (λ fed. new.lexer.count ≡ old.lexer.count + used_of fed piece)
-  pub short : OnOk answer (new.lexer.count ≤ 2 ^ 62)
-  pub advances : IfOk answer (λ fed. Advances old.lexer new.lexer fed)
-  pub not_finished : new.is_finished ≡ false
-  pub fault : KeepsFault new answer
+abbrev pub settled : {A B : Type 0} → GameFile A → Result B Fault → Result B Unsplit
+settled file (Ok x) = Ok x
+settled file (Err fault) = Err (reported file fault)
 
--- want of memory comes before the write fault that it causes
-abbrev pub settled : {A : Type 0} → Option CreateFault → Result A Fault → Result A Unsplit
-settled (Some creating.NoMemory) (Err fault) = Err NoMemory
-settled refusal (Err fault) = Err (Refused fault)
-settled refusal (Ok x) = Ok x
-
--- A game was fed a piece: what the converter answered, and what it did to the files.
-pub record GameFed {A : Type 0} (taken : A → Option (List ℕ)) (failures : A → ℕ)
-    (made : ℕ) (old : Converter) (piece : List ℕ) (new : Converter)
-    (log : Option (List FileStep)) (file : Option A) (log_after : Option (List FileStep)) (file_after : Option A)
-    (result : Result Fed Unsplit) : Type 0 where
-  pub answer : Result Fed Fault
-  pub refusal : Option CreateFault
-  pub failed : ℕ
-  pub settles : result ≡ settled refusal answer
-  pub turned : TurnResult taken failures (one_more made) log file log_after file_after refusal failed
-  pub counted : CountsFault answer (open_file taken log file log_after file_after failed)
-  pub fed : FeedResult old piece new answer
-  pub feeds : Feeds old piece new answer (open_file taken log file log_after file_after failed)
-
--- A game was finished with the end of the input.
-pub record GameEnded {A : Type 0} (taken : A → Option (List ℕ)) (failures : A → ℕ)
-    (made : ℕ) (old : Converter) (new : Converter)
-    (log : Option (List FileStep)) (file : Option A) (log_after : Option (List FileStep)) (file_after : Option A)
-    (result : Result Bool Unsplit) : Type 0 where
+-- A call of `next` wrote a game to its file, which was closed: what the call returned and read, and
+-- what was done with the file.
+pub record GameSplit {A : Type 0} (taken : A → Option (List ℕ)) (failures : A → ℕ) (old new : Games) (source : Device)
+    (log log_after : Option (List FileStep)) (result : Result Bool Unsplit) : Type 0 where
   pub answer : Result Bool Fault
-  pub refusal : Option CreateFault
-  pub failed : ℕ
-  pub settles : result ≡ settled refusal answer
-  pub turned : TurnResult taken failures (one_more made) log file log_after file_after refusal failed
-  pub counted : CountsFault answer (open_file taken log file log_after file_after failed)
-  pub ends : Ends old new answer (open_file taken log file log_after file_after failed)
+  pub file : GameFile A
+  pub settles : result ≡ settled file answer
+  pub logged : log_after ≡ added log (file_steps taken failures (one_more old.converter.games) file)
+  pub begun : IsBegun taken failures log file
+  pub reads : ReadsNext old new answer source (file_sink taken failures log file)
+  pub counted : CountsNext answer source (file_sink taken failures log file)
 
--- ---- the files so far
-
--- From `before` on, whole files were made in turn, and another one may be open.
-pub record FilesSoFar {A : Type 0} (before log : Option (List FileStep)) (file : Option A) (count : ℕ) : Type 0 where
-  pub texts : List (List ℕ)
-  pub counted : count ≡ number_after 0 texts
-  pub logged : log ≡ added before (whole_files 0 texts ++ opening_steps (is_some file) count)
+-- ---- how a split ends
 
 -- the fault is no failure of a file
 abbrev pub IsOwn : Reason → Type 0
 IsOwn WriteFault = ⊥
 IsOwn _ = Unit {0}
-
--- How files stop after n whole ones, with this file open: at a fault of the input or of the source;
--- because file n + 1 was refused; because a write to it failed; or for want of memory for it.
-pub data StopsBy {A : Type 0} (failures : A → ℕ) (n : ℕ) (file : Option A) : Unsplit → List FileStep → Type 0 where
-  by_input : (f : Fault) → IsOwn f.reason → failures_in failures file ≡ 0 → StopsBy failures n file (Refused f) (opening_steps (is_some file) n)
-  by_refusal : (at : ℕ) → is_some file ≡ false
-      → StopsBy failures n file (Refused (record { at = at; reason = WriteFault })) (refused (one_more n) ∷ [])
-  by_write : (at : ℕ) → 0 < failures_in failures file → is_some file ≡ true
-      → StopsBy failures n file (Refused (record { at = at; reason = WriteFault })) (opening_steps true n)
-  by_memory : is_some file ≡ false → StopsBy failures n file NoMemory (without_memory (one_more n) ∷ [])
-
-pub record FilesStop {A : Type 0} (failures : A → ℕ) (before log : Option (List FileStep)) (file : Option A) (why : Unsplit) : Type 0 where
-  pub texts : List (List ℕ)
-  pub last : List FileStep
-  pub logged : log ≡ added before (whole_files 0 texts ++ last)
-  pub stops : StopsBy failures (number_after 0 texts) file why last
-
--- what a part of a split leaves, wherever the files before it began
-abbrev pub FilesAfter : {A : Type 0} → (A → Option (List ℕ)) → (A → ℕ) → Option (List FileStep) → Result Unit Unsplit
-    → Option (List FileStep) → Option A → ℕ → Type 0
-FilesAfter taken failures before (Ok done) log file count = FilesSoFar before log file count × IsWell taken failures log file
-FilesAfter taken failures before (Err why) log file count = FilesStop failures before log file why
-
--- ---- how a split ends
 
 -- The last file of a split, after n whole ones: none; one that a fault of the input or the source
 -- left torn, and none of its writes failed; one that was refused; one that a write failed to; or

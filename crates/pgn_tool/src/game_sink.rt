@@ -1,34 +1,43 @@
-//! The sink over the files of games, for one call of the converter.
-ghost use Rattle.std.specs.Prelude.{◌≡◌, ℕ, ◌<◌, true, false, List, [], ◌∷◌, Option, None, IfOk, is_some};
-ghost use Rattle.pgn_tool.specs.Files.{IsNew, added, creation_step, failures_in, has_text, steps, open_text};
+//! The sink for one game, over the file of that game.
+ghost use Rattle.std.specs.Prelude.{◌≡◌, ℕ, List, [], ◌∷◌, Option, IfOk};
+ghost use Rattle.pgn_tool.specs.declared.game_sink.GameFile.TheVariants.{NotMade};
+ghost use Rattle.pgn_tool.specs.Files.{IsBegun, IsNew, added, bytes_in, creation_step, failures_in, making_steps};
 
 use crate::files::{CreateFault, GameFiles};
 use pgn_game::{Sink, WriteFault};
 use std::marker::{Brand, PhantomData};
 
-/// The files, borrowed for one call, and the state of the file of this game.
+/// The file of a game.
 #[derive(Drop)]
-pub struct Turn<'a, F> {
+pub enum GameFile<O> {
+    /// It is not made yet.
+    NotMade,
+    /// It is open.
+    Open(O),
+    /// It was not made, and so many writes have failed.
+    Refused(CreateFault, u64),
+}
+
+/// The files, borrowed for one game, and the file of that game.
+#[derive(Drop)]
+pub struct Turn<'a, F: GameFiles> {
     pub files: &'a mut F,
     pub number: u64,
-    pub refusal: Option<CreateFault>,
-    pub failures: u64,
+    pub file: GameFile<F::Out>,
 }
 
 impl<'a, F: GameFiles> Turn<'a, F> {
-    /// Borrows the files for a call that writes the game with this number.
+    /// Borrows the files for the game with this number. Its file is not made yet.
     pub fn new(files: &'a mut F, number: u64) -> Turn<'a, F>
         ensures same { result.files.ghost_name ≡ files.entry.ghost_name }
         ensures now { result.files.now ≡ files.old }
         ensures number { result.number ≡ number }
-        ensures refusal { result.refusal ≡ None }
-        ensures failures { result.failures ≡ 0 }
+        ensures file { result.file ≡ NotMade }
     {
         Turn {
             files,
             number,
-            refusal: None,
-            failures: 0,
+            file: GameFile::NotMade,
         }
     }
 
@@ -36,8 +45,7 @@ impl<'a, F: GameFiles> Turn<'a, F> {
     fn create(&mut self) -> Result<F::Out, CreateFault>
         ensures same { self.new.files.ghost_name ≡ self.old.files.ghost_name }
         ensures number { self.new.number ≡ self.old.number }
-        ensures refusal { self.new.refusal ≡ self.old.refusal }
-        ensures failures { self.new.failures ≡ self.old.failures }
+        ensures file { self.new.file ≡ self.old.file }
         ensures log { F.log self.new.files.now
             ≡ added (F.log self.old.files.now) (creation_step self.old.number result ∷ []) }
         ensures empty { IfOk result (λ out. IsNew (F.log self.old.files.now) (F.Out.taken out)) }
@@ -47,87 +55,62 @@ impl<'a, F: GameFiles> Turn<'a, F> {
     }
 }
 
-/// What holds before the call: the borrow, the number of the game, whether its file is open, and
-/// what was done with files.
+/// What holds before the game: the borrow, the number of the game, and what was done with files.
 pub trait Before {
-    ghost use Rattle.std.specs.Prelude.{ℕ, Bool, List, Option};
+    ghost use Rattle.std.specs.Prelude.{ℕ, List, Option};
     ghost use Rattle.pgn_tool.specs.Files.{FileStep};
 
     ghost name: { ℕ };
 
     ghost number: { ℕ };
 
-    ghost is_open: { Bool };
-
     ghost log: { Option (List FileStep) };
 }
 
 impl Before for Brand {
-    ghost use Rattle.std.specs.Prelude.{false, None};
+    ghost use Rattle.std.specs.Prelude.{None};
 
     ghost name = { 0 };
 
     ghost number = { 0 };
 
-    ghost is_open = { false };
-
     ghost log = { None };
 }
 
-/// The sink over the file of one game, which is made at its first byte.
+/// The sink for one game, whose file is made at its first byte.
 #[derive(Drop)]
 pub struct GameSink<'a, K: Before, F: GameFiles> {
     pub turn: Turn<'a, F>,
-    pub file: Option<F::Out>,
     pub of: PhantomData<K>,
     ghost same: { turn.files.ghost_name ≡ K.name },
     ghost number: { turn.number ≡ K.number },
-    ghost log: { F.log turn.files.now
-        ≡ added K.log (steps K.is_open (is_some file) turn.refusal K.number) },
-    ghost open: { K.is_open ≡ true → is_some file ≡ true },
-    ghost shut: { is_some turn.refusal ≡ true → is_some file ≡ false },
-    ghost clean: { turn.refusal ≡ None → turn.failures ≡ failures_in F.Out.failures file },
-    ghost failed: { is_some turn.refusal ≡ true → 0 < turn.failures },
-    ghost begun: { turn.failures ≡ 0 → is_some file ≡ true
-        → has_text F.Out.taken (F.log turn.files.now) file ≡ true },
+    ghost log: { F.log turn.files.now ≡ added K.log (making_steps K.number turn.file) },
+    ghost begun: { IsBegun F.Out.taken F.Out.failures K.log turn.file },
 }
 
 impl<'a, K: Before, F: GameFiles> Sink for GameSink<'a, K, F> {
-    ghost taken = { λ s. open_text F.Out.taken (F.log s.turn.files.now) s.file };
+    ghost taken = { λ s. bytes_in F.Out.taken K.log s.turn.file };
 
-    ghost failures = { λ s. s.turn.failures };
+    ghost failures = { λ s. failures_in F.Out.failures s.turn.file };
 
     fn write_some(&mut self, bytes: &[u8]) -> Result<usize, WriteFault> {
-        if let Some(file) = &mut self.file {
-            return match file.write_some(bytes) {
-                Ok(count) => Ok(count),
-                Err(fault) => {
-                    self.turn.failures = self.turn.failures.saturating_add(1);
-                    Err(fault)
-                }
-            };
-        }
-        if self.turn.refusal.is_some() {
-            self.turn.failures = self.turn.failures.saturating_add(1);
-            return Err(WriteFault);
-        }
-        match self.turn.create() {
-            Ok(mut file) => match file.write_some(bytes) {
-                Ok(count) => {
-                    self.file = Some(file);
-                    Ok(count)
-                }
-                Err(fault) => {
-                    self.file = Some(file);
-                    self.turn.failures = self.turn.failures.saturating_add(1);
-                    Err(fault)
-                }
-            },
-            Err(refusal) => {
-                self.turn.refusal = Some(refusal);
-                self.turn.failures = self.turn.failures.saturating_add(1);
+        match &mut self.turn.file {
+            GameFile::Open(file) => file.write_some(bytes),
+            GameFile::Refused(_, failures) => {
+                *failures = failures.saturating_add(1);
                 Err(WriteFault)
             }
+            GameFile::NotMade => match self.turn.create() {
+                Ok(mut file) => {
+                    let result = file.write_some(bytes);
+                    self.turn.file = GameFile::Open(file);
+                    result
+                }
+                Err(fault) => {
+                    self.turn.file = GameFile::Refused(fault, 1);
+                    Err(WriteFault)
+                }
+            },
         }
     }
 

@@ -1,19 +1,16 @@
 //! Writes each game to a file of its own.
-ghost use Rattle.std.specs.Prelude.{◌≡◌, ◌+◌, ◌^◌, ◌≤◌, false, None, List, Option, OnOk, is_some, length, if◌then◌else◌};
+ghost use Rattle.std.specs.Prelude.{◌≡◌, ◌<◌, ◌≤◌, true, None, Ok, OnOk};
 ghost use Rattle.pgn_layout.specs.Device.{device, one_more};
-ghost use Rattle.pgn_game.specs.ConverterCalls.{CountsFault, Ends, Feeds};
-ghost use Rattle.pgn_tool.specs.Files.{FileStep, added, closing_steps, open_file};
+ghost use Rattle.pgn_game.specs.GamesCalls.{most_left};
+ghost use Rattle.pgn_tool.specs.Files.{added, closing_steps};
 ghost use Rattle.pgn_tool.specs.SplitGames.{SplitResult};
-ghost use Rattle.pgn_tool.specs.SplitState.{AfterClosingFile, SplitEndResult, SplitPieceResult};
-ghost use Rattle.pgn_tool.specs.SplitFiles.{CountsSplit, FeedResult, FilesAfter, FilesSoFar, GameEnded, GameFed, IsWell, RunsSplit, TurnResult, settled};
+ghost use Rattle.pgn_tool.specs.SplitFiles.{CountsSplit, GameSplit, RunsSplit, SplitFiles, settled};
 
 use crate::files::{CreateFault, GameFiles};
-use crate::game_sink::{Before, GameSink, Turn};
+use crate::game_sink::{Before, GameFile, GameSink, Turn};
 use crate::replies::out_of_memory;
-use crate::stream::{LEVELS, READ_LENGTH, TAGS, refuse};
-use pgn_game::laws::due_grows;
-use pgn_game::{Converter, Fault, Fed, Mode, Reason, Sink, Source};
-use pgn_lexer::laws::tokens_rise;
+use crate::stream::{LEVELS, TAGS, refuse};
+use pgn_game::{Fault, Games, Mode, Sink, Source};
 use std::marker::{Brand, PhantomData};
 
 /// Why a split ends before the input does.
@@ -25,7 +22,7 @@ pub enum Unsplit {
     NoMemory,
 }
 
-type Splitter = Converter<TAGS, LEVELS>;
+type Splitter = Games<TAGS, LEVELS>;
 
 /// Writes each game that the source gives to a file of its own, and returns the exit status.
 ///
@@ -47,11 +44,7 @@ pub fn split_to<R: Source, F: GameFiles, E: Sink>(reader: &mut R, files: &mut F,
         (device R.left R.failures reader.old reader.new)
         (device E.taken E.failures err.old err.new) result }
 {
-    let mut file = None;
-    let mut count = 0;
-    let answer = split_source(reader, files, &mut file, &mut count);
-    close(files, &mut file, &mut count);
-    match answer {
+    match split_source(reader, files) {
         Ok(()) => 0,
         Err(Unsplit::Refused(fault)) => refuse(fault, err),
         Err(Unsplit::NoMemory) => out_of_memory(err),
@@ -59,241 +52,84 @@ pub fn split_to<R: Source, F: GameFiles, E: Sink>(reader: &mut R, files: &mut F,
 }
 
 // Splits what the source gives, up to its end.
-fn split_source<R: Source, F: GameFiles>(
-    source: &mut R,
-    files: &mut F,
-    file: &mut Option<F::Out>,
-    count: &mut u64,
-) -> Result<(), Unsplit>
-    requires none { file.old ≡ None }
-    requires from { count.old ≡ 0 }
-    ensures files { FilesAfter F.Out.taken F.Out.failures (F.log files.old) result
-        (F.log files.new) file.new count.new }
+fn split_source<R: Source, F: GameFiles>(source: &mut R, files: &mut F) -> Result<(), Unsplit>
+    ensures files { SplitFiles (F.log files.old) (F.log files.new) result }
     ensures counted { CountsSplit result (R.failures source.old) (R.failures source.new) }
-    ensures splits { AfterClosingFile F.Out.taken F.Out.failures (F.log files.new) file.new
-        (λ after. SplitResult (R.left source.old) (R.left source.new) result (F.log files.old)
-        after) }
+    ensures splits { SplitResult (R.left source.old) (R.left source.new) result
+        (F.log files.old) (F.log files.new) }
 {
-    let mut buffer = [0; READ_LENGTH];
-    let mut converter = Splitter::new(Mode::Full);
-    loop {
-        match source.read_some(&mut buffer) {
-            Err(_) => {
-                return Err(Unsplit::Refused(Fault {
-                    at: converter.count(),
-                    reason: Reason::ReadFault,
-                }));
-            }
-            Ok(0) => return split_last(&mut converter, files, file, *count),
-            Ok(n) => split_piece(&mut converter, &buffer[..n], files, file, count)?,
-        }
-    }
-}
-
-// Splits the piece. The file of the last game stays open unless the game is finished.
-fn split_piece<F: GameFiles>(
-    converter: &mut Splitter,
-    piece: &[u8],
-    files: &mut F,
-    file: &mut Option<F::Out>,
-    count: &mut u64,
-) -> Result<(), Unsplit>
-    requires not_finished { converter.old.is_finished ≡ false }
-    requires no_fault { converter.old.fault ≡ None }
-    requires well { IsWell F.Out.taken F.Out.failures (F.log files.old) file.old }
-    ensures not_finished { converter.new.is_finished ≡ false }
-    ensures count { OnOk result
-        (converter.new.lexer.count ≡ converter.old.lexer.count + length piece.now) }
-    ensures short { OnOk result (converter.new.lexer.count ≤ 2 ^ 62) }
-    ensures no_fault { OnOk result (converter.new.fault ≡ None) }
-    ensures well { OnOk result (IsWell F.Out.taken F.Out.failures (F.log files.new) file.new) }
-    ensures counted { CountsSplit result 0 0 }
-    ensures files { (before : Option (List FileStep))
-        → FilesSoFar before (F.log files.old) file.old count.old
-        → FilesAfter F.Out.taken F.Out.failures before result (F.log files.new) file.new count.new }
-    ensures splits { SplitPieceResult F.Out.taken F.Out.failures converter.old piece.now
-        converter.new
-        result (F.log files.old) file.old count.old (F.log files.new) file.new count.new }
-{
-    let mut at = 0;
-    loop {
-        match feed_game(converter, &piece[at..], files, file, *count)? {
-            Fed::All => return Ok(()),
-            Fed::Game(used) => at += used,
-        }
-        close(files, file, count);
-    }
-}
-
-// Ends the input. The file of the last game stays open.
-fn split_last<F: GameFiles>(
-    converter: &mut Splitter,
-    files: &mut F,
-    file: &mut Option<F::Out>,
-    count: u64,
-) -> Result<(), Unsplit>
-    requires not_finished { converter.old.is_finished ≡ false }
-    requires no_fault { converter.old.fault ≡ None }
-    requires well { IsWell F.Out.taken F.Out.failures (F.log files.old) file.old }
-    ensures counted { CountsSplit result 0 0 }
-    ensures files { (before : Option (List FileStep))
-        → FilesSoFar before (F.log files.old) file.old count
-        → FilesAfter F.Out.taken F.Out.failures before result (F.log files.new) file.new count }
-    ensures splits { SplitEndResult F.Out.taken F.Out.failures converter.old result
-        (F.log files.old) file.old count (F.log files.new) file.new }
-{
-    due_grows();
-    tokens_rise();
-    finish_game(converter, files, file, count)?;
+    let mut games = Splitter::new(Mode::Full);
+    while split_game(&mut games, source, files)? {}
     Ok(())
 }
 
-// Closes the file, if one is open, and counts it.
-fn close<F: GameFiles>(files: &mut F, file: &mut Option<F::Out>, count: &mut u64)
-    ensures shut { file.new ≡ None }
-    ensures log { F.log files.new
-        ≡ added (F.log files.old) (closing_steps F.Out.taken F.Out.failures file.old) }
-    ensures count { count.new ≡ (if is_some file.old then one_more count.old else count.old) }
-{
-    if let Some(out) = file.take() {
-        files.close(out);
-        *count = count.saturating_add(1);
-    }
-}
-
-// Feeds the piece up to the end of the next game, into the file of that game.
-fn feed_game<F: GameFiles>(
-    converter: &mut Splitter,
-    piece: &[u8],
+// Writes the next game to a file of its own, and returns whether there was one.
+fn split_game<R: Source, F: GameFiles>(
+    games: &mut Splitter,
+    source: &mut R,
     files: &mut F,
-    file: &mut Option<F::Out>,
-    count: u64,
-) -> Result<Fed, Unsplit>
-    requires not_finished { converter.old.is_finished ≡ false }
-    requires no_fault { converter.old.fault ≡ None }
-    requires well { IsWell F.Out.taken F.Out.failures (F.log files.old) file.old }
-    ensures { GameFed F.Out.taken F.Out.failures count converter.old piece.now converter.new
-        (F.log files.old) file.old (F.log files.new) file.new result }
-{
-    let number = count.saturating_add(1);
-    let mut answer = Ok(Fed::All);
-    let lent = Turn::new(files, number);
-    let turn = feed_sink::<Brand, F>(converter, piece, lent, file, &mut answer);
-    settle(answer, turn.refusal)
-}
-
-// Ends the input, and writes what is left of the last game into its file.
-fn finish_game<F: GameFiles>(
-    converter: &mut Splitter,
-    files: &mut F,
-    file: &mut Option<F::Out>,
-    count: u64,
 ) -> Result<bool, Unsplit>
-    requires not_finished { converter.old.is_finished ≡ false }
-    requires no_fault { converter.old.fault ≡ None }
-    requires well { IsWell F.Out.taken F.Out.failures (F.log files.old) file.old }
-    ensures { GameEnded F.Out.taken F.Out.failures count converter.old converter.new
-        (F.log files.old) file.old (F.log files.new) file.new result }
+    requires no_fault { games.old.converter.fault ≡ None }
+    ensures fewer { result ≡ Ok true → most_left games.new < most_left games.old }
+    ensures fault { OnOk result (games.new.converter.fault ≡ None) }
+    ensures splits { GameSplit F.Out.taken F.Out.failures games.old games.new
+        (device R.left R.failures source.old source.new)
+        (F.log files.old) (F.log files.new) result }
 {
-    let number = count.saturating_add(1);
-    let mut answer = Ok(false);
-    let lent = Turn::new(files, number);
-    let turn = finish_sink::<Brand, F>(converter, lent, file, &mut answer);
-    settle(answer, turn.refusal)
+    let (_, result) = write_game::<Brand, R, F>(games, source, files);
+    result
+}
+
+// Writes the next game to a file of its own. Gives back the files that were borrowed for it.
+fn write_game<'a, K: Before, R: Source, F: GameFiles>(
+    games: &mut Splitter,
+    source: &mut R,
+    files: &'a mut F,
+) -> (&'a mut F, Result<bool, Unsplit>)
+    requires no_fault { games.old.converter.fault ≡ None }
+    requires name { files.ghost_name ≡ K.name }
+    requires number { one_more games.old.converter.games ≡ K.number }
+    requires log { F.log files.old ≡ K.log }
+    ensures same { result.0.ghost_name ≡ files.entry.ghost_name }
+    ensures fewer { result.1 ≡ Ok true → most_left games.new < most_left games.old }
+    ensures fault { OnOk result.1 (games.new.converter.fault ≡ None) }
+    ensures splits { GameSplit F.Out.taken F.Out.failures games.old games.new
+        (device R.left R.failures source.old source.new)
+        K.log (F.log result.0.now) result.1 }
+{
+    let mut sink = GameSink::<'a, K, F> {
+        turn: Turn::new(files, games.games().saturating_add(1)),
+        of: PhantomData,
+    };
+    let answer = games.next(source, &mut sink);
+    let GameSink { turn, .. } = sink;
+    let Turn {
+        files: lent, file, ..
+    } = turn;
+    let result = settle(answer, &file);
+    close(lent, file);
+    (lent, result)
 }
 
 // A lack of memory is reported instead of the write fault that it causes.
-fn settle<A: Copy>(answer: Result<A, Fault>, refusal: Option<CreateFault>) -> Result<A, Unsplit>
-    ensures { result ≡ settled refusal answer }
+fn settle<O>(answer: Result<bool, Fault>, file: &GameFile<O>) -> Result<bool, Unsplit>
+    ensures { result ≡ settled file.now answer }
 {
     match answer {
-        Ok(done) => Ok(done),
-        Err(fault) => match refusal {
-            Some(CreateFault::NoMemory) => Err(Unsplit::NoMemory),
+        Ok(is_game) => Ok(is_game),
+        Err(fault) => match file {
+            GameFile::Refused(CreateFault::NoMemory, _) => Err(Unsplit::NoMemory),
             _ => Err(Unsplit::Refused(fault)),
         },
     }
 }
 
-// Feeds the piece to the converter, whose output goes to the file of this game. Gives back the
-// files that were borrowed for the call.
-fn feed_sink<'a, K: Before, F: GameFiles>(
-    converter: &mut Splitter,
-    piece: &[u8],
-    turn: Turn<'a, F>,
-    file: &mut Option<F::Out>,
-    answer: &mut Result<Fed, Fault>,
-) -> Turn<'a, F>
-    requires not_finished { converter.old.is_finished ≡ false }
-    requires no_fault { converter.old.fault ≡ None }
-    requires name { turn.files.ghost_name ≡ K.name }
-    requires number { turn.number ≡ K.number }
-    requires fresh { (turn.refusal ≡ None) × (turn.failures ≡ 0) }
-    requires log { F.log turn.files.now ≡ K.log }
-    requires open { is_some file.old ≡ K.is_open }
-    requires well { IsWell F.Out.taken F.Out.failures K.log file.old }
-    ensures same { result.files.ghost_name ≡ turn.entry.files.ghost_name }
-    ensures turned { TurnResult F.Out.taken F.Out.failures K.number K.log file.old
-        (F.log result.files.now) file.new result.refusal result.failures }
-    ensures counted { CountsFault answer.new
-        (open_file F.Out.taken K.log file.old (F.log result.files.now) file.new
-        result.failures) }
-    ensures fed { FeedResult converter.old piece.now converter.new answer.new }
-    ensures feeds { Feeds converter.old piece.now converter.new answer.new
-        (open_file F.Out.taken K.log file.old (F.log result.files.now) file.new
-        result.failures) }
+// Closes the file, if it is open.
+fn close<F: GameFiles>(files: &mut F, file: GameFile<F::Out>)
+    ensures { F.log files.new
+        ≡ added (F.log files.old) (closing_steps F.Out.taken F.Out.failures file) }
 {
-    let mut sink = GameSink::<'a, K, F> {
-        turn,
-        file: file.take(),
-        of: PhantomData,
-    };
-    *answer = converter.feed(piece, &mut sink);
-    let GameSink {
-        turn: lent,
-        file: left,
-        ..
-    } = sink;
-    *file = left;
-    lent
-}
-
-// `finish`, into the sink over the file of this game.
-fn finish_sink<'a, K: Before, F: GameFiles>(
-    converter: &mut Splitter,
-    turn: Turn<'a, F>,
-    file: &mut Option<F::Out>,
-    answer: &mut Result<bool, Fault>,
-) -> Turn<'a, F>
-    requires not_finished { converter.old.is_finished ≡ false }
-    requires no_fault { converter.old.fault ≡ None }
-    requires name { turn.files.ghost_name ≡ K.name }
-    requires number { turn.number ≡ K.number }
-    requires fresh { (turn.refusal ≡ None) × (turn.failures ≡ 0) }
-    requires log { F.log turn.files.now ≡ K.log }
-    requires open { is_some file.old ≡ K.is_open }
-    requires well { IsWell F.Out.taken F.Out.failures K.log file.old }
-    ensures same { result.files.ghost_name ≡ turn.entry.files.ghost_name }
-    ensures turned { TurnResult F.Out.taken F.Out.failures K.number K.log file.old
-        (F.log result.files.now) file.new result.refusal result.failures }
-    ensures counted { CountsFault answer.new
-        (open_file F.Out.taken K.log file.old (F.log result.files.now) file.new
-        result.failures) }
-    ensures ends { Ends converter.old converter.new answer.new
-        (open_file F.Out.taken K.log file.old (F.log result.files.now) file.new
-        result.failures) }
-{
-    let mut sink = GameSink::<'a, K, F> {
-        turn,
-        file: file.take(),
-        of: PhantomData,
-    };
-    *answer = converter.finish(&mut sink);
-    let GameSink {
-        turn: lent,
-        file: left,
-        ..
-    } = sink;
-    *file = left;
-    lent
+    if let GameFile::Open(out) = file {
+        files.close(out);
+    }
 }

@@ -1,25 +1,66 @@
--- The text in the file of a game.
-use Rattle.std.proofs.Common.{◌≡◌, ℕ, ◌<◌, arith, true, List, [], ◌∷◌, Option, None, Some, refl, ap}
+-- The bytes in the file of a game.
+use Rattle.std.proofs.Common.{◌≡◌, ℕ, ◌<◌, ◌≤◌, true, List, [], ◌∷◌, ◌++◌, length, length-append, length-take, append-nil, take, Option, None, Some, Result, Ok, Err, refl, sym, ap, subst, ◌∙◌, arith, is_some}
+use Rattle.std.specs.Prelude.{IfOk}
 use Rattle.std.proofs.lemmas.Bool.{false≢true}
-use Rattle.std.specs.Io.KnownBytes.{Appends}
-use Rattle.pgn_layout.specs.Device.{one_more}
-use Rattle.pgn_tool.specs.Files.{FileStep, has_text, is_text}
+use Rattle.std.specs.Io.KnownBytes.{Appends, Keeps, WriteAppends}
+use Rattle.pgn_layout.specs.Device.{Counts}
+use Rattle.pgn_tool.specs.Files.{FileStep, IsNew, added, has_bytes, if_logged, is_text}
 
--- what has text still has it when more is written
-keeps_text : (a b : Option (List ℕ)) (bytes : List ℕ) → Appends a b bytes → is_text a ≡ true → is_text b ≡ true
-keeps_text None b bytes appends has = absurd (false≢true has)
-keeps_text (Some []) b bytes appends has = absurd (false≢true has)
-keeps_text (Some (x ∷ xs)) None bytes appends has = absurd appends
-keeps_text (Some (x ∷ xs)) (Some ys) bytes appends has = ap (λ zs. is_text (Some zs)) appends
+-- its bytes are reported, if the log is
+abbrev pub IsKnown : Option (List FileStep) → Option (List ℕ) → Type 0
+IsKnown None bytes = Unit {0}
+IsKnown (Some log) bytes = is_some bytes ≡ true
 
-pub file_keeps_text : {A : Type 0} → (taken : A → Option (List ℕ)) (log : Option (List FileStep)) (old new : A) (bytes : List ℕ)
-    → Appends (taken old) (taken new) bytes → has_text taken log (Some old) ≡ true → has_text taken log (Some new) ≡ true
-file_keeps_text taken None old new bytes appends has = refl
-file_keeps_text taken (Some log) old new bytes appends has = keeps_text (taken old) (taken new) bytes appends has
+known_new : (log : Option (List FileStep)) (bytes : Option (List ℕ)) → IsNew log bytes → IsKnown log bytes
+known_new None bytes new = tt
+known_new (Some log) bytes new = ap is_some new
 
--- a count that was raised
-pub some_more : (r n : ℕ) → r ≡ one_more n → 0 < r
-some_more r n is = omega (arith, is)
+pub known_text : (log : Option (List FileStep)) (bytes : Option (List ℕ)) → has_bytes log bytes ≡ true → IsKnown log bytes
+known_text None bytes has = tt
+known_text (Some log) None has = absurd (false≢true has)
+known_text (Some log) (Some text) has = refl
 
-pub none_more : (r n : ℕ) → r ≡ one_more n → r ≡ 0 → ⊥
-none_more r n is zero = omega (arith, is, zero)
+-- some bytes were written
+appended : (a b : Option (List ℕ)) (text : List ℕ) → is_some a ≡ true → 0 < length text → Appends a b text → is_text b ≡ true
+appended None b text known some appends = absurd (false≢true known)
+appended (Some xs) None text known some appends = absurd appends
+appended (Some xs) (Some []) text known some appends =
+    absurd (omega (arith, some, ap (length {A = ℕ}) appends, length-append xs text))
+appended (Some xs) (Some (y ∷ ys)) text known some appends = refl
+
+-- a write that did not fail leaves bytes in the file
+pub has_more : {E : Type 0} → (log : Option (List FileStep)) (a b : Option (List ℕ)) (r : Result ℕ E) (text : List ℕ) (failed failed_after : ℕ)
+    → (failed ≡ 0 → IsKnown log a) → WriteAppends a b r text → IfOk r (λ n. (0 < n) × (n ≤ length text)) → Counts r failed failed_after
+    → failed_after ≡ 0 → has_bytes log b ≡ true
+has_more None a b r text failed failed_after known writes bound counts zero = refl
+has_more (Some log) a b (Ok n) text failed failed_after known writes bound counts zero =
+    appended a b (take n text) (known (sym counts ∙ zero)) (omega (arith, bound.0, bound.1, length-take n text)) writes
+has_more (Some log) a b (Err e) text failed failed_after known writes bound counts zero = absurd (omega (arith, counts, zero))
+
+-- ---- a write, seen by the log
+
+pub write_logged : {E : Type 0} → (log : Option (List FileStep)) (a b : Option (List ℕ)) (r : Result ℕ E) (text : List ℕ)
+    → WriteAppends a b r text → WriteAppends (if_logged log a) (if_logged log b) r text
+write_logged None a b (Ok n) text writes = tt
+write_logged None a b (Err e) text writes = tt
+write_logged (Some log) a b r text writes = writes
+
+-- a new file, made where the log is as before
+pub new_writes : {E : Type 0} → (log now : Option (List FileStep)) (a b : Option (List ℕ)) (r : Result ℕ E) (text : List ℕ) → now ≡ added log [] → IsNew now a
+    → WriteAppends a b r text → WriteAppends (if_logged log (Some [])) (if_logged log b) r text
+new_writes None now a b r text same new writes = write_logged None a b r text writes
+new_writes (Some log) now a b r text same new writes =
+    subst (λ x. WriteAppends x b r text) (subst (λ l. IsNew l a) same new) writes
+
+pub still_logged : (log : Option (List FileStep)) → Keeps (if_logged log (Some [])) (if_logged log (Some []))
+still_logged None = tt
+still_logged (Some log) = refl
+
+-- a file that is made where the log is as before
+pub known_made : (log now : Option (List FileStep)) (a : Option (List ℕ)) → now ≡ added log [] → IsNew now a → IsKnown log a
+known_made None now a same new = tt
+known_made (Some log) now a same new = known_new (Some log) a (subst (λ l. IsNew l a) same new)
+
+pub made_first : (log now after : Option (List FileStep)) (steps : List FileStep) → now ≡ added log [] → after ≡ added now steps → after ≡ added log steps
+made_first None now after steps same made = made ∙ ap (λ l. added l steps) same
+made_first (Some log) now after steps same made = made ∙ ap (λ l. added l steps) same ∙ ap (λ l. Some (l ++ steps)) (append-nil log)

@@ -4,16 +4,15 @@ use Rattle.pgn_layout.specs.Device.{device}
 use Rattle.pgn_tool.specs.declared.split.Unsplit.{Unsplit}
 use Rattle.pgn_tool.specs.declared.split.Unsplit.TheVariants.{NoMemory, Refused}
 use Rattle.pgn_tool.specs.SplitFiles.{EndsSplit}
-use Rattle.pgn_tool.proofs.splitting.FilesAfterCall.{split_ends}
 use Rattle.pgn_tool.proofs.split.split_to.Goals as goal
 
 pub returns-in-Ok-clause-runs : goal.returns-in-Ok-clause-runs
 returns-in-Ok-clause-runs g c =
-    let split = c.split_source-answer in
+    let split = c.split_source in
     record {
       answer = split.result;
-      files = split_ends _ _ _ _ _ _ _ split.result split.ensures.files c.close.ensures.log;
-      splits = split.ensures.splits _ c.close.ensures.log;
+      files = split.ensures.files;
+      splits = split.ensures.splits;
       counted = split.ensures.counted;
       ends =
           subst (λ (r : Result Unit Unsplit). EndsSplit r (device g.E.Sink.taken g.E.Sink.failures c.args.err.now c.args.err.now) 0)
@@ -22,28 +21,28 @@ returns-in-Ok-clause-runs g c =
 
 pub returns-in-Err-Refused-clause-runs : goal.returns-in-Err-Refused-clause-runs
 returns-in-Err-Refused-clause-runs g c =
-    let split = c.split_source-answer in
+    let split = c.split_source in
     let is : split.result ≡ Err (Refused c.in-Err-Refused.fault) =
-    c.in-Err-Refused.is ∙ ap (λ s. Err s) (rw c.in-Err-Refused.is at c.in-Err-Refused.field-0-is) in
+    c.in-Err-Refused.is ∙ ap (λ s. Err s) c.in-Err-Refused.field-0-is in
     record {
       answer = split.result;
-      files = split_ends _ _ _ _ _ _ _ split.result split.ensures.files c.close.ensures.log;
-      splits = split.ensures.splits _ c.close.ensures.log;
+      files = split.ensures.files;
+      splits = split.ensures.splits;
       counted = split.ensures.counted;
       ends =
           subst (λ (r : Result Unit Unsplit). EndsSplit r (device g.E.Sink.taken g.E.Sink.failures c.args.err.now c.refuse.new.err) c.refuse.result)
           (sym is) (c.refuse.ensures.status, c.refuse.ensures.told);
     }
 
-pub returns-clause-runs : goal.returns-clause-runs
-returns-clause-runs g c =
-    let split = c.split_source-answer in
+pub returns-in-Err-NoMemory-clause-runs : goal.returns-in-Err-NoMemory-clause-runs
+returns-in-Err-NoMemory-clause-runs g c =
+    let split = c.split_source in
     let is : split.result ≡ Err NoMemory =
-    c.in-Err-NoMemory.is ∙ ap (λ s. Err s) (rw c.in-Err-NoMemory.is at c.in-Err-NoMemory.field-0-is) in
+    c.in-Err-NoMemory.is ∙ ap (λ s. Err s) c.in-Err-NoMemory.field-0-is in
     record {
       answer = split.result;
-      files = split_ends _ _ _ _ _ _ _ split.result split.ensures.files c.close.ensures.log;
-      splits = split.ensures.splits _ c.close.ensures.log;
+      files = split.ensures.files;
+      splits = split.ensures.splits;
       counted = split.ensures.counted;
       ends =
           subst (λ (r : Result Unit Unsplit). EndsSplit r (device g.E.Sink.taken g.E.Sink.failures c.args.err.now c.out_of_memory.new.err) c.out_of_memory.result)

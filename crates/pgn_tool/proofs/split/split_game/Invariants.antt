@@ -1,0 +1,5 @@
+use Rattle.pgn_layout.specs.Device.{one_more}
+use Rattle.pgn_tool.proofs.split.split_game.Given as goal
+
+abbrev pub ghosts-write_game : goal.ghosts-write_game
+ghosts-write_game g a = record { name = a.files.ghost_name; number = one_more a.games.now.converter.games; log = g.F.GameFiles.log a.files.now }
