@@ -3,5 +3,6 @@ pub mod EachTextIsCut
 pub mod PlacesOfTokens
 pub mod RulesToTokens
 pub mod StringData
+pub mod TextsRestart
 pub mod TokensAreSound
 pub mod WrittenToTokens

@@ -1,7 +1,8 @@
 -- **Definition**: what the laws say of tokens.
 -- In the statements, s is a text, or what comes after the text u, and b is the byte after u.
-use Rattle.std.specs.Prelude.{◌≡◌, ℕ, ◌≤◌, ◌<◌, ◌^◌, ◌↔◌, ◌⊎◌, IsTrue, List, [], ◌++◌, ◌∷◌, map, decimal}
-use Rattle.pgn_lexer.specs.Tokens.{Kind, Token, end, refused}
+use Rattle.std.specs.Prelude.{◌≡◌, ℕ, ◌≤◌, ◌<◌, ◌^◌, ◌↔◌, ◌⊎◌, false, IsTrue, List, [], ◌++◌, ◌∷◌, length, map, decimal}
+use Rattle.pgn_lexer.specs.Tokens.{Kind, Token, asterisk, symbol, end, refused, EndsAt}
+use Rattle.pgn_lexer.specs.Beginning.{blanks}
 use Rattle.pgn_lexer.specs.TokensOf.{tokens_of}
 use Rattle.pgn_lexer.specs.Lexes.{Lexes}
 use Rattle.pgn_lexer.specs.Decided.{decided, known}
@@ -61,3 +62,16 @@ KindsAreReadBack =
 abbrev pub NumbersAreSymbols : Type 0
 NumbersAreSymbols =
     (n : ℕ) → n < 2 ^ 64 → IsSymbol (decimal n) × IsTrue (list_all is_digit (decimal n))
+
+-- the kinds of token that finish a game: a symbol and an asterisk
+abbrev pub CanFinishGame : Kind → Type 0
+CanFinishGame asterisk = Unit {0}
+CanFinishGame (symbol text) = Unit {0}
+CanFinishGame _ = ⊥
+
+-- The tokens behind such a token are those of a text that begins where it ends.
+abbrev pub TextsRestart : Type 0
+TextsRestart =
+    (u s : List ℕ) (given rest : List Token) (t : Token)
+    → tokens_of (u ++ s) ≡ given ++ t ∷ rest → EndsAt t.kind t.at (length u) → CanFinishGame t.kind
+    → rest ≡ tokens_of (blanks (length u) false ++ s)

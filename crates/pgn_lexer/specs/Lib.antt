@@ -1,4 +1,5 @@
 -- **Bookkeeping**: the list of this crate's files of definitions.
+pub mod Beginning
 pub mod Bytes
 pub mod Decided
 pub mod PartialToken

@@ -45,3 +45,11 @@ pub fn written_tokens_are_read_back()
 pub fn numbers_are_symbols()
     ensures { laws.NumbersAreSymbols }
 {}
+
+/// Behind a symbol or an asterisk, the tokens are those of a text that begins there.
+///
+/// So a text can be read game by game: each game from where the termination marker of the one
+/// before ended (PGN 8.2.6), by a lexer of `Lexer::begin_at`.
+pub fn texts_restart()
+    ensures { laws.TextsRestart }
+{}

@@ -46,6 +46,7 @@ impl Model for Lexer {
 }
 
 impl Lexer {
+    ghost use Rattle.pgn_lexer.specs.Beginning.{blanks};
     ghost use Rattle.pgn_lexer.specs.Scanned.{scanned};
     ghost use Rattle.pgn_lexer.specs.Standing.{fault_of};
     ghost use Rattle.pgn_lexer.specs.Stands.{StandsAfter, Scans, Finishes, Leaves};
@@ -58,6 +59,25 @@ impl Lexer {
         Lexer {
             partial: PartialToken::new(),
             count: 0,
+        }
+    }
+
+    /// Returns a lexer that begins at a place of a longer text, which comes from there on.
+    ///
+    /// Places count from the first byte of the longer text, and so does `count`. A byte order mark
+    /// is skipped at place 0 alone. `in_first_column` says whether the place is in the first
+    /// column, where a percent sign begins an escape line (PGN 6): behind a carriage return or a
+    /// line feed, or behind a byte order mark. Place 0 always is.
+    pub fn begin_at(place: u64, in_first_column: bool) -> Lexer
+        ensures stands { StandsAfter result (blanks place in_first_column) None [] }
+        ensures no_fault { fault_of result ≡ None }
+    {
+        if place == 0 {
+            return Lexer::new();
+        }
+        Lexer {
+            partial: PartialToken::between(in_first_column),
+            count: place,
         }
     }
 

@@ -1,6 +1,6 @@
 //! The current token: its place, its mode, and what was read of it.
 
-ghost use Rattle.std.specs.Prelude.{◌≡◌, []};
+ghost use Rattle.std.specs.Prelude.{◌≡◌, [], if◌then◌else◌};
 ghost use Rattle.pgn_lexer.specs.ByteResult as after;
 
 mod byte;
@@ -129,6 +129,26 @@ impl PartialToken {
         PartialToken {
             buffer: ArrayVec::new(),
             mode: Mode::Start,
+            at: 0,
+        }
+    }
+
+    /// Returns the state outside all tokens.
+    pub(crate) fn between(in_first_column: bool) -> PartialToken
+        ensures { result ≡ record {
+          mode = if in_first_column then Mode.LineStart else Mode.Outside;
+          at = 0;
+          text = [];
+        } }
+    {
+        let mode = if in_first_column {
+            Mode::LineStart
+        } else {
+            Mode::Outside
+        };
+        PartialToken {
+            buffer: ArrayVec::new(),
+            mode,
             at: 0,
         }
     }

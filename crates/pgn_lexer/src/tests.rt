@@ -91,6 +91,27 @@ fn holds(text: &[u8], outcomes: &[Outcome<'_>]) -> bool {
     holds_bytes(text, outcomes) == Some(true)
 }
 
+/// Whether a lexer that begins at the place of the text gives the outcomes, byte by byte and whole.
+fn begins(text: &[u8], place: usize, in_first_column: bool, outcomes: &[Outcome<'_>]) -> bool {
+    let Some(rest) = text.get(place..) else {
+        return false;
+    };
+    let mut whole = Lexer::begin_at(place as u64, in_first_column);
+    let Some(seen) = feed(&mut whole, rest, outcomes, 0) else {
+        return false;
+    };
+    let mut lexer = Lexer::begin_at(place as u64, in_first_column);
+    let mut count = 0;
+    for byte in rest {
+        let Some(more) = feed(&mut lexer, &[*byte], outcomes, count) else {
+            return false;
+        };
+        count = more;
+    }
+    finishes(&mut whole, outcomes, seen) == Some(true)
+        && finishes(&mut lexer, outcomes, count) == Some(true)
+}
+
 #[test]
 fn tokens_of_texts(rt: HostRuntime) {
     assert!(rt; holds(b"", &[at(0, End)]));
@@ -400,4 +421,34 @@ fn long_words_and_strings(rt: HostRuntime) {
     assert!(rt; holds(&string, &[refused(0, LexReason::UnclosedString)]));
     string[256] = b'\t';
     assert!(rt; holds(&string, &[refused(256, LexReason::ControlByte)]));
+}
+
+#[test]
+fn begins_at_a_later_place(rt: HostRuntime) {
+    // behind a marker: places count from the first byte of the text
+    assert!(rt; begins(b"1-0 e4", 3, false, &[at(4, Symbol(b"e4")), at(6, End)]));
+    assert!(rt; begins(b"**", 1, false, &[at(1, Asterisk), at(2, End)]));
+    assert!(rt; begins(b"1-0", 3, false, &[at(3, End)]));
+    // a percent sign begins an escape line in the first column alone
+    assert!(rt; begins(b"*%x\n*", 1, false, &[refused(1, LexReason::StrayByte)]));
+    assert!(rt; begins(b"*\n%x\n*", 2, true, &[at(5, Asterisk), at(6, End)]));
+    assert!(rt; begins(b"*\n%x\n*", 1, false, &[at(5, Asterisk), at(6, End)]));
+    // a byte order mark is skipped at place 0 alone
+    assert!(rt; begins(b"\xEF\xBB\xBF*", 0, true, &[at(3, Asterisk), at(4, End)]));
+    assert!(rt;
+        begins(
+            b"\xEF\xBB\xBF%x\n*",
+            3,
+            true,
+            &[at(6, Asterisk), at(7, End)]
+        )
+    );
+    assert!(rt;
+        begins(
+            b"\n\xEF\xBB\xBF*",
+            1,
+            true,
+            &[refused(1, LexReason::StrayByte)]
+        )
+    );
 }
