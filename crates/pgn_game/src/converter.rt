@@ -3,6 +3,7 @@ ghost use Rattle.std.specs.Prelude.{◌≡◌, ◌+◌, ◌-◌, ◌≤◌, ◌<
 ghost use Rattle.std.specs.Prelude.{None, Some, is_some, Err, is_ok, IfOk, OnOk, OnErr, length, take};
 ghost use Rattle.std.specs.Option.{option_copied};
 ghost use Rattle.pgn_layout.specs.Device.{device};
+ghost use Rattle.pgn_lexer.specs.Beginning.{blanks};
 ghost use Rattle.pgn_game.specs.declared.reason.Reason.TheVariants.{InputTooLong, Lexical, ReadFault};
 ghost use Rattle.pgn_game.specs.ConverterSteps.{FeedsFront, Steps, StepsAtEnd};
 ghost use Rattle.pgn_game.specs.ConverterSteps.{StepAdvances, StepAtEndAdvances, outcome_at, games_after};
@@ -102,6 +103,43 @@ impl<const T: usize, const L: usize> Converter<T, L> {
     {
         Converter {
             lexer: Lexer::new(),
+            reader: Reader::new(mode),
+            games: 0,
+            has_finished_game: false,
+            is_finished: false,
+            fault: None,
+        }
+    }
+
+    /// Returns a converter that begins at a place of a longer text, which comes from there on.
+    ///
+    /// Places count from the first byte of the longer text, and so does `count`; games count from
+    /// there. A byte order mark is skipped at place 0 alone. `in_first_column` says whether the
+    /// place is in the first column, where a percent sign begins an escape line (PGN 6): behind a
+    /// carriage return or a line feed, or behind a byte order mark. Place 0 always is.
+    ///
+    /// The place is at most 2^62. Behind a game it begins with the next one, and all is converted
+    /// as in the whole text (`laws::texts_restart` of `pgn_lexer`).
+    ///
+    /// # Examples
+    ///
+    /// ```
+    /// use pgn_game::{Converter, Fed, Mode, Nowhere};
+    ///
+    /// let text = b"1. e4 * 1. d5 *";
+    /// let mut converter = Converter::<64, 33>::begin_at(Mode::Full, 7, false);
+    /// let fault = converter.feed(&text[7..], &mut Nowhere).err().unwrap();
+    /// assert_eq!(fault.at, 11);
+    /// ```
+    pub fn begin_at(mode: Mode, place: u64, in_first_column: bool) -> Self
+        requires levels { 1 ≤ L }
+        requires place { place ≤ 2 ^ 62 }
+        ensures stands { Stands (profile_of T (L - 1) mode) result (blanks place in_first_column)
+            None [] }
+        ensures not_finished { result.is_finished ≡ false }
+    {
+        Converter {
+            lexer: Lexer::begin_at(place, in_first_column),
             reader: Reader::new(mode),
             games: 0,
             has_finished_game: false,

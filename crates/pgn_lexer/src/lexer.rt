@@ -70,6 +70,7 @@ impl Lexer {
     /// line feed, or behind a byte order mark. Place 0 always is.
     pub fn begin_at(place: u64, in_first_column: bool) -> Lexer
         ensures stands { StandsAfter result (blanks place in_first_column) None [] }
+        ensures count { result.count ≡ place }
         ensures no_fault { fault_of result ≡ None }
     {
         if place == 0 {

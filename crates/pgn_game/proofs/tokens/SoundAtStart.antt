@@ -1,5 +1,5 @@
 -- How many tokens come without another byte, and the counts before the first byte.
-use Rattle.std.proofs.Common.{◌≡◌, ◌≤◌, false, None, arith}
+use Rattle.std.proofs.Common.{◌≡◌, ◌≤◌, ◌^◌, false, None, arith}
 use Rattle.pgn_lexer.specs.declared.partial_token.Mode.{Mode}
 use Rattle.pgn_lexer.specs.declared.partial_token.Mode.TheVariants.{LineWord, Symbol, Glyph, Suffix, BraceWord, Line}
 use Rattle.pgn_lexer.specs.PartialToken.{pending_in}
@@ -19,7 +19,7 @@ few_waiting_in _ = omega arith
 pub few_waiting : (l : Standing) → waiting l ≤ 2
 few_waiting l = few_waiting_in l.held.mode
 
-pub sound_at_start : (l : Standing) (r : ReaderState) → l.count ≡ 0 → r.earlier_plies ≡ 0 → r.text.plies ≡ 0 → IsSound l r 0 false false None
+pub sound_at_start : (l : Standing) (r : ReaderState) → l.count ≤ 2 ^ 62 → r.earlier_plies ≡ 0 → r.text.plies ≡ 0 → IsSound l r 0 false false None
 sound_at_start l r count earlier plies =
     let few = few_waiting l in
     record {

@@ -1,4 +1,4 @@
-use Rattle.std.proofs.Common.{◌-◌, [], refl, sym, ap, subst}
+use Rattle.std.proofs.Common.{◌-◌, [], arith, refl, sym, ap, subst}
 use Rattle.pgn_game.specs.Progress.{no_progress}
 use Rattle.pgn_game.specs.Game.{no_part}
 use Rattle.pgn_game.specs.MostTried.{MostTried, none}
@@ -32,7 +32,7 @@ new-requires-2 g c = (search fits_reader, c.requires)
 pub invariant_of-result : goal.invariant_of-result
 invariant_of-result g c =
     let is = c.new-2.ensures in
-    sound_at_start c.new.result c.new-2.result c.new.ensures.stands.count (ap (λ (r : ReaderState). r.earlier_plies) is) (ap (λ (r : ReaderState). r.text.plies) is)
+    sound_at_start c.new.result c.new-2.result (omega (arith, c.new.ensures.stands.count)) (ap (λ (r : ReaderState). r.earlier_plies) is) (ap (λ (r : ReaderState). r.text.plies) is)
 
 pub returns-clause-not_finished : goal.returns-clause-not_finished
 returns-clause-not_finished g c = refl

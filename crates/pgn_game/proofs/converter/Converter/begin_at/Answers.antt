@@ -1,0 +1,38 @@
+use Rattle.std.proofs.Common.{◌-◌, [], arith, refl, sym, ap, subst}
+use Rattle.pgn_game.specs.Progress.{no_progress}
+use Rattle.pgn_game.specs.Game.{no_part}
+use Rattle.pgn_game.specs.MostTried.{MostTried, none}
+use Rattle.pgn_game.specs.ReaderState.{ReaderState, Agrees, whole_plies}
+use Rattle.pgn_game.specs.ConverterCalls.{profile_of}
+use Rattle.pgn_game.proofs.ReaderFitsInMemory.{fits_reader}
+use Rattle.pgn_game.proofs.tokens.SoundAtStart.{sound_at_start}
+use Rattle.pgn_game.proofs.converter.Converter.begin_at.Goals as goal
+
+pub returns-clause-stands : goal.returns-clause-stands
+returns-clause-stands g c =
+    let is = c.new.ensures in
+    record {
+      lexer = c.begin_at.ensures.stands;
+      has_read = record {
+        profile = ap (λ (r : ReaderState). r.profile) is;
+        no_fault = refl;
+        passes = refl;
+        agrees = subst (λ (r : ReaderState). Agrees r no_part) (sym is) (record { stage = refl; pairs = refl; text = refl });
+        games = refl;
+        plies = ap whole_plies is;
+        probed = λ moves. absurd (cc);
+        tried = subst (MostTried (profile_of g.row.T (g.row.L - 1) c.args.mode) []) (sym (ap (λ (r : ReaderState). r.most_probes) is)) (none no_progress);
+        just_finished = tt;
+      };
+    }
+
+pub new-requires : goal.new-requires
+new-requires g c = (search fits_reader, c.requires.levels)
+
+pub invariant_of-result : goal.invariant_of-result
+invariant_of-result g c =
+    let is = c.new.ensures in
+    sound_at_start c.begin_at.result c.new.result (omega (arith, c.begin_at.ensures.count, c.requires.place)) (ap (λ (r : ReaderState). r.earlier_plies) is) (ap (λ (r : ReaderState). r.text.plies) is)
+
+pub returns-clause-not_finished : goal.returns-clause-not_finished
+returns-clause-not_finished g c = refl
