@@ -1,5 +1,6 @@
 //! Laws of the definitions that the contracts cite. The functions do nothing.
 ghost use Rattle.pgn_game.specs.Laws as laws;
+ghost use Rattle.pgn_game.specs.GameByGame as restart;
 ghost use Rattle.pgn_game.specs.MovesAreLegal as legality;
 ghost use Rattle.pgn_game.specs.FixedPoint as fixed;
 ghost use Rattle.pgn_game.specs.UniqueReading as unique;
@@ -12,7 +13,7 @@ use chess_text::laws::{
 };
 use pgn_layout::laws::lines_keep_tokens;
 use pgn_lexer::laws::{
-    decided_is_prefix, numbers_are_symbols, tokens_are_sound, tokens_rise,
+    decided_is_prefix, numbers_are_symbols, texts_restart, tokens_are_sound, tokens_rise,
     written_tokens_are_read_back,
 };
 
@@ -20,6 +21,17 @@ use pgn_lexer::laws::{
 pub fn due_grows()
     ensures { laws.DueGrows }
 {}
+
+/// Converting a text game by game, each from where the one before ended, converts the whole.
+///
+/// A game ends with the last byte of its marker. Behind it `Converter::begin_at` begins, not in the
+/// first column. Output, verdict and places are those of the whole text, and games and plies add
+/// up.
+pub fn games_restart()
+    ensures { restart.GamesRestart }
+{
+    texts_restart();
+}
 
 /// By the grammar, a text spells exactly the games that are read, if no token is rejected.
 ///

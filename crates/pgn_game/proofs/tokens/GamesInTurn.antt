@@ -124,7 +124,7 @@ not_true : IsTrue false → ⊥
 not_true h = absurd (cc)
 
 -- behind tokens that pass the rest is read from where they led
-reads_behind : (p : Profile) (b : Progress) (ts us : List Token) → (read_from p b ts).fault ≡ None → read_from p b (ts ++ us) ≡ read_from p (read_from p b ts).progress us
+pub reads_behind : (p : Profile) (b : Progress) (ts us : List Token) → (read_from p b ts).fault ≡ None → read_from p b (ts ++ us) ≡ read_from p (read_from p b ts).progress us
 reads_behind p b [] us e = refl
 reads_behind p b (t ∷ ts) us e =
     let none = first_passes p b t ts e in

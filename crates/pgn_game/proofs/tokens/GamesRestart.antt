@@ -1,0 +1,153 @@
+-- A text that is converted from the end of a game on.
+use Rattle.std.proofs.Common.{◌≡◌, ℕ, ◌+◌, false, List, [], ◌∷◌, ◌++◌, length, Option, None, Some, refl, sym, ap, subst, ◌∙◌, append_assoc, append-nil, length-append, arith, map, sum}
+use Rattle.std.proofs.lemmas.List.Sums.{sum-map, sum_by-append}
+use Rattle.pgn_lexer.specs.Tokens as tokens
+use Rattle.pgn_lexer.specs.Tokens.{EndsAt}
+use Rattle.pgn_lexer.specs.TokensOf.{tokens_of}
+use Rattle.pgn_lexer.specs.Beginning.{blanks}
+use Rattle.pgn_lexer.specs.Laws.{TextsRestart, CanFinishGame}
+use Rattle.pgn_game.proofs.Words.{Kind, Token, Reason, Fault, Profile, Game, Part, no_part}
+use Rattle.pgn_game.specs.declared.stage.Stage.{Stage}
+use Rattle.pgn_game.specs.declared.stage.Stage.TheVariants.{Between, AfterLeftBracket, AfterName, AfterValue, AfterTags, InMovetext}
+use Rattle.pgn_game.specs.Levels.{plies_of}
+use Rattle.pgn_game.specs.FaultTable.{refusal, marker_of}
+use Rattle.pgn_game.specs.Text.{game_text, text_of, torn}
+use Rattle.pgn_game.specs.Progress.{Next, going, whole, next, next_in, in_text, Progress, progress_with, progress_after, no_progress, Read, read_from, read, written, output, verdict, verdict_of, refused, totals}
+use Rattle.pgn_game.specs.GameByGame.{games_of, FinishesGame, with_games, GamesRestart}
+use Rattle.pgn_game.proofs.tokens.OneMoreToken.{read_from-test, after_test, first_passes, goes_on, stops_from}
+use Rattle.pgn_game.proofs.tokens.GamesInTurn.{reads_behind}
+
+-- ---- Games before what is read
+
+abbrev with_front : List Game → Progress → Progress
+with_front games b = record { games = games ++ b.games; part = b.part }
+
+abbrev reads_with_front : List Game → Read → Read
+reads_with_front games r = record { progress = with_front games r.progress; fault = r.fault }
+
+front_of_next : (games : List Game) (b : List Game) (nx : Next) → progress_with (games ++ b) nx ≡ with_front games (progress_with b nx)
+front_of_next games b (going part) = refl
+front_of_next games b (whole g) = ap (λ l. record { games = l; part = no_part }) (append_assoc games b (g ∷ []))
+
+front_stays : (p : Profile) (games : List Game) (b : Progress) (ts : List Token)
+    → read_from p (with_front games b) ts ≡ reads_with_front games (read_from p b ts)
+front_stays p games b [] = refl
+front_stays p games b (t ∷ ts) =
+    read_from-test p (with_front games b) t ts
+    ∙ by_test (refusal p b.part t.kind) (front_stays p games (progress_after b t) ts)
+    ∙ ap (reads_with_front games) (sym (read_from-test p b t ts))
+  where
+    by_test : (o : Option Reason) → read_from p (with_front games (progress_after b t)) ts ≡ reads_with_front games (read_from p (progress_after b t) ts)
+        → after_test p (with_front games b) t ts o ≡ reads_with_front games (after_test p b t ts o)
+    by_test (Some reason) later = refl
+    by_test None later = ap (λ c. read_from p c ts) (front_of_next games b.games (next b.part t.kind)) ∙ later
+
+text_of-append : (p : Profile) (games more : List Game) → text_of p (games ++ more) ≡ text_of p games ++ text_of p more
+text_of-append p [] more = refl
+text_of-append p (g ∷ games) more =
+    ap (λ l. game_text p g ++ l) (text_of-append p games more) ∙ sym (append_assoc (game_text p g) (text_of p games) (text_of p more))
+
+written_with_front : (p : Profile) (games : List Game) (b : Progress) → written p (with_front games b) ≡ text_of p games ++ written p b
+written_with_front p games b =
+    ap (λ l. l ++ torn p b.part) (text_of-append p games b.games) ∙ append_assoc (text_of p games) (text_of p b.games) (torn p b.part)
+
+plies_of_both : (xs ys : List Game) → sum (map plies_of (xs ++ ys)) ≡ sum (map plies_of xs) + sum (map plies_of ys)
+plies_of_both xs ys =
+    omega (arith, sum-map plies_of (xs ++ ys), sum_by-append plies_of xs ys, sum-map plies_of xs, sum-map plies_of ys)
+
+verdict_with_front : (games : List Game) (r : Read) → verdict_of (reads_with_front games r) ≡ with_games games (verdict_of r)
+verdict_with_front games r = by_fault r.fault
+  where
+    by_fault : (o : Option Fault) → verdict_of (record { progress = with_front games r.progress; fault = o }) ≡ with_games games (verdict_of (record { progress = r.progress; fault = o }))
+    by_fault (Some f) = refl
+    by_fault None =
+        ap (λ n. totals (record { games = n; plies = sum (map plies_of (games ++ r.progress.games)) })) (length-append games r.progress.games)
+        ∙ ap (λ n. totals (record { games = length games + length r.progress.games; plies = n }))
+            (plies_of_both games r.progress.games)
+
+-- ---- A marker
+
+-- what a token leads to where no game is finished, or the kinds that can finish one
+abbrev Leads : Kind → Next → Type 0
+Leads k (going part) = Unit {0}
+Leads k (whole g) = CanFinishGame k
+
+text_leads : (part : Part) (k : Kind) → Leads k (in_text part k)
+text_leads part tokens.asterisk = tt
+text_leads part (tokens.symbol s) = by_marker (marker_of (tokens.symbol s))
+  where
+    by_marker : (o : Option (List ℕ)) → Leads (tokens.symbol s) (elim o [
+      | Some marker ↦ whole (record { pairs = part.pairs; items = part.items; marker = marker })
+      | None ↦ going (record { stage = InMovetext; pairs = part.pairs; name = part.name; items = part.items ++ Rattle.pgn_game.specs.Progress.items_of part (tokens.symbol s) })
+    ])
+    by_marker (Some marker) = tt
+    by_marker None = tt
+text_leads part _ = tt
+
+leads_in : (stage : Stage) (part : Part) (k : Kind) → Leads k (next_in stage part k)
+leads_in Between part tokens.left_bracket = tt
+leads_in Between part tokens.comment_open = tt
+leads_in Between part (tokens.word text) = tt
+leads_in Between part tokens.comment_close = tt
+leads_in Between part tokens.end = tt
+leads_in Between part k = text_leads part k
+leads_in AfterLeftBracket part (tokens.symbol name) = tt
+leads_in AfterLeftBracket part k = tt
+leads_in AfterName part (tokens.str value) = tt
+leads_in AfterName part k = tt
+leads_in AfterValue part tokens.right_bracket = tt
+leads_in AfterValue part k = tt
+leads_in AfterTags part tokens.left_bracket = tt
+leads_in AfterTags part k = text_leads part k
+leads_in InMovetext part k = text_leads part k
+
+no_more : (xs : List Game) (g : Game) → xs ≡ xs ++ g ∷ [] → ⊥
+no_more xs g e = absurd (omega (arith, ap length e, length-append xs (g ∷ [])))
+
+-- behind the marker no part of a game was read, and its kind can finish a game
+record Behind (p : Profile) (given : List Token) (marker : Token) : Type 0 where
+  progress : (read p (given ++ marker ∷ [])).progress ≡ record { games = games_of p (given ++ marker ∷ []); part = no_part }
+  kind : CanFinishGame marker.kind
+
+module _ (p : Profile) (given : List Token) (marker : Token) (finishes : FinishesGame p given marker) where
+  abbrev b : Progress
+  b = (read p given).progress
+
+  no_part_behind : (q : Progress) (games : List Game) → q ≡ record { games = games; part = no_part } → q ≡ record { games = q.games; part = no_part }
+  no_part_behind q games is = is ∙ ap (λ (l : List Game). record { games = l; part = no_part }) (sym (ap (λ (c : Progress). c.games) is))
+
+  by_next : (nx : Next) → next b.part marker.kind ≡ nx → Leads marker.kind nx → (read p (given ++ marker ∷ [])).progress ≡ progress_with b.games nx → Behind p given marker
+  by_next (going part) is leads progress =
+      absurd (no_more b.games finishes.game (sym (ap (λ (c : Progress). c.games) progress) ∙ finishes.one_more))
+  by_next (whole g) is leads progress = record {
+    progress = no_part_behind (read p (given ++ marker ∷ [])).progress (b.games ++ g ∷ []) progress;
+    kind = leads
+  }
+
+  by_fault : (o : Option Fault) → (read p given).fault ≡ o → Behind p given marker
+  by_fault (Some f) e =
+      let fault : (read p (given ++ marker ∷ [])).fault ≡ Some f = ap (λ (r : Read). r.fault) (stops_from p no_progress given (marker ∷ []) f e) ∙ e in
+      absurd (cc (fault, finishes.passes))
+  by_fault None e =
+      let here : read p (given ++ marker ∷ []) ≡ read_from p b (marker ∷ []) = reads_behind p no_progress given (marker ∷ []) e in
+      let free : refusal p b.part marker.kind ≡ None = first_passes p b marker [] (ap (λ (r : Read). r.fault) (sym here) ∙ finishes.passes) in
+      by_next (next b.part marker.kind) refl (leads_in b.part.stage b.part marker.kind) (ap (λ (r : Read). r.progress) (here ∙ goes_on p b marker [] free))
+
+  behind : Behind p given marker
+  behind = by_fault (read p given).fault refl
+
+pub games_restart : TextsRestart → GamesRestart
+games_restart restart p u s given rest marker cut ends finishes =
+    let ts : List Token = given ++ marker ∷ [] in
+    let gs : List Game = games_of p ts in
+    let later : List ℕ = blanks (length u) false ++ s in
+    let after : Behind p given marker = behind p given marker finishes in
+    let same : rest ≡ tokens_of later = restart u s given rest marker cut ends after.kind in
+    let joined : read p (tokens_of (u ++ s)) ≡ reads_with_front gs (read p (tokens_of later)) =
+        ap (read p) (cut ∙ sym (append_assoc given (marker ∷ []) rest))
+        ∙ reads_behind p no_progress ts rest finishes.passes
+        ∙ ap (λ (c : Progress). read_from p c rest) (after.progress ∙ ap (λ (l : List Game). record { games = l; part = no_part }) (sym (append-nil gs)))
+        ∙ front_stays p gs no_progress rest
+        ∙ ap (λ (us : List Token). reads_with_front gs (read p us)) same in
+    (ap (λ (r : Read). written p r.progress) joined ∙ written_with_front p gs (read p (tokens_of later)).progress,
+    ap verdict_of joined ∙ verdict_with_front gs (read p (tokens_of later)))
