@@ -18,6 +18,7 @@ UNKNOWN = HEAD + b"*\n\n"
 TWO = b"1. e4 e5 2. Nf3 * *\n"
 UNREAD = b"byte 0: input cannot be read\n"
 UNWRITTEN = b"output cannot be written\n"
+NO_MOVE = b"byte 2: not a move\n"
 # What each task writes for TWO.
 WRITTEN = {
     "export": HEAD + b"1. e4 e5 2. Nf3 *\n\n" + UNKNOWN,
@@ -144,6 +145,30 @@ class StreamTest(unittest.TestCase):
         self.assertEqual(ran.stderr, b"byte %d: output cannot be written\n" % place)
         # the buffer holds more than this many games, and less than all
         self.assertTrue(100 < place < len(text) and place % 2 == 0, place)
+
+    def test_full_standard_output_at_the_end(self):
+        """What fits into the buffer is written by the last flush."""
+        if not os.path.exists("/dev/full"):
+            not_tried("/dev/full is missing")
+        path = self.write("two.pgn", TWO)
+        for words in (["--help"], ["--version"], ["export", "--checked", path],
+                      *[[it] for it in WRITTEN], *[[it, path] for it in WRITTEN]):
+            with open("/dev/full", "wb") as full:
+                ran = run([self.program, *words], input=TWO, stdout=full)
+            self.assertEqual((ran.returncode, ran.stderr), (1, UNWRITTEN), words)
+        # a fault comes first, and the flush behind it tells nothing more
+        for task in WRITTEN:
+            with open("/dev/full", "wb") as full:
+                ran = run([self.program, task], input=b"* e9", stdout=full)
+            self.assertEqual((ran.returncode, ran.stderr), (1, NO_MOVE), task)
+
+    def test_output_goes_out_before_the_report(self):
+        path = self.write("bad.pgn", b"* e9")
+        line = b"1\t?\t?\t*\t0\trnbqkbnr/pppppppp/8/8/8/8/PPPPPPPP/RNBQKBNR w KQkq - 0 1\n"
+        for words, text in (("export", UNKNOWN), ("export --checked", UNKNOWN), ("check", b""),
+                            ("list", line)):
+            ran = self.closing("2>&1", *words.split(), path)
+            self.check(ran, 1, text + NO_MOVE, b"")
 
     def test_full_file_system(self):
         need("unshare", "mount")

@@ -103,6 +103,10 @@ Tells d text = IsCalm d → Appends d.before d.after text
 abbrev pub HasFront : Device → List ℕ → Type 0
 HasFront d text = (count : ℕ) × Appends d.before d.after (take count text)
 
+-- Nothing is left in the sink's buffer, or a call of it failed and the status is 1.
+abbrev pub IsFlushed : Device → List ℕ → ℕ → Type 0
+IsFlushed d unflushed status = (unflushed ≡ []) ⊎ (HasFailed d × (status ≡ 1))
+
 -- ---- if no device fails
 
 -- a fault is reported, and nothing else is

@@ -1,10 +1,11 @@
 //! Carries out `export --checked`, which reads its file twice.
 ghost use Rattle.std.specs.Prelude.{◌≡◌, ◌≤◌, ℕ, List, true};
 ghost use Rattle.pgn_layout.specs.Device.{device};
-ghost use Rattle.pgn_tool.specs.TaskRun.{IsSmooth, mode_for};
+ghost use Rattle.pgn_tool.specs.TaskRun.{IsFlushed, IsSmooth, mode_for};
 ghost use Rattle.pgn_tool.specs.CheckedRun.{AnswersSame, AnswersTwice, Gives, RunsTwice, WritesFront};
 ghost use Rattle.pgn_tool.specs.CheckedRun.{checked_mode, is_checked};
 
+use crate::machine::Output;
 use crate::stream::{LEVELS, TAGS, conclude, export_mode, refuse};
 use pgn_arguments::Task;
 use pgn_game::laws::{due_grows, equal_readings, interrupted_readings};
@@ -24,7 +25,7 @@ use pgn_lexer::laws::decided_is_prefix;
 /// On a fault of `first` every game before it is written, and nothing of its own game. On another
 /// one, the text of the current game may be torn. Only the first fault is reported. A failure of
 /// `err` changes no status. The task must be `Checked`.
-pub fn run_checked<Q: Source, R: Source, O: Sink, E: Sink>(
+pub fn run_checked<Q: Source, R: Source, O: Output, E: Sink>(
     task: &Task,
     first: &mut Q,
     second: &mut R,
@@ -70,6 +71,10 @@ pub fn run_checked<Q: Source, R: Source, O: Sink, E: Sink>(
         (device R.left R.failures second.old second.new)
         (device O.taken O.failures out.old out.new)
         (device E.taken E.failures err.old err.new) result }
+
+    // Nothing is left in the buffer, or a call of `out` failed.
+    ensures flushed { IsFlushed (device O.taken O.failures out.old out.new)
+        (O.unflushed out.new) result }
 {
     decided_is_prefix();
     due_grows();
@@ -82,20 +87,22 @@ pub fn run_checked<Q: Source, R: Source, O: Sink, E: Sink>(
 }
 
 // Writes the games in export format, each after it has been read.
-fn export_twice<Q: Source, R: Source, O: Sink, E: Sink>(
+fn export_twice<Q: Source, R: Source, O: Output, E: Sink>(
     mode: Mode,
     first: &mut Q,
     second: &mut R,
     out: &mut O,
     err: &mut E,
 ) -> u8
-    ensures { RunsTwice mode (device Q.left Q.failures first.old first.new)
+    ensures runs { RunsTwice mode (device Q.left Q.failures first.old first.new)
         (device R.left R.failures second.old second.new)
         (device O.taken O.failures out.old out.new)
         (device E.taken E.failures err.old err.new) result }
+    ensures flushed { IsFlushed (device O.taken O.failures out.old out.new)
+        (O.unflushed out.new) result }
 {
     let answer = convert_checked::<TAGS, LEVELS, Q, R, O>(first, second, out, mode);
-    let flushed = out.flush();
+    let flushed = out.flush_all();
     match answer {
         Ok(_) => conclude(flushed.is_ok(), err),
         Err(fault) => refuse(fault, err),

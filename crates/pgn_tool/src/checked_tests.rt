@@ -4,6 +4,7 @@ ghost use Rattle.pgn_tool.specs.CheckedRun.{is_checked};
 
 use crate::checked::run_checked;
 use crate::devices::{Page, Reader, Trouble, memory, whole};
+use crate::standard::StandardOutput;
 use crate::stream_tests::{Ran, UNKNOWN, UNWRITTEN, WON};
 use pgn_arguments::Task;
 use pgn_game::{Inlet, Outlet};
@@ -44,13 +45,13 @@ fn task(alloc: Global, reduced: bool) -> Task
 fn run(task: &Task, first: Reader, second: Reader, out: Page, err: Page) -> Ran
     requires { is_checked task.now ≡ true }
 {
-    let mut out = Outlet::new(out);
+    let mut out = StandardOutput::new(out.alloc, out);
     let mut err = Outlet::new(err);
     let (mut first, mut second) = (Inlet::new(first), Inlet::new(second));
     let status = run_checked(task, &mut first, &mut second, &mut out, &mut err);
     Ran {
         status,
-        out: out.into_inner(),
+        out: out.outlet.into_inner(),
         err: err.into_inner(),
     }
 }

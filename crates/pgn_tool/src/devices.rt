@@ -27,6 +27,7 @@ impl Trouble {
 /// A writer to memory. One of its writes fails, or each flush.
 #[derive(Drop)]
 pub struct Page {
+    pub alloc: Global,
     pub number: u64,
     pub taken: Vec<u8>,
     pub calls: usize,
@@ -35,6 +36,8 @@ pub struct Page {
     /// How many bytes a write takes at most.
     pub most: usize,
     pub flushes: usize,
+    /// How many bytes had been taken at the last flush.
+    pub flushed: usize,
     pub flush_fails: bool,
 }
 
@@ -51,6 +54,7 @@ impl Write for Page {
 
     fn flush(&mut self) -> io::Result<()> {
         self.flushes = self.flushes.saturating_add(1);
+        self.flushed = self.taken.len();
         if self.flush_fails {
             return Err(io::Error::from(ErrorKind::BrokenPipe));
         }
@@ -61,6 +65,7 @@ impl Write for Page {
 /// A writer of which no call fails.
 pub fn memory(alloc: Global) -> Page {
     Page {
+        alloc,
         number: 0,
         taken: Vec::new(alloc),
         calls: 0,
@@ -68,6 +73,7 @@ pub fn memory(alloc: Global) -> Page {
         trouble: Trouble::Broken,
         most: usize::MAX,
         flushes: 0,
+        flushed: 0,
         flush_fails: false,
     }
 }

@@ -1,10 +1,11 @@
 //! The replies if no task is run.
-ghost use Rattle.std.specs.Prelude.{◌≡◌, codes};
+ghost use Rattle.std.specs.Prelude.{◌≡◌, [], codes};
 ghost use Rattle.pgn_layout.specs.Device.{device};
-ghost use Rattle.pgn_tool.specs.TaskRun.{Tells, line};
+ghost use Rattle.pgn_tool.specs.TaskRun.{IsFlushed, Tells, line};
 ghost use Rattle.pgn_tool.specs.Replies.{AnswersFault, Shows};
 
-use crate::stream::{conclude, tell};
+use crate::machine::Output;
+use crate::stream::{conclude, tell, write_last};
 use pgn_arguments::ParseFault;
 use pgn_game::Sink;
 use pgn_layout::write_all;
@@ -14,9 +15,11 @@ use pgn_layout::write_all;
 /// - Help goes to `out`, with status 0, or 1 if that fails.
 /// - A mistake goes to `err`, with status 2.
 /// - A lack of memory goes to `err`, with status 3.
-pub fn answer_fault<O: Sink, E: Sink>(fault: &ParseFault, out: &mut O, err: &mut E) -> u8
-    ensures { AnswersFault fault.now (device O.taken O.failures out.old out.new)
+pub fn answer_fault<O: Output, E: Sink>(fault: &ParseFault, out: &mut O, err: &mut E) -> u8
+    ensures answers { AnswersFault fault.now (device O.taken O.failures out.old out.new)
         (device E.taken E.failures err.old err.new) result }
+    ensures flushed { O.unflushed out.old ≡ []
+        → IsFlushed (device O.taken O.failures out.old out.new) (O.unflushed out.new) result }
 {
     match fault {
         ParseFault::Help(text) => show(text.as_str(), out, err),
@@ -28,13 +31,15 @@ pub fn answer_fault<O: Sink, E: Sink>(fault: &ParseFault, out: &mut O, err: &mut
     }
 }
 
-// Writes the text of help.
-fn show<O: Sink, E: Sink>(text: &str, out: &mut O, err: &mut E) -> u8
-    ensures { Shows text.now (device O.taken O.failures out.old out.new)
+// Writes the text of help, and flushes.
+fn show<O: Output, E: Sink>(text: &str, out: &mut O, err: &mut E) -> u8
+    ensures shows { Shows text.now (device O.taken O.failures out.old out.new)
         (device E.taken E.failures err.old err.new) result }
+    ensures flushed { IsFlushed (device O.taken O.failures out.old out.new)
+        (O.unflushed out.new) result }
 {
-    let written = write_all(out, text.as_bytes());
-    conclude(written.is_ok(), err)
+    let is_written = write_last(text.as_bytes(), out);
+    conclude(is_written, err)
 }
 
 /// Reports that the arguments cannot be read, and returns status 2.

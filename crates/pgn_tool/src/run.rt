@@ -1,9 +1,9 @@
 //! A run of the program, on whatever machine.
-ghost use Rattle.std.specs.Prelude.{◌≡◌, ℕ, ◌≤◌, false, true, List, Some};
+ghost use Rattle.std.specs.Prelude.{◌≡◌, ℕ, ◌≤◌, false, true, List, [], Some};
 ghost use Rattle.pgn_layout.specs.Device.{device};
 ghost use Rattle.pgn_tool.specs.Machine.{HasRoom, machine, missing, reading};
 ghost use Rattle.pgn_arguments.specs.Requests.{file_of, request_of};
-ghost use Rattle.pgn_tool.specs.TaskRun.{is_for_stream, job_of};
+ghost use Rattle.pgn_tool.specs.TaskRun.{IsFlushed, is_for_stream, job_of};
 ghost use Rattle.pgn_tool.specs.CheckedRun.{checked_mode, is_checked};
 ghost use Rattle.pgn_tool.specs.Program.{Carries, EndsUnopened, IsMissing, Ran, RunsAgain, RunsAnswer, RunsBoth};
 ghost use Rattle.pgn_tool.specs.Program.{RunsOpened, RunsStream, RunsToOutput, StartsFrom, makes_files};
@@ -54,6 +54,8 @@ pub fn run<I: Input, O: Output, F: GameFolder, E: Sink>(
         (HasRoom O.taken O.failures O.lacks_memory out.old)
         (F.log files.old) (F.log files.new)
         (device E.taken E.failures err.old err.new)) result }
+    ensures flushed { O.unflushed out.old ≡ []
+        → IsFlushed (device O.taken O.failures out.old out.new) (O.unflushed out.new) result }
 {
     match words {
         Ok(words) => {
@@ -82,6 +84,8 @@ fn run_answer<I: Input, O: Output, F: GameFolder, E: Sink>(
         (HasRoom O.taken O.failures O.lacks_memory out.old)
         (F.log files.old) (F.log files.new)
         (device E.taken E.failures err.old err.new)) result }
+    ensures flushed { O.unflushed out.old ≡ []
+        → IsFlushed (device O.taken O.failures out.old out.new) (O.unflushed out.new) result }
 {
     match answer {
         Ok(task) => run_task(task, input, second, out, files, err),
@@ -106,6 +110,8 @@ pub fn run_task<I: Input, O: Output, F: GameFolder, E: Sink>(
         (HasRoom O.taken O.failures O.lacks_memory out.old)
         (F.log files.old) (F.log files.new)
         (device E.taken E.failures err.old err.new)) result }
+    ensures flushed { O.unflushed out.old ≡ []
+        → IsFlushed (device O.taken O.failures out.old out.new) (O.unflushed out.new) result }
     ensures missing { (name : List ℕ) → file_of (request_of task) ≡ Some name
         → I.holding input.old name ≡ missing
         → IsMissing (device O.taken O.failures out.old out.new)
@@ -155,6 +161,8 @@ fn run_opened<I: Input, O: Output, F: GameFolder, E: Sink>(
         (HasRoom O.taken O.failures O.lacks_memory out.old)
         (F.log files.old) (F.log files.new)
         (device E.taken E.failures err.old err.new) result }
+    ensures flushed { O.unflushed out.old ≡ []
+        → IsFlushed (device O.taken O.failures out.old out.new) (O.unflushed out.new) result }
 {
     match task {
         Task::Split { dir, .. } => {
@@ -180,6 +188,8 @@ fn run_to_output<I: Input, O: Output, E: Sink>(
         (device O.taken O.failures out.old out.new) (O.lacks_memory out.new)
         (HasRoom O.taken O.failures O.lacks_memory out.old)
         (device E.taken E.failures err.old err.new) result }
+    ensures flushed { O.unflushed out.old ≡ []
+        → IsFlushed (device O.taken O.failures out.old out.new) (O.unflushed out.new) result }
 {
     match task {
         Task::Checked { file, .. } => run_again(task, file.as_str(), input, second, out, err),
@@ -207,6 +217,8 @@ fn run_again<I: Input, O: Output, E: Sink>(
         (device O.taken O.failures out.old out.new) (O.lacks_memory out.new)
         (HasRoom O.taken O.failures O.lacks_memory out.old)
         (device E.taken E.failures err.old err.new) result }
+    ensures flushed { O.unflushed out.old ≡ []
+        → IsFlushed (device O.taken O.failures out.old out.new) (O.unflushed out.new) result }
 {
     match second.open(name) {
         Ok(()) => run_both(task, first, second, out, err),
@@ -230,6 +242,8 @@ fn run_both<I: Input, O: Output, E: Sink>(
         (device O.taken O.failures out.old out.new) (O.lacks_memory out.new)
         (HasRoom O.taken O.failures O.lacks_memory out.old)
         (device E.taken E.failures err.old err.new) result }
+    ensures flushed { O.unflushed out.old ≡ []
+        → IsFlushed (device O.taken O.failures out.old out.new) (O.unflushed out.new) result }
 {
     match out.reserve() {
         Ok(()) => run_checked(task, first, second, out, err),
@@ -250,6 +264,8 @@ fn run_buffered<I: Input, O: Output, E: Sink>(
         (device O.taken O.failures out.old out.new) (O.lacks_memory out.new)
         (HasRoom O.taken O.failures O.lacks_memory out.old)
         (device E.taken E.failures err.old err.new) result }
+    ensures flushed { O.unflushed out.old ≡ []
+        → IsFlushed (device O.taken O.failures out.old out.new) (O.unflushed out.new) result }
 {
     match out.reserve() {
         Ok(()) => run_stream(task, input, out, err),

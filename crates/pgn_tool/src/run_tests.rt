@@ -107,7 +107,11 @@ impl Sink for Screen {
 }
 
 impl Output for Screen {
+    ghost use Rattle.std.specs.Prelude.{[]};
+
     ghost lacks_memory = { λ s. s.lacks_memory };
+
+    ghost unflushed = { λ _. [] };
 
     fn reserve(&mut self) -> Result<(), AllocError> {
         self.buffers = self.buffers.saturating_add(1);
@@ -117,6 +121,10 @@ impl Output for Screen {
         } else {
             Err(AllocError)
         }
+    }
+
+    fn flush_all(&mut self) -> Result<(), WriteFault> {
+        self.outlet.flush()
     }
 }
 

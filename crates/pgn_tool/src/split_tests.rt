@@ -56,6 +56,7 @@ impl GameFiles for Shelf {
         self.open = self.open.saturating_add(1);
         self.most_open = self.most_open.max(self.open);
         Ok(Outlet::new(Page {
+            alloc: self.alloc,
             number,
             taken: Vec::new(self.alloc),
             calls: self.writes,
@@ -63,6 +64,7 @@ impl GameFiles for Shelf {
             trouble: self.trouble,
             most: self.most,
             flushes: 0,
+            flushed: 0,
             flush_fails: true,
         }))
     }

@@ -149,8 +149,7 @@ impl<W: Write> Sink for StandardOutput<W> {
     }
 
     fn flush(&mut self) -> Result<(), WriteFault> {
-        self.write_out()?;
-        self.outlet.flush()
+        self.flush_all()
     }
 }
 
@@ -159,7 +158,14 @@ impl<W: Write> Output for StandardOutput<W> {
 
     ghost lacks_memory = { λ s. lacks_room s.buffer };
 
+    ghost unflushed = { λ s. s.buffer.items };
+
     fn reserve(&mut self) -> Result<(), AllocError> {
         Ok(self.buffer.try_reserve_exact(OUTPUT_BUFFER)?)
+    }
+
+    fn flush_all(&mut self) -> Result<(), WriteFault> {
+        self.write_out()?;
+        self.outlet.flush()
     }
 }

@@ -3,11 +3,15 @@ ghost use Rattle.std.specs.Prelude.{◌≡◌, true};
 ghost use Rattle.pgn_tool.specs.TaskRun.{is_for_stream};
 
 use crate::devices::{Page, Reader, Trouble, memory, whole};
+use crate::machine::Output;
+use crate::standard::StandardOutput;
 use crate::stream::run_stream;
 use pgn_arguments::Task;
 use pgn_game::{Inlet, Outlet};
+use pgn_layout::write_all;
 use std::alloc::Global;
 use std::io::ErrorKind;
+use std::test::Fail;
 
 /// Two games, of 27 bytes: their markers stand at 12 and 25.
 const TWO: &[u8] = b"[Event \"a\"] * [Site \"b\"]\n*\n";
@@ -103,16 +107,17 @@ impl Ran {
             && self.out.taken.as_slice() == out
             && self.err.taken.as_slice() == err
             && self.out.flushes == 1
+            && self.out.flushed == self.out.taken.len()
     }
 }
 
 fn run(job: Job, reader: Reader, out: Page, err: Page) -> Ran {
-    let mut out = Outlet::new(out);
+    let mut out = StandardOutput::new(out.alloc, out);
     let mut err = Outlet::new(err);
     let status = run_stream(&job.task(), &mut Inlet::new(reader), &mut out, &mut err);
     Ran {
         status,
-        out: out.into_inner(),
+        out: out.outlet.into_inner(),
         err: err.into_inner(),
     }
 }
@@ -385,4 +390,17 @@ fn ends_at_the_first_device_that_fails(rt: HostRuntime) {
             assert!(rt; ran.is(status, written, told), "{job:?} of {text:?}");
         }
     }
+}
+
+#[test]
+fn flushes_behind_its_buffer(rt: HostRuntime) -> Result<(), Fail> {
+    let mut out = StandardOutput::new(rt.alloc(), memory(rt.alloc()));
+    out.reserve()?;
+    assert!(rt; write_all(&mut out, FIRST).is_ok());
+    assert_eq!(rt; out.buffer.len(), FIRST.len());
+    assert!(rt; out.flush_all().is_ok() && out.buffer.is_empty());
+    let page = out.outlet.into_inner();
+    assert!(rt; page.taken.as_slice() == FIRST && page.flushes == 1);
+    assert_eq!(rt; page.flushed, FIRST.len());
+    Ok(())
 }

@@ -16,7 +16,7 @@ use Rattle.pgn_game.specs.Progress.{Verdict, refused as is_refused}
 use Rattle.pgn_game.specs.CheckedConversion.{AreConverted, AreTotalled, TwoReadingsConvert, CountsThree, FirstStops, SecondStops, TwoReadingsFail, HasTaken, MatchesAllMarks, OneFails, WriteStops}
 use Rattle.pgn_game.specs.CheckedConversion.{first_too_long, first_unread, refused, second_too_long, second_unread, unwritten}
 use Rattle.pgn_game.specs.EqualReadings.{EqualReadings}
-use Rattle.pgn_tool.specs.TaskRun.{HasFailed, IsCalm, IsSmooth, TellsVerdict, status_of}
+use Rattle.pgn_tool.specs.TaskRun.{FlushCounts, HasFailed, IsCalm, IsSmooth, TellsVerdict, status_of}
 use Rattle.pgn_tool.specs.CheckedRun.{AnswersSame, AnswersTwice, BlamesTwice, EndsTwice, RunsTwice, profile_twice}
 use Rattle.pgn_tool.proofs.runs.ConversionToRun.{calm_fails, keeps_on, longer, risen, well}
 
@@ -97,6 +97,12 @@ blames_twice_of ReadFault flushed first second d e same devices counts = one_fai
 blames_twice_of WriteFault flushed first second d e same devices counts =
     risen flushed e.failures d.failures_after e.failures_after (devices.2 ∙ ap one_more (sym same)) counts
 blames_twice_of _ flushed first second d e same devices counts = tt
+
+-- it counts one failure of its sink at most
+pub counted_once_of_two : (reason : Reason) (first second sink : Device) → CountsThree reason first second sink → FlushCounts sink.failures sink.failures_after
+counted_once_of_two ReadFault first second sink devices = inl devices.1
+counted_once_of_two WriteFault first second sink devices = inr devices.2
+counted_once_of_two _ first second sink devices = inl devices.2
 
 -- ---- where no device fails
 

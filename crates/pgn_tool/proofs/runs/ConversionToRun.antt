@@ -2,7 +2,7 @@
 use Rattle.std.proofs.Common.{◌≡◌, ◌∙◌, ℕ, ◌^◌, ◌<◌, ◌≤◌, Bool, true, false, List, [], ◌++◌, length, ap, refl, subst, sym, arith, append-nil, take, length-append, Option, None, Some, inl, inr}
 use Rattle.std.proofs.lemmas.Bool.{false≢true}
 use Rattle.std.proofs.Math.Seq.{take-length}
-use Rattle.std.specs.Prelude.{Result, Ok, Err, is_ok, map, sum, codes, if◌then◌else◌}
+use Rattle.std.specs.Prelude.{Result, Ok, Err, OnOk, is_ok, map, sum, codes, ◌⊎◌, if◌then◌else◌}
 use Rattle.std.specs.Io.KnownBytes.{Appends, Consumes, Keeps}
 use Rattle.pgn_layout.specs.Device.{Counts, Device, IsStill, Writes, one_more}
 use Rattle.pgn_game.specs.declared.mode.Mode.TheVariants.{Full}
@@ -137,6 +137,37 @@ pub silent_blames : (reason : Reason) (source out : Device) → CountsDevices re
 silent_blames ReadFault source out devices = omega (arith, devices.0)
 silent_blames WriteFault source out devices = absurd (omega (arith, devices.1))
 silent_blames _ source out devices = tt
+
+-- ---- what a flush leaves in the buffer
+
+-- nothing is left after a flush that did well, and one that failed raises the count
+pub flushed_after : {A E : Type 0} → (r : Result A E) (old mid new : ℕ) (unflushed : List ℕ) (P : Type 0) → FlushCounts old mid → Counts r mid new
+    → OnOk r (unflushed ≡ []) → (is_ok r ≡ false → P) → (unflushed ≡ []) ⊎ ((one_more old ≤ new) × P)
+flushed_after (Ok x) old mid new unflushed P before counts empty ill = inl empty
+flushed_after (Err e) old mid new unflushed P (inl still) counts empty ill = inr (omega (arith, still, counts), ill refl)
+flushed_after (Err e) old mid new unflushed P (inr rose) counts empty ill = inr (omega (arith, rose, counts), ill refl)
+
+-- a conversion that reports a fault counts one failure of its sink at most
+pub counted_once : (reason : Reason) (source_old source_new old mid : ℕ) → CountsDevices reason source_old source_new old mid → FlushCounts old mid
+counted_once ReadFault source_old source_new old mid devices = inl devices.1
+counted_once WriteFault source_old source_new old mid devices = inr devices.1
+counted_once _ source_old source_new old mid devices = inl devices.1
+
+-- the status of a run that has not written all
+pub ill_status : (is_written : Bool) (status : ℕ) → status ≡ (if is_written then 0 else 1) → is_written ≡ false → status ≡ 1
+ill_status true status is ill = absurd (false≢true (sym ill))
+ill_status false status is ill = is
+
+-- the same of a run that says whether all was written
+pub flushed_well : (is_written : Bool) (old new status : ℕ) (unflushed : List ℕ) → status ≡ (if is_written then 0 else 1)
+    → (unflushed ≡ []) ⊎ ((one_more old ≤ new) × (is_written ≡ false)) → (unflushed ≡ []) ⊎ ((one_more old ≤ new) × (status ≡ 1))
+flushed_well is_written old new status unflushed is (inl empty) = inl empty
+flushed_well is_written old new status unflushed is (inr (failed, ill)) = inr (failed, ill_status is_written status is ill)
+
+-- the buffer was made before, which counts nothing
+pub flushed_from : (old reserved new : ℕ) (unflushed : List ℕ) (P : Type 0) → reserved ≡ old → (unflushed ≡ []) ⊎ ((one_more reserved ≤ new) × P)
+    → (unflushed ≡ []) ⊎ ((one_more old ≤ new) × P)
+flushed_from old reserved new unflushed P same flushed = subst (λ (n : ℕ). (unflushed ≡ []) ⊎ ((one_more n ≤ new) × P)) same flushed
 
 -- ---- where no device fails
 
