@@ -93,6 +93,10 @@ pub fn in_check(position: &Position) -> bool
 /// the count must have room for them. If no move is legal, it counts one for each kind, target and
 /// member of `origins`.
 ///
+/// The single steps of the king come first. Then it goes from target to target: in check, first to
+/// the attackers, and the squares between the king and the first of these. In each such set the
+/// squares come from a1 to h1, from a2 to h2 and so on, and so do the origins of one target.
+///
 /// # Examples
 ///
 /// ```

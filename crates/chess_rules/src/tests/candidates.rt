@@ -6,7 +6,7 @@ use crate::piece::{Colour, Kind, Piece};
 use crate::position::{Move, Parts, Position, Rights};
 use crate::probes::Probes;
 use crate::square::Square;
-use crate::tests::{EVERY_RIGHT, PROMOTIONS, parts, play, square};
+use crate::tests::{EVERY_RIGHT, PROMOTIONS, count_moves, parts, play, square};
 use std::test::Fail;
 
 const KINDS: [Kind; 6] = [
@@ -278,4 +278,25 @@ fn counts_a_first_move(rt: HostRuntime) {
     let mut probes = Probes::new();
     assert!(rt; has_legal_move(&Position::initial(), &mut probes));
     assert!(rt; 1 <= probes.count() && probes.count() <= 1024);
+}
+
+// One move is legal, a move in check, and it is found after so many pairs.
+fn assert_tries(rt: &impl std::process::Abort, text: &[u8], pairs: u32) -> Result<(), Fail> {
+    let position = Position::build(&parts(text))?;
+    let mut probes = Probes::new();
+    assert!(rt; in_check(&position) && has_legal_move(&position, &mut probes));
+    assert_eq!(rt; probes.count(), pairs);
+    assert_eq!(rt; count_moves(&position), 1);
+    Ok(())
+}
+
+// The pairs are counted by hand, in the order that `has_legal_move` states.
+#[test]
+fn tries_first_what_may_meet_a_check(rt: HostRuntime) -> Result<(), Fail> {
+    // The king to a2, b1 and b2; to a2 no other; to a3 and a4 the king; to a5 the king, and the
+    // rook, which stands between then.
+    assert_tries(&rt, b"rr3k2/8/8/7R/8/8/8/K7", 7)?;
+    // The king to a2, b1 and b2; to a2 no other; to a3 the king and the bishop, on its rank; to a4,
+    // a5, a6 and a7 the king; to a8 the king, and the bishop, which takes the rook.
+    assert_tries(&rt, b"rr3k2/8/8/8/8/5B2/8/K7", 11)
 }
