@@ -101,14 +101,7 @@ impl<const T: usize, const L: usize> Converter<T, L> {
         ensures stands { Stands (profile_of T (L - 1) mode) result [] None [] }
         ensures not_finished { result.is_finished ≡ false }
     {
-        Converter {
-            lexer: Lexer::new(),
-            reader: Reader::new(mode),
-            games: 0,
-            has_finished_game: false,
-            is_finished: false,
-            fault: None,
-        }
+        Converter::begin_at(mode, 0, true)
     }
 
     /// Returns a converter that begins at a place of a longer text, which comes from there on.

@@ -47,6 +47,6 @@ returns-clause-going g c =
     let is = c.new-2.ensures in
     let count = c.new.ensures.stands.count in
     record {
-      sound = sound_at_start c.new.result c.new-2.result count (ap (λ (r : ReaderState). r.earlier_plies) is) (ap (λ (r : ReaderState). r.text.plies) is);
+      sound = sound_at_start c.new.result c.new-2.result (omega (arith, count)) (ap (λ (r : ReaderState). r.earlier_plies) is) (ap (λ (r : ReaderState). r.text.plies) is);
       room = omega (arith, count);
     }
