@@ -193,11 +193,22 @@ members word = filter (λ s. has word (cell_of s)) squares
 unfoldable pub has_any : ℕ → Bool
 has_any set = list_any (λ s. has set (cell_of s)) squares
 
--- The first square of a set is taken out, if there is one.
+-- The first square of a set, if there is one.
 
 pub record HasNone (set : ℕ) : Type 0 where
   pub of : (i : ℕ) → i < 64 → has set i ≡ false
   pub none : members set ≡ []
+
+pub record IsFirst (set : ℕ) (s : Square) : Type 0 where
+  pub file : s.file < 8
+  pub rank : s.rank < 8
+  pub place : IsLowest set (cell_of s)
+
+abbrev pub FirstOf : Option Square → ℕ → Type 0
+FirstOf None set = HasNone set
+FirstOf (Some s) set = IsFirst set s
+
+-- It is taken out.
 
 pub record TakesLowest (old new : ℕ) (s : Square) : Type 0 where
   pub file : s.file < 8

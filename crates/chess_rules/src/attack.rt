@@ -145,13 +145,14 @@ pub(crate) fn is_attacked(board: &Board, by: Colour, target: Square) -> bool
     ensures { result ≡ spec.is_attacked board.now by target }
 {
     target.recall_invariant();
-    let mut others = possible_attackers(board, by, target);
-    let Some(first) = others.take_lowest() else {
+    let possible = possible_attackers(board, by, target);
+    let Some(first) = possible.lowest() else {
         return false;
     };
     if is_clear(board, first, target) {
         return true;
     }
+    let others = possible.with(first, false);
     if others.is_empty() {
         return false;
     }
@@ -175,8 +176,7 @@ pub(crate) fn is_king_attacked(board: &Board, colour: Colour, king: Square) -> b
 // The caller chooses an order by this and nothing else, so it has no contract.
 pub(crate) fn evasion_targets(board: &Board, by: Colour, target: Square) -> Squares {
     let attackers = clear_among(board, possible_attackers(board, by, target), target);
-    let mut others = attackers;
-    match others.take_lowest() {
+    match attackers.lowest() {
         None => attackers,
         Some(first) => attackers | between(first, target),
     }

@@ -2,9 +2,8 @@
 
 ghost use Rattle.std.specs.Prelude.{◌≡◌, ◌<◌, ◌≤◌, ◌^◌, false, length, nat_lt, not};
 ghost use Rattle.chess_rules.specs.Board.{cell_of};
-ghost use Rattle.chess_rules.specs.Reach.{square_at};
 ghost use Rattle.chess_rules.specs.Words as spec;
-ghost use Rattle.chess_rules.specs.Words.{Carries, IsHighest, IsLowest, IsOnlyHighest, IsOnlyLowest, Joins, Meets, Misses, Places, Sets, Takes};
+ghost use Rattle.chess_rules.specs.Words.{Carries, FirstOf, IsFirst, IsHighest, IsOnlyHighest, IsOnlyLowest, Joins, Meets, Misses, Places, Sets, Takes};
 
 use crate::square::Square;
 use std::marker::Model;
@@ -67,7 +66,6 @@ impl Not for Squares {
 }
 
 // The bit of a square.
-#[inline(always)]
 fn bit_of(square: Square) -> u64
     ensures bit { result ≡ 2 ^ cell_of square }
     ensures inside { cell_of square < 64 }
@@ -76,17 +74,14 @@ fn bit_of(square: Square) -> u64
 }
 
 // The square of the lowest bit that is set.
-#[inline(always)]
 fn lowest(bits: u64) -> Square
     requires { 0 < bits }
-    ensures place { IsLowest bits (cell_of result) }
-    ensures square { result ≡ square_at (cell_of result) }
+    ensures { IsFirst bits result }
 {
     Square::nth(bits.trailing_zeros() as usize)
 }
 
 // The square of the highest bit that is set.
-#[inline(always)]
 fn highest(bits: u64) -> Square
     requires { 0 < bits }
     ensures { IsHighest bits (cell_of result) }
@@ -104,7 +99,6 @@ impl Squares {
     }
 
     // The squares before this one, in the order a1, b1 to h8.
-    #[inline(always)]
     pub(crate) fn before(square: Square) -> Squares
         ensures { Places result (λ s. nat_lt (cell_of s) (cell_of square)) }
     {
@@ -114,7 +108,6 @@ impl Squares {
     }
 
     // Whether the set has the square.
-    #[inline(always)]
     pub(crate) fn has(self, square: Square) -> bool
         ensures value { result ≡ spec.has self (cell_of square) }
         ensures inside { cell_of square < 64 }
@@ -123,7 +116,6 @@ impl Squares {
     }
 
     // Whether the set has no square.
-    #[inline(always)]
     pub(crate) fn is_empty(self) -> bool
         ensures { result ≡ not (spec.has_any self) }
     {
@@ -131,7 +123,6 @@ impl Squares {
     }
 
     // Whether the set has two squares or more.
-    #[inline(always)]
     pub(crate) fn has_several(self) -> bool
         ensures { result ≡ false → length (spec.members self) ≤ 1 }
     {
@@ -140,7 +131,6 @@ impl Squares {
     }
 
     // The set with the square if `member` is true, and else without it.
-    #[inline(always)]
     pub(crate) fn with(self, square: Square, member: bool) -> Squares
         ensures { Sets self result (cell_of square) member }
     {
@@ -157,7 +147,6 @@ impl Squares {
     }
 
     // The set in which `to` is if `from` was, and `from` is not.
-    #[inline(always)]
     pub(crate) fn with_moved(self, from: Square, to: Square) -> Squares
         ensures { Carries self result (cell_of from) (cell_of to) }
     {
@@ -167,21 +156,29 @@ impl Squares {
         }
     }
 
+    // The first square, if the set has one.
+    pub(crate) fn lowest(self) -> Option<Square>
+        ensures { FirstOf result self }
+    {
+        if self.bits == 0 {
+            return None;
+        }
+        Some(lowest(self.bits))
+    }
+
     // The first square alone; none of a set that has none.
-    #[inline(always)]
     pub(crate) fn only_lowest(self) -> Squares
         ensures { IsOnlyLowest self result }
     {
-        if self.bits == 0 {
-            return Squares { bits: 0 };
-        }
-        Squares {
-            bits: bit_of(lowest(self.bits)),
+        match self.lowest() {
+            None => self,
+            Some(first) => Squares {
+                bits: bit_of(first),
+            },
         }
     }
 
     // The last square alone; none of a set that has none.
-    #[inline(always)]
     pub(crate) fn only_highest(self) -> Squares
         ensures { IsOnlyHighest self result }
     {
@@ -194,14 +191,12 @@ impl Squares {
     }
 
     // Takes the first square out of the set, if it has one. Repeated, it goes through all in order.
-    #[inline(always)]
     pub(crate) fn take_lowest(&mut self) -> Option<Square>
         ensures { Takes result self.old self.new }
     {
-        if self.bits == 0 {
+        let Some(first) = self.lowest() else {
             return None;
-        }
-        let first = lowest(self.bits);
+        };
         *self = self.with(first, false);
         Some(first)
     }

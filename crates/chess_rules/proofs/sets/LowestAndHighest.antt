@@ -5,7 +5,7 @@ use Rattle.std.proofs.lemmas.Bool.{false≢true}
 use Rattle.std.specs.Int.{bit_at, leading_zeros, trailing_zeros}
 use Rattle.std.proofs.lemmas.Nat.{leading_length}
 use Rattle.std.proofs.lemmas.Nat.Bits.{bit_at_above, bit_at-trailing_zeros}
-use Rattle.chess_rules.specs.Words.{has, IsHighest, IsLowest, IsOnlyHighest, IsOnlyLowest}
+use Rattle.chess_rules.specs.Words.{has, HasNone, IsHighest, IsLowest, IsOnlyHighest, IsOnlyLowest}
 use Rattle.chess_rules.proofs.sets.AllSquares.{equal_from, equal_tests}
 use Rattle.chess_rules.proofs.sets.WordsToCells.{has_single, has_zero}
 
@@ -39,8 +39,8 @@ highest_place n some fits = by_length (leading_length 64 n fits)
 nothing_in : (w i : ℕ) → w ≡ 0 → has w i ≡ true → ⊥
 nothing_in w i none h = false≢true (sym (has_zero i) ∙ (ap (λ n. has n i) (sym none) ∙ h))
 
-pub no_lowest : (w : ℕ) → w ≡ 0 → IsOnlyLowest w 0
-no_lowest w none = record { here = λ i _ h. absurd (false≢true (sym (has_zero i) ∙ h)); there = λ i l. absurd (nothing_in w i none l.here) }
+pub no_lowest : (w : ℕ) → HasNone w → IsOnlyLowest w w
+no_lowest w none = record { here = λ i low h. absurd (false≢true (sym (none.of i low) ∙ h)); there = λ i l. l.here }
 
 pub no_highest : (w : ℕ) → w ≡ 0 → IsOnlyHighest w 0
 no_highest w none = record { here = λ i _ h. absurd (false≢true (sym (has_zero i) ∙ h)); there = λ i l. absurd (nothing_in w i none l.here) }

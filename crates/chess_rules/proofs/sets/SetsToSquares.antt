@@ -8,10 +8,10 @@ use Rattle.chess_rules.specs.declared.piece.Piece.{Piece}
 use Rattle.chess_rules.specs.Square.{Square, squares}
 use Rattle.chess_rules.specs.Board.{Board, at, cell_of}
 use Rattle.chess_rules.specs.Reach.{square_at}
-use Rattle.chess_rules.specs.Words.{has, has_any, members, HasNone, IsLowest, Joins, Marks, Meets, Misses, Places, Sets, TakesLowest}
+use Rattle.chess_rules.specs.Words.{has, has_any, members, HasNone, IsFirst, IsLowest, Joins, Marks, Meets, Misses, Places, Sets, TakesLowest}
 use Rattle.chess_rules.proofs.sets.WordsToCells.{has_zero, same_or_apart}
 use Rattle.chess_rules.proofs.sets.LowestAndHighest.{lowest_place}
-use Rattle.chess_rules.proofs.positions.OneKing.{cell_of-square_at}
+use Rattle.chess_rules.proofs.positions.OneKing.{cell_of-square_at, square_at-cell_of}
 use Rattle.chess_rules.proofs.sets.AllSquares.{Passes, some_square, any_square}
 use Rattle.chess_rules.proofs.trying.FoundLists.{list_any-filter}
 
@@ -165,14 +165,23 @@ no_member w none = record { of = λ i low. ap (λ n. has n i) none ∙ has_zero 
     nothing (x ∷ xs) = nothing xs
 
 -- the first square is taken out
-pub takes_lowest : (w rest : ℕ) (s : Square) → IsLowest w (cell_of s) → s ≡ square_at (cell_of s) → Sets w rest (cell_of s) false → TakesLowest w rest s
-takes_lowest w rest s lowest is sets =
+pub takes_lowest : (w rest : ℕ) (s : Square) → IsFirst w s → Sets w rest (cell_of s) false → TakesLowest w rest s
+takes_lowest w rest s first sets =
+    record {
+      file = first.file;
+      rank = first.rank;
+      here = first.place.here;
+      rest = sets;
+      next = next_member w rest (cell_of s) first.place sets ∙ ap (λ t. t ∷ members rest) (square_at-cell_of s first.file);
+    }
+
+pub first_place : (w : ℕ) (s : Square) → 0 < w → w < 2 ^ 64 → s ≡ square_at (trailing_zeros w64 w) → IsFirst w s
+first_place w s some fits is =
+    let lowest : IsLowest w (trailing_zeros w64 w) = lowest_place w some fits in
     record {
       file = subst (λ (t : Square). t.file < 8) (sym is) (omega arith);
       rank = subst (λ (t : Square). t.rank < 8) (sym is) (omega (arith, lowest.inside));
-      here = lowest.here;
-      rest = sets;
-      next = next_member w rest (cell_of s) lowest sets ∙ ap (λ t. t ∷ members rest) (sym is);
+      place = subst (IsLowest w) (sym (ap cell_of is ∙ cell_of-square_at (trailing_zeros w64 w))) lowest;
     }
 
 -- At most one square passes, if any two that pass are one.

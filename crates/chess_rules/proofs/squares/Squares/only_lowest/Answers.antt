@@ -1,9 +1,9 @@
-use Rattle.std.proofs.Common.{arith}
+use Rattle.chess_rules.specs.Board.{cell_of}
 use Rattle.chess_rules.proofs.sets.LowestAndHighest.{lowest_alone, no_lowest}
 use Rattle.chess_rules.proofs.squares.Squares.only_lowest.Goals as goal
 
-pub returns-then-self-eq0 : goal.returns-then-self-eq0
-returns-then-self-eq0 c = grind (arith, no_lowest)
+pub returns-in-None : goal.returns-in-None
+returns-in-None c = no_lowest c.args.self c.in-None.ensures
 
-pub returns : goal.returns
-returns c = grind (arith, lowest_alone)
+pub returns-in-Some : goal.returns-in-Some
+returns-in-Some c = lowest_alone c.args.self (cell_of c.in-Some.first) c.bit_of.result c.in-Some.ensures.place c.bit_of.ensures.bit
