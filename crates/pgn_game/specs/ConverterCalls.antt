@@ -29,7 +29,7 @@ use Rattle.pgn_game.specs.MostTried.{MostTried, Raises, TriesUnwritten}
 use Rattle.pgn_game.specs.Due.{Gains}
 use Rattle.pgn_game.specs.Levels.{plies_of, last_position}
 use Rattle.pgn_game.specs.Text.{has_move}
-use Rattle.pgn_game.specs.ReaderState.{ReaderState, Agrees, whole_plies}
+use Rattle.pgn_game.specs.ReaderState.{ReaderState, Agrees, IsKnown, whole_plies}
 
 -- what can be asked of the game just finished: its pairs, how many moves it has outside variations,
 -- and the position after these
@@ -64,10 +64,11 @@ abbrev pub game_in_reader_if : Bool → ReaderState → Option FinishedGame
 game_in_reader_if true reading = Some (game_in_reader reading)
 game_in_reader_if false reading = None
 
--- What a converter keeps to. Before a fault its counts stay small: a byte ends at most two tokens,
--- so the games fit, and the moves; the end is one token more. A game is just finished only between
--- games, and not after a fault.
+-- What a converter keeps to. A missing Result counts as a text. Before a fault its counts stay
+-- small: a byte ends at most two tokens, so the games fit, and the moves; the end is one more. A
+-- game is just finished only between games, and not after a fault.
 pub record IsSound (lexer : Standing) (reading : ReaderState) (games : ℕ) (has_finished_game is_finished : Bool) (fault : Option Fault) : Type 0 where
+  pub known : IsKnown reading.profile
   pub count : fault ≡ None → lexer.count ≤ 2 ^ 62
   pub few : fault ≡ None → games + waiting lexer ≤ 2 * lexer.count + 2
   pub few_plies : fault ≡ None → reading.earlier_plies + reading.text.plies + waiting lexer ≤ 2 * lexer.count + 3

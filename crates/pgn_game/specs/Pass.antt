@@ -21,15 +21,15 @@ use Rattle.pgn_game.specs.declared.checked.Mark.{Mark as CodeMark}
 use Rattle.pgn_game.specs.declared.checked.Taken.{Taken}
 use Rattle.pgn_game.specs.declared.checked.Taken.TheVariants.{More, Game as GameEnd, End}
 use Rattle.pgn_game.specs.Markers.{marker_text}
-use Rattle.pgn_game.specs.Profile.{Profile, counts_as, takes_the_marker}
+use Rattle.pgn_game.specs.Profile.{Profile, Missing, counts_as, takes_the_marker}
 use Rattle.pgn_game.specs.Game.{Game, Part, no_part}
 use Rattle.pgn_game.specs.FaultTable.{refusal, is_end}
 use Rattle.pgn_game.specs.Progress.{Next, going, whole, next, no_progress, read}
 use Rattle.pgn_game.specs.Text.{game_text, text_of, torn}
 use Rattle.pgn_game.specs.Due.{gain}
 use Rattle.pgn_game.specs.Conversion.{CountsDevices}
-use Rattle.pgn_game.specs.ReaderState.{ReaderState, Agrees, IsAccepted}
-use Rattle.pgn_game.specs.ConverterCalls.{Converter, IsSound, HasRead}
+use Rattle.pgn_game.specs.ReaderState.{ReaderState, Agrees, IsAccepted, as_written}
+use Rattle.pgn_game.specs.ConverterCalls.{Converter, HasRead}
 use Rattle.pgn_game.specs.Checked.{Mark, marks, marks_from, is_other, is_changed, compared_from}
 
 -- the lexer, the reader, how many games were finished, the bytes that were read and not used, and
@@ -45,15 +45,18 @@ pub record Pass : Type 0 where
 abbrev pub model_mark : CodeMark → Mark
 model_mark m = record { text = marker_text m.marker; at = m.at }
 
--- a missing Result counts as this text
-abbrev pub counting : Profile → List ℕ → Profile
-counting q text = record { tags = q.tags; depth = q.depth; mode = q.mode; missing_result = counts_as text }
+-- the same profile, but for a missing Result; and where it counts as this text
+abbrev pub with_missing : Profile → Missing → Profile
+with_missing q missing = record { tags = q.tags; depth = q.depth; mode = q.mode; missing_result = missing }
 
-abbrev pub IsCounting : Profile → Profile → Type 0
-IsCounting q p = (text : List ℕ) × (p ≡ counting q text)
+abbrev pub counting : Profile → List ℕ → Profile
+counting q text = with_missing q (counts_as text)
+
+abbrev pub IsAlike : Profile → Profile → Type 0
+IsAlike q p = (missing : Missing) × (p ≡ with_missing q missing)
 
 -- A reading as a converter of the profile q would see it: a missing Result takes the marker, though
--- the reader has a text for it, which is the marker's when the marker comes.
+-- for the second reading it counts as the marker that the first one has told.
 abbrev pub reading_under : Profile → ReaderState → ReaderState
 reading_under q r = record r { profile = q }
 
@@ -73,11 +76,12 @@ pub record HasGiven (q : Profile) (left_old left_now : Option (List ℕ)) (s : P
   pub stands : StandsIn s.has_ended s.lexer s.unused given bytes left_old
   pub counted : s.lexer.count ≡ length bytes
   pub has_read : HasRead q (as_converter q s) given
-  pub profile : IsCounting q s.reading.profile
+  pub profile : IsAlike q s.reading.profile
 
 -- What a reading keeps to before a fault and before its end: its counts stay small.
 pub record IsGoing (s : Pass) : Type 0 where
-  pub sound : IsSound s.lexer s.reading s.games false false None
+  pub few : s.games + waiting s.lexer ≤ 2 * s.lexer.count + 2
+  pub few_plies : s.reading.earlier_plies + s.reading.text.plies + waiting s.lexer ≤ 2 * s.lexer.count + 2
   pub room : s.lexer.count + length s.unused ≤ 2 ^ 62
 
 -- the second reading answers a fault of its own so
@@ -89,10 +93,14 @@ changed_reason _ = Changed
 abbrev pub as_changed : Fault → Fault
 as_changed f = record { at = f.at; reason = changed_reason f.reason }
 
--- while the other reading has told a mark, a missing Result counts as its marker
+-- while the other reading has told a mark, a missing Result counts as its marker; else it takes the
+-- marker of its game
+abbrev pub missing_under : Option CodeMark → Missing
+missing_under None = takes_the_marker
+missing_under (Some m) = counts_as (marker_text m.marker)
+
 abbrev pub IsTold : Option CodeMark → ReaderState → Type 0
-IsTold None r = Unit {0}
-IsTold (Some m) r = r.profile.missing_result ≡ counts_as (marker_text m.marker)
+IsTold told r = r.profile.missing_result ≡ missing_under told
 
 -- where a token leads that shows a difference
 abbrev pub shows_other : Option CodeMark → Next → Token → Bool
@@ -126,7 +134,7 @@ pub record TakesToken (q : Profile) (part : Part) (told : Option CodeMark) (t : 
   pub same : rejects told q part t ≡ false
   pub leads : LeadsTo (next part t.kind) t taken
   pub accepted : IsAccepted (reading_under q old) part t.kind (reading_under q new) (accepted_of taken) None None
-  pub appended : Appends before after (gain new.profile part t.kind)
+  pub appended : Appends before after (gain (as_written new.profile) part t.kind)
 
 -- It is not taken: it is rejected; or it shows a difference; or a write failed.
 pub data TokenFails (q : Profile) (part : Part) (told : Option CodeMark) (t : Token) (new : ReaderState) (before after : Option (List ℕ)) : Fault → Type 0 where
@@ -134,7 +142,7 @@ pub data TokenFails (q : Profile) (part : Part) (told : Option CodeMark) (t : To
       → TokenFails q part told t new before after (record { at = t.at; reason = reason })
   other : rejects told q part t ≡ true → is_some told ≡ true → Appends before after []
       → TokenFails q part told t new before after (record { at = t.at; reason = Changed })
-  unwritten : rejects told q part t ≡ false → AppendsFront before after (gain new.profile part t.kind)
+  unwritten : rejects told q part t ≡ false → AppendsFront before after (gain (as_written new.profile) part t.kind)
       → TokenFails q part told t new before after (record { at = t.at; reason = WriteFault })
 
 abbrev pub AfterToken : Profile → Part → Option CodeMark → Token → ReaderState → ReaderState → Result Taken Fault → Option (List ℕ) → Option (List ℕ) → Type 0
@@ -144,8 +152,8 @@ AfterToken q part told t old new (Err f) before after = TokenFails q part told t
 -- so for each profile whose missing Result takes the marker
 abbrev pub TakesKind : Option CodeMark → Kind → ℕ → ReaderState → ReaderState → Result Taken Fault → Option (List ℕ) → Option (List ℕ) → Type 0
 TakesKind told k at old new result before after =
-    (q : Profile) (part : Part) → q.missing_result ≡ takes_the_marker → IsCounting q old.profile → Agrees old part
-    → IsCounting q new.profile × AfterToken q part told (record { at = at; kind = k }) old new result before after
+    (q : Profile) (part : Part) → q.missing_result ≡ takes_the_marker → IsAlike q old.profile → Agrees old part
+    → IsAlike q new.profile × AfterToken q part told (record { at = at; kind = k }) old new result before after
 
 -- how many games were finished, with this token
 abbrev pub games_with : Taken → ℕ → ℕ
@@ -174,7 +182,7 @@ pub record TakesOn (q : Profile) (left_old left_now : Option (List ℕ)) (told :
   pub free : refusal q (part_after q given) t.kind ≡ None
   pub same : rejects told q (part_after q given) t ≡ false
   pub leads : LeadsTo (next (part_after q given) t.kind) t taken
-  pub appended : Appends before after (gain new.reading.profile (part_after q given) t.kind)
+  pub appended : Appends before after (gain (as_written new.reading.profile) (part_after q given) t.kind)
 
 -- It has taken the end, between games.
 pub record TakesEnd (q : Profile) (left_old : Option (List ℕ)) (told : Option CodeMark) (given : List Token) (t : Token) (new : Pass) : Type 0 where
@@ -193,7 +201,7 @@ pub record TakeFails (q : Profile) (left_old : Option (List ℕ)) (told : Option
     (before after : Option (List ℕ)) : Type 0 where
   pub token : Token
   pub comes : ComesNext left_old given token
-  pub profile : IsCounting q new.profile
+  pub profile : IsAlike q new.profile
   pub fails : TokenFails q (part_after q given) told token new before after f
 
 -- what taking a token does to a reading that has given these tokens
@@ -344,9 +352,9 @@ ReadsGameSoFar left_before left_now old now =
     (q : Profile) (left_old : Option (List ℕ)) (given : List Token) (ms : List Mark) → q.missing_result ≡ takes_the_marker
     → HasGiven q left_old left_before old given → HasMarked q given ms → ReadsSoFar q left_old left_now ms now
 
--- it goes on behind a mark, and fewer steps are left
+-- it goes on behind a mark, fewer steps are left, and a missing Result still takes the marker
 abbrev pub GoesOn : Pass → Pass → Result (Option CodeMark) Fault → Type 0
-GoesOn old new (Ok (Some m)) = IsGoing new × (steps_left new < steps_left old)
+GoesOn old new (Ok (Some m)) = IsGoing new × (steps_left new < steps_left old) × IsTold None new.reading
 GoesOn old new _ = Unit {0}
 
 -- A game of the second reading.

@@ -12,7 +12,7 @@ use Rattle.pgn_game.specs.declared.accepted.Accepted.{Accepted}
 use Rattle.pgn_game.specs.declared.accepted.Accepted.TheVariants.{More, Finished}
 use Rattle.pgn_game.specs.declared.reason.Reason.{Reason}
 use Rattle.pgn_game.specs.declared.reason.Reason.TheVariants.{WriteFault}
-use Rattle.pgn_game.specs.Profile.{Profile, counts_as, known_result}
+use Rattle.pgn_game.specs.Profile.{Profile, known_result}
 use Rattle.pgn_game.specs.Pairs.{Pair}
 use Rattle.pgn_game.specs.Chess.{first_position, move_of}
 use Rattle.pgn_game.specs.Game.{Item, Part}
@@ -24,7 +24,7 @@ use Rattle.pgn_game.specs.Progress.{Next, going}
 use Rattle.pgn_game.specs.Due.{text_next}
 use Rattle.pgn_game.specs.FoundMove.{found_in, with_position}
 use Rattle.pgn_game.specs.Movetext.{movetext_from}
-use Rattle.pgn_game.specs.ReaderState.{ReaderState, Agrees, Answers, FinishesAtMarker, Leads, Stays, CountsWrites, plies_next, whole_plies}
+use Rattle.pgn_game.specs.ReaderState.{ReaderState, Agrees, Answers, as_written, FinishesAtMarker, Leads, Stays, CountsWrites, plies_next, whole_plies}
 use Rattle.pgn_game.specs.TokenInMovetext.{IsEntry, IsOpen, may_have_movetext, with_items}
 
 -- A game begins.
@@ -53,13 +53,13 @@ pub record Goes (old : ReaderState) (part : Part) (to : Next) (new : ReaderState
     (d : Device) : Type 0 where
   pub leads : Leads to accepted new
   pub plies : whole_plies new ≡ whole_plies old + plies_next to
-  pub appended : Appends d.before d.after (gain_to old.profile part to)
+  pub appended : Appends d.before d.after (gain_to (as_written old.profile) part to)
 
 -- or a write failed, and a front of it was
 abbrev pub GoesTo : ReaderState → Part → Next → ReaderState → Result Accepted Reason → Device → Type 0
 GoesTo old part to new (Ok accepted) d = Goes old part to new accepted d
 GoesTo old part to new (Err reason) d =
-    (reason ≡ WriteFault) × AppendsFront d.before d.after (gain_to old.profile part to)
+    (reason ≡ WriteFault) × AppendsFront d.before d.after (gain_to (as_written old.profile) part to)
 
 -- What putting results in, for each of these parts.
 pub record PutResult (old : ReaderState) (IsOf : Part → Type 0) (to : Part → Next) (new : ReaderState)
@@ -159,7 +159,6 @@ pub record BeginsText {A E : Type 0} (old new : ReaderState) (r : Result A E)
     (d : Device) : Type 0 where
   pub text : Writes d.before d.after r (section_due_of old)
   pub begun : OnOk r (new ≡ record old { stage = InMovetext })
-  pub known : old.profile.missing_result ≡ counts_as (known_result old.profile.missing_result)
   pub profile : new.profile ≡ old.profile
   pub earlier : new.earlier_plies ≡ old.earlier_plies
   pub plies : new.text.plies ≡ old.text.plies

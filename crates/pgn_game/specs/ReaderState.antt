@@ -11,7 +11,7 @@ use Rattle.pgn_game.specs.declared.stage.Stage.{Stage}
 use Rattle.pgn_game.specs.declared.stage.Stage.TheVariants.{Between, AfterLeftBracket, AfterName, InMovetext}
 use Rattle.pgn_game.specs.declared.accepted.Accepted.{Accepted}
 use Rattle.pgn_game.specs.declared.accepted.Accepted.TheVariants.{More, Finished}
-use Rattle.pgn_game.specs.Profile.{Profile}
+use Rattle.pgn_game.specs.Profile.{Profile, counts_as, known_result}
 use Rattle.pgn_game.specs.Pairs.{has_pair}
 use Rattle.pgn_game.specs.StoredPairs.{TagPairs}
 use Rattle.pgn_game.specs.Game.{Game, Part, no_part}
@@ -93,12 +93,22 @@ Leads (going part) Finished new = ⊥
 Leads (whole g) More new = ⊥
 Leads (whole g) Finished new = IsBehind new g
 
+-- The profile by which a reader writes. Before the marker nothing is known of a Result that takes
+-- it, so its value is written as no text.
+abbrev pub as_written : Profile → Profile
+as_written p =
+    record { tags = p.tags; depth = p.depth; mode = p.mode; missing_result = counts_as (known_result p.missing_result) }
+
+-- a missing Result counts as a text
+abbrev pub IsKnown : Profile → Type 0
+IsKnown p = p.missing_result ≡ counts_as (known_result p.missing_result)
+
 -- A token is accepted: it leads on, and what it adds was appended.
 pub record IsAccepted (old : ReaderState) (part : Part) (k : Kind) (new : ReaderState) (accepted : Accepted) (before after : Option (List ℕ)) : Type 0 where
   pub free : refusal old.profile part k ≡ None
   pub leads : Leads (next part k) accepted new
   pub plies : whole_plies new ≡ whole_plies old + plies_next (next part k)
-  pub appended : Appends before after (gain old.profile part k)
+  pub appended : Appends before after (gain (as_written old.profile) part k)
   pub tried : Raises (Tries old.profile part k) old.most_probes new.most_probes
 
 -- A token is not accepted: a row of the fault table rejects it, and nothing is appended; or a write
@@ -109,7 +119,7 @@ pub data IsStopped (old : ReaderState) (part : Part) (k : Kind) (new : ReaderSta
       → Raises (Tries old.profile part k) old.most_probes new.most_probes
       → IsStopped old part k new before after reason
   unwritten : refusal old.profile part k ≡ None
-      → AppendsFront before after (gain old.profile part k)
+      → AppendsFront before after (gain (as_written old.profile) part k)
       → Raises (TriesUnwritten old.profile part k) old.most_probes new.most_probes
       → IsStopped old part k new before after WriteFault
 

@@ -1,6 +1,6 @@
 //! Converts an input that is read twice, so that a missing Result takes the marker.
 ghost use Rattle.std.specs.Prelude.{◌≡◌, ◌-◌, ◌+◌, ◌≤◌, ◌<◌, ◌^◌, length, max, false, [], ℕ, List};
-ghost use Rattle.std.specs.Prelude.{Option, OnOk, IfOk, IfSome, IsTrue};
+ghost use Rattle.std.specs.Prelude.{Option, None, OnOk, IfOk, IfSome, IsTrue};
 ghost use Rattle.pgn_layout.specs.Device.{device};
 ghost use Rattle.pgn_lexer.specs.Scanned.{kind_of};
 ghost use Rattle.pgn_lexer.specs.Tokens.{HasLength};
@@ -17,7 +17,7 @@ ghost use Rattle.pgn_game.specs.Size.{HoldsTwice};
 
 use crate::conversion::Totals;
 use crate::converter::{MAX_INPUT_LENGTH, lexical};
-use crate::marker::Marker;
+use crate::marker::{Marker, MissingResult};
 use crate::mode::Mode;
 use crate::reader::Reader;
 use crate::reason::{Fault, Reason};
@@ -140,15 +140,18 @@ impl<const T: usize, const L: usize> Pass<T, L> {
         requires { 1 ≤ L }
         ensures given { (left : Option (List ℕ))
             → HasGiven (checked_profile T (L - 1) mode) left left result [] }
+        ensures under { IsTold None result.reading }
         ensures going { IsGoing result }
     {
+        let mut reader = Reader::new(mode);
+        reader.count_missing_result_as(MissingResult::TakesTheMarker);
         Pass {
             buffer: [0; 4096],
             start: 0,
             end: 0,
             has_ended: false,
             lexer: Lexer::new(),
-            reader: Reader::new(mode),
+            reader,
             games: 0,
         }
     }
@@ -180,6 +183,7 @@ impl<const T: usize, const L: usize> Pass<T, L> {
     // Nothing is written. A fault is the input's own, or `Reason::ReadFault`.
     fn read_game<R: Source>(&mut self, source: &mut R) -> Result<Option<Mark>, Fault>
         requires going { IsGoing self.old }
+        requires under { IsTold None self.old.reading }
         ensures reads { ReadsGame (R.left source.old) (R.left source.new) self.old self.new result }
         ensures going { GoesOn self.old self.new result }
         ensures counted { CountsRead result (R.failures source.old)
@@ -209,7 +213,8 @@ impl<const T: usize, const L: usize> Pass<T, L> {
         ensures counted { CountsStep result (R.failures source.old) (R.failures source.new)
             (W.failures out.old) (W.failures out.new) }
     {
-        self.reader.count_missing_result_as(mark.marker);
+        self.reader
+            .count_missing_result_as(MissingResult::CountsAs(mark.marker));
         loop {
             match self.step(source, Some(mark), out) {
                 Ok(Taken::More) => {}
@@ -337,7 +342,7 @@ impl<const T: usize, const L: usize> Pass<T, L> {
     }
 }
 
-// Takes a token, of which a missing Result takes the marker.
+// Takes a token.
 //
 // Another marker than the one that was told does not go to the reader. The end does, and is a
 // difference then.
@@ -364,9 +369,6 @@ fn take_token<const T: usize, const L: usize, W: Sink>(
     let marker = Marker::of(kind);
     if marks_differ(told, marker, at) {
         return Err(differs(at));
-    }
-    if let Some(marker) = marker {
-        reader.count_missing_result_as(marker);
     }
     if let Err(reason) = reader.accept(kind, out) {
         return Err(Fault { at, reason });

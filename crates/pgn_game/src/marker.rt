@@ -4,8 +4,9 @@ ghost use Rattle.pgn_layout.specs.Lines.{IsToken};
 ghost use Rattle.pgn_layout.specs.TagLine.{escaped};
 ghost use Rattle.pgn_lexer.specs.Scanned.{kind_of};
 ghost use Rattle.pgn_lexer.specs.Tokens.{symbol};
-ghost use Rattle.pgn_game.specs.Markers.{marker_text};
-ghost use Rattle.pgn_game.specs.FaultTable.{is_score, marker_of};
+ghost use Rattle.pgn_game.specs.Markers.{marker_text, missing_of};
+ghost use Rattle.pgn_game.specs.Profile.{known_result};
+ghost use Rattle.pgn_game.specs.FaultTable.{is_score, marker_of, result_for};
 
 use pgn_lexer::TokenKind;
 
@@ -60,6 +61,39 @@ impl Marker {
             Marker::BlackWins => b"0-1",
             Marker::Draw => b"1/2-1/2",
             Marker::Unknown => b"*",
+        }
+    }
+}
+
+/// What a missing Result counts as.
+#[derive(Clone, Copy)]
+pub enum MissingResult {
+    /// This marker.
+    CountsAs(Marker),
+    /// The marker that ends its game.
+    TakesTheMarker,
+}
+
+impl MissingResult {
+    /// Returns what is known of it before the marker: its text, or nothing.
+    pub fn known_text(&self) -> &'static [u8]
+        ensures text { result.now ≡ known_result (missing_of self.now) }
+        ensures short { length (escaped result.now) ≤ 7 }
+    {
+        match self {
+            MissingResult::CountsAs(missing) => missing.text(),
+            MissingResult::TakesTheMarker => b"",
+        }
+    }
+
+    /// Returns its text in a game that ends with this marker.
+    pub fn text_at(&self, marker: Marker) -> &'static [u8]
+        ensures text { result.now ≡ result_for (missing_of self.now) (marker_text marker) }
+        ensures token { IsToken result.now }
+    {
+        match self {
+            MissingResult::CountsAs(missing) => missing.text(),
+            MissingResult::TakesTheMarker => marker.text(),
         }
     }
 }

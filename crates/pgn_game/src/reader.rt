@@ -12,7 +12,7 @@ ghost use Rattle.pgn_game.specs.TagSection.{exported};
 ghost use Rattle.pgn_game.specs.declared.stage.Stage.TheVariants.{Between, AfterLeftBracket, AfterName};
 ghost use Rattle.pgn_game.specs.declared.stage.Stage.TheVariants.{AfterValue, AfterTags, InMovetext};
 ghost use Rattle.pgn_game.specs.Profile.{counts_as, known_result};
-ghost use Rattle.pgn_game.specs.Markers.{marker_text};
+ghost use Rattle.pgn_game.specs.Markers.{marker_text, missing_of};
 ghost use Rattle.pgn_game.specs.Movetext.{movetext_from};
 ghost use Rattle.pgn_game.specs.ReaderState.{Accepts, Stays, FinishesAtMarker, CountsWrites};
 ghost use Rattle.pgn_game.specs.TokenInMovetext.{ItemFits, is_frequent, may_have_movetext, model_item};
@@ -25,7 +25,7 @@ ghost use Rattle.pgn_game.specs.FaultTable.{is_reduced, marker_of};
 use crate::accepted::Accepted;
 use crate::annotation::Annotation;
 use crate::find::named_move;
-use crate::marker::Marker;
+use crate::marker::{Marker, MissingResult};
 use crate::mode::Mode;
 use crate::movetext::Movetext;
 use crate::pair::NAME_OR_VALUE_LENGTH;
@@ -48,7 +48,7 @@ use std::marker::Model;
 #[derive(Drop)]
 pub struct Reader<const T: usize, const L: usize> {
     mode: Mode,
-    missing_result: Marker,
+    missing_result: MissingResult,
     stage: Stage,
     tags: TagPairs<T>,
     text: Movetext<L>,
@@ -59,8 +59,7 @@ pub struct Reader<const T: usize, const L: usize> {
 
 impl<const T: usize, const L: usize> Model for Reader<T, L> {
     ghost use Rattle.std.specs.Prelude.{◌-◌, ◌≤◌};
-    ghost use Rattle.pgn_game.specs.Profile.{counts_as};
-    ghost use Rattle.pgn_game.specs.Markers.{marker_text};
+    ghost use Rattle.pgn_game.specs.Markers.{missing_of};
     ghost use Rattle.pgn_game.specs.ReaderState.{ReaderState, AreSound};
 
     ghost Value = { ReaderState };
@@ -70,7 +69,7 @@ impl<const T: usize, const L: usize> Model for Reader<T, L> {
         tags = T;
         depth = L - 1;
         mode = r.mode;
-        missing_result = counts_as (marker_text r.missing_result);
+        missing_result = missing_of r.missing_result;
       };
       stage = r.stage;
       tags = r.tags;
@@ -104,7 +103,7 @@ impl<const T: usize, const L: usize> Reader<T, L> {
     {
         Reader {
             mode,
-            missing_result: Marker::Unknown,
+            missing_result: MissingResult::CountsAs(Marker::Unknown),
             stage: Stage::Between,
             tags: TagPairs::new(),
             text: Movetext::new(),
@@ -160,13 +159,13 @@ impl<const T: usize, const L: usize> Reader<T, L> {
         self.stage == Stage::Between
     }
 
-    /// From now on a missing Result counts as this marker.
-    pub fn count_missing_result_as(&mut self, marker: Marker)
+    /// From now on a missing Result counts as this.
+    pub fn count_missing_result_as(&mut self, missing: MissingResult)
         ensures { self.new ≡ record self.old {
-          profile = record self.old.profile { missing_result = counts_as (marker_text marker) };
+          profile = record self.old.profile { missing_result = missing_of missing };
         } }
     {
-        self.missing_result = marker;
+        self.missing_result = missing;
     }
 
     /// Takes one token, and writes what it adds to the text of its game.
@@ -537,7 +536,7 @@ impl<const T: usize, const L: usize> Reader<T, L> {
         if self.text.depth() > 0 {
             return Err(Reason::MarkerInVariation);
         }
-        let missing = self.missing_result.text();
+        let missing = self.missing_result.text_at(marker);
         if marker.text() != self.tags.value(b"Result").unwrap_or(missing) {
             return Err(Reason::ResultDiffers);
         }

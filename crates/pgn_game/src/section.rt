@@ -3,12 +3,13 @@ ghost use Rattle.std.specs.Prelude.{◌≡◌, ◌+◌, ◌<◌, ◌≤◌, Some
 ghost use Rattle.std.specs.Option.{option_copied};
 ghost use Rattle.pgn_layout.specs.Device.{WritesText, device};
 ghost use Rattle.pgn_layout.specs.TagLine.{escaped};
-ghost use Rattle.pgn_game.specs.Markers.{marker_text};
+ghost use Rattle.pgn_game.specs.Markers.{missing_of};
+ghost use Rattle.pgn_game.specs.Profile.{known_result};
 ghost use Rattle.pgn_game.specs.Pairs.{value_of, has_pair};
 ghost use Rattle.pgn_game.specs.SectionLines.{text_by, roster_line, other_line};
 ghost use Rattle.pgn_game.specs.TagSection.{roster, in_roster, exported, other_pairs, tag_lines, tag_section, with_set_up};
 
-use crate::marker::Marker;
+use crate::marker::{Marker, MissingResult};
 use crate::mode::Mode;
 use crate::pair::TagPair;
 use crate::tags::{index_of, value_in};
@@ -22,7 +23,8 @@ const FROM_FEN: &[u8] = b"1";
 
 /// Writes the tag section: the roster, in full mode the other pairs, and an empty line (PGN 8.1).
 ///
-/// A roster pair that the game lacks has its default, which for Result is `missing_result`. Beside
+/// A roster pair that the game lacks has its default, which for Result is what is known
+/// of a missing one. Beside
 /// a FEN, SetUp is 1 (PGN 9.7.1).
 ///
 /// # Errors
@@ -31,12 +33,12 @@ const FROM_FEN: &[u8] = b"1";
 #[inline(never)]
 pub fn write_section<W: Sink>(
     mode: Mode,
-    missing_result: Marker,
+    missing_result: MissingResult,
     pairs: &[TagPair],
     out: &mut W,
 ) -> Result<(), WriteFault>
     ensures { WritesText (device W.taken W.failures out.old out.new) result
-        (tag_section mode (marker_text missing_result) pairs.now) }
+        (tag_section mode (known_result (missing_of missing_result)) pairs.now) }
 {
     write_roster(missing_result, pairs, out)?;
     match mode {
@@ -51,12 +53,12 @@ pub fn write_section<W: Sink>(
 /// Returns the value of this name in the tag section, if there is one.
 pub fn exported_value<'a>(
     mode: Mode,
-    missing_result: Marker,
+    missing_result: MissingResult,
     pairs: &'a [TagPair],
     name: &[u8],
 ) -> Option<&'a [u8]>
     ensures { option_copied result
-        ≡ value_of (exported mode (marker_text missing_result) pairs.now) name.now }
+        ≡ value_of (exported mode (known_result (missing_of missing_result)) pairs.now) name.now }
 {
     let unknown = unknown_value(missing_result, name);
     if unknown.is_none() && mode == Mode::Reduced {
@@ -79,8 +81,9 @@ fn value_with_set_up<'a>(pairs: &'a [TagPair], name: &[u8]) -> Option<&'a [u8]>
 }
 
 // The default of a missing roster tag (PGN 8.1.1).
-fn unknown_value(missing_result: Marker, name: &[u8]) -> Option<&'static [u8]>
-    ensures value { option_copied result ≡ value_of (roster (marker_text missing_result)) name.now }
+fn unknown_value(missing_result: MissingResult, name: &[u8]) -> Option<&'static [u8]>
+    ensures value { option_copied result
+        ≡ value_of (roster (known_result (missing_of missing_result))) name.now }
     ensures fits { IfSome result (λ unknown. length name.now + length (escaped unknown.now) ≤ 249) }
 {
     for index in 0..7 {
@@ -94,12 +97,12 @@ fn unknown_value(missing_result: Marker, name: &[u8]) -> Option<&'static [u8]>
 
 // Writes the pairs of the roster.
 fn write_roster<W: Sink>(
-    missing_result: Marker,
+    missing_result: MissingResult,
     pairs: &[TagPair],
     out: &mut W,
 ) -> Result<(), WriteFault>
     ensures { WritesText (device W.taken W.failures out.old out.new) result
-        (text_by (roster_line pairs.now) (roster (marker_text missing_result))) }
+        (text_by (roster_line pairs.now) (roster (known_result (missing_of missing_result)))) }
 {
     for index in 0..7 {
         let (name, unknown) = roster_pair(missing_result, index);
@@ -166,9 +169,9 @@ fn write_other<W: Sink>(pair: &TagPair, has_fen: bool, out: &mut W) -> Result<()
 
 #[tactic(auto, unfolding(crate::specs::TagSection::roster))]
 // A name of the roster and its default, by its place in the roster (PGN 8.1.1).
-fn roster_pair(missing_result: Marker, index: usize) -> (&'static [u8], &'static [u8])
+fn roster_pair(missing_result: MissingResult, index: usize) -> (&'static [u8], &'static [u8])
     requires { index < 7 }
-    ensures pair { slice_get (roster (marker_text missing_result)) index
+    ensures pair { slice_get (roster (known_result (missing_of missing_result))) index
         ≡ Some (record { name = result.0.now; value = result.1.now }) }
     ensures fits { length result.0.now + length (escaped result.1.now) ≤ 249 }
 {
@@ -179,7 +182,7 @@ fn roster_pair(missing_result: Marker, index: usize) -> (&'static [u8], &'static
         3 => (b"Round", b"?"),
         4 => (b"White", b"?"),
         5 => (b"Black", b"?"),
-        _ => (b"Result", missing_result.text()),
+        _ => (b"Result", missing_result.known_text()),
     }
 }
 
@@ -187,5 +190,5 @@ fn roster_pair(missing_result: Marker, index: usize) -> (&'static [u8], &'static
 fn is_in_roster(name: &[u8]) -> bool
     ensures { result ≡ in_roster name.now }
 {
-    unknown_value(Marker::Unknown, name).is_some()
+    unknown_value(MissingResult::CountsAs(Marker::Unknown), name).is_some()
 }

@@ -19,7 +19,7 @@ use Rattle.pgn_game.specs.Text.{is_move, full_text, torn_at, torn_for, has_move}
 use Rattle.pgn_game.specs.Progress.{Next, going}
 use Rattle.pgn_game.specs.Game.{move}
 use Rattle.pgn_game.specs.Movetext.{Movetext, HoldsItems}
-use Rattle.pgn_game.specs.ReaderState.{ReaderState, Agrees, HoldsPairs, HoldsText, plies_behind, whole_plies}
+use Rattle.pgn_game.specs.ReaderState.{ReaderState, Agrees, as_written, HoldsPairs, HoldsText, plies_behind, whole_plies}
 use Rattle.pgn_game.specs.TokenInMovetext.{IsOpen, may_have_movetext, with_items}
 use Rattle.pgn_game.specs.ItemResult.{Adds}
 use Rattle.pgn_game.specs.PutResult.{BeginsText, Goes, Keeps, PutResult, PutsItems, gain_to, section_due, section_due_of}
@@ -63,13 +63,12 @@ section_is old part is =
     ∙ ap (λ (ps : List Pair). section_due part.stage old.profile.mode result ps) (ap (λ t. t.held) is.pairs)
 
 -- What items add: the tag section, where movetext begins, and what they add to the full lines.
-pub gain_is : (old : ReaderState) (part : Part) (more : List Item) → old.profile.missing_result ≡ counts_as (known_result old.profile.missing_result) → IsTrue (may_have_movetext old.stage) → IsOpen old part
-    → section_due_of old ++ lines_gain old.profile.mode part.pairs part.items more ≡ gain_to old.profile part (going (with_items part more))
-gain_is old part more known at is =
+pub gain_is : (old : ReaderState) (part : Part) (more : List Item) → IsTrue (may_have_movetext old.stage) → IsOpen old part
+    → section_due_of old ++ lines_gain old.profile.mode part.pairs part.items more ≡ gain_to (as_written old.profile) part (going (with_items part more))
+gain_is old part more at is =
     let p = old.profile in
     ap (λ l. l ++ lines_gain p.mode part.pairs part.items more) (section_is old part is)
-    ∙ sym (ap (λ (m : Missing). drop (length (torn_for m p.mode part)) (torn_for m p.mode (with_items part more))) known
-    ∙ gain_at p.mode (known_result p.missing_result) part.stage part.pairs part.name part.items (full_text p.mode (start_of part.pairs) (part.items ++ more)) (open_stage old part is at) (λ e. is.fresh (is.stage ∙ e)))
+    ∙ sym (gain_at p.mode (known_result p.missing_result) part.stage part.pairs part.name part.items (full_text p.mode (start_of part.pairs) (part.items ++ more)) (open_stage old part is at) (λ e. is.fresh (is.stage ∙ e)))
 
 -- The section was written: so it is said of the reader as its fields make it.
 pub begins_as : (old begun held : ReaderState) (d : Device) → held ≡ begun → BeginsText {A = Unit {0}} {E = WriteFault} old begun (Ok tt) d
@@ -86,7 +85,7 @@ plies_before old at = by_stage old.stage at
 
 -- a put that failed, and one after which the game goes on
 module _ (old new : ReaderState) (IsOf : Part → Type 0) (to : Part → Next) (d : Device) (keeps : Keeps old new) where
-  pub unwritten : d.failures_after ≡ one_more d.failures → ((part : Part) → IsOf part → AppendsFront d.before d.after (gain_to old.profile part (to part)))
+  pub unwritten : d.failures_after ≡ one_more d.failures → ((part : Part) → IsOf part → AppendsFront d.before d.after (gain_to (as_written old.profile) part (to part)))
       → PutResult old IsOf to new (Err reasons.WriteFault) d
   unwritten counted front = record { goes = λ part is. (refl, front part is); keeps = keeps; stays = tt; counted = (refl, counted) }
 
@@ -119,7 +118,7 @@ pub record IsAfterItem (begun new : ReaderState) : Type 0 where
 -- the section was written, and then items or none
 goes_with : (old begun new : ReaderState) (part : Part) (more : List Item) (d : Device) → IsTrue (may_have_movetext old.stage) → IsOpen old part
     → begun ≡ record old { stage = InMovetext } → IsAfterItem begun new → HoldsItems old.profile.mode (start_of part.pairs) (part.items ++ more) new.text new.line
-    → (IsTrue (has_move (part.items ++ more)) → 0 < new.most_probes) → Appends d.before d.after (gain_to old.profile part (going (with_items part more)))
+    → (IsTrue (has_move (part.items ++ more)) → 0 < new.most_probes) → Appends d.before d.after (gain_to (as_written old.profile) part (going (with_items part more)))
     → Goes old part (going (with_items part more)) new More d
 goes_with old begun new part more d at is begins next held probed appended =
     let stage : new.stage ≡ InMovetext = next.stage ∙ ap (λ (r : ReaderState). r.stage) begins in
@@ -153,18 +152,17 @@ puts_number old new d at begins = record {
       (subst (λ (r : ReaderState). HoldsItems old.profile.mode (start_of ps) (items ++ []) r.text r.line) (sym begins.begun)
       (subst (λ (l : List Item). HoldsItems old.profile.mode (start_of ps) l old.text old.line) (sym (append-nil items)) is.held))
       (λ has. subst (λ (n : ℕ). 0 < n) (sym begins.probes) (is.probed (subst (λ (l : List Item). IsTrue (has_move l)) (append-nil items) has)))
-      (subst (Appends d.before d.after) (sym (append-nil _) ∙ ap (λ l. section_due_of old ++ l) (sym nothing) ∙ gain_is old part [] begins.known at is) begins.text));
+      (subst (Appends d.before d.after) (sym (append-nil _) ∙ ap (λ l. section_due_of old ++ l) (sym nothing) ∙ gain_is old part [] at is) begins.text));
   goes_on = tt;
   probes = begins.probes;
 }
 
 -- In movetext nothing is due of the section.
-pub begun_before : (old : ReaderState) (d : Device) → old.stage ≡ InMovetext → old.profile.missing_result ≡ counts_as (known_result old.profile.missing_result)
+pub begun_before : (old : ReaderState) (d : Device) → old.stage ≡ InMovetext
     → Appends d.before d.after [] → d.failures_after ≡ d.failures → BeginsText {A = Unit {0}} {E = WriteFault} old old (Ok tt) d
-begun_before old d at known nothing counted = record {
+begun_before old d at nothing counted = record {
   text = subst (λ (s : Stage). Appends d.before d.after (section_due s old.profile.mode (known_result old.profile.missing_result) old.tags.held)) (sym at) nothing;
   begun = ap (λ (s : Stage). record old { stage = s }) at;
-  known = known;
   profile = refl;
   earlier = refl;
   plies = refl;
@@ -212,7 +210,7 @@ module _ (old begun new : ReaderState) (i : Item) (a b c : Option (List ℕ)) (n
       (subst (λ (p : Profile). HoldsItems p.mode (start_of part.pairs) (part.items ++ i ∷ []) new.text new.line) begins.profile added.0)
       (probed_with old part i new.most_probes put most is.probed)
       (subst (Appends a c) (ap (λ (p : Profile). section_due_of old ++ lines_gain p.mode part.pairs part.items (i ∷ [])) begins.profile
-      ∙ gain_is old part (i ∷ []) begins.known at is) (Appends-trans a b c _ _ begins.text added.1)))
+      ∙ gain_is old part (i ∷ []) at is) (Appends-trans a b c _ _ begins.text added.1)))
 
   pub fails_item : (f : WriteFault) → Adds {A = Unit} begun.profile.mode i begun.text begun.line new.text new.line (Err f) (from_to b c m k)
       → PutResult old (IsOpen old) (to_items (i ∷ [])) new (Err reasons.WriteFault) (from_to a c n k)
@@ -221,7 +219,7 @@ module _ (old begun new : ReaderState) (i : Item) (a b c : Option (List ℕ)) (n
       (record { profile = next.profile ∙ begins.profile; plies = omega (arith, next.earlier, begins.earlier, begins.plies, adds.plies); probes = omega (arith, next.probes, begins.probes) })
       (adds.counted ∙ ap one_more begins.counted) (λ part is.
       subst (AppendsFront a c) (ap (λ (p : Profile). section_due_of old ++ lines_gain p.mode part.pairs part.items (i ∷ [])) begins.profile
-      ∙ gain_is old part (i ∷ []) begins.known at is)
+      ∙ gain_is old part (i ∷ []) at is)
       (front_after a b c _ _ begins.text (adds.adds (start_of part.pairs) part.items (begun_held old begun part is begins.begun))))
 
 -- Items could not be put, since the section could not be written.
@@ -231,7 +229,7 @@ puts_unbegun old new more f d at begins =
     unwritten old new (IsOpen old) (to_items more) d
     (record { profile = begins.profile; plies = omega (arith, begins.earlier, begins.plies); probes = omega (arith, begins.probes) }) begins.counted
     (λ part is.
-    subst (AppendsFront d.before d.after) (gain_is old part more begins.known at is)
+    subst (AppendsFront d.before d.after) (gain_is old part more at is)
     (front_of_more d.before d.after _ (lines_gain old.profile.mode part.pairs part.items more) begins.text))
 
 -- Behind the section the movetext is what it was before it.

@@ -20,7 +20,7 @@ use Rattle.pgn_game.specs.FaultTable.{levels_of_part, result_for}
 use Rattle.pgn_game.specs.Text.{tokens_out, full_text, torn_for}
 use Rattle.pgn_game.specs.Progress.{Next, whole}
 use Rattle.pgn_game.specs.Movetext.{StoredLevel}
-use Rattle.pgn_game.specs.ReaderState.{ReaderState, IsBehind, plies_behind}
+use Rattle.pgn_game.specs.ReaderState.{ReaderState, IsBehind, as_written, plies_behind}
 use Rattle.pgn_game.specs.TokenInMovetext.{IsOpen, game_of, may_have_movetext}
 use Rattle.pgn_game.specs.PutResult.{BeginsText, PutResult, gain_to, section_due, section_due_of}
 use Rattle.pgn_game.proofs.putting.WritesInTurn.{front_of_more, front_after}
@@ -40,15 +40,14 @@ ending line marker = text_at line (Put marker) ++ text_at (line_at line (Put mar
 abbrev line_of : Mode → List Pair → List Item → List ℕ
 line_of mode ps items = last_line (lines_of (tokens_out mode (start_of ps) items))
 
-gain_of : (p : Profile) (part : Part) (marker : List ℕ) → p.missing_result ≡ counts_as (known_result p.missing_result) → IsTrue (may_have_movetext part.stage) → (part.stage ≡ AfterTags → part.items ≡ [])
+gain_of : (p : Profile) (part : Part) (marker : List ℕ) → IsTrue (may_have_movetext part.stage) → (part.stage ≡ AfterTags → part.items ≡ [])
     → All IsToken (tokens_out p.mode (start_of part.pairs) part.items) → IsToken marker
-    → gain_to p part (whole (game_of part marker)) ≡ section_due part.stage p.mode (known_result p.missing_result) part.pairs ++ ending (line_of p.mode part.pairs part.items) marker
-gain_of p part marker known at fresh each token =
+    → gain_to (as_written p) part (whole (game_of part marker)) ≡ section_due part.stage p.mode (known_result p.missing_result) part.pairs ++ ending (line_of p.mode part.pairs part.items) marker
+gain_of p part marker at fresh each token =
     let result = known_result p.missing_result in
     let lines = text_of_lines (lines_of (tokens_out p.mode (start_of part.pairs) part.items ++ marker ∷ [])) in
     let ts = tokens_out p.mode (start_of part.pairs) part.items in
-    ap (λ (m : Missing). drop (length (torn_for m p.mode part)) (tag_section p.mode (result_for m marker) part.pairs ++ lines ++ 10 ∷ [])) known
-    ∙ ap (drop (length (torn_for (counts_as result) p.mode part))) (append_assoc (tag_section p.mode result part.pairs) lines (10 ∷ []))
+    ap (drop (length (torn_for (counts_as result) p.mode part))) (append_assoc (tag_section p.mode result part.pairs) lines (10 ∷ []))
     ∙ gain_at p.mode result part.stage part.pairs part.name part.items (game_lines p.mode part.pairs part.items marker) at fresh
     ∙ ap (λ (l : List ℕ). section_due part.stage p.mode result part.pairs ++ l)
     (ap (drop (length (full_text p.mode (start_of part.pairs) part.items)))
@@ -57,12 +56,12 @@ gain_of p part marker known at fresh each token =
     ∙ drop-append_seam (full_text p.mode (start_of part.pairs) part.items) (ending (line_of p.mode part.pairs part.items) marker))
 
 -- what is due for a marker, of a reader that holds the part
-due_is : (old : ReaderState) (part : Part) (marker : List ℕ) → old.profile.missing_result ≡ counts_as (known_result old.profile.missing_result) → IsTrue (may_have_movetext old.stage) → IsToken marker → IsOpen old part
-    → section_due_of old ++ ending old.line marker ≡ gain_to old.profile part (whole (game_of part marker))
-due_is old part marker known at token is =
+due_is : (old : ReaderState) (part : Part) (marker : List ℕ) → IsTrue (may_have_movetext old.stage) → IsToken marker → IsOpen old part
+    → section_due_of old ++ ending old.line marker ≡ gain_to (as_written old.profile) part (whole (game_of part marker))
+due_is old part marker at token is =
     ap (λ (l : List ℕ). l ++ ending old.line marker) (section_is old part is)
     ∙ ap (λ (l : List ℕ). section_due part.stage old.profile.mode (known_result old.profile.missing_result) part.pairs ++ ending l marker) is.held.last
-    ∙ sym (gain_of old.profile part marker known (open_stage old part is at) (λ e. is.fresh (is.stage ∙ e)) is.held.tokens token)
+    ∙ sym (gain_of old.profile part marker (open_stage old part is at) (λ e. is.fresh (is.stage ∙ e)) is.held.tokens token)
 
 -- At depth 0 the moves that lead here are those outside variations.
 at_depth_0 : (ls : ModelLevels) (around : List ModelLevel) → ls.around ≡ around → length around ≡ 0 → (outermost ls.present ls.around).trail ≡ ls.present.trail
@@ -105,7 +104,7 @@ ends_unbegun old new marker f d at begins =
     unwritten old new (IsOpen old) (to_game marker) d
     (record { profile = begins.profile; plies = omega (arith, begins.earlier, begins.plies); probes = omega (arith, begins.probes) }) begins.counted
     (λ part is.
-    subst (AppendsFront d.before d.after) (due_is old part (marker_text marker) begins.known at (marker_token marker) is)
+    subst (AppendsFront d.before d.after) (due_is old part (marker_text marker) at (marker_token marker) is)
     (front_of_more d.before d.after _ (ending old.line (marker_text marker)) begins.text))
 
 -- How the game ends, once its section is written.
@@ -133,7 +132,7 @@ ends_well old begun new marker text a b d c n m k ends put last rest empty count
             plies = ap (λ (s : Stage). plies_behind s new.earlier_plies new.text.plies) (ap (λ (r : ReaderState). r.stage) same)
                 ∙ omega (arith, earlier, plies, is.held.plies, plies_before old ends.at);
             appended = subst (Appends a c) (ap (λ (l : List ℕ). section_due_of old ++ ending l (marker_text marker)) (of_line old begun ends.begins.begun)
-                ∙ due_is old part (marker_text marker) ends.begins.known ends.at (marker_token marker) is)
+                ∙ due_is old part (marker_text marker) ends.at (marker_token marker) is)
                 (Appends-trans a b c _ _ ends.begins.text
                 (subst (λ (t : List ℕ). Appends b c (ending begun.line t)) ends.spells (Appends-trans b d c _ _ put last)));
           };
@@ -160,5 +159,5 @@ ends_ill old begun new marker text a b c n m k ends front rest counted =
     })
     (counted ∙ ap one_more begins.counted) (λ part is.
     subst (AppendsFront a c) (ap (λ (l : List ℕ). section_due_of old ++ ending l (marker_text marker)) (of_line old begun begins.begun)
-    ∙ due_is old part (marker_text marker) begins.known ends.at (marker_token marker) is)
+    ∙ due_is old part (marker_text marker) ends.at (marker_token marker) is)
     (front_after a b c _ _ begins.text (subst (λ (t : List ℕ). AppendsFront b c (ending begun.line t)) ends.spells front)))

@@ -11,7 +11,7 @@ use Rattle.pgn_game.specs.StoredPairs.{TagPairs}
 use Rattle.pgn_game.specs.Text.{torn, torn_for}
 use Rattle.pgn_game.specs.Progress.{Next, at_stage, going}
 use Rattle.pgn_game.specs.Movetext.{Movetext, movetext_from, movetext_after_fen}
-use Rattle.pgn_game.specs.ReaderState.{ReaderState, Agrees, plies_behind}
+use Rattle.pgn_game.specs.ReaderState.{ReaderState, Agrees, as_written, plies_behind}
 use Rattle.pgn_game.specs.TokenInMovetext.{fen_position}
 use Rattle.pgn_game.specs.PutResult.{Goes, PutResult, gain_to}
 use Rattle.pgn_game.proofs.putting.ItemToMovetext.{from_to}
@@ -59,7 +59,7 @@ steps old new to from stage tags start o n is at begun goes before each =
     (record {
       leads = h.agrees;
       plies = earlier stage then.text.plies goes ∙ sym (ap (λ (s : Stage). plies_behind s old.earlier_plies old.text.plies) at ∙ earlier from old.text.plies begun) ∙ omega arith;
-      appended = adds_nothing old.profile part h.to o (no_torn old.profile h.to stage (sym h.agrees.stage) before);
+      appended = adds_nothing (as_written old.profile) part h.to o (no_torn (as_written old.profile) h.to stage (sym h.agrees.stage) before);
     })))
   where
     few : (s : Option Parts) → (movetext_after_fen s old.text).plies ≤ old.text.plies
@@ -113,7 +113,7 @@ puts_value old new value name start held o n at completes begun told is =
 pub puts_nothing : (old : ReaderState) (o : Option (List ℕ)) (n : ℕ) → PutResult old (Agrees old) going old (Ok More) (from_to o o n n)
 puts_nothing old o n =
     more_comes old old (Agrees old) going (from_to o o n n) (record { profile = refl; plies = omega arith; probes = le_refl old.most_probes }) (λ e. refl) refl
-    (λ part agrees. record { leads = agrees; plies = omega arith; appended = subst (Appends o o) (sym (drop-length (torn old.profile part))) (Appends-nil o) })
+    (λ part agrees. record { leads = agrees; plies = omega arith; appended = subst (Appends o o) (sym (drop-length (torn (as_written old.profile) part))) (Appends-nil o) })
 
 -- a bracket changes the stage alone
 pub puts_left_bracket : (old new : ReaderState) (o : Option (List ℕ)) (n : ℕ) → old.stage ≡ AfterTags → new ≡ record old { stage = AfterLeftBracket }

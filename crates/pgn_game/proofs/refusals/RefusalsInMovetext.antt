@@ -5,7 +5,7 @@ use Rattle.std.proofs.lemmas.Bool.{or_right, or_from}
 use Rattle.std.specs.Option.{option_copied}
 use Rattle.chess_text.specs.declared.resolution.SanFault.TheVariants.{NoMove, Ambiguous}
 use Rattle.pgn_lexer.specs.Tokens.{Kind, asterisk, symbol}
-use Rattle.pgn_game.proofs.Words.{Parts, Played, SanFault, Reason, NotAMove, IllegalMove, AmbiguousMove, MoveLimit, MarkerInVariation, ResultDiffers, Profile, Missing, counts_as, Pair, value_of, Part}
+use Rattle.pgn_game.proofs.Words.{Parts, Played, SanFault, Reason, NotAMove, IllegalMove, AmbiguousMove, MoveLimit, MarkerInVariation, ResultDiffers, Profile, Missing, Pair, value_of, Part}
 use Rattle.pgn_game.specs.Chess.{move_of}
 use Rattle.pgn_game.specs.Game as games
 use Rattle.pgn_game.specs.Levels.{Level as ModelLevel, depth, start_of, replayed, without_last}
@@ -182,11 +182,11 @@ marker_refusal p part _ marker is = absurd (cc)
 abbrev pub differs : List ℕ → Option (List ℕ) → List ℕ → Bool
 differs missing value marker = not (bytes_eq marker (unwrap_or value missing))
 
-other_is : (p : Profile) (ps : List Pair) (missing marker : List ℕ) → p.missing_result ≡ counts_as missing
+other_is : (p : Profile) (ps : List Pair) (missing marker : List ℕ) → result_for p.missing_result marker ≡ missing
     → other_if p.missing_result ps (Some marker) ≡ differs missing (value_of ps (codes "Result")) marker
-other_is p ps missing marker known = ap (λ (m : Missing). other_if m ps (Some marker)) known
+other_is p ps missing marker known = ap (λ (result : List ℕ). differs result (value_of ps (codes "Result")) marker) known
 
-marker_tested : (p : Profile) (part : Part) (missing marker : List ℕ) (inside other : Bool) → nat_le 1 (depth (levels_of_part part)) ≡ inside → p.missing_result ≡ counts_as missing
+marker_tested : (p : Profile) (part : Part) (missing marker : List ℕ) (inside other : Bool) → nat_le 1 (depth (levels_of_part part)) ≡ inside → result_for p.missing_result marker ≡ missing
     → differs missing (value_of part.pairs (codes "Result")) marker ≡ other
     → marker_rows p part marker ≡ or_else inside MarkerInVariation (or_else (other && (depth (levels_of_part part) == 0)) ResultDiffers None)
 marker_tested p part missing marker inside other within known test =
@@ -198,13 +198,13 @@ pub marker_inside : (old : ReaderState) (k : Kind) (marker : List ℕ) (part : P
 marker_inside old k marker part is within = marker_refusal old.profile part k marker is ∙ hit _ MarkerInVariation _ within
 
 pub marker_differs : (old : ReaderState) (k : Kind) (missing marker : List ℕ) (part : Part) → marker_of k ≡ Some marker → depth (levels_of_part part) ≡ 0
-    → old.profile.missing_result ≡ counts_as missing → differs missing (value_of part.pairs (codes "Result")) marker ≡ true → text_refusal old.profile part k ≡ Some ResultDiffers
+    → result_for old.profile.missing_result marker ≡ missing → differs missing (value_of part.pairs (codes "Result")) marker ≡ true → text_refusal old.profile part k ≡ Some ResultDiffers
 marker_differs old k missing marker part is none known test =
     marker_refusal old.profile part k marker is ∙ marker_tested old.profile part missing marker false true (ap (λ n. nat_le 1 n) none) known test
     ∙ ap (λ n. or_else (n == 0) ResultDiffers None) none
 
 pub marker_free : (old : ReaderState) (k : Kind) (missing marker : List ℕ) (part : Part) → marker_of k ≡ Some marker → depth (levels_of_part part) ≡ 0
-    → old.profile.missing_result ≡ counts_as missing → differs missing (value_of part.pairs (codes "Result")) marker ≡ false → text_refusal old.profile part k ≡ None
+    → result_for old.profile.missing_result marker ≡ missing → differs missing (value_of part.pairs (codes "Result")) marker ≡ false → text_refusal old.profile part k ≡ None
 marker_free old k missing marker part is none known test =
     marker_refusal old.profile part k marker is ∙ marker_tested old.profile part missing marker false false (ap (λ n. nat_le 1 n) none) known test
 

@@ -15,14 +15,14 @@ use Rattle.pgn_lexer.specs.Standing.{Standing, coming, waiting}
 use Rattle.pgn_lexer.specs.Stands.{StandsAfter, Follows, AfterScan, first, still}
 use Rattle.pgn_game.specs.declared.accepted.Accepted.{Accepted}
 use Rattle.pgn_game.specs.declared.accepted.Accepted.TheVariants.{More, Finished}
-use Rattle.pgn_game.proofs.Words.{Reason, Lexical, Fault, Profile, Game, Part}
+use Rattle.pgn_game.proofs.Words.{Reason, Lexical, Fault, Profile, Missing, Game, Part}
 use Rattle.pgn_game.specs.FaultTable.{refusal}
 use Rattle.pgn_game.specs.Progress.{Next, going, whole, next, Progress, progress_with, progress_after, Read, read}
 use Rattle.pgn_game.specs.Due.{gain, Gains}
 use Rattle.pgn_game.specs.Levels.{plies_of}
 use Rattle.pgn_game.specs.ReaderState as reader_state
 use Rattle.pgn_game.specs.Text.{has_move}
-use Rattle.pgn_game.specs.ReaderState.{ReaderState, Agrees, IsBehind, whole_plies, plies_next, Leads, Answers}
+use Rattle.pgn_game.specs.ReaderState.{ReaderState, Agrees, IsKnown, as_written, IsBehind, whole_plies, plies_next, Leads, Answers}
 use Rattle.pgn_game.specs.ConverterCalls.{FinishedGame, finished_game_of, Converter, game_in_reader, game_in_reader_if, play_moves, has_played_move, HasRead, Stands, Stops, refused, unwritten, StopsWriting, AreNext, games_before, ProbesAtStop}
 use Rattle.pgn_game.specs.ConverterSteps.{SameGames, OneGame, AfterStep, outcome_at, finished_game, games_after, fault_of_step, StepAdvances}
 use Rattle.pgn_game.specs.MostTried.{MostTried, Raises, Tries, TriesUnwritten}
@@ -37,6 +37,10 @@ follows_first (x ∷ xs) s = refl
 pub follows_own : (xs : List ℕ) → Follows (first xs) xs
 follows_own [] = tt
 follows_own (x ∷ xs) = refl
+
+-- where a missing Result counts as a text, that is written
+pub written_known : (p : Profile) → IsKnown p → as_written p ≡ p
+written_known p known = ap (λ (m : Missing). record { tags = p.tags; depth = p.depth; mode = p.mode; missing_result = m }) (sym known)
 
 -- what a token leads to, with the games before
 leads_more : (nx : Next) (games : List Game) (r : ReaderState) → Leads nx More r → ((progress_with games nx).games ≡ games) × Agrees r (progress_with games nx).part
@@ -114,14 +118,6 @@ module _ (p : Profile) (old : Converter) (given : List Token) (t : Token) (l : S
 
   reads : refusal old.reading.profile b.part t.kind ≡ None → read p (given ++ t ∷ []) ≡ record { progress = progress_after b t; fault = None }
   reads h = read-passes p given t has_read.passes (passes h)
-
-  pub gains_token : (a c : Option (List ℕ)) → refusal old.reading.profile b.part t.kind ≡ None → Appends a c (gain old.reading.profile b.part t.kind) → Gains p given (given ++ t ∷ []) a c
-  gains_token a c h wrote =
-      record {
-        text = gain p b.part t.kind;
-        due_for = due-passes p given t has_read.passes (passes h);
-        appended = subst (λ q. Appends a c (gain q b.part t.kind)) has_read.profile wrote;
-      }
 
   raised : Raises (Tries old.reading.profile b.part t.kind) old.reading.most_probes new.most_probes → Raises (Tries p b.part t.kind) old.reading.most_probes new.most_probes
   raised h = subst (λ q. Raises (Tries q b.part t.kind) old.reading.most_probes new.most_probes) has_read.profile h
@@ -217,46 +213,59 @@ module _ (p : Profile) (old : Converter) (given : List Token) (t : Token) (l : S
         probed = λ moves. probed_before (subst (λ (r : Read). IsTrue (has_played_move r.progress)) (read-refuses p given t us reason has_read.passes some) moves);
       }
 
-  -- a write failed
-  pub writing : (us : List Token) (a c : Option (List ℕ)) → refusal old.reading.profile b.part t.kind ≡ None
-      → (n : ℕ) × (n < length (gain old.reading.profile b.part t.kind)) × Appends a c (take n (gain old.reading.profile b.part t.kind))
-      → StopsWriting p given (given ++ t ∷ us) t.at a c
-  writing us a c h (n, short, wrote) =
-      record {
-        front = given;
-        token = t;
-        rest = us;
-        cut = refl;
-        place = refl;
-        passes = ap (λ (r : Read). r.fault) (reads h);
-        text = gain p b.part t.kind;
-        due_for = due-passes p given t has_read.passes (passes h);
-        count = n;
-        least = omega arith;
-        short = subst (λ q. n < length (gain q b.part t.kind)) has_read.profile short;
-        appended = subst (λ q. Appends a c (take n (gain q b.part t.kind))) has_read.profile wrote;
-      }
+  -- what is written is the profile's
+  module _ (written : as_written old.reading.profile ≡ old.reading.profile) where
+    shown : as_written old.reading.profile ≡ p
+    shown = written ∙ has_read.profile
 
-  pub none_before_unwritten : (us : List Token) (a c : Option (List ℕ)) (h : refusal old.reading.profile b.part t.kind ≡ None)
-      (wrote : (n : ℕ) × (n < length (gain old.reading.profile b.part t.kind)) × Appends a c (take n (gain old.reading.profile b.part t.kind)))
-      → games_before (unwritten t.at (writing us a c h wrote)) ≡ b.games
-  unfolding writing
-  none_before_unwritten us a c h (n, short, wrote) = refl
+    pub gains_token : (a c : Option (List ℕ)) → refusal old.reading.profile b.part t.kind ≡ None → Appends a c (gain (as_written old.reading.profile) b.part t.kind) → Gains p given (given ++ t ∷ []) a c
+    gains_token a c h wrote =
+        record {
+          text = gain p b.part t.kind;
+          due_for = due-passes p given t has_read.passes (passes h);
+          appended = subst (λ q. Appends a c (gain q b.part t.kind)) shown wrote;
+        }
 
-  pub count_at_unwritten : (us : List Token) (a c : Option (List ℕ)) (h : refusal old.reading.profile b.part t.kind ≡ None)
-      (wrote : (n : ℕ) × (n < length (gain old.reading.profile b.part t.kind)) × Appends a c (take n (gain old.reading.profile b.part t.kind)))
-      → Raises (TriesUnwritten old.reading.profile b.part t.kind) old.reading.most_probes new.most_probes
-      → ProbesAtStop (unwritten t.at (writing us a c h wrote)) new.most_probes
-  unfolding writing
-  count_at_unwritten us a c h (n, short, wrote) tries =
-      record {
-        tried = (
-          old.reading.most_probes,
-          has_read.tried,
-          subst (λ q. Raises (TriesUnwritten q b.part t.kind) old.reading.most_probes new.most_probes) has_read.profile tries,
-        );
-        probed = probed_before;
-      }
+    -- a write failed
+    pub writing : (us : List Token) (a c : Option (List ℕ)) → refusal old.reading.profile b.part t.kind ≡ None
+        → (n : ℕ) × (n < length (gain (as_written old.reading.profile) b.part t.kind)) × Appends a c (take n (gain (as_written old.reading.profile) b.part t.kind))
+        → StopsWriting p given (given ++ t ∷ us) t.at a c
+    writing us a c h (n, short, wrote) =
+        record {
+          front = given;
+          token = t;
+          rest = us;
+          cut = refl;
+          place = refl;
+          passes = ap (λ (r : Read). r.fault) (reads h);
+          text = gain p b.part t.kind;
+          due_for = due-passes p given t has_read.passes (passes h);
+          count = n;
+          least = omega arith;
+          short = subst (λ q. n < length (gain q b.part t.kind)) shown short;
+          appended = subst (λ q. Appends a c (take n (gain q b.part t.kind))) shown wrote;
+        }
+
+    pub none_before_unwritten : (us : List Token) (a c : Option (List ℕ)) (h : refusal old.reading.profile b.part t.kind ≡ None)
+        (wrote : (n : ℕ) × (n < length (gain (as_written old.reading.profile) b.part t.kind)) × Appends a c (take n (gain (as_written old.reading.profile) b.part t.kind)))
+        → games_before (unwritten t.at (writing us a c h wrote)) ≡ b.games
+    unfolding writing
+    none_before_unwritten us a c h (n, short, wrote) = refl
+
+    pub count_at_unwritten : (us : List Token) (a c : Option (List ℕ)) (h : refusal old.reading.profile b.part t.kind ≡ None)
+        (wrote : (n : ℕ) × (n < length (gain (as_written old.reading.profile) b.part t.kind)) × Appends a c (take n (gain (as_written old.reading.profile) b.part t.kind)))
+        → Raises (TriesUnwritten old.reading.profile b.part t.kind) old.reading.most_probes new.most_probes
+        → ProbesAtStop (unwritten t.at (writing us a c h wrote)) new.most_probes
+    unfolding writing
+    count_at_unwritten us a c h (n, short, wrote) tries =
+        record {
+          tried = (
+            old.reading.most_probes,
+            has_read.tried,
+            subst (λ q. Raises (TriesUnwritten q b.part t.kind) old.reading.most_probes new.most_probes) has_read.profile tries,
+          );
+          probed = probed_before;
+        }
 
 -- a text that goes on behind the bytes used goes on behind the piece
 next_in_piece : (l : Standing) (u piece : List ℕ) (used : ℕ) (given : List Token) → StandsAfter l (u ++ take used piece) (first (drop used piece)) given → AreNext (u ++ piece) None given
@@ -279,30 +288,30 @@ still_none-none (x ∷ xs) = refl
 pub took : (p : Profile) (old : Converter) (u : List ℕ) (given : List Token) (piece : List ℕ) (used : ℕ) (t : Token) (l : Standing) (new : ReaderState) (finished : Bool)
     (a c : Option (List ℕ)) (r : Result Accepted Reason) → Stands p old u (first piece) given → AfterScan u (first piece) given piece l used (token t)
     → EndsAt t.kind t.at l.count → l.count ≡ old.lexer.count + used → new.profile ≡ old.reading.profile → old.reading.most_probes ≤ new.most_probes
-    → Answers old.reading (read p given).progress.part t.kind new r a c
+    → as_written old.reading.profile ≡ old.reading.profile → Answers old.reading (read p given).progress.part t.kind new r a c
     → AfterStep p u given piece (stepped l new old.games finished (outcome_at t.at r)) used (outcome_at t.at r) a c
-took p old u given piece used t l new finished a c (Ok More) stands scan ends count profile probes h = (
+took p old u given piece used t l new finished a c (Ok More) stands scan ends count profile probes written h = (
   t,
   record {
     stands = record { lexer = scan.0; has_read = has_read_more p old given t l new finished stands.has_read profile probes h.free h.leads h.plies h.tried };
     decided = scan.1;
     ends = subst (EndsAt t.kind t.at) (count ∙ ap (λ n. n + used) stands.lexer.count) ends;
-    gains = gains_token p old given t l new finished stands.has_read profile probes a c h.free h.appended;
+    gains = gains_token p old given t l new finished stands.has_read profile probes written a c h.free h.appended;
   },
   same_games p old given t l new finished stands.has_read profile probes h.free h.leads,
 )
-took p old u given piece used t l new finished a c (Ok Finished) stands scan ends count profile probes h =
+took p old u given piece used t l new finished a c (Ok Finished) stands scan ends count profile probes written h =
     let one = one_game p old given t l new finished stands.has_read profile probes h.free h.leads in (
       t,
       record {
         stands = record { lexer = scan.0; has_read = has_read_game p old given t l new finished stands.has_read profile probes h.free h.leads h.plies h.tried };
         decided = scan.1;
         ends = subst (EndsAt t.kind t.at) (count ∙ ap (λ n. n + used) stands.lexer.count) ends;
-        gains = gains_token p old given t l new finished stands.has_read profile probes a c h.free h.appended;
+        gains = gains_token p old given t l new finished stands.has_read profile probes written a c h.free h.appended;
       },
       (one.0, one.1, ap (λ (finished : FinishedGame). Some finished) one.2),
     )
-took p old u given piece used t l new finished a c (Err why) stands scan ends count profile probes (reader_state.refused reason some wrote tries) =
+took p old u given piece used t l new finished a c (Err why) stands scan ends count profile probes written (reader_state.refused reason some wrote tries) =
     record {
       fed = record {
         tokens = given ++ t ∷ [];
@@ -312,15 +321,15 @@ took p old u given piece used t l new finished a c (Err why) stands scan ends co
       no_game = none_before_refused p old given t l new finished stands.has_read profile probes [] a c reason some wrote;
       counts = count_at_refused p old given t l new finished stands.has_read profile probes [] a c reason some wrote tries;
     }
-took p old u given piece used t l new finished a c (Err why) stands scan ends count profile probes (reader_state.unwritten none wrote tries) =
+took p old u given piece used t l new finished a c (Err why) stands scan ends count profile probes written (reader_state.unwritten none wrote tries) =
     record {
       fed = record {
         tokens = given ++ t ∷ [];
         next = subst (λ b. AreNext (u ++ piece) b (given ++ t ∷ [])) (sym (still_none-none piece)) (next_in_piece l u piece used (given ++ t ∷ []) scan.0);
-        stops = unwritten t.at (writing p old given t l new finished stands.has_read profile probes [] a c none wrote);
+        stops = unwritten t.at (writing p old given t l new finished stands.has_read profile probes written [] a c none wrote);
       };
-      no_game = none_before_unwritten p old given t l new finished stands.has_read profile probes [] a c none wrote;
-      counts = count_at_unwritten p old given t l new finished stands.has_read profile probes [] a c none wrote tries;
+      no_game = none_before_unwritten p old given t l new finished stands.has_read profile probes written [] a c none wrote;
+      counts = count_at_unwritten p old given t l new finished stands.has_read profile probes written [] a c none wrote tries;
     }
 
 -- no token in the piece

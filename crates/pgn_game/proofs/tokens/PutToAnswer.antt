@@ -30,7 +30,7 @@ use Rattle.pgn_game.specs.Due.{gain, text_next}
 use Rattle.pgn_game.specs.MostTried.{CostsToFind, CostsToAdd, CostsUnlessRefused, Raises, Tries, TriesUnwritten, added}
 use Rattle.pgn_game.specs.MostTried as tried
 use Rattle.pgn_game.specs.ReaderState as reader_state
-use Rattle.pgn_game.specs.ReaderState.{ReaderState, Agrees, Answers, IsStopped, CountsStop, is_outside_the_table, Stays, FinishesAtMarker, Leads, plies_behind, plies_next, whole_plies}
+use Rattle.pgn_game.specs.ReaderState.{ReaderState, Agrees, Answers, as_written, IsStopped, CountsStop, is_outside_the_table, Stays, FinishesAtMarker, Leads, plies_behind, plies_next, whole_plies}
 use Rattle.pgn_game.specs.TokenInMovetext.{IsEntry, IsOpen, may_have_movetext, model_item, text_refusal, with_items}
 use Rattle.pgn_game.specs.PutResult.{CountsMove, EntersMovetext, Finds, FinishesNone, GoesTo, PutResult, PutsItems, Takes, TakesEntry, TakesOutside, TakesToken, TakesUnwritten, at_game_start, counting_probes, unused}
 use Rattle.pgn_game.proofs.refusals.RefusalsByStage.{begins_alike, comment_passes, drops_comments, passes_between}
@@ -87,10 +87,10 @@ entry_refused old k reason o m inside why costs =
 -- what was put after the move of a token was sought is what the reader answers
 module _ (old counted new : ReaderState) (part : Part) (k : Kind) (to : Next) (d : Device) (n more : ℕ) (same : counted ≡ counting_probes old n)
     (says : (refusal old.profile part k ≡ None) × (next part k ≡ to)) (finds : CostsToFind part k n) (most : new.most_probes ≡ max old.most_probes more) where
-  gain_is : drop (length (torn counted.profile part)) (text_next counted.profile to) ≡ gain old.profile part k
+  gain_is : drop (length (torn (as_written counted.profile) part)) (text_next (as_written counted.profile) to) ≡ gain (as_written old.profile) part k
   gain_is =
-      ap (λ (r : ReaderState). drop (length (torn r.profile part)) (text_next r.profile to)) same
-      ∙ ap (λ (x : Next). drop (length (torn old.profile part)) (text_next old.profile x)) (sym says.1)
+      ap (λ (r : ReaderState). drop (length (torn (as_written r.profile) part)) (text_next (as_written r.profile) to)) same
+      ∙ ap (λ (x : Next). drop (length (torn (as_written old.profile) part)) (text_next (as_written old.profile) x)) (sym says.1)
 
   tries : CostsToPut old.profile part to n more → Tries old.profile part k more
   tries costs = record {
@@ -232,11 +232,12 @@ module _ (p : Profile) (k : TokenKind) (row : refusal p no_pairs (kind_of k) ≡
   unwritten_alike n (tried.at_token t) = tried.at_token (tries_alike n t)
   unwritten_alike n (tried.in_section before finds) = tried.in_section refl (finds_alike k n finds)
 
-  gain_alike : gain p no_pairs (kind_of k) ≡ gain p no_part (kind_of k)
+  gain_alike : gain (as_written p) no_pairs (kind_of k) ≡ gain (as_written p) no_part (kind_of k)
   gain_alike =
-      ap (λ (t : List ℕ). drop (length t) (text_next p (next no_pairs (kind_of k))))
-      (no_torn p no_pairs AfterTags refl (λ e. absurd (cc)) ∙ sym (no_torn p no_part Between refl (λ e. absurd (cc))))
-      ∙ ap (λ (x : Next). drop (length (torn p no_part)) (text_next p x)) leads
+      let w = as_written p in
+      ap (λ (t : List ℕ). drop (length t) (text_next w (next no_pairs (kind_of k))))
+      (no_torn w no_pairs AfterTags refl (λ e. absurd (cc)) ∙ sym (no_torn w no_part Between refl (λ e. absurd (cc))))
+      ∙ ap (λ (x : Next). drop (length (torn w no_part)) (text_next w x)) leads
 
 answers_alike : (old new : ReaderState) (k : TokenKind) (r : Result Accepted Reason) (a b : Option (List ℕ)) → old.stage ≡ Between
     → refusal old.profile no_pairs (kind_of k) ≡ refusal old.profile no_part (kind_of k) → next no_pairs (kind_of k) ≡ next no_part (kind_of k)

@@ -4,7 +4,7 @@ use Rattle.pgn_lexer.specs.declared.partial_token.Mode.{Mode}
 use Rattle.pgn_lexer.specs.declared.partial_token.Mode.TheVariants.{LineWord, Symbol, Glyph, Suffix, BraceWord, Line}
 use Rattle.pgn_lexer.specs.PartialToken.{pending_in}
 use Rattle.pgn_lexer.specs.Standing.{Standing, waiting}
-use Rattle.pgn_game.specs.ReaderState.{ReaderState}
+use Rattle.pgn_game.specs.ReaderState.{IsKnown, ReaderState}
 use Rattle.pgn_game.specs.ConverterCalls.{IsSound}
 
 few_waiting_in : (m : Mode) → pending_in m ≤ 2
@@ -19,10 +19,11 @@ few_waiting_in _ = omega arith
 pub few_waiting : (l : Standing) → waiting l ≤ 2
 few_waiting l = few_waiting_in l.held.mode
 
-pub sound_at_start : (l : Standing) (r : ReaderState) → l.count ≤ 2 ^ 62 → r.earlier_plies ≡ 0 → r.text.plies ≡ 0 → IsSound l r 0 false false None
-sound_at_start l r count earlier plies =
+pub sound_at_start : (l : Standing) (r : ReaderState) → l.count ≡ 0 → r.earlier_plies ≡ 0 → r.text.plies ≡ 0 → IsKnown r.profile → IsSound l r 0 false false None
+sound_at_start l r count earlier plies known =
     let few = few_waiting l in
     record {
+      known = known;
       count = λ none. omega (arith, count);
       few = λ none. omega (arith, few);
       few_plies = λ none. omega (arith, few, earlier, plies);

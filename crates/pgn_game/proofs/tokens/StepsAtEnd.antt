@@ -14,7 +14,7 @@ use Rattle.pgn_game.specs.FaultTable.{refusal, is_end, marker_of}
 use Rattle.pgn_game.specs.Progress.{next, progress_with, Progress, Read, read}
 use Rattle.pgn_game.specs.Due.{Gains}
 use Rattle.pgn_game.specs.ReaderState as reader_state
-use Rattle.pgn_game.specs.ReaderState.{ReaderState, Answers, Stays, FinishesAtMarker, CountsStop, CountsWrites, is_outside_the_table}
+use Rattle.pgn_game.specs.ReaderState.{ReaderState, Answers, IsKnown, as_written, Stays, FinishesAtMarker, CountsStop, CountsWrites, is_outside_the_table}
 use Rattle.pgn_game.specs.ConverterCalls.{Converter, IsSound, game_in_reader, game_in_reader_if, IsLast, HasRead, Stands, unwritten, Finishes, FinishesToFault, ProbesAtStop, CountsFault, CountsReason}
 use Rattle.pgn_game.specs.ConverterSteps.{SameGames, FaultAtEnd, AfterStepAtEnd, StepAtEndAdvances, AtEndSoFar, StaysBetween, outcome_at, is_ended, games_after, none_at_end, fault_of_step}
 use Rattle.pgn_game.proofs.tokens.OneMoreToken.{gains_none, gains_more, stops_more, games_still, counts_still, read-passes}
@@ -84,10 +84,10 @@ closed l r games finished outcome = record (stepped l r games finished outcome) 
 
 pub closes : (p : Profile) (old : Converter) (u : List ℕ) (given : List Token) (t : Token) (l : Standing) (new : ReaderState) (finished : Bool) (a c : Option (List ℕ))
     (e : Bool) (r : Result Accepted Reason) → is_end t.kind ≡ e → HasRead p old given → Left u given e l t → new.profile ≡ old.reading.profile → old.reading.most_probes ≤ new.most_probes
-    → Answers old.reading (read p given).progress.part t.kind new r a c
+    → as_written old.reading.profile ≡ old.reading.profile → Answers old.reading (read p given).progress.part t.kind new r a c
     → Stays old.reading new r → FinishesAtMarker t.kind new r
     → AfterStepAtEnd p u given old (closed l new old.games finished (outcome_at t.at r)) (none_at_end e (outcome_at t.at r)) a c
-closes p old u given t l new finished a c true (Ok More) is_e has_read left profile probes h stays at_marker =
+closes p old u given t l new finished a c true (Ok More) is_e has_read left profile probes written h stays at_marker =
     let more = has_read_more p old given t l new finished has_read profile probes h.free h.leads h.plies h.tried in
     let passes = subst (λ q. refusal q (read p given).progress.part t.kind ≡ None) has_read.profile h.free in (
       t,
@@ -97,32 +97,32 @@ closes p old u given t l new finished a c true (Ok More) is_e has_read left prof
         between = more.agrees.stage ∙ ap (λ (r : Read). r.progress.part.stage) (read-passes p given t has_read.passes passes)
             ∙ end_passes p (read p given).progress t.kind is_e passes;
         same = same_games p old given t l new finished has_read profile probes h.free h.leads;
-        gains = gains_token p old given t l new finished has_read profile probes a c h.free h.appended;
+        gains = gains_token p old given t l new finished has_read profile probes written a c h.free h.appended;
       },
       stays,
     )
-closes p old u given t l new finished a c false (Ok More) is_e has_read left profile probes h stays at_marker = (
+closes p old u given t l new finished a c false (Ok More) is_e has_read left profile probes written h stays at_marker = (
   t,
   record {
     left = left;
     has_read = let_go p _ _ (has_read_more p old given t l new finished has_read profile probes h.free h.leads h.plies h.tried);
-    gains = gains_token p old given t l new finished has_read profile probes a c h.free h.appended;
+    gains = gains_token p old given t l new finished has_read profile probes written a c h.free h.appended;
   },
   same_games p old given t l new finished has_read profile probes h.free h.leads,
   stays,
 )
-closes p old u given t l new finished a c true (Ok Finished) is_e has_read left profile probes h stays at_marker =
+closes p old u given t l new finished a c true (Ok Finished) is_e has_read left profile probes written h stays at_marker =
     absurd (no_marker_at_end t.kind is_e at_marker.0)
-closes p old u given t l new finished a c false (Ok Finished) is_e has_read left profile probes h stays at_marker = (
+closes p old u given t l new finished a c false (Ok Finished) is_e has_read left profile probes written h stays at_marker = (
   t,
   record {
     left = left;
     has_read = let_go p _ _ (has_read_game p old given t l new finished has_read profile probes h.free h.leads h.plies h.tried);
-    gains = gains_token p old given t l new finished has_read profile probes a c h.free h.appended;
+    gains = gains_token p old given t l new finished has_read profile probes written a c h.free h.appended;
   },
   one_game p old given t l new finished has_read profile probes h.free h.leads,
 )
-closes p old u given t l new finished a c e (Err why) is_e has_read left profile probes (reader_state.refused reason some wrote tries) stays at_marker =
+closes p old u given t l new finished a c e (Err why) is_e has_read left profile probes written (reader_state.refused reason some wrote tries) stays at_marker =
     let rest = tokens_left u given e l t left in
     (subst (λ ts. FaultAtEnd p given ts (record { at = t.at; reason = reason }) new.most_probes a c) (sym rest.1)
     (record {
@@ -130,13 +130,13 @@ closes p old u given t l new finished a c e (Err why) is_e has_read left profile
       no_game = none_before_refused p old given t l new finished has_read profile probes rest.0 a c reason some wrote;
       counts = count_at_refused p old given t l new finished has_read profile probes rest.0 a c reason some wrote tries;
     }))
-closes p old u given t l new finished a c e (Err why) is_e has_read left profile probes (reader_state.unwritten none wrote tries) stays at_marker =
+closes p old u given t l new finished a c e (Err why) is_e has_read left profile probes written (reader_state.unwritten none wrote tries) stays at_marker =
     let rest = tokens_left u given e l t left in
     (subst (λ ts. FaultAtEnd p given ts (record { at = t.at; reason = WriteFault }) new.most_probes a c) (sym rest.1)
     (record {
-      stops = unwritten t.at (writing p old given t l new finished has_read profile probes rest.0 a c none wrote);
-      no_game = none_before_unwritten p old given t l new finished has_read profile probes rest.0 a c none wrote;
-      counts = count_at_unwritten p old given t l new finished has_read profile probes rest.0 a c none wrote tries;
+      stops = unwritten t.at (writing p old given t l new finished has_read profile probes written rest.0 a c none wrote);
+      no_game = none_before_unwritten p old given t l new finished has_read profile probes written rest.0 a c none wrote;
+      counts = count_at_unwritten p old given t l new finished has_read profile probes written rest.0 a c none wrote tries;
     }))
 
 pub closes_fault : (p : Profile) (old new : Converter) (u : List ℕ) (given : List Token) (f : LexFault) (o : Option (List ℕ)) → HasRead p old given
@@ -186,9 +186,10 @@ counts_closed false (Ok o) sink h = h
 counts_closed e (Err f) sink h = h
 
 -- after a fault a converter owes nothing
-pub sound_behind_fault : (lexer : Standing) (reading : ReaderState) (games : ℕ) (is_finished : Bool) (f : Fault) → IsSound lexer reading games false is_finished (Some f)
-sound_behind_fault lexer reading games is_finished f =
+pub sound_behind_fault : (lexer : Standing) (reading : ReaderState) (games : ℕ) (is_finished : Bool) (f : Fault) → IsKnown reading.profile → IsSound lexer reading games false is_finished (Some f)
+sound_behind_fault lexer reading games is_finished f known =
     record {
+      known = known;
       count = λ none. absurd (cc);
       few = λ none. absurd (cc);
       few_plies = λ none. absurd (cc);
@@ -202,12 +203,13 @@ sound_behind_fault lexer reading games is_finished f =
 pub sound_behind : (old new : Standing) (before after : ReaderState) (games at : ℕ) (k : Kind) (e : Bool) (r : Result Accepted Reason) → is_end k ≡ e → Nearer e old new
     → FinishesAtMarker k after r → old.count ≤ 2 ^ 62 → games + waiting old ≤ 2 * old.count + 2
     → before.earlier_plies + before.text.plies + waiting old ≤ 2 * old.count + 2
-    → after.earlier_plies + after.text.plies ≤ before.earlier_plies + before.text.plies + 1
+    → after.earlier_plies + after.text.plies ≤ before.earlier_plies + before.text.plies + 1 → IsKnown after.profile
     → IsSound new after (games_after (outcome_at at r) games) false (is_ended (none_at_end e (outcome_at at r))) (fault_of_step (outcome_at at r))
-sound_behind old new before after games at k true (Ok More) is_e near marker count few plies more =
+sound_behind old new before after games at k true (Ok More) is_e near marker count few plies more known =
     let still = ap waiting near in
     let place = ap (λ (l : Standing). l.count) near in
     record {
+      known = known;
       count = λ none. omega (arith, count, place);
       few = λ none. omega (arith, few, still, place);
       few_plies = λ none. omega (arith, plies, more, still, place);
@@ -215,8 +217,9 @@ sound_behind old new before after games at k true (Ok More) is_e near marker cou
       between = λ is. absurd (cc);
       no_fault = λ is. absurd (cc);
     }
-sound_behind old new before after games at k false (Ok More) is_e near marker count few plies more =
+sound_behind old new before after games at k false (Ok More) is_e near marker count few plies more known =
     record {
+      known = known;
       count = λ none. omega (arith, count, near.1);
       few = λ none. omega (arith, few, near.0, near.1);
       few_plies = λ none. omega (arith, plies, more, near.0, near.1);
@@ -224,10 +227,11 @@ sound_behind old new before after games at k false (Ok More) is_e near marker co
       between = λ is. absurd (cc);
       no_fault = λ is. absurd (cc);
     }
-sound_behind old new before after games at k true (Ok Finished) is_e near marker count few plies more =
+sound_behind old new before after games at k true (Ok Finished) is_e near marker count few plies more known =
     absurd (no_marker_at_end k is_e marker.0)
-sound_behind old new before after games at k false (Ok Finished) is_e near marker count few plies more =
+sound_behind old new before after games at k false (Ok Finished) is_e near marker count few plies more known =
     record {
+      known = known;
       count = λ none. omega (arith, count, near.1);
       few = λ none. omega (arith, few, near.0, near.1);
       few_plies = λ none. omega (arith, plies, more, near.0, near.1);
@@ -235,7 +239,7 @@ sound_behind old new before after games at k false (Ok Finished) is_e near marke
       between = λ is. absurd (cc);
       no_fault = λ is. absurd (cc);
     }
-sound_behind old new before after games at k e (Err reason) is_e near marker count few plies more = sound_behind_fault new after games _ _
+sound_behind old new before after games at k e (Err reason) is_e near marker count few plies more known = sound_behind_fault new after games _ _ known
 
 pub not_just_finished : (b : Bool) (r : ReaderState) → game_in_reader_if b r ≡ None → b ≡ false
 not_just_finished true r h = absurd (cc)
@@ -337,6 +341,7 @@ pub sound_at_none : (lexer : Standing) (reading : ReaderState) (games : ℕ) (ha
     → IsSound lexer reading games false is_finished fault
 sound_at_none lexer reading games has_finished_game is_finished fault sound =
     record {
+      known = sound.known;
       count = sound.count;
       few = sound.few;
       few_plies = sound.few_plies;

@@ -1,15 +1,15 @@
 -- Bytes that a reading reads, where its buffer is used up.
-use Rattle.std.proofs.Common.{◌≡◌, ℕ, ◌+◌, ◌-◌, ◌<◌, ◌≤◌, Bool, true, false, List, [], ◌++◌, length, take, drop, Option, None, refl, sym, ap, subst, ◌∙◌, inl, append-nil, length-append, length-drop, length-take, length-take-le, arith, ◌^◌}
+use Rattle.std.proofs.Common.{◌≡◌, ℕ, ◌+◌, ◌*◌, ◌-◌, ◌<◌, ◌≤◌, Bool, true, false, List, [], ◌++◌, length, take, drop, Option, None, refl, sym, ap, subst, ◌∙◌, inl, append-nil, length-append, length-drop, length-take, length-take-le, arith, ◌^◌}
 use Rattle.std.proofs.Math.Seq.{take-append-le}
 use Rattle.std.proofs.KnownBytes.{Consumes-kept, Consumes-trans}
 use Rattle.std.specs.Io.KnownBytes.{Consumes, IsAtEnd, Keeps}
 use Rattle.pgn_lexer.specs.TokensOf.{tokens_of}
 use Rattle.pgn_lexer.specs.Decided.{decided}
-use Rattle.pgn_lexer.specs.Standing.{Standing, coming}
+use Rattle.pgn_lexer.specs.Standing.{Standing, coming, waiting}
 use Rattle.pgn_lexer.specs.Stands.{IsDecided, StandsAfter, first}
 use Rattle.pgn_game.proofs.Words.{Token, ReadFault, InputTooLong, Profile}
-use Rattle.pgn_game.specs.ConverterCalls.{HasRead, IsSound}
-use Rattle.pgn_game.specs.Pass.{HasGiven, IsCounting, IsGoing, Pass, ReadFails, StandsIn, as_converter, too_long, unread}
+use Rattle.pgn_game.specs.ConverterCalls.{HasRead}
+use Rattle.pgn_game.specs.Pass.{HasGiven, IsAlike, IsGoing, Pass, ReadFails, StandsIn, as_converter, too_long, unread}
 use Rattle.pgn_game.proofs.tokens.StepsInPiece.{decided_at_end}
 use Rattle.pgn_game.proofs.tokens.WholeInput.{known_whole}
 
@@ -46,8 +46,8 @@ module _ (q : Profile) (left_old left left_new : Option (List ℕ)) (old new : P
     read_still : HasRead q (as_converter q new) given
     read_still = subst (λ (s : Pass). HasRead q (as_converter q s) given) (sym kept) has.has_read
 
-    profile : IsCounting q new.reading.profile
-    profile = subst (λ (s : Pass). IsCounting q s.reading.profile) (sym kept) has.profile
+    profile : IsAlike q new.reading.profile
+    profile = subst (λ (s : Pass). IsAlike q s.reading.profile) (sym kept) has.profile
 
     counted : new.lexer.count ≡ length has.bytes
     counted = ap (λ (l : Standing). l.count) (sym lexer) ∙ has.counted
@@ -102,7 +102,8 @@ front_fits place n xs ys within fits = omega (arith, front_length n xs ys within
 pub going_filled : (old new : Pass) → IsGoing old → new ≡ record old { unused = new.unused; has_ended = new.has_ended } → old.lexer.count + length new.unused ≤ 2 ^ 62 → IsGoing new
 going_filled old new going kept room =
     record {
-      sound = subst (λ (s : Pass). IsSound s.lexer s.reading s.games false false None) (sym kept) going.sound;
+      few = subst (λ (s : Pass). s.games + waiting s.lexer ≤ 2 * s.lexer.count + 2) (sym kept) going.few;
+      few_plies = subst (λ (s : Pass). s.reading.earlier_plies + s.reading.text.plies + waiting s.lexer ≤ 2 * s.lexer.count + 2) (sym kept) going.few_plies;
       room = subst (λ (s : Pass). s.lexer.count + length new.unused ≤ 2 ^ 62) (sym kept) room;
     }
 

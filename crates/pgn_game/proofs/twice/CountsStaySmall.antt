@@ -36,24 +36,14 @@ sound : (new : Pass) → new.lexer.count + length new.unused ≤ 2 ^ 62
     → new.reading.earlier_plies + new.reading.text.plies + waiting new.lexer ≤ 2 * new.lexer.count + 2
     → IsGoing new
 sound new room few plies =
-    record {
-      sound = record {
-        count = λ none. omega (arith, room);
-        few = λ none. few;
-        few_plies = λ none. omega (arith, plies);
-        fewer_plies = λ none not. plies;
-        between = λ is. absurd (cc);
-        no_fault = λ is. absurd (cc);
-      };
-      room = room;
-    }
+    record { few = few; few_plies = plies; room = room }
 
 module _ (told : Option CodeMark) (old new : Pass) (going : IsGoing old) where
   games : old.games + waiting old.lexer ≤ 2 * old.lexer.count + 2
-  games = going.sound.few refl
+  games = going.few
 
   plies : old.reading.earlier_plies + old.reading.text.plies + waiting old.lexer ≤ 2 * old.lexer.count + 2
-  plies = going.sound.fewer_plies refl refl
+  plies = going.few_plies
 
   -- a token in the buffer
   pub going_in_buffer : (taken : Taken) (used : ℕ) → LeavesReader told old.reading new.reading old.games new.games taken → old.has_ended ≡ false → new.has_ended ≡ false → 0 < length old.unused
@@ -132,8 +122,4 @@ keeps_by told a b new r is = subst (λ s. Keeps told s new r) is
 -- the counts fit, with one more
 pub small_counts : (s : Pass) → IsGoing s → (s.reading.earlier_plies + s.reading.text.plies < 2 ^ 64 - 1) × (s.games < 2 ^ 64 - 1)
 small_counts s going =
-    let so = going.sound in
-    let count = so.count refl in
-    let plies = so.fewer_plies refl refl in
-    let games = so.few refl in
-    (omega (arith, count, plies), omega (arith, count, games))
+    (omega (arith, going.room, going.few_plies), omega (arith, going.room, going.few))

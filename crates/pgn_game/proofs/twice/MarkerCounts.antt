@@ -11,7 +11,7 @@ use Rattle.pgn_lexer.specs.declared.token.LexReason.{LexReason}
 use Rattle.pgn_lexer.specs.declared.token.LexReason.TheVariants as lexical
 use Rattle.pgn_game.specs.declared.accepted.Accepted.{Accepted}
 use Rattle.pgn_game.specs.declared.accepted.Accepted.TheVariants.{More, Finished}
-use Rattle.pgn_game.proofs.Words.{Kind, Reason, Lexical, BadTagName, ResultDiffers, Stage, Between, AfterLeftBracket, AfterName, AfterValue, AfterTags, InMovetext, Profile, Missing, counts_as, takes_the_marker, Game, Part, no_part}
+use Rattle.pgn_game.proofs.Words.{Kind, Reason, Lexical, BadTagName, ResultDiffers, Mode, Stage, Between, AfterLeftBracket, AfterName, AfterValue, AfterTags, InMovetext, Profile, Missing, counts_as, takes_the_marker, Game, Part, no_part}
 use Rattle.pgn_game.specs.Levels.{depth, start_of}
 use Rattle.pgn_game.specs.FaultTable.{Row, row, rows, first_holding, refusal, in_name, is_score, is_outside_tag_pairs, has_other_result, levels_of_part, marker_of, position_in}
 use Rattle.pgn_game.specs.Text.{game_text}
@@ -20,13 +20,9 @@ use Rattle.pgn_game.specs.MostTried.{CostsUnlessRefused, Tries, added}
 use Rattle.pgn_game.specs.Movetext.{HoldsItems}
 use Rattle.pgn_game.specs.ReaderState.{ReaderState, Agrees, HoldsText, IsAccepted, Leads, is_outside_the_table}
 use Rattle.pgn_game.specs.TokenInMovetext.{game_of, or_else, with_items}
-use Rattle.pgn_game.specs.Pass.{counting, reading_under}
+use Rattle.pgn_game.specs.Pass.{IsAlike, counting, reading_under, with_missing}
 use Rattle.pgn_game.proofs.refusals.RefusalsByStage.{name_refusal, test_failed}
 use Rattle.pgn_game.proofs.refusals.RefusalsInMovetext.{marker_whole, other_if, score_of}
-
--- the same profile, but for a missing Result
-abbrev with_missing : Profile → Missing → Profile
-with_missing q missing = record { tags = q.tags; depth = q.depth; mode = q.mode; missing_result = missing }
 
 -- One row of the table depends on a missing Result, and only at a marker.
 other_alike : (text : List ℕ) (part : Part) (k : Kind) → (marker_of k ≡ None) ⊎ (marker_of k ≡ Some text)
@@ -47,10 +43,6 @@ pub refusal_counting : (q : Profile) (text : List ℕ) (part : Part) (k : Kind) 
 refusal_counting q text part k takes known =
     table_alike q (counts_as text) takes_the_marker part k (other_alike text part k known)
     ∙ ap (λ (missing : Missing). refusal (with_missing q missing) part k) (sym takes)
-
-pub rejected_under : (q : Profile) (text : List ℕ) (part : Part) (k : Kind) (reason : Reason) → q.missing_result ≡ takes_the_marker
-    → (marker_of k ≡ None) ⊎ (marker_of k ≡ Some text) → refusal (counting q text) part k ≡ Some reason → refusal q part k ≡ Some reason
-rejected_under q text part k reason takes known is = sym (refusal_counting q text part k takes known) ∙ is
 
 -- A marker is rejected in a pair, and finishes the game elsewhere.
 -- a score has a byte that no name has
@@ -129,31 +121,29 @@ leads_under q r (whole g) Finished same h =
     record { agrees = agrees_under q r no_part same h.agrees; pairs = h.pairs; plies = h.plies; position = h.position; probed = h.probed }
 
 -- the same pairs are tried for a token
-tries_under : (q : Profile) (text : List ℕ) (part : Part) (k : Kind) (n : ℕ) → refusal (counting q text) part k ≡ refusal q part k
-    → Tries (counting q text) part k n → Tries q part k n
-tries_under q text part k n same h = record {
+tries_under : (q p : Profile) (part : Part) (k : Kind) (n : ℕ) → refusal p part k ≡ refusal q part k → p.mode ≡ q.mode → Tries p part k n → Tries q part k n
+tries_under q p part k n same mode h = record {
   found = h.found;
   finds = h.finds;
   writes =
       subst (λ (o : Option Reason). CostsUnlessRefused o q.mode (depth (levels_of_part part)) (position_in part) (added part (next part k)) h.found n) same
-      h.writes;
+      (subst (λ (m : Mode). CostsUnlessRefused (refusal p part k) m (depth (levels_of_part part)) (position_in part) (added part (next part k)) h.found n) mode h.writes);
 }
 
 -- A token that the reader accepts is accepted under q too. This says nothing of what is written.
-pub accepted_under : (q : Profile) (text : List ℕ) (part : Part) (k : Kind) (old new : ReaderState) (accepted : Accepted) (a c : Option (List ℕ))
-    → q.missing_result ≡ takes_the_marker → old.profile ≡ counting q text → new.profile ≡ old.profile
-    → (marker_of k ≡ None) ⊎ (marker_of k ≡ Some text) → IsAccepted old part k new accepted a c
+pub accepted_under : (q : Profile) (part : Part) (k : Kind) (old new : ReaderState) (accepted : Accepted) (a c : Option (List ℕ))
+    → IsAlike q old.profile → new.profile ≡ old.profile → refusal old.profile part k ≡ refusal q part k → IsAccepted old part k new accepted a c
     → IsAccepted (reading_under q old) part k (reading_under q new) accepted None None
-accepted_under q text part k old new accepted a c takes counts kept known h =
-    let same = refusal_counting q text part k takes known in
+accepted_under q part k old new accepted a c alike kept same h =
+    let mode : old.profile.mode ≡ q.mode = ap (λ (p : Profile). p.mode) alike.1 in
     record {
-      free = sym same ∙ ap (λ (p : Profile). refusal p part k) (sym counts) ∙ h.free;
-      leads = leads_under q new (next part k) accepted (ap (λ (p : Profile). p.mode) (sym (kept ∙ counts))) h.leads;
+      free = sym same ∙ h.free;
+      leads = leads_under q new (next part k) accepted (sym (ap (λ (p : Profile). p.mode) kept ∙ mode)) h.leads;
       plies = h.plies;
       appended = tt;
       tried = record {
         tried = h.tried.tried;
-        allowed = tries_under q text part k h.tried.tried same (subst (λ (p : Profile). Tries p part k h.tried.tried) counts h.tried.allowed);
+        allowed = tries_under q old.profile part k h.tried.tried same mode h.tried.allowed;
         most = h.tried.most;
       };
     }

@@ -12,9 +12,9 @@ use Rattle.pgn_game.specs.FaultTable.{refusal, is_end}
 use Rattle.pgn_game.specs.Progress.{Next, going, whole, next, Progress, progress_with, progress_after, Read, read}
 use Rattle.pgn_game.specs.Text.{game_text, torn}
 use Rattle.pgn_game.specs.Due.{gain, text_next}
-use Rattle.pgn_game.specs.ReaderState.{ReaderState, is_outside_the_table}
+use Rattle.pgn_game.specs.ReaderState.{ReaderState, as_written, is_outside_the_table}
 use Rattle.pgn_game.specs.Checked.{Mark, is_other}
-use Rattle.pgn_game.specs.Pass.{AfterRead, AfterStep, AfterWrite, HasMatched, HasGiven, HasMarked, IsCounting, IsGoing, IsTold, LeadsTo, Pass, ReadsSoFar, TokenFails, WritesGameSoFar, WritesSoFar, as_changed, changed_reason, counting, model_mark, part_after, rejects, torn_after}
+use Rattle.pgn_game.specs.Pass.{AfterRead, AfterStep, AfterWrite, HasMatched, HasGiven, HasMarked, IsAlike, IsGoing, IsTold, LeadsTo, Pass, ReadsSoFar, TokenFails, WritesGameSoFar, WritesSoFar, as_changed, changed_reason, counting, model_mark, part_after, rejects, torn_after, with_missing}
 use Rattle.pgn_game.specs.Pass as pass
 use Rattle.pgn_game.proofs.tokens.NextGrows.{next_is}
 use Rattle.pgn_game.proofs.tokens.OneMoreToken.{read-passes}
@@ -105,9 +105,9 @@ torn_grows q m given t to clear free leads =
     ∙ ap (λ (b : Progress). torn p b.part) (sym (games_going q given t to clear free leads))
 
 -- a profile that counts a missing Result as the mark that was told
-told_profile : (q p : Profile) (m : CodeMark) → IsCounting q p → p.missing_result ≡ counts_as (marker_text m.marker) → p ≡ counting q (marker_text m.marker)
-told_profile q p m (text, is) told =
-    is ∙ ap (λ (x : Missing). record { tags = q.tags; depth = q.depth; mode = q.mode; missing_result = x }) (ap (λ (p : Profile). p.missing_result) (sym is) ∙ told)
+told_profile : (q p : Profile) (m : CodeMark) → IsAlike q p → p.missing_result ≡ counts_as (marker_text m.marker) → p ≡ counting q (marker_text m.marker)
+told_profile q p m (missing, is) told =
+    is ∙ ap (with_missing q) (ap (λ (p : Profile). p.missing_result) (sym is) ∙ told)
 
 same_marker : (q : Profile) (part : Part) (m : CodeMark) (t : Token) (g : Game) → rejects (Some m) q part t ≡ false → next part t.kind ≡ whole g → g.marker ≡ marker_text m.marker
 same_marker q part m t g same leads =
@@ -130,9 +130,9 @@ module _ (q : Profile) (left_old left_now left_new : Option (List ℕ)) (ms : Li
   clear = so.has_given.has_read.passes
 
   -- what was appended with this token
-  with_gain : (profile : Profile) (t : Token) → profile ≡ p → Appends c d (gain profile (part_after q so.tokens) t.kind)
+  with_gain : (profile : Profile) (t : Token) → profile ≡ p → Appends c d (gain (as_written profile) (part_after q so.tokens) t.kind)
       → Appends a d (torn_after q m so.tokens ++ gain p (part_after q so.tokens) t.kind)
-  with_gain profile t is wrote = Appends-trans a c d _ _ so.appended (subst (λ x. Appends c d (gain x (part_after q so.tokens) t.kind)) is wrote)
+  with_gain profile t is wrote = Appends-trans a c d _ _ so.appended (subst (λ x. Appends c d (gain (as_written x) (part_after q so.tokens) t.kind)) is wrote)
 
   with_none : Appends c d [] → Appends a d (torn_after q m so.tokens)
   with_none wrote = subst (Appends a d) (append-nil (torn_after q m so.tokens)) (Appends-trans a c d _ _ so.appended wrote)
@@ -180,8 +180,8 @@ module _ (q : Profile) (left_old left_now left_new : Option (List ℕ)) (ms : Li
       (pass.StopsWithin.differs t comes (ap (λ (o : Option Reason). is_some o || is_other (model_mark m) (next (part_after q so.tokens) t.kind) t) some) (with_none wrote))
   stops_within profile_is f t comes (pass.other differs told wrote) = pass.StopsWithin.differs t comes differs (with_none wrote)
   stops_within profile_is f t comes (pass.unwritten same (n, short, wrote)) =
-      pass.StopsWithin.unwritten t comes same n (subst (λ x. n < length (gain x (part_after q so.tokens) t.kind)) profile_is short)
-      (Appends-trans a c d _ _ so.appended (subst (λ x. Appends c d (take n (gain x (part_after q so.tokens) t.kind))) profile_is wrote))
+      pass.StopsWithin.unwritten t comes same n (subst (λ x. n < length (gain (as_written x) (part_after q so.tokens) t.kind)) profile_is short)
+      (Appends-trans a c d _ _ so.appended (subst (λ x. Appends c d (take n (gain (as_written x) (part_after q so.tokens) t.kind))) profile_is wrote))
 
   pub write_fault : (f : Fault) → IsTold (Some m) new.reading → AfterStep q left_old left_new (Some m) so.tokens new (Err f) c d
       → AfterWrite q left_old left_new ms m given new (Err (as_changed f)) a d
@@ -201,9 +201,7 @@ told_pass m s =
     }
 
 pub told_going : (m : CodeMark) (s : Pass) → IsGoing s → IsGoing (told_pass m s)
-told_going m s small =
-    let h = small.sound in
-    record { sound = record { count = h.count; few = h.few; few_plies = h.few_plies; fewer_plies = h.fewer_plies; between = h.between; no_fault = h.no_fault }; room = small.room }
+told_going m s small = record { few = small.few; few_plies = small.few_plies; room = small.room }
 
 pub write_none : (q : Profile) (left_old left : Option (List ℕ)) (ms : List Mark) (m : CodeMark) (given : List Token) (s : Pass) (o : Option (List ℕ)) → HasGiven q left_old left s given
     → part_after q given ≡ no_part → HasMatched q ms given (model_mark m ∷ []) → WritesSoFar q left_old left ms m given (told_pass m s) o o
@@ -216,7 +214,7 @@ write_none q left_old left ms m given s o has between matched =
         stands = has.stands;
         counted = has.counted;
         has_read = has.has_read;
-        profile = (marker_text m.marker, ap (λ (p : Profile). counting p (marker_text m.marker)) has.profile.1);
+        profile = (counts_as (marker_text m.marker), ap (λ (p : Profile). counting p (marker_text m.marker)) has.profile.1);
       };
       matched = matched;
       no_game = refl;

@@ -21,7 +21,7 @@ use Rattle.pgn_game.specs.Progress.{Next, going, whole, next}
 use Rattle.pgn_game.specs.MostTried.{Raises}
 use Rattle.pgn_game.specs.ReaderState.{Agrees, IsAccepted, ReaderState}
 use Rattle.pgn_game.specs.ConverterCalls.{HasRead}
-use Rattle.pgn_game.specs.Pass.{AfterTake, AfterToken, ComesNext, HasGiven, IsCounting, LeadsTo, Pass, StandsIn, TakeFails, TakesKind, TakesToken, as_converter, games_with, part_after, reading_under, refused}
+use Rattle.pgn_game.specs.Pass.{AfterTake, AfterToken, ComesNext, HasGiven, IsAlike, LeadsTo, Pass, StandsIn, TakeFails, TakesKind, TakesToken, as_converter, games_with, part_after, reading_under, refused}
 use Rattle.pgn_game.proofs.tokens.AcceptedToConverter.{follows_first, has_read_game, has_read_more, lexical-refusal, still_none}
 use Rattle.pgn_game.proofs.tokens.StepsAtEnd.{Left, Nearer, is_the_end, left_by, let_go, nearer_by, tokens_left}
 use Rattle.pgn_game.proofs.tokens.StepsInPiece.{whole_piece}
@@ -136,7 +136,7 @@ game_leads part t m (whole g) is h = not_the_end part t.kind g is
 
 -- What was taken.
 module _ (q : Profile) (left_old left_now : Option (List ℕ)) (told : Option CodeMark) (given : List Token) (t : Token) (old new : Pass) (a c : Option (List ℕ))
-    (has_read : HasRead q (as_converter q old) given) (profile : IsCounting q new.reading.profile) (came : Came left_old left_now new.lexer new.unused new.has_ended given t) where
+    (has_read : HasRead q (as_converter q old) given) (profile : IsAlike q new.reading.profile) (came : Came left_old left_now new.lexer new.unused new.has_ended given t) where
   abbrev part : Part
   part = part_after q given
 
@@ -197,7 +197,7 @@ module _ (q : Profile) (left_old left_now : Option (List ℕ)) (told : Option Co
   taken (Err f) fails games = record { token = t; comes = came.comes; profile = profile; fails = fails }
 
 -- The reader agrees with the part under its own profile too.
-agrees_back : (q : Profile) (r : ReaderState) (part : Part) → IsCounting q r.profile → Agrees (reading_under q r) part → Agrees r part
+agrees_back : (q : Profile) (r : ReaderState) (part : Part) → IsAlike q r.profile → Agrees (reading_under q r) part → Agrees r part
 agrees_back q r part (text, is) agrees = agrees_under r.profile (reading_under q r) part (ap (λ (p : Profile). p.mode) is) agrees
 
 -- a lexer does not show in what was read
@@ -209,7 +209,7 @@ read_alike q s l unused given h =
 module _ (q : Profile) (left_old left_now : Option (List ℕ)) (told : Option CodeMark) (given : List Token) (s : Pass) (l : Standing) (takes : q.missing_result ≡ takes_the_marker)
     (has : HasGiven q left_old left_now s given) where
   reads : (t : Token) (r : ReaderState) (result : Result Taken Fault) (a c : Option (List ℕ)) → TakesKind told t.kind t.at s.reading r result a c
-      → IsCounting q r.profile × AfterToken q (part_after q given) told t s.reading r result a c
+      → IsAlike q r.profile × AfterToken q (part_after q given) told t s.reading r result a c
   reads t r result a c h = h q (part_after q given) takes has.profile (agrees_back q s.reading (part_after q given) has.profile has.has_read.agrees)
 
   -- Where the source has ended.

@@ -13,6 +13,7 @@ pub loop-mark-init : goal.loop-mark-init
 loop-mark-init g c =
     record {
       first_going = c.new-ahead.ensures.going;
+      first_under = c.new-ahead.ensures.under;
       second_going = c.new-behind.ensures.going;
       first = refl;
       second = refl;
@@ -59,6 +60,7 @@ loop-mark-preserved g c =
     c.in_ok-write_game.ensures.writes q _ x.second_tokens (x.marks ++ mark ∷ []) refl x.second_given x.between (matched_mark q x.marks mark x.second_tokens x.matched) in
     record {
       first_going = goes_on.0;
+      first_under = goes_on.2;
       second_going = second.goes_on;
       first = c.in_ok-mark.ensures.counted ∙ so.first;
       second = c.in_ok-write_game.ensures.counted.0 ∙ so.second;
@@ -101,7 +103,7 @@ pub new-behind-requires : goal.new-behind-requires
 new-behind-requires g c = (search pass_alike, c.requires.levels)
 
 pub read_game-requires : goal.read_game-requires
-read_game-requires g c = (search pass_alike, search rules)
+read_game-requires g c = (search pass_alike, (c.loop-mark.invariant.first_going, c.loop-mark.invariant.first_under))
 
 pub write_game-requires : goal.write_game-requires
 write_game-requires g c = (search pass_alike, search rules)

@@ -7,114 +7,71 @@ use Rattle.pgn_game.specs.Markers.{marker_text}
 use Rattle.pgn_game.specs.Pass.{IsTold, LeavesReader, games_with, marks_differ}
 use Rattle.pgn_game.proofs.pairs.ValuesByName.{no_value}
 use Rattle.pgn_game.proofs.tokens.StepsAtEnd.{marker_or_end}
-use Rattle.pgn_game.proofs.twice.AcceptedToTaken.{agrees_set, counting_new, fails, fails_at_end, fails_marks, taken_end, taken_game, taken_more, with_marker}
+use Rattle.pgn_game.proofs.twice.AcceptedToTaken.{alike_new, fails, fails_at_end, fails_marks, taken_end, taken_game, taken_more}
 use Rattle.pgn_game.proofs.twice.MarkAfterToken.{counts_taking, leaves, stays_told}
 use Rattle.pgn_game.proofs.ReaderFitsInMemory.{reader_alike}
 use Rattle.pgn_game.proofs.checked.take_token.Goals as goal
 use Rattle.pgn_game.proofs.checked.take_token.Given.{Over}
-use Rattle.pgn_game.proofs.checked.take_token.Goals.{in-Some, in_default, After-accept}
+use Rattle.pgn_game.proofs.checked.take_token.Goals.{After-accept}
 
 -- behind the reader's answer
 module _ (g : Over) (c : After-accept g) where
-  set_is : c.match-marker.reader ≡ with_marker c.of-marker.result c.args.reader.now
-  set_is =
-      let old = c.args.reader.now in
-      elim c.match-marker.branch [
-        | in-Some w ↦ w.reader-is ∙ w.count_missing_result_as.ensures ∙ ap (λ o. with_marker o old) (sym w.in-Some.is)
-        | in_default w ↦ w.reader-is ∙ ap (λ o. with_marker o old) (sym w.in_default.is)
-      ]
-
-  marker_is : c.match-marker.marker ≡ c.of-marker.result
-  marker_is = elim c.match-marker.branch [ in-Some w ↦ w.marker-is ∙ sym w.in-Some.is | in_default w ↦ w.marker-is ]
-
   same_mark : marks_differ c.args.told c.of-marker.result c.args.at ≡ false
   same_mark = sym c.marks_differ.ensures ∙ c.if-marks_differ.false
 
   under : IsTold c.args.told c.accept.new.self
-  under = stays_told c.args.told c.of-marker.result c.args.at c.args.reader.now c.match-marker.reader c.accept.new.self set_is c.accept.ensures.profile same_mark c.requires.told
+  under = stays_told c.args.told c.args.reader.now c.accept.new.self c.accept.ensures.profile c.requires.told
 
   left : (n : ℕ) (taken : Taken) → n ≡ games_with taken c.args.games.now → LeavesReader c.args.told c.args.reader.now c.accept.new.self c.args.games.now n taken
-  left n taken =
-      leaves c.args.told c.of-marker.result c.args.at c.args.reader.now c.match-marker.reader c.accept.new.self set_is c.accept.ensures.profile same_mark c.requires.told
-      c.args.games.now n taken c.accept.ensures.plies
+  left n taken = leaves c.args.told c.args.reader.now c.accept.new.self c.accept.ensures.profile c.requires.told c.args.games.now n taken c.accept.ensures.plies
 
 pub returns-then-marks_differ-clause-takes : goal.returns-then-marks_differ-clause-takes
-returns-then-marks_differ-clause-takes g c q part takes counts agrees = (
-  counts,
+returns-then-marks_differ-clause-takes g c q part takes alike agrees = (
+  alike,
   rw c.differs.ensures
-      (fails_marks q part c.args.told c.args.at (kind_of c.args.kind) c.of-marker.result c.args.reader.now (with_marker c.of-marker.result c.args.reader.now) c.args.reader.now None None takes counts agrees
-      c.of-marker.ensures refl _ (sym c.marks_differ.ensures ∙ c.if-marks_differ.true)),
+      (fails_marks q part c.args.told c.args.at (kind_of c.args.kind) c.of-marker.result c.args.reader.now c.args.reader.now None None takes alike c.of-marker.ensures _
+      (sym c.marks_differ.ensures ∙ c.if-marks_differ.true)),
 )
 
 pub returns-in-Err-clause-takes : goal.returns-in-Err-clause-takes
-returns-in-Err-clause-takes g c q part takes counts agrees =
-    let old = c.args.reader.now in
-    let m = c.of-marker.result in
-    let path = (goal.at.returns-in-Err-clause-takes g c).After-accept in
-    let set = set_is g path in
-    let here = agrees_set q part c.args.told c.args.at (kind_of c.args.kind) m old c.match-marker.reader c.accept.new.self (g.W.Sink.taken c.args.out.now) (g.W.Sink.taken c.accept.new.out) takes counts agrees c.of-marker.ensures set in
-    let same = same_mark g path in (
-      counting_new q part c.args.told c.args.at (kind_of c.args.kind) m old c.match-marker.reader c.accept.new.self (g.W.Sink.taken c.args.out.now) (g.W.Sink.taken c.accept.new.out) takes counts agrees c.of-marker.ensures set c.accept.ensures.profile,
-      fails q part c.args.told c.args.at (kind_of c.args.kind) m old c.match-marker.reader c.accept.new.self (g.W.Sink.taken c.args.out.now) (g.W.Sink.taken c.accept.new.out) takes counts agrees c.of-marker.ensures set c.in-Err.reason same c.accept.ensures.profile (c.in-Err.ensures.accepts part here),
+returns-in-Err-clause-takes g c q part takes alike agrees =
+    let same = same_mark g (goal.at.returns-in-Err-clause-takes g c).After-accept in (
+      alike_new q part c.args.told c.args.at (kind_of c.args.kind) c.of-marker.result c.args.reader.now c.accept.new.self (g.W.Sink.taken c.args.out.now) (g.W.Sink.taken c.accept.new.out) takes alike c.of-marker.ensures c.accept.ensures.profile,
+      fails q part c.args.told c.args.at (kind_of c.args.kind) c.of-marker.result c.args.reader.now c.accept.new.self (g.W.Sink.taken c.args.out.now) (g.W.Sink.taken c.accept.new.out) takes alike c.of-marker.ensures c.requires.told same c.accept.ensures.profile c.in-Err.reason (c.in-Err.ensures.accepts part agrees),
     )
 
-pub returns-in-Some-marker-clause-takes : goal.returns-in-Some-marker-clause-takes
-returns-in-Some-marker-clause-takes g c q part takes counts agrees =
-    let old = c.args.reader.now in
-    let m = c.of-marker.result in
-    let path = (goal.at.returns-in-Some-marker-clause-takes g c).After-accept in
-    let set = set_is g path in
-    let mk = marker_is g path in
-    let here = agrees_set q part c.args.told c.args.at (kind_of c.args.kind) m old c.match-marker.reader c.accept.new.self (g.W.Sink.taken c.args.out.now) (g.W.Sink.taken c.accept.new.out) takes counts agrees c.of-marker.ensures set in
-    let same = same_mark g path in (
-      counting_new q part c.args.told c.args.at (kind_of c.args.kind) m old c.match-marker.reader c.accept.new.self (g.W.Sink.taken c.args.out.now) (g.W.Sink.taken c.accept.new.out) takes counts agrees c.of-marker.ensures set c.accept.ensures.profile,
-      taken_game q part c.args.told c.args.at (kind_of c.args.kind) m old c.match-marker.reader c.accept.new.self (g.W.Sink.taken c.args.out.now) (g.W.Sink.taken c.accept.new.out) takes counts agrees c.of-marker.ensures set c.in-Some-marker.marker c.in_default-accept.field-0 (sym mk ∙ c.in-Some-marker.is) same c.accept.ensures.profile (c.in_default-accept.ensures.accepts part here),
+pub returns-in-Some-clause-takes : goal.returns-in-Some-clause-takes
+returns-in-Some-clause-takes g c q part takes alike agrees =
+    let same = same_mark g (goal.at.returns-in-Some-clause-takes g c).After-accept in (
+      alike_new q part c.args.told c.args.at (kind_of c.args.kind) c.of-marker.result c.args.reader.now c.accept.new.self (g.W.Sink.taken c.args.out.now) (g.W.Sink.taken c.accept.new.out) takes alike c.of-marker.ensures c.accept.ensures.profile,
+      taken_game q part c.args.told c.args.at (kind_of c.args.kind) c.of-marker.result c.args.reader.now c.accept.new.self (g.W.Sink.taken c.args.out.now) (g.W.Sink.taken c.accept.new.out) takes alike c.of-marker.ensures c.requires.told same c.accept.ensures.profile c.in-Some.marker c.in_default.field-0 c.in-Some.is (c.in_default.ensures.accepts part agrees),
     )
 
 pub returns-then-not-is_end-clause-takes : goal.returns-then-not-is_end-clause-takes
-returns-then-not-is_end-clause-takes g c q part takes counts agrees =
-    let old = c.args.reader.now in
-    let m = c.of-marker.result in
-    let path = (goal.at.returns-then-not-is_end-clause-takes g c).After-accept in
-    let set = set_is g path in
-    let mk = marker_is g path in
-    let here = agrees_set q part c.args.told c.args.at (kind_of c.args.kind) m old c.match-marker.reader c.accept.new.self (g.W.Sink.taken c.args.out.now) (g.W.Sink.taken c.accept.new.out) takes counts agrees c.of-marker.ensures set in (
-      counting_new q part c.args.told c.args.at (kind_of c.args.kind) m old c.match-marker.reader c.accept.new.self (g.W.Sink.taken c.args.out.now) (g.W.Sink.taken c.accept.new.out) takes counts agrees c.of-marker.ensures set c.accept.ensures.profile,
-      taken_more q part c.args.told c.args.at (kind_of c.args.kind) m old c.match-marker.reader c.accept.new.self (g.W.Sink.taken c.args.out.now) (g.W.Sink.taken c.accept.new.out) takes counts agrees c.of-marker.ensures set c.in_default-accept.field-0 (sym mk ∙ c.in_default-marker.is) (sym c.is_end.ensures ∙ c.if-not-is_end.true) c.accept.ensures.profile (c.in_default-accept.ensures.accepts part here),
+returns-then-not-is_end-clause-takes g c q part takes alike agrees =
+    let same = same_mark g (goal.at.returns-then-not-is_end-clause-takes g c).After-accept in (
+      alike_new q part c.args.told c.args.at (kind_of c.args.kind) c.of-marker.result c.args.reader.now c.accept.new.self (g.W.Sink.taken c.args.out.now) (g.W.Sink.taken c.accept.new.out) takes alike c.of-marker.ensures c.accept.ensures.profile,
+      taken_more q part c.args.told c.args.at (kind_of c.args.kind) c.of-marker.result c.args.reader.now c.accept.new.self (g.W.Sink.taken c.args.out.now) (g.W.Sink.taken c.accept.new.out) takes alike c.of-marker.ensures c.requires.told same c.accept.ensures.profile c.in_default.field-0 c.in_default-marker.is (sym c.is_end.ensures ∙ c.if-not-is_end.true) (c.in_default.ensures.accepts part agrees),
     )
 
 pub returns-then-is_some-clause-takes : goal.returns-then-is_some-clause-takes
-returns-then-is_some-clause-takes g c q part takes counts agrees =
-    let old = c.args.reader.now in
-    let m = c.of-marker.result in
-    let path = (goal.at.returns-then-is_some-clause-takes g c).After-accept in
-    let set = set_is g path in
-    let mk = marker_is g path in
-    let here = agrees_set q part c.args.told c.args.at (kind_of c.args.kind) m old c.match-marker.reader c.accept.new.self (g.W.Sink.taken c.args.out.now) (g.W.Sink.taken c.accept.new.out) takes counts agrees c.of-marker.ensures set in (
-      counting_new q part c.args.told c.args.at (kind_of c.args.kind) m old c.match-marker.reader c.accept.new.self (g.W.Sink.taken c.args.out.now) (g.W.Sink.taken c.accept.new.out) takes counts agrees c.of-marker.ensures set c.accept.ensures.profile,
-      rw c.differs-then-is_some.ensures (fails_at_end q part c.args.told c.args.at (kind_of c.args.kind) m old c.match-marker.reader c.accept.new.self (g.W.Sink.taken c.args.out.now) (g.W.Sink.taken c.accept.new.out) takes counts agrees c.of-marker.ensures set c.in_default-accept.field-0 (sym mk ∙ c.in_default-marker.is) (sym c.is_end.ensures ∙ c.if-not-is_end.false) (sym c.is_some.ensures ∙ c.if-is_some.true) (c.in_default-accept.ensures.accepts part here)),
+returns-then-is_some-clause-takes g c q part takes alike agrees =
+    let same = same_mark g (goal.at.returns-then-is_some-clause-takes g c).After-accept in (
+      alike_new q part c.args.told c.args.at (kind_of c.args.kind) c.of-marker.result c.args.reader.now c.accept.new.self (g.W.Sink.taken c.args.out.now) (g.W.Sink.taken c.accept.new.out) takes alike c.of-marker.ensures c.accept.ensures.profile,
+      rw c.differs-then-is_some.ensures
+          (fails_at_end q part c.args.told c.args.at (kind_of c.args.kind) c.of-marker.result c.args.reader.now c.accept.new.self (g.W.Sink.taken c.args.out.now) (g.W.Sink.taken c.accept.new.out) takes alike c.of-marker.ensures c.requires.told same c.accept.ensures.profile c.in_default.field-0 c.in_default-marker.is (sym c.is_end.ensures ∙ c.if-not-is_end.false) (sym c.is_some.ensures ∙ c.if-is_some.true) (c.in_default.ensures.accepts part agrees)),
     )
 
 pub returns-clause-takes : goal.returns-clause-takes
-returns-clause-takes g c q part takes counts agrees =
-    let old = c.args.reader.now in
-    let m = c.of-marker.result in
-    let path = (goal.at.returns-clause-takes g c).After-accept in
-    let set = set_is g path in
-    let mk = marker_is g path in
-    let here = agrees_set q part c.args.told c.args.at (kind_of c.args.kind) m old c.match-marker.reader c.accept.new.self (g.W.Sink.taken c.args.out.now) (g.W.Sink.taken c.accept.new.out) takes counts agrees c.of-marker.ensures set in (
-      counting_new q part c.args.told c.args.at (kind_of c.args.kind) m old c.match-marker.reader c.accept.new.self (g.W.Sink.taken c.args.out.now) (g.W.Sink.taken c.accept.new.out) takes counts agrees c.of-marker.ensures set c.accept.ensures.profile,
-      taken_end q part c.args.told c.args.at (kind_of c.args.kind) m old c.match-marker.reader c.accept.new.self (g.W.Sink.taken c.args.out.now) (g.W.Sink.taken c.accept.new.out) takes counts agrees c.of-marker.ensures set c.in_default-accept.field-0 (sym mk ∙ c.in_default-marker.is) (sym c.is_end.ensures ∙ c.if-not-is_end.false) (no_value c.args.told (sym c.is_some.ensures ∙ c.if-is_some.false)) c.accept.ensures.profile (c.in_default-accept.ensures.accepts part here),
+returns-clause-takes g c q part takes alike agrees =
+    let same = same_mark g (goal.at.returns-clause-takes g c).After-accept in (
+      alike_new q part c.args.told c.args.at (kind_of c.args.kind) c.of-marker.result c.args.reader.now c.accept.new.self (g.W.Sink.taken c.args.out.now) (g.W.Sink.taken c.accept.new.out) takes alike c.of-marker.ensures c.accept.ensures.profile,
+      taken_end q part c.args.told c.args.at (kind_of c.args.kind) c.of-marker.result c.args.reader.now c.accept.new.self (g.W.Sink.taken c.args.out.now) (g.W.Sink.taken c.accept.new.out) takes alike c.of-marker.ensures c.requires.told same c.accept.ensures.profile c.in_default.field-0 c.in_default-marker.is (sym c.is_end.ensures ∙ c.if-not-is_end.false) (no_value c.args.told (sym c.is_some.ensures ∙ c.if-is_some.false)) (c.in_default.ensures.accepts part agrees),
     )
 
-pub returns-in-Some-marker-clause-behind : goal.returns-in-Some-marker-clause-behind
-returns-in-Some-marker-clause-behind g c =
-    let mk = marker_is g (goal.at.returns-in-Some-marker-clause-behind g c).After-accept in
-    marker_or_end (kind_of c.args.kind)
-    (ap is_some (sym c.of-marker.ensures ∙ ap (option_map marker_text) (sym mk ∙ c.in-Some-marker.is)))
-
-pub count_missing_result_as-requires : goal.count_missing_result_as-requires
-count_missing_result_as-requires g c = search reader_alike
+pub returns-in-Some-clause-behind : goal.returns-in-Some-clause-behind
+returns-in-Some-clause-behind g c =
+    marker_or_end (kind_of c.args.kind) (ap is_some (sym c.of-marker.ensures ∙ ap (option_map marker_text) c.in-Some.is))
 
 pub accept-requires : goal.accept-requires
 accept-requires g c = (search reader_alike, (search rules, search rules))
@@ -147,14 +104,14 @@ returns-in-Err-clause-counted g c =
 pub overflow_add-games : goal.overflow_add-games
 overflow_add-games g c = omega (arith, c.requires.few.1)
 
-pub returns-in-Some-marker-clause-under : goal.returns-in-Some-marker-clause-under
-returns-in-Some-marker-clause-under g c = under g (goal.at.returns-in-Some-marker-clause-under g c).After-accept
+pub returns-in-Some-clause-under : goal.returns-in-Some-clause-under
+returns-in-Some-clause-under g c = under g (goal.at.returns-in-Some-clause-under g c).After-accept
 
-pub returns-in-Some-marker-clause-leaves : goal.returns-in-Some-marker-clause-leaves
-returns-in-Some-marker-clause-leaves g c = left g (goal.at.returns-in-Some-marker-clause-leaves g c).After-accept _ _ refl
+pub returns-in-Some-clause-leaves : goal.returns-in-Some-clause-leaves
+returns-in-Some-clause-leaves g c = left g (goal.at.returns-in-Some-clause-leaves g c).After-accept _ _ refl
 
-pub returns-in-Some-marker-clause-counted : goal.returns-in-Some-marker-clause-counted
-returns-in-Some-marker-clause-counted g c = c.in_default-accept.ensures.counted
+pub returns-in-Some-clause-counted : goal.returns-in-Some-clause-counted
+returns-in-Some-clause-counted g c = c.in_default.ensures.counted
 
 pub returns-then-not-is_end-clause-under : goal.returns-then-not-is_end-clause-under
 returns-then-not-is_end-clause-under g c = under g (goal.at.returns-then-not-is_end-clause-under g c).After-accept
@@ -166,7 +123,7 @@ pub returns-then-not-is_end-clause-behind : goal.returns-then-not-is_end-clause-
 returns-then-not-is_end-clause-behind g c = sym c.is_end.ensures ∙ c.if-not-is_end.true
 
 pub returns-then-not-is_end-clause-counted : goal.returns-then-not-is_end-clause-counted
-returns-then-not-is_end-clause-counted g c = c.in_default-accept.ensures.counted
+returns-then-not-is_end-clause-counted g c = c.in_default.ensures.counted
 
 pub returns-then-is_some-clause-under : goal.returns-then-is_some-clause-under
 returns-then-is_some-clause-under g c = under g (goal.at.returns-then-is_some-clause-under g c).After-accept
@@ -178,7 +135,7 @@ pub returns-then-is_some-clause-behind : goal.returns-then-is_some-clause-behind
 returns-then-is_some-clause-behind g c = tt
 
 pub returns-then-is_some-clause-counted : goal.returns-then-is_some-clause-counted
-returns-then-is_some-clause-counted g c = rw c.differs-then-is_some.ensures c.in_default-accept.ensures.counted
+returns-then-is_some-clause-counted g c = rw c.differs-then-is_some.ensures c.in_default.ensures.counted
 
 pub returns-clause-under : goal.returns-clause-under
 returns-clause-under g c = under g (goal.at.returns-clause-under g c).After-accept
@@ -190,4 +147,4 @@ pub returns-clause-behind : goal.returns-clause-behind
 returns-clause-behind g c = tt
 
 pub returns-clause-counted : goal.returns-clause-counted
-returns-clause-counted g c = c.in_default-accept.ensures.counted
+returns-clause-counted g c = c.in_default.ensures.counted

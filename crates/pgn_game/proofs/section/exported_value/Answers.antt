@@ -4,7 +4,8 @@ use Rattle.std.proofs.lemmas.Bool.{false≢true}
 use Rattle.pgn_game.proofs.Words.{Mode, Reduced, value_of}
 use Rattle.pgn_game.specs.contracts.mode.Mode as mode
 use denote.Enum.Bare.{sameb, same_true}
-use Rattle.pgn_game.specs.Markers.{marker_text}
+use Rattle.pgn_game.specs.Markers.{missing_of}
+use Rattle.pgn_game.specs.Profile.{known_result}
 use Rattle.pgn_game.specs.TagSection.{roster, exported}
 use Rattle.pgn_game.proofs.pairs.ExportedValues.{exported_either, exported_none}
 use Rattle.pgn_game.proofs.pairs.ValuesByName.{either_of}
@@ -26,32 +27,32 @@ returns-then-eq c =
     let name = c.args.name.now in
     let none = none_copied c.unknown_value-unknown.result c.is_none.result c.is_none.ensures c.if-is_none.true in
     let reduced : c.args.mode ≡ Reduced = same_true mode.the_type (search rules) _ _ (sym c.eq.ensures ∙ c.if-eq.true) in
-    sym (ap (λ (m : Mode). value_of (exported m (marker_text c.args.missing_result) held) name) reduced ∙ exported_none (marker_text c.args.missing_result) held name (sym c.unknown_value-unknown.ensures.value ∙ none))
+    sym (ap (λ (m : Mode). value_of (exported m (known_result (missing_of c.args.missing_result)) held) name) reduced ∙ exported_none (known_result (missing_of c.args.missing_result)) held name (sym c.unknown_value-unknown.ensures.value ∙ none))
 
 pub returns-in-Some : goal.returns-in-Some
 returns-in-Some c =
     let held = c.args.pairs.now in
     let name = c.args.name.now in
-    let other : value_of (roster (marker_text c.args.missing_result)) name ≡ None → c.args.mode ≡ Reduced → ⊥ = λ none reduced.
+    let other : value_of (roster (known_result (missing_of c.args.missing_result))) name ≡ None → c.args.mode ≡ Reduced → ⊥ = λ none reduced.
     elim c.else-is_none.branch [
       | else-is_none-via-then-is_none+else-eq w ↦
           let same : false ≡ sameb mode.the_type Reduced Reduced = subst (λ (m : Mode). false ≡ sameb mode.the_type m Reduced) reduced (sym w.if-eq.false ∙ w.eq.ensures) in false≢true same
       | else-is_none-via-else-is_none w ↦
           some_copied c.unknown_value-unknown.result c.is_none.result c.is_none.ensures w.if-is_none.false (c.unknown_value-unknown.ensures.value ∙ none)
     ] in
-    sym (exported_either c.args.mode (marker_text c.args.missing_result) held name other
-    ∙ ap (λ o. either_of o (value_of (roster (marker_text c.args.missing_result)) name)) (sym c.in-Some.ensures.value))
+    sym (exported_either c.args.mode (known_result (missing_of c.args.missing_result)) held name other
+    ∙ ap (λ o. either_of o (value_of (roster (known_result (missing_of c.args.missing_result))) name)) (sym c.in-Some.ensures.value))
 
 pub returns-in-None : goal.returns-in-None
 returns-in-None c =
     let held = c.args.pairs.now in
     let name = c.args.name.now in
-    let other : value_of (roster (marker_text c.args.missing_result)) name ≡ None → c.args.mode ≡ Reduced → ⊥ = λ none reduced.
+    let other : value_of (roster (known_result (missing_of c.args.missing_result))) name ≡ None → c.args.mode ≡ Reduced → ⊥ = λ none reduced.
     elim c.else-is_none.branch [
       | else-is_none-via-then-is_none+else-eq w ↦
           let same : false ≡ sameb mode.the_type Reduced Reduced = subst (λ (m : Mode). false ≡ sameb mode.the_type m Reduced) reduced (sym w.if-eq.false ∙ w.eq.ensures) in false≢true same
       | else-is_none-via-else-is_none w ↦
           some_copied c.unknown_value-unknown.result c.is_none.result c.is_none.ensures w.if-is_none.false (c.unknown_value-unknown.ensures.value ∙ none)
     ] in
-    sym (exported_either c.args.mode (marker_text c.args.missing_result) held name other
-    ∙ ap (λ o. either_of o (value_of (roster (marker_text c.args.missing_result)) name)) (sym c.in-None.ensures.value) ∙ sym c.unknown_value-unknown.ensures.value)
+    sym (exported_either c.args.mode (known_result (missing_of c.args.missing_result)) held name other
+    ∙ ap (λ o. either_of o (value_of (roster (known_result (missing_of c.args.missing_result))) name)) (sym c.in-None.ensures.value) ∙ sym c.unknown_value-unknown.ensures.value)

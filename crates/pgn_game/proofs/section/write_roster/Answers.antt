@@ -4,7 +4,8 @@ use Rattle.std.proofs.lemmas.List.{take_all}
 use Rattle.std.specs.Io.KnownBytes.{Appends}
 use Rattle.pgn_layout.specs.Device.{AppendsFront, one_more}
 use Rattle.pgn_layout.specs.TagLine.{tag_line}
-use Rattle.pgn_game.specs.Markers.{marker_text}
+use Rattle.pgn_game.specs.Markers.{missing_of}
+use Rattle.pgn_game.specs.Profile.{known_result}
 use Rattle.pgn_game.specs.Pairs.{Pair, value_of}
 use Rattle.pgn_game.specs.SectionLines.{roster_line, text_by}
 use Rattle.pgn_game.specs.TagSection.{roster}
@@ -35,7 +36,7 @@ returns-in_err-write_tag g c =
     let p = err_from_is_err_and c.from_residual.result c.from_residual.ensures.1 in
     rw p.1
     (record {
-      written = front_of_line (marker_text c.args.missing_result) c.args.pairs.now c.loop-index.index c.roster_pair.result.0.now c.roster_pair.result.1.now c.value_or-value.result.now _ _ _
+      written = front_of_line (known_result (missing_of c.args.missing_result)) c.args.pairs.now c.loop-index.index c.roster_pair.result.0.now c.roster_pair.result.1.now c.value_or-value.result.now _ _ _
           c.roster_pair.ensures.pair c.value_or-value.ensures.value c.loop-index.invariant.1 c.in_err-write_tag.ensures.text;
       counted = c.in_err-write_tag.ensures.counted ∙ ap one_more c.loop-index.invariant.0;
     })
@@ -43,14 +44,14 @@ returns-in_err-write_tag g c =
 pub loop-index-preserved : goal.loop-index-preserved
 loop-index-preserved g c = (
   c.in_ok-write_tag.ensures.counted ∙ c.loop-index.invariant.0,
-  next_line (marker_text c.args.missing_result) c.args.pairs.now c.loop-index.index c.roster_pair.result.0.now c.roster_pair.result.1.now c.value_or-value.result.now _ _ _
+  next_line (known_result (missing_of c.args.missing_result)) c.args.pairs.now c.loop-index.index c.roster_pair.result.0.now c.roster_pair.result.1.now c.value_or-value.result.now _ _ _
       c.roster_pair.ensures.pair c.value_or-value.ensures.value c.loop-index.invariant.1 c.in_ok-write_tag.ensures.text,
 )
 
 pub returns : goal.returns
 returns g c =
     let held = c.args.pairs.now in
-    let all : take c.loop-index.index (roster (marker_text c.args.missing_result)) ≡ roster (marker_text c.args.missing_result) = take_all c.loop-index.index (roster (marker_text c.args.missing_result)) (omega (arith, seven (marker_text c.args.missing_result), c.loop-index-test.false)) in
+    let all : take c.loop-index.index (roster (known_result (missing_of c.args.missing_result))) ≡ roster (known_result (missing_of c.args.missing_result)) = take_all c.loop-index.index (roster (known_result (missing_of c.args.missing_result))) (omega (arith, seven (known_result (missing_of c.args.missing_result)), c.loop-index-test.false)) in
     record {
       written = subst (λ ps. Appends (g.W.Sink.taken c.args.out.now) (g.W.Sink.taken c.loop-index.out) (text_by (roster_line held) ps)) all c.loop-index.invariant.1;
       counted = c.loop-index.invariant.0;

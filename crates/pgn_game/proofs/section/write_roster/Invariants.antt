@@ -1,6 +1,7 @@
 use Rattle.std.proofs.Common.{◌≡◌, take}
 use Rattle.std.specs.Io.KnownBytes.{Appends}
-use Rattle.pgn_game.specs.Markers.{marker_text}
+use Rattle.pgn_game.specs.Markers.{missing_of}
+use Rattle.pgn_game.specs.Profile.{known_result}
 use Rattle.pgn_game.specs.SectionLines.{roster_line, text_by}
 use Rattle.pgn_game.specs.TagSection.{roster}
 use Rattle.pgn_game.proofs.section.write_roster.Given as goal
@@ -8,4 +9,4 @@ use Rattle.pgn_game.proofs.section.write_roster.Given as goal
 abbrev pub invariant-loop-index : goal.invariant-loop-index
 invariant-loop-index g l =
     (g.W.Sink.failures l.out ≡ g.W.Sink.failures l.fn.out)
-    × Appends (g.W.Sink.taken l.fn.out) (g.W.Sink.taken l.out) (text_by (roster_line l.pairs) (take l.index (roster (marker_text l.missing_result))))
+    × Appends (g.W.Sink.taken l.fn.out) (g.W.Sink.taken l.out) (text_by (roster_line l.pairs) (take l.index (roster (known_result (missing_of l.missing_result)))))

@@ -1,19 +1,21 @@
-use Rattle.std.proofs.Common.{◌-◌, ◌≤◌, [], refl, sym, ap, subst, inl, codes, arith}
+use Rattle.std.proofs.Common.{◌-◌, ◌≤◌, [], refl, sym, ap, subst, ◌∙◌, inl, arith}
 use Rattle.std.proofs.KnownBytes.{Consumes-nil}
 use Rattle.pgn_game.specs.Progress.{no_progress}
+use Rattle.pgn_game.specs.Profile.{takes_the_marker}
 use Rattle.pgn_game.specs.Game.{no_part}
 use Rattle.pgn_game.specs.MostTried.{MostTried, none}
 use Rattle.pgn_game.specs.ReaderState.{ReaderState, Agrees, whole_plies}
 use Rattle.pgn_game.specs.Checked.{checked_profile}
 use Rattle.pgn_game.specs.Pass.{reading_under}
 use Rattle.pgn_game.proofs.ReaderFitsInMemory.{pass_fits_reader}
-use Rattle.pgn_game.proofs.tokens.SoundAtStart.{sound_at_start}
+use Rattle.pgn_game.proofs.tokens.SoundAtStart.{few_waiting}
 use Rattle.pgn_game.proofs.checked.Pass.new.Goals as goal
 
 pub returns-clause-given : goal.returns-clause-given
 returns-clause-given g c left =
     let q = checked_profile g.row.T (g.row.L - 1) c.args.mode in
-    let is = c.new-2.ensures in
+    let is = c.count_missing_result_as.ensures
+    ∙ ap (λ (r : ReaderState). record r { profile = record r.profile { missing_result = takes_the_marker } }) c.new-reader.ensures in
     record {
       bytes = [];
       consumed = Consumes-nil left;
@@ -30,11 +32,11 @@ returns-clause-given g c left =
         tried = subst (MostTried q []) (sym (ap (λ (r : ReaderState). r.most_probes) is)) (none no_progress);
         just_finished = tt;
       };
-      profile = (codes "*", ap (λ (r : ReaderState). r.profile) is);
+      profile = (takes_the_marker, ap (λ (r : ReaderState). r.profile) is);
     }
 
-pub new-requires-2 : goal.new-requires-2
-new-requires-2 g c = (search pass_fits_reader, c.requires)
+pub new-reader-requires : goal.new-reader-requires
+new-reader-requires g c = (search pass_fits_reader, c.requires)
 
 within_buffer : (0 ≤ 0) × (0 ≤ 4096)
 within_buffer = (omega arith, omega arith)
@@ -44,9 +46,21 @@ invariant_of-result g c = (within_buffer.0, within_buffer.1, refl)
 
 pub returns-clause-going : goal.returns-clause-going
 returns-clause-going g c =
-    let is = c.new-2.ensures in
+    let is = c.count_missing_result_as.ensures
+    ∙ ap (λ (r : ReaderState). record r { profile = record r.profile { missing_result = takes_the_marker } }) c.new-reader.ensures in
     let count = c.new.ensures.stands.count in
+    let few = few_waiting c.new.result in
     record {
-      sound = sound_at_start c.new.result c.new-2.result (omega (arith, count)) (ap (λ (r : ReaderState). r.earlier_plies) is) (ap (λ (r : ReaderState). r.text.plies) is);
+      few = omega (arith, few);
+      few_plies = omega (arith, few, ap (λ (r : ReaderState). r.earlier_plies) is, ap (λ (r : ReaderState). r.text.plies) is);
       room = omega (arith, count);
     }
+
+pub returns-clause-under : goal.returns-clause-under
+returns-clause-under g c =
+    let is = c.count_missing_result_as.ensures
+    ∙ ap (λ (r : ReaderState). record r { profile = record r.profile { missing_result = takes_the_marker } }) c.new-reader.ensures in
+    ap (λ (r : ReaderState). r.profile.missing_result) is
+
+pub count_missing_result_as-requires : goal.count_missing_result_as-requires
+count_missing_result_as-requires g c = search pass_fits_reader

@@ -11,6 +11,7 @@ loop-mark-preserved g c =
     let keeps = rw c.in-More.is at c.in_ok-step.ensures.keeps in
     record {
       going = keeps.going;
+      under = keeps.under;
       fewer = omega (arith, so.fewer, keeps.fewer);
       source = c.in_ok-step.ensures.counted.0 ∙ so.source;
       reads = λ q left_old given ms takes has marked.
@@ -27,7 +28,7 @@ returns-in-Game-clause-reads g c q left_old given ms takes has marked =
 pub returns-in-Game-clause-going : goal.returns-in-Game-clause-going
 returns-in-Game-clause-going g c =
     let keeps = rw c.in-Game.is at c.in_ok-step.ensures.keeps in
-    (keeps.going, omega (arith, c.loop-mark.invariant.fewer, keeps.fewer))
+    (keeps.going, omega (arith, c.loop-mark.invariant.fewer, keeps.fewer), keeps.under)
 
 pub returns-in-End-clause-reads : goal.returns-in-End-clause-reads
 returns-in-End-clause-reads g c q left_old given ms takes has marked =

@@ -2,7 +2,7 @@ use Rattle.std.proofs.Common.{◌-◌, [], arith, refl, sym, ap, subst}
 use Rattle.pgn_game.specs.Progress.{no_progress}
 use Rattle.pgn_game.specs.Game.{no_part}
 use Rattle.pgn_game.specs.MostTried.{MostTried, none}
-use Rattle.pgn_game.specs.ReaderState.{ReaderState, Agrees, whole_plies}
+use Rattle.pgn_game.specs.ReaderState.{ReaderState, Agrees, IsKnown, whole_plies}
 use Rattle.pgn_game.specs.ConverterCalls.{profile_of}
 use Rattle.pgn_game.proofs.ReaderFitsInMemory.{fits_reader}
 use Rattle.pgn_game.proofs.tokens.SoundAtStart.{sound_at_start}
@@ -31,8 +31,9 @@ new-requires g c = (search fits_reader, c.requires.levels)
 
 pub invariant_of-result : goal.invariant_of-result
 invariant_of-result g c =
-    let is = c.new.ensures in
-    sound_at_start c.begin_at.result c.new.result (omega (arith, c.begin_at.ensures.count, c.requires.place)) (ap (λ (r : ReaderState). r.earlier_plies) is) (ap (λ (r : ReaderState). r.text.plies) is)
+    let is = c.new-2.ensures in
+    sound_at_start c.new.result c.new-2.result c.new.ensures.stands.count (ap (λ (r : ReaderState). r.earlier_plies) is) (ap (λ (r : ReaderState). r.text.plies) is)
+    (subst (λ (r : ReaderState). IsKnown r.profile) (sym is) refl)
 
 pub returns-clause-not_finished : goal.returns-clause-not_finished
 returns-clause-not_finished g c = refl

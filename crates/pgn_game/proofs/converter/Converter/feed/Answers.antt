@@ -163,4 +163,4 @@ pub invariant_of-self : goal.invariant_of-self
 invariant_of-self g c =
     let kept = rw c.in-All.is at c.in_ok-used.ensures.games in
     let flag = not_just_finished _ _ (ap (λ (s : Converter). s.just_finished) c.self-2.view_is ∙ kept.1) in
-    rw (c.too_long.ensures.kept, flag) (sound_behind_fault c.self-2.inside.lexer c.self-2.inside.reader c.self-2.inside.games c.self-2.inside.is_finished c.too_long.result)
+    rw (c.too_long.ensures.kept, flag) (sound_behind_fault c.self-2.inside.lexer c.self-2.inside.reader c.self-2.inside.games c.self-2.inside.is_finished c.too_long.result c.self-2.invariant.known)

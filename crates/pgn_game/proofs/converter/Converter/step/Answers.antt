@@ -5,7 +5,7 @@ use Rattle.pgn_game.proofs.ReaderFitsInMemory.{fits_reader}
 use Rattle.pgn_lexer.specs.Standing.{waiting}
 use Rattle.pgn_lexer.specs.Stands.{first}
 use Rattle.pgn_game.specs.ConverterCalls.{Stands, Converter}
-use Rattle.pgn_game.proofs.tokens.AcceptedToConverter.{is_some_held, advances_token, took, took_none, took_fault, follows_own}
+use Rattle.pgn_game.proofs.tokens.AcceptedToConverter.{is_some_held, advances_token, took, took_none, took_fault, follows_own, written_known}
 use Rattle.pgn_game.proofs.converter.Converter.step.Goals as goal
 
 pub returns-in-NeedMore-clause-after : goal.returns-in-NeedMore-clause-after
@@ -24,7 +24,7 @@ returns-in-Token-clause-after g c p u given stands =
     rw (c.settle-outcome.ensures.outcome, c.finished_game-self-inside.ensures, c.settle-outcome.ensures.games, c.settle-outcome.ensures.fault, c.settle-outcome.ensures.outcome)
     (took p _ u given c.args.piece.now _ _ c.next-scan.follows.lender-at-none c.accept-accepted.new.self c.self.inside.is_finished _ _ c.accept-accepted.result
     here (carries u _ given here.lexer (follows_own c.args.piece.now)) ends scans.count c.accept-accepted.ensures.profile c.accept-accepted.ensures.probes
-    (c.accept-accepted.ensures.accepts _ here.has_read.agrees))
+    (written_known c.self.inside.reader.profile c.self.invariant.known) (c.accept-accepted.ensures.accepts _ here.has_read.agrees))
 
 pub returns-in-Fault-clause-after : goal.returns-in-Fault-clause-after
 returns-in-Fault-clause-after g c p u given stands =

@@ -5,6 +5,8 @@ use Rattle.pgn_lexer.specs.Stands.{HasLeft}
 use Rattle.pgn_game.proofs.tokens.StepsAtEnd.{sound_behind_fault, closes_sooner, closes, closes_fault, left_by, not_just_finished, fault_of_closed, games_of_closed, counts_closed, counts_token, nearer_by, sound_behind}
 use Rattle.pgn_game.specs.FaultTable.{is_end}
 use Rattle.pgn_game.specs.ConverterSteps.{games_after, outcome_at, none_at_end, StepAtEndAdvances}
+use Rattle.pgn_game.specs.ReaderState.{IsKnown}
+use Rattle.pgn_game.proofs.tokens.AcceptedToConverter.{written_known}
 use Rattle.pgn_game.proofs.ReaderFitsInMemory.{fits_reader}
 use Rattle.pgn_game.proofs.converter.Converter.step_at_end.Goals as goal
 
@@ -18,7 +20,7 @@ returns-in-Token-clause-after g c p u given left has_read =
     rw (c.none_at_end-closed.ensures, c.settle-outcome.ensures.fault, c.settle-outcome.ensures.games, c.settle-outcome.ensures.outcome, c.is_end-is_end.ensures, flag, ← c.self.view_is)
     (closes p _ u given _ c.finish.follows.lender-at-none c.accept-accepted.new.self c.is_ended-self-inside.result _ _ _ c.accept-accepted.result refl
     here (left_by u given _ c.finish.follows.lender-at-none _ (left_behind u given left_here)) c.accept-accepted.ensures.profile c.accept-accepted.ensures.probes
-    (c.accept-accepted.ensures.accepts _ here.agrees) c.accept-accepted.ensures.stays c.accept-accepted.ensures.finished)
+    (written_known c.self.inside.reader.profile c.self.invariant.known) (c.accept-accepted.ensures.accepts _ here.agrees) c.accept-accepted.ensures.stays c.accept-accepted.ensures.finished)
 
 pub returns-in-Token-clause-fault : goal.returns-in-Token-clause-fault
 returns-in-Token-clause-fault g c = rw c.none_at_end-closed.ensures (c.settle-outcome.ensures.fault ∙ fault_of_closed c.is_end-is_end.result c.settle-outcome.result)
@@ -52,7 +54,8 @@ invariant_of-self-in-Token g c =
     rw (c.is_ended-self-inside.ensures, c.none_at_end-closed.ensures, c.settle-outcome.ensures.fault, c.settle-outcome.ensures.games, c.settle-outcome.ensures.outcome, c.is_end-is_end.ensures, flag)
     (sound_behind c.self.inside.lexer c.finish.follows.lender-at-none c.self.inside.reader c.accept-accepted.new.self c.self.inside.games c.in-Token.token.at _ _ c.accept-accepted.result refl
     (nearer_by _ c.self.inside.lexer c.finish.follows.lender-at-none _ gives) c.accept-accepted.ensures.finished
-    (c.self.invariant.count none) (c.self.invariant.few none) (c.self.invariant.fewer_plies none not_over) c.accept-accepted.ensures.plies)
+    (c.self.invariant.count none) (c.self.invariant.few none) (c.self.invariant.fewer_plies none not_over) c.accept-accepted.ensures.plies
+    (subst IsKnown (sym c.accept-accepted.ensures.profile) c.self.invariant.known))
 
 pub accept-accepted-requires : goal.accept-accepted-requires
 accept-accepted-requires g c =
@@ -115,4 +118,4 @@ invariant_of-self g c = absurd (rw c.in-NeedMore.is at c.finish.follows.holds-at
 pub invariant_of-self-in-Fault : goal.invariant_of-self-in-Fault
 invariant_of-self-in-Fault g c =
     let flag = not_just_finished _ _ (ap (λ (s : Converter). s.just_finished) c.self.view_is ∙ c.requires.none_just_finished) in
-    rw (c.fail.ensures.kept, flag) (sound_behind_fault c.finish.follows.lender-at-none c.self.inside.reader c.self.inside.games c.self.inside.is_finished c.lexical.result)
+    rw (c.fail.ensures.kept, flag) (sound_behind_fault c.finish.follows.lender-at-none c.self.inside.reader c.self.inside.games c.self.inside.is_finished c.lexical.result c.self.invariant.known)

@@ -4,7 +4,7 @@ use Rattle.std.proofs.lemmas.Bool.{false≢true}
 use Rattle.std.proofs.lemmas.Result.{err_from_is_err_and}
 use Rattle.pgn_layout.specs.declared.sink.WriteFault.{WriteFault}
 use Rattle.pgn_layout.specs.Device.{Device, WritesText, device}
-use Rattle.pgn_game.proofs.Words.{Stage, AfterTags, InMovetext, Pair, counts_as, known_result}
+use Rattle.pgn_game.proofs.Words.{Stage, AfterTags, InMovetext, Pair, known_result}
 use Rattle.pgn_game.specs.TagSection.{tag_section}
 use Rattle.pgn_game.specs.StoredPairs.{TagPairs}
 use Rattle.pgn_game.specs.ReaderState.{ReaderState, AreSound}
@@ -25,22 +25,17 @@ no_name : (most : ℕ) (stage : Stage) (tags : TagPairs) → stage ≡ AfterTags
 no_name most stage tags at = subst (λ (s : Stage). AreSound most s tags) at
 
 -- The section is that of the reader, whose fields are `held`.
-module _ (old held : ReaderState) (pairs : List Pair) (d : Device) (is : held ≡ old) (at : old.stage ≡ AfterTags) (same : pairs ≡ held.tags.held)
-    (known : held.profile.missing_result ≡ counts_as (known_result held.profile.missing_result)) where
+module _ (old held : ReaderState) (pairs : List Pair) (d : Device) (is : held ≡ old) (at : old.stage ≡ AfterTags) (same : pairs ≡ held.tags.held) where
   section_is : tag_section held.profile.mode (known_result held.profile.missing_result) pairs ≡ section_due_of old
   section_is =
       ap (λ ps. tag_section held.profile.mode (known_result held.profile.missing_result) ps) same
       ∙ ap (λ (r : ReaderState). section_due AfterTags r.profile.mode (known_result r.profile.missing_result) r.tags.held) is
       ∙ ap (λ s. section_due s old.profile.mode (known_result old.profile.missing_result) old.tags.held) (sym at)
 
-  still_known : old.profile.missing_result ≡ counts_as (known_result old.profile.missing_result)
-  still_known = subst (λ (r : ReaderState). r.profile.missing_result ≡ counts_as (known_result r.profile.missing_result)) is known
-
   fails : (f : WriteFault) → WritesText {A = Unit} d (Err f) (tag_section held.profile.mode (known_result held.profile.missing_result) pairs) → BeginsText {A = Unit} old old (Err f) d
   fails f writes = record {
     text = rw (sym section_is) writes.written;
     begun = tt;
-    known = still_known;
     profile = refl;
     earlier = refl;
     plies = refl;
@@ -53,7 +48,6 @@ module _ (old held : ReaderState) (pairs : List Pair) (d : Device) (is : held �
   begins writes = record {
     text = rw (sym section_is) writes.written;
     begun = ap (λ (r : ReaderState). record r { stage = InMovetext }) is;
-    known = still_known;
     profile = ap (λ (r : ReaderState). r.profile) is;
     earlier = ap (λ (r : ReaderState). r.earlier_plies) is;
     plies = ap (λ (r : ReaderState). r.text.plies) is;
@@ -76,19 +70,18 @@ invariant_of-self g c =
 
 pub returns-then-is_in_movetext : goal.returns-then-is_in_movetext
 returns-then-is_in_movetext g c =
-    let known = subst (λ (r : ReaderState). r.profile.missing_result ≡ counts_as (known_result r.profile.missing_result)) c.self.view_is refl in
     let d = device g.W.Sink.taken g.W.Sink.failures c.args.out.now c.args.out.now in
-    record { begins = begun_before c.args.self.now d (c.is_in_movetext.ensures.0 c.if-is_in_movetext.true) known (Appends-nil _) refl }
+    record { begins = begun_before c.args.self.now d (c.is_in_movetext.ensures.0 c.if-is_in_movetext.true) (Appends-nil _) refl }
 
 pub returns-in_err-write_section : goal.returns-in_err-write_section
 returns-in_err-write_section g c =
     let old = c.args.self.now in
     let p = err_from_is_err_and c.from_residual.result c.from_residual.ensures.1 in
     let at = after_tags old.stage c.requires.stage (λ e. false≢true (sym c.if-is_in_movetext.false ∙ c.is_in_movetext.ensures.1 e)) in
-    rw p.1 (record { begins = fails old _ c.pairs.result.now _ c.self.view_is at c.pairs.ensures refl _ c.in_err-write_section.ensures })
+    rw p.1 (record { begins = fails old _ c.pairs.result.now _ c.self.view_is at c.pairs.ensures _ c.in_err-write_section.ensures })
 
 pub returns : goal.returns
 returns g c =
     let old = c.args.self.now in
     let at = after_tags old.stage c.requires.stage (λ e. false≢true (sym c.if-is_in_movetext.false ∙ c.is_in_movetext.ensures.1 e)) in
-    record { begins = begins old _ c.pairs.result.now _ c.self.view_is at c.pairs.ensures refl c.in_ok-write_section.ensures }
+    record { begins = begins old _ c.pairs.result.now _ c.self.view_is at c.pairs.ensures c.in_ok-write_section.ensures }

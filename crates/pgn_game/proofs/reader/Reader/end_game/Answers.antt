@@ -6,11 +6,11 @@ use Rattle.pgn_layout.specs.Device.{AppendsFront, one_more}
 use Rattle.pgn_layout.specs.Layout.{Put, EndGame, text_at, line_at}
 use Rattle.pgn_lexer.specs.Scanned.{kind_of}
 use Rattle.pgn_lexer.specs.declared.token.TokenKind.{TokenKind}
-use Rattle.pgn_game.proofs.Words.{MarkerInVariation, ResultDiffers, Pair, value_of, Part, counts_as}
-use Rattle.pgn_game.specs.Markers.{marker_text}
+use Rattle.pgn_game.proofs.Words.{MarkerInVariation, ResultDiffers, Pair, value_of, Part}
+use Rattle.pgn_game.specs.Markers.{marker_text, missing_of}
 use Rattle.pgn_game.specs.Levels.{depth}
 use Rattle.pgn_game.specs.StoredPairs.{TagPairs}
-use Rattle.pgn_game.specs.FaultTable.{levels_of_part, marker_of}
+use Rattle.pgn_game.specs.FaultTable.{levels_of_part, marker_of, result_for}
 use Rattle.pgn_game.specs.TokenInMovetext.{IsOpen, text_refusal}
 use Rattle.pgn_game.specs.ReaderState.{ReaderState}
 use Rattle.pgn_game.proofs.ReaderFitsInMemory.{reader_alike}
@@ -28,7 +28,7 @@ module _ (old : ReaderState) (part : Part) (is : IsOpen old part) where
       → differs missing (value_of part.pairs (codes "Result")) text ≡ test
   tested missing text test e = ap (λ (ps : List Pair). differs missing (value_of ps (codes "Result")) text) (sym (ap (λ (t : TagPairs). t.held) is.pairs)) ∙ e
 
-passes : (old : ReaderState) (k : TokenKind) (missing text : List ℕ) → length old.text.levels.around ≡ 0 → old.profile.missing_result ≡ counts_as missing
+passes : (old : ReaderState) (k : TokenKind) (missing text : List ℕ) → length old.text.levels.around ≡ 0 → result_for old.profile.missing_result text ≡ missing
     → differs missing (value_of old.tags.held (codes "Result")) text ≡ false → marker_of (kind_of k) ≡ Some text → (part : Part) → IsOpen old part
     → text_refusal old.profile part (kind_of k) ≡ None
 passes old k missing text none known test is part op = marker_free old (kind_of k) missing text part is (sym (depth_is old part op) ∙ none) known (tested old part op missing text false test)
@@ -46,11 +46,11 @@ returns-then-ne g c = λ k is.
     let old = c.args.self.now in
     let v = c.self.view_is in
     let text = marker_text c.args.marker in
-    let missing = marker_text c.self.inside.missing_result in
-    let known = sym (ap (λ (r : ReaderState). r.profile.missing_result) v) in
+    let missing = result_for (missing_of c.self.inside.missing_result) text in
+    let known = sym (ap (λ (r : ReaderState). result_for r.profile.missing_result text) v) in
     let same_text = ap (λ (m : List ℕ). not (bytes_eq m c.unwrap_or.result.now)) c.text.ensures.text in
     let test = test_of c.self.inside.tags.held c.value.result _ c.unwrap_or.result missing text true old.tags.held (ap (λ (r : ReaderState). r.tags.held) v)
-    c.value.ensures.value c.text-missing.ensures.text c.unwrap_or.ensures (sym c.if-ne.true ∙ c.ne.ensures ∙ same_text) in
+    c.value.ensures.value c.text_at-missing.ensures.text c.unwrap_or.ensures (sym c.if-ne.true ∙ c.ne.ensures ∙ same_text) in
     entry_refused old (kind_of k) ResultDiffers _ _ refl (λ part op.
     marker_differs old (kind_of k) missing text part is
     (omega (arith, c.if-depth-gt0.false, c.depth.ensures.value, depth_is old part op, ap (λ (r : ReaderState). length r.text.levels.around) v)) known
@@ -68,28 +68,28 @@ returns-in_err-begin_movetext g c =
     let old = c.args.self.now in
     let v = c.self.view_is in
     let text = marker_text c.args.marker in
-    let missing = marker_text c.self.inside.missing_result in
+    let missing = result_for (missing_of c.self.inside.missing_result) text in
     let none : length old.text.levels.around ≡ 0 = omega (arith, c.if-depth-gt0.false, c.depth.ensures.value, ap (λ (r : ReaderState). length r.text.levels.around) v) in
     let same_text = ap (λ (m : List ℕ). not (bytes_eq m c.unwrap_or.result.now)) c.text.ensures.text in
     let test = test_of c.self.inside.tags.held c.value.result _ c.unwrap_or.result missing text false old.tags.held (ap (λ (r : ReaderState). r.tags.held) v)
-    c.value.ensures.value c.text-missing.ensures.text c.unwrap_or.ensures (sym c.if-ne.false ∙ c.ne.ensures ∙ same_text) in
+    c.value.ensures.value c.text_at-missing.ensures.text c.unwrap_or.ensures (sym c.if-ne.false ∙ c.ne.ensures ∙ same_text) in
     let p = err_from_is_err_and c.from_residual.result c.from_residual.ensures.1 in
     let begins = c.in_err-begin_movetext.ensures.begins in
     rw (p.1 ∙ ap Err p.2)
     (λ k is.
     takes_marker old _ k c.args.marker _ _ (ends_unbegun old _ c.args.marker c.in_err-begin_movetext.field-0.0 _ c.requires begins) tt begins.probes is
-    (passes old k missing text none (sym (ap (λ (r : ReaderState). r.profile.missing_result) v)) test is))
+    (passes old k missing text none (sym (ap (λ (r : ReaderState). result_for r.profile.missing_result text) v)) test is))
 
 pub returns-in_err-put : goal.returns-in_err-put
 returns-in_err-put g c =
     let old = c.args.self.now in
     let v = c.self.view_is in
     let text = marker_text c.args.marker in
-    let missing = marker_text c.self.inside.missing_result in
+    let missing = result_for (missing_of c.self.inside.missing_result) text in
     let none : length old.text.levels.around ≡ 0 = omega (arith, c.if-depth-gt0.false, c.depth.ensures.value, ap (λ (r : ReaderState). length r.text.levels.around) v) in
     let same_text = ap (λ (m : List ℕ). not (bytes_eq m c.unwrap_or.result.now)) c.text.ensures.text in
     let test = test_of c.self.inside.tags.held c.value.result _ c.unwrap_or.result missing text false old.tags.held (ap (λ (r : ReaderState). r.tags.held) v)
-    c.value.ensures.value c.text-missing.ensures.text c.unwrap_or.ensures (sym c.if-ne.false ∙ c.ne.ensures ∙ same_text) in
+    c.value.ensures.value c.text_at-missing.ensures.text c.unwrap_or.ensures (sym c.if-ne.false ∙ c.ne.ensures ∙ same_text) in
     let p = err_from_is_err_and c.from_residual-in_err-put.result c.from_residual-in_err-put.ensures.1 in
     let begins = begins_as old _ _ _ c.self-2.view_is c.in_ok-begin_movetext.ensures.begins in
     let front = front_of_more (g.W.Sink.taken c.begin_movetext.new.out) (g.W.Sink.taken c.put.new.out) _ (text_at (line_at c.self-2.inside.line (Put c.text-2.result.now)) EndGame) c.in_err-put.ensures.text in
@@ -97,18 +97,18 @@ returns-in_err-put g c =
     (λ k is.
     takes_marker old _ k c.args.marker _ _
     (ends_ill old _ _ c.args.marker _ _ _ _ _ _ _ (record { begins = begins; outside = none_around old.text.levels.around none; spells = c.text-2.ensures.text; at = c.requires }) front refl c.in_err-put.ensures.counted) tt begins.probes is
-    (passes old k missing text none (sym (ap (λ (r : ReaderState). r.profile.missing_result) v)) test is))
+    (passes old k missing text none (sym (ap (λ (r : ReaderState). result_for r.profile.missing_result text) v)) test is))
 
 pub returns-in_err-end_game : goal.returns-in_err-end_game
 returns-in_err-end_game g c =
     let old = c.args.self.now in
     let v = c.self.view_is in
     let text = marker_text c.args.marker in
-    let missing = marker_text c.self.inside.missing_result in
+    let missing = result_for (missing_of c.self.inside.missing_result) text in
     let none : length old.text.levels.around ≡ 0 = omega (arith, c.if-depth-gt0.false, c.depth.ensures.value, ap (λ (r : ReaderState). length r.text.levels.around) v) in
     let same_text = ap (λ (m : List ℕ). not (bytes_eq m c.unwrap_or.result.now)) c.text.ensures.text in
     let test = test_of c.self.inside.tags.held c.value.result _ c.unwrap_or.result missing text false old.tags.held (ap (λ (r : ReaderState). r.tags.held) v)
-    c.value.ensures.value c.text-missing.ensures.text c.unwrap_or.ensures (sym c.if-ne.false ∙ c.ne.ensures ∙ same_text) in
+    c.value.ensures.value c.text_at-missing.ensures.text c.unwrap_or.ensures (sym c.if-ne.false ∙ c.ne.ensures ∙ same_text) in
     let p = err_from_is_err_and c.from_residual-in_err-end_game.result c.from_residual-in_err-end_game.ensures.1 in
     let begins = begins_as old _ _ _ c.self-2.view_is c.in_ok-begin_movetext.ensures.begins in
     let held = c.in_ok-put.ensures.line in
@@ -119,21 +119,21 @@ returns-in_err-end_game g c =
     takes_marker old _ k c.args.marker _ _
     (ends_ill old _ _ c.args.marker _ _ _ _ _ _ _ (record { begins = begins; outside = none_around old.text.levels.around none; spells = c.text-2.ensures.text; at = c.requires }) front refl
     (c.in_err-end_game.ensures.counted ∙ ap one_more c.in_ok-put.ensures.counted)) tt begins.probes is
-    (passes old k missing text none (sym (ap (λ (r : ReaderState). r.profile.missing_result) v)) test is))
+    (passes old k missing text none (sym (ap (λ (r : ReaderState). result_for r.profile.missing_result text) v)) test is))
 
 pub returns : goal.returns
 returns g c = λ k is.
     let old = c.args.self.now in
     let v = c.self.view_is in
     let text = marker_text c.args.marker in
-    let missing = marker_text c.self.inside.missing_result in
+    let missing = result_for (missing_of c.self.inside.missing_result) text in
     let none : length old.text.levels.around ≡ 0 = omega (arith, c.if-depth-gt0.false, c.depth.ensures.value, ap (λ (r : ReaderState). length r.text.levels.around) v) in
     let same_text = ap (λ (m : List ℕ). not (bytes_eq m c.unwrap_or.result.now)) c.text.ensures.text in
     let test = test_of c.self.inside.tags.held c.value.result _ c.unwrap_or.result missing text false old.tags.held (ap (λ (r : ReaderState). r.tags.held) v)
-    c.value.ensures.value c.text-missing.ensures.text c.unwrap_or.ensures (sym c.if-ne.false ∙ c.ne.ensures ∙ same_text) in
+    c.value.ensures.value c.text_at-missing.ensures.text c.unwrap_or.ensures (sym c.if-ne.false ∙ c.ne.ensures ∙ same_text) in
     let begins = begins_as old _ _ _ c.self-2.view_is c.in_ok-begin_movetext.ensures.begins in
     let last = subst (Appends (g.W.Sink.taken c.put.new.out) (g.W.Sink.taken c.end_game.new.out)) (ap (λ (l : List ℕ). text_at l EndGame) c.in_ok-put.ensures.line) c.in_ok-end_game.ensures.text in
     takes_marker old _ k c.args.marker _ _
     (ends_well old _ _ c.args.marker _ _ _ _ _ _ _ _ (record { begins = begins; outside = none_around old.text.levels.around none; spells = c.text-2.ensures.text; at = c.requires }) c.in_ok-put.ensures.text last refl
     c.in_ok-end_game.ensures.line (c.in_ok-end_game.ensures.counted ∙ c.in_ok-put.ensures.counted)) (ap is_some is, refl) begins.probes is
-    (passes old k missing text none (sym (ap (λ (r : ReaderState). r.profile.missing_result) v)) test is)
+    (passes old k missing text none (sym (ap (λ (r : ReaderState). result_for r.profile.missing_result text) v)) test is)
