@@ -19,6 +19,7 @@ use crate::conversion::Totals;
 use crate::converter::{MAX_INPUT_LENGTH, lexical};
 use crate::marker::{Marker, MissingResult};
 use crate::mode::Mode;
+use crate::read_buffer::{READ_LENGTH, ReadBuffer};
 use crate::reader::Reader;
 use crate::reason::{Fault, Reason};
 use crate::source::Source;
@@ -108,9 +109,7 @@ enum Taken {
 /// One of the two readings: the bytes that were read and not used yet, and the game they are in.
 #[derive(Drop)]
 struct Pass<const T: usize, const L: usize> {
-    buffer: [u8; 4096],
-    start: usize,
-    end: usize,
+    buffer: ReadBuffer,
     has_ended: bool,
     lexer: Lexer,
     reader: Reader<T, L>,
@@ -118,7 +117,6 @@ struct Pass<const T: usize, const L: usize> {
 }
 
 impl<const T: usize, const L: usize> Model for Pass<T, L> {
-    ghost use Rattle.std.specs.Prelude.{◌≡◌, ◌-◌, ◌≤◌, length, take, drop};
     ghost use Rattle.pgn_game.specs.Pass.{Pass as Seen};
 
     ghost Value = { Seen };
@@ -127,11 +125,9 @@ impl<const T: usize, const L: usize> Model for Pass<T, L> {
       lexer = p.lexer;
       reading = p.reader;
       games = p.games;
-      unused = take (p.end - p.start) (drop p.start p.buffer);
+      unused = p.buffer;
       has_ended = p.has_ended;
     } };
-
-    ghost invariant = { λ p. (p.start ≤ p.end) × (p.end ≤ 4096) × (length p.buffer ≡ 4096) };
 }
 
 impl<const T: usize, const L: usize> Pass<T, L> {
@@ -146,9 +142,7 @@ impl<const T: usize, const L: usize> Pass<T, L> {
         let mut reader = Reader::new(mode);
         reader.count_missing_result_as(MissingResult::TakesTheMarker);
         Pass {
-            buffer: [0; 4096],
-            start: 0,
-            end: 0,
+            buffer: ReadBuffer::new(),
             has_ended: false,
             lexer: Lexer::new(),
             reader,
@@ -247,7 +241,7 @@ impl<const T: usize, const L: usize> Pass<T, L> {
         if self.has_ended {
             return self.take_at_end(told, out);
         }
-        if self.start < self.end {
+        if !self.buffer.unused().is_empty() {
             return self.take_in_buffer(told, out);
         }
         self.fill(source)?;
@@ -265,9 +259,8 @@ impl<const T: usize, const L: usize> Pass<T, L> {
         ensures counted { CountsTaken result (W.failures out.old) (W.failures out.new) }
     {
         tokens_rise();
-        let buffer = self.buffer.as_slice();
-        let scan = self.lexer.next(&buffer[self.start..self.end]);
-        self.start += scan.used;
+        let scan = self.lexer.next(self.buffer.unused());
+        self.buffer.skip(scan.used);
         match scan.outcome {
             Outcome::NeedMore => Ok(Taken::More),
             Outcome::Token(token) => take_token(
@@ -318,24 +311,22 @@ impl<const T: usize, const L: usize> Pass<T, L> {
     {
         let at = self.lexer.count();
         let room = MAX_INPUT_LENGTH - at;
-        match source.read_some(&mut self.buffer[..bytes_to_read(room)]) {
+        match self.buffer.fill(source, bytes_to_read(room)) {
             Err(_) => Err(Fault {
                 at,
                 reason: Reason::ReadFault,
             }),
-            Ok(0) => {
-                self.start = 0;
-                self.end = 0;
+            Ok(false) => {
                 self.has_ended = true;
                 Ok(())
             }
-            Ok(_) if room == 0 => Err(Fault {
-                at,
-                reason: Reason::InputTooLong,
-            }),
-            Ok(n) => {
-                self.start = 0;
-                self.end = n;
+            Ok(true) => {
+                if room == 0 {
+                    return Err(Fault {
+                        at,
+                        reason: Reason::InputTooLong,
+                    });
+                }
                 Ok(())
             }
         }
@@ -418,7 +409,7 @@ fn bytes_to_read(room: u64) -> usize
     if room == 0 {
         return 1;
     }
-    room.min(4096) as usize
+    room.min(READ_LENGTH as u64) as usize
 }
 
 // The fault of the second reading: its own faults show that the input has changed.

@@ -9,7 +9,7 @@ ghost use Rattle.pgn_game.specs.GamesSteps.{CountsGame, MoreResult, RestResult};
 
 use crate::converter::{Converter, Fed};
 use crate::mode::Mode;
-use crate::read_buffer::ReadBuffer;
+use crate::read_buffer::{READ_LENGTH, ReadBuffer};
 use crate::reason::Fault;
 use crate::source::Source;
 use chess_rules::Position;
@@ -246,7 +246,7 @@ fn read_more<const T: usize, const L: usize, R: Source>(
     ensures fault { KeepsFault converter.new result }
     ensures counted { Counts result (R.failures source.old) (R.failures source.new) }
 {
-    match buffer.fill(source) {
+    match buffer.fill(source, READ_LENGTH) {
         Ok(has_more) => Ok(has_more),
         Err(_) => Err(converter.keep_failed_read()),
     }

@@ -1,5 +1,5 @@
 //! The bytes that were read and are not used yet.
-ghost use Rattle.std.specs.Prelude.{◌≡◌, ◌≤◌, length, drop, []};
+ghost use Rattle.std.specs.Prelude.{◌≡◌, ◌<◌, ◌≤◌, length, drop, []};
 ghost use Rattle.pgn_layout.specs.Device.{Counts, device};
 ghost use Rattle.pgn_game.specs.GamesSteps.{FillResult};
 
@@ -7,7 +7,7 @@ use crate::source::{ReadFailed, Source};
 use std::marker::Model;
 
 /// The most bytes of one read.
-const READ_LENGTH: usize = 4096;
+pub const READ_LENGTH: usize = 4096;
 
 /// The bytes that were read and are not used yet.
 #[derive(Drop)]
@@ -61,16 +61,18 @@ impl ReadBuffer {
         self.start = self.end;
     }
 
-    /// Replaces the bytes by those of one read, and returns whether it gave any. It gives none at
-    /// the end of the source.
-    pub fn fill<R: Source>(&mut self, source: &mut R) -> Result<bool, ReadFailed>
+    /// Replaces the bytes by those of one read of at most so many, and returns whether it gave any.
+    /// It gives none at the end of the source.
+    pub fn fill<R: Source>(&mut self, source: &mut R, most: usize) -> Result<bool, ReadFailed>
+        requires some { 0 < most }
+        requires room { most ≤ 4096 }
         ensures fills { FillResult (R.left source.old) (R.left source.new) self.new result }
-        ensures fits { length self.new ≤ 4096 }
+        ensures fits { length self.new ≤ most }
         ensures counted { Counts result (R.failures source.old) (R.failures source.new) }
     {
         self.start = 0;
         self.end = 0;
-        match source.read_some(&mut self.bytes) {
+        match source.read_some(&mut self.bytes[..most]) {
             Err(_) => Err(ReadFailed),
             Ok(0) => Ok(false),
             Ok(count) => {

@@ -9,13 +9,13 @@ use Rattle.std.specs.Io.KnownBytes.{Appends}
 use Rattle.chess_rules.specs.declared.position.Move.{Move}
 use Rattle.pgn_layout.specs.declared.sink.WriteFault.{WriteFault}
 use Rattle.pgn_layout.specs.Device.{AppendsFront, Device, one_more}
-use Rattle.pgn_game.proofs.Words.{Parts, Mode, Full, Reduced, Stage, Between, AfterTags, InMovetext, Profile, Missing, counts_as, known_result, Pair, Item, Part}
+use Rattle.pgn_game.proofs.Words.{Parts, Mode, Full, Reduced, Stage, Between, AfterTags, InMovetext, Profile, known_result, Pair, Item, Part}
 use Rattle.pgn_game.specs.declared.accepted.Accepted.TheVariants.{More}
 use Rattle.pgn_game.specs.declared.reason.Reason.TheVariants as reasons
 use Rattle.pgn_game.specs.FaultTable.{is_at, stage_number}
 use Rattle.pgn_game.specs.Levels.{start_of}
 use Rattle.pgn_game.specs.TagSection.{tag_section}
-use Rattle.pgn_game.specs.Text.{is_move, full_text, torn_at, torn_for, has_move}
+use Rattle.pgn_game.specs.Text.{is_move, full_text, torn_at, has_move}
 use Rattle.pgn_game.specs.Progress.{Next, going}
 use Rattle.pgn_game.specs.Game.{move}
 use Rattle.pgn_game.specs.Movetext.{Movetext, HoldsItems}

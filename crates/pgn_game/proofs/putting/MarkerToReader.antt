@@ -13,10 +13,10 @@ use Rattle.pgn_game.specs.declared.marker.Marker.{Marker}
 use Rattle.pgn_game.specs.declared.marker.Marker.TheVariants.{WhiteWins, BlackWins, Draw, Unknown}
 use Rattle.pgn_game.specs.Markers.{marker_text}
 use Rattle.pgn_game.specs.declared.reason.Reason.TheVariants as reasons
-use Rattle.pgn_game.proofs.Words.{Mode, Stage, Between, AfterTags, InMovetext, Profile, Missing, counts_as, known_result, Pair, Item, Part}
+use Rattle.pgn_game.proofs.Words.{Mode, Stage, Between, AfterTags, InMovetext, Profile, counts_as, known_result, Pair, Item, Part}
 use Rattle.pgn_game.specs.Levels.{Level as ModelLevel, Levels as ModelLevels, depth, start_of, outermost, replayed, last_position}
 use Rattle.pgn_game.specs.TagSection.{tag_section}
-use Rattle.pgn_game.specs.FaultTable.{levels_of_part, result_for}
+use Rattle.pgn_game.specs.FaultTable.{levels_of_part}
 use Rattle.pgn_game.specs.Text.{tokens_out, full_text, torn_for}
 use Rattle.pgn_game.specs.Progress.{Next, whole}
 use Rattle.pgn_game.specs.Movetext.{StoredLevel}

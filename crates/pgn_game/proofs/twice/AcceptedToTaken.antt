@@ -1,5 +1,5 @@
 -- What the reader answers to a token, and what a reading takes.
-use Rattle.std.proofs.Common.{◌≡◌, ℕ, ◌<◌, ◌⊎◌, inl, inr, Bool, true, false, List, [], length, take, drop, Option, None, Some, Err, refl, sym, ap, subst, ◌∙◌, arith, ◌||◌, ◌==◌, bytes_eq, is_some, option_map}
+use Rattle.std.proofs.Common.{◌≡◌, ℕ, ◌<◌, inl, inr, Bool, true, false, List, [], length, take, drop, Option, None, Some, Err, refl, sym, ap, subst, ◌∙◌, arith, ◌||◌, ◌==◌, bytes_eq, is_some, option_map}
 use Rattle.std.proofs.lemmas.Bool.{and_parts, not-false}
 use Rattle.std.proofs.lemmas.Slice.Eq.{bytes_eq-Decides}
 use Rattle.std.proofs.Math.Seq.{drop-length}
@@ -20,7 +20,7 @@ use Rattle.pgn_game.specs.Progress.{going, whole, next}
 use Rattle.pgn_game.specs.ReaderState.{Answers, IsAccepted, Leads, ReaderState, as_written}
 use Rattle.pgn_game.specs.ReaderState as reader_state
 use Rattle.pgn_game.specs.Checked.{is_other}
-use Rattle.pgn_game.specs.Pass.{IsAlike, IsTold, LeadsTo, TakesToken, TokenFails, marks_differ, missing_under, model_mark, other, reading_under, refused, rejects, shows_other, unwritten, with_missing}
+use Rattle.pgn_game.specs.Pass.{IsAlike, IsTold, LeadsTo, TakesToken, TokenFails, marks_differ, missing_under, model_mark, other, refused, rejects, shows_other, unwritten, with_missing}
 use Rattle.pgn_game.proofs.tokens.StepsAtEnd.{end_at, is_the_end}
 use Rattle.pgn_game.proofs.twice.MarkerCounts.{accepted_under, marker_finishes, no_marker_goes, refusal_counting}
 

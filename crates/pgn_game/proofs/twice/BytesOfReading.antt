@@ -1,6 +1,5 @@
 -- Bytes that a reading reads, where its buffer is used up.
-use Rattle.std.proofs.Common.{◌≡◌, ℕ, ◌+◌, ◌*◌, ◌-◌, ◌<◌, ◌≤◌, Bool, true, false, List, [], ◌++◌, length, take, drop, Option, None, refl, sym, ap, subst, ◌∙◌, inl, append-nil, length-append, length-drop, length-take, length-take-le, arith, ◌^◌}
-use Rattle.std.proofs.Math.Seq.{take-append-le}
+use Rattle.std.proofs.Common.{◌≡◌, ℕ, ◌+◌, ◌*◌, ◌<◌, ◌≤◌, Bool, true, false, List, [], ◌++◌, length, Option, None, refl, sym, ap, subst, ◌∙◌, inl, append-nil, ◌^◌}
 use Rattle.std.proofs.KnownBytes.{Consumes-kept, Consumes-trans}
 use Rattle.std.specs.Io.KnownBytes.{Consumes, IsAtEnd, Keeps}
 use Rattle.pgn_lexer.specs.TokensOf.{tokens_of}
@@ -83,21 +82,6 @@ module _ (q : Profile) (left_old left left_new : Option (List ℕ)) (old new : P
           profile = profile;
         }
 
--- the bytes that are read are the buffer's first
-pub taken_front : (n : ℕ) (xs ys : List ℕ) → n ≤ length xs → take (n - 0) (drop 0 (xs ++ ys)) ≡ take n xs
-taken_front n xs ys within =
-    let all : n - 0 ≡ n = omega arith in
-    ap (λ m. take m (xs ++ ys)) all ∙ take-append-le n xs ys within
-
-front_length : (n : ℕ) (xs ys : List ℕ) → n ≤ length xs → length (take (n - 0) (drop 0 (xs ++ ys))) ≡ n
-front_length n xs ys within = ap (length {A = ℕ}) (taken_front n xs ys within) ∙ length-take-le n xs within
-
-pub front_some : (n : ℕ) (xs ys : List ℕ) → n ≤ length xs → 0 < n → 0 < length (take (n - 0) (drop 0 (xs ++ ys)))
-front_some n xs ys within some = omega (arith, front_length n xs ys within, some)
-
-pub front_fits : (place n : ℕ) (xs ys : List ℕ) → n ≤ length xs → place + n ≤ 2 ^ 62 → place + length (take (n - 0) (drop 0 (xs ++ ys))) ≤ 2 ^ 62
-front_fits place n xs ys within fits = omega (arith, front_length n xs ys within, fits)
-
 -- the counts stay as they were
 pub going_filled : (old new : Pass) → IsGoing old → new ≡ record old { unused = new.unused; has_ended = new.has_ended } → old.lexer.count + length new.unused ≤ 2 ^ 62 → IsGoing new
 going_filled old new going kept room =
@@ -111,7 +95,3 @@ going_filled old new going kept room =
 pub kept_of : (s old : Pass) (unused : List ℕ) (has_ended : Bool) → s ≡ old
     → record { lexer = s.lexer; reading = s.reading; games = s.games; unused = unused; has_ended = has_ended } ≡ record old { unused = unused; has_ended = has_ended }
 kept_of s old unused has_ended is = ap (λ (x : Pass). record { lexer = x.lexer; reading = x.reading; games = x.games; unused = unused; has_ended = has_ended }) is
-
--- The buffer is as long as before, where its first bytes are read anew.
-pub still_full : (n : ℕ) (ys xs : List ℕ) → length ys ≡ length (take n xs) → n ≤ 4096 → length xs ≡ 4096 → length (ys ++ drop n xs) ≡ 4096
-still_full n ys xs is fits full = omega (arith, length-append ys (drop n xs), length-drop n xs, length-take n xs, is, fits, full)

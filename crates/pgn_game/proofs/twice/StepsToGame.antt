@@ -6,7 +6,7 @@ use Rattle.std.proofs.KnownBytes.{Appends-nil, Appends-trans}
 use Rattle.std.specs.Io.KnownBytes.{Appends}
 use Rattle.pgn_game.specs.declared.checked.Mark.{Mark as CodeMark}
 use Rattle.pgn_game.specs.declared.checked.Taken.TheVariants.{More, Game as GameEnd, End}
-use Rattle.pgn_game.proofs.Words.{Kind, Token, Reason, ReadFault, WriteFault, Changed, Fault, Profile, Missing, counts_as, takes_the_marker, Game, Part, no_part}
+use Rattle.pgn_game.proofs.Words.{Kind, Token, Reason, ReadFault, WriteFault, Changed, Fault, Profile, counts_as, takes_the_marker, Game, Part, no_part}
 use Rattle.pgn_game.specs.Markers.{marker_text}
 use Rattle.pgn_game.specs.FaultTable.{refusal, is_end}
 use Rattle.pgn_game.specs.Progress.{Next, going, whole, next, Progress, progress_with, progress_after, Read, read}

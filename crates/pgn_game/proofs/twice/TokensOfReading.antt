@@ -1,5 +1,5 @@
 -- A token of one of two readings: what the lexer gives, and what the reader answers.
-use Rattle.std.proofs.Common.{◌≡◌, ℕ, ◌+◌, ◌-◌, ◌<◌, ◌≤◌, inl, inr, Bool, true, false, List, [], ◌∷◌, ◌++◌, length, take, drop, Option, None, Some, Result, Ok, Err, IfSome, refl, sym, ap, subst, ◌∙◌, append_assoc, append-nil, length-drop, length-take, drop_of_length-le, le_refl, arith, IfOk}
+use Rattle.std.proofs.Common.{◌≡◌, ℕ, ◌+◌, ◌-◌, ◌<◌, ◌≤◌, inl, inr, Bool, true, false, List, [], ◌∷◌, ◌++◌, length, take, drop, Option, None, Some, Result, Ok, Err, IfSome, refl, sym, ap, subst, ◌∙◌, append_assoc, append-nil, length-take, drop_of_length-le, le_refl, arith, IfOk}
 use Rattle.std.proofs.lemmas.List.{drop-drop, drop-take}
 use Rattle.std.proofs.KnownBytes.{Appends-nil}
 use Rattle.std.specs.Io.KnownBytes.{Consumes}
@@ -290,13 +290,3 @@ pub rest_of : (start end used : ℕ) (buffer : List ℕ) → used ≤ length (ta
 rest_of start end used buffer within =
     let whole : end - start ≡ used + (end - (start + used)) = omega (arith, within, length-take (end - start) (drop start buffer)) in
     sym (ap (λ n. drop used (take n (drop start buffer))) whole ∙ drop-take used (end - (start + used)) (drop start buffer) ∙ ap (take (end - (start + used))) (drop-drop used start buffer))
-
-pub none_of : (start end used : ℕ) (buffer : List ℕ) → used ≡ length (take (end - start) (drop start buffer)) → take (end - (start + used)) (drop (start + used) buffer) ≡ []
-none_of start end used buffer all =
-    let unused = take (end - start) (drop start buffer) in
-    rest_of start end used buffer (omega (arith, all)) ∙ ap (λ n. drop n unused) all ∙ drop_of_length-le unused (le_refl (length unused))
-
-pub rest_length : (start end used : ℕ) (buffer : List ℕ) → used ≤ length (take (end - start) (drop start buffer))
-    → length (take (end - (start + used)) (drop (start + used) buffer)) ≡ length (take (end - start) (drop start buffer)) - used
-rest_length start end used buffer within =
-    ap (length {A = ℕ}) (rest_of start end used buffer within) ∙ length-drop used (take (end - start) (drop start buffer))

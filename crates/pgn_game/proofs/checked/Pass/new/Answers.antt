@@ -1,5 +1,6 @@
-use Rattle.std.proofs.Common.{◌-◌, ◌≤◌, [], refl, sym, ap, subst, ◌∙◌, inl, arith}
+use Rattle.std.proofs.Common.{ℕ, ◌-◌, [], length, refl, sym, ap, subst, ◌∙◌, inl, arith}
 use Rattle.std.proofs.KnownBytes.{Consumes-nil}
+use Rattle.std.specs.Io.KnownBytes.{Consumes}
 use Rattle.pgn_game.specs.Progress.{no_progress}
 use Rattle.pgn_game.specs.Profile.{takes_the_marker}
 use Rattle.pgn_game.specs.Game.{no_part}
@@ -18,9 +19,9 @@ returns-clause-given g c left =
     ∙ ap (λ (r : ReaderState). record r { profile = record r.profile { missing_result = takes_the_marker } }) c.new-reader.ensures in
     record {
       bytes = [];
-      consumed = Consumes-nil left;
-      stands = (c.new.ensures.stands, inl refl);
-      counted = c.new.ensures.stands.count;
+      consumed = subst (Consumes left left) (sym c.new.ensures) (Consumes-nil left);
+      stands = rw c.new.ensures (c.new-2.ensures.stands, inl refl);
+      counted = c.new-2.ensures.stands.count;
       has_read = record {
         profile = refl;
         no_fault = refl;
@@ -38,22 +39,16 @@ returns-clause-given g c left =
 pub new-reader-requires : goal.new-reader-requires
 new-reader-requires g c = (search pass_fits_reader, c.requires)
 
-within_buffer : (0 ≤ 0) × (0 ≤ 4096)
-within_buffer = (omega arith, omega arith)
-
-pub invariant_of-result : goal.invariant_of-result
-invariant_of-result g c = (within_buffer.0, within_buffer.1, refl)
-
 pub returns-clause-going : goal.returns-clause-going
 returns-clause-going g c =
     let is = c.count_missing_result_as.ensures
     ∙ ap (λ (r : ReaderState). record r { profile = record r.profile { missing_result = takes_the_marker } }) c.new-reader.ensures in
-    let count = c.new.ensures.stands.count in
-    let few = few_waiting c.new.result in
+    let count = c.new-2.ensures.stands.count in
+    let few = few_waiting c.new-2.result in
     record {
       few = omega (arith, few);
       few_plies = omega (arith, few, ap (λ (r : ReaderState). r.earlier_plies) is, ap (λ (r : ReaderState). r.text.plies) is);
-      room = omega (arith, count);
+      room = omega (arith, count, ap (length {A = ℕ}) c.new.ensures);
     }
 
 pub returns-clause-under : goal.returns-clause-under

@@ -35,12 +35,3 @@ returns-in-Fault-clause-takes g c q left_old left_now given takes has =
 
 pub take_token-requires : goal.take_token-requires
 take_token-requires g c = (search pass_fits_reader, (search rules, (search rules, search rules)))
-
-pub invariant_of-self : goal.invariant_of-self
-invariant_of-self g c = (c.self.invariant.0, c.self.invariant.1, c.self.told)
-
-pub invariant_of-self-in-Token : goal.invariant_of-self-in-Token
-invariant_of-self-in-Token g c = (c.self.invariant.0, c.self.invariant.1, c.self.told)
-
-pub invariant_of-self-in-Fault : goal.invariant_of-self-in-Fault
-invariant_of-self-in-Fault g c = (c.self.invariant.0, c.self.invariant.1, c.self.told)

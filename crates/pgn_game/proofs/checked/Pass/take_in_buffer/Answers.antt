@@ -1,4 +1,5 @@
-use Rattle.std.proofs.Common.{rules, ◌≡◌, ℕ, ◌+◌, ◌-◌, ◌^◌, ◌<◌, ◌≤◌, List, length, take, drop, inl, refl, sym, ap, subst, ◌∙◌, arith, length-take, Ok}
+use Rattle.std.proofs.Common.{rules, ℕ, ◌+◌, ◌<◌, length, drop, inl, refl, sym, ap, subst, ◌∙◌, le_refl, length-drop, Ok}
+use Rattle.std.proofs.Math.ListN.{drop_of_length-le}
 use Rattle.std.proofs.KnownBytes.{Appends-nil}
 use Rattle.pgn_lexer.specs.Scanned.{kind_of}
 use Rattle.pgn_lexer.specs.Tokens.{Token}
@@ -6,7 +7,7 @@ use Rattle.pgn_game.specs.declared.checked.Taken.TheVariants.{More}
 use Rattle.pgn_game.specs.Pass.{HasGiven, IsGoing, IsTold, Pass}
 use Rattle.pgn_game.proofs.tokens.AcceptedToConverter.{follows_own}
 use Rattle.pgn_game.proofs.twice.CountsStaySmall.{games_of, going_on, keeps_by, keeps_in_buffer, small_counts}
-use Rattle.pgn_game.proofs.twice.TokensOfReading.{fails_in_buffer, in_buffer_before, more_in_buffer, none_of, rest_length, rest_of, token_in_buffer}
+use Rattle.pgn_game.proofs.twice.TokensOfReading.{fails_in_buffer, in_buffer_before, more_in_buffer, token_in_buffer}
 use Rattle.pgn_game.proofs.ReaderFitsInMemory.{pass_fits_reader}
 use Rattle.pgn_game.proofs.checked.Pass.take_in_buffer.Goals as goal
 
@@ -15,22 +16,22 @@ returns-in-NeedMore-clause-takes g c q left_old left_now given takes has =
     let here = subst (λ (x : Pass). HasGiven q left_old left_now x given) (sym c.self.view_is) has in
     let not_ended = ap (λ (x : Pass). x.has_ended) c.self.view_is ∙ c.requires.within.0 in
     let some = subst (λ (x : Pass). 0 < length x.unused) (sym c.self.view_is) c.requires.within.1 in
-    let carries = rw (c.in-NeedMore.is, c.as_slice-buffer.ensures) at c.next-scan.follows.holds-at-none.carries in
+    let carries = rw (c.in-NeedMore.is, c.unused.ensures) at c.next-scan.follows.holds-at-none.carries in
     inl (
       more_in_buffer q left_old left_now c.args.told given _ c.next-scan.follows.lender-at-none takes here not_ended c.next-scan.result.used _ some
-          (carries here.bytes _ given (in_buffer_before q left_old left_now c.args.told given _ c.next-scan.follows.lender-at-none takes here not_ended c.next-scan.result.used) (follows_own _)) (rest_of c.self.inside.start c.self.inside.end c.next-scan.result.used c.self.inside.buffer (rw c.as_slice-buffer.ensures at c.next-scan.ensures.used)),
+          (carries here.bytes _ given (in_buffer_before q left_old left_now c.args.told given _ c.next-scan.follows.lender-at-none takes here not_ended c.next-scan.result.used) (follows_own _)) c.skip.ensures,
       Appends-nil _,
     )
 
 pub returns-in-NeedMore-clause-keeps : goal.returns-in-NeedMore-clause-keeps
 returns-in-NeedMore-clause-keeps g c =
     let scans = c.next-scan.follows.holds-at-none in
-    let all = rw (c.in-NeedMore.is, c.as_slice-buffer.ensures) at scans.reads in
+    let all = rw (c.in-NeedMore.is, c.unused.ensures) at scans.reads in
     let going = subst IsGoing (sym c.self.view_is) c.requires.going in
     let under = subst (λ (x : Pass). IsTold c.args.told x.reading) (sym c.self.view_is) c.requires.told in
     let some = subst (λ (x : Pass). 0 < length x.unused) (sym c.self.view_is) c.requires.within.1 in
     keeps_by c.args.told _ _ _ (Ok More) c.self.view_is
-    (going_on c.args.told _ _ going refl refl under (none_of c.self.inside.start c.self.inside.end c.next-scan.result.used c.self.inside.buffer all.0) some
+    (going_on c.args.told _ _ going refl refl under (c.skip.ensures ∙ ap (λ n. drop n c.self.inside.buffer) all.0 ∙ drop_of_length-le c.self.inside.buffer (le_refl (length c.self.inside.buffer))) some
     (scans.count ∙ ap (λ n. c.self.inside.lexer.count + n) all.0))
 
 pub returns-in-Token-clause-takes : goal.returns-in-Token-clause-takes
@@ -38,28 +39,28 @@ returns-in-Token-clause-takes g c q left_old left_now given takes has =
     let here = subst (λ (x : Pass). HasGiven q left_old left_now x given) (sym c.self.view_is) has in
     let not_ended = ap (λ (x : Pass). x.has_ended) c.self.view_is ∙ c.requires.within.0 in
     let t : Token = record { at = c.in-Token.token.at; kind = kind_of c.in-Token.token.kind } in
-    let carries = rw (c.in-Token.is, c.as_slice-buffer.ensures) at c.next-scan.follows.holds-at-none.carries in
+    let carries = rw (c.in-Token.is, c.unused.ensures) at c.next-scan.follows.holds-at-none.carries in
     token_in_buffer q left_old left_now c.args.told given _ c.next-scan.follows.lender-at-none takes here not_ended c.next-scan.result.used c.tokens_rise.ensures
     t c.take_token.new.reader c.take_token.new.games _ c.take_token.result _ _
-    (carries here.bytes _ given (in_buffer_before q left_old left_now c.args.told given _ c.next-scan.follows.lender-at-none takes here not_ended c.next-scan.result.used) (follows_own _)) (rest_of c.self.inside.start c.self.inside.end c.next-scan.result.used c.self.inside.buffer (rw c.as_slice-buffer.ensures at c.next-scan.ensures.used))
+    (carries here.bytes _ given (in_buffer_before q left_old left_now c.args.told given _ c.next-scan.follows.lender-at-none takes here not_ended c.next-scan.result.used) (follows_own _)) c.skip.ensures
     c.take_token.ensures.takes (games_of c.args.told _ _ _ _ c.take_token.result c.take_token.ensures.leaves)
 
 pub returns-in-Token-clause-keeps : goal.returns-in-Token-clause-keeps
 returns-in-Token-clause-keeps g c =
     let scans = c.next-scan.follows.holds-at-none in
-    let within = rw c.as_slice-buffer.ensures at c.next-scan.ensures.used in
+    let within = rw c.unused.ensures at c.next-scan.ensures.used in
     let going = subst IsGoing (sym c.self.view_is) c.requires.going in
     let not_ended = ap (λ (x : Pass). x.has_ended) c.self.view_is ∙ c.requires.within.0 in
     let some = subst (λ (x : Pass). 0 < length x.unused) (sym c.self.view_is) c.requires.within.1 in
     keeps_by c.args.told _ _ _ c.take_token.result c.self.view_is
     (keeps_in_buffer c.args.told _ _ going c.take_token.result c.next-scan.result.used c.take_token.ensures.under c.take_token.ensures.leaves not_ended not_ended some within scans.count
-    (rw c.in-Token.is at scans.advances) (rest_length c.self.inside.start c.self.inside.end c.next-scan.result.used c.self.inside.buffer within))
+    (rw c.in-Token.is at scans.advances) (ap (length {A = ℕ}) c.skip.ensures ∙ length-drop c.next-scan.result.used c.self.inside.buffer))
 
 pub returns-in-Fault-clause-takes : goal.returns-in-Fault-clause-takes
 returns-in-Fault-clause-takes g c q left_old left_now given takes has =
     let here = subst (λ (x : Pass). HasGiven q left_old left_now x given) (sym c.self.view_is) has in
     let not_ended = ap (λ (x : Pass). x.has_ended) c.self.view_is ∙ c.requires.within.0 in
-    let carries = rw (c.in-Fault.is, c.as_slice-buffer.ensures) at c.next-scan.follows.holds-at-none.carries in
+    let carries = rw (c.in-Fault.is, c.unused.ensures) at c.next-scan.follows.holds-at-none.carries in
     rw c.lexical.ensures
     (fails_in_buffer q left_old left_now c.args.told given _ c.next-scan.follows.lender-at-none takes here not_ended c.next-scan.result.used c.in-Fault.fault _
     (carries here.bytes _ given (in_buffer_before q left_old left_now c.args.told given _ c.next-scan.follows.lender-at-none takes here not_ended c.next-scan.result.used) (follows_own _)))
@@ -73,49 +74,10 @@ take_token-requires g c =
 pub next-scan-requires : goal.next-scan-requires
 next-scan-requires g c =
     let going = subst IsGoing (sym c.self.view_is) c.requires.going in
-    rw c.as_slice-buffer.ensures going.room
+    rw c.unused.ensures going.room
 
--- the bytes used are within those not used yet
-up_to_end : (start end used : ℕ) (xs : List ℕ) → used ≤ length (take (end - start) (drop start xs)) → start ≤ end → start + used ≤ end
-up_to_end start end used xs within order = omega (arith, within, length-take (end - start) (drop start xs), order)
-
-pub overflow_add-self : goal.overflow_add-self
-overflow_add-self g c =
-    let within = rw c.as_slice-buffer.ensures at c.next-scan.ensures.used in
-    omega (arith, up_to_end c.self.inside.start c.self.inside.end c.next-scan.result.used c.self.inside.buffer within c.self.invariant.0, c.self.invariant.1)
-
-pub invariant_of-self : goal.invariant_of-self
-invariant_of-self g c =
-    let within = rw c.as_slice-buffer.ensures at c.next-scan.ensures.used in
-    (up_to_end c.self.inside.start c.self.inside.end c.next-scan.result.used c.self.inside.buffer within c.self.invariant.0, c.self.invariant.1, c.self.told)
-
-pub invariant_of-self-in-Token : goal.invariant_of-self-in-Token
-invariant_of-self-in-Token g c =
-    let within = rw c.as_slice-buffer.ensures at c.next-scan.ensures.used in
-    (up_to_end c.self.inside.start c.self.inside.end c.next-scan.result.used c.self.inside.buffer within c.self.invariant.0, c.self.invariant.1, c.self.told)
-
-pub invariant_of-self-in-Fault : goal.invariant_of-self-in-Fault
-invariant_of-self-in-Fault g c =
-    let within = rw c.as_slice-buffer.ensures at c.next-scan.ensures.used in
-    (up_to_end c.self.inside.start c.self.inside.end c.next-scan.result.used c.self.inside.buffer within c.self.invariant.0, c.self.invariant.1, c.self.told)
-
-fits_memory : 4096 < 2 ^ 63
-fits_memory = omega arith
-
-pub as_slice-buffer-requires : goal.as_slice-buffer-requires
-as_slice-buffer-requires g c = fits_memory
-
-pub slice_bounds-next-count : goal.slice_bounds-next-count
-slice_bounds-next-count g c = c.self.invariant.0
-
-pub slice_bounds-next-start : goal.slice_bounds-next-start
-slice_bounds-next-start g c = c.self.invariant.0
-
-in_slice : (n : ℕ) (xs ys : List ℕ) → ys ≡ xs → length xs ≡ 4096 → n ≤ 4096 → n ≤ length ys
-in_slice n xs ys is full within = omega (arith, ap (length {A = ℕ}) is, full, within)
-
-pub slice_bounds-next-end : goal.slice_bounds-next-end
-slice_bounds-next-end g c = in_slice c.self.inside.end c.self.inside.buffer c.as_slice-buffer.result.now c.as_slice-buffer.ensures c.self.told c.self.invariant.1
+pub skip-requires : goal.skip-requires
+skip-requires g c = rw c.unused.ensures at c.next-scan.ensures.used
 
 pub returns-in-NeedMore-clause-counted : goal.returns-in-NeedMore-clause-counted
 returns-in-NeedMore-clause-counted g c = refl

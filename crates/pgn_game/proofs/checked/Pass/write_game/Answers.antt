@@ -56,9 +56,6 @@ count_missing_result_as-requires g c = search pass_fits_reader
 pub step-requires : goal.step-requires
 step-requires g c = (search pass_alike, (c.loop-fault.invariant.going, c.loop-fault.invariant.under))
 
-pub invariant_of-self : goal.invariant_of-self
-invariant_of-self g c = (c.self.invariant.0, c.self.invariant.1, c.self.told)
-
 pub loop-fault-smaller : goal.loop-fault-smaller
 loop-fault-smaller g c =
     let keeps = rw c.in-Ok-More.field-0-is at c.in-Ok-More.ensures.keeps in
