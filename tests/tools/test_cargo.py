@@ -8,12 +8,13 @@ import re
 import shutil
 import signal
 import sys
+import tarfile
 import tempfile
 import unittest
 
 sys.path.insert(0, os.path.dirname(os.path.realpath(__file__)))
 import programs
-from documents import printed_by
+from documents import blocks_of, code_of, lines_of, printed_by, table
 from programs import ROOT, run
 
 # One folder for all runs, so that only the first one builds everything.
@@ -28,6 +29,17 @@ fn main() {
     let Ok(totals) = NAME(b"e4 {a word} e5 *", &mut text) else { panic!() };
     print!("{}", String::from_utf8(text).unwrap());
     assert_eq!((totals.games, totals.plies), (1, 2));
+}
+"""
+# Prints of each reason its number, and the line of a fault at byte 7, which ends in its words.
+SAMPLE_OF_REASONS = """use pgn_game::{Fault, LexReason, Reason};
+fn main() {
+    for reason in [%(values)s] {
+        let _: u8 = match reason { %(cases)s };
+        let fault = Fault { at: 7, reason };
+        assert_eq!(fault.to_string(), format!("byte 7: {reason}"));
+        println!("{}: {}", reason.number(), fault);
+    }
 }
 """
 LIBRARIES = ("chess_rules", "chess_text", "pgn_lexer", "pgn_layout", "pgn_game")
@@ -53,8 +65,8 @@ def need_cargo():
             programs.not_tried("Debian's crate librust-%s-dev is missing" % name)
 
 
-def cargo(*words):
-    env = dict(os.environ, PATH=programs.PATH, CARGO_TARGET_DIR=OUT + "/target")
+def cargo(*words, env=None):
+    env = dict(os.environ, PATH=programs.PATH, CARGO_TARGET_DIR=OUT + "/target", **(env or {}))
     return run(["cargo", *words, "--offline"], cwd=OUT, env=env, timeout=500)
 
 
@@ -106,6 +118,47 @@ class Built(unittest.TestCase):
 
     def test_the_tests_of_the_program_pass(self):
         self.check_tests("pgn_tool", 18, "*_tests", ())
+
+    def check_conditions(self, env, expected):
+        """The tests of pgn_game and of what stands below it, which are written for Cargo."""
+        words = ["test", "--package", "pgn_game", "--package", "pgn_lexer", "--package",
+                 "chess_rules", "--lib", "--tests"]
+        ran = cargo(*words, env=env)
+        said = (ran.stdout + ran.stderr).decode()
+        self.assertEqual(ran.returncode, 0, said)
+        self.assertNotIn("warning", said)
+        self.assertEqual(sum(map(int, re.findall(r"(\d+) passed; 0 failed", said))), expected)
+
+    def test_a_call_that_breaks_a_condition_panics(self):
+        files = glob.glob(ROOT + "/cargo/*/*/*.rs")
+        wanted = sum(read(it).count("#[test]") for it in files)
+        self.assertGreaterEqual(wanted, 17)
+        self.check_conditions({}, wanted)
+        # In release builds all but those of debug_assert!.
+        checked_in_debug = sum(read(it).count("#[cfg(debug_assertions)]\nfn ") for it in files)
+        self.assertEqual(checked_in_debug, 2)
+        self.check_conditions({"CARGO_PROFILE_DEV_DEBUG_ASSERTIONS": "false"},
+                              wanted - checked_in_debug)
+
+    def test_each_reason_has_the_words_of_the_fault_table(self):
+        rows = table("docs/PROFILE.md", "No", "Rejected", "Place", "In words", "Name")
+        reasons = [code_of(row[4])[0] for row in rows]
+        self.assertEqual(len(rows), 38)
+        arms = []
+        for row, name in zip(rows, reasons):
+            value = "Lexical(LexReason::%s)" % name if int(row[0]) < 20 else name
+            arms.append(value + "(_)" * (name == "BadFen"))
+        # A match with no wildcard: a reason that the table lacks is an error.
+        values = "".join("Reason::%s, " % it.replace("(_)", "(3)") for it in arms)
+        cases = "".join("Reason::%s => %d, " % (it, at) for at, it in enumerate(arms))
+        text = SAMPLE_OF_REASONS % {"values": values, "cases": cases}
+        ran = cargo("build", "--lib", *("--package=" + it for it in LIBRARIES))
+        self.assertEqual(ran.returncode, 0, ran.stderr)
+        ran = self.run_sample(text)
+        shown = [it.split(": ", 2) for it in ran.stdout.decode().splitlines()]
+        words = [row[3].strip("`").replace("field N", "field 3") for row in rows]
+        wanted = [[row[0], "byte 7", it] for row, it in zip(rows, words)]
+        self.assertEqual(shown, wanted)
 
     def test_the_program_converts_each_vector(self):
         program = built()
@@ -162,6 +215,32 @@ class Built(unittest.TestCase):
         shown = printed_by(self, "rust", self.run_sample)
         self.assertIn(b'\n[Result "*"]\n\n1. e4 { a word } 1... e5 *\n\n', shown)
 
+    def test_a_program_in_another_folder(self):
+        """The one of LIBRARY, which depends on the crates by their paths."""
+        folder = tempfile.mkdtemp()
+        self.addCleanup(shutil.rmtree, folder)
+        os.makedirs(folder + "/mine/src")
+        os.symlink(OUT, folder + "/gillspoon-cargo")
+        shutil.copytree(OUT + "/.cargo", folder + "/mine/.cargo")
+        lines = lines_of("docs/LIBRARY.md")
+        begin = lines.index("### A program of your own")
+        blocks = [it for number, _, it in blocks_of(lines) if number > begin]
+        for name, block in zip(("Cargo.toml", "src/main.rs"), blocks):
+            with open("%s/mine/%s" % (folder, name), "w", encoding="utf-8") as file:
+                file.write("\n".join(block) + "\n")
+        env = dict(os.environ, PATH=programs.PATH, CARGO_TARGET_DIR=OUT + "/dependent")
+        words = ["cargo", "run", "--offline", "--quiet", "--", "examples/two-games.pgn"]
+        words[-1] = os.path.join(ROOT, words[-1])
+        ran = run(words, cwd=folder + "/mine", env=env, timeout=300)
+        self.assertEqual((ran.returncode, ran.stderr), (0, b""))
+        shown = ran.stdout.decode().splitlines()
+        listed = run([built(), "list", "examples/two-games.pgn"]).stdout.decode().splitlines()
+        self.assertEqual(shown, ["%s plies: %s" % tuple(it.split("\t")[-2:]) for it in listed])
+        words[-1] = os.path.join(ROOT, "examples/no-such-move.pgn")
+        ran = run(words, cwd=folder + "/mine", env=env, timeout=300)
+        said = "%s: byte 77: move is not legal\n" % words[-1]
+        self.assertEqual((ran.returncode, ran.stdout, ran.stderr.decode()), (0, b"", said))
+
     def test_the_program_passes_the_tests_of_devices(self):
         env = dict(os.environ, PGN_TOOL=built())
         ran = run(["bin/test_tools", *DEVICES], env=env, timeout=500)
@@ -190,6 +269,65 @@ class Built(unittest.TestCase):
                 else:
                     self.assertEqual((answer, files), (right, whole), (words, number))
             self.assertGreaterEqual(reported, asks, words)
+
+
+class Release(unittest.TestCase):
+    """What bin/dist writes."""
+
+    def setUp(self):
+        need_cargo()
+        self.folder = tempfile.mkdtemp()
+        self.addCleanup(shutil.rmtree, self.folder)
+
+    def dist(self, script="bin/dist"):
+        out = self.folder + "/out"
+        ran = run([sys.executable, script, out], timeout=500)
+        return out, ran.returncode, ran.stdout.decode(), ran.stderr.decode()
+
+    def test_a_package_for_each_crate(self):
+        out, status, said, errors = self.dist()
+        self.assertEqual(status, 0, errors)
+        version = load("bin/to_cargo").version()
+        workspace = "%s/gillspoon-%s" % (out, version)
+        crates = os.listdir(workspace + "/crates")
+        packages = ["%s-%s.crate" % (it, version) for it in crates]
+        self.assertEqual(sorted(os.listdir(out)), sorted([*packages, "gillspoon-" + version]))
+        for name in crates:
+            with tarfile.open("%s/%s-%s.crate" % (out, name, version)) as package:
+                names = {it.split("/", 1)[1] for it in package.getnames()}
+            self.assertLessEqual({"Cargo.toml", "README.md", "LICENSE-MIT"}, names, name)
+        # nothing of this machine
+        self.assertEqual(sorted(os.listdir(workspace)),
+                         ["CHANGELOG.md", "Cargo.toml", "LICENSE-MIT", "README.md", "crates"])
+        self.assertIn("gillspoon-%s: " % version, said)
+
+    def test_the_page_of_changes_has_the_version(self):
+        version = load("bin/to_cargo").version()
+        heads = re.findall(r"^## (\S+?),? ", read(ROOT + "/CHANGELOG.md"), re.MULTILINE)
+        self.assertEqual(heads[0], version)
+        changes = load("bin/dist").check_changes
+        with self.assertRaises(SystemExit):
+            changes("# Changes\n\n## 9.8.7\n", version)
+        with self.assertRaises(SystemExit):
+            changes("# Changes\n", version)
+        changes("# Changes\n\n## %s, later\n\n## 0.0.9\n" % version, version)
+
+    def test_clippy_has_no_warning(self):
+        """But for the exceptions, each of which has its reason; without clippy these alone."""
+        write_out()
+        lines = read(OUT + "/Cargo.toml").split("[workspace.lints.clippy]\n")[1].split("\n\n")[0]
+        for line in lines.split("\n"):
+            self.assertRegex(line, r'^\w+ = "allow" # .')
+        if programs.found("cargo-clippy"):
+            ran = cargo("clippy", "--workspace", "--all-targets")
+            self.assertEqual(ran.returncode, 0, ran.stderr.decode())
+            self.assertNotIn("warning", ran.stderr.decode())
+
+    def test_the_documentation_has_no_warning(self):
+        write_out()
+        ran = cargo("doc", "--workspace", "--no-deps", "--lib")
+        self.assertEqual(ran.returncode, 0, ran.stderr)
+        self.assertNotIn(b"warning", ran.stderr)
 
 
 def load(script):
@@ -227,12 +365,14 @@ class Written(unittest.TestCase):
                     yield path, text.split("\n"), read(source)
 
     def test_lines_only_go(self):
+        """But for the assertions and the modules that are written for Cargo."""
         out, status, said = self.write()
         self.assertEqual(status, 0, said)
         count = 0
         for path, lines, source in self.pairs(out, (*LIBRARIES, "pgn_tool")):
             is_renamed = "/pgn_tool/" in path
             left = source.split("\n")
+            lines = without_added(path, lines)
             for line in lines:
                 at = [n for n, it in enumerate(left) if is_made(line, it)]
                 if not at and is_renamed and (OF_STANDARD.search(line) or not line):
@@ -325,6 +465,12 @@ class Written(unittest.TestCase):
             self.assertEqual(status, 1, said)
             self.assertIn("square.rt: not there once: self.index as usize", said)
 
+    def test_a_call_with_a_condition_that_is_not_there_once_stops_it(self):
+        copy = self.copied("crates/pgn_game/src/find.rt", "pub fn find_move(", "pub fn find(")
+        _, status, said = self.write(copy + "/bin/to_cargo")
+        self.assertEqual(status, 1, said)
+        self.assertIn("find.rt: not there once: fn find_move", said)
+
     def test_a_call_of_the_toolchain_that_is_not_understood_stops_it(self):
         version, text = "        .version(VERSION)\n", 'matches.get_str("file") {'
         self.check_stops("crates/pgn_arguments/src/arguments.rt", [
@@ -344,10 +490,10 @@ class Written(unittest.TestCase):
     def copied(self, file, old, new):
         """A copy of all that bin/to_cargo reads, with a change in one file."""
         copy = tempfile.mkdtemp(dir=self.folder)
-        names = ["bin/to_cargo", "crates.txt", "LICENSE-MIT", "cargo/README.md"]
-        for folder in ("cargo/rattle_std/*.rs", "crates/*/src/**/*.rt"):
+        names = ["bin/to_cargo", "crates.txt", "LICENSE-MIT", "CHANGELOG.md", "cargo/README.md"]
+        for folder in ("cargo/*/**/*.rs", "crates/*/src/**/*.rt"):
             found = glob.glob(os.path.join(ROOT, folder), recursive=True)
-            names += [os.path.relpath(it, ROOT) for it in found]
+            names += [os.path.relpath(it, ROOT) for it in found if not it.startswith(OUT + "/")]
         for name in names:
             os.makedirs(os.path.dirname(os.path.join(copy, name)), exist_ok=True)
             shutil.copy(os.path.join(ROOT, name), os.path.join(copy, name))
@@ -356,6 +502,29 @@ class Written(unittest.TestCase):
         with open(os.path.join(copy, file), "w", encoding="utf-8") as lines:
             lines.write(text.replace(old, new))
         return copy
+
+
+def without_added(path, lines):
+    """The lines of a file without those that bin/to_cargo adds, each of which has to be there."""
+    script = load("bin/to_cargo")
+    file = "crates/%s.rt" % path.split("/crates/")[1][:-3]
+    added = []
+    for words in script.ASSERTED.get(file, {}).values():
+        added += script.assertion(*words)
+    for module in (it for it in ("traits", "conditions") if "mod %s;" % it in lines):
+        added += ["// Written for Cargo, not proved."] if module == "traits" else ["#[cfg(test)]"]
+        added += ["mod %s;" % module]
+    left = []
+    for line in (it for it in lines if it.strip() != "#[track_caller]"):
+        found = next((it for it in added if it.strip() == line.strip()), None)
+        if found is None:
+            left.append(line)
+        else:
+            added.remove(found)
+    assert not added, (path, added)
+    while left[-2:] == ["", ""]:
+        left.pop()
+    return left
 
 
 def is_made(line, source):

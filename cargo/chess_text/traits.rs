@@ -1,0 +1,42 @@
+//! What Rust's users expect of the types. **Not proved**: written for Cargo.
+
+use crate::{write_fen, FenFault, Played, SanFault};
+use chess_rules::{try_pair, Position, Probes};
+use std::error::Error;
+use std::fmt::{self, Debug, Display, Formatter};
+
+impl Display for FenFault {
+    /// Writes the words that the program reports for such a FEN tag.
+    fn fmt(&self, out: &mut Formatter<'_>) -> fmt::Result {
+        write!(out, "bad FEN, field {}", self.field)
+    }
+}
+
+impl Error for FenFault {}
+
+impl Display for SanFault {
+    /// Writes the words that the program reports for such a move.
+    fn fmt(&self, out: &mut Formatter<'_>) -> fmt::Result {
+        out.write_str(match self {
+            SanFault::NoMove => "move is not legal",
+            SanFault::Ambiguous => "move is ambiguous",
+        })
+    }
+}
+
+impl Error for SanFault {}
+
+impl Debug for Played {
+    fn fmt(&self, out: &mut Formatter<'_>) -> fmt::Result {
+        out.debug_struct("Played")
+            .field("mv", &self.mv)
+            .field("next", &self.next)
+            .finish()
+    }
+}
+
+/// Whether the move is legal, and the position is the one after it.
+pub(crate) fn is_played(position: &Position, played: &Played) -> bool {
+    let next = try_pair(position, played.mv, &mut Probes::new());
+    next.is_some_and(|it| write_fen(&it) == write_fen(&played.next))
+}

@@ -1,0 +1,161 @@
+//! A call that breaks a condition of its contract panics with a sentence. Written for Cargo.
+
+use chess_rules::{Position, Probes};
+use pgn_game::{
+    convert, convert_checked, convert_slice, find_move, Converter, Games, Inlet, Mode, Nowhere,
+    Outlet, Sink,
+};
+use pgn_layout::{fits_tag_line, write_tag, CurrentLine, Layout};
+use std::cell::RefCell;
+use std::panic::{catch_unwind, set_hook, UnwindSafe};
+
+const FULL: Mode = Mode::Full;
+
+thread_local! {
+    static SAID: RefCell<String> = const { RefCell::new(String::new()) };
+}
+
+/// The call panics with this sentence, and names a line of this file.
+fn refuses<X>(sentence: &str, call: impl FnOnce() -> X + UnwindSafe) {
+    set_hook(Box::new(|panic| {
+        SAID.with(|said| *said.borrow_mut() = panic.to_string())
+    }));
+    assert!(catch_unwind(call).is_err(), "no panic: {sentence}");
+    let said = SAID.with(|said| said.borrow().clone());
+    assert!(said.contains(sentence), "{said}");
+    assert!(said.contains("conditions.rs:"), "{said}");
+}
+
+#[test]
+fn a_converter_has_a_level() {
+    let sentence = "the number of levels L is at least 1";
+    refuses(sentence, || Converter::<64, 0>::new(FULL));
+    refuses(sentence, || Games::<64, 0>::new(FULL));
+    refuses(sentence, || {
+        convert_slice::<64, 0, _>(b"*", &mut Nowhere, FULL)
+    });
+    refuses(sentence, || {
+        convert::<64, 0, _, _>(&mut inlet(), &mut Nowhere, FULL)
+    });
+    refuses(sentence, || {
+        convert_checked::<64, 0, _, _, _>(&mut inlet(), &mut inlet(), &mut Nowhere, FULL)
+    });
+    Converter::<0, 1>::new(FULL);
+}
+
+fn inlet() -> Inlet<&'static [u8]> {
+    Inlet::new(b"*")
+}
+
+fn finished() -> Converter<64, 33> {
+    let mut converter = Converter::new(FULL);
+    assert_eq!(converter.finish(&mut Nowhere), Ok(false));
+    converter
+}
+
+#[test]
+fn nothing_is_fed_after_the_end() {
+    refuses("feed comes before finish has returned Ok", || {
+        finished().feed(b"", &mut Nowhere)
+    });
+    refuses("finish returns Ok once", || finished().finish(&mut Nowhere));
+    // After a fault both report it again.
+    let mut converter = Converter::<64, 33>::new(FULL);
+    let fault = converter.feed(b"&", &mut Nowhere).unwrap_err();
+    assert_eq!(converter.finish(&mut Nowhere), Err(fault));
+    assert_eq!(converter.feed(b"*", &mut Nowhere), Err(fault));
+    assert_eq!(converter.finish(&mut Nowhere), Err(fault));
+}
+
+#[test]
+fn a_tag_pair_fits_on_a_line() {
+    let sentence = "a tag pair fits on a line of 255 bytes";
+    for value in [
+        vec![b'a'; 249],
+        vec![b'"'; 125],
+        [vec![b'\\'; 1], vec![b'a'; 247]].concat(),
+    ] {
+        assert!(!fits_tag_line(b"A", &value));
+        let (one, other) = (value.clone(), value.clone());
+        refuses(sentence, move || write_tag(b"A", &one, &mut Nowhere));
+        refuses(sentence, move || {
+            Layout::new().tag(b"A", &other, &mut Nowhere)
+        });
+    }
+}
+
+#[test]
+fn the_longest_tag_pairs_are_written() {
+    for value in [
+        vec![b'a'; 248],
+        vec![b'"'; 124],
+        [vec![b'\\'; 1], vec![b'a'; 246]].concat(),
+    ] {
+        let mut out = Outlet::new(Vec::new());
+        write_tag(b"A", &value, &mut out).unwrap();
+        Layout::new().tag(b"A", &value, &mut out).unwrap();
+        assert_eq!(out.into_inner().len(), 2 * 255);
+    }
+}
+
+#[test]
+fn a_token_has_1_to_79_bytes() {
+    let sentence = "a token on a line has 1 to 79 bytes";
+    for token in [b"".as_slice(), &[b'a'; 80]] {
+        refuses(sentence, || CurrentLine::new().put(token, &mut Nowhere));
+        refuses(sentence, || {
+            CurrentLine::new().put_parts(token, b"", &mut Nowhere)
+        });
+        refuses(sentence, || Layout::new().put(token, &mut Nowhere));
+    }
+    let mut out = Outlet::new(Vec::new());
+    let mut line = CurrentLine::new();
+    line.put(&[b'a'; 79], &mut out).unwrap();
+    line.put_parts(&[b'b'; 78], b"c", &mut out).unwrap();
+    line.end_game(&mut out).unwrap();
+    assert_eq!(out.into_inner().len(), 2 * 80 + 1);
+}
+
+#[test]
+fn a_sink_gets_a_byte() {
+    let sentence = "write_some takes at least one byte";
+    refuses(sentence, || Nowhere.write_some(b""));
+    refuses(sentence, || Outlet::new(Vec::new()).write_some(b""));
+}
+
+#[test]
+fn find_move_takes_new_probes() {
+    let mut probes = Probes::new();
+    assert!(find_move(&Position::initial(), b"e4", &mut probes).is_ok());
+    refuses("find_move takes new Probes", move || {
+        find_move(&Position::initial(), b"e4", &mut probes)
+    });
+}
+
+#[test]
+#[cfg(debug_assertions)]
+fn a_move_that_is_written_or_played_is_legal() {
+    use chess_rules::{position_after, Move, Square};
+    use chess_text::write_san;
+
+    let position = Position::initial();
+    let e2 = Square::new(4, 1).unwrap();
+    let mv = Move {
+        from: e2,
+        to: Square::new(4, 4).unwrap(),
+        promotion: None,
+    };
+    refuses("position_after takes a legal move", move || {
+        position_after(&position, &mv)
+    });
+    let mut played = find_move(&position, b"e4", &mut Probes::new()).unwrap();
+    assert_eq!(
+        write_san(&position, &played, &mut Probes::new()).as_slice(),
+        b"e4"
+    );
+    played.next = position;
+    refuses(
+        "write_san takes a legal move and the position after it",
+        move || write_san(&position, &played, &mut Probes::new()),
+    );
+}

@@ -1,0 +1,131 @@
+//! The errors are those of Rust: `?` takes each into a `Box<dyn Error>`. Written for Cargo.
+
+use chess_text::{read_fen, read_form, resolve};
+use pgn_game::{convert_slice, Converter, Games, Inlet, LexReason, Mode, Nowhere, Outlet, Reason};
+use pgn_game::{ReadFailed, Sink, Source};
+use std::error::Error;
+use std::io::{self, Read, Write};
+
+/// A reader and a writer that fail.
+struct Broken;
+
+impl Read for Broken {
+    fn read(&mut self, _buffer: &mut [u8]) -> io::Result<usize> {
+        Err(io::ErrorKind::Other.into())
+    }
+}
+
+impl Write for Broken {
+    fn write(&mut self, _bytes: &[u8]) -> io::Result<usize> {
+        Err(io::ErrorKind::Other.into())
+    }
+
+    fn flush(&mut self) -> io::Result<()> {
+        Err(io::ErrorKind::Other.into())
+    }
+}
+
+/// What a call says that hands on whatever error it meets.
+fn said(call: fn() -> Result<(), Box<dyn Error + Send + Sync>>) -> String {
+    call().unwrap_err().to_string()
+}
+
+#[test]
+fn each_error_is_handed_on_in_the_words_of_the_program() {
+    let fault = said(|| {
+        convert_slice::<64, 33, _>(b"1. e4 e5 2. Ke3 *", &mut Nowhere, Mode::Full)?;
+        Ok(())
+    });
+    assert_eq!(fault, "byte 12: move is not legal");
+    let fen = said(|| {
+        read_fen(b"8/8/8/8/8/k7/p7/K7 w - e9 0 1")?;
+        Ok(())
+    });
+    assert_eq!(fen, "bad FEN, field 4");
+    let san = said(|| {
+        let form = read_form(b"Ke3").unwrap();
+        resolve(
+            &chess_rules::Position::initial(),
+            &form,
+            &mut chess_rules::Probes::new(),
+        )?;
+        Ok(())
+    });
+    assert_eq!(san, "move is not legal");
+    let write = said(|| Ok(Outlet::new(Broken).flush()?));
+    assert_eq!(write, "output cannot be written");
+    let read = said(|| {
+        Inlet::new(Broken).read_some(&mut [0; 8])?;
+        Ok(())
+    });
+    assert_eq!(
+        (read, ReadFailed.to_string()),
+        said_twice("input cannot be read")
+    );
+    let reason = said(|| Err(Reason::BadFen(7).into()));
+    assert_eq!(reason, "bad FEN, field 7");
+}
+
+fn said_twice(text: &str) -> (String, String) {
+    (text.to_string(), text.to_string())
+}
+
+#[test]
+fn the_lexer_has_the_words_of_the_converter() {
+    for reason in [
+        LexReason::StrayByte,
+        LexReason::ControlByte,
+        LexReason::Reserved,
+        LexReason::SymbolTooLong,
+        LexReason::StringTooLong,
+        LexReason::WordTooLong,
+        LexReason::LoneDollar,
+        LexReason::GlyphRange,
+        LexReason::BadSuffix,
+        LexReason::BraceInLineComment,
+        LexReason::UnclosedString,
+        LexReason::UnclosedComment,
+    ] {
+        assert_eq!(reason.to_string(), Reason::Lexical(reason).to_string());
+    }
+    let fault = pgn_lexer::LexFault {
+        at: 3,
+        reason: LexReason::StrayByte,
+    };
+    assert_eq!(fault.to_string(), "byte 3: stray byte");
+}
+
+#[test]
+fn a_fen_and_a_move_have_the_words_of_the_converter() {
+    for field in 1..=7 {
+        let fault = chess_text::FenFault { field };
+        assert_eq!(fault.to_string(), Reason::BadFen(field).to_string());
+    }
+    for (fault, reason) in [
+        (chess_text::SanFault::NoMove, Reason::IllegalMove),
+        (chess_text::SanFault::Ambiguous, Reason::AmbiguousMove),
+    ] {
+        assert_eq!(fault.to_string(), reason.to_string());
+    }
+}
+
+#[test]
+fn what_a_user_prints_can_be_printed() {
+    let mut converter = Converter::<64, 33>::new(Mode::Full);
+    converter.feed(b"e4 *", &mut Nowhere).unwrap();
+    converter.finish(&mut Nowhere).unwrap();
+    let shown = format!("{converter:?}");
+    assert_eq!(
+        shown,
+        "Converter { count: 4, games: 1, fault: None, is_finished: true, .. }"
+    );
+    let mut games = Games::<64, 33>::new(Mode::Full);
+    games
+        .next(&mut Inlet::new(b"e4 *".as_slice()), &mut Nowhere)
+        .unwrap();
+    assert_eq!(format!("{games:?}"), "Games { games: 1, .. }");
+    let position = format!("{:?}", games.position().unwrap());
+    assert!(position.starts_with(
+        "Position { board: rnbqkbnr/pppppppp/......../......../....P.../......../PPPP.PPP/RNBQKBNR, "
+    ));
+}

@@ -1,0 +1,66 @@
+//! What Rust's users expect of the types. **Not proved**: written for Cargo.
+
+use crate::{Converter, Fault, Games, Inlet, ReadFailed, Reason};
+use std::error::Error;
+use std::fmt::{self, Debug, Display, Formatter};
+
+impl Display for Fault {
+    /// Writes the line that the program reports, which is [`Fault::line`].
+    fn fmt(&self, out: &mut Formatter<'_>) -> fmt::Result {
+        write_ascii(out, &self.line())
+    }
+}
+
+impl Error for Fault {}
+
+impl Display for Reason {
+    /// Writes the words that the program reports, without the place.
+    fn fmt(&self, out: &mut Formatter<'_>) -> fmt::Result {
+        let line = Fault {
+            at: 0,
+            reason: *self,
+        }
+        .line();
+        write_ascii(out, &line[b"byte 0: ".len()..])
+    }
+}
+
+impl Error for Reason {}
+
+fn write_ascii(out: &mut Formatter<'_>, text: &[u8]) -> fmt::Result {
+    out.write_str(std::str::from_utf8(text).map_err(|_| fmt::Error)?)
+}
+
+impl Display for ReadFailed {
+    /// Writes the words that the program reports.
+    fn fmt(&self, out: &mut Formatter<'_>) -> fmt::Result {
+        Display::fmt(&Reason::ReadFault, out)
+    }
+}
+
+impl Error for ReadFailed {}
+
+impl<R> Debug for Inlet<R> {
+    fn fmt(&self, out: &mut Formatter<'_>) -> fmt::Result {
+        out.debug_struct("Inlet").finish_non_exhaustive()
+    }
+}
+
+impl<const T: usize, const L: usize> Debug for Converter<T, L> {
+    fn fmt(&self, out: &mut Formatter<'_>) -> fmt::Result {
+        out.debug_struct("Converter")
+            .field("count", &self.count())
+            .field("games", &self.games())
+            .field("fault", &self.fault())
+            .field("is_finished", &self.is_finished())
+            .finish_non_exhaustive()
+    }
+}
+
+impl<const T: usize, const L: usize> Debug for Games<T, L> {
+    fn fmt(&self, out: &mut Formatter<'_>) -> fmt::Result {
+        out.debug_struct("Games")
+            .field("games", &self.games())
+            .finish_non_exhaustive()
+    }
+}
