@@ -38,4 +38,4 @@ pub mod Spells
 pub mod UniqueReading
 pub mod Filled
 pub mod FixedPoint
-pub mod GameByGame
+pub mod GamesRestart

@@ -3,7 +3,7 @@ ghost use Rattle.std.specs.Prelude.{◌≡◌, ◌+◌, ◌-◌, ◌≤◌, ◌<
 ghost use Rattle.std.specs.Prelude.{None, Some, is_some, Err, is_ok, IfOk, OnOk, OnErr, length, take};
 ghost use Rattle.std.specs.Option.{option_copied};
 ghost use Rattle.pgn_layout.specs.Device.{device};
-ghost use Rattle.pgn_lexer.specs.Beginning.{blanks};
+ghost use Rattle.pgn_lexer.specs.WhiteSpace.{white_space};
 ghost use Rattle.pgn_game.specs.declared.reason.Reason.TheVariants.{InputTooLong, Lexical, ReadFault};
 ghost use Rattle.pgn_game.specs.ConverterSteps.{FeedsFront, Steps, StepsAtEnd};
 ghost use Rattle.pgn_game.specs.ConverterSteps.{StepAdvances, StepAtEndAdvances, outcome_at, games_after};
@@ -104,15 +104,17 @@ impl<const T: usize, const L: usize> Converter<T, L> {
         Converter::begin_at(mode, 0, true)
     }
 
-    /// Returns a converter that begins at a place of a longer text, which comes from there on.
+    /// Returns a converter that converts the rest of a text, from the byte at this place on.
     ///
-    /// Places count from the first byte of the longer text, and so does `count`; games count from
-    /// there. A byte order mark is skipped at place 0 alone. `in_first_column` says whether the
-    /// place is in the first column, where a percent sign begins an escape line (PGN 6): behind a
-    /// carriage return or a line feed, or behind a byte order mark. Place 0 always is.
+    /// It takes the bytes before for white space. So the place must be outside all tokens, comments
+    /// and escape lines, and between two games. It is at most 2^62. Places count from the first
+    /// byte of the text, and so does `count`; `games` counts those finished since `place`. A byte
+    /// order mark is skipped at place 0 alone.
     ///
-    /// The place is at most 2^62. Behind a game it begins with the next one, and all is converted
-    /// as in the whole text (`laws::texts_restart` of `pgn_lexer`).
+    /// `in_first_column` says whether the place is in the first column, where a percent sign begins
+    /// an escape line (PGN 6): behind a carriage return or a line feed, or behind a byte order
+    /// mark. Place 0 always is. Just behind a game's marker it is false. The games, the output and
+    /// the verdict of the whole text then follow from those of the rest (`laws::games_restart`).
     ///
     /// # Examples
     ///
@@ -127,8 +129,9 @@ impl<const T: usize, const L: usize> Converter<T, L> {
     pub fn begin_at(mode: Mode, place: u64, in_first_column: bool) -> Self
         requires levels { 1 ≤ L }
         requires place { place ≤ 2 ^ 62 }
-        ensures stands { Stands (profile_of T (L - 1) mode) result (blanks place in_first_column)
-            None [] }
+        ensures stands { Stands (profile_of T (L - 1) mode) result
+            (white_space place in_first_column) None [] }
+        ensures count { result.lexer.count ≡ place }
         ensures not_finished { result.is_finished ≡ false }
     {
         Converter {
@@ -338,7 +341,7 @@ impl<const T: usize, const L: usize> Converter<T, L> {
         self.reader.earlier_plies()
     }
 
-    /// Returns the number of bytes used so far.
+    /// Returns the place of the next byte: where it began, and how many bytes were used since.
     pub fn count(&self) -> u64
         ensures { result ≡ self.now.lexer.count }
     {

@@ -1,6 +1,6 @@
 //! Laws of the definitions that the contracts cite. The functions do nothing.
 ghost use Rattle.pgn_game.specs.Laws as laws;
-ghost use Rattle.pgn_game.specs.GameByGame as restart;
+ghost use Rattle.pgn_game.specs.GamesRestart as restart;
 ghost use Rattle.pgn_game.specs.MovesAreLegal as legality;
 ghost use Rattle.pgn_game.specs.FixedPoint as fixed;
 ghost use Rattle.pgn_game.specs.UniqueReading as unique;
@@ -22,11 +22,12 @@ pub fn due_grows()
     ensures { laws.DueGrows }
 {}
 
-/// Converting a text game by game, each from where the one before ended, converts the whole.
+/// Just behind the marker of a game, the rest of a text can be converted on its own.
 ///
-/// A game ends with the last byte of its marker. Behind it `Converter::begin_at` begins, not in the
-/// first column. Output, verdict and places are those of the whole text, and games and plies add
-/// up.
+/// `Converter::begin_at` does that, with `in_first_column` false. The games of the whole are those
+/// so far and those of the rest, and so is the output. A fault of the rest is that of the whole, at
+/// the same place. Without one, games and plies add up. The rest can be cut again behind its first
+/// game, and so on.
 pub fn games_restart()
     ensures { restart.GamesRestart }
 {

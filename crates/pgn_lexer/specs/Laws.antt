@@ -2,7 +2,7 @@
 -- In the statements, s is a text, or what comes after the text u, and b is the byte after u.
 use Rattle.std.specs.Prelude.{◌≡◌, ℕ, ◌≤◌, ◌<◌, ◌^◌, ◌↔◌, ◌⊎◌, false, IsTrue, List, [], ◌++◌, ◌∷◌, length, map, decimal}
 use Rattle.pgn_lexer.specs.Tokens.{Kind, Token, asterisk, symbol, end, refused, EndsAt}
-use Rattle.pgn_lexer.specs.Beginning.{blanks}
+use Rattle.pgn_lexer.specs.WhiteSpace.{white_space}
 use Rattle.pgn_lexer.specs.TokensOf.{tokens_of}
 use Rattle.pgn_lexer.specs.Lexes.{Lexes}
 use Rattle.pgn_lexer.specs.Decided.{decided, known}
@@ -63,15 +63,15 @@ abbrev pub NumbersAreSymbols : Type 0
 NumbersAreSymbols =
     (n : ℕ) → n < 2 ^ 64 → IsSymbol (decimal n) × IsTrue (list_all is_digit (decimal n))
 
--- the kinds of token that finish a game: a symbol and an asterisk
-abbrev pub CanFinishGame : Kind → Type 0
-CanFinishGame asterisk = Unit {0}
-CanFinishGame (symbol text) = Unit {0}
-CanFinishGame _ = ⊥
+-- the kinds of token that a termination marker can have (PGN 8.2.6)
+abbrev pub CanBeMarker : Kind → Type 0
+CanBeMarker asterisk = Unit {0}
+CanBeMarker (symbol text) = Unit {0}
+CanBeMarker _ = ⊥
 
--- The tokens behind such a token are those of a text that begins where it ends.
+-- Behind such a token, the tokens are the same if all bytes up to its end are spaces.
 abbrev pub TextsRestart : Type 0
 TextsRestart =
     (u s : List ℕ) (given rest : List Token) (t : Token)
-    → tokens_of (u ++ s) ≡ given ++ t ∷ rest → EndsAt t.kind t.at (length u) → CanFinishGame t.kind
-    → rest ≡ tokens_of (blanks (length u) false ++ s)
+    → tokens_of (u ++ s) ≡ given ++ t ∷ rest → EndsAt t.kind t.at (length u) → CanBeMarker t.kind
+    → rest ≡ tokens_of (white_space (length u) false ++ s)

@@ -1,5 +1,4 @@
 -- **Bookkeeping**: the list of this crate's files of definitions.
-pub mod Beginning
 pub mod Bytes
 pub mod Decided
 pub mod PartialToken
@@ -14,4 +13,5 @@ pub mod Stands
 pub mod ByteResult
 pub mod Tokens
 pub mod TokensOf
+pub mod WhiteSpace
 pub mod Written

@@ -6,7 +6,7 @@ use Rattle.pgn_lexer.specs.declared.partial_token.Mode.TheVariants.{Failed}
 use Rattle.pgn_lexer.specs.Tokens.{Token}
 use Rattle.pgn_lexer.specs.PartialToken.{PartialToken, tokens_to_come, pending}
 
--- how many bytes were used, and what is stored of the current token
+-- the place of the next byte, and what is stored of the current token
 pub record Standing : Type 0 where
   pub count : ℕ
   pub held : PartialToken

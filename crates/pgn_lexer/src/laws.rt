@@ -46,10 +46,10 @@ pub fn numbers_are_symbols()
     ensures { laws.NumbersAreSymbols }
 {}
 
-/// Behind a symbol or an asterisk, the tokens are those of a text that begins there.
+/// Behind a symbol or an asterisk, the tokens are the same if all bytes up to its end are spaces.
 ///
-/// So a text can be read game by game: each game from where the termination marker of the one
-/// before ended (PGN 8.2.6), by a lexer of `Lexer::begin_at`.
+/// So a text can be read on from the end of a termination marker (PGN 8.2.6), by a lexer of
+/// `Lexer::begin_at` that is not in the first column.
 pub fn texts_restart()
     ensures { laws.TextsRestart }
 {}

@@ -46,7 +46,7 @@ impl Model for Lexer {
 }
 
 impl Lexer {
-    ghost use Rattle.pgn_lexer.specs.Beginning.{blanks};
+    ghost use Rattle.pgn_lexer.specs.WhiteSpace.{white_space};
     ghost use Rattle.pgn_lexer.specs.Scanned.{scanned};
     ghost use Rattle.pgn_lexer.specs.Standing.{fault_of};
     ghost use Rattle.pgn_lexer.specs.Stands.{StandsAfter, Scans, Finishes, Leaves};
@@ -62,14 +62,17 @@ impl Lexer {
         }
     }
 
-    /// Returns a lexer that begins at a place of a longer text, which comes from there on.
+    /// Returns a lexer that reads the rest of a text, from the byte at this place on.
     ///
-    /// Places count from the first byte of the longer text, and so does `count`. A byte order mark
-    /// is skipped at place 0 alone. `in_first_column` says whether the place is in the first
-    /// column, where a percent sign begins an escape line (PGN 6): behind a carriage return or a
-    /// line feed, or behind a byte order mark. Place 0 always is.
+    /// It takes the bytes before for white space. So the place must be outside all tokens, comments
+    /// and escape lines. Places count from the first byte of the text, and so does `count`. A byte
+    /// order mark is skipped at place 0 alone.
+    ///
+    /// `in_first_column` says whether the place is in the first column, where a percent sign begins
+    /// an escape line (PGN 6): behind a carriage return or a line feed, or behind a byte order
+    /// mark. Place 0 always is. Above place 2^62 only `finish` can be called.
     pub fn begin_at(place: u64, in_first_column: bool) -> Lexer
-        ensures stands { StandsAfter result (blanks place in_first_column) None [] }
+        ensures stands { StandsAfter result (white_space place in_first_column) None [] }
         ensures count { result.count ≡ place }
         ensures no_fault { fault_of result ≡ None }
     {
@@ -82,7 +85,7 @@ impl Lexer {
         }
     }
 
-    /// Returns the number of bytes used so far.
+    /// Returns the place of the next byte: where it began, and how many bytes were used since.
     pub fn count(&self) -> u64
         ensures { result ≡ self.now.count }
     {
@@ -93,8 +96,8 @@ impl Lexer {
     ///
     /// After a token, pass the rest of the piece. If a byte after the token was not used, it must
     /// come next. The result is `NeedMore` if no token ends in the piece; the whole piece is then
-    /// used. The bytes used and the piece must be together at most 2^62. `finish` ends the current
-    /// token, so bytes that come after it no longer continue the text.
+    /// used. `count` and the length of the piece must be together at most 2^62. `finish` ends the
+    /// current token, so bytes that come after it no longer continue the text.
     ///
     /// # Errors
     ///

@@ -4,8 +4,8 @@ use Rattle.std.proofs.lemmas.List.Sums.{sum-map, sum_by-append}
 use Rattle.pgn_lexer.specs.Tokens as tokens
 use Rattle.pgn_lexer.specs.Tokens.{EndsAt}
 use Rattle.pgn_lexer.specs.TokensOf.{tokens_of}
-use Rattle.pgn_lexer.specs.Beginning.{blanks}
-use Rattle.pgn_lexer.specs.Laws.{TextsRestart, CanFinishGame}
+use Rattle.pgn_lexer.specs.WhiteSpace.{white_space}
+use Rattle.pgn_lexer.specs.Laws.{TextsRestart, CanBeMarker}
 use Rattle.pgn_game.proofs.Words.{Kind, Token, Reason, Fault, Profile, Game, Part, no_part}
 use Rattle.pgn_game.specs.declared.stage.Stage.{Stage}
 use Rattle.pgn_game.specs.declared.stage.Stage.TheVariants.{Between, AfterLeftBracket, AfterName, AfterValue, AfterTags, InMovetext}
@@ -13,7 +13,7 @@ use Rattle.pgn_game.specs.Levels.{plies_of}
 use Rattle.pgn_game.specs.FaultTable.{refusal, marker_of}
 use Rattle.pgn_game.specs.Text.{game_text, text_of, torn}
 use Rattle.pgn_game.specs.Progress.{Next, going, whole, next, next_in, in_text, Progress, progress_with, progress_after, no_progress, Read, read_from, read, written, output, verdict, verdict_of, refused, totals}
-use Rattle.pgn_game.specs.GameByGame.{games_of, FinishesGame, with_games, GamesRestart}
+use Rattle.pgn_game.specs.GamesRestart.{games_read, FinishesGame, counting_also, ReadsOnBehind, GamesRestart}
 use Rattle.pgn_game.proofs.tokens.OneMoreToken.{read_from-test, after_test, first_passes, goes_on, stops_from}
 use Rattle.pgn_game.proofs.tokens.GamesInTurn.{reads_behind}
 
@@ -55,10 +55,10 @@ plies_of_both : (xs ys : List Game) → sum (map plies_of (xs ++ ys)) ≡ sum (m
 plies_of_both xs ys =
     omega (arith, sum-map plies_of (xs ++ ys), sum_by-append plies_of xs ys, sum-map plies_of xs, sum-map plies_of ys)
 
-verdict_with_front : (games : List Game) (r : Read) → verdict_of (reads_with_front games r) ≡ with_games games (verdict_of r)
+verdict_with_front : (games : List Game) (r : Read) → verdict_of (reads_with_front games r) ≡ counting_also games (verdict_of r)
 verdict_with_front games r = by_fault r.fault
   where
-    by_fault : (o : Option Fault) → verdict_of (record { progress = with_front games r.progress; fault = o }) ≡ with_games games (verdict_of (record { progress = r.progress; fault = o }))
+    by_fault : (o : Option Fault) → verdict_of (record { progress = with_front games r.progress; fault = o }) ≡ counting_also games (verdict_of (record { progress = r.progress; fault = o }))
     by_fault (Some f) = refl
     by_fault None =
         ap (λ n. totals (record { games = n; plies = sum (map plies_of (games ++ r.progress.games)) })) (length-append games r.progress.games)
@@ -70,7 +70,7 @@ verdict_with_front games r = by_fault r.fault
 -- what a token leads to where no game is finished, or the kinds that can finish one
 abbrev Leads : Kind → Next → Type 0
 Leads k (going part) = Unit {0}
-Leads k (whole g) = CanFinishGame k
+Leads k (whole g) = CanBeMarker k
 
 text_leads : (part : Part) (k : Kind) → Leads k (in_text part k)
 text_leads part tokens.asterisk = tt
@@ -106,8 +106,8 @@ no_more xs g e = absurd (omega (arith, ap length e, length-append xs (g ∷ []))
 
 -- behind the marker no part of a game was read, and its kind can finish a game
 record Behind (p : Profile) (given : List Token) (marker : Token) : Type 0 where
-  progress : (read p (given ++ marker ∷ [])).progress ≡ record { games = games_of p (given ++ marker ∷ []); part = no_part }
-  kind : CanFinishGame marker.kind
+  progress : (read p (given ++ marker ∷ [])).progress ≡ record { games = games_read p (given ++ marker ∷ []); part = no_part }
+  kind : CanBeMarker marker.kind
 
 module _ (p : Profile) (given : List Token) (marker : Token) (finishes : FinishesGame p given marker) where
   abbrev b : Progress
@@ -139,8 +139,8 @@ module _ (p : Profile) (given : List Token) (marker : Token) (finishes : Finishe
 pub games_restart : TextsRestart → GamesRestart
 games_restart restart p u s given rest marker cut ends finishes =
     let ts : List Token = given ++ marker ∷ [] in
-    let gs : List Game = games_of p ts in
-    let later : List ℕ = blanks (length u) false ++ s in
+    let gs : List Game = games_read p ts in
+    let later : List ℕ = white_space (length u) false ++ s in
     let after : Behind p given marker = behind p given marker finishes in
     let same : rest ≡ tokens_of later = restart u s given rest marker cut ends after.kind in
     let joined : read p (tokens_of (u ++ s)) ≡ reads_with_front gs (read p (tokens_of later)) =
@@ -149,5 +149,8 @@ games_restart restart p u s given rest marker cut ends finishes =
         ∙ ap (λ (c : Progress). read_from p c rest) (after.progress ∙ ap (λ (l : List Game). record { games = l; part = no_part }) (sym (append-nil gs)))
         ∙ front_stays p gs no_progress rest
         ∙ ap (λ (us : List Token). reads_with_front gs (read p us)) same in
-    (ap (λ (r : Read). written p r.progress) joined ∙ written_with_front p gs (read p (tokens_of later)).progress,
-    ap verdict_of joined ∙ verdict_with_front gs (read p (tokens_of later)))
+    record {
+      games = ap (λ (r : Read). r.progress.games) joined;
+      output = ap (λ (r : Read). written p r.progress) joined ∙ written_with_front p gs (read p (tokens_of later)).progress;
+      verdict = ap verdict_of joined ∙ verdict_with_front gs (read p (tokens_of later));
+    }

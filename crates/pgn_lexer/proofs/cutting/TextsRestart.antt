@@ -16,8 +16,8 @@ use Rattle.pgn_lexer.specs.declared.partial_token.Mode.TheVariants.{LineStart, O
 use Rattle.pgn_lexer.specs.PartialToken.{PartialToken}
 use Rattle.pgn_lexer.specs.Standing.{coming}
 use Rattle.pgn_lexer.specs.Stands.{StandsAfter}
-use Rattle.pgn_lexer.specs.Beginning.{blanks}
-use Rattle.pgn_lexer.specs.Laws.{CanFinishGame, TextsRestart}
+use Rattle.pgn_lexer.specs.WhiteSpace.{white_space}
+use Rattle.pgn_lexer.specs.Laws.{CanBeMarker, TextsRestart}
 use Rattle.pgn_lexer.specs.Spelling as spelling
 use Rattle.pgn_lexer.specs.Spelling.{class, comment_class, Found, gives, stops, closed, broken, Reading, kind_of_single, symbol_at, string_at, glyph_at, suffix_at, reading, number_of}
 use Rattle.pgn_lexer.specs.TokensOf as places
@@ -47,7 +47,7 @@ behind_run at (b ∷ bs) = behind_byte at b bs (continues_symbol b) (take_while-
 -- behind this place of the text s.
 abbrev GoesOn : ℕ → List ℕ → Token → List Token → Type 0
 GoesOn at s t rest =
-    (behind : ℕ) → EndsAt t.kind t.at behind → CanFinishGame t.kind
+    (behind : ℕ) → EndsAt t.kind t.at behind → CanBeMarker t.kind
     → (n : ℕ) × (behind ≡ at + suc n) × (rest ≡ tokens_from behind places.outside (drop (suc n) s))
 
 abbrev AllGoOn : ℕ → List ℕ → List Token → Type 0
@@ -61,7 +61,7 @@ FoundGoesOn at b bs (gives k) rest = GoesOn at (b ∷ bs) (record { at = at; kin
 FoundGoesOn at b bs (stops place r) rest = Unit {0}
 
 -- a token of another kind finishes no game
-found_if : (at b : ℕ) (bs : List ℕ) (k : Kind) (stop : Found) (rest : List Token) (c : Bool) → (CanFinishGame k → ⊥) → FoundGoesOn at b bs stop rest
+found_if : (at b : ℕ) (bs : List ℕ) (k : Kind) (stop : Found) (rest : List Token) (c : Bool) → (CanBeMarker k → ⊥) → FoundGoesOn at b bs stop rest
     → FoundGoesOn at b bs (if c then gives k else stop) rest
 found_if at b bs k stop rest true other none = λ behind ends can. absurd (other can)
 found_if at b bs k stop rest false other none = none
@@ -211,32 +211,32 @@ behind_spaces : (n at : ℕ) (s : List ℕ) → tokens_from at places.outside (r
 behind_spaces zero at s = ap (λ place. tokens_from place places.outside s) (omega arith)
 behind_spaces (suc n) at s = behind_spaces n (at + 1) s ∙ ap (λ place. tokens_from place places.outside s) (omega arith)
 
--- what the place behind blanks is inside of
+-- what the place behind white space is inside of
 abbrev pub column_or_outside : Bool → Within
 column_or_outside true = places.column
 column_or_outside false = places.outside
 
-last_blank : (at : ℕ) (first : Bool) (s : List ℕ)
+last_white_space : (at : ℕ) (first : Bool) (s : List ℕ)
     → tokens_from at places.outside ((if first then 10 else 32) ∷ s) ≡ tokens_from (at + 1) (column_or_outside first) s
-last_blank at true s = refl
-last_blank at false s = refl
+last_white_space at true s = refl
+last_white_space at false s = refl
 
 no_mark : (b : ℕ) (s : List ℕ) → (b == 239) ≡ false → has_mark (b ∷ s) ≡ false
 no_mark b [] other = refl
 no_mark b (c ∷ []) other = refl
 no_mark b (c ∷ d ∷ s) other = ap (λ e. (e && (c == 187)) && (d == 191)) other
 
-pub behind_blanks : (n : ℕ) (first : Bool) (s : List ℕ) → tokens_of (blanks (suc n) first ++ s) ≡ tokens_from (suc n) (column_or_outside first) s
-behind_blanks zero true s =
+pub behind_white_space : (n : ℕ) (first : Bool) (s : List ℕ) → tokens_of (white_space (suc n) first ++ s) ≡ tokens_from (suc n) (column_or_outside first) s
+behind_white_space zero true s =
     ap (λ m. elim m [ true ↦ tokens_from 3 places.column (drop 3 (10 ∷ s)) | false ↦ tokens_from 0 places.column (10 ∷ s) ]) (no_mark 10 s refl)
-behind_blanks zero false s =
+behind_white_space zero false s =
     ap (λ m. elim m [ true ↦ tokens_from 3 places.column (drop 3 (32 ∷ s)) | false ↦ tokens_from 0 places.column (32 ∷ s) ]) (no_mark 32 s refl)
-behind_blanks (suc n) first s =
-    ap (λ m. elim m [ true ↦ tokens_from 3 places.column (drop 3 (blanks (suc (suc n)) first ++ s)) | false ↦ tokens_from 0 places.column (blanks (suc (suc n)) first ++ s) ])
+behind_white_space (suc n) first s =
+    ap (λ m. elim m [ true ↦ tokens_from 3 places.column (drop 3 (white_space (suc (suc n)) first ++ s)) | false ↦ tokens_from 0 places.column (white_space (suc (suc n)) first ++ s) ])
     (no_mark 32 ((replicate n 32 ++ last ∷ []) ++ s) refl)
     ∙ ap (λ bs. tokens_from 1 places.outside bs) (append_assoc (replicate n 32) (last ∷ []) s)
     ∙ behind_spaces n 1 (last ∷ s)
-    ∙ last_blank (1 + n) first s
+    ∙ last_white_space (1 + n) first s
     ∙ ap (λ place. tokens_from place (column_or_outside first) s) (omega arith)
   where
     last : ℕ
@@ -263,24 +263,24 @@ texts_restart u s given rest t cut ends can = by_mark (has_mark (u ++ s)) refl
     of_mark m mark =
         ap (λ m. elim m [ true ↦ tokens_from 3 places.column (drop 3 (u ++ s)) | false ↦ tokens_from 0 places.column (u ++ s) ]) mark
 
-    closing : (k : ℕ) → AllGoOn k (drop k (u ++ s)) (given ++ t ∷ rest) → rest ≡ tokens_of (blanks (length u) false ++ s)
+    closing : (k : ℕ) → AllGoOn k (drop k (u ++ s)) (given ++ t ∷ rest) → rest ≡ tokens_of (white_space (length u) false ++ s)
     closing k all =
         let found = goes_on_at k (drop k (u ++ s)) given t rest all (length u) ends can in
         let many : length u ≡ suc (k + found.0) = omega (arith, found.1) in
         found.2
         ∙ ap (λ bs. tokens_from (length u) places.outside bs) (behind_both k (suc found.0) u s found.1)
         ∙ ap (λ n. tokens_from n places.outside s) many
-        ∙ sym (behind_blanks (k + found.0) false s)
-        ∙ ap (λ n. tokens_of (blanks n false ++ s)) (sym many)
+        ∙ sym (behind_white_space (k + found.0) false s)
+        ∙ ap (λ n. tokens_of (white_space n false ++ s)) (sym many)
 
-    by_mark : (m : Bool) → has_mark (u ++ s) ≡ m → rest ≡ tokens_of (blanks (length u) false ++ s)
+    by_mark : (m : Bool) → has_mark (u ++ s) ≡ m → rest ≡ tokens_of (white_space (length u) false ++ s)
     by_mark true mark = closing 3 (subst (AllGoOn 3 (drop 3 (u ++ s))) (sym (of_mark true mark) ∙ cut) (all_go_on 3 places.column (drop 3 (u ++ s))))
     by_mark false mark = closing 0 (subst (AllGoOn 0 (u ++ s)) (sym (of_mark false mark) ∙ cut) (all_go_on 0 places.column (u ++ s)))
 
 -- ---- A lexer that begins there
 
-length_of_blanks : (n : ℕ) (first : Bool) → suc n ≡ length (blanks (suc n) first)
-length_of_blanks n first = sym (length-append (replicate n 32) ((if first then 10 else 32) ∷ []) ∙ ap (λ k. k + 1) (length-replicate n 32) ∙ omega arith)
+length_of_white_space : (n : ℕ) (first : Bool) → suc n ≡ length (white_space (suc n) first)
+length_of_white_space n first = sym (length-append (replicate n 32) ((if first then 10 else 32) ∷ []) ∙ ap (λ k. k + 1) (length-replicate n 32) ∙ omega arith)
 
 -- what is held outside all tokens
 abbrev pub between : Bool → PartialToken
@@ -290,14 +290,14 @@ coming_between : (n : ℕ) (first : Bool) (s : List ℕ) → tokens_from n (colu
 coming_between n true s = refl
 coming_between n false s = refl
 
-begins_later : (n : ℕ) (first : Bool) → StandsAfter (record { count = suc n; held = between first }) (blanks (suc n) first) None []
+begins_later : (n : ℕ) (first : Bool) → StandsAfter (record { count = suc n; held = between first }) (white_space (suc n) first) None []
 begins_later n first = record {
-  count = length_of_blanks n first;
+  count = length_of_white_space n first;
   before = tt;
-  tokens = λ s follows. behind_blanks n first s ∙ coming_between (suc n) first s;
+  tokens = λ s follows. behind_white_space n first s ∙ coming_between (suc n) first s;
 }
 
 pub begins_behind : (place : ℕ) (first : Bool) (h : PartialToken) → (place ≡ 0 → ⊥) → h ≡ between first
-    → StandsAfter (record { count = place; held = h }) (blanks place first) None []
+    → StandsAfter (record { count = place; held = h }) (white_space place first) None []
 begins_behind zero first h some is = absurd (some refl)
-begins_behind (suc n) first h some is = subst (λ h. StandsAfter (record { count = suc n; held = h }) (blanks (suc n) first) None []) (sym is) (begins_later n first)
+begins_behind (suc n) first h some is = subst (λ h. StandsAfter (record { count = suc n; held = h }) (white_space (suc n) first) None []) (sym is) (begins_later n first)

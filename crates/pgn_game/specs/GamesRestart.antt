@@ -1,0 +1,45 @@
+-- **Definition**: the law of a text that is converted from the end of a game on.
+-- Letters: p is the profile, u the text up to the end of a game, s what comes after it.
+use Rattle.std.specs.Prelude.{◌≡◌, ℕ, ◌+◌, false, List, [], ◌∷◌, ◌++◌, length, map, sum, None}
+use Rattle.pgn_lexer.specs.Tokens.{Token, EndsAt}
+use Rattle.pgn_lexer.specs.TokensOf.{tokens_of}
+use Rattle.pgn_lexer.specs.WhiteSpace.{white_space}
+use Rattle.pgn_game.specs.Profile.{Profile}
+use Rattle.pgn_game.specs.Game.{Game}
+use Rattle.pgn_game.specs.Levels.{plies_of}
+use Rattle.pgn_game.specs.Text.{text_of}
+use Rattle.pgn_game.specs.Progress.{read, output, Verdict, refused, totals, verdict}
+
+-- the games that tokens are read into
+abbrev pub games_read : Profile → List Token → List Game
+games_read p ts = (read p ts).progress.games
+
+-- These tokens and the marker are read without a fault, and the marker finishes a game.
+pub record FinishesGame (p : Profile) (given : List Token) (marker : Token) : Type 0 where
+  pub passes : (read p (given ++ marker ∷ [])).fault ≡ None
+  pub game : Game
+  pub one_more : games_read p (given ++ marker ∷ []) ≡ games_read p given ++ game ∷ []
+
+-- a verdict on the rest, with the games before it counted too; a fault stays as it is
+abbrev pub counting_also : List Game → Verdict → Verdict
+counting_also games (refused f) = refused f
+counting_also games (totals more) =
+    totals (record { games = length games + more.games; plies = sum (map plies_of games) + more.plies })
+
+-- The text u and s is read from the end of these games on. Its games are these and those of the
+-- rest, and its output is their text and the output of the rest. The verdict is that of the rest,
+-- with these games counted.
+pub record ReadsOnBehind (p : Profile) (u s : List ℕ) (games : List Game) : Type 0 where
+  pub games : games_read p (tokens_of (u ++ s))
+      ≡ games ++ games_read p (tokens_of (white_space (length u) false ++ s))
+  pub output : output p (u ++ s) ≡ text_of p games ++ output p (white_space (length u) false ++ s)
+  pub verdict : verdict p (u ++ s)
+      ≡ counting_also games (verdict p (white_space (length u) false ++ s))
+
+-- so it is if the last byte of u ends a game
+abbrev pub GamesRestart : Type 0
+GamesRestart =
+    (p : Profile) (u s : List ℕ) (given rest : List Token) (marker : Token)
+    → tokens_of (u ++ s) ≡ given ++ marker ∷ rest
+    → EndsAt marker.kind marker.at (length u) → FinishesGame p given marker
+    → ReadsOnBehind p u s (games_read p (given ++ marker ∷ []))
