@@ -41,8 +41,8 @@ pub record ReadsOn (p : Profile) (u : List ℕ) (games : Games) (given : List To
   pub decided : IsDecided used games.unused given
   pub not_finished : games.converter.is_finished ≡ false
 
--- The source is at its end, so u is the whole text, and all its tokens were read. They leave no game
--- begun: all that is due is the text of whole games.
+-- The source is at its end, so u is the whole text, and all its tokens were read. They leave no
+-- game begun: all that is due is the text of whole games.
 pub record HasReadAll (p : Profile) (left : Option (List ℕ)) (u : List ℕ) (games : Games) (given : List Token) : Type 0 where
   pub at_end : IsAtEnd left
   pub short : length u ≤ 2 ^ 62

@@ -1,5 +1,4 @@
 -- Runs of a task, and the lines of a list.
-pub mod BytesLeft
 pub mod CallToLines
 pub mod CheckedConversionToFront
 pub mod CheckedConversionToRun

@@ -1,5 +1,5 @@
 //! The sink for one game, over the file of that game.
-ghost use Rattle.std.specs.Prelude.{◌≡◌, ℕ, List, [], ◌∷◌, Option, IfOk};
+ghost use Rattle.std.specs.Prelude.{◌≡◌, [], ◌∷◌, IfOk};
 ghost use Rattle.pgn_tool.specs.declared.game_sink.GameFile.TheVariants.{NotMade};
 ghost use Rattle.pgn_tool.specs.Files.{IsBegun, IsNew, added, bytes_in, creation_step, failures_in, making_steps};
 

@@ -104,7 +104,9 @@ fn write_game<'a, K: Before, R: Source, F: GameFiles>(
     let answer = games.next(source, &mut sink);
     let GameSink { turn, .. } = sink;
     let Turn {
-        files: lent, file, ..
+        files: lent,
+        file,
+        ..
     } = turn;
     let result = settle(answer, &file);
     close(lent, file);

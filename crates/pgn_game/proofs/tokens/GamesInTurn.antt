@@ -7,18 +7,17 @@ use Rattle.std.specs.Io.KnownBytes.{Consumes, Keeps, IsAtEnd}
 use Rattle.pgn_lexer.specs.TokensOf.{tokens_of}
 use Rattle.pgn_lexer.specs.Decided.{decided}
 use Rattle.pgn_lexer.specs.Standing.{Standing, coming}
-use Rattle.pgn_lexer.specs.Stands.{Follows, IsDecided, first, still}
-use Rattle.pgn_game.proofs.Words.{Token, ReadFault, Reason, Fault, Profile, Game, Part, no_part}
+use Rattle.pgn_lexer.specs.Stands.{IsDecided, first}
+use Rattle.pgn_game.proofs.Words.{Token, ReadFault, Reason, Fault, Profile, Game, no_part}
 use Rattle.pgn_game.specs.FaultTable.{refusal}
 use Rattle.pgn_game.specs.Text.{text_of}
 use Rattle.pgn_game.specs.Progress.{Next, going, whole, next, Progress, progress_with, progress_after, no_progress, Read, read, read_from, written, due}
 use Rattle.pgn_game.specs.Due.{Gains}
-use Rattle.pgn_game.specs.ConverterCalls.{Converter, FinishedGame, finished_game_of, IsLast, HasRead, Stands, AreNext, FedAll, FedGame, FedToFault, Stops, refused, unwritten, StopsWriting, games_before, StopsIn, at_token, too_long, AfterFinish, Finishes, FinishesToFault}
+use Rattle.pgn_game.specs.ConverterCalls.{Converter, finished_game_of, IsLast, HasRead, Stands, AreNext, FedAll, FedGame, FedToFault, Stops, refused, unwritten, StopsWriting, games_before, StopsIn, at_token, too_long, AfterFinish, Finishes, FinishesToFault}
 use Rattle.pgn_game.specs.GamesCalls as games
 use Rattle.pgn_game.specs.GamesCalls.{Games, games_of, ReadsOn, HasReadAll, HaveRead, within, at_end, NextGame, NoGame, StopsAtToken, StopsAtEnd, ReadsNoGame, NextStops, AfterNext}
 use Rattle.pgn_game.specs.GamesSteps.{NextSoFar}
 use Rattle.pgn_game.proofs.tokens.OneMoreToken.{first_passes, goes_on, read-passes, read-refuses, stops_from, torn-none, gains_none, gains_more, stops_more, games_still, counts_still, due_grows}
-use Rattle.pgn_game.proofs.tokens.AcceptedToConverter.{still_none-none}
 use Rattle.pgn_game.proofs.tokens.StepsInPiece.{decided_at_end, stands_before_any}
 use Rattle.pgn_game.proofs.tokens.GamesInPiece.{behind_first}
 use Rattle.pgn_game.proofs.tokens.StepsAtEnd.{let_go}

@@ -1,5 +1,5 @@
--- The tokens that a lexer has left at the end of the input: they finish at most one game, and if they
--- pass, they leave none begun.
+-- The tokens that a lexer has left at the end of the input: they finish at most one game, and if
+-- they pass, they leave none begun.
 use Rattle.std.proofs.Common.{◌≡◌, ℕ, ◌<◌, Bool, true, false, List, [], ◌∷◌, ◌++◌, length, length-append, Option, None, Some, refl, sym, ap, subst, ◌∙◌, append-nil, arith, inl, inr, ◌⊎◌}
 use Rattle.std.specs.Prelude.{if◌then◌else◌}
 use Rattle.pgn_lexer.specs.declared.partial_token.Mode.{Mode}
@@ -197,8 +197,8 @@ left_none_begun p b l passes =
 
 -- ---- a write that fails among them
 
--- The token at fault adds to what is due, and so no game was finished before it: behind a game there
--- is only the end, which adds nothing.
+-- The token at fault adds to what is due, and so no game was finished before it: behind a game
+-- there is only the end, which adds nothing.
 pub none_finished_before : (p : Profile) (b : Progress) (l : Standing) (front : List Token) (token : Token) (rest : List Token) → coming l [] ≡ front ++ token ∷ rest
     → (read_from p b (front ++ token ∷ [])).fault ≡ None
     → length (written p (read_from p b front).progress) < length (written p (read_from p b (front ++ token ∷ [])).progress)

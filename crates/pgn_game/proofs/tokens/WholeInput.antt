@@ -1,11 +1,11 @@
 -- Conversions of whole inputs.
-use Rattle.std.proofs.Common.{◌≡◌, ℕ, false, inl, ◌^◌, ◌<◌, ◌≤◌, List, [], ◌∷◌, ◌++◌, length, Option, None, Some, Result, Ok, Err, IfSome, OnOk, refl, sym, ap, subst, ◌∙◌, append-nil, append_assoc, map, sum}
+use Rattle.std.proofs.Common.{◌≡◌, ℕ, false, inl, ◌^◌, ◌<◌, ◌≤◌, List, [], ◌∷◌, ◌++◌, length, Option, None, Some, Result, Ok, Err, IfSome, refl, sym, ap, subst, ◌∙◌, append-nil, append_assoc, map, sum}
 use Rattle.std.proofs.KnownBytes.{Consumes-nil, Consumes-trans}
 use Rattle.std.specs.Io.KnownBytes.{Appends, Consumes, Keeps, IsAtEnd}
 use Rattle.pgn_lexer.specs.TokensOf.{tokens_of}
 use Rattle.pgn_lexer.specs.Decided.{decided}
 use Rattle.pgn_lexer.specs.Stands.{Follows}
-use Rattle.pgn_game.proofs.Words.{Token, ReadFault, InputTooLong, Fault, Profile}
+use Rattle.pgn_game.proofs.Words.{Token, InputTooLong, Fault, Profile}
 use Rattle.pgn_game.specs.declared.conversion.Totals.{Totals}
 use Rattle.pgn_game.specs.Levels.{plies_of}
 use Rattle.pgn_game.specs.ReaderState.{whole_plies}

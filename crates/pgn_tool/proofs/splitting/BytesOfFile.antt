@@ -2,9 +2,9 @@
 use Rattle.std.proofs.Common.{◌≡◌, ℕ, ◌<◌, ◌≤◌, true, List, [], ◌∷◌, ◌++◌, length, length-append, length-take, append-nil, take, Option, None, Some, Result, Ok, Err, refl, sym, ap, subst, ◌∙◌, arith, is_some}
 use Rattle.std.specs.Prelude.{IfOk}
 use Rattle.std.proofs.lemmas.Bool.{false≢true}
-use Rattle.std.specs.Io.KnownBytes.{Appends, Keeps, WriteAppends}
+use Rattle.std.specs.Io.KnownBytes.{Appends, WriteAppends}
 use Rattle.pgn_layout.specs.Device.{Counts}
-use Rattle.pgn_tool.specs.Files.{FileStep, IsNew, added, has_bytes, if_logged, is_text}
+use Rattle.pgn_tool.specs.Files.{FileStep, IsNew, added, has_bytes, is_text}
 
 -- its bytes are reported, if the log is
 abbrev pub IsKnown : Option (List FileStep) → Option (List ℕ) → Type 0
@@ -14,11 +14,6 @@ IsKnown (Some log) bytes = is_some bytes ≡ true
 known_new : (log : Option (List FileStep)) (bytes : Option (List ℕ)) → IsNew log bytes → IsKnown log bytes
 known_new None bytes new = tt
 known_new (Some log) bytes new = ap is_some new
-
-pub known_text : (log : Option (List FileStep)) (bytes : Option (List ℕ)) → has_bytes log bytes ≡ true → IsKnown log bytes
-known_text None bytes has = tt
-known_text (Some log) None has = absurd (false≢true has)
-known_text (Some log) (Some text) has = refl
 
 -- some bytes were written
 appended : (a b : Option (List ℕ)) (text : List ℕ) → is_some a ≡ true → 0 < length text → Appends a b text → is_text b ≡ true
@@ -36,25 +31,6 @@ has_more None a b r text failed failed_after known writes bound counts zero = re
 has_more (Some log) a b (Ok n) text failed failed_after known writes bound counts zero =
     appended a b (take n text) (known (sym counts ∙ zero)) (omega (arith, bound.0, bound.1, length-take n text)) writes
 has_more (Some log) a b (Err e) text failed failed_after known writes bound counts zero = absurd (omega (arith, counts, zero))
-
--- ---- a write, seen by the log
-
-pub write_logged : {E : Type 0} → (log : Option (List FileStep)) (a b : Option (List ℕ)) (r : Result ℕ E) (text : List ℕ)
-    → WriteAppends a b r text → WriteAppends (if_logged log a) (if_logged log b) r text
-write_logged None a b (Ok n) text writes = tt
-write_logged None a b (Err e) text writes = tt
-write_logged (Some log) a b r text writes = writes
-
--- a new file, made where the log is as before
-pub new_writes : {E : Type 0} → (log now : Option (List FileStep)) (a b : Option (List ℕ)) (r : Result ℕ E) (text : List ℕ) → now ≡ added log [] → IsNew now a
-    → WriteAppends a b r text → WriteAppends (if_logged log (Some [])) (if_logged log b) r text
-new_writes None now a b r text same new writes = write_logged None a b r text writes
-new_writes (Some log) now a b r text same new writes =
-    subst (λ x. WriteAppends x b r text) (subst (λ l. IsNew l a) same new) writes
-
-pub still_logged : (log : Option (List FileStep)) → Keeps (if_logged log (Some [])) (if_logged log (Some []))
-still_logged None = tt
-still_logged (Some log) = refl
 
 -- a file that is made where the log is as before
 pub known_made : (log now : Option (List FileStep)) (a : Option (List ℕ)) → now ≡ added log [] → IsNew now a → IsKnown log a

@@ -1,5 +1,5 @@
 -- What each game makes of the files of the games so far.
-use Rattle.std.proofs.Common.{◌≡◌, ◌∙◌, ℕ, ◌^◌, ◌<◌, ◌≤◌, Bool, true, false, List, [], ◌∷◌, ◌++◌, length, length-append, length-take, map, take, Option, None, Some, IfSome, Result, Ok, Err, refl, sym, ap, subst, inl, inr, ◌⊎◌, arith, append_assoc, append-nil}
+use Rattle.std.proofs.Common.{◌≡◌, ◌∙◌, ℕ, ◌^◌, ◌<◌, ◌≤◌, true, false, List, [], ◌∷◌, ◌++◌, length, length-append, length-take, map, take, Option, None, Some, IfSome, Result, Ok, Err, refl, sym, ap, subst, inl, inr, ◌⊎◌, arith, append_assoc, append-nil}
 use Rattle.std.specs.Io.KnownBytes.{Appends, Consumes, IsAtEnd}
 use Rattle.std.proofs.KnownBytes.{Consumes-nil, Consumes-trans}
 use Rattle.std.proofs.lemmas.Bool.{false≢true}
@@ -7,7 +7,6 @@ use Rattle.std.proofs.lemmas.List.{length-map, map-append}
 use Rattle.pgn_layout.specs.Device.{Device, one_more}
 use Rattle.pgn_lexer.specs.Tokens.{Token}
 use Rattle.pgn_lexer.specs.TokensOf.{tokens_of}
-use Rattle.pgn_lexer.specs.Decided.{decided}
 use Rattle.pgn_game.specs.declared.reason.Reason.{Reason}
 use Rattle.pgn_game.specs.declared.reason.Reason.TheVariants.{ReadFault, WriteFault, InputTooLong}
 use Rattle.pgn_game.specs.declared.reason.Fault.{Fault}
@@ -380,8 +379,8 @@ module _ {A : Type 0} (taken : A → Option (List ℕ)) (failures : A → ℕ) (
       let next = rw answer at call.reads in
       let counted = rw answer at call.counted in (
         subst (SplitStops left_old source.after before after) is
-        (split_stops taken failures left_old source.before source.after old new before log after so call.file call.begun call.logged _ f _ _ (next _ _ _ so.have_read) counted),
+            (split_stops taken failures left_old source.before source.after old new before log after so call.file call.begun call.logged _ f _ _ (next _ _ _ so.have_read) counted),
         subst (λ w. SplitFiles before after (Err w)) is
-        (files_stop taken failures left_old source.before source.after old new before log after so call.file call.begun call.logged f _ _ counted),
+            (files_stop taken failures left_old source.before source.after old new before log after so call.file call.begun call.logged f _ _ counted),
         subst (λ w. CountsSplit {A = Unit} (Err w) source.failures source.failures_after) is (counts_source taken failures log call.file f _ _ call.begun counted),
       )
