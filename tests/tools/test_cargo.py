@@ -263,6 +263,7 @@ class Built(unittest.TestCase):
                 answer, files, met = call.run(number, number)
                 if answer[0] == -signal.SIGABRT:
                     self.assertEqual(answer[1], b"", (words, number))
+                    self.assertRegex(answer[2], rb"memory allocation of \d+ bytes failed")
                 elif answer == (3, b"", b"out of memory\n"):
                     self.assertTrue(tries.is_front(files, whole), (words, number))
                     reported += 1
