@@ -516,7 +516,8 @@ def without_added(path, lines):
         added += ["// Written for Cargo, not proved."] if module == "traits" else ["#[cfg(test)]"]
         added += ["mod %s;" % module]
     left = []
-    for line in (it for it in lines if it.strip() != "#[track_caller]"):
+    hints = ["#[track_caller]"] + ["#[inline]"] * ("/chess_rules/" in path)
+    for line in (it for it in lines if it.strip() not in hints):
         found = next((it for it in added if it.strip() == line.strip()), None)
         if found is None:
             left.append(line)
