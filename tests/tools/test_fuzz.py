@@ -1,0 +1,114 @@
+#!/usr/bin/env python3
+"""Runs each input of fuzz/corpus once, and tries whether it finds a planted bug for each law.
+
+Nothing here is random, takes the time or needs clang. bin/fuzz looks for new inputs.
+"""
+import glob
+import os
+import re
+import shutil
+import sys
+import unittest
+
+sys.path.insert(0, os.path.dirname(os.path.realpath(__file__)))
+import programs
+import test_cargo
+from programs import ROOT, run
+
+CORPUS = ROOT + "/fuzz/corpus"
+OUT = ROOT + "/fuzz/out/test"
+# A bug for each law: the law, the file of the Cargo workspace, the text there, and the bug.
+PLANTED = [
+    ("pieces", "pgn_lexer/src/lexer.rs", "        self.count += used as u64;",
+     "        self.count += (used.max(piece.len().min(1))) as u64;"),
+    ("told again", "pgn_game/src/converter.rs", "fail(Fault { at, reason }, fault)",
+     "Err(Fault { at, reason })"),
+    ("reads", "pgn_game/src/read_buffer.rs", "self.start += used;", "self.start += used.max(1);"),
+    ("lines", "pgn_layout/src/current_line.rs", "line.push(b'\\n');", "line.push(b' ');"),
+    ("fixed point", "pgn_layout/src/tag_line.rs", "byte == b'\"' || byte == b'\\\\'",
+     "byte == b'\\\\'"),
+    ("failing sink", "pgn_layout/src/sink.rs", "out.write_some(&bytes[written..])?",
+     "out.write_some(&bytes[written..]).unwrap_or(bytes.len() - written)"),
+    ("checked", "pgn_game/src/checked.rs", "|| at != told.at", "|| at == told.at"),
+    ("limits", "pgn_game/src/reader.rs", "Err(Reason::TooDeep)", "Err(Reason::NotAMove)"),
+    ("FEN", "chess_text/src/fen.rs", "Buffer::new().format(position.full())",
+     "Buffer::new().format(position.half())"),
+]
+
+
+def files():
+    return glob.glob(CORPUS + "/*")
+
+
+class Corpus(unittest.TestCase):
+    def setUp(self):
+        test_cargo.need_cargo()
+
+    def check_run(self, root):
+        """Builds the laws over the workspace below this folder, and runs the corpus."""
+        env = dict(os.environ, PATH=programs.PATH, CARGO_TARGET_DIR=OUT + "/target")
+        words = ["cargo", "build", "--offline", "--manifest-path", root + "/fuzz/Cargo.toml"]
+        ran = run(words, cwd=root + "/cargo/out", env=env, timeout=500)
+        said = ran.stderr.decode()
+        self.assertEqual(ran.returncode, 0, said)
+        self.assertNotIn("warning", said)
+        return run([OUT + "/target/debug/pgn_fuzz", CORPUS], timeout=300)
+
+    def copied(self):
+        """A copy of the workspace and the laws, in which a bug can be planted."""
+        copy = OUT + "/copy"
+        os.makedirs(copy + "/cargo", exist_ok=True)
+        ran = run([sys.executable, "bin/to_cargo", copy + "/cargo/out"])
+        self.assertEqual(ran.returncode, 0, ran.stderr)
+        for name in glob.glob("**/*.*", root_dir=ROOT + "/fuzz", recursive=True):
+            if name.endswith((".rs", ".toml")) and not name.startswith("out/"):
+                os.makedirs(os.path.dirname("%s/fuzz/%s" % (copy, name)), exist_ok=True)
+                shutil.copy2("%s/fuzz/%s" % (ROOT, name), "%s/fuzz/%s" % (copy, name))
+        return copy
+
+    def test_no_law_is_broken(self):
+        ran = self.check_run(self.copied())
+        self.assertEqual(ran.returncode, 0, ran.stderr.decode()[-2000:])
+        self.assertEqual(ran.stdout.decode(), "%d inputs, no finding\n" % len(files()))
+
+    def test_a_planted_bug_is_found_by_each_law(self):
+        copy = self.copied()
+        for law, name, old, new in PLANTED:
+            with self.subTest(law):
+                path = "%s/cargo/out/crates/%s" % (copy, name)
+                right = test_cargo.read(path)
+                self.assertEqual(right.count(old), 1, old)
+                self.write(path, right.replace(old, new))
+                try:
+                    ran = self.check_run(copy)
+                finally:
+                    self.write(path, right)
+                self.assertEqual(ran.returncode, 101, ran.stderr.decode()[-2000:])
+                self.assertIn("%s: " % law, ran.stderr.decode())
+
+    def write(self, path, text):
+        with open(path, "w", encoding="utf-8") as file:
+            file.write(text)
+
+
+class Files(unittest.TestCase):
+    """What is there, without cargo."""
+
+    def test_the_corpus_is_small(self):
+        sizes = [os.path.getsize(it) for it in files()]
+        self.assertGreater(len(sizes), 50)
+        self.assertLess(len(sizes), 500)
+        self.assertLess(sum(sizes), 200_000)
+
+    def test_each_law_has_a_planted_bug(self):
+        """The laws of fuzz/src/laws.rs, those that bin/fuzz lists, and the bugs."""
+        text = test_cargo.read(ROOT + "/fuzz/src/laws.rs")
+        laws = {it.lower() for it in re.findall(r"^/// \*([\w ]+)\*: ", text, re.MULTILINE)}
+        self.assertEqual({it[0].lower() for it in PLANTED}, laws)
+        listed = re.findall(r"^    (\w[\w ]+?)  +\w", test_cargo.read(ROOT + "/bin/fuzz").split(
+            "status:")[0], re.MULTILINE)
+        self.assertEqual({it.lower() for it in listed if not it.startswith("bin/")}, laws)
+
+
+if __name__ == "__main__":
+    unittest.main()
