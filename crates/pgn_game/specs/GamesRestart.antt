@@ -26,15 +26,16 @@ counting_also games (refused f) = refused f
 counting_also games (totals more) =
     totals (record { games = length games + more.games; plies = sum (map plies_of games) + more.plies })
 
--- The text u and s is read from the end of these games on. Its games are these and those of the
--- rest, and its output is their text and the output of the rest. The verdict is that of the rest,
--- with these games counted.
-pub record ReadsOnBehind (p : Profile) (u s : List ℕ) (games : List Game) : Type 0 where
-  pub games : games_read p (tokens_of (u ++ s))
-      ≡ games ++ games_read p (tokens_of (white_space (length u) false ++ s))
-  pub output : output p (u ++ s) ≡ text_of p games ++ output p (white_space (length u) false ++ s)
-  pub verdict : verdict p (u ++ s)
-      ≡ counting_also games (verdict p (white_space (length u) false ++ s))
+-- The text u and s is read from the end of the earlier games on. Its games are these and those of
+-- the rest, and its output is their text and the output of the rest. The verdict is that of the
+-- rest, with these games counted.
+pub record ReadsOnBehind (p : Profile) (u s : List ℕ) (earlier : List Game) : Type 0 where
+  pub same_games : games_read p (tokens_of (u ++ s))
+      ≡ earlier ++ games_read p (tokens_of (white_space (length u) false ++ s))
+  pub same_output : output p (u ++ s)
+      ≡ text_of p earlier ++ output p (white_space (length u) false ++ s)
+  pub same_verdict : verdict p (u ++ s)
+      ≡ counting_also earlier (verdict p (white_space (length u) false ++ s))
 
 -- so it is if the last byte of u ends a game
 abbrev pub GamesRestart : Type 0

@@ -23,9 +23,8 @@ const FROM_FEN: &[u8] = b"1";
 
 /// Writes the tag section: the roster, in full mode the other pairs, and an empty line (PGN 8.1).
 ///
-/// A roster pair that the game lacks has its default, which for Result is what is known
-/// of a missing one. Beside
-/// a FEN, SetUp is 1 (PGN 9.7.1).
+/// A roster pair that the game lacks has its default, which for Result is what is known of a
+/// missing one. Beside a FEN, SetUp is 1 (PGN 9.7.1).
 ///
 /// # Errors
 ///

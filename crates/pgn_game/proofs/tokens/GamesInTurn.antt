@@ -186,7 +186,10 @@ module _ (p : Profile) (given : List Token) (l : Standing) (ts : List Token) (pa
       is ∙ ap (λ x. writing.front ++ x ∷ mid) (sym (head parts)) ∙ sym (append_assoc writing.front (writing.token ∷ []) mid) in
       let grown = due_grows p (writing.front ++ writing.token ∷ []) mid in
       absurd (omega (
-        arith, longer, writing.short, ap (length {A = ℕ}) (ap (due p) all ∙ grown.1),
+        arith,
+        longer,
+        writing.short,
+        ap (length {A = ℕ}) (ap (due p) all ∙ grown.1),
         length-append (due p (writing.front ++ writing.token ∷ [])) grown.0,
       ))
 

@@ -1,5 +1,5 @@
 -- A text that is converted from the end of a game on.
-use Rattle.std.proofs.Common.{◌≡◌, ℕ, ◌+◌, false, List, [], ◌∷◌, ◌++◌, length, Option, None, Some, refl, sym, ap, subst, ◌∙◌, append_assoc, append-nil, length-append, arith, map, sum}
+use Rattle.std.proofs.Common.{◌≡◌, ℕ, ◌+◌, false, List, [], ◌∷◌, ◌++◌, length, Option, None, Some, refl, sym, ap, ◌∙◌, append_assoc, append-nil, length-append, arith, map, sum}
 use Rattle.std.proofs.lemmas.List.Sums.{sum-map, sum_by-append}
 use Rattle.pgn_lexer.specs.Tokens as tokens
 use Rattle.pgn_lexer.specs.Tokens.{EndsAt}
@@ -13,7 +13,7 @@ use Rattle.pgn_game.specs.Levels.{plies_of}
 use Rattle.pgn_game.specs.FaultTable.{refusal, marker_of}
 use Rattle.pgn_game.specs.Text.{game_text, text_of, torn}
 use Rattle.pgn_game.specs.Progress.{Next, going, whole, next, next_in, in_text, Progress, progress_with, progress_after, no_progress, Read, read_from, read, written, output, verdict, verdict_of, refused, totals}
-use Rattle.pgn_game.specs.GamesRestart.{games_read, FinishesGame, counting_also, ReadsOnBehind, GamesRestart}
+use Rattle.pgn_game.specs.GamesRestart.{games_read, FinishesGame, counting_also, GamesRestart}
 use Rattle.pgn_game.proofs.tokens.OneMoreToken.{read_from-test, after_test, first_passes, goes_on, stops_from}
 use Rattle.pgn_game.proofs.tokens.GamesInTurn.{reads_behind}
 
@@ -63,7 +63,7 @@ verdict_with_front games r = by_fault r.fault
     by_fault None =
         ap (λ n. totals (record { games = n; plies = sum (map plies_of (games ++ r.progress.games)) })) (length-append games r.progress.games)
         ∙ ap (λ n. totals (record { games = length games + length r.progress.games; plies = n }))
-            (plies_of_both games r.progress.games)
+        (plies_of_both games r.progress.games)
 
 -- ---- A marker
 
@@ -121,7 +121,7 @@ module _ (p : Profile) (given : List Token) (marker : Token) (finishes : Finishe
       absurd (no_more b.games finishes.game (sym (ap (λ (c : Progress). c.games) progress) ∙ finishes.one_more))
   by_next (whole g) is leads progress = record {
     progress = no_part_behind (read p (given ++ marker ∷ [])).progress (b.games ++ g ∷ []) progress;
-    kind = leads
+    kind = leads;
   }
 
   by_fault : (o : Option Fault) → (read p given).fault ≡ o → Behind p given marker
@@ -144,13 +144,13 @@ games_restart restart p u s given rest marker cut ends finishes =
     let after : Behind p given marker = behind p given marker finishes in
     let same : rest ≡ tokens_of later = restart u s given rest marker cut ends after.kind in
     let joined : read p (tokens_of (u ++ s)) ≡ reads_with_front gs (read p (tokens_of later)) =
-        ap (read p) (cut ∙ sym (append_assoc given (marker ∷ []) rest))
-        ∙ reads_behind p no_progress ts rest finishes.passes
-        ∙ ap (λ (c : Progress). read_from p c rest) (after.progress ∙ ap (λ (l : List Game). record { games = l; part = no_part }) (sym (append-nil gs)))
-        ∙ front_stays p gs no_progress rest
-        ∙ ap (λ (us : List Token). reads_with_front gs (read p us)) same in
+    ap (read p) (cut ∙ sym (append_assoc given (marker ∷ []) rest))
+    ∙ reads_behind p no_progress ts rest finishes.passes
+    ∙ ap (λ (c : Progress). read_from p c rest) (after.progress ∙ ap (λ (l : List Game). record { games = l; part = no_part }) (sym (append-nil gs)))
+    ∙ front_stays p gs no_progress rest
+    ∙ ap (λ (us : List Token). reads_with_front gs (read p us)) same in
     record {
-      games = ap (λ (r : Read). r.progress.games) joined;
-      output = ap (λ (r : Read). written p r.progress) joined ∙ written_with_front p gs (read p (tokens_of later)).progress;
-      verdict = ap verdict_of joined ∙ verdict_with_front gs (read p (tokens_of later));
+      same_games = ap (λ (r : Read). r.progress.games) joined;
+      same_output = ap (λ (r : Read). written p r.progress) joined ∙ written_with_front p gs (read p (tokens_of later)).progress;
+      same_verdict = ap verdict_of joined ∙ verdict_with_front gs (read p (tokens_of later));
     }

@@ -19,7 +19,7 @@ few_waiting_in _ = omega arith
 pub few_waiting : (l : Standing) → waiting l ≤ 2
 few_waiting l = few_waiting_in l.held.mode
 
-pub sound_at_start : (l : Standing) (r : ReaderState) → l.count ≡ 0 → r.earlier_plies ≡ 0 → r.text.plies ≡ 0 → IsKnown r.profile → IsSound l r 0 false false None
+pub sound_at_start : (l : Standing) (r : ReaderState) → l.count ≤ 2 ^ 62 → r.earlier_plies ≡ 0 → r.text.plies ≡ 0 → IsKnown r.profile → IsSound l r 0 false false None
 sound_at_start l r count earlier plies known =
     let few = few_waiting l in
     record {

@@ -31,8 +31,8 @@ new-requires g c = (search fits_reader, c.requires.levels)
 
 pub invariant_of-result : goal.invariant_of-result
 invariant_of-result g c =
-    let is = c.new-2.ensures in
-    sound_at_start c.new.result c.new-2.result c.new.ensures.stands.count (ap (λ (r : ReaderState). r.earlier_plies) is) (ap (λ (r : ReaderState). r.text.plies) is)
+    let is = c.new.ensures in
+    sound_at_start c.begin_at.result c.new.result (omega (arith, c.begin_at.ensures.count, c.requires.place)) (ap (λ (r : ReaderState). r.earlier_plies) is) (ap (λ (r : ReaderState). r.text.plies) is)
     (subst (λ (r : ReaderState). IsKnown r.profile) (sym is) refl)
 
 pub returns-clause-not_finished : goal.returns-clause-not_finished
