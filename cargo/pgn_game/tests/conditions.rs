@@ -43,6 +43,17 @@ fn a_converter_has_a_level() {
     Converter::<0, 1>::new(FULL);
 }
 
+#[test]
+fn a_converter_begins_within_the_limit() {
+    let sentence = "the number of levels L is at least 1, and the place at most 2^62";
+    refuses(sentence, || Converter::<64, 0>::begin_at(FULL, 7, false));
+    refuses(sentence, || {
+        Converter::<64, 33>::begin_at(FULL, (1 << 62) + 1, false)
+    });
+    let converter = Converter::<64, 33>::begin_at(FULL, 1 << 62, false);
+    assert_eq!(converter.count(), 1 << 62);
+}
+
 fn inlet() -> Inlet<&'static [u8]> {
     Inlet::new(b"*")
 }
