@@ -12,6 +12,7 @@ import time
 
 HERE = os.path.dirname(os.path.realpath(__file__))
 ROOT = os.path.dirname(HERE)
+OUT = HERE + "/out"
 IN_MEMORY = "/dev/shm"
 # the script that measures, as messages name it
 SCRIPT = "bench/" + os.path.basename(sys.argv[0])
@@ -36,7 +37,7 @@ MAIN_FUNCTIONS = {
 }
 # Programs of others that are called, and the packages of Debian that have them.
 PACKAGES = {"pgn-extract": "pgn-extract", "valgrind": "valgrind", "time": "time",
-            "tkscid": "scid", "strace": "strace", "parallel": "parallel"}
+            "tkscid": "scid", "strace": "strace", "cargo": "cargo", "parallel": "parallel"}
 # Other work is more than so many processors that other processes keep busy, on average.
 QUIET = 0.2
 # how long is waited to see whether there is other work

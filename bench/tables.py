@@ -146,6 +146,24 @@ def checked(archive):
             *table(["", "games/s", "instructions a game"], rows)]
 
 
+def builds(result):
+    """The instructions of each build, and their ratio to those of the first one."""
+    archives = result["archives"]
+    if not archives[0]["builds"]:
+        return ["### The builds", "", "The builds are not compared, without a cargo that builds them.",
+                ""]
+    rows = []
+    for name in archives[0]["builds"]:
+        rows.append([name])
+        for it in archives:
+            spent, first = it["builds"][name], next(iter(it["builds"].values()))
+            rows[-1] += [format(round(spent), ","), "%.2f" % (spent / first)]
+    head = ["instructions a game"]
+    for it in archives:
+        head += [it["name"], "ratio"]
+    return ["### The builds", "", *table(head, rows)]
+
+
 def report(result):
     """All tables, as bench/README.md has them."""
     lines = machine(result) + goals(result)
@@ -156,7 +174,7 @@ def report(result):
     if result["stack"]:
         rows = [[task, kib] for task, kib in result["stack"].items()]
         lines += ["### Least stack", "", *table(["task", "KiB"], rows)]
-    return lines[:-1]
+    return (lines + builds(result))[:-1]
 
 
 def summary(result):

@@ -1,6 +1,8 @@
 #!/usr/bin/env python3
 """Tests of bench/run: its words, its readers of other tools' output, and its tables. No timing."""
+import contextlib
 import copy
+import io
 import os
 import re
 import shutil
@@ -13,6 +15,7 @@ from programs import ROOT, run
 
 sys.dont_write_bytecode = True
 sys.path.insert(0, ROOT + "/bench")
+import builds
 import measure
 import tables
 
@@ -102,6 +105,7 @@ def archive(name, wall):
             "split": {"wall": {"export": 0.5, "split": 4}, "calls": {"export": 0.25, "split": 20}},
             "checked": {"export": {"wall": 0.5, "instructions": 200},
                         "export --checked": {"wall": 1, "instructions": 390}},
+            "builds": {"proved": 2000, "Cargo": 2300.4, "dependent": 2500},
             "sizes": [{"bytes": 1_000_000, "wall": 0.05, "instructions": 2_000_000, "memory": 1.5}]}
 
 
@@ -116,7 +120,7 @@ RESULT = {
 
 class Words(unittest.TestCase):
     def test_help(self):
-        for script in ("run", "parallel", "library", "builds"):
+        for script in ("run", "parallel", "library"):
             ran = run([ROOT + "/bench/" + script, "--help"])
             self.assertEqual((ran.returncode, ran.stderr), (0, b""))
             self.assertIn(b"--record", ran.stdout)
@@ -273,20 +277,27 @@ class Tables(unittest.TestCase):
                      "| split | 500 | 20.00 |",
                      "| export --checked | 2000 | 390 |",
                      "| 1.0 | 0.05 | 50.0 | 2.0 | 1.5 |",
-                     "| list | 132 |"):
+                     "| list | 132 |",
+                     "### The builds",
+                     "| instructions a game | plain | ratio | annotated | ratio |",
+                     "| proved | 2,000 | 1.00 | 2,000 | 1.00 |",
+                     "| Cargo | 2,300 | 1.15 | 2,300 | 1.15 |",
+                     "| dependent | 2,500 | 1.25 | 2,500 | 1.25 |"):
             self.assertIn(line, lines)
         self.assertEqual([line for line in lines if len(line) > 100 and line[0] != "|"], [])
 
     def test_what_could_not_be_measured(self):
         result = copy.deepcopy(RESULT)
         for it in result["archives"]:
-            it["sizes"] = []
+            it["sizes"], it["builds"] = [], {}
         result["archives"][0]["split"] = None
         result["archives"][1]["split"]["calls"] = None
         text = "\n".join(tables.report(result))
         self.assertNotIn("Cost against size", text)
         self.assertEqual(text.count("| split |"), 1)
         self.assertIn("| split | 500 |  |", text)
+        self.assertNotIn("| proved |", text)
+        self.assertIn("\n### The builds\n\nThe builds are not compared", text)
 
     def test_the_summary(self):
         lines = tables.summary(RESULT)
@@ -299,6 +310,44 @@ class Tables(unittest.TestCase):
     def test_the_sentence_of_the_manual(self):
         line = tables.least_stack(RESULT)[0]
         self.assertEqual(line, "The least that was measured is 132 KiB, and 180 KiB with --checked,")
+
+
+class Builds(unittest.TestCase):
+    """How the builds are compared, with small programs in place of those that cargo builds."""
+
+    def setUp(self):
+        self.folder = tempfile.mkdtemp()
+        self.addCleanup(shutil.rmtree, self.folder)
+        for module, name in ((builds, "OUT"), (builds, "WORKSPACE"), (measure, "found"),
+                             (measure, "callgrind")):
+            self.addCleanup(setattr, module, name, getattr(module, name))
+        builds.OUT, builds.WORKSPACE = self.folder, self.folder + "/workspace"
+        measure.callgrind = lambda words: ({"Ir": 10 * os.path.getsize(words[-1])}, {}, {})
+        self.files = []
+        for size in (20, 60):
+            self.files.append(os.path.join(self.folder, str(size)))
+            with open(self.files[-1], "wb") as file:
+                file.write(size * b"a")
+
+    def test_the_instructions_of_a_game(self):
+        spent = builds.figures({"one": ["cat"], "two": ["cat", "--"]}, *self.files, 8)
+        self.assertEqual(spent, {"one": 50, "two": 50})
+
+    def test_all_must_write_the_same(self):
+        with self.assertRaises(SystemExit) as stopped:
+            builds.figures({"one": ["cat"], "two": ["head", "-c7"]}, *self.files, 8)
+        self.assertIn("the build two writes other bytes", str(stopped.exception))
+
+    def test_without_a_cargo(self):
+        measure.found = lambda name: None
+        self.assertEqual(builds.built(), {})
+        self.assertEqual(builds.figures({}, *self.files, 8), {})
+
+    def test_a_cargo_that_fails(self):
+        measure.found = lambda name: "/bin/false"
+        with contextlib.redirect_stderr(io.StringIO()) as said:
+            self.assertEqual(builds.built(), {})
+        self.assertIn("cargo failed; goes on without", said.getvalue())
 
 
 class Records(unittest.TestCase):
@@ -354,7 +403,6 @@ class Records(unittest.TestCase):
             self.expect_markers(name, "bench/run")
         self.expect_markers("docs/RECIPES.md", "bench/parallel")
         self.expect_markers("bench/README.md", "bench/library")
-        self.expect_markers("bench/README.md", "bench/builds")
 
 
 if __name__ == "__main__":
