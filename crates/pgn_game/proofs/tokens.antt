@@ -2,6 +2,7 @@
 pub mod AcceptedToConverter
 pub mod GamesInPiece
 pub mod GamesInTurn
+pub mod GamesJoined
 pub mod GamesRestart
 pub mod LastTokens
 pub mod NextGrows

@@ -1,5 +1,6 @@
 //! Laws of the definitions that the contracts cite. The functions do nothing.
 ghost use Rattle.pgn_game.specs.Laws as laws;
+ghost use Rattle.pgn_game.specs.GamesJoined as joined;
 ghost use Rattle.pgn_game.specs.GamesRestart as restart;
 ghost use Rattle.pgn_game.specs.MovesAreLegal as legality;
 ghost use Rattle.pgn_game.specs.FixedPoint as fixed;
@@ -33,6 +34,16 @@ pub fn games_restart()
 {
     texts_restart();
 }
+
+/// The calls of `Games::next` together convert the whole text that their source gives.
+///
+/// After any number of games, these are the first games of the text, and what is written is their
+/// export text. After `false` they are all its games: their number and their plies are its verdict,
+/// and what is written is its output. After an error the output and the error are those of
+/// `convert`. Each call has to get the source and the sink as the call before left them.
+pub fn games_join()
+    ensures { joined.GamesJoin }
+{}
 
 /// By the grammar, a text spells exactly the games that are read, if no token is rejected.
 ///

@@ -47,7 +47,7 @@ ended p u given new finished_game t a c done games plies probes bound =
     (is_verdict, most, done.gains)
 
 -- what was due from the start on
-appended : (p : Profile) (tokens : List Token) (a c : Option (List ℕ)) → Gains p [] tokens a c → Appends a c (due p tokens)
+pub appended : (p : Profile) (tokens : List Token) (a c : Option (List ℕ)) → Gains p [] tokens a c → Appends a c (due p tokens)
 appended p tokens a c gains =
     let whole : due p tokens ≡ gains.text = gains.due_for ∙ ap (λ l. l ++ gains.text) (torn-none p.missing_result p.mode) in
     subst (Appends a c) (sym whole) gains.appended

@@ -1,0 +1,99 @@
+-- Calls of `next` one after another.
+use Rattle.std.proofs.Common.{◌≡◌, ℕ, ◌∷◌, ◌++◌, true, false, List, [], length, map, sum, Bool, Option, None, Some, Result, Ok, Err, IfSome, refl, sym, ap, subst, ◌∙◌}
+use Rattle.std.proofs.KnownBytes.{Consumes-nil, Consumes-trans}
+use Rattle.std.proofs.lemmas.List.{map-append, length-map}
+use Rattle.std.specs.Io.KnownBytes.{Appends}
+use Rattle.pgn_layout.specs.Device.{Device}
+use Rattle.pgn_lexer.specs.TokensOf.{tokens_of}
+use Rattle.pgn_game.proofs.Words.{Fault, Profile, Game}
+use Rattle.pgn_game.specs.Levels.{plies_of}
+use Rattle.pgn_game.specs.Progress.{read, totals, verdict}
+use Rattle.pgn_game.specs.ConverterCalls.{FinishedGame, finished_game_of}
+use Rattle.pgn_game.specs.GamesCalls.{Games, HaveRead, ReadSoFar, NextGame, NoGame}
+use Rattle.pgn_game.specs.GamesRestart.{games_read}
+use Rattle.pgn_game.specs.GamesJoined as joined
+use Rattle.pgn_game.specs.GamesJoined.{TakesGames, GamesJoin}
+use Rattle.pgn_game.proofs.tokens.OneMoreToken.{gains_none, gains_more}
+use Rattle.pgn_game.proofs.tokens.WholeInput.{games_stop, verdict_passes, appended, known_whole}
+
+abbrev finished : List Game → List FinishedGame
+finished games = map finished_game_of games
+
+same_game : (o : Option FinishedGame) (x y : FinishedGame) → o ≡ Some x → o ≡ Some y → x ≡ y
+same_game o x y e f = ap (λ (q : Option FinishedGame). elim q [ None ↦ x | Some z ↦ z ]) (sym e ∙ f)
+
+-- the plies of the games taken are those of the games
+plies_taken : (games : List Game) → map (λ (game : FinishedGame). game.plies) (finished games) ≡ map plies_of games
+plies_taken [] = refl
+plies_taken (g ∷ games) = ap (λ l. plies_of g ∷ l) (plies_taken games)
+
+-- what was read and written so far; the games taken are those read
+record SoFar (p : Profile) (left before : Option (List ℕ)) (taken : List FinishedGame) (now : Games) (left_now after : Option (List ℕ)) : Type 0 where
+  pub reads : ReadSoFar p left left_now now before after
+  pub games : taken ≡ finished (games_read p reads.tokens)
+
+-- one game more
+taken_more : (p : Profile) (left left_old left_new before out after : Option (List ℕ)) (taken : List FinishedGame) (game : FinishedGame) (old new : Games)
+    (so : SoFar p left before taken old left_old out)
+    (next : NextGame p so.reads.bytes so.reads.tokens left_old left_new new out after) → new.converter.just_finished ≡ Some game
+    → taken ++ game ∷ [] ≡ finished (games_read p next.tokens)
+taken_more p left left_old left_new before out after taken game old new so next e =
+    ap (λ l. l ++ game ∷ []) so.games
+    ∙ ap (λ g. finished (games_read p so.reads.tokens) ++ g ∷ []) (same_game new.converter.just_finished game (finished_game_of next.game) e next.just_finished)
+    ∙ sym (map-append finished_game_of (games_read p so.reads.tokens) (next.game ∷ []))
+    ∙ ap finished (sym next.one_game)
+
+module _ (p : Profile) (left before : Option (List ℕ)) (first : Games) (begins : HaveRead p left [] first []) where
+  so_far : {taken : List FinishedGame} {now : Games} {left_now after : Option (List ℕ)} → TakesGames left before first taken now left_now after
+      → SoFar p left before taken now left_now after
+  so_far joined.none =
+      record {
+        reads = record { bytes = []; tokens = []; consumed = Consumes-nil left; have_read = begins; gains = gains_none p [] before };
+        games = refl;
+      }
+  so_far (joined.one_more taken game old new source sink calls reads e) =
+      let so = so_far calls in
+      let next = reads p so.reads.bytes so.reads.tokens so.reads.have_read in
+      record {
+        reads = record {
+          bytes = so.reads.bytes ++ next.more;
+          tokens = next.tokens;
+          consumed = Consumes-trans left source.before source.after so.reads.bytes next.more so.reads.consumed next.consumed;
+          have_read = next.have_read;
+          gains = gains_more p [] so.reads.tokens next.tokens before sink.before sink.after so.reads.gains next.gains;
+        };
+        games = taken_more p left source.before source.after before sink.before sink.after taken game old new so next e;
+      }
+
+pub games_join : GamesJoin
+games_join p left before first old new taken (Ok true) source sink begins calls reads = λ game e.
+    let so = so_far p left before first begins calls in
+    let next = reads p so.reads.bytes so.reads.tokens so.reads.have_read in
+    record {
+      bytes = so.reads.bytes ++ next.more;
+      consumed = Consumes-trans left source.before source.after so.reads.bytes next.more so.reads.consumed next.consumed;
+      tokens = next.tokens;
+      games = taken_more p left source.before source.after before sink.before sink.after taken game old new so next e;
+      written = subst (Appends before sink.after) next.whole
+          (appended p next.tokens before sink.after (gains_more p [] so.reads.tokens next.tokens before sink.before sink.after so.reads.gains next.gains));
+    }
+games_join p left before first old new taken (Ok false) source sink begins calls reads =
+    let so = so_far p left before first begins calls in
+    let end = reads p so.reads.bytes so.reads.tokens so.reads.have_read in
+    let text = so.reads.bytes ++ end.more in
+    let same : taken ≡ finished (games_read p (tokens_of text)) = so.games ∙ ap finished (sym end.no_game) in
+    let games = games_read p (tokens_of text) in
+    known_whole left source.after text (λ s. joined.TookAll p s taken before sink.after)
+    (Consumes-trans left source.before source.after so.reads.bytes end.more so.reads.consumed end.consumed) end.have_read_all.at_end
+    (record {
+      games = same;
+      counts = verdict_passes (read p (tokens_of text)) end.have_read_all.has_read.passes
+          ∙ ap (λ n. totals (record { games = n; plies = sum (map plies_of games) })) (sym (length-map games finished_game_of) ∙ ap length (sym same))
+          ∙ ap (λ l. totals (record { games = length taken; plies = sum l })) (sym (plies_taken games) ∙ ap (map (λ (game : FinishedGame). game.plies)) (sym same));
+      written = appended p (tokens_of text) before sink.after
+          (gains_more p [] so.reads.tokens (tokens_of text) before sink.before sink.after so.reads.gains end.gains);
+    })
+games_join p left before first old new taken (Err f) source sink begins calls reads =
+    let so = so_far p left before first begins calls in
+    games_stop p left source.before source.after old before sink.before sink.after so.reads new.converter.reading.most_probes f
+    (reads p so.reads.bytes so.reads.tokens so.reads.have_read)
