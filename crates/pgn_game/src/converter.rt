@@ -16,6 +16,7 @@ ghost use Rattle.pgn_game.specs.ConverterCalls.{finished_game_plies, finished_ga
 ghost use Rattle.pgn_game.specs.ReaderState.{whole_plies};
 
 use crate::accepted::Accepted;
+use crate::marker::{Marker, MissingResult};
 use crate::mode::Mode;
 use crate::reader::Reader;
 use crate::reason::{Fault, Reason};
@@ -142,6 +143,14 @@ impl<const T: usize, const L: usize> Converter<T, L> {
             is_finished: false,
             fault: None,
         }
+    }
+
+    /// From now on a game without a Result pair counts as having this one.
+    ///
+    /// Call it before any byte is fed. A new converter counts a missing Result as `*`.
+    pub fn count_missing_result_as(&mut self, marker: Marker) {
+        self.reader
+            .count_missing_result_as(MissingResult::CountsAs(marker));
     }
 
     /// Converts the piece up to the end of the next game, and reports how much of it was used.
@@ -315,6 +324,19 @@ impl<const T: usize, const L: usize> Converter<T, L> {
             return Some(self.reader.position());
         }
         None
+    }
+
+    /// Returns the position in which a move was rejected.
+    ///
+    /// It is the one before the move, also inside a variation. The result is `None` unless the
+    /// fault is `Reason::IllegalMove`, `Reason::AmbiguousMove` or `Reason::MoveLimit`.
+    pub fn refused_position(&self) -> Option<&Position> {
+        match self.fault?.reason {
+            Reason::IllegalMove | Reason::AmbiguousMove | Reason::MoveLimit => {
+                Some(self.reader.position())
+            }
+            _ => None,
+        }
     }
 
     /// Returns the most pairs of an origin and a target that were tried for one move so far.
