@@ -4,6 +4,7 @@ pub mod GamesInPiece
 pub mod GamesInTurn
 pub mod GamesRestart
 pub mod LastTokens
+pub mod MissingCountsAs
 pub mod NextGrows
 pub mod OneMoreToken
 pub mod PairsTriedForToken
