@@ -1,32 +1,30 @@
 -- Reading with a missing Result that counts as a text, and with one that takes the marker.
 -- Letters: q is the profile whose missing Result takes the marker, b the progress, t a token, ts
 -- are tokens.
-use Rattle.std.proofs.Common.{◌≡◌, ◌⊎◌, inl, inr, ℕ, ◌+◌, Bool, true, false, ◌&&◌, ◌||◌, not, nat_le, ◌==◌, List, [], ◌∷◌, ◌++◌, length, take, drop, codes, bytes_eq, unwrap_or, Option, None, Some, is_some, suc, zero, IsTrue, refl, sym, ap, subst, ◌∙◌, length-append, true≢false, arith}
+use Rattle.std.proofs.Common.{◌≡◌, ◌⊎◌, inl, inr, ℕ, ◌+◌, Bool, true, false, ◌&&◌, not, ◌==◌, List, [], ◌∷◌, ◌++◌, length, take, drop, codes, bytes_eq, unwrap_or, Option, None, Some, IsTrue, refl, sym, ap, subst, ◌∙◌, length-append, true≢false, arith}
 use Rattle.std.specs.List.{list_all}
-use Rattle.std.proofs.lemmas.Bool.{and_parts, le-leb, not-true}
+use Rattle.std.proofs.lemmas.Bool.{and_parts, not-true}
 use Rattle.std.proofs.lemmas.Slice.Eq.{bytes_eq-Decides}
 use Rattle.pgn_layout.specs.Lines.{lines_of, text_of as text_of_lines}
 use Rattle.pgn_lexer.specs.Tokens as tokens
-use Rattle.pgn_game.proofs.Words.{Kind, Token, Reason, BadTagName, ResultDiffers, MarkerInVariation, Stage, Between, AfterLeftBracket, AfterName, AfterValue, Profile, Missing, counts_as, takes_the_marker, Pair, value_of, Game, Part}
+use Rattle.pgn_game.proofs.Words.{Kind, Token, Reason, ResultDiffers, Profile, Missing, counts_as, takes_the_marker, Pair, value_of, Game, Part}
 use Rattle.pgn_game.specs.declared.reason.Fault.{Fault}
 use Rattle.pgn_game.specs.declared.marker.Marker.{Marker}
-use Rattle.pgn_game.specs.declared.marker.Marker.TheVariants.{WhiteWins, BlackWins, Draw, Unknown}
 use Rattle.pgn_game.specs.Markers.{marker_text}
 use Rattle.pgn_game.specs.Profile.{counting, with_missing}
 use Rattle.pgn_game.specs.TagSection.{tag_lines}
 use Rattle.pgn_game.specs.Levels.{depth, start_of}
-use Rattle.pgn_game.specs.FaultTable.{Row, row, rows, first_holding, refusal, in_name, is_marker, is_score, is_outside_tag_pairs, has_other_result, levels_of_part, marker_of}
+use Rattle.pgn_game.specs.FaultTable.{Row, row, rows, first_holding, refusal, is_outside_tag_pairs, has_other_result, levels_of_part, marker_of}
 use Rattle.pgn_game.specs.Spells.{IsResult}
 use Rattle.pgn_game.specs.Text.{game_text, text_of, tokens_out}
-use Rattle.pgn_game.specs.Progress.{Next, going, whole, at_stage, next, Progress, progress_with, progress_after, no_progress, Read, read_from, read}
+use Rattle.pgn_game.specs.Progress.{Next, going, whole, next, Progress, progress_with, progress_after, no_progress, Read, read_from, read}
 use Rattle.pgn_game.specs.TokenInMovetext.{or_else}
 use Rattle.pgn_game.specs.MissingResults.{is_about_result, rejects_marker, IsReadAlike, MissingResults}
-use Rattle.pgn_game.proofs.refusals.RefusalsInMovetext.{other_if, score_of}
-use Rattle.pgn_game.proofs.refusals.RefusalsByStage.{name_refusal, test_failed}
-use Rattle.pgn_game.proofs.reading.MovetextTokens.{result_is}
+use Rattle.pgn_game.proofs.refusals.RefusalsInMovetext.{other_if}
 use Rattle.pgn_game.proofs.exporting.GameTextToGame.{exported_result}
+use Rattle.pgn_game.proofs.exporting.GameToResult.{one_of_four, result_of}
 use Rattle.pgn_game.proofs.tokens.OneMoreToken.{after_test, read_from-test, goes_on, text_of-snoc}
-use Rattle.pgn_game.proofs.twice.MarkerCounts.{marker_finishes, no_marker_goes, no_name, refusal_counting, same_game_text, table_alike}
+use Rattle.pgn_game.proofs.twice.MarkerCounts.{marker_finishes, no_marker_goes, refusal_counting, same_game_text, table_alike}
 
 -- One row of the table.
 
@@ -46,15 +44,6 @@ without_row [] true rest plain = absurd (true≢false plain)
 without_row [] false rest plain = refl
 without_row (r ∷ rs) x rest plain =
     unless_first r.holds r.reason (first_holding (rs ++ row ResultDiffers false ∷ rest)) (first_holding (rs ++ row ResultDiffers x ∷ rest)) plain (without_row rs x rest)
-
-none_of : (b : Bool) (reason : Reason) (rest : Option Reason) → or_else b reason rest ≡ None → (b ≡ false) × (rest ≡ None)
-none_of true reason rest e = absurd (cc)
-none_of false reason rest e = (refl, e)
-
--- if no row holds, this one does not
-row_fails : (rs : List Row) (r : Row) (rest : List Row) → first_holding (rs ++ r ∷ rest) ≡ None → r.holds ≡ false
-row_fails [] r rest e = (none_of r.holds r.reason (first_holding rest) e).0
-row_fails (x ∷ rs) r rest e = row_fails rs r rest (none_of x.holds x.reason (first_holding (rs ++ r ∷ rest)) e).1
 
 and_false : (a b : Bool) → (a && false && b) ≡ false
 and_false true b = refl
@@ -93,52 +82,6 @@ refusal_taking q text part k takes plain =
       | inl same ↦ sym (table_alike q (counts_as text) takes_the_marker part k same)
       | inr none ↦ table_without q text part k none plain
     ]
-
--- A marker that finishes a game is its Result.
-star_outside : (p : Profile) (stage : Stage) (part : Part) → refusal p (at_stage stage part) tokens.asterisk ≡ None → is_outside_tag_pairs (at_stage stage part) ≡ true
-unfolding refusal
-star_outside p Between part free = refl
-star_outside p _ part free = cc
-
-score_outside : (p : Profile) (stage : Stage) (part : Part) (s : List ℕ) → is_score s ≡ true → refusal p (at_stage stage part) (tokens.symbol s) ≡ None
-    → is_outside_tag_pairs (at_stage stage part) ≡ true
-unfolding refusal
-score_outside p AfterLeftBracket part s is free =
-    let named = test_failed (not (list_all in_name s)) BadTagName _ (sym (name_refusal p (at_stage AfterLeftBracket part) s refl) ∙ free) in
-    absurd (true≢false (sym (ap not (no_name s is)) ∙ named))
-score_outside p AfterName part s is free = absurd (cc)
-score_outside p AfterValue part s is free = absurd (cc)
-score_outside p _ part s is free = refl
-
-marker_outside : (p : Profile) (part : Part) (k : Kind) (marker : List ℕ) → marker_of k ≡ Some marker → refusal p part k ≡ None → is_outside_tag_pairs part ≡ true
-marker_outside p part tokens.asterisk marker is free = star_outside p part.stage part free
-marker_outside p part (tokens.symbol s) marker is free = score_outside p part.stage part s (score_of s marker (is_score s) refl is).0 free
-marker_outside p part _ marker is free = absurd (cc)
-
-at_depth_zero : (outside inside other : Bool) (n : ℕ) → outside ≡ true → nat_le 1 n ≡ inside → (outside && true && inside) ≡ false
-    → (outside && other && (n == 0)) ≡ false → other ≡ false
-at_depth_zero true inside other zero is within no_inside no_other = by_other other no_other
-  where
-    by_other : (x : Bool) → (x && true) ≡ false → x ≡ false
-    by_other true e = absurd (true≢false e)
-    by_other false e = refl
-at_depth_zero true inside other (suc n) is within no_inside no_other = absurd (true≢false (sym (le-leb 1 (suc n) (omega arith)) ∙ within ∙ no_inside))
-at_depth_zero false inside other n is within no_inside no_other = absurd (true≢false (sym is))
-
-not_other : (p : Profile) (part : Part) (k : Kind) (marker : List ℕ) → marker_of k ≡ Some marker → refusal p part k ≡ None → has_other_result p.missing_result part k ≡ false
-unfolding refusal
-not_other p part (tokens.refused r) marker is free = absurd (cc)
-not_other p part k marker is free =
-    let deep = depth (levels_of_part part) in
-    let inside = row_fails (take 20 (rows p part k)) (row MarkerInVariation (is_outside_tag_pairs part && is_marker k && nat_le 1 deep)) (drop 21 (rows p part k)) free in
-    let differs = row_fails (take 21 (rows p part k)) (row ResultDiffers (is_outside_tag_pairs part && has_other_result p.missing_result part k && (deep == 0))) (drop 22 (rows p part k)) free in
-    at_depth_zero (is_outside_tag_pairs part) (nat_le 1 deep) (has_other_result p.missing_result part k) deep (marker_outside p part k marker is free) refl
-    (sym (ap (λ (o : Option (List ℕ)). is_outside_tag_pairs part && is_some o && nat_le 1 deep) is) ∙ inside) differs
-
-result_of : (p : Profile) (part : Part) (k : Kind) (marker : List ℕ) → marker_of k ≡ Some marker → refusal p part k ≡ None
-    → IsResult p.missing_result (value_of part.pairs (codes "Result")) marker
-result_of p part k marker is free =
-    result_is p.missing_result (value_of part.pairs (codes "Result")) marker (sym (ap (other_if p.missing_result part.pairs) is) ∙ not_other p part k marker is free)
 
 -- A game that is finished has the same text.
 abbrev text_with : Profile → Game → List Pair → List ℕ
@@ -237,25 +180,6 @@ game_stays p b t ts g is same =
     let one : length (progress_after b t).games ≡ length b.games + 1 = ap (λ (to : Next). length (progress_with b.games to).games) is ∙ length-append b.games (g ∷ []) in
     let others = none_lost p (progress_after b t) ts in
     absurd (omega (arith, one, others.1, same))
-
-score_marker : (s : List ℕ) → is_score s ≡ true → (m : Marker) × (s ≡ marker_text m)
-score_marker s is = by_tests (bytes_eq s (codes "1-0")) (bytes_eq s (codes "0-1")) (bytes_eq s (codes "1/2-1/2")) refl refl refl is
-  where
-    by_tests : (a b c : Bool) → bytes_eq s (codes "1-0") ≡ a → bytes_eq s (codes "0-1") ≡ b → bytes_eq s (codes "1/2-1/2") ≡ c → (a || b || c) ≡ true
-        → (m : Marker) × (s ≡ marker_text m)
-    by_tests true b c first second third is = (WhiteWins, (bytes_eq-Decides s (codes "1-0")).0 first)
-    by_tests false true c first second third is = (BlackWins, (bytes_eq-Decides s (codes "0-1")).0 second)
-    by_tests false false true first second third is = (Draw, (bytes_eq-Decides s (codes "1/2-1/2")).0 third)
-    by_tests false false false first second third is = absurd (cc)
-
--- each marker is one of the four
-one_of_four : (k : Kind) (text : List ℕ) → marker_of k ≡ Some text → (m : Marker) × (marker_of k ≡ Some (marker_text m))
-one_of_four tokens.asterisk text is = (Unknown, refl)
-one_of_four (tokens.symbol s) text is =
-    let score = score_of s text (is_score s) refl is in
-    let m = score_marker s score.0 in
-    (m.0, is ∙ ap Some (sym score.1 ∙ m.1))
-one_of_four _ text is = absurd (cc)
 
 -- only a marker is rejected for the Result
 abbrev is_harmless : Row → Bool
