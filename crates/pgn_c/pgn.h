@@ -32,7 +32,10 @@ enum {
     PGN_OK = 0,     /* done */
     PGN_FAULT = 1,  /* the text has a fault */
     PGN_FULL = 2,   /* the buffer is too short */
-    PGN_NO_MODE = 3 /* there is no such mode; nothing was read or written */
+    PGN_NO_MODE = 3, /* there is no such mode; nothing was read or written */
+    PGN_NO_GAME = 4, /* no game is left in the text */
+    PGN_MORE = 5,    /* the text ends inside a game: a caller who reads in chunks gives more */
+    PGN_BAD_PLACE = 6 /* the place is behind the text; nothing was read or written */
 };
 
 /* The modes of pgn_convert. */
@@ -40,6 +43,15 @@ enum {
     PGN_FULL_FORMAT = 0,   /* export format (PGN 3.2) */
     PGN_REDUCED_FORMAT = 1 /* reduced export format (PGN 3.2.4) */
 };
+
+/* What a missing Result counts as, for pgn_next_game. */
+enum {
+    PGN_RESULT_UNKNOWN = 0,   /* as *, like pgn_convert and `export` */
+    PGN_RESULT_FROM_MARKER = 1 /* as the game's termination marker, like `export --checked` */
+};
+
+/* The four termination markers, which are also the values of Result. */
+enum { PGN_WHITE_WINS = 1, PGN_BLACK_WINS = 2, PGN_DRAW = 3, PGN_UNKNOWN = 4 };
 
 /* The result of pgn_check and pgn_convert. */
 typedef struct pgn_result {
@@ -68,6 +80,45 @@ typedef struct pgn_move {
     uint8_t san[8];  /* the move's SAN, ended by a zero; "" with a fault */
     uint8_t fen[96]; /* the FEN of the position after the move, ended by a zero; "" with a fault */
 } pgn_move;
+
+/* The result of pgn_next_game. */
+typedef struct pgn_game {
+    uint32_t status;      /* PGN_OK: a game; PGN_NO_GAME, PGN_FAULT, PGN_MORE, PGN_FULL, ... */
+    uint32_t fault;       /* the fault's number with PGN_FAULT, PGN_MORE and PGN_FULL; else 0 */
+    uint64_t place;       /* the byte offset of the fault in the text; else 0 */
+    size_t written;       /* how many bytes of the buffer were written, from its front */
+    size_t end;           /* PGN_OK: the place behind the game, from where the next begins; else 0 */
+    size_t marker_at;     /* PGN_OK: the place of the game's termination marker; else 0 */
+    uint64_t plies;       /* PGN_OK: the game's plies, without variations; else 0 */
+    size_t reason_at;     /* where the reason begins in the message */
+    uint32_t marker;      /* PGN_OK: which marker; else 0 */
+    uint8_t message[104]; /* "byte 77: move is not legal", ended by a zero; "" without a fault */
+    uint8_t fen[96];      /* PGN_OK: the game's last position. With fault 34, 35 or 36: the position
+                             in which the move was rejected. Ended by a zero; "" otherwise */
+} pgn_game;
+
+/* The result of pgn_tag_at. */
+typedef struct pgn_tag {
+    uint32_t status;     /* PGN_OK, or PGN_FAULT: the line is no tag pair, and all else is 0 */
+    size_t name_at;      /* where the name begins in the text */
+    size_t name_length;  /* how many bytes it has, 1 to 255 */
+    size_t value_at;     /* where the value begins, behind its quote */
+    size_t value_length; /* how many bytes it has, with the backslash before each quote or backslash */
+    size_t next;         /* where the next line begins */
+} pgn_tag;
+
+/* The result of pgn_explain. */
+typedef struct pgn_explanation {
+    uint32_t status;     /* PGN_OK: the text is a form of a move. PGN_FAULT: see `fault` */
+    uint32_t fault;      /* 26: the FEN is no position; 33: the text is no move; 0: none */
+    uint32_t field;      /* with fault 26 the field of the FEN that is at fault, 1 to 7; else 0 */
+    uint32_t form;       /* 1: a piece or a pawn; 2: castling king's side; 3: queen's side */
+    uint32_t piece;      /* 'K', 'Q', 'R', 'B', 'N' or 'P' */
+    uint32_t target;     /* the target square: 8 * rank + file, both from 0 */
+    uint8_t origins[64]; /* by square: 1: a piece of this kind can step from here to the target by
+                            its own rules, but its king would be in check; 2: that is a legal move;
+                            0: neither, or the text says another file or rank */
+} pgn_explanation;
 
 /*
  * Checks a text in PGN import format, and counts its games and plies.
@@ -120,6 +171,41 @@ pgn_text pgn_fen_normalize(const uint8_t *fen, size_t length, uint8_t *buffer, s
  *     36: it is Black's move with the number 99,999, after which no FEN has the number
  */
 pgn_move pgn_san(const uint8_t *fen, size_t fen_length, const uint8_t *text, size_t length);
+
+/*
+ * Converts the next game of a text, from the byte at `from` on, into the front of a buffer.
+ *
+ * `from` is 0, the `end` of the game before, or another place between two games. Places count from
+ * the first byte of the text.
+ *
+ * PGN_OK: a game. If `end` is `length`, more bytes behind the text could change the answer: a
+ *     caller who reads in chunks gives more, and calls again with the same `from`.
+ * PGN_NO_GAME: no game is left; there may be white space, comments and escape lines.
+ * PGN_FAULT: the game has a fault. More bytes would not change that.
+ * PGN_MORE: the text ends inside a game. A caller who reads in chunks gives more, and calls again
+ *     with the same `from`. If the text is whole, this is its fault: `fault`, `place` and `message`
+ *     say which.
+ * PGN_FULL: the buffer is full. Call again with a larger one.
+ * PGN_NO_MODE: `mode` or `missing_result` is neither 0 nor 1.
+ * PGN_BAD_PLACE: `from` is greater than `length` or than 2^62.
+ */
+pgn_game pgn_next_game(const uint8_t *text, size_t length, size_t from, uint32_t mode,
+                       uint32_t missing_result, uint8_t *buffer, size_t capacity);
+
+/*
+ * Finds the tag pair on the line of an export text that begins at `at`.
+ *
+ * The first pair of a game's export text is at 0, the next at `next` of the one before. PGN_FAULT:
+ * there is none at this place, so the pairs of the game are all found.
+ */
+pgn_tag pgn_tag_at(const uint8_t *text, size_t length, size_t at);
+
+/*
+ * Explains what a move's text means in the position of a FEN, also if it is rejected: from which
+ * squares a piece of that kind can step to the target, and which of these steps are legal.
+ */
+pgn_explanation pgn_explain(const uint8_t *fen, size_t fen_length,
+                            const uint8_t *text, size_t length);
 
 #ifdef __cplusplus
 }

@@ -27,3 +27,4 @@ pub use piece::{Colour, Kind, Piece, Promotion};
 pub use position::{Move, Parts, Position, PositionFault, Rights};
 pub use probes::Probes;
 pub use square::Square;
+pub use step::is_step;

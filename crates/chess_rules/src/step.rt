@@ -334,7 +334,7 @@ fn king_goes(position: &Position, mv: &Move) -> bool
 }
 
 // Whether the move is a step of the side to move. The cheapest tests are first.
-pub(crate) fn is_step(position: &Position, mv: &Move) -> bool
+pub fn is_step(position: &Position, mv: &Move) -> bool
     ensures { result ≡ is_some (spec.board_after position.now mv.now) }
 {
     let board = position.board();

@@ -17,13 +17,22 @@ ghost use Rattle.pgn_c.specs.Positions.{Normalizes, san_result};
 ghost use Rattle.pgn_c.specs.Results.{Checks, Converts, ConvertsIn, mode_of, result_of};
 
 mod buffer_sink;
+mod explanation;
 mod fen;
+mod next_game;
 mod pgn_result;
 mod san;
+mod tag;
 
 use crate::buffer_sink::{Before, BufferSink, Room};
 pub use crate::fen::PgnText;
+pub use crate::explanation::PgnExplanation;
+use crate::explanation::{explain, no_explanation};
 use crate::fen::{bad_text, put_fen};
+pub use crate::next_game::PgnGame;
+use crate::next_game::next_game;
+pub use crate::tag::PgnTag;
+use crate::tag::tag_at;
 pub use crate::pgn_result::PgnResult;
 use crate::pgn_result::{fault_result, no_mode, totals_result};
 pub use crate::san::PgnMove;
@@ -111,6 +120,33 @@ pub extern "C" fn pgn_san(fen: &[u8], text: &[u8]) -> PgnMove
     match read_fen(fen) {
         Ok(position) => name_move(&position, text),
         Err(fault) => no_position(fault.field),
+    }
+}
+
+/// Converts the next game of a text, from the byte at `from` on, into the front of a buffer.
+#[unsafe(no_mangle)]
+pub extern "C" fn pgn_next_game(
+    text: &[u8],
+    from: usize,
+    mode: u32,
+    missing_result: u32,
+    buffer: &mut [u8],
+) -> PgnGame {
+    next_game(text, from, mode, missing_result, buffer)
+}
+
+/// Finds the name and the value of the tag pair on a line of an export text.
+#[unsafe(no_mangle)]
+pub extern "C" fn pgn_tag_at(text: &[u8], at: usize) -> PgnTag {
+    tag_at(text, at)
+}
+
+/// Explains what a move's text means in the position of a FEN, also if it is rejected.
+#[unsafe(no_mangle)]
+pub extern "C" fn pgn_explain(fen: &[u8], text: &[u8]) -> PgnExplanation {
+    match read_fen(fen) {
+        Ok(position) => explain(&position, text),
+        Err(fault) => no_explanation(26, fault.field),
     }
 }
 

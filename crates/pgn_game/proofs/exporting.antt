@@ -2,6 +2,7 @@
 pub mod ExportAgain
 pub mod ExportToGames
 pub mod GameTextToGame
+pub mod GameToResult
 pub mod MoveTextToMove
 pub mod MovetextOfMode
 pub mod MovetextToItems

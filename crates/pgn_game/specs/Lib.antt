@@ -40,3 +40,5 @@ pub mod Filled
 pub mod FixedPoint
 pub mod GamesRestart
 pub mod GamesJoined
+pub mod MissingResults
+pub mod GameResult

@@ -34,6 +34,7 @@ pub use conversion::{Totals, convert, convert_slice};
 pub use converter::{Converter, Fed};
 pub use find::find_move;
 pub use games::Games;
+pub use marker::Marker;
 pub use mode::Mode;
 pub use pgn_layout::{Nowhere, Outlet, Sink, WriteFault};
 pub use pgn_lexer::LexReason;

@@ -5,5 +5,6 @@ mod cuts;
 mod finished_games;
 mod limits;
 mod reasons;
+mod refused_moves;
 mod runs;
 mod tables;
