@@ -27,6 +27,8 @@ PLANTED = [
     ("lines", "pgn_layout/src/current_line.rs", "line.push(b'\\n');", "line.push(b' ');"),
     ("fixed point", "pgn_layout/src/tag_line.rs", "byte == b'\"' || byte == b'\\\\'",
      "byte == b'\\\\'"),
+    ("fixed point", "pgn_layout/src/tag_line.rs", "byte == b'\"' || byte == b'\\\\'",
+     "byte == b'\"'"),
     ("failing sink", "pgn_layout/src/sink.rs", "out.write_some(&bytes[written..])?",
      "out.write_some(&bytes[written..]).unwrap_or(bytes.len() - written)"),
     ("checked", "pgn_game/src/checked.rs", "|| at != told.at", "|| at == told.at"),
