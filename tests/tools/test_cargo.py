@@ -42,6 +42,33 @@ fn main() {
     }
 }
 """
+# Calls each function that counts pairs with too little room, and then with enough. Only chess_rules
+# can make such a count, so this does what the libraries forbid.
+SAMPLE_OF_ROOM = """use chess_rules::{has_legal_move, try_pair, Position, Probes};
+use chess_text::{read_form, resolve, resolve_move, write_san};
+use std::panic::{catch_unwind, set_hook};
+fn with_room_for(pairs: u32) -> Probes {
+    unsafe { std::mem::transmute(u32::MAX - pairs) }
+}
+fn main() {
+    set_hook(Box::new(|panic| println!("{panic}")));
+    let position = Position::initial();
+    let form = read_form(b"e4").unwrap();
+    let played = resolve(&position, &form, &mut with_room_for(8)).unwrap();
+    for room in [7, 8] {
+        let is_refused = [
+            catch_unwind(|| try_pair(&position, played.mv, &mut with_room_for(room - 7))).is_err(),
+            catch_unwind(|| has_legal_move(&position, &mut with_room_for(1016 + room))).is_err(),
+            catch_unwind(|| resolve(&position, &form, &mut with_room_for(room)).is_ok()).is_err(),
+            catch_unwind(|| resolve_move(&position, &form, &mut with_room_for(room)).is_ok())
+                .is_err(),
+            catch_unwind(|| write_san(&position, &played, &mut with_room_for(1024 + room)))
+                .is_err(),
+        ];
+        assert_eq!(is_refused, [room == 7; 5]);
+    }
+}
+"""
 LIBRARIES = ("chess_rules", "chess_text", "pgn_lexer", "pgn_layout", "pgn_game")
 # The crates whose calls of the toolchain are renamed. Of the others lines only go.
 RENAMED = ("pgn_tool", "pgn_arguments")
@@ -140,6 +167,21 @@ class Built(unittest.TestCase):
         self.check_conditions({"CARGO_PROFILE_DEV_DEBUG_ASSERTIONS": "false"},
                               wanted - checked_in_debug)
 
+    def test_a_call_needs_room_for_its_pairs(self):
+        self.build_libraries()
+        ran = self.run_sample(SAMPLE_OF_ROOM)
+        self.assertEqual((ran.returncode, ran.stderr), (0, b""))
+        said = ran.stdout.decode()
+        lines = [SAMPLE_OF_ROOM[: it.start()].count("\n") + 1
+                 for it in re.finditer(r"catch_unwind\(\|\|", SAMPLE_OF_ROOM)]
+        self.assertEqual(re.findall(r"sample\.rs:(\d+):", said), [str(it) for it in lines])
+        rooms = re.findall(r"the count of Probes has room for ([\d,]+) more", said)
+        self.assertEqual(rooms, ["1", "1,024", "8", "8", "1,032"])
+
+    def build_libraries(self):
+        ran = cargo("build", "--lib", *("--package=" + it for it in LIBRARIES))
+        self.assertEqual(ran.returncode, 0, ran.stderr)
+
     def test_each_reason_has_the_words_of_the_fault_table(self):
         rows = table("docs/PROFILE.md", "No", "Rejected", "Place", "In words", "Name")
         reasons = [code_of(row[4])[0] for row in rows]
@@ -152,8 +194,7 @@ class Built(unittest.TestCase):
         values = "".join("Reason::%s, " % it.replace("(_)", "(3)") for it in arms)
         cases = "".join("Reason::%s => %d, " % (it, at) for at, it in enumerate(arms))
         text = SAMPLE_OF_REASONS % {"values": values, "cases": cases}
-        ran = cargo("build", "--lib", *("--package=" + it for it in LIBRARIES))
-        self.assertEqual(ran.returncode, 0, ran.stderr)
+        self.build_libraries()
         ran = self.run_sample(text)
         shown = [it.split(": ", 2) for it in ran.stdout.decode().splitlines()]
         words = [row[3].strip("`").replace("field N", "field 3") for row in rows]
@@ -210,8 +251,7 @@ class Built(unittest.TestCase):
         return run([OUT + "/target/sample"])
 
     def test_samples_of_the_documents(self):
-        ran = cargo("build", "--lib", *("--package=" + it for it in LIBRARIES))
-        self.assertEqual(ran.returncode, 0, ran.stderr)
+        self.build_libraries()
         shown = printed_by(self, "rust", self.run_sample)
         self.assertIn(b'\n[Result "*"]\n\n1. e4 { a word } 1... e5 *\n\n', shown)
 
@@ -314,15 +354,12 @@ class Release(unittest.TestCase):
         changes("# Changes\n\n## %s, later\n\n## 0.0.9\n" % version, version)
 
     def test_clippy_has_no_warning(self):
-        """But for the exceptions, each of which has its reason; without clippy these alone."""
+        """But for the exceptions."""
+        programs.need("cargo-clippy")
         write_out()
-        lines = read(OUT + "/Cargo.toml").split("[workspace.lints.clippy]\n")[1].split("\n\n")[0]
-        for line in lines.split("\n"):
-            self.assertRegex(line, r'^\w+ = "allow" # .')
-        if programs.found("cargo-clippy"):
-            ran = cargo("clippy", "--workspace", "--all-targets")
-            self.assertEqual(ran.returncode, 0, ran.stderr.decode())
-            self.assertNotIn("warning", ran.stderr.decode())
+        ran = cargo("clippy", "--workspace", "--all-targets")
+        self.assertEqual(ran.returncode, 0, ran.stderr.decode())
+        self.assertNotIn("warning", ran.stderr.decode())
 
     def test_the_documentation_has_no_warning(self):
         write_out()
@@ -396,6 +433,12 @@ class Written(unittest.TestCase):
         out, _, _ = self.write()
         for path, lines, _ in self.pairs(out):
             self.assertNotRegex("\n".join(lines), r"(?m)^\s*(?:ghost|requires|ensures)\b", path)
+
+    def test_each_exception_of_clippy_has_its_reason(self):
+        out, _, _ = self.write()
+        lines = read(out + "/Cargo.toml").split("[workspace.lints.clippy]\n")[1].split("\n\n")[0]
+        for line in lines.split("\n"):
+            self.assertRegex(line, r'^\w+ = "allow" # .')
 
     def test_what_is_not_proved_says_so(self):
         out, _, _ = self.write()
@@ -510,8 +553,8 @@ def without_added(path, lines):
     script = load("bin/to_cargo")
     file = "crates/%s.rt" % path.split("/crates/")[1][:-3]
     added = []
-    for words in script.ASSERTED.get(file, {}).values():
-        added += script.assertion(*words)
+    for conditions in script.ASSERTED.get(file, {}).values():
+        added += [line for words in conditions for line in script.assertion(*words)]
     for module in (it for it in ("traits", "conditions") if "mod %s;" % it in lines):
         added += ["// Written for Cargo, not proved."] if module == "traits" else ["#[cfg(test)]"]
         added += ["mod %s;" % module]

@@ -3,11 +3,14 @@
 
 Nothing here is random, takes the time or needs clang. bin/fuzz looks for new inputs.
 """
+import contextlib
 import glob
+import io
 import os
 import re
 import shutil
 import sys
+import tempfile
 import unittest
 
 sys.path.insert(0, os.path.dirname(os.path.realpath(__file__)))
@@ -27,6 +30,8 @@ PLANTED = [
     ("lines", "pgn_layout/src/current_line.rs", "line.push(b'\\n');", "line.push(b' ');"),
     ("fixed point", "pgn_layout/src/tag_line.rs", "byte == b'\"' || byte == b'\\\\'",
      "byte == b'\\\\'"),
+    ("fixed point", "pgn_layout/src/tag_line.rs", "byte == b'\"' || byte == b'\\\\'",
+     "byte == b'\"'"),
     ("failing sink", "pgn_layout/src/sink.rs", "out.write_some(&bytes[written..])?",
      "out.write_some(&bytes[written..]).unwrap_or(bytes.len() - written)"),
     ("checked", "pgn_game/src/checked.rs", "|| at != told.at", "|| at == told.at"),
@@ -99,6 +104,20 @@ class Files(unittest.TestCase):
         self.assertGreater(len(sizes), 50)
         self.assertLess(len(sizes), 500)
         self.assertLess(sum(sizes), 200_000)
+
+    def test_an_input_written_by_hand_stays(self):
+        """Here a program that keeps nothing stands for libFuzzer."""
+        fuzz, folder = test_cargo.load("bin/fuzz"), tempfile.mkdtemp()
+        self.addCleanup(shutil.rmtree, folder)
+        fuzz.OUT, fuzz.CORPUS, fuzz.seeds = folder + "/out", folder + "/corpus", lambda: folder
+        os.makedirs(fuzz.CORPUS)
+        for name in ("09e2b5bc40dfc0980b9be3410625549275e492eb", "two-backslashes"):
+            with open(os.path.join(fuzz.CORPUS, name), "w", encoding="ascii") as file:
+                file.write("*")
+        with contextlib.redirect_stdout(io.StringIO()) as said:
+            fuzz.keep("true")
+        self.assertEqual(said.getvalue(), "1 inputs, 1 bytes\n")
+        self.assertEqual(os.listdir(fuzz.CORPUS), ["two-backslashes"])
 
     def test_each_law_has_a_planted_bug(self):
         """The laws of fuzz/src/laws.rs, those that bin/fuzz lists, and the bugs."""

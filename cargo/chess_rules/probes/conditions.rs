@@ -3,33 +3,40 @@
 use super::Probes;
 use crate::{has_legal_move, try_pair, Move, Position, Square};
 
-fn almost_full() -> Probes {
-    Probes { count: u32::MAX }
+fn with_room_for(pairs: u32) -> Probes {
+    Probes {
+        count: u32::MAX - pairs,
+    }
 }
 
-#[test]
-#[should_panic(expected = "Probes count fewer than 2^32 pairs")]
-fn try_pair_needs_room() {
+fn a1_to_a1() -> Move {
     let square = Square::new(0, 0).unwrap();
-    let mv = Move {
+    Move {
         from: square,
         to: square,
         promotion: None,
-    };
-    try_pair(&Position::initial(), mv, &mut almost_full());
+    }
 }
 
 #[test]
-#[should_panic(expected = "Probes count fewer than 2^32 pairs")]
+#[should_panic(expected = "the count of Probes has room for 1 more")]
+fn try_pair_needs_room() {
+    try_pair(&Position::initial(), a1_to_a1(), &mut with_room_for(0));
+}
+
+#[test]
+#[should_panic(expected = "the count of Probes has room for 1,024 more")]
 fn has_legal_move_needs_room() {
-    has_legal_move(&Position::initial(), &mut almost_full());
+    has_legal_move(&Position::initial(), &mut with_room_for(1023));
 }
 
 #[test]
-fn the_last_pair_has_room() {
-    let mut probes = Probes {
-        count: u32::MAX - 1,
-    };
-    probes.add_one();
+fn there_is_room() {
+    let mut probes = with_room_for(1);
+    try_pair(&Position::initial(), a1_to_a1(), &mut probes);
     assert_eq!(probes.count(), u32::MAX);
+    assert!(has_legal_move(
+        &Position::initial(),
+        &mut with_room_for(1024)
+    ));
 }
