@@ -4,7 +4,8 @@
 //! and where the fault is reported. Inputs that are read twice are tried here too, since they need
 //! two sources. `rt test` proves and runs the tests; `rt try --test` only runs them.
 //!
-//! They are a crate of their own to save the prover's time: tests are proved with their whole crate.
+//! They are a crate of their own to save the prover's time: tests are proved with their whole
+//! crate.
 #![tactic(auto)]
 
 #[cfg(test)]
