@@ -79,7 +79,7 @@ pub fn interrupted_readings()
 
 /// A token that finishes a game is a marker, and the Result in the tag section of the game.
 ///
-/// So the Result that `Converter::tag` returns for a game just finished is the marker that was read.
+/// So `Converter::tag` returns the marker that was read as the Result of a game just finished.
 pub fn games_end_with_results()
     ensures { results.GamesEndWithResults }
 {}

@@ -3,6 +3,7 @@ pub mod EachTextIsCut
 pub mod PlacesOfTokens
 pub mod RulesToTokens
 pub mod StringData
+pub mod SymbolsInText
 pub mod TextsRestart
 pub mod TokensAreSound
 pub mod WrittenToTokens

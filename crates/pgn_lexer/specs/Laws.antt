@@ -1,6 +1,6 @@
 -- **Definition**: what the laws say of tokens.
 -- In the statements, s is a text, or what comes after the text u, and b is the byte after u.
-use Rattle.std.specs.Prelude.{◌≡◌, ℕ, ◌≤◌, ◌<◌, ◌^◌, ◌↔◌, ◌⊎◌, false, IsTrue, List, [], ◌++◌, ◌∷◌, length, map, decimal}
+use Rattle.std.specs.Prelude.{◌≡◌, ℕ, ◌≤◌, ◌<◌, ◌^◌, ◌↔◌, ◌⊎◌, false, IsTrue, List, [], ◌++◌, ◌∷◌, length, drop, map, codes, decimal}
 use Rattle.pgn_lexer.specs.Tokens.{Kind, Token, asterisk, symbol, end, refused, EndsAt}
 use Rattle.pgn_lexer.specs.WhiteSpace.{white_space}
 use Rattle.pgn_lexer.specs.TokensOf.{tokens_of}
@@ -45,6 +45,18 @@ KnownIsPrefix = (u s : List ℕ) (b : ℕ) → IsPrefix (known u b) (tokens_of (
 -- closes, unless the text is rejected.
 abbrev pub TokensAreSound : Type 0
 TokensAreSound = (s : List ℕ) → AreSoundTokens (tokens_of s)
+
+-- The text begins with the bytes of a symbol, or with an asterisk.
+abbrev pub BeginsWithToken : Kind → List ℕ → Type 0
+BeginsWithToken asterisk s = (more : List ℕ) × (s ≡ codes "*" ++ more)
+BeginsWithToken (symbol text) s = (more : List ℕ) × (s ≡ text ++ more)
+BeginsWithToken _ s = Unit {0}
+
+-- So does a text from the place of such a token on.
+abbrev pub SymbolsStandInText : Type 0
+SymbolsStandInText =
+    (s : List ℕ) (given rest : List Token) (t : Token)
+    → tokens_of s ≡ given ++ t ∷ rest → BeginsWithToken t.kind (drop t.at s)
 
 -- If the text of pieces is readable, it is read back: its tokens are those of the pieces, each at
 -- its place, and the end.

@@ -30,6 +30,11 @@ pub fn tokens_are_sound()
     ensures { laws.TokensAreSound }
 {}
 
+/// The bytes of a symbol stand in the text at its place, and so does an asterisk (PGN 7).
+pub fn symbols_stand_in_text()
+    ensures { laws.SymbolsStandInText }
+{}
+
 /// Written tokens are read back as themselves, each at its place.
 ///
 /// The premise: each token is followed by white space, or by a byte that ends it. The tokens are a
