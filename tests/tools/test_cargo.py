@@ -45,7 +45,7 @@ fn main() {
 # Calls each function that counts pairs with too little room, and then with enough. Only chess_rules
 # can make such a count, so this does what the libraries forbid.
 SAMPLE_OF_ROOM = """use chess_rules::{has_legal_move, try_pair, Position, Probes};
-use chess_text::{read_form, resolve, resolve_move, write_san};
+use chess_text::{origins_of_form, read_form, resolve, resolve_move, write_san};
 use std::panic::{catch_unwind, set_hook};
 fn with_room_for(pairs: u32) -> Probes {
     unsafe { std::mem::transmute(u32::MAX - pairs) }
@@ -62,10 +62,12 @@ fn main() {
             catch_unwind(|| resolve(&position, &form, &mut with_room_for(room)).is_ok()).is_err(),
             catch_unwind(|| resolve_move(&position, &form, &mut with_room_for(room)).is_ok())
                 .is_err(),
+            catch_unwind(|| origins_of_form(&position, &form, &mut with_room_for(56 + room)))
+                .is_err(),
             catch_unwind(|| write_san(&position, &played, &mut with_room_for(1024 + room)))
                 .is_err(),
         ];
-        assert_eq!(is_refused, [room == 7; 5]);
+        assert_eq!(is_refused, [room == 7; 6]);
     }
 }
 """
@@ -176,7 +178,7 @@ class Built(unittest.TestCase):
                  for it in re.finditer(r"catch_unwind\(\|\|", SAMPLE_OF_ROOM)]
         self.assertEqual(re.findall(r"sample\.rs:(\d+):", said), [str(it) for it in lines])
         rooms = re.findall(r"the count of Probes has room for ([\d,]+) more", said)
-        self.assertEqual(rooms, ["1", "1,024", "8", "8", "1,032"])
+        self.assertEqual(rooms, ["1", "1,024", "8", "8", "64", "1,032"])
 
     def build_libraries(self):
         ran = cargo("build", "--lib", *("--package=" + it for it in LIBRARIES))

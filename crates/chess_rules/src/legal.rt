@@ -8,7 +8,7 @@ ghost use Rattle.chess_rules.specs.Legal as spec;
 use crate::pairs::{has_king_step, has_other_move};
 use crate::position::{Move, Position};
 use crate::probes::Probes;
-use crate::step::is_step;
+use crate::step::goes;
 
 /// Returns the position after the move, or `None` if the move is not legal. (FIDE Laws 3.10.1)
 ///
@@ -77,7 +77,7 @@ fn allows(position: &Position, mv: &Move) -> bool
     requires { IsTrue (is_on_board mv.now) }
     ensures { result ≡ spec.is_legal position.now mv.now }
 {
-    is_step(position, mv) && position.is_safe_after(mv)
+    goes(position, mv) && position.is_safe_after(mv)
 }
 
 /// Whether the king of the side to move is in check. (FIDE Laws 3.9.1)

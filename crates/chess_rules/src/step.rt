@@ -333,8 +333,46 @@ fn king_goes(position: &Position, mv: &Move) -> bool
         || castles_long(position, mv)
 }
 
-// Whether the move is a step of the side to move. The cheapest tests are first.
+/// Whether the move is a step (pseudo-legal move) of the side to move. (FIDE Laws 3.1 to 3.8)
+///
+/// A piece of that side is on the origin, and the rules of movement let it go to the target, with
+/// this promotion or without one. Castling is a step only if the other side attacks none of the
+/// squares that the king leaves, crosses and reaches (FIDE Laws 3.8.2.2).
+///
+/// This does not ask whether the king would be in check afterwards. [`try_pair`](crate::try_pair)
+/// and [`has_legal_move`](crate::has_legal_move) decide what is legal.
+///
+/// # Examples
+///
+/// After 1. e4 f6 2. Qh5+ the move a6 is a step, but it leaves the king in check:
+///
+/// ```
+/// use chess_rules::{Move, Position, Probes, Square, is_step, try_pair};
+///
+/// let square = |file, rank| Square::new(file, rank).unwrap();
+/// let mv = |from, to| Move { from, to, promotion: None };
+/// let mut probes = Probes::new();
+/// let mut position = Position::initial();
+/// let e4 = mv(square(4, 1), square(4, 3));
+/// let f6 = mv(square(5, 6), square(5, 5));
+/// let queen_h5 = mv(square(3, 0), square(7, 4));
+/// for mv in [e4, f6, queen_h5] {
+///     position = try_pair(&position, mv, &mut probes).unwrap();
+/// }
+/// let a6 = mv(square(0, 6), square(0, 5));
+/// assert!(is_step(&position, &a6));
+/// assert!(try_pair(&position, a6, &mut probes).is_none());
+/// ```
 pub fn is_step(position: &Position, mv: &Move) -> bool
+    ensures { result ≡ is_some (spec.step position.now mv.now) }
+{
+    mv.from.recall_invariant();
+    mv.to.recall_invariant();
+    goes(position, mv)
+}
+
+// Whether a piece of the side to move goes so. The cheapest tests are first.
+pub(crate) fn goes(position: &Position, mv: &Move) -> bool
     ensures { result ≡ is_some (spec.board_after position.now mv.now) }
 {
     let board = position.board();

@@ -4,6 +4,7 @@ pub mod BeforeMarks
 pub mod CastlingForms
 pub mod CastlingMoves
 pub mod CommonForms
+pub mod FormOriginKinds
 pub mod FormToSpelling
 pub mod MoveKept
 pub mod MoverOfMove

@@ -6,6 +6,7 @@ pub mod Field
 pub mod Fen
 pub mod Form
 pub mod MoveOfForm
+pub mod FormOrigins
 pub mod San
 pub mod Laws
 pub mod WrittenMove

@@ -2,6 +2,7 @@
 //! do nothing.
 
 ghost use Rattle.chess_text.specs.Laws.{CanonicalFits, CanonicalIsShortest, CanonicalSpells, FaultIsLowest, FenOnce, FieldsAreSpellings, FormOnce, NoMoveIsRead, ReadingAFormIsSpelling, ReadingIsSpelling, ShorterIsAmbiguous, SingleReading, TheOneMoveIsRead, TwoMovesAreAmbiguous};
+ghost use Rattle.chess_text.specs.FormOrigins.{LegalOriginsDecide};
 ghost use Rattle.chess_text.specs.WrittenMove.{WrittenMoveIsRead, WrittenMoveIsSymbol};
 
 use chess_rules::laws::one_king_a_side;
@@ -68,6 +69,14 @@ pub fn no_move_is_read()
 /// The error is `Ambiguous` exactly if two different legal moves agree with the form.
 pub fn two_moves_are_ambiguous()
     ensures { TwoMovesAreAmbiguous }
+{}
+
+/// A form names a move exactly if `origins_of_form` says `Legal` of one square.
+///
+/// If it says so of none, the error of `resolve` is `NoMove`. If it says so of several, the error
+/// is `Ambiguous`.
+pub fn legal_origins_decide()
+    ensures { LegalOriginsDecide }
 {}
 
 /// The SAN of a legal move names this move and no other.

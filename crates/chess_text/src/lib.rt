@@ -6,6 +6,7 @@
 mod fen;
 mod field;
 mod form;
+mod form_origins;
 pub mod laws;
 mod letter;
 mod placement;
@@ -16,5 +17,6 @@ mod tests;
 
 pub use fen::{FenFault, read_fen, write_fen};
 pub use form::{Form, read_form};
+pub use form_origins::{OriginKind, origins_of_form};
 pub use resolution::{Played, SanFault, resolve, resolve_move};
 pub use san::write_san;

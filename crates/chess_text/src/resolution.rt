@@ -1,11 +1,10 @@
 //! The move that a form names in a position. (PGN 8.2.3)
 
 ghost use Rattle.std.specs.Prelude.{◌≡◌, ◌≢◌, ◌+◌, ◌<◌, ◌≤◌, ◌^◌, ◌&&◌, Err, IsTrue, Some, length};
-ghost use Rattle.std.specs.Prelude.{IfOk, OnOk};
-ghost use Rattle.chess_rules.specs.declared.piece.Kind.TheVariants.{King};
+ghost use Rattle.std.specs.Prelude.{IfOk, OnOk, is_some};
 ghost use Rattle.chess_rules.specs.Candidate.{candidates};
 ghost use Rattle.chess_rules.specs.Legal.{is_legal, legal};
-ghost use Rattle.chess_rules.specs.Step.{own};
+ghost use Rattle.chess_rules.specs.Step.{own, step};
 ghost use Rattle.chess_text.specs.declared.form.Form.TheVariants.{Castle, Man};
 ghost use Rattle.chess_text.specs.declared.resolution.SanFault.TheVariants.{Ambiguous};
 ghost use Rattle.chess_text.specs.MoveOfForm as spec;
@@ -112,7 +111,7 @@ pub fn resolve_move(position: &Position, form: &Form, probes: &mut Probes) -> Re
 }
 
 // The king's move of castling. (PGN 8.2.3.3)
-fn castling_move(side: Colour, long: bool) -> Move
+pub(crate) fn castling_move(side: Colour, long: bool) -> Move
     ensures { result ≡ spec.castling_move side long }
 {
     let rank = match side {
@@ -127,23 +126,23 @@ fn castling_move(side: Colour, long: bool) -> Move
     }
 }
 
-// Whether a king of the side to move is on the square.
-fn has_king(position: &Position, square: Square) -> bool
-    ensures { result ≡ own position.now King square }
+// Whether a piece of the kind, of the side to move, is on the square.
+pub(crate) fn has_own(position: &Position, kind: Kind, square: Square) -> bool
+    ensures { result ≡ own position.now kind square }
 {
     match position.at(square) {
         None => false,
-        Some(piece) => piece.colour == position.side() && piece.kind == Kind::King,
+        Some(piece) => piece.colour == position.side() && piece.kind == kind,
     }
 }
 
-// Whether the legal move is castling: no other takes a king further than to the next file. (FIDE
-// Laws 3.8)
+// Whether the step is castling: no other takes a king further than to the next file. (FIDE Laws
+// 3.8)
 pub(crate) fn is_castling(position: &Position, mv: &Move) -> bool
-    requires { IsTrue (is_legal position.now mv.now) }
+    requires { IsTrue (is_some (step position.now mv.now)) }
     ensures { result ≡ spec.is_castling position.now mv.now }
 {
-    has_king(position, mv.from) && mv.from.file().abs_diff(mv.to.file()) > 1
+    has_own(position, Kind::King, mv.from) && mv.from.file().abs_diff(mv.to.file()) > 1
 }
 
 // Tries the one castling.
@@ -168,14 +167,14 @@ fn resolve_castling(position: &Position, long: bool, probes: &mut Probes) -> Res
 
 // What the text says of the origin (disambiguation).
 #[derive(Clone, Copy)]
-struct Hints {
-    file: Option<u8>,
-    rank: Option<u8>,
+pub(crate) struct Hints {
+    pub file: Option<u8>,
+    pub rank: Option<u8>,
 }
 
 impl Hints {
     // Whether the hints allow this square. (PGN 8.2.3.4)
-    fn fit(self, origin: Square) -> bool
+    pub(crate) fn fit(self, origin: Square) -> bool
         ensures { result ≡ spec.hints_fit self.file self.rank origin }
     {
         is_fit(self.file, origin.file()) && is_fit(self.rank, origin.rank())

@@ -1,4 +1,5 @@
--- Lemmas on the memory that a caller is given.
+-- Lemmas on the memory that a caller is given, and on the lines of tag pairs.
 pub mod ConversionToBuffer
 pub mod MoreBytesBehind
+pub mod PairsOnLines
 pub mod ZerosBehind

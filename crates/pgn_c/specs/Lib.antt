@@ -1,3 +1,6 @@
 -- **Bookkeeping**: the list of this crate's files of definitions.
 pub mod Results
 pub mod Positions
+pub mod Explanation
+pub mod TagAt
+pub mod TagScan

@@ -1,8 +1,12 @@
 //! What a move's text means in a position, as C gets it.
+ghost use Rattle.std.specs.Prelude.{◌≡◌, map};
+ghost use Rattle.chess_text.specs.Form.{form_of};
+ghost use Rattle.chess_text.specs.Letter.{letter as letter_of};
+ghost use Rattle.pgn_c.specs.Explanation as spec;
 
 use crate::pgn_result::{FAULT, OK};
-use chess_rules::{Colour, Kind, Move, Position, Probes, Promotion, Square, is_step, try_pair};
-use chess_text::{Form, read_form};
+use chess_rules::{Kind, Position, Probes, Square};
+use chess_text::{Form, OriginKind, origins_of_form, read_form};
 
 /// What a move's text means in a position, `struct pgn_explanation` in C.
 #[repr(C)]
@@ -24,73 +28,84 @@ pub struct PgnExplanation {
     pub origins: [u8; 64],
 }
 
-/// What the text means in this position.
-pub fn explain(position: &Position, text: &[u8]) -> PgnExplanation {
-    let Some(form) = read_form(text) else {
-        return no_explanation(33, 0);
-    };
-    match form {
-        Form::Castle { long } => {
-            let rank = match position.side() {
-                Colour::White => 0,
-                Colour::Black => 7,
-            };
-            let file = if long { 2 } else { 6 };
-            let mut result = steps_to(position, Kind::King, Some(4), Some(rank), Square::new(file, rank).unwrap(), None, true);
-            result.form = if long { 3 } else { 2 };
-            result
-        }
-        Form::Man { kind, file, rank, to, promotion } => steps_to(position, kind, file, rank, to, promotion, false),
+/// The explanation of the text in this position.
+pub fn explain(position: &Position, text: &[u8]) -> PgnExplanation
+    ensures { result ≡ spec.explanation_in position.now (form_of text.now) }
+{
+    match read_form(text) {
+        Some(form) => explain_form(position, &form),
+        None => no_explanation(33, 0),
     }
 }
 
-fn steps_to(
-    position: &Position,
-    kind: Kind,
-    file: Option<u8>,
-    rank: Option<u8>,
-    to: Square,
-    promotion: Option<Promotion>,
-    castles: bool,
-) -> PgnExplanation {
-    let mut origins = [0; 64];
-    for at in 0..64u8 {
-        let from = Square::new(at % 8, at / 8).unwrap();
-        let is_own = match position.at(from) {
-            None => false,
-            Some(piece) => piece.colour == position.side() && piece.kind == kind,
-        };
-        let fits = (file.is_none() || file == Some(from.file())) && (rank.is_none() || rank == Some(from.rank()));
-        let far = kind == Kind::King && from.file().abs_diff(to.file()) > 1;
-        let mv = Move { from, to, promotion };
-        if is_own && fits && far == castles && is_step(position, &mv) {
-            origins[at as usize] = if try_pair(position, mv, &mut Probes::new()).is_some() { 2 } else { 1 };
-        }
-    }
+// The explanation of the form.
+fn explain_form(position: &Position, form: &Form) -> PgnExplanation
+    ensures { result ≡ spec.form_result position.now form.now }
+{
+    let kinds = origins_of_form(position, form, &mut Probes::new());
     PgnExplanation {
         status: OK,
         fault: 0,
         field: 0,
-        form: 1,
-        piece: letter(kind),
-        target: 8 * to.rank() as u32 + to.file() as u32,
-        origins,
+        form: form_number(form),
+        piece: letter(form.kind()) as u32,
+        target: square_number(form.target(position.side())),
+        origins: origin_numbers(&kinds),
     }
 }
 
-fn letter(kind: Kind) -> u32 {
-    (match kind {
+fn form_number(form: &Form) -> u32
+    ensures { result ≡ spec.form_number form.now }
+{
+    match *form {
+        Form::Man { .. } => 1,
+        Form::Castle { long } => { if long { 3 } else { 2 } }
+    }
+}
+
+fn letter(kind: Kind) -> u8
+    ensures { result ≡ letter_of kind }
+{
+    match kind {
         Kind::King => b'K',
         Kind::Queen => b'Q',
         Kind::Rook => b'R',
         Kind::Bishop => b'B',
         Kind::Knight => b'N',
         Kind::Pawn => b'P',
-    }) as u32
+    }
 }
 
-/// The result for a fault.
-pub fn no_explanation(fault: u32, field: u8) -> PgnExplanation {
+fn square_number(square: Square) -> u32
+    ensures { result ≡ spec.square_number square }
+{
+    8 * square.rank() as u32 + square.file() as u32
+}
+
+fn origin_numbers(kinds: &[OriginKind; 64]) -> [u8; 64]
+    ensures { result ≡ map spec.origin_number kinds.now }
+{
+    let mut numbers = [0; 64];
+    for index in 0..64 {
+        numbers[index] = origin_number(kinds[index]);
+    }
+    numbers
+}
+
+fn origin_number(kind: OriginKind) -> u8
+    ensures { result ≡ spec.origin_number kind }
+{
+    match kind {
+        OriginKind::NoStep => 0,
+        OriginKind::Unsafe => 1,
+        OriginKind::Legal => 2,
+    }
+}
+
+/// The result for a fault: of the FEN, in this field, or of the text.
+pub fn no_explanation(fault: u32, field: u8) -> PgnExplanation
+    ensures { result ≡ spec.fault_result fault field }
+{
     PgnExplanation {
         status: FAULT,
         fault,

@@ -13,8 +13,10 @@
 
 ghost use Rattle.std.specs.Prelude.{◌≡◌};
 ghost use Rattle.chess_text.specs.Fen.{read};
+ghost use Rattle.pgn_c.specs.Explanation.{explanation};
 ghost use Rattle.pgn_c.specs.Positions.{Normalizes, san_result};
 ghost use Rattle.pgn_c.specs.Results.{Checks, Converts, ConvertsIn, mode_of, result_of};
+ghost use Rattle.pgn_c.specs.TagAt.{TagResult};
 
 mod buffer_sink;
 mod explanation;
@@ -135,15 +137,32 @@ pub extern "C" fn pgn_next_game(
     next_game(text, from, mode, missing_result, buffer)
 }
 
-/// Finds the name and the value of the tag pair on a line of an export text.
+/// Finds the tag pair on the line of an export text that begins at a place (PGN 8.1).
+///
+/// The line is `[Name "value"]` and LF. The name has 1 to 255 letters, digits and underscores. In
+/// the value a backslash is before each quote and each backslash.
+///
+/// - Status 0: the result has the places of name and value, and that of the next line. The length
+///   of the value counts its backslashes.
+/// - Status 1: no such line begins there, or the place is behind the text.
 #[unsafe(no_mangle)]
-pub extern "C" fn pgn_tag_at(text: &[u8], at: usize) -> PgnTag {
+pub extern "C" fn pgn_tag_at(text: &[u8], at: usize) -> PgnTag
+    ensures { TagResult text.now at result }
+{
     tag_at(text, at)
 }
 
-/// Explains what a move's text means in the position of a FEN, also if it is rejected.
+/// Explains what a move's text means in the position of a FEN, also if it is rejected (PGN 8.2.3).
+///
+/// - Status 0: the text is a form of a move. The result has its piece and its target. For each
+///   square it says whether a step (pseudo-legal move) from there agrees with the text, and whether
+///   that is a legal move.
+/// - Status 1: the result has the number of a fault. It is 26 for the FEN, with its field, and 33
+///   if the text is no move.
 #[unsafe(no_mangle)]
-pub extern "C" fn pgn_explain(fen: &[u8], text: &[u8]) -> PgnExplanation {
+pub extern "C" fn pgn_explain(fen: &[u8], text: &[u8]) -> PgnExplanation
+    ensures { result ≡ explanation (read fen.now) text.now }
+{
     match read_fen(fen) {
         Ok(position) => explain(&position, text),
         Err(fault) => no_explanation(26, fault.field),

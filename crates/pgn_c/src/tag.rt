@@ -1,4 +1,9 @@
 //! The tag pairs of an export text, as C gets them.
+ghost use Rattle.std.specs.Prelude.{◌≡◌, ◌+◌, ◌≤◌, IfSome, MatchOption, None, Some, drop, length};
+ghost use Rattle.pgn_game.specs.FaultTable.{in_name};
+ghost use Rattle.pgn_layout.specs.TagLine.{needs_escape};
+ghost use Rattle.pgn_c.specs.TagAt.{TagResult, no_tag as no_tag_result};
+ghost use Rattle.pgn_c.specs.TagScan as scan;
 
 use crate::pgn_result::{FAULT, OK};
 
@@ -20,34 +25,131 @@ pub struct PgnTag {
 }
 
 /// The tag pair on the line that begins at this place.
-pub fn tag_at(text: &[u8], at: usize) -> PgnTag {
-    if at >= text.len() || text[at] != b'[' {
+pub fn tag_at(text: &[u8], at: usize) -> PgnTag
+    ensures { TagResult text.now at result }
+{
+    if text.len() < at {
         return no_tag();
     }
-    let name_at = at + 1;
-    let mut name_end = name_at;
-    while name_end < text.len() && text[name_end] != b' ' {
-        name_end += 1;
-    }
-    let value_at = name_end + 2;
-    let mut end = value_at;
-    while end < text.len() && text[end] != b'\n' {
-        end += 1;
-    }
-    if end >= text.len() || end < value_at + 2 {
-        return no_tag();
-    }
-    PgnTag {
-        status: OK,
-        name_at,
-        name_length: name_end - name_at,
-        value_at,
-        value_length: end - 2 - value_at,
-        next: end + 1,
+    match first_pair(&text[at..]) {
+        None => no_tag(),
+        Some(pair) => PgnTag {
+            status: OK,
+            name_at: at + 1,
+            name_length: pair.name,
+            value_at: at + pair.name + 3,
+            value_length: pair.value,
+            next: at + pair.name + pair.value + 6,
+        },
     }
 }
 
-fn no_tag() -> PgnTag {
+// How many bytes the name of a tag pair has, and its value as it is written.
+#[derive(Clone, Copy)]
+pub struct PairLengths {
+    pub name: usize,
+    pub value: usize,
+}
+
+// The lengths of the tag pair on whose line the text begins.
+fn first_pair(text: &[u8]) -> Option<PairLengths>
+    ensures pair { result ≡ scan.first_pair text.now }
+    ensures within { IfSome result (λ pair. pair.name + pair.value + 6 ≤ length text.now) }
+{
+    match text_behind(text, b"[") {
+        None => None,
+        Some(text) => pair_behind_bracket(text),
+    }
+}
+
+// The lengths of the pair, if the text has what is behind its bracket.
+fn pair_behind_bracket(text: &[u8]) -> Option<PairLengths>
+    ensures { result ≡ scan.pair_behind_name (scan.name_length text.now) text.now }
+{
+    let name = name_length(text);
+    if name < 1 || 255 < name {
+        return None;
+    }
+    match text_behind(&text[name..], b" \"") {
+        None => None,
+        Some(text) => pair_behind_quote(name, text),
+    }
+}
+
+// The lengths of the pair, if the text has what is behind the first quote.
+fn pair_behind_quote(name: usize, text: &[u8]) -> Option<PairLengths>
+    ensures { result ≡ scan.pair_behind_value name text.now (scan.value_length text.now) }
+{
+    match value_length(text) {
+        None => None,
+        Some(value) => match text_behind(&text[value..], b"\"]\n") {
+            None => None,
+            Some(_) => Some(PairLengths { name, value }),
+        },
+    }
+}
+
+// The text behind these bytes, if it begins with them.
+fn text_behind<'a>(text: &'a [u8], front: &[u8]) -> Option<&'a [u8]>
+    ensures { MatchOption result (scan.text_behind front.now text.now ≡ None)
+        (λ rest. scan.text_behind front.now text.now ≡ Some rest.now) }
+{
+    text.strip_prefix(front)
+}
+
+// How many bytes at the front can be in a name.
+fn name_length(text: &[u8]) -> usize
+    ensures value { result ≡ scan.name_length text.now }
+    ensures within { result ≤ length text.now }
+{
+    for (index, byte) in text.iter().enumerate() {
+        if !is_name_byte(*byte) {
+            return index;
+        }
+    }
+    text.len()
+}
+
+// Whether the byte can be in a name (PGN 8.1).
+fn is_name_byte(byte: u8) -> bool
+    ensures { result ≡ in_name byte }
+{
+    byte.is_ascii_alphanumeric() || byte == b'_'
+}
+
+// How many bytes of a value are before its quote. Each backslash has to be before a quote or a
+// backslash (PGN 7).
+fn value_length(text: &[u8]) -> Option<usize>
+    ensures value { result ≡ scan.value_length text.now }
+    ensures within { IfSome result (λ value. value ≤ length text.now) }
+{
+    let mut is_behind_backslash = false;
+    for (index, byte) in text.iter().enumerate() {
+        if is_behind_backslash {
+            if !is_escaped(*byte) {
+                return None;
+            }
+            is_behind_backslash = false;
+        } else if *byte == b'"' {
+            return Some(index);
+        } else {
+            is_behind_backslash = *byte == b'\\';
+        }
+    }
+    None
+}
+
+// Whether a backslash is written before the byte (PGN 7).
+fn is_escaped(byte: u8) -> bool
+    ensures { result ≡ needs_escape byte }
+{
+    byte == b'"' || byte == b'\\'
+}
+
+// The result where there is no tag pair.
+fn no_tag() -> PgnTag
+    ensures { result ≡ no_tag_result }
+{
     PgnTag {
         status: FAULT,
         name_at: 0,

@@ -23,29 +23,29 @@ castles_ends p m right wing h =
     let ends = and_parts (same_square m.from (home p 4)) (same_square m.to (home p wing.end)) leads.1 in
     (squares_same m.from (home p 4) ends.0, squares_same m.to (home p wing.end) ends.1, (and_parts right (is_none m.promotion) leads.0).1)
 
--- the castling that the form names is the only one from and to its squares
-described : (p : Parts) (long : Bool) → describes p (Castle long) (castling_move p.side long) ≡ is_castling p (castling_move p.side long)
-described p false = first_alone (castles_short p (castling_move p.side false)) (castles_long p (castling_move p.side false)) no_long
+-- the castling that the form names is the only one to its target
+pub described : (p : Parts) (long : Bool) (m : Move) → m.to ≡ (castling_move p.side long).to → describes p (Castle long) m ≡ is_castling p m
+described p false m to = first_alone (castles_short p m) (castles_long p m) no_long
   where
     first_alone : (x y : Bool) → (y ≡ true → ⊥) → x ≡ (x || y)
     first_alone true y h = refl
     first_alone false true h = absurd (h refl)
     first_alone false false h = refl
 
-    no_long : castles_long p (castling_move p.side false) ≡ true → ⊥
+    no_long : castles_long p m ≡ true → ⊥
     no_long h =
-        let to = ap (λ (s : Square). s.file) (castles_ends p (castling_move p.side false) (long_right p.side p.rights) long_wing h).1 in
-        omega (arith, to)
-described p true = second_alone (castles_short p (castling_move p.side true)) (castles_long p (castling_move p.side true)) no_short
+        let files = ap (λ (s : Square). s.file) (sym to ∙ (castles_ends p m (long_right p.side p.rights) long_wing h).1) in
+        omega (arith, files)
+described p true m to = second_alone (castles_short p m) (castles_long p m) no_short
   where
     second_alone : (x y : Bool) → (x ≡ true → ⊥) → y ≡ (x || y)
     second_alone true y h = absurd (h refl)
     second_alone false y h = refl
 
-    no_short : castles_short p (castling_move p.side true) ≡ true → ⊥
+    no_short : castles_short p m ≡ true → ⊥
     no_short h =
-        let to = ap (λ (s : Square). s.file) (castles_ends p (castling_move p.side true) (short_right p.side p.rights) short_wing h).1 in
-        omega (arith, to)
+        let files = ap (λ (s : Square). s.file) (sym to ∙ (castles_ends p m (short_right p.side p.rights) short_wing h).1) in
+        omega (arith, files)
 
 reads_one : (p : Parts) (long : Bool) → move_of_form p (Castle long) ≡ only (cons_option (played (describes p (Castle long) (castling_move p.side long)) p (castling_move p.side long)) [])
 unfolding agreeing
@@ -87,8 +87,8 @@ module _ (p : Parts) (long : Bool) (m : Move) (is : m ≡ castling_move p.side l
       found q leads =
           ap (λ (n : Move). Ok (record { mv = n; next = q })) is
           ∙ answer_of (Some (record { mv = castling_move p.side long; next = q }))
-          (played_some _ p q (castling_move p.side long) (described p long ∙ subst (λ (n : Move). is_castling p n ≡ true) is named) (subst (λ (n : Move). legal p n ≡ Some q) is leads))
+          (played_some _ p q (castling_move p.side long) (described p long (castling_move p.side long) refl ∙ subst (λ (n : Move). is_castling p n ≡ true) is named) (subst (λ (n : Move). legal p n ≡ Some q) is leads))
 
   pub castling_other : is_castling p m ≡ false → Err NoMove ≡ move_of_form p (Castle long)
   castling_other named =
-      answer_of None (played_not _ p (castling_move p.side long) (described p long ∙ subst (λ (n : Move). is_castling p n ≡ false) is named))
+      answer_of None (played_not _ p (castling_move p.side long) (described p long (castling_move p.side long) refl ∙ subst (λ (n : Move). is_castling p n ≡ false) is named))

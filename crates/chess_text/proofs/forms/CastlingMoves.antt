@@ -1,4 +1,4 @@
--- Which legal moves are castling.
+-- Which steps and legal moves are castling.
 use Rattle.std.proofs.Common.{◌≡◌, ℕ, ◌<◌, ◌≤◌, Bool, true, false, not, ◌&&◌, ◌||◌, inl, inr, refl, sym, ◌∙◌, ap, ap₂, subst, arith}
 use Rattle.std.specs.Prelude.{◌==◌, nat_lt, nat_le, Option, None, Some, is_none, is_some, option_map, if◌then◌else◌}
 use Rattle.std.specs.Int.{abs_diff}
@@ -12,20 +12,20 @@ use Rattle.chess_rules.specs.declared.position.Parts.{Parts}
 use Rattle.chess_rules.specs.Square.{Square, square, gap, same_square, is_adjacent}
 use Rattle.chess_rules.specs.Board.{Board, at, has_colour, has_piece, same_colour, same_kind, is_empty, other}
 use Rattle.chess_rules.specs.Attacks.{is_clear, attacks, cell_attacks, kind_attacks}
-use Rattle.chess_rules.specs.Step.{own, home, Wing, short_wing, long_wing, short_right, long_right, is_piece_step, is_pawn_way, is_pawn_step, promotion_fits, is_target, captured_pawn, is_en_passant, is_king_move, stand_ready, is_unattacked, castles, castles_short, castles_long, carried, en_passant_board, castled, is_on_board, after, board_after}
-use Rattle.chess_rules.specs.Legal.{legal, is_legal, if_safe}
+use Rattle.chess_rules.specs.Step.{own, home, Wing, short_wing, long_wing, short_right, long_right, is_piece_step, is_pawn_way, is_pawn_step, promotion_fits, is_target, captured_pawn, is_en_passant, is_king_move, stand_ready, is_unattacked, castles, castles_short, castles_long, carried, en_passant_board, castled, is_on_board, after, board_after, step}
+use Rattle.chess_rules.specs.Legal.{is_legal, if_safe}
 use Rattle.chess_text.specs.MoveOfForm.{is_castling}
 
--- what is known of a legal move
+-- what is known of a step
 pub record Stepped (p : Parts) (m : Move) : Type 0 where
   pub on : is_on_board m ≡ true
   pub way : ((is_piece_step p m || is_pawn_step p m) || (is_en_passant p m || is_castling p m)) ≡ true
 
-pub stepped : (p : Parts) (m : Move) → is_legal p m ≡ true → Stepped p m
-stepped p m h = by_on (is_on_board m) refl h
+pub way_of_step : (p : Parts) (m : Move) → is_some (step p m) ≡ true → Stepped p m
+way_of_step p m h = by_on (is_on_board m) refl h
   where
     by_way : (plain passing short long : Bool)
-        → is_some (if_safe (option_map (after p m) (if plain then Some (carried p m) else if passing then Some (en_passant_board p m) else if short then Some (castled p m short_wing.rook short_wing.crossing) else if long then Some (castled p m long_wing.rook long_wing.crossing) else None))) ≡ true
+        → is_some (option_map (after p m) (if plain then Some (carried p m) else if passing then Some (en_passant_board p m) else if short then Some (castled p m short_wing.rook short_wing.crossing) else if long then Some (castled p m long_wing.rook long_wing.crossing) else None)) ≡ true
         → (plain || (passing || (short || long))) ≡ true
     by_way true passing short long g = refl
     by_way false true short long g = refl
@@ -33,9 +33,19 @@ stepped p m h = by_on (is_on_board m) refl h
     by_way false false false true g = refl
     by_way false false false false g = g
 
-    by_on : (x : Bool) → is_on_board m ≡ x → is_some (if_safe (if x then option_map (after p m) (board_after p m) else None)) ≡ true → Stepped p m
+    by_on : (x : Bool) → is_on_board m ≡ x → is_some (if x then option_map (after p m) (board_after p m) else None) ≡ true → Stepped p m
     by_on true e g = record { on = e; way = by_way (is_piece_step p m || is_pawn_step p m) (is_en_passant p m) (castles_short p m) (castles_long p m) g }
     by_on false e g = absurd (false≢true g)
+
+pub legal_is_step : (p : Parts) (m : Move) → is_legal p m ≡ true → is_some (step p m) ≡ true
+legal_is_step p m h = by_step (step p m) h
+  where
+    by_step : (o : Option Parts) → is_some (if_safe o) ≡ true → is_some o ≡ true
+    by_step None g = g
+    by_step (Some q) g = refl
+
+pub stepped : (p : Parts) (m : Move) → is_legal p m ≡ true → Stepped p m
+stepped p m h = way_of_step p m (legal_is_step p m h)
 
 pub squares_same : (s t : Square) → same_square s t ≡ true → s ≡ t
 squares_same s t h =
@@ -133,12 +143,12 @@ same_tests true y h g = sym (h refl)
 same_tests false true h g = g refl
 same_tests false false h g = refl
 
-pub castling_is_far : (p : Parts) (m : Move) → is_legal p m ≡ true → is_castling p m ≡ goes_far p m
+pub castling_is_far : (p : Parts) (m : Move) → is_some (step p m) ≡ true → is_castling p m ≡ goes_far p m
 castling_is_far p m h =
     same_tests (is_castling p m) (goes_far p m) (castling_goes_far p m)
     (λ far.
     let both = and_parts (own p King m.from) (nat_lt 1 (abs_diff m.from.file m.to.file)) far in
-    far_is_castling p m (stepped p m h) both.0 (ltb-true 1 (abs_diff m.from.file m.to.file) both.1))
+    far_is_castling p m (way_of_step p m h) both.0 (ltb-true 1 (abs_diff m.from.file m.to.file) both.1))
 
 -- the second of two tests, where the first holds
 and_second : (x y : Bool) → x ≡ true → (x && y) ≡ y
@@ -146,8 +156,8 @@ and_second true y h = refl
 and_second false y h = absurd (false≢true h)
 
 -- where the code has seen the king
-pub castling_by_files : (p : Parts) (m : Move) (king : Bool) (files : ℕ) → is_legal p m ≡ true → king ≡ own p King m.from → king ≡ true → files ≡ abs_diff m.from.file m.to.file → nat_lt 1 files ≡ is_castling p m
-castling_by_files p m king files legal seen stands count =
+pub castling_by_files : (p : Parts) (m : Move) (king : Bool) (files : ℕ) → is_some (step p m) ≡ true → king ≡ own p King m.from → king ≡ true → files ≡ abs_diff m.from.file m.to.file → nat_lt 1 files ≡ is_castling p m
+castling_by_files p m king files steps seen stands count =
     ap (nat_lt 1) count
     ∙ sym (and_second (own p King m.from) (nat_lt 1 (abs_diff m.from.file m.to.file)) (sym seen ∙ stands))
-    ∙ sym (castling_is_far p m legal)
+    ∙ sym (castling_is_far p m steps)

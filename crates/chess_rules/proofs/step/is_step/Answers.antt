@@ -1,23 +1,20 @@
-use Rattle.std.proofs.Common.{arith, ◌∙◌}
-use Rattle.chess_rules.proofs.moves.StepsOfKind.{king_steps, none_steps, none_steps_there, other_found, own_found, pawn_steps, piece_steps}
+use Rattle.std.proofs.Common.{◌≡◌, Bool, true, false, refl, ◌∙◌, arith}
+use Rattle.std.specs.Prelude.{Option, None, Some, is_some, option_map, if◌then◌else◌}
+use Rattle.std.proofs.lemmas.Bool.{false≢true}
+use Rattle.std.proofs.lemmas.Bool.Decides.{nat_tests}
+use Rattle.chess_rules.specs.declared.position.Move.{Move}
+use Rattle.chess_rules.specs.declared.position.Parts.{Parts}
+use Rattle.chess_rules.specs.Board.{Board}
+use Rattle.chess_rules.specs.Step.{after, board_after, is_on_board}
 use Rattle.chess_rules.proofs.step.is_step.Goals as goal
 
-pub returns-then-has_colour : goal.returns-then-has_colour
-returns-then-has_colour c = grind (arith, none_steps_there)
+-- on the board, a step is what makes a board
+board_makes_step : (p : Parts) (m : Move) (on : Bool) (o : Option Board) → on ≡ true → is_some o ≡ is_some (if on then option_map (after p m) o else None)
+board_makes_step p m true None h = refl
+board_makes_step p m true (Some b) h = refl
+board_makes_step p m false o h = absurd (false≢true h)
 
-pub returns-then-not-is : goal.returns-then-not-is
-returns-then-not-is c = grind (arith, none_steps, other_found)
-
-pub returns-in-Pawn : goal.returns-in-Pawn
-returns-in-Pawn c = grind (arith, pawn_steps, own_found)
-
-pub returns-in-King : goal.returns-in-King
-returns-in-King c = grind (arith, king_steps, own_found)
-
-pub returns-in_default-kind : goal.returns-in_default-kind
-returns-in_default-kind c =
-    c.piece_goes.ensures
-    ∙ piece_steps c.args.position.now c.args.mv.now c.in-Some.piece.kind
-    (own_found c.args.position.now c.args.mv.now.from c.board-board.result.now c.at.result c.in-Some.piece c.side-side.result c.is.result
-    c.board-board.ensures c.at.ensures c.in-Some.is c.side-side.ensures c.is.ensures c.if-not-is.false)
-    (λ e. c.in_default-kind.not-Pawn e) (λ e. c.in_default-kind.not-King e)
+pub returns : goal.returns
+returns c =
+    let on : is_on_board c.args.mv.now ≡ true = grind (arith, nat_tests) in
+    c.goes.ensures ∙ board_makes_step c.args.position.now c.args.mv.now (is_on_board c.args.mv.now) (board_after c.args.position.now c.args.mv.now) on

@@ -3,7 +3,13 @@ use Rattle.std.specs.Prelude.{is_some, not}
 use Rattle.chess_rules.specs.declared.piece.Colour.{Colour}
 use Rattle.chess_text.specs.MoveOfForm.{castling_move}
 use Rattle.chess_text.proofs.forms.CastlingForms.{castling_illegal, castling_found, castling_other}
+use Rattle.chess_text.proofs.forms.CastlingMoves.{legal_is_step}
 use Rattle.chess_text.proofs.resolution.resolve_castling.Goals as goal
+
+pub is_castling-requires : goal.is_castling-requires
+is_castling-requires c =
+    legal_is_step c.args.position.now c.castling_move-mv.result
+    (ap is_some (sym c.try_pair.ensures.after) ∙ (c.is_none.ensures ∙ ap not c.if-is_none.false))
 
 pub returns-then-is_none-clause-answer : goal.returns-then-is_none-clause-answer
 returns-then-is_none-clause-answer c =

@@ -2,8 +2,12 @@ use Rattle.std.proofs.Common.{ℕ, List, [], ◌∷◌, ◌++◌, refl, sym, ◌
 use Rattle.std.specs.Prelude.{◌==◌}
 use Rattle.chess_rules.specs.declared.piece.Kind.TheVariants.{King}
 use Rattle.chess_text.specs.San.{capture_if, castling_text}
+use Rattle.chess_text.proofs.forms.CastlingMoves.{legal_is_step}
 use Rattle.chess_text.proofs.forms.MoverOfMove.{castling_written, step_written, piece_takes, something}
 use Rattle.chess_text.proofs.san.push_king_text.Goals as goal
+
+pub is_castling-requires : goal.is_castling-requires
+is_castling-requires c = legal_is_step c.args.position.now c.args.mv.now c.requires.legal
 
 pub returns-then-is_castling-clause-text : goal.returns-then-is_castling-clause-text
 returns-then-is_castling-clause-text c =

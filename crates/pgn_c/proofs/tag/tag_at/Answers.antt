@@ -1,0 +1,18 @@
+use Rattle.std.proofs.Common.{List, ℕ, sym, ◌∙◌, ap, subst}
+use Rattle.std.proofs.lemmas.List.{take_rest}
+use Rattle.pgn_c.specs.declared.tag.PgnTag.{PgnTag}
+use Rattle.pgn_c.specs.TagAt.{TagResult}
+use Rattle.pgn_c.specs.TagScan.{first_pair}
+use Rattle.pgn_c.proofs.PairsOnLines.{not_found, found_there}
+use Rattle.pgn_c.proofs.tag.tag_at.Goals as goal
+
+pub returns-in-None : goal.returns-in-None
+returns-in-None c =
+    subst (λ (r : PgnTag). TagResult c.args.text.now c.args.at r) (sym c.no_tag-in-None.ensures)
+    (not_found c.args.text.now c.args.at
+    (sym (c.in-None.ensures.pair ∙ ap (λ (s : List ℕ). first_pair s) (take_rest c.args.text.now c.args.at))))
+
+pub returns-in-Some : goal.returns-in-Some
+returns-in-Some c =
+    found_there c.args.text.now c.args.at c.in-Some.pair
+    (sym (c.in-Some.ensures.pair ∙ ap (λ (s : List ℕ). first_pair s) (take_rest c.args.text.now c.args.at)))
