@@ -116,7 +116,7 @@ RESULT = {
 
 class Words(unittest.TestCase):
     def test_help(self):
-        for script in ("run", "parallel", "library", "builds"):
+        for script in ("run", "parallel", "library", "builds", "calls"):
             ran = run([ROOT + "/bench/" + script, "--help"])
             self.assertEqual((ran.returncode, ran.stderr), (0, b""))
             self.assertIn(b"--record", ran.stdout)
@@ -355,6 +355,7 @@ class Records(unittest.TestCase):
         self.expect_markers("docs/RECIPES.md", "bench/parallel")
         self.expect_markers("bench/README.md", "bench/library")
         self.expect_markers("bench/README.md", "bench/builds")
+        self.expect_markers("bench/README.md", "bench/calls")
 
 
 if __name__ == "__main__":
