@@ -13,7 +13,7 @@ static uint8_t text[1 << 24], buffer[1 << 24];
 
 int main(int count, char **words) {
     const char *way = count == 2 ? words[1] : "whole";
-    size_t length = fread(text, 1, sizeof text, stdin);
+    size_t length = fread(text, 1, sizeof text, stdin), used = 0;
     pgn_game game = {0};
 
     if (!strcmp(way, "whole")) {
@@ -23,8 +23,9 @@ int main(int count, char **words) {
     }
     do {
         game = pgn_next_game(text, length, game.end, PGN_FULL_FORMAT, !strcmp(way, "from-marker"),
-                             buffer, sizeof buffer);
-        fwrite(buffer, 1, game.written, stdout);
+                             buffer + used, sizeof buffer - used);
+        used += game.written;
     } while (game.status == PGN_OK);
+    fwrite(buffer, 1, used, stdout);
     return game.status != PGN_NO_GAME;
 }
