@@ -200,6 +200,18 @@ class Installed:
         words = words.decode().replace("-lpgn_c", self.prefix + "/lib/libpgn_c.a").split()
         self.check_loop(self.compiled(words))
 
+    def test_a_small_stack(self):
+        """Half of what is asked for, for each way to convert: bench/calls.c has them."""
+        program = self.folder + "/calls"
+        ran = run(["cc", "-std=c99", "-Wall", "-Wextra", "-Werror", "-O2", ROOT + "/bench/calls.c",
+                   "-I%s/include" % self.prefix, self.prefix + "/lib/libpgn_c.a", "-o", program])
+        self.assertEqual((ran.returncode, ran.stderr), (0, b""))
+        data = self.archive(10, "annotated")
+        _, wanted = self.library.convert(data)
+        for way in ("whole", "games", "from-marker"):
+            ran = run(["sh", "-c", 'ulimit -s 128 && exec "$@"', "sh", program, way], input=data)
+            self.assertEqual((ran.returncode, ran.stdout, ran.stderr), (0, wanted, b""), way)
+
     # ---- the worked inputs
 
     def check_verdict(self, vector, last, games):
