@@ -121,6 +121,55 @@ def memory(words):
     return int(ran.stderr.split()[-1]) / 1024
 
 
+def small_archive(style, games):
+    """The path of an archive of so many games, which is made."""
+    file = "%s/out/%s-%d.pgn" % (HERE, style, games)
+    words = [sys.executable, HERE + "/make_archive.py", "--style", style, "--games", str(games)]
+    with open(file, "wb") as out:
+        subprocess.run(words, stdout=out, check=True)
+    return file
+
+
+def output_of(words, file):
+    """What a program writes for a file on standard input."""
+    with open(file, "rb") as data:
+        ran = subprocess.run(words, stdin=data, stdout=subprocess.PIPE, check=False)
+    if ran.returncode:
+        stop("%s failed" % " ".join(words))
+    return ran.stdout
+
+
+def instructions(words, file):
+    """How many a program takes for a file on standard input."""
+    tool = ["valgrind", "--tool=callgrind", "--callgrind-out-file=/dev/null", *words]
+    with open(file, "rb") as data:
+        ran = subprocess.run(tool, stdin=data, stdout=subprocess.DEVNULL, stderr=subprocess.PIPE,
+                             check=True)
+    return int(ran.stderr.split(b"Collected : ")[1].split()[0])
+
+
+def instruction_table(calls):
+    """The instructions of a game by each call, on both archives, beside those of the first call.
+
+    They are the difference of 300 and 100 games. All must write the same bytes.
+    """
+    styles, figures = ("plain", "annotated"), {}
+    for style in styles:
+        small, large = small_archive(style, 100), small_archive(style, 300)
+        if len({output_of(words, large) for words in calls.values()}) != 1:
+            stop("the outputs differ")
+        for name, words in calls.items():
+            figures[name, style] = (instructions(words, large) - instructions(words, small)) / 200
+    base = next(iter(calls))
+    lines = ["| instructions a game | %s |" % " | ".join("%s | ratio" % it for it in styles),
+             "|---|" + "---:|" * (2 * len(styles))]
+    for name in calls:
+        cells = ["%s | %.3f" % (format(round(figures[name, it]), ","),
+                                figures[name, it] / figures[base, it]) for it in styles]
+        lines.append("| %s | %s |" % (name, " | ".join(cells)))
+    return lines
+
+
 def callgrind(words):
     """What callgrind counts in a call, as read_callgrind returns it."""
     with tempfile.NamedTemporaryFile() as file:

@@ -12,7 +12,8 @@
 
 A text with a fault raises PgnFault, which has the fault's number, its byte offset and the reason.
 
-The shared object is libpgn.so in ../out, where examples/build puts it, or what PGN_LIBRARY names.
+The shared library is libpgn.so in ../out, where examples/build puts it, or what PGN_LIBRARY names:
+libpgn_c.so below the prefix of bin/install.
 Calls from several threads run side by side.
 
 As a program, `pgn.py [--reduced] FILE` writes a file's games in export format.
@@ -20,12 +21,9 @@ As a program, `pgn.py [--reduced] FILE` writes a file's games in export format.
 import ctypes
 import mmap
 import os
-import re
 import sys
 
-OK, FAULT, FULL, NO_MODE = range(4)
-# A game in export format: a tag section and movetext, and an empty line behind each.
-_GAME = re.compile(rb"(?s).*?\n\n.*?\n\n")
+OK, FAULT, FULL, NO_MODE, NO_GAME = range(5)
 _HERE = os.path.dirname(os.path.realpath(__file__))
 _LIBRARY = os.environ.get("PGN_LIBRARY") or os.path.join(_HERE, "..", "out", "libpgn.so")
 
@@ -84,6 +82,24 @@ class Result(ctypes.Structure):
     ]
 
 
+class Game(ctypes.Structure):
+    """struct pgn_game of pgn.h"""
+
+    _fields_ = [
+        ("status", ctypes.c_uint32),
+        ("fault", ctypes.c_uint32),
+        ("place", ctypes.c_uint64),
+        ("written", ctypes.c_size_t),
+        ("end", ctypes.c_size_t),
+        ("marker_at", ctypes.c_size_t),
+        ("plies", ctypes.c_uint64),
+        ("reason_at", ctypes.c_size_t),
+        ("marker", ctypes.c_uint32),
+        ("message", ctypes.c_char * 104),
+        ("fen", ctypes.c_char * 96),
+    ]
+
+
 class Text(ctypes.Structure):
     """struct pgn_text of pgn.h"""
 
@@ -108,10 +124,11 @@ class Move(ctypes.Structure):
 
 def _load():
     library = ctypes.CDLL(_LIBRARY)
-    text, size = (ctypes.c_void_p, ctypes.c_size_t), ctypes.c_size_t
+    text, size, mode = (ctypes.c_void_p, ctypes.c_size_t), ctypes.c_size_t, ctypes.c_uint32
     for name, result, arguments in (
         ("pgn_check", Result, text),
-        ("pgn_convert", Result, (*text, ctypes.c_void_p, size, ctypes.c_uint32)),
+        ("pgn_convert", Result, (*text, ctypes.c_void_p, size, mode)),
+        ("pgn_next_game", Game, (*text, size, mode, mode, ctypes.c_void_p, size)),
         ("pgn_fen_normalize", Text, (*text, ctypes.c_void_p, size)),
         ("pgn_san", Move, text + text),
     ):
@@ -171,19 +188,34 @@ def check(data):
     return result.games, result.plies
 
 
+def next_game(data, at=0, reduced=False, capacity=16384):
+    """Returns the Game that begins at a place of a text, and what was written of it.
+
+    The next one begins at its `end`. Its `fen` is that of its last position. There is none more if
+    its status is NO_GAME. With another status but OK it has the fault.
+    """
+    kept, address = _address(data)
+    while True:
+        buffer = bytearray(capacity)
+        room, to = _address(buffer)
+        game = _library.pgn_next_game(address, len(data), at, reduced, 0, to, capacity)
+        if game.status != FULL:
+            return game, bytes(memoryview(buffer)[: game.written])
+        capacity *= 2
+
+
 def games(path, reduced=False):
     """Yields each game of a file in export format; raises PgnFault behind the games before it."""
     with open(path, "rb") as file:
         if os.fstat(file.fileno()).st_size == 0:
             return
         with mmap.mmap(file.fileno(), 0, access=mmap.ACCESS_COPY) as data:
-            result, written = _convert(data, reduced)
-    at = 0
-    for game in _GAME.finditer(written):
-        yield game.group()
-        at = game.end()
-    if result.status != OK:
-        raise _fault(result, written[at:])
+            game, written = next_game(data, 0, reduced)
+            while game.status == OK:
+                yield written
+                game, written = next_game(data, game.end, reduced)
+    if game.status != NO_GAME:
+        raise _fault(game, written)
 
 
 def normalize_fen(fen):

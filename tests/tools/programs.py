@@ -1,8 +1,10 @@
 """What several tests of the tools need: the program, and other programs that may be missing."""
 import functools
+import glob
 import json
 import os
 import pty
+import re
 import shutil
 import subprocess
 import tempfile
@@ -12,6 +14,9 @@ import unittest
 ROOT = os.path.dirname(os.path.dirname(os.path.dirname(os.path.realpath(__file__))))
 # Debian keeps games apart.
 PATH = os.environ.get("PATH", "") + ":/usr/games:/usr/sbin"
+DEBIAN = "/usr/share/cargo/registry"
+CRATES = ("arrayvec", "itoa", "clap")
+OLDEST_CARGO = (1, 74)
 
 
 def found(name):
@@ -62,6 +67,33 @@ def need_proved_program():
     if not program or program != printed_by_build():
         not_tried("bin/build_program --proved has not built the proved program")
     return program
+
+
+def need_cargo():
+    """Leaves a test out without a cargo that is new enough, or without the crates."""
+    need("cargo")
+    said = run(["cargo", "--version"]).stdout.decode()
+    version = re.match(r"cargo (\d+)\.(\d+)", said)
+    if not version or tuple(map(int, version.groups())) < OLDEST_CARGO:
+        not_tried("cargo is older than %d.%d: %s" % (*OLDEST_CARGO, said.strip()))
+    for name in CRATES:
+        if not glob.glob("%s/%s-[0-9]*" % (DEBIAN, name)):
+            not_tried("Debian's crate librust-%s-dev is missing" % name)
+
+
+def need_library(build):
+    """The static library of a build, `--cargo` or `--proved`; the shared one is beside it.
+
+    The test is left out if it cannot be built by Cargo, or if rt has not built it.
+    """
+    need("cc")
+    if build == "--cargo":
+        need_cargo()
+        return printed_by_build("--library", build) or not_tried("the library cannot be built")
+    library = printed_by_build("--library", build, "--built")
+    if not library or library != printed_by_build("--library"):
+        not_tried("bin/build_program --library --proved has not built the proved library")
+    return library
 
 
 def vectors():

@@ -9,6 +9,11 @@ from programs import ROOT, run
 
 # They stand for the two toolchains. What they build says which text its source had.
 RT = """#!/bin/sh
+if [ "$*" = lib ]; then
+  grep -q broken src/lib.rt && exit 1
+  mkdir -p out && echo "rt built static" >out/libpgn_c.a
+  exit
+fi
 [ "$*" = "run -- --version" ] || exit 9
 echo "rt builds" >&2
 [ -e ../../slow ] && sleep 32
@@ -24,11 +29,17 @@ case $1 in
   --version) echo "cargo ${CARGO_VERSION:-1.74.0} (0123abcd 2023-11-16)" ;;
   fetch) [ ! -e ../../no-registry ] ;;
   build)
+    mkdir -p target/release
+    if [ "$4" = pgn_c ]; then
+      grep -q broken ../../crates/pgn_c/src/lib.rt && exit 101
+      echo "cargo built static" >target/release/libpgn_c.a
+      echo "cargo built shared" >target/release/libpgn_c.so
+      exit
+    fi
     echo "cargo builds" >&2
     [ -e ../../slow ] && sleep 32
     [ -e ../../meanwhile ] && sleep 0.1 && touch "$source/lib.rt"
     grep -q broken "$source/main.rt" && exit 101
-    mkdir -p target/release
     printf '#!/bin/sh\\necho "cargo built %s, called with $*"\\n' "$(cat "$source/main.rt")" \\
       >target/release/pgn_tool
     chmod 755 target/release/pgn_tool ;;
@@ -45,7 +56,12 @@ rust-version = "1.74"
 '
 mkdir -p "$1"
 """
-COMMANDS = {"rt": RT, "cargo": CARGO, "rustc": RUSTC}
+# The C compiler, which makes one library of another: its last word is the file.
+CC = """#!/bin/sh
+for word; do last=$word; done
+echo "cc built shared" >"$last"
+"""
+COMMANDS = {"rt": RT, "cargo": CARGO, "rustc": RUSTC, "cc": CC}
 # What the scripts call of a system. Nothing else is on their PATH, so neither cargo nor rt.
 SYSTEM = ("basename cat chmod cp dirname env find grep head id ln ls mkdir mktemp mv readlink rm"
           " rmdir sed sh sleep sort touch").split()
@@ -61,11 +77,13 @@ class Repository:
                         ignore=shutil.ignore_patterns("__pycache__"))
         self.write("bin/to_cargo", TO_CARGO)
         self.write("crates.txt", "# crates\n"
-                   "pgn_tool: pgn_game std # more\npgn_game:\npgn_vectors: pgn_game\n")
+                   "pgn_tool: pgn_game std # more\npgn_game:\npgn_vectors: pgn_game\n"
+                   "pgn_c staticlib: pgn_game\n")
         self.write("crates/pgn_tool/src/main.rt", "one")
         for path in ("crates/pgn_tool/src/lib.rt", "crates/pgn_tool/specs/a.antt",
                      "crates/pgn_tool/proofs/a.antt", "crates/pgn_game/src/lib.rt",
-                     "crates/pgn_vectors/src/lib.rt", "cargo/rattle_std/lib.rs"):
+                     "crates/pgn_vectors/src/lib.rt", "crates/pgn_c/src/lib.rt",
+                     "crates/pgn_c/pgn.h", "cargo/pgn_c/ffi.rs", "cargo/rattle_std/lib.rs"):
             self.write(path, "text")
         for name in ("man/man1/pgn_tool.1", "man/man1/pgn_where.1", "man/man1/pgn_sieve.1",
                      "man/man1/pgn_fmt.1", "completions/pgn_tool.bash", "completions/_pgn_tool",

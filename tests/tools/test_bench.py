@@ -120,7 +120,7 @@ RESULT = {
 
 class Words(unittest.TestCase):
     def test_help(self):
-        for script in ("run", "parallel", "library"):
+        for script in ("run", "parallel", "library", "calls"):
             ran = run([ROOT + "/bench/" + script, "--help"])
             self.assertEqual((ran.returncode, ran.stderr), (0, b""))
             self.assertIn(b"--record", ran.stdout)
@@ -403,6 +403,7 @@ class Records(unittest.TestCase):
             self.expect_markers(name, "bench/run")
         self.expect_markers("docs/RECIPES.md", "bench/parallel")
         self.expect_markers("bench/README.md", "bench/library")
+        self.expect_markers("bench/README.md", "bench/calls")
 
 
 if __name__ == "__main__":

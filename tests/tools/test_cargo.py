@@ -15,13 +15,10 @@ import unittest
 sys.path.insert(0, os.path.dirname(os.path.realpath(__file__)))
 import programs
 from documents import blocks_of, code_of, lines_of, printed_by, table
-from programs import ROOT, run
+from programs import ROOT, need_cargo, run
 
 # One folder for all runs, so that only the first one builds everything.
 OUT = os.path.join(ROOT, "cargo/out")
-DEBIAN = "/usr/share/cargo/registry"
-CRATES = ("arrayvec", "itoa", "clap")
-OLDEST = (1, 74)
 # What follows a sample that is the function NAME: it converts a game.
 CALL = """
 fn main() {
@@ -73,25 +70,13 @@ fn main() {
 """
 LIBRARIES = ("chess_rules", "chess_text", "pgn_lexer", "pgn_layout", "pgn_game")
 # The crates whose calls of the toolchain are renamed. Of the others lines only go.
-RENAMED = ("pgn_tool", "pgn_arguments")
+RENAMED = ("pgn_tool", "pgn_arguments", "pgn_c")
 # The tests of files, pipes and devices, which are those of the proved program too.
 DEVICES = ("program", "split", "checked", "streams", "interrupted")
 # What stands in a line of the program that is not one of the source.
 OF_STANDARD = re.compile(
     r"rattle_std|let rt = HostRuntime;|fn (main|\w+)\(\)|rt\.words\(\)|assert\w*!\(|AllocError>\("
     r"|File::\w+\(|(String|Vec|VecDeque)::new\(\)|\.try_\w+\(|PhantomData;")
-
-
-def need_cargo():
-    """Leaves a test out without a cargo that is new enough, or without the crates."""
-    programs.need("cargo")
-    said = run(["cargo", "--version"]).stdout.decode()
-    version = re.match(r"cargo (\d+)\.(\d+)", said)
-    if not version or tuple(map(int, version.groups())) < OLDEST:
-        programs.not_tried("cargo is older than %d.%d: %s" % (*OLDEST, said.strip()))
-    for name in CRATES:
-        if not glob.glob("%s/%s-[0-9]*" % (DEBIAN, name)):
-            programs.not_tried("Debian's crate librust-%s-dev is missing" % name)
 
 
 def cargo(*words, env=None):
@@ -149,9 +134,9 @@ class Built(unittest.TestCase):
         self.check_tests("pgn_tool", 18, "*_tests", ())
 
     def check_conditions(self, env, expected):
-        """The tests of pgn_game and of what stands below it, which are written for Cargo."""
+        """The tests that are written for Cargo: of the libraries, and of pgn_c."""
         words = ["test", "--package", "pgn_game", "--package", "pgn_lexer", "--package",
-                 "chess_rules", "--lib", "--tests"]
+                 "chess_rules", "--package", "pgn_c", "--lib", "--tests"]
         ran = cargo(*words, env=env)
         said = (ran.stdout + ran.stderr).decode()
         self.assertEqual(ran.returncode, 0, said)
@@ -409,8 +394,8 @@ class Written(unittest.TestCase):
         out, status, said = self.write()
         self.assertEqual(status, 0, said)
         count = 0
-        for path, lines, source in self.pairs(out, (*LIBRARIES, "pgn_tool")):
-            is_renamed = "/pgn_tool/" in path
+        for path, lines, source in self.pairs(out, (*LIBRARIES, "pgn_tool", "pgn_c")):
+            is_renamed = "/pgn_tool/" in path or "/pgn_c/" in path
             left = source.split("\n")
             lines = without_added(path, lines)
             for line in lines:
@@ -427,6 +412,7 @@ class Written(unittest.TestCase):
         head = re.compile(r"^ *(?:pub(?:\(crate\))? )?(?:const )?fn \w+", re.MULTILINE)
         count = 0
         for path, lines, source in self.pairs(out):
+            source = source.replace('pub extern "C" fn', "pub fn")
             self.assertEqual(head.findall("\n".join(lines)), head.findall(source), path)
             count += len(head.findall(source))
         self.assertGreater(count, 400)
@@ -447,7 +433,26 @@ class Written(unittest.TestCase):
         text = read(out + "/crates/rattle_std/src/lib.rs")
         self.assertIn("**Not proved.**", text.split("\n", 1)[0])
         self.assertLess(text.count("\n"), 110)
+        for file in ("src/ffi.rs", "build.rs"):
+            text = read(out + "/crates/pgn_c/" + file)
+            self.assertIn("**Not proved.**", text.split("\n", 1)[0])
         self.assertIn("**Nothing in this folder is proved", read(out + "/README.md"))
+
+    def test_one_file_has_unsafe_code(self):
+        out, _, _ = self.write()
+        files = glob.glob(out + "/crates/**/*.rs", recursive=True)
+        found = [it for it in files if re.search(r"(?m)^[^/]*\bunsafe\b", read(it))]
+        self.assertEqual([os.path.relpath(it, out) for it in found], ["crates/pgn_c/src/ffi.rs"])
+        self.assertIn('unsafe_code = "forbid"', read(out + "/Cargo.toml"))
+        for file in glob.glob(out + "/crates/*/Cargo.toml"):
+            is_face = "/pgn_c/" in file
+            self.assertEqual("[lints]\nworkspace = true\n" in read(file), not is_face, file)
+            self.assertEqual('unsafe_code = "deny"' in read(file), is_face, file)
+
+    def test_the_header_is_the_same(self):
+        out, _, _ = self.write()
+        header = "/crates/pgn_c/pgn.h"
+        self.assertEqual(read(out + header), read(ROOT + header))
 
     def test_another_folder_is_left_alone(self):
         os.mkdir(self.folder + "/out")
@@ -536,7 +541,8 @@ class Written(unittest.TestCase):
     def copied(self, file, old, new):
         """A copy of all that bin/to_cargo reads, with a change in one file."""
         copy = tempfile.mkdtemp(dir=self.folder)
-        names = ["bin/to_cargo", "crates.txt", "LICENSE-MIT", "CHANGELOG.md", "cargo/README.md"]
+        names = ["bin/to_cargo", "crates.txt", "LICENSE-MIT", "CHANGELOG.md", "cargo/README.md",
+                 "crates/pgn_c/pgn.h"]
         for folder in ("cargo/*/**/*.rs", "crates/*/src/**/*.rt"):
             found = glob.glob(os.path.join(ROOT, folder), recursive=True)
             names += [os.path.relpath(it, ROOT) for it in found if not it.startswith(OUT + "/")]
@@ -557,8 +563,9 @@ def without_added(path, lines):
     added = []
     for conditions in script.ASSERTED.get(file, {}).values():
         added += [line for words in conditions for line in script.assertion(*words)]
-    for module in (it for it in ("traits", "conditions") if "mod %s;" % it in lines):
-        added += ["// Written for Cargo, not proved."] if module == "traits" else ["#[cfg(test)]"]
+    for module in (it for it in ("traits", "ffi", "conditions") if "mod %s;" % it in lines):
+        is_test = module == "conditions"
+        added += ["#[cfg(test)]"] if is_test else ["// Written for Cargo, not proved."]
         added += ["mod %s;" % module]
     left = []
     hints = ["#[track_caller]"] + ["#[inline]"] * ("/chess_rules/" in path)
@@ -577,6 +584,7 @@ def without_added(path, lines):
 def is_made(line, source):
     """Whether the line is the source's, or that with what stands behind a contract or without what
     only the prover reads."""
+    source = source.replace('pub extern "C" fn', "pub fn")
     made = [source, source + " {", source + " {}", source + ";"]
     made += [source.replace(", Drop", ""), source.replace(" + Drop", "")]
     made.append(source.replace("#[rattlefmt::", "#[rustfmt::"))

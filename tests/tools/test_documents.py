@@ -19,12 +19,13 @@ sys.path.insert(0, os.path.dirname(os.path.realpath(__file__)))
 import programs
 from documents import blocks_of, code_of, documents, is_console, lines_of, prose_of, table
 from programs import ROOT, on_a_terminal, run
-from test_library import ARCHIVE, need_library
 
 MARK = re.compile(r"<!-- *not run\b:? *(.*?) *-->")
 LINK = re.compile(r"\[(?:[^\]`]|`[^`]*`)*\]\(([^)\s]+)\)")
 MOST_LINES_OF_README = 200
-BUILT = (ROOT + "/crates/pgn_tool/out/pgn_tool", ROOT + "/cargo/out/pgn_tool", ARCHIVE)
+BUILT = ["%s/%s" % (ROOT, it) for it in (
+    "crates/pgn_tool/out/pgn_tool", "crates/pgn_c/out/libpgn_c.a", "crates/pgn_c/out/libpgn_c.so",
+    "cargo/out/pgn_tool", "cargo/out/libpgn_c.a", "cargo/out/libpgn_c.so")]
 # What each crate uses, by crates.txt.
 USES = {it.split(":")[0].split()[0]: it.split(":")[1].split()
         for it in lines_of("crates.txt") if it and not it.startswith("#")}
@@ -72,9 +73,11 @@ class Home:
         shutil.copy(self.copy + "/examples/two-games.pgn", self.copy + "/games.pgn")
         if not programs.printed_by_build():
             programs.not_tried("the program cannot be built")
+        if not programs.printed_by_build("--library"):
+            programs.not_tried("the library cannot be built")
         for file in filter(os.path.exists, BUILT):
             to = os.path.join(self.copy, os.path.relpath(file, ROOT))
-            os.makedirs(os.path.dirname(to))
+            os.makedirs(os.path.dirname(to), exist_ok=True)
             shutil.copy2(file, to)  # as old as it is: one that is older than a source is not run
 
     def shown(self, lines):
@@ -101,7 +104,7 @@ class Console(unittest.TestCase):
 
     def check(self, home, lines):
         if any("examples/build" in it for it in lines):
-            need_library()
+            programs.need("cc")
         if any("bin/try_allocations" in it for it in lines):
             programs.need_proved_program()
         shown = home.shown(lines)

@@ -15,6 +15,7 @@ from small_repository import CARGO, Repository
 INSTALL, UNINSTALL, LIST = "bin/install", "bin/uninstall", "share/pgn_tool/files"
 FILES = [
     "bin/pgn_fmt", "bin/pgn_sieve", "bin/pgn_tool", "bin/pgn_where",
+    "include/pgn.h", "lib/libpgn_c.a", "lib/libpgn_c.so", "lib/pkgconfig/pgn_c.pc",
     "share/bash-completion/completions/pgn_tool",
     "share/fish/vendor_completions.d/pgn_tool.fish",
     "share/man/man1/pgn_fmt.1", "share/man/man1/pgn_sieve.1", "share/man/man1/pgn_tool.1",
@@ -47,7 +48,7 @@ class Small(unittest.TestCase):
     """In a small repository, whose commands build nothing real."""
 
     def setUp(self):
-        self.here = Repository(self, ("cargo", "rustc", "rt"))
+        self.here = Repository(self, ("cargo", "rustc", "rt", "cc"))
         self.prefix = self.here.root + "/to there"
 
     def call(self, *words, script=INSTALL, **more):
@@ -81,6 +82,60 @@ class Small(unittest.TestCase):
             ran = run([self.prefix + "/bin/pgn_tool", "x"])
             self.assertEqual(ran.stdout.split()[0], b"rt" if options else b"cargo")
 
+    def libraries(self):
+        """What the installed libraries say, and the lines of the file for pkg-config."""
+        lines = read(self.prefix + "/lib/pkgconfig/pgn_c.pc").splitlines()
+        return (read(self.prefix + "/lib/libpgn_c.a").strip(),
+                read(self.prefix + "/lib/libpgn_c.so").strip(), lines)
+
+    def test_the_library_is_built_as_the_program(self):
+        for options, static, shared, needs in (
+                ([], "cargo built static", "cargo built shared", "-lpthread"),
+                (["--proved"], "rt built static", "cc built shared", ""),
+                (["--cargo"], "cargo built static", "cargo built shared", "-lpthread")):
+            status, _, told = self.call(*options, self.prefix)
+            self.assertEqual(status, 0, told)
+            built = self.libraries()
+            self.assertEqual(built[:2], (static, shared), options)
+            self.assertEqual(built[2][0], "prefix=" + self.prefix)
+            self.assertRegex(built[2][-1], r"^Libs.private:.*" + needs)
+            self.assertNotIn("libpgn_c is", told)
+
+    def test_each_build_is_said_where_they_differ(self):
+        self.assertEqual(self.here.call("--proved", script="bin/build_program").returncode, 0)
+        status, _, told = self.call(self.prefix)
+        self.assertEqual(status, 0, told)
+        self.assertIn("is installed under %s: proved and built by rt\n" % self.prefix, told)
+        self.assertIn("libpgn_c is built by Cargo from the proved sources; not proved itself", told)
+
+    def test_a_newer_source_of_the_library_builds_it_anew(self):
+        self.call(self.prefix)
+        path = self.here.root + "/cargo/out/libpgn_c.a"
+        for source in ("crates/pgn_c/src/lib.rt", "cargo/pgn_c/ffi.rs", "crates/pgn_game/src/lib.rt"):
+            self.here.make_older()
+            before = os.stat(path).st_ino
+            self.call(self.prefix)
+            self.assertEqual(os.stat(path).st_ino, before)
+            self.here.change(source)
+            self.assertIn("newer than the library", self.call(self.prefix)[2])
+            self.assertNotEqual(os.stat(path).st_ino, before)
+
+    def test_a_library_that_is_not_built(self):
+        self.here.write("crates/pgn_c/src/lib.rt", "broken")
+        for options in ([], ["--proved"]):
+            status, out, told = self.call(*options, self.prefix)
+            self.assertEqual((status, out), (127, ""))
+            self.assertIn("the library was not built", told)
+            self.assertFalse(os.path.exists(self.prefix))
+
+    def test_the_proved_library_needs_a_c_compiler(self):
+        os.unlink(self.here.root + "/path/cc")
+        status, out, told = self.call("--proved", self.prefix)
+        self.assertEqual((status, out), (127, ""))
+        self.assertIn("the shared library needs a C compiler, and cc is not on the PATH", told)
+        status, _, told = self.call("--proved", self.prefix, env={"CC": "rt"})
+        self.assertEqual(status, 127)
+
     def test_scripts_call_the_program_beside_them(self):
         self.call(self.prefix)
         self.here.command("pgn_tool", "#!/bin/sh\necho another\n")
@@ -103,6 +158,7 @@ class Small(unittest.TestCase):
         env = {"DESTDIR": self.here.root + "/package"}
         status, _, told = self.call("/usr", env=env)
         self.assertEqual(status, 0, told)
+        self.assertIn("prefix=/usr\n", read(env["DESTDIR"] + "/usr/lib/pkgconfig/pgn_c.pc"))
         self.assertEqual(files(self.here.root + "/package/usr"), FILES)
         self.assertEqual(os.readlink(self.here.root + "/package/usr/bin/pgn_where"),
                          "../share/pgn_tool/pgn_where")
@@ -220,7 +276,7 @@ class Small(unittest.TestCase):
 
     def test_arguments(self):
         for script in (INSTALL, UNINSTALL):
-            for words in (["--no"], ["a", "b"]):
+            for words in (["--no"], ["a", "b"], ["--cargo", "--proved"]):
                 status, out, told = self.call(*words, script=script)
                 self.assertEqual((status, out, told.count("\n")), (2, "", 1), words)
             status, _, told = self.call("--help", script=script)

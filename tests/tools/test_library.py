@@ -5,6 +5,7 @@ import importlib.util
 import os
 import re
 import shutil
+import subprocess
 import sys
 import tempfile
 import threading
@@ -12,10 +13,10 @@ import unittest
 
 sys.path.insert(0, os.path.dirname(os.path.realpath(__file__)))
 from documents import printed_by
-from programs import ROOT, need, need_program, not_tried, run
+from programs import ROOT, need, need_library, need_program, run
+from small_repository import Repository
 
 CRATE = ROOT + "/crates/pgn_c"
-ARCHIVE = CRATE + "/out/libpgn_c.a"
 INITIAL = b"rnbqkbnr/pppppppp/8/8/8/8/PPPPPPPP/RNBQKBNR w KQkq - 0 1"
 NO_SUCH_MOVE = ROOT + "/examples/no-such-move.pgn"
 
@@ -25,55 +26,53 @@ def source(name):
         return file.read()
 
 
-def need_library():
-    if not os.path.exists(ARCHIVE):
-        not_tried("crates/pgn_c/out/libpgn_c.a is not built")
-    need("cc")
-
-
 class Built:
-    """What examples/build makes, once for all tests."""
+    """What examples/build makes of each build of the library, once for all tests."""
 
-    folder = None
+    folders = {}
 
     @classmethod
-    def path(cls, name):
-        need_library()
-        if cls.folder is None:
-            cls.folder = tempfile.mkdtemp()
-            unittest.addModuleCleanup(shutil.rmtree, cls.folder)
-            ran = run(["examples/build", cls.folder])
+    def path(cls, build, name):
+        need_library(build)
+        if build not in cls.folders:
+            cls.folders[build] = tempfile.mkdtemp()
+            unittest.addModuleCleanup(shutil.rmtree, cls.folders[build])
+            ran = run(["examples/build", build, cls.folders[build]])
             if ran.returncode != 0:
                 raise AssertionError(ran.stderr.decode())
-        return cls.folder + "/" + name
+        return cls.folders[build] + "/" + name
 
 
 class Builder(unittest.TestCase):
-    """examples/build, where there is no library and no toolchain."""
+    """examples/build, in a small repository whose commands build nothing real."""
 
     def setUp(self):
-        self.root = tempfile.mkdtemp()
-        self.addCleanup(shutil.rmtree, self.root)
-        for folder in ("examples", "crates/pgn_c/out", "path"):
-            os.makedirs(self.root + "/" + folder)
-        shutil.copy(ROOT + "/examples/build", self.root + "/examples")
-        for name in ("cat", "dirname", "mkdir"):
-            os.symlink(shutil.which(name), self.root + "/path/" + name)
+        self.here = Repository(self, ("cargo", "rustc", "rt", "cc"))
+        shutil.copytree(ROOT + "/examples", self.here.root + "/examples",
+                        ignore=shutil.ignore_patterns("out"))
 
     def build(self, *words, **env):
-        ran = run([self.root + "/examples/build", *words], cwd=self.root,
-                  env={"PATH": self.root + "/path", **env})
+        ran = self.here.call(*words, script="examples/build", cwd=self.here.root, env=env)
         return ran.returncode, ran.stdout.decode(), ran.stderr.decode()
 
-    def test_without_the_toolchain(self):
-        self.assertEqual(self.build("to"), (
-            127, "", "examples/build: needs rt, the command of the Rattle toolchain, "
-            "which is not on the PATH\n"))
-        self.assertFalse(os.path.exists(self.root + "/to"))
+    def test_either_build(self):
+        for words, shared in (([], "cargo built shared\n"), (["--proved"], "cc built shared\n"),
+                              (["--cargo"], "cargo built shared\n")):
+            status, _, told = self.build(*words, "to")
+            self.assertEqual(status, 0, told)
+            self.assertEqual(sorted(os.listdir(self.here.root + "/to")), ["libpgn.so", "pgn_check"])
+            with open(self.here.root + "/to/libpgn.so", encoding="ascii") as file:
+                self.assertEqual(file.read(), shared)
+
+    def test_without_cargo_and_the_toolchain(self):
+        for name in ("cargo", "rt"):
+            os.unlink(self.here.root + "/path/" + name)
+        status, out, told = self.build("to")
+        self.assertEqual((status, out), (127, ""))
+        self.assertIn("so the library cannot be built", told)
+        self.assertFalse(os.path.exists(self.here.root + "/to"))
 
     def test_without_a_compiler(self):
-        with open(self.root + "/crates/pgn_c/out/libpgn_c.a", "wb"):
-            pass
         self.assertEqual(self.build("to", CC="/missing/cc")[0], 127)
 
     def test_arguments(self):
@@ -83,13 +82,14 @@ class Builder(unittest.TestCase):
         for word in ("-h", "--help"):
             status, out, told = self.build(word)
             self.assertEqual((status, told), (0, ""))
-            self.assertIn("usage: examples/build [FOLDER]", out)
+            self.assertIn("usage: examples/build [--proved | --cargo] [FOLDER]", out)
 
 
 # ---- the header and the exports, each as the declarations of the other
 
 C_TYPES = {"u8": "uint8_t", "u32": "uint32_t", "u64": "uint64_t", "usize": "size_t"}
-STRUCTS = {"PgnResult": "pgn_result", "PgnText": "pgn_text", "PgnMove": "pgn_move"}
+STRUCTS = {"PgnResult": "pgn_result", "PgnText": "pgn_text", "PgnMove": "pgn_move",
+           "PgnGame": "pgn_game", "PgnTag": "pgn_tag", "PgnExplanation": "pgn_explanation"}
 
 
 def bare_header():
@@ -163,23 +163,35 @@ def c_structs():
 class HeaderTest(unittest.TestCase):
     def test_functions(self):
         self.assertEqual(declared(), exported())
-        self.assertEqual(len(exported()), 4)
+        self.assertEqual(len(exported()), 7)
 
     def test_structs(self):
         self.assertEqual(c_structs(), rust_structs())
         self.assertEqual(sorted(c_structs()), sorted(STRUCTS.values()))
 
     def test_statuses(self):
-        consts = dict(re.findall(r"pub const (\w+): u32 = (\d+);", source("src/pgn_result.rt")))
-        self.assertEqual(sorted(consts), ["FAULT", "FULL", "NO_MODE", "OK"])
+        texts = source("src/pgn_result.rt") + source("src/next_game.rt")
+        consts = dict(re.findall(r"pub const (\w+): u32 = (\d+);", texts))
+        self.assertEqual(sorted(consts), ["BAD_PLACE", "FAULT", "FULL", "MORE", "NO_GAME",
+                                          "NO_MODE", "OK"])
         names = dict(re.findall(r"PGN_(\w+) = (\d+)", bare_header()))
         self.assertEqual({name: names.get(name) for name in consts}, consts)
         self.assertEqual((names["FULL_FORMAT"], names["REDUCED_FORMAT"]), ("0", "1"))
 
+    def test_symbols_of_the_shared_library(self):
+        need("nm", "readelf")
+        for build in ("--cargo", "--proved"):
+            with self.subTest(build):
+                shared = need_library(build)[:-2] + ".so"
+                rows = run(["nm", "-D", "--defined-only", shared]).stdout.decode().split("\n")
+                self.assertEqual({it.split()[-1] for it in rows if it}, set(exported()))
+                said = run(["readelf", "-d", shared]).stdout
+                self.assertIn(b"Library soname: [libpgn_c.so]", said)
+
     def test_symbols(self):
-        need_library()
+        archive = need_library("--proved")
         need("nm")
-        rows = run(["nm", ARCHIVE]).stdout.decode().split("\n")
+        rows = run(["nm", archive]).stdout.decode().split("\n")
         defined = {it.split()[-1] for it in rows if " T " in it}
         wanted = {it.split()[-1] for it in rows if " U " in it}
         self.assertEqual(defined, set(exported()))
@@ -251,79 +263,101 @@ def c_program(sample):
                       "return 0;", "}", ""])
 
 
-class CExampleTest(unittest.TestCase):
+class CExample:
+    """The tests of a build."""
+
+    build = None
+
+    def path(self, name):
+        return Built.path(self.build, name)
+
     def run_sample(self, text):
-        with open(Built.path("sample.c"), "w", encoding="ascii") as file:
+        with open(self.path("sample.c"), "w", encoding="ascii") as file:
             file.write(c_program(text))
-        words = ["cc", "-O2", "-Wall", "-Werror", "-I" + CRATE, Built.path("sample.c"), ARCHIVE, "-o",
-                 Built.path("sample")]
+        words = ["cc", "-O2", "-Wall", "-Werror", "-I" + CRATE, self.path("sample.c"),
+                 need_library(self.build), "-o", self.path("sample")]
         # a few lines need not use all that they say
         ran = run(words if "main(" in text else [*words, "-Wno-unused-variable"])
         self.assertEqual((ran.returncode, ran.stderr), (0, b""))
-        return run([Built.path("sample")])
+        return run([self.path("sample")], stdin=subprocess.DEVNULL)
 
     def test_samples_of_the_documents(self):
-        need_library()
+        need_library(self.build)
         moves = rb"(?m)^1\. e4 e5 2\. Bc4 Nc6 3\. Qh5 Nf6 .*4\. Qxf7# (\*|1-0)$"
         self.assertRegex(printed_by(self, "c", self.run_sample), moves)
 
     def test_fault(self):
-        ran = run([Built.path("pgn_check"), NO_SUCH_MOVE])
+        ran = run([self.path("pgn_check"), NO_SUCH_MOVE])
         self.assertEqual((ran.returncode, ran.stderr), (1, b""))
         self.assertEqual(ran.stdout, b"fault 34 at byte 77: move is not legal\n")
 
     def test_counts(self):
-        ran = run([Built.path("pgn_check"), "examples/annotated.pgn"])
+        ran = run([self.path("pgn_check"), "examples/annotated.pgn"])
         self.assertEqual((ran.returncode, ran.stdout), (0, b"games: 1, plies: 7\n"))
 
     def test_exports_as_the_program(self):
         program = need_program()
         for file in sorted(glob.glob(ROOT + "/examples/*.pgn")):
-            ours = run([Built.path("pgn_check"), "--export", file])
+            ours = run([self.path("pgn_check"), "--export", file])
             theirs = run([program, "export", file])
             self.assertEqual(ours.returncode, theirs.returncode, file)
             self.assertEqual(ours.stdout, theirs.stdout, file)
 
     def test_every_capacity(self):
-        with open(Built.path("calls.c"), "w", encoding="ascii") as file:
+        with open(self.path("calls.c"), "w", encoding="ascii") as file:
             file.write(CALLS)
         ran = run(["cc", "-std=c99", "-Wall", "-Wextra", "-Werror", "-O2", "-I" + CRATE,
-                   Built.path("calls.c"), ARCHIVE, "-o", Built.path("calls")])
+                   self.path("calls.c"), need_library(self.build), "-o", self.path("calls")])
         self.assertEqual((ran.returncode, ran.stderr), (0, b""))
-        self.assertEqual(run([Built.path("calls")]).returncode, 0)
+        self.assertEqual(run([self.path("calls")]).returncode, 0)
 
     def test_small_stack(self):
         words = ["sh", "-c", "ulimit -s 256 && exec \"$@\"", "sh"]
-        ran = run([*words, Built.path("pgn_check"), "--export", "examples/from-a-position.pgn"])
+        ran = run([*words, self.path("pgn_check"), "--export", "examples/from-a-position.pgn"])
         self.assertEqual((ran.returncode, ran.stderr), (0, b""))
 
     def test_valgrind(self):
-        need_library()
+        need_library(self.build)
         need("valgrind")
         ran = run(["valgrind", "--quiet", "--error-exitcode=9", "--leak-check=full",
-                   Built.path("pgn_check"), "--export", "examples/annotated.pgn"])
+                   self.path("pgn_check"), "--export", "examples/annotated.pgn"])
         self.assertEqual((ran.returncode, ran.stderr), (0, b""))
+
+
+class CExampleOfCargo(CExample, unittest.TestCase):
+    build = "--cargo"
+
+
+class CExampleOfProved(CExample, unittest.TestCase):
+    build = "--proved"
 
 
 # ---- the module for Python
 
-def loaded():
+def loaded(build):
     """The module over the shared object that was built for these tests."""
-    os.environ["PGN_LIBRARY"] = Built.path("libpgn.so")
+    os.environ["PGN_LIBRARY"] = Built.path(build, "libpgn.so")
     spec = importlib.util.spec_from_file_location("pgn", ROOT + "/examples/python/pgn.py")
     module = importlib.util.module_from_spec(spec)
     spec.loader.exec_module(module)
     return module
 
 
-class PythonTest(unittest.TestCase):
+class Python:
+    """The tests of a build."""
+
+    build = None
+
     @classmethod
     def setUpClass(cls):
-        cls.pgn = loaded()
+        cls.pgn = loaded(cls.build)
+
+    def path(self, name):
+        return Built.path(self.build, name)
 
     def archive(self, games, style):
         """The path and the bytes of an archive that is made here."""
-        path = "%s/%s.pgn" % (Built.folder, style)
+        path = self.path(style + ".pgn")
         ran = run([sys.executable, "bench/make_archive.py", "--games", str(games),
                    "--lines", "20", "--style", style])
         with open(path, "wb") as file:
@@ -381,7 +415,7 @@ class PythonTest(unittest.TestCase):
         for data in ("e4 *", memoryview(b"e4 *"), 7):
             with self.assertRaises(TypeError):
                 self.pgn.check(data)
-        path = Built.path("empty.pgn")
+        path = self.path("empty.pgn")
         with open(path, "wb"):
             pass
         self.assertEqual(list(self.pgn.games(path)), [])
@@ -433,7 +467,7 @@ class PythonTest(unittest.TestCase):
         self.assertEqual(got[3], got[1])
 
     def run_sample(self, text):
-        env = dict(os.environ, PGN_LIBRARY=Built.path("libpgn.so"))
+        env = dict(os.environ, PGN_LIBRARY=self.path("libpgn.so"))
         return run([sys.executable, "-c", text], env=env)
 
     def test_samples_of_the_documents(self):
@@ -444,11 +478,19 @@ class PythonTest(unittest.TestCase):
         self.assertIn(b"(1, 7)", lines)
 
     def test_as_a_program(self):
-        env = dict(os.environ, PGN_LIBRARY=Built.path("libpgn.so"))
+        env = dict(os.environ, PGN_LIBRARY=self.path("libpgn.so"))
         ran = run([sys.executable, "examples/python/pgn.py", NO_SUCH_MOVE], env=env)
         self.assertEqual(ran.returncode, 1)
         self.assertEqual(ran.stderr, b"fault 34 at byte 77: move is not legal\n")
         self.assertTrue(ran.stdout.startswith(b'[Event "?"]\n'))
+
+
+class PythonOfCargo(Python, unittest.TestCase):
+    build = "--cargo"
+
+
+class PythonOfProved(Python, unittest.TestCase):
+    build = "--proved"
 
 
 if __name__ == "__main__":

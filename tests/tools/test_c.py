@@ -1,0 +1,440 @@
+#!/usr/bin/env python3
+"""Tests of the library for C as it is installed, by Cargo and by rt: one call for each game."""
+import ctypes
+import os
+import re
+import shutil
+import sys
+import tempfile
+import unittest
+from ctypes import c_char, c_size_t, c_uint32, c_uint64, c_void_p
+
+sys.path.insert(0, os.path.dirname(os.path.realpath(__file__)))
+from documents import samples
+from programs import ROOT, need, need_library, need_program, need_proved_program, run, vectors
+
+OK, FAULT, FULL, NO_MODE, NO_GAME, MORE, BAD_PLACE = range(7)
+MARKERS = {1: b"1-0", 2: b"0-1", 3: b"1/2-1/2", 4: b"*"}
+# As 1. e4 e5 leave it.
+OPEN_GAME = b"rnbqkbnr/pppp1ppp/8/4p3/4P3/8/PPPP1PPP/RNBQKBNR w KQkq e6 0 2"
+INITIAL = b"rnbqkbnr/pppppppp/8/8/8/8/PPPPPPPP/RNBQKBNR w KQkq - 0 1"
+TEXT = b'[White "A \\"B\\""] [Result "1-0"] e4 (d4 d5) e5 {a word} 1-0\n% a line\n[A "b"] Nf3 *'
+
+
+class Result(ctypes.Structure):
+    """struct pgn_result of pgn.h"""
+
+    _fields_ = [("status", c_uint32), ("fault", c_uint32), ("place", c_uint64),
+                ("written", c_size_t), ("games", c_uint64), ("plies", c_uint64),
+                ("reason_at", c_size_t), ("message", c_char * 104)]
+
+
+class Game(ctypes.Structure):
+    """struct pgn_game of pgn.h"""
+
+    _fields_ = [("status", c_uint32), ("fault", c_uint32), ("place", c_uint64),
+                ("written", c_size_t), ("end", c_size_t), ("marker_at", c_size_t),
+                ("plies", c_uint64), ("reason_at", c_size_t), ("marker", c_uint32),
+                ("message", c_char * 104), ("fen", c_char * 96)]
+
+
+class Tag(ctypes.Structure):
+    """struct pgn_tag of pgn.h"""
+
+    _fields_ = [("status", c_uint32), ("name_at", c_size_t), ("name_length", c_size_t),
+                ("value_at", c_size_t), ("value_length", c_size_t), ("next", c_size_t)]
+
+
+class Explanation(ctypes.Structure):
+    """struct pgn_explanation of pgn.h"""
+
+    _fields_ = [("status", c_uint32), ("fault", c_uint32), ("field", c_uint32), ("form", c_uint32),
+                ("piece", c_uint32), ("target", c_uint32), ("origins", ctypes.c_uint8 * 64)]
+
+
+class Library:
+    """The calls of a shared library."""
+
+    def __init__(self, path):
+        self.calls, size, mode = ctypes.CDLL(path), c_size_t, c_uint32
+        text = (c_void_p, size)
+        for name, result, words in (
+                ("pgn_check", Result, text), ("pgn_convert", Result, (*text, *text, mode)),
+                ("pgn_next_game", Game, (*text, size, mode, mode, *text)),
+                ("pgn_tag_at", Tag, (*text, size)), ("pgn_explain", Explanation, text + text)):
+            function = getattr(self.calls, name)
+            function.restype, function.argtypes = result, words
+
+    def convert(self, data, mode=0):
+        """The result for the whole text, and what was written."""
+        capacity = 64 * len(data) + 65536
+        buffer = ctypes.create_string_buffer(capacity)
+        result = self.calls.pgn_convert(data, len(data), buffer, capacity, mode)
+        return result, ctypes.string_at(buffer, result.written)
+
+    def next_game(self, data, at=0, mode=0, missing=0, capacity=None):
+        """The result for the game behind a place, and what was written."""
+        capacity = 64 * len(data) + 65536 if capacity is None else capacity
+        buffer = ctypes.create_string_buffer(b"\xAA" * (capacity + 8), capacity + 8)
+        game = self.calls.pgn_next_game(data, len(data), at, mode, missing, buffer, capacity)
+        assert buffer.raw[game.written :] == b"\xAA" * (capacity + 8 - game.written)
+        return game, ctypes.string_at(buffer, game.written)
+
+    def games(self, data, mode=0, missing=0):
+        """The results for the games of a text in turn, each with what was written."""
+        at = 0
+        while True:
+            found = self.next_game(data, at, mode, missing)
+            yield found
+            if found[0].status != OK:
+                return
+            assert found[0].end > at
+            at = found[0].end
+
+    def games_in_chunks(self, data, size, mode, missing):
+        """The same for a caller who has the text in chunks, and gives more where that is asked."""
+        at, known = 0, 0
+        while True:
+            game, text = self.next_game(data[:known], at, mode, missing)
+            is_open = game.status in (MORE, NO_GAME) or game.status == OK and game.end == known
+            if is_open and known < len(data):
+                known = min(len(data), known + size)
+                continue
+            yield game, text
+            if game.status != OK:
+                return
+            at = game.end
+
+
+def fields(game):
+    return tuple(getattr(game, name) for name, _ in game._fields_)
+
+
+def tag_section(library, text):
+    """The tag pairs of an export text, as they are written, and the place behind them."""
+    at, pairs = 0, []
+    while True:
+        tag = library.calls.pgn_tag_at(text, len(text), at)
+        if tag.status != OK:
+            return pairs, at
+        pairs.append((text[tag.name_at : tag.name_at + tag.name_length],
+                      text[tag.value_at : tag.value_at + tag.value_length]))
+        assert tag.next > at
+        at = tag.next
+
+
+class Installed:
+    """The tests of one build."""
+
+    build = None
+
+    @classmethod
+    def setUpClass(cls):
+        need_library(cls.build)
+        if cls.build == "--proved":
+            need_proved_program()
+        cls.folder = tempfile.mkdtemp()
+        cls.addClassCleanup(shutil.rmtree, cls.folder)
+        cls.prefix = cls.folder + "/prefix"
+        ran = run([ROOT + "/bin/install", cls.build, cls.prefix], timeout=300)
+        assert ran.returncode == 0, ran.stderr.decode()
+        cls.library = Library(cls.prefix + "/lib/libpgn_c.so")
+
+    def written(self, name, data):
+        """The path of a new file."""
+        path = os.path.join(self.folder, name)
+        with open(path, "wb") as file:
+            file.write(data)
+        return path
+
+    def archive(self, games, style):
+        words = ["--games", str(games), "--lines", "30", "--style", style]
+        return run([sys.executable, "bench/make_archive.py", *words]).stdout
+
+    # ---- a program in C
+
+    def compiled(self, words, **env):
+        """The program of LIBRARY that loops over the games, compiled with these words."""
+        text = next(it for _, it, _ in samples("c") if "pgn_next_game" in it)
+        source = self.written("loop.c", text.encode())
+        program = self.folder + "/loop"
+        ran = run(["cc", "-std=c99", "-Wall", "-Wextra", "-Werror", "-O2", source, *words, "-o",
+                   program])
+        self.assertEqual((ran.returncode, ran.stderr), (0, b""))
+        return lambda data: run([program], input=data, env=dict(os.environ, **env))
+
+    def check_loop(self, loop):
+        program = need_program()
+        texts = [self.archive(30, style) for style in ("plain", "annotated")]
+        for name in sorted(os.listdir(ROOT + "/examples")):
+            if name.endswith(".pgn"):
+                with open(ROOT + "/examples/" + name, "rb") as file:
+                    texts.append(file.read())
+        self.assertGreater(len(texts), 7)
+        for text in [*texts, b"", b"\n\n; nothing\n"]:
+            ours, theirs = loop(text), run([program, "export"], input=text)
+            self.assertEqual(ours.stdout, theirs.stdout)
+            self.assertEqual(ours.stderr, theirs.stderr)
+            self.assertEqual(ours.returncode, theirs.returncode)
+
+    def test_a_program_with_the_shared_library(self):
+        need("pkg-config")
+        env = dict(os.environ, PKG_CONFIG_PATH=self.prefix + "/lib/pkgconfig")
+        said = run(["pkg-config", "--cflags", "--libs", "pgn_c"], env=env)
+        self.assertEqual((said.returncode, said.stderr), (0, b""))
+        words = said.stdout.decode().split()
+        self.assertEqual(words, ["-I%s/include" % self.prefix, "-L%s/lib" % self.prefix, "-lpgn_c"])
+        self.check_loop(self.compiled(words, LD_LIBRARY_PATH=self.prefix + "/lib"))
+        used = run(["ldd", self.folder + "/loop"]).stdout
+        self.assertIn(b"libpgn_c.so", used)
+
+    def test_a_program_with_the_static_library(self):
+        words = ["-I%s/include" % self.prefix, self.prefix + "/lib/libpgn_c.a"]
+        self.check_loop(self.compiled(words))
+        self.assertNotIn(b"libpgn_c", run(["ldd", self.folder + "/loop"]).stdout)
+
+    def test_what_the_static_library_needs_is_said(self):
+        need("pkg-config")
+        env = dict(os.environ, PKG_CONFIG_PATH=self.prefix + "/lib/pkgconfig")
+        words = run(["pkg-config", "--cflags", "--libs", "--static", "pgn_c"], env=env).stdout
+        words = words.decode().replace("-lpgn_c", self.prefix + "/lib/libpgn_c.a").split()
+        self.check_loop(self.compiled(words))
+
+    def test_a_small_stack(self):
+        """Half of what is asked for, for each way to convert: bench/calls.c has them."""
+        program = self.folder + "/calls"
+        ran = run(["cc", "-std=c99", "-Wall", "-Wextra", "-Werror", "-O2", ROOT + "/bench/calls.c",
+                   "-I%s/include" % self.prefix, self.prefix + "/lib/libpgn_c.a", "-o", program])
+        self.assertEqual((ran.returncode, ran.stderr), (0, b""))
+        data = self.archive(10, "annotated")
+        _, wanted = self.library.convert(data)
+        for way in ("whole", "games", "from-marker"):
+            ran = run(["sh", "-c", 'ulimit -s 128 && exec "$@"', "sh", program, way], input=data)
+            self.assertEqual((ran.returncode, ran.stdout, ran.stderr), (0, wanted, b""), way)
+
+    # ---- the worked inputs
+
+    def check_verdict(self, vector, last, games):
+        if "fault" in vector:
+            told = vector["fault"]
+            self.assertEqual((last.fault, last.place, last.message),
+                             (told["number"], told["place"], told["message"].encode()))
+            self.assertIn(last.status, (FAULT, MORE))
+            words = told["message"].split(": ", 1)[1].encode()
+            self.assertEqual(last.message[last.reason_at :], words)
+        else:
+            self.assertEqual(last.status, NO_GAME)
+            self.assertEqual((len(games), sum(it.plies for it in games)),
+                             (vector["games"], vector["plies"]))
+
+    def test_each_vector(self):
+        """The games one by one are the export, and their end is the verdict."""
+        for vector in vectors():
+            with self.subTest(vector["file"]):
+                data = vector["input"].encode()
+                found = list(self.library.games(data, 1 if vector["mode"] == "reduced" else 0))
+                self.assertEqual(b"".join(text for _, text in found), vector["output"].encode())
+                self.check_verdict(vector, found[-1][0], [it for it, _ in found[:-1]])
+
+    def test_each_vector_in_both_modes(self):
+        """As the call for the whole text has it."""
+        for vector in vectors():
+            for mode in (0, 1):
+                data = vector["input"].encode()
+                whole, text = self.library.convert(data, mode)
+                found = list(self.library.games(data, mode))
+                last = found[-1][0]
+                self.assertEqual(b"".join(it for _, it in found), text, vector["file"])
+                self.assertEqual((last.fault, last.place, last.message),
+                                 (whole.fault, whole.place, whole.message), vector["file"])
+                if whole.status == OK:
+                    self.assertEqual(len(found) - 1, whole.games)
+
+    def test_each_vector_as_checked(self):
+        """As `export --checked` has the same file."""
+        program = need_program()
+        for vector in vectors():
+            data = vector["input"].encode()
+            path = self.written("checked.pgn", data)
+            for mode, option in ((0, []), (1, ["--reduced"])):
+                ran = run([program, "export", "--checked", *option, path])
+                found = list(self.library.games(data, mode, 1))
+                message = found[-1][0].message
+                self.assertEqual(b"".join(it for _, it in found), ran.stdout, vector["file"])
+                self.assertEqual(message + b"\n" * bool(message), ran.stderr, vector["file"])
+                self.assertEqual(found[-1][0].status == NO_GAME, ran.returncode == 0)
+
+    def test_what_is_said_of_a_game(self):
+        """Where it ends, which marker it has, and where that is."""
+        count = 0
+        for vector in vectors():
+            data, at = vector["input"].encode(), 0
+            for missing in (0, 1):
+                for game, text in self.library.games(data, 0, missing):
+                    if game.status != OK:
+                        self.assertEqual((game.end, game.marker_at, game.plies, game.marker),
+                                         (0, 0, 0, 0))
+                        continue
+                    self.assertEqual(data[game.marker_at : game.end], MARKERS[game.marker])
+                    self.assertEqual((game.fault, game.place, game.message), (0, 0, b""))
+                    self.assertTrue(text.endswith(MARKERS[game.marker] + b"\n\n"), text)
+                    self.assertEqual(dict(tag_section(self.library, text)[0])[b"Result"],
+                                     MARKERS[game.marker])
+                    count += 1
+        self.assertGreater(count, 100)
+
+    def test_games_of_archives(self):
+        """Plies and the last position are those of `list`."""
+        program = need_program()
+        for style in ("plain", "annotated"):
+            data = self.archive(40, style)
+            rows = run([program, "list"], input=data).stdout.splitlines()
+            found = list(self.library.games(data))
+            self.assertEqual((found[-1][0].status, len(found)), (NO_GAME, 41))
+            for row, (game, _) in zip(rows, found):
+                result, plies, fen = row.split(b"\t")[-3:]
+                self.assertEqual((MARKERS[game.marker], b"%d" % game.plies, game.fen),
+                                 (result, plies, fen))
+
+    def test_a_text_in_chunks(self):
+        """Chunks of each size give the same games and the same end."""
+        for vector in vectors():
+            data = vector["input"].encode()
+            sizes = (1, 7) if len(data) < 400 else (97,)
+            for missing in (0, 1):
+                whole = list(self.library.games(data, 0, missing))
+                for size in sizes:
+                    found = list(self.library.games_in_chunks(data, size, 0, missing))
+                    self.assertEqual([(fields(game), text) for game, text in found],
+                                     [(fields(game), text) for game, text in whole],
+                                     (vector["file"], size, missing))
+
+    # ---- places, modes, buffers
+
+    def check_nothing(self, found, status):
+        """The status, and nothing else."""
+        game, text = found
+        self.assertEqual(fields(game), (status, *fields(Game())[1:]))
+        self.assertEqual(text, b"")
+
+    def test_places(self):
+        length = len(TEXT)
+        self.check_nothing(self.library.next_game(TEXT, length), NO_GAME)
+        self.check_nothing(self.library.next_game(b"", 0), NO_GAME)
+        for place in (length + 1, 1 << 62, (1 << 62) + 1, (1 << 64) - 1):
+            self.check_nothing(self.library.next_game(TEXT, place), BAD_PLACE)
+        first, second = [game for game, _ in self.library.games(TEXT)][:2]
+        self.assertEqual((first.plies, second.plies, second.end), (2, 1, length))
+        # any place between the two games
+        for place in range(first.end, TEXT.index(b"% a")):
+            self.assertEqual(fields(self.library.next_game(TEXT, place)[0]), fields(second))
+
+    def test_unknown_modes(self):
+        for mode, missing in ((2, 0), (0, 2), (1 << 31, 1), (1, (1 << 32) - 1), (2, 2)):
+            self.check_nothing(self.library.next_game(TEXT, 0, mode, missing), NO_MODE)
+        # before the place
+        self.check_nothing(self.library.next_game(TEXT, len(TEXT) + 1, 2), NO_MODE)
+
+    def test_buffers_of_each_size(self):
+        for missing in (0, 1):
+            game, whole = self.library.next_game(TEXT, 0, 0, missing)
+            self.assertEqual((game.status, game.written), (OK, len(whole)))
+            for capacity in range(len(whole)):
+                short, text = self.library.next_game(TEXT, 0, 0, missing, capacity)
+                self.assertEqual((short.status, short.fault), (FULL, 51))
+                self.assertEqual(text, whole[:capacity])
+                self.assertEqual((short.end, short.marker, short.plies, short.fen), (0, 0, 0, b""))
+                self.assertEqual(short.message, b"byte %d: output cannot be written" % short.place)
+                self.assertLessEqual(short.place, game.end)
+            for capacity in (len(whole), len(whole) + 1):
+                same, text = self.library.next_game(TEXT, 0, 0, missing, capacity)
+                self.assertEqual((fields(same), text), (fields(game), whole))
+
+    def test_escape_lines(self):
+        """`%` begins one in the first column of the text, whatever the place of the call."""
+        for before in (b"*\n", b"*\r", b"*\r\n", b"", b"\xEF\xBB\xBF", b"\n\n"):
+            game, _ = self.library.next_game(before + b"% 1-0\n*", len(before))
+            self.assertEqual((game.status, game.marker), (OK, 4), before)
+            self.assertEqual(game.end, len(before) + 7)
+        for before in (b"* ", b"*", b"*\n ", b"\xBB\xBF", b"*\xEF\xBB\xBF", b"\n\xEF\xBB\xBF"):
+            game, _ = self.library.next_game(before + b"% 1-0\n*", len(before))
+            self.assertEqual((game.status, game.fault, game.place), (FAULT, 1, len(before)), before)
+            self.assertEqual(game.message, b"byte %d: stray byte" % len(before))
+
+    # ---- what else is said
+
+    def test_the_position_in_which_a_move_was_rejected(self):
+        d4 = b"rnbqkbnr/ppp1pppp/8/3p4/3P4/8/PPP1PPPP/RNBQKBNR w KQkq d6 0 2"
+        rooks = b"7k/8/8/8/8/8/8/R4R1K w - - 0 1"
+        last = b"7k/8/8/8/8/8/8/R4R1K b - - 0 99999"
+        start = b'[SetUp "1"] [FEN "%s"] '
+        for text, fault, fen in (
+                (b"e4 e5 Bd4 *", 34, OPEN_GAME), (b"e4 (d4 d5 Bd4) *", 34, d4),
+                (b"e4 (d4 d5) e5 (c5) Bd4 *", 34, OPEN_GAME),
+                (b"e4 e5 (c5 Nf3) (e6) Bd4 *", 34, OPEN_GAME),
+                (start % rooks + b"Rc1 *", 35, rooks), (start % last + b"Kg7 *", 36, last),
+                (b"e4 e5 Bd9 *", 33, b""), (b"e4 e5 ) *", 39, b""), (b"(e4) *", 37, b"")):
+            for missing in (0, 1):
+                game, _ = self.library.next_game(text, 0, 0, missing)
+                self.assertEqual((game.status, game.fault, game.fen), (FAULT, fault, fen), text)
+        # at the end of the text more bytes could make another move of it
+        game, _ = self.library.next_game(b"e4 e5 Bd4", 0)
+        self.assertEqual((game.status, game.fault, game.fen), (MORE, 34, OPEN_GAME))
+
+    def test_tag_pairs(self):
+        _, text = self.library.next_game(TEXT, 0)
+        pairs, behind = tag_section(self.library, text)
+        wanted = re.findall(rb'(?m)^\[(\w+) "(.*)"\]$', text)
+        self.assertEqual((pairs, len(pairs)), (wanted, 7))
+        self.assertEqual(dict(pairs)[b"White"], rb"A \"B\"")
+        self.assertTrue(text[behind:].startswith(b"\n1. e4"), text)
+        for at in (behind, 1, len(text), len(text) + 1, (1 << 64) - 1):
+            tag = self.library.calls.pgn_tag_at(text, len(text), at)
+            self.assertEqual(fields(tag), (FAULT, 0, 0, 0, 0, 0))
+
+    def explained(self, fen, text):
+        result = self.library.calls.pgn_explain(fen, len(fen), text, len(text))
+        return result, {at: it for at, it in enumerate(result.origins) if it}
+
+    def test_explanations(self):
+        pinned = b"4r2k/8/8/8/8/8/N3N3/4K3 w - - 0 1"
+        castles = b"4k3/8/8/8/8/8/8/R3K2R w KQ - 0 1"
+        attacked = b"4k1r1/8/8/8/8/8/8/R3K2R w KQ - 0 1"
+        for fen, text, form, piece, target, origins in (
+                (INITIAL, b"Nf3", 1, b"N", 21, {6: 2}), (INITIAL, b"e4", 1, b"P", 28, {12: 2}),
+                (INITIAL, b"Bd4", 1, b"B", 27, {}), (OPEN_GAME, b"Nge2", 1, b"N", 12, {6: 2}),
+                (pinned, b"Nc3", 1, b"N", 18, {8: 2, 12: 1}), (pinned, b"Nac3", 1, b"N", 18, {8: 2}),
+                (pinned, b"Nec3", 1, b"N", 18, {12: 1}),
+                (castles, b"O-O", 2, b"K", 6, {4: 2}), (castles, b"O-O-O", 3, b"K", 2, {4: 2}),
+                # castling to an attacked square is no step (FIDE Laws 3.8.2)
+                (attacked, b"O-O", 2, b"K", 6, {}), (castles, b"Kf1", 1, b"K", 5, {4: 2})):
+            result, found = self.explained(fen, text)
+            self.assertEqual((result.status, result.fault, result.field), (OK, 0, 0), text)
+            self.assertEqual((result.form, result.piece, result.target, found),
+                             (form, ord(piece), target, origins), text)
+        for fen, text, fault, field in ((b"x", b"e4", 26, 1), (INITIAL[:-2], b"e4", 26, 6),
+                                        (INITIAL, b"--", 33, 0), (INITIAL, b"", 33, 0)):
+            result, found = self.explained(fen, text)
+            self.assertEqual((result.status, result.fault, result.field), (FAULT, fault, field))
+            self.assertEqual((result.form, result.piece, result.target, found), (0, 0, 0, {}))
+
+
+class InstalledByCargo(Installed, unittest.TestCase):
+    build = "--cargo"
+
+    def test_null_pointers_with_no_length(self):
+        calls = self.library.calls
+        self.assertEqual(calls.pgn_check(None, 0).status, OK)
+        self.assertEqual(calls.pgn_convert(None, 0, None, 0, 0).status, OK)
+        self.assertEqual(calls.pgn_next_game(None, 0, 0, 0, 0, None, 0).status, NO_GAME)
+        self.assertEqual(calls.pgn_next_game(b"*", 1, 0, 0, 0, None, 0).status, FULL)
+        self.assertEqual(calls.pgn_tag_at(None, 0, 0).status, FAULT)
+        self.assertEqual(calls.pgn_explain(None, 0, None, 0).fault, 26)
+
+
+class InstalledByRt(Installed, unittest.TestCase):
+    build = "--proved"
+
+
+if __name__ == "__main__":
+    unittest.main()
