@@ -4,6 +4,7 @@ pub mod GamesInPiece
 pub mod GamesInTurn
 pub mod GamesRestart
 pub mod LastTokens
+pub mod MarkerEndsGame
 pub mod NextGrows
 pub mod OneMoreToken
 pub mod PairsTriedForToken
@@ -11,4 +12,6 @@ pub mod PutToAnswer
 pub mod SoundAtStart
 pub mod StepsAtEnd
 pub mod StepsInPiece
+pub mod SymbolsInText
+pub mod TextEndsGame
 pub mod WholeInput

@@ -39,3 +39,4 @@ pub mod UniqueReading
 pub mod Filled
 pub mod FixedPoint
 pub mod GamesRestart
+pub mod GameEnds
