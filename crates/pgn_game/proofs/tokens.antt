@@ -5,6 +5,7 @@ pub mod GamesInTurn
 pub mod GamesRestart
 pub mod LastTokens
 pub mod MarkerEndsGame
+pub mod MissingCountsAs
 pub mod NextGrows
 pub mod OneMoreToken
 pub mod PairsTriedForToken

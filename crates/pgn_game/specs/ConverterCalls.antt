@@ -13,6 +13,7 @@ use Rattle.pgn_lexer.specs.TokensOf.{tokens_of}
 use Rattle.pgn_lexer.specs.Decided.{decided}
 use Rattle.pgn_lexer.specs.Standing.{Standing, waiting}
 use Rattle.pgn_lexer.specs.Stands.{StandsAfter, Follows, IsDecided, first, still}
+use Rattle.pgn_game.specs.declared.marker.Marker.{Marker}
 use Rattle.pgn_game.specs.declared.mode.Mode.{Mode}
 use Rattle.pgn_game.specs.declared.reason.Reason.{Reason}
 use Rattle.pgn_game.specs.declared.reason.Reason.TheVariants.{ReadFault, WriteFault, InputTooLong, Changed}
@@ -20,11 +21,13 @@ use Rattle.pgn_game.specs.declared.reason.Fault.{Fault}
 use Rattle.pgn_game.specs.declared.stage.Stage.TheVariants.{Between}
 use Rattle.pgn_game.specs.declared.converter.Fed.{Fed}
 use Rattle.pgn_game.specs.declared.converter.Fed.TheVariants.{All, Game as GameEnd}
-use Rattle.pgn_game.specs.Profile.{Profile, counts_as, known_result}
+use Rattle.pgn_game.specs.Markers.{marker_text}
+use Rattle.pgn_game.specs.Profile.{Profile, counting, counts_as, known_result}
 use Rattle.pgn_game.specs.Pairs.{Pair, value_of}
 use Rattle.pgn_game.specs.TagSection.{exported}
 use Rattle.pgn_game.specs.Game.{Game}
-use Rattle.pgn_game.specs.Progress.{Progress, read, due}
+use Rattle.pgn_game.specs.FaultTable.{position_if_move}
+use Rattle.pgn_game.specs.Progress.{Progress, read, due, position_at_fault}
 use Rattle.pgn_game.specs.MostTried.{MostTried, Raises, TriesUnwritten}
 use Rattle.pgn_game.specs.Due.{Gains}
 use Rattle.pgn_game.specs.Levels.{plies_of, last_position}
@@ -86,6 +89,14 @@ finished_game_plies c = elim c.just_finished [ None ↦ 0 | Some finished ↦ fi
 
 abbrev pub finished_game_position : Converter → Option Parts
 finished_game_position c = option_map (λ finished. finished.position) c.just_finished
+
+-- The position that a reader reports with a fault, if a move was rejected: its present one.
+abbrev pub reported_position : ReaderState → Reason → Option Parts
+reported_position reading reason = position_if_move reason reading.text.levels.present.present
+
+-- the answer about the fault: the position in which a move was rejected
+abbrev pub refused_position : Converter → Option Parts
+refused_position c = elim c.fault [ None ↦ None | Some f ↦ reported_position c.reading f.reason ]
 
 -- the game just finished is the last one
 abbrev pub IsLast : Option FinishedGame → List Game → Type 0
@@ -190,6 +201,11 @@ abbrev pub progress_before : {p : Profile} {given tokens : List Token} {before a
 progress_before {p} {given} {tokens} (refused f fault gains) = (read p tokens).progress
 progress_before {p} (unwritten at writing) = (read p writing.front).progress
 
+-- The position in which a move was rejected there. A write that failed rejects none.
+abbrev pub position_at_stop : {p : Profile} {given tokens : List Token} {before after : Option (List ℕ)} {f : Fault} → Stops p given tokens before after f → Option Parts
+position_at_stop {p} {given} {tokens} (refused f fault gains) = position_at_fault (read p tokens)
+position_at_stop (unwritten at writing) = None
+
 -- the most pairs that were tried for one token, up to the one at fault and with it
 abbrev pub MostAtStop : {p : Profile} {given tokens : List Token} {before after : Option (List ℕ)} {f : Fault} → Stops p given tokens before after f → ℕ → Type 0
 MostAtStop {p} {given} {tokens} (refused f fault gains) most = MostTried p tokens most
@@ -203,11 +219,12 @@ pub record ProbesAtStop {p : Profile} {given tokens : List Token} {before after 
   pub tried : MostAtStop stops most
   pub probed : IsTrue (has_played_move (progress_before stops)) → 0 < most
 
--- and before it no game was finished
-pub record FedToFault (p : Profile) (u : List ℕ) (b : Option ℕ) (given : List Token) (piece : List ℕ) (f : Fault) (most : ℕ) (before after : Option (List ℕ)) : Type 0 where
+-- Before it no game was finished, and the reader holds the position in which a move was rejected.
+pub record FedToFault (p : Profile) (u : List ℕ) (b : Option ℕ) (given : List Token) (piece : List ℕ) (f : Fault) (reading : ReaderState) (before after : Option (List ℕ)) : Type 0 where
   pub fed : FedFault p u b given piece f before after
   pub no_game : games_before fed.stops ≡ (read p given).progress.games
-  pub counts : ProbesAtStop fed.stops most
+  pub counts : ProbesAtStop fed.stops reading.most_probes
+  pub position : reported_position reading f.reason ≡ position_at_stop fed.stops
 
 -- How reading stops in a piece that follows the bytes u: at one of its tokens; or because the byte
 -- at place 2^62 is in it, and then `Before` says what was read and written of the bytes before that
@@ -226,7 +243,7 @@ AfterFeed p u b given piece new (Ok (GameEnd used)) before after =
     FedGame p u given piece used new before after
 AfterFeed p u b given piece new (Err f) before after =
     StopsIn u piece
-    (λ fault. FedToFault p u b given piece fault new.reading.most_probes before after)
+    (λ fault. FedToFault p u b given piece fault new.reading before after)
     (λ front. (now : Converter) × FedAll p u b given front now before after
     × (new.reading ≡ now.reading)) f
 
@@ -294,12 +311,13 @@ pub record Finishes (p : Profile) (u : List ℕ) (given : List Token) (new : Con
   pub none_just_finished : finished_game ≡ false → new.just_finished ≡ None
   pub gains : Gains p given (tokens_of u) before after
 
--- The text u has ended, but one of its tokens is rejected, or a write failed; the games before that
--- are counted.
+-- The text u has ended, but one of its tokens is rejected, or a write failed. The games before that
+-- are counted, and the reader holds the position in which a move was rejected.
 pub record FinishesToFault (p : Profile) (u : List ℕ) (given : List Token) (new : Converter) (f : Fault) (before after : Option (List ℕ)) : Type 0 where
   pub stops : Stops p given (tokens_of u) before after f
   pub games : new.games ≡ length (games_before stops)
   pub counts : ProbesAtStop stops new.reading.most_probes
+  pub position : reported_position new.reading f.reason ≡ position_at_stop stops
 
 abbrev pub AfterFinish : Profile → List ℕ → List Token → Converter → Result Bool Fault → Option (List ℕ) → Option (List ℕ) → Type 0
 AfterFinish p u given new (Ok finished_game) before after = Finishes p u given new finished_game before after
@@ -310,6 +328,17 @@ abbrev pub Ends : Converter → Converter → Result Bool Fault → Device → T
 Ends old new result sink =
     (p : Profile) (u : List ℕ) (b : Option ℕ) (given : List Token)
     → Stands p old u b given → AfterFinish p u given new result sink.before sink.after
+
+-- From now on a missing Result counts as this marker, and nothing else is changed.
+abbrev pub counting_missing_as : Marker → Converter → Converter
+counting_missing_as marker c =
+    record c { reading = record c.reading { profile = counting c.reading.profile (marker_text marker) } }
+
+-- What that does to a converter that has read no token yet: it stands as before, by that profile.
+abbrev pub CountsMissingAs : Marker → Converter → Converter → Type 0
+CountsMissingAs marker old new =
+    (p : Profile) (u : List ℕ) (b : Option ℕ)
+    → Stands p old u b [] → Stands (counting p (marker_text marker)) new u b []
 
 -- The fault that a call answers is kept, and no other call has one.
 abbrev pub KeepsFault : {A : Type 0} → Converter → Result A Fault → Type 0

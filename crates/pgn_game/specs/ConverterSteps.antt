@@ -21,7 +21,8 @@ use Rattle.pgn_game.specs.Profile.{Profile}
 use Rattle.pgn_game.specs.Game.{Game}
 use Rattle.pgn_game.specs.Progress.{read}
 use Rattle.pgn_game.specs.Due.{Gains}
-use Rattle.pgn_game.specs.ConverterCalls.{Converter, game_in_reader, finished_game_of, IsLast, HasRead, Stands, Stops, games_before, ProbesAtStop, FedAll, FedGame, FedToFault}
+use Rattle.pgn_game.specs.ConverterCalls.{Converter, game_in_reader, finished_game_of, IsLast, HasRead, Stands, Stops, games_before, position_at_stop, reported_position, ProbesAtStop, FedAll, FedGame, FedToFault}
+use Rattle.pgn_game.specs.ReaderState.{ReaderState}
 
 -- the games read with one token more: none more, or one
 abbrev pub SameGames : Profile → List Token → List Token → Type 0
@@ -47,7 +48,7 @@ AfterStep p u given piece new used (Ok (Some More)) before after =
 AfterStep p u given piece new used (Ok (Some Finished)) before after =
     (t : Token) × ReadsToken p u given piece used t new before after × ((g : Game) × OneGame p given (given ++ t ∷ []) g × (new.just_finished ≡ Some (finished_game_of g)))
 AfterStep p u given piece new used (Err f) before after =
-    FedToFault p u None given piece f new.reading.most_probes before after
+    FedToFault p u None given piece f new.reading before after
 
 -- What `step` does to a converter.
 abbrev pub Steps : Converter → List ℕ → Converter → ℕ → Result (Option Accepted) Fault → Device → Type 0
@@ -73,11 +74,13 @@ pub record ReadsEnd (p : Profile) (u : List ℕ) (given : List Token) (t : Token
   pub same : SameGames p given (given ++ t ∷ [])
   pub gains : Gains p given (given ++ t ∷ []) before after
 
--- a token of these is rejected, or a write failed, and before it no game was finished
-pub record FaultAtEnd (p : Profile) (given tokens : List Token) (f : Fault) (most : ℕ) (before after : Option (List ℕ)) : Type 0 where
+-- A token of these is rejected, or a write failed. Before it no game was finished, and the reader
+-- holds the position in which a move was rejected.
+pub record FaultAtEnd (p : Profile) (given tokens : List Token) (f : Fault) (reading : ReaderState) (before after : Option (List ℕ)) : Type 0 where
   pub stops : Stops p given tokens before after f
   pub no_game : games_before stops ≡ (read p given).progress.games
-  pub counts : ProbesAtStop stops most
+  pub counts : ProbesAtStop stops reading.most_probes
+  pub position : reported_position reading f.reason ≡ position_at_stop stops
 
 -- What a step after the last piece results in.
 abbrev pub AfterStepAtEnd : Profile → List ℕ → List Token → Converter → Converter
@@ -89,7 +92,7 @@ AfterStepAtEnd p u given old new (Ok (Some Finished)) before after =
 AfterStepAtEnd p u given old new (Ok None) before after =
     (t : Token) × ReadsEnd p u given t new before after × StaysBetween old new
 AfterStepAtEnd p u given old new (Err f) before after =
-    FaultAtEnd p given (tokens_of u) f new.reading.most_probes before after
+    FaultAtEnd p given (tokens_of u) f new.reading before after
 
 -- What `step_at_end` does to a converter.
 abbrev pub StepsAtEnd : Converter → Converter → Result (Option Accepted) Fault → Device → Type 0
@@ -170,7 +173,7 @@ AfterFront p u b given piece new (Ok All) before after = FedAll p u b given piec
 AfterFront p u b given piece new (Ok (GameEnd used)) before after =
     FedGame p u given piece used new before after
 AfterFront p u b given piece new (Err f) before after =
-    FedToFault p u b given piece f new.reading.most_probes before after
+    FedToFault p u b given piece f new.reading before after
 
 abbrev pub FeedsFront : Converter → List ℕ → Converter → Result Fed Fault → Device → Type 0
 FeedsFront old piece new result sink =

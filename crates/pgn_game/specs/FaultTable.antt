@@ -232,3 +232,11 @@ first_holding (r ∷ rs) = elim r.holds [ true ↦ Some r.reason | false ↦ fir
 unfoldable pub refusal : Profile → Part → Kind → Option Reason
 refusal p part (tokens.refused r) = Some (Lexical r)
 refusal p part k = first_holding (rows p part k)
+
+-- The position in which a token is rejected, if it is rejected as a move: no legal move agrees,
+-- more than one does, or a number above 99,999 would follow.
+abbrev pub position_if_move : Reason → Parts → Option Parts
+position_if_move IllegalMove here = Some here
+position_if_move AmbiguousMove here = Some here
+position_if_move MoveLimit here = Some here
+position_if_move _ here = None

@@ -40,3 +40,4 @@ pub mod Filled
 pub mod FixedPoint
 pub mod GamesRestart
 pub mod GameEnds
+pub mod MissingResults

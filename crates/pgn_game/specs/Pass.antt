@@ -21,7 +21,7 @@ use Rattle.pgn_game.specs.declared.checked.Mark.{Mark as CodeMark}
 use Rattle.pgn_game.specs.declared.checked.Taken.{Taken}
 use Rattle.pgn_game.specs.declared.checked.Taken.TheVariants.{More, Game as GameEnd, End}
 use Rattle.pgn_game.specs.Markers.{marker_text}
-use Rattle.pgn_game.specs.Profile.{Profile, Missing, counts_as, takes_the_marker}
+use Rattle.pgn_game.specs.Profile.{Profile, Missing, counting, counts_as, takes_the_marker, with_missing}
 use Rattle.pgn_game.specs.Game.{Game, Part, no_part}
 use Rattle.pgn_game.specs.FaultTable.{refusal, is_end}
 use Rattle.pgn_game.specs.Progress.{Next, going, whole, next, no_progress, read}
@@ -45,13 +45,7 @@ pub record Pass : Type 0 where
 abbrev pub model_mark : CodeMark → Mark
 model_mark m = record { text = marker_text m.marker; at = m.at }
 
--- the same profile, but for a missing Result; and where it counts as this text
-abbrev pub with_missing : Profile → Missing → Profile
-with_missing q missing = record { tags = q.tags; depth = q.depth; mode = q.mode; missing_result = missing }
-
-abbrev pub counting : Profile → List ℕ → Profile
-counting q text = with_missing q (counts_as text)
-
+-- a profile that differs in nothing but a missing Result
 abbrev pub IsAlike : Profile → Profile → Type 0
 IsAlike q p = (missing : Missing) × (p ≡ with_missing q missing)
 

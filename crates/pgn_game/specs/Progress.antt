@@ -4,6 +4,7 @@
 -- text.
 -- Letters: p is the profile, b the progress, t a token, ts are tokens, s is a text.
 use Rattle.std.specs.Prelude.{ℕ, true, false, List, [], ◌∷◌, ◌++◌, length, map, sum, Option, None, Some, Result, Ok, Err}
+use Rattle.chess_rules.specs.declared.position.Parts.{Parts}
 use Rattle.chess_text.specs.declared.resolution.Played.{Played}
 use Rattle.chess_text.specs.declared.resolution.SanFault.{SanFault}
 use Rattle.pgn_lexer.specs.Tokens as tokens
@@ -18,7 +19,7 @@ use Rattle.pgn_game.specs.Chess.{move_of}
 use Rattle.pgn_game.specs.Game as games
 use Rattle.pgn_game.specs.Game.{Item, Game, Part, no_part}
 use Rattle.pgn_game.specs.Levels.{plies_of}
-use Rattle.pgn_game.specs.FaultTable.{refusal, marker_of, is_number, position_in}
+use Rattle.pgn_game.specs.FaultTable.{refusal, marker_of, is_number, position_if_move, position_in}
 use Rattle.pgn_game.specs.Text.{text_of, torn}
 
 -- the part that a token leaves, or the game that it finishes
@@ -109,6 +110,11 @@ read_from p b (t ∷ ts) =
 -- a list of tokens from the start on
 abbrev pub read : Profile → List Token → Read
 read p ts = read_from p no_progress ts
+
+-- The position in which a move was rejected, if the fault is such: the one after all tokens before
+-- it, also inside a variation.
+abbrev pub position_at_fault : Read → Option Parts
+position_at_fault r = elim r.fault [ None ↦ None | Some f ↦ position_if_move f.reason (position_in r.progress.part) ]
 
 -- the output for progress: the finished games, and of the part its tag section and full lines
 abbrev pub written : Profile → Progress → List ℕ

@@ -19,7 +19,7 @@ use Rattle.pgn_game.specs.Levels.{start_of, plies_of, last_position}
 use Rattle.pgn_game.specs.Text.{has_move}
 use Rattle.pgn_game.specs.Movetext.{Movetext, HoldsItems, movetext_from}
 use Rattle.pgn_game.specs.Reason.{number_of}
-use Rattle.pgn_game.specs.FaultTable.{refusal, marker_of}
+use Rattle.pgn_game.specs.FaultTable.{refusal, marker_of, position_if_move, position_in}
 use Rattle.pgn_game.specs.Progress.{Next, going, whole, next}
 use Rattle.pgn_game.specs.Due.{gain}
 use Rattle.pgn_game.specs.MostTried.{Raises, Tries, TriesUnwritten}
@@ -112,11 +112,13 @@ pub record IsAccepted (old : ReaderState) (part : Part) (k : Kind) (new : Reader
   pub tried : Raises (Tries old.profile part k) old.most_probes new.most_probes
 
 -- A token is not accepted: a row of the fault table rejects it, and nothing is appended; or a write
--- failed, and a prefix of what the token adds was appended, and not all.
+-- failed, and a prefix of what the token adds was appended, and not all. A reader that rejects a
+-- move still holds the position before it.
 pub data IsStopped (old : ReaderState) (part : Part) (k : Kind) (new : ReaderState)
     (before after : Option (List ℕ)) : Reason → Type 0 where
   refused : (reason : Reason) → refusal old.profile part k ≡ Some reason → Appends before after []
       → Raises (Tries old.profile part k) old.most_probes new.most_probes
+      → position_if_move reason new.text.levels.present.present ≡ position_if_move reason (position_in part)
       → IsStopped old part k new before after reason
   unwritten : refusal old.profile part k ≡ None
       → AppendsFront before after (gain (as_written old.profile) part k)

@@ -13,6 +13,8 @@ ghost use Rattle.pgn_game.specs.ConverterCalls.{Stands, Feeds, KeepsGames, Feeds
 ghost use Rattle.pgn_game.specs.ConverterCalls.{Again, KeepsFault, CountsFault, Advances, profile_of};
 ghost use Rattle.pgn_game.specs.ConverterCalls.{used_of, finished_game_value};
 ghost use Rattle.pgn_game.specs.ConverterCalls.{finished_game_plies, finished_game_position};
+ghost use Rattle.pgn_game.specs.ConverterCalls.{refused_position};
+ghost use Rattle.pgn_game.specs.ConverterCalls.{CountsMissingAs, counting_missing_as};
 ghost use Rattle.pgn_game.specs.ReaderState.{whole_plies};
 
 use crate::accepted::Accepted;
@@ -147,8 +149,22 @@ impl<const T: usize, const L: usize> Converter<T, L> {
 
     /// From now on a game without a Result pair counts as having this one.
     ///
-    /// Call it before any byte is fed. A new converter counts a missing Result as `*`.
-    pub fn count_missing_result_as(&mut self, marker: Marker) {
+    /// A new converter counts a missing Result as `*`. Call this before the first byte is fed:
+    /// nothing is ensured of games that had begun by then.
+    ///
+    /// # Examples
+    ///
+    /// ```
+    /// use pgn_game::{Converter, Fed, Marker, Mode, Nowhere};
+    ///
+    /// let mut converter = Converter::<64, 33>::new(Mode::Full);
+    /// converter.count_missing_result_as(Marker::WhiteWins);
+    /// assert_eq!(converter.feed(b"1. e4 1-0 ", &mut Nowhere).unwrap(), Fed::Game(9));
+    /// ```
+    pub fn count_missing_result_as(&mut self, marker: Marker)
+        ensures only_profile { self.new ≡ counting_missing_as marker self.old }
+        ensures stands { CountsMissingAs marker self.old self.new }
+    {
         self.reader
             .count_missing_result_as(MissingResult::CountsAs(marker));
     }
@@ -330,7 +346,9 @@ impl<const T: usize, const L: usize> Converter<T, L> {
     ///
     /// It is the one before the move, also inside a variation. The result is `None` unless the
     /// fault is `Reason::IllegalMove`, `Reason::AmbiguousMove` or `Reason::MoveLimit`.
-    pub fn refused_position(&self) -> Option<&Position> {
+    pub fn refused_position(&self) -> Option<&Position>
+        ensures { option_copied result ≡ refused_position self.now }
+    {
         match self.fault?.reason {
             Reason::IllegalMove | Reason::AmbiguousMove | Reason::MoveLimit => {
                 Some(self.reader.position())

@@ -6,6 +6,7 @@ ghost use Rattle.pgn_game.specs.MovesAreLegal as legality;
 ghost use Rattle.pgn_game.specs.FixedPoint as fixed;
 ghost use Rattle.pgn_game.specs.UniqueReading as unique;
 ghost use Rattle.pgn_game.specs.EqualReadings as equal;
+ghost use Rattle.pgn_game.specs.MissingResults as missing;
 
 use chess_rules::laws::a_legal_move_leaves_a_position;
 use chess_text::laws::{
@@ -88,6 +89,15 @@ pub fn interrupted_readings()
     decided_is_prefix();
     tokens_rise();
 }
+
+/// A missing Result that counts as a marker gives what one gives that takes the marker.
+///
+/// The games, the fault and the export text are the same, unless a marker is rejected since it is
+/// not the Result. If that is the first fault, before any game is finished, count a missing Result
+/// as this marker: up to it, that gives what taking the marker gives.
+pub fn missing_results()
+    ensures { missing.MissingResults }
+{}
 
 /// Each move of the games that are read is legal in its position, inside variations too (FIDE 3).
 pub fn moves_are_legal()

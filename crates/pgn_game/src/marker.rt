@@ -11,7 +11,7 @@ ghost use Rattle.pgn_game.specs.FaultTable.{is_score, marker_of, result_for};
 use pgn_lexer::TokenKind;
 
 /// A termination marker, which is also a value of Result (PGN 8.2.6).
-#[derive(Clone, Copy)]
+#[derive(Clone, Copy, Debug, PartialEq, Eq)]
 pub enum Marker {
     /// White wins: `1-0`.
     WhiteWins,

@@ -5,11 +5,12 @@ use Rattle.std.proofs.lemmas.List.Elements.{All-nil}
 use Rattle.pgn_layout.specs.Lines.{IsToken}
 use Rattle.pgn_lexer.specs.Scanned.{kind_of}
 use Rattle.pgn_lexer.specs.declared.token.TokenKind.{TokenKind}
-use Rattle.pgn_game.proofs.Words.{Parts, Mode, Full, Reduced, Stage, AfterTags, InMovetext, Pair, value_of, has_pair, Item, Part}
+use Rattle.pgn_game.proofs.Words.{Parts, Mode, Full, Reduced, Stage, AfterLeftBracket, AfterName, AfterValue, AfterTags, InMovetext, Pair, value_of, has_pair, Item, Part}
 use Rattle.pgn_game.specs.StoredPairs.{TagPairs}
-use Rattle.pgn_game.specs.Levels.{start_of}
-use Rattle.pgn_game.specs.FaultTable.{lacks_fen}
-use Rattle.pgn_game.specs.Movetext.{Movetext, HoldsItems, movetext_from}
+use Rattle.pgn_game.specs.Levels.{here, levels_of, start_of}
+use Rattle.pgn_game.specs.FaultTable.{is_outside_tag_pairs, lacks_fen, position_in}
+use Rattle.pgn_game.specs.Progress.{at_stage}
+use Rattle.pgn_game.specs.Movetext.{Movetext, StoredLevels, HoldsItems, movetext_from}
 use Rattle.pgn_game.specs.Text.{has_move}
 use Rattle.pgn_game.specs.ReaderState.{ReaderState, Agrees, HoldsPairs, HoldsText}
 use Rattle.pgn_game.specs.TokenInMovetext.{IsEntry, IsOpen, may_have_movetext}
@@ -72,6 +73,21 @@ open_at old part _ agrees at is = absurd (cc)
 
 pub open_agrees : (old : ReaderState) (part : Part) → Agrees old part → IsTrue (may_have_movetext old.stage) → IsOpen old part
 open_agrees old part agrees is = open_at old part old.stage agrees refl is
+
+-- Where a game has begun, the present position that is held is that of the part.
+pub open_position : (old : ReaderState) (part : Part) → IsOpen old part → old.text.levels.present.present ≡ position_in part
+open_position old part is = ap (λ (l : StoredLevels). l.present.present) is.held.levels
+
+first_held : (old : ReaderState) (part : Part) → part.items ≡ [] → old.text ≡ movetext_from (start_of part.pairs) → old.text.levels.present.present ≡ position_in part
+first_held old part none begins_game =
+    ap (λ (t : Movetext). t.levels.present.present) begins_game ∙ sym (ap (λ (items : List Item). here (start_of part.pairs) (levels_of items)) none)
+
+pub position_in_pair : (old : ReaderState) (part : Part) (stage : Stage) → Agrees old part → old.stage ≡ stage → is_outside_tag_pairs (at_stage stage part) ≡ false
+    → old.text.levels.present.present ≡ position_in part
+position_in_pair old part AfterLeftBracket agrees at is = let text = text_at old part AfterLeftBracket agrees at in first_held old part text.0 text.1
+position_in_pair old part AfterName agrees at is = let text = text_at old part AfterName agrees at in first_held old part text.0 text.1
+position_in_pair old part AfterValue agrees at is = let text = text_at old part AfterValue agrees at in first_held old part text.0 text.1
+position_in_pair old part _ agrees at is = absurd (cc)
 
 -- The table and the step of movetext are those of a token in it, and of the first one.
 pub entry_in_movetext : (old : ReaderState) (k : TokenKind) (part : Part) → old.stage ≡ InMovetext → Agrees old part → IsEntry old (kind_of k) part

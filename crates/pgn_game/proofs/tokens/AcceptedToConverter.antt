@@ -16,14 +16,14 @@ use Rattle.pgn_lexer.specs.Stands.{StandsAfter, Follows, AfterScan, first, still
 use Rattle.pgn_game.specs.declared.accepted.Accepted.{Accepted}
 use Rattle.pgn_game.specs.declared.accepted.Accepted.TheVariants.{More, Finished}
 use Rattle.pgn_game.proofs.Words.{Reason, Lexical, Fault, Profile, Missing, Game, Part}
-use Rattle.pgn_game.specs.FaultTable.{refusal}
-use Rattle.pgn_game.specs.Progress.{Next, going, whole, next, Progress, progress_with, progress_after, Read, read}
+use Rattle.pgn_game.specs.FaultTable.{refusal, position_if_move, position_in}
+use Rattle.pgn_game.specs.Progress.{Next, going, whole, next, Progress, progress_with, progress_after, Read, read, position_at_fault}
 use Rattle.pgn_game.specs.Due.{gain, Gains}
 use Rattle.pgn_game.specs.Levels.{plies_of}
 use Rattle.pgn_game.specs.ReaderState as reader_state
 use Rattle.pgn_game.specs.Text.{has_move}
 use Rattle.pgn_game.specs.ReaderState.{ReaderState, Agrees, IsKnown, as_written, IsBehind, whole_plies, plies_next, Leads, Answers}
-use Rattle.pgn_game.specs.ConverterCalls.{FinishedGame, finished_game_of, Converter, game_in_reader, game_in_reader_if, play_moves, has_played_move, HasRead, Stands, Stops, refused, unwritten, StopsWriting, AreNext, games_before, ProbesAtStop}
+use Rattle.pgn_game.specs.ConverterCalls.{FinishedGame, finished_game_of, Converter, game_in_reader, game_in_reader_if, play_moves, has_played_move, HasRead, Stands, Stops, refused, unwritten, StopsWriting, AreNext, games_before, position_at_stop, ProbesAtStop, reported_position}
 use Rattle.pgn_game.specs.ConverterSteps.{SameGames, OneGame, AfterStep, outcome_at, finished_game, games_after, fault_of_step, StepAdvances}
 use Rattle.pgn_game.specs.MostTried.{MostTried, Raises, Tries, TriesUnwritten}
 use Rattle.pgn_game.proofs.tokens.PairsTriedForToken.{most_with, most_to_refused, part_probed, raises_none}
@@ -213,6 +213,13 @@ module _ (p : Profile) (old : Converter) (given : List Token) (t : Token) (l : S
         probed = λ moves. probed_before (subst (λ (r : Read). IsTrue (has_played_move r.progress)) (read-refuses p given t us reason has_read.passes some) moves);
       }
 
+  pub position_at_refused : (us : List Token) (a c : Option (List ℕ)) (reason : Reason) (h : refusal old.reading.profile b.part t.kind ≡ Some reason) (wrote : Appends a c [])
+      → reported_position new reason ≡ position_if_move reason (position_in b.part) → reported_position new reason ≡ position_at_stop (stops_refused us a c reason h wrote)
+  unfolding stops_refused
+  position_at_refused us a c reason h wrote here =
+      let some = subst (λ q. refusal q b.part t.kind ≡ Some reason) has_read.profile h in
+      here ∙ sym (ap position_at_fault (read-refuses p given t us reason has_read.passes some))
+
   -- what is written is the profile's
   module _ (written : as_written old.reading.profile ≡ old.reading.profile) where
     shown : as_written old.reading.profile ≡ p
@@ -311,7 +318,7 @@ took p old u given piece used t l new finished a c (Ok Finished) stands scan end
       },
       (one.0, one.1, ap (λ (finished : FinishedGame). Some finished) one.2),
     )
-took p old u given piece used t l new finished a c (Err why) stands scan ends count profile probes written (reader_state.refused reason some wrote tries) =
+took p old u given piece used t l new finished a c (Err why) stands scan ends count profile probes written (reader_state.refused reason some wrote tries here) =
     record {
       fed = record {
         tokens = given ++ t ∷ [];
@@ -320,6 +327,7 @@ took p old u given piece used t l new finished a c (Err why) stands scan ends co
       };
       no_game = none_before_refused p old given t l new finished stands.has_read profile probes [] a c reason some wrote;
       counts = count_at_refused p old given t l new finished stands.has_read profile probes [] a c reason some wrote tries;
+      position = position_at_refused p old given t l new finished stands.has_read profile probes [] a c reason some wrote here;
     }
 took p old u given piece used t l new finished a c (Err why) stands scan ends count profile probes written (reader_state.unwritten none wrote tries) =
     record {
@@ -330,6 +338,7 @@ took p old u given piece used t l new finished a c (Err why) stands scan ends co
       };
       no_game = none_before_unwritten p old given t l new finished stands.has_read profile probes written [] a c none wrote;
       counts = count_at_unwritten p old given t l new finished stands.has_read profile probes written [] a c none wrote tries;
+      position = refl;
     }
 
 -- no token in the piece
@@ -379,6 +388,13 @@ count_at_lexical p old given f o has_read =
           (subst (λ (r : Read). IsTrue (has_played_move r.progress)) (read-refuses p given (refusal_token f) [] (Lexical f.reason) has_read.passes some) moves);
     }
 
+-- and rejects no move
+pub position_at_lexical : (p : Profile) (given : List Token) (f : LexFault) (o : Option (List ℕ)) (passes : (read p given).fault ≡ None)
+    → None ≡ position_at_stop (stops_lexical p given f o passes)
+unfolding stops_lexical
+position_at_lexical p given f o passes =
+    sym (ap position_at_fault (read-refuses p given (refusal_token f) [] (Lexical f.reason) passes (lexical-refusal p (read p given).progress.part f)))
+
 pub took_fault : (p : Profile) (old : Converter) (u : List ℕ) (given : List Token) (piece : List ℕ) (used : ℕ) (f : LexFault) (l : Standing) (new : Converter) (o : Option (List ℕ)) → 0 < length piece
     → Stands p old u (first piece) given → AfterScan u (first piece) given piece l used (fault f)
     → new.reading ≡ old.reading → AfterStep p u given piece new used (Err (record { at = f.at; reason = Lexical f.reason })) o o
@@ -394,6 +410,7 @@ took_fault p old u given piece used f l new o some stands scan same =
       no_game = none_before_lexical p given f o stands.has_read.passes;
       counts = subst (λ (r : ReaderState). ProbesAtStop (stops_lexical p given f o stands.has_read.passes) r.most_probes) (sym same)
           (count_at_lexical p old given f o stands.has_read);
+      position = position_at_lexical p given f o stands.has_read.passes;
     }
 
 -- a game is just finished after a step where the step finished one

@@ -93,7 +93,7 @@ module _ (p : Profile) (u : List ℕ) (given : List Token) (piece : List ℕ) (a
 
   pub all_stops : (new : Converter) (f : Fault)
       → StopsIn (u ++ take at piece) (drop at piece)
-      (λ fault. FedToFault p (u ++ take at piece) (first (drop at piece)) so.tokens (drop at piece) fault new.reading.most_probes c d)
+      (λ fault. FedToFault p (u ++ take at piece) (first (drop at piece)) so.tokens (drop at piece) fault new.reading c d)
       (λ front. (n : Converter) × FedAll p (u ++ take at piece) (first (drop at piece)) so.tokens front n c d × (new.reading ≡ n.reading)) f
       → StopsIn u piece (λ fault. FedFault p u None given piece fault a d) (λ front. ReadsUpTo p given (u ++ front) a d) f
   all_stops new f (at_token h to) = at_token h (all_fault h to.fed)

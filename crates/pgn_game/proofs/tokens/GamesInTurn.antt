@@ -249,7 +249,7 @@ module _ (p : Profile) (u : List ℕ) (given : List Token) (left_old left : Opti
   -- a token was rejected, a write failed, or the input is too long
   pub rest_stops : (new : Converter) (f : Fault)
       → StopsIn so.reads_on.used now.unused
-      (λ fault. FedToFault p so.reads_on.used (first now.unused) so.tokens now.unused fault new.reading.most_probes c d)
+      (λ fault. FedToFault p so.reads_on.used (first now.unused) so.tokens now.unused fault new.reading c d)
       (λ front. (n : Converter) × FedAll p so.reads_on.used (first now.unused) so.tokens front n c d × (new.reading ≡ n.reading)) f
       → NextStops p u given left_old left new.reading.most_probes a d f
   rest_stops new f (at_token h to) =

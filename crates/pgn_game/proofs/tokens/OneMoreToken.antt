@@ -9,7 +9,7 @@ use Rattle.pgn_game.specs.Text.{game_text, text_of, torn, torn_for}
 use Rattle.pgn_game.specs.Progress.{Next, going, whole, next, Progress, progress_with, progress_after, no_progress, Read, read_from, read, written, due}
 use Rattle.pgn_game.specs.Due.{text_next, gain, Gains}
 use Rattle.pgn_game.specs.Laws.{IsPrefix, DueGrows}
-use Rattle.pgn_game.specs.ConverterCalls.{Stops, refused, unwritten, StopsWriting, games_before, ProbesAtStop}
+use Rattle.pgn_game.specs.ConverterCalls.{Stops, refused, unwritten, StopsWriting, games_before, position_at_stop, ProbesAtStop}
 use Rattle.pgn_game.proofs.tokens.NextGrows.{next_is}
 
 abbrev read_as : Progress → Option Fault → Read
@@ -140,6 +140,13 @@ pub counts_still : (p : Profile) (x y tokens : List Token) (f : Fault) (a b c : 
 unfolding stops_more writing_more
 counts_still p x y tokens f a b c first (refused g fault gains) most h = record { tried = h.tried; probed = h.probed }
 counts_still p x y tokens f a b c first (unwritten at writing) most h = record { tried = h.tried; probed = h.probed }
+
+-- and so does the position there
+pub position_still : (p : Profile) (x y tokens : List Token) (f : Fault) (a b c : Option (List ℕ)) (first : Gains p x y a b) (stops : Stops p y tokens b c f)
+    → position_at_stop (stops_more p x y tokens f a b c first stops) ≡ position_at_stop stops
+unfolding stops_more
+position_still p x y tokens f a b c first (refused g fault gains) = refl
+position_still p x y tokens f a b c first (unwritten at writing) = refl
 
 -- behind a token that is rejected nothing is read
 pub stops_from : (p : Profile) (b : Progress) (ts us : List Token) (f : Fault) → (read_from p b ts).fault ≡ Some f → read_from p b (ts ++ us) ≡ read_from p b ts

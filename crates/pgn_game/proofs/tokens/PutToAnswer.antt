@@ -23,7 +23,7 @@ use Rattle.pgn_game.specs.FoundMove.{found_in}
 use Rattle.pgn_game.specs.Game.{move}
 use Rattle.pgn_game.proofs.Words.{Parts, Played, Kind, IllegalMove, Reason, Stage, Between, AfterTags, InMovetext, Profile, Item, Part, no_part}
 use Rattle.pgn_game.specs.Text.{torn}
-use Rattle.pgn_game.specs.FaultTable.{refusal, is_at, is_comment, is_end, is_number, is_outside_tag_pairs, is_score, levels_of_part, marker_of, position_in}
+use Rattle.pgn_game.specs.FaultTable.{refusal, is_at, is_comment, is_end, is_number, is_outside_tag_pairs, is_score, levels_of_part, marker_of, position_if_move, position_in}
 use Rattle.pgn_game.specs.Levels.{depth}
 use Rattle.pgn_game.specs.Progress.{Next, going, at_stage, in_text, next}
 use Rattle.pgn_game.specs.Due.{gain, text_next}
@@ -35,7 +35,7 @@ use Rattle.pgn_game.specs.TokenInMovetext.{IsEntry, IsOpen, may_have_movetext, m
 use Rattle.pgn_game.specs.PutResult.{CountsMove, EntersMovetext, Finds, FinishesNone, GoesTo, PutResult, PutsItems, Takes, TakesEntry, TakesOutside, TakesToken, TakesUnwritten, at_game_start, counting_probes, unused}
 use Rattle.pgn_game.proofs.refusals.RefusalsByStage.{begins_alike, comment_passes, drops_comments, passes_between}
 use Rattle.pgn_game.proofs.refusals.RefusalsInMovetext.{marker_whole, move_free, move_leads, move_refused as move_row_refused, refused_inside}
-use Rattle.pgn_game.proofs.refusals.ReaderToPart.{held_at, open_agrees, text_at, part_stage}
+use Rattle.pgn_game.proofs.refusals.ReaderToPart.{held_at, open_agrees, open_position, part_stage, position_in_pair, text_at}
 use Rattle.pgn_game.proofs.putting.ItemToReader.{to_items}
 use Rattle.pgn_game.proofs.putting.MarkerToReader.{to_game}
 use Rattle.pgn_game.proofs.putting.PairStepToReader.{no_torn, puts_nothing}
@@ -53,8 +53,8 @@ counts_refused reason n h = subst (λ b. CountsStop b reason n n) (sym h) refl
 
 pub refused_after : (old new : ReaderState) (IsOf : Part → Type 0) (k : Kind) (reason : Reason) (n : ℕ) (o : Option (List ℕ)) (m : ℕ) → new ≡ counting_probes old n
     → IsFalse (is_outside_the_table reason) → ((part : Part) → IsOf part → refusal old.profile part k ≡ Some reason) → ((part : Part) → IsOf part → CostsToFind part k n)
-    → Takes old IsOf k new (Err reason) (unused o m)
-refused_after old new IsOf k reason n o m counted inside why costs = record {
+    → ((part : Part) → IsOf part → position_if_move reason old.text.levels.present.present ≡ position_if_move reason (position_in part)) → Takes old IsOf k new (Err reason) (unused o m)
+refused_after old new IsOf k reason n o m counted inside why costs here = record {
   accepts = λ part is.
       reader_state.refused reason (why part is) (Appends-nil o)
       (record {
@@ -65,7 +65,8 @@ refused_after old new IsOf k reason n o m counted inside why costs = record {
           writes = subst (λ (x : Option Reason). CostsUnlessRefused x old.profile.mode (depth (levels_of_part part)) (position_in part) (added part (next part k)) n n) (sym (why part is)) refl;
         };
         most = ap (λ (r : ReaderState). r.most_probes) counted;
-      });
+      })
+      (ap (λ (r : ReaderState). position_if_move reason r.text.levels.present.present) counted ∙ here part is);
   keeps = record {
     profile = ap (λ (r : ReaderState). r.profile) counted;
     plies = omega (arith, ap (λ (r : ReaderState). r.earlier_plies) counted, ap (λ (r : ReaderState). r.text.plies) counted);
@@ -81,6 +82,7 @@ pub entry_refused : (old : ReaderState) (k : Kind) (reason : Reason) (o : Option
     → ((part : Part) → IsOpen old part → text_refusal old.profile part k ≡ Some reason) → ((part : Part) → CostsToFind part k 0) → TakesEntry old k old (Err reason) (unused o m)
 entry_refused old k reason o m inside why costs =
     refused_after old old (IsEntry old k) k reason 0 o m (counting_none old) inside (λ part is. is.row ∙ why part is.is_open) (λ part is. costs part)
+    (λ part is. ap (position_if_move reason) (open_position old part is.is_open))
 
 -- Tokens that are put.
 
@@ -161,6 +163,7 @@ module _ (old new : ReaderState) (k : Kind) (stage : Stage) (at : old.stage ≡ 
   pub refused_in_pair : (reason : Reason) → new ≡ old → IsFalse (is_outside_the_table reason) → ((part : Part) → Agrees old part → refusal old.profile part k ≡ Some reason)
       → TakesUnwritten old k new (Err reason)
   refused_in_pair reason same in_table why o m = refused_after old new (Agrees old) k reason 0 o m (same ∙ counting_none old) in_table why untried
+      (λ part agrees. ap (position_if_move reason) (position_in_pair old part stage agrees at (inside part)))
 
   pub step_in_pair : (to : Part → Next) → ((o : Option (List ℕ)) (m : ℕ) → PutResult old (Agrees old) to new (Ok More) (unused o m)) → new.most_probes ≡ old.most_probes
       → ((part : Part) → CostsToPut old.profile part (to part) 0 0) → ((part : Part) → Agrees old part → (refusal old.profile part k ≡ None) × (next part k ≡ to part))
@@ -250,8 +253,8 @@ answers_alike old new k (Ok accepted) a b at row leads h = record {
   appended = subst (Appends a b) (gain_alike old.profile k row leads) h.appended;
   tried = record { tried = h.tried.tried; allowed = tries_alike old.profile k row leads h.tried.tried h.tried.allowed; most = h.tried.most };
 }
-answers_alike old new k (Err reason) a b at row leads (reader_state.refused why is none t) =
-    reader_state.refused why (sym row ∙ is) none (record { tried = t.tried; allowed = tries_alike old.profile k row leads t.tried t.allowed; most = t.most })
+answers_alike old new k (Err reason) a b at row leads (reader_state.refused why is none t here) =
+    reader_state.refused why (sym row ∙ is) none (record { tried = t.tried; allowed = tries_alike old.profile k row leads t.tried t.allowed; most = t.most }) here
 answers_alike old new k (Err reason) a b at row leads (reader_state.unwritten free front t) =
     reader_state.unwritten (sym row ∙ free) (subst (AppendsFront a b) (gain_alike old.profile k row leads) front)
     (record { tried = t.tried; allowed = unwritten_alike old.profile k row leads t.tried t.allowed; most = t.most })
@@ -307,6 +310,7 @@ module _ (old found : ReaderState) (s : List ℕ) (n : ℕ) (at : IsTrue (may_ha
       let here = old.text.levels.present.present in
       refused_after old found (IsEntry old (symbol s)) (symbol s) reason n o m finds.counted (refused_inside here s reason finds.found)
       (λ part is. is.row ∙ move_row_refused old part s here reason number score is.is_open refl finds.found) (λ part is. costs_found old part s n is.is_open at number score finds.tried)
+      (λ part is. ap (position_if_move reason) (open_position old part is.is_open))
 
   pub takes_move : (new : ReaderState) (mv : Move) (r : Result Accepted Reason) (d : Device) (more : ℕ) → Finds old s found (Ok mv) n
       → PutResult found (IsOpen found) (to_items (move mv ∷ [])) new r d → FinishesNone r → new.most_probes ≡ max old.most_probes more

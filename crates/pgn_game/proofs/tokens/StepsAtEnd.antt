@@ -17,8 +17,8 @@ use Rattle.pgn_game.specs.ReaderState as reader_state
 use Rattle.pgn_game.specs.ReaderState.{ReaderState, Answers, IsKnown, as_written, Stays, FinishesAtMarker, CountsStop, CountsWrites, is_outside_the_table}
 use Rattle.pgn_game.specs.ConverterCalls.{Converter, IsSound, game_in_reader, game_in_reader_if, IsLast, HasRead, Stands, unwritten, Finishes, FinishesToFault, ProbesAtStop, CountsFault, CountsReason}
 use Rattle.pgn_game.specs.ConverterSteps.{SameGames, FaultAtEnd, AfterStepAtEnd, StepAtEndAdvances, AtEndSoFar, StaysBetween, outcome_at, is_ended, games_after, none_at_end, fault_of_step}
-use Rattle.pgn_game.proofs.tokens.OneMoreToken.{gains_none, gains_more, stops_more, games_still, counts_still, read-passes}
-use Rattle.pgn_game.proofs.tokens.AcceptedToConverter.{stepped, gains_token, same_games, has_read_more, one_game, has_read_game, stops_refused, writing, stops_lexical, none_before_refused, none_before_unwritten, none_before_lexical, count_at_refused, count_at_unwritten, count_at_lexical}
+use Rattle.pgn_game.proofs.tokens.OneMoreToken.{gains_none, gains_more, stops_more, games_still, counts_still, position_still, read-passes}
+use Rattle.pgn_game.proofs.tokens.AcceptedToConverter.{stepped, gains_token, same_games, has_read_more, one_game, has_read_game, stops_refused, writing, stops_lexical, none_before_refused, none_before_unwritten, none_before_lexical, count_at_refused, count_at_unwritten, count_at_lexical, position_at_lexical, position_at_refused}
 
 -- what is left behind a token: nothing behind the end
 abbrev pub Left : List ℕ → List Token → Bool → Standing → Token → Type 0
@@ -122,31 +122,34 @@ closes p old u given t l new finished a c false (Ok Finished) is_e has_read left
   },
   one_game p old given t l new finished has_read profile probes h.free h.leads,
 )
-closes p old u given t l new finished a c e (Err why) is_e has_read left profile probes written (reader_state.refused reason some wrote tries) stays at_marker =
+closes p old u given t l new finished a c e (Err why) is_e has_read left profile probes written (reader_state.refused reason some wrote tries here) stays at_marker =
     let rest = tokens_left u given e l t left in
-    (subst (λ ts. FaultAtEnd p given ts (record { at = t.at; reason = reason }) new.most_probes a c) (sym rest.1)
+    (subst (λ ts. FaultAtEnd p given ts (record { at = t.at; reason = reason }) new a c) (sym rest.1)
     (record {
       stops = stops_refused p old given t l new finished has_read profile probes rest.0 a c reason some wrote;
       no_game = none_before_refused p old given t l new finished has_read profile probes rest.0 a c reason some wrote;
       counts = count_at_refused p old given t l new finished has_read profile probes rest.0 a c reason some wrote tries;
+      position = position_at_refused p old given t l new finished has_read profile probes rest.0 a c reason some wrote here;
     }))
 closes p old u given t l new finished a c e (Err why) is_e has_read left profile probes written (reader_state.unwritten none wrote tries) stays at_marker =
     let rest = tokens_left u given e l t left in
-    (subst (λ ts. FaultAtEnd p given ts (record { at = t.at; reason = WriteFault }) new.most_probes a c) (sym rest.1)
+    (subst (λ ts. FaultAtEnd p given ts (record { at = t.at; reason = WriteFault }) new a c) (sym rest.1)
     (record {
       stops = unwritten t.at (writing p old given t l new finished has_read profile probes written rest.0 a c none wrote);
       no_game = none_before_unwritten p old given t l new finished has_read profile probes written rest.0 a c none wrote;
       counts = count_at_unwritten p old given t l new finished has_read profile probes written rest.0 a c none wrote tries;
+      position = refl;
     }))
 
 pub closes_fault : (p : Profile) (old new : Converter) (u : List ℕ) (given : List Token) (f : LexFault) (o : Option (List ℕ)) → HasRead p old given
     → tokens_of u ≡ given ++ refusal_token f ∷ [] → new.reading ≡ old.reading → AfterStepAtEnd p u given old new (Err (record { at = f.at; reason = Lexical f.reason })) o o
 closes_fault p old new u given f o has_read whole same =
-    subst (λ ts. FaultAtEnd p given ts (record { at = f.at; reason = Lexical f.reason }) new.reading.most_probes o o) (sym whole)
+    subst (λ ts. FaultAtEnd p given ts (record { at = f.at; reason = Lexical f.reason }) new.reading o o) (sym whole)
     (record {
       stops = stops_lexical p given f o has_read.passes;
       no_game = none_before_lexical p given f o has_read.passes;
       counts = subst (λ (r : ReaderState). ProbesAtStop (stops_lexical p given f o has_read.passes) r.most_probes) (sym same) (count_at_lexical p old given f o has_read);
+      position = position_at_lexical p given f o has_read.passes;
     })
 
 -- the end has neither a fault of its own nor a failure
@@ -326,6 +329,7 @@ module _ (p : Profile) (u : List ℕ) (given : List Token) (now new : Converter)
         stops = stops_more p given so.tokens (tokens_of u) f a c d so.gains to.stops;
         games = same ∙ so.has_read.games ∙ sym (ap (length {A = Game}) (games_still p given so.tokens (tokens_of u) f a c d so.gains to.stops ∙ to.no_game));
         counts = counts_still p given so.tokens (tokens_of u) f a c d so.gains to.stops new.reading.most_probes to.counts;
+        position = to.position ∙ sym (position_still p given so.tokens (tokens_of u) f a c d so.gains to.stops);
       }
 
 -- behind the last piece a token was waiting, unless it is the end

@@ -11,7 +11,7 @@ use Rattle.pgn_game.specs.declared.accepted.Accepted.TheVariants.{More, Finished
 use Rattle.pgn_game.specs.ReaderState.{ReaderState}
 use Rattle.pgn_game.specs.ConverterCalls.{Converter, Stands, AreNext, FedAll, FedGame, FedToFault, StopsIn, too_long, CountsReason}
 use Rattle.pgn_game.specs.ConverterSteps.{AfterStep, next_at, SoFar}
-use Rattle.pgn_game.proofs.tokens.OneMoreToken.{gains_none, gains_more, stops_more, games_still, counts_still}
+use Rattle.pgn_game.proofs.tokens.OneMoreToken.{gains_none, gains_more, stops_more, games_still, counts_still, position_still}
 use Rattle.pgn_game.proofs.tokens.AcceptedToConverter.{still_none, still_none-none}
 
 -- the game just finished is let go
@@ -156,7 +156,7 @@ module _ (p : Profile) (u : List ℕ) (b : Option ℕ) (given : List Token) (pie
       }
 
   -- a fault
-  pub fed_fault : (new : Converter) (used : ℕ) (f : Fault) → AfterStep p (u ++ take at piece) so.tokens (drop at piece) new used (Err f) c d → FedToFault p u b given piece f new.reading.most_probes a d
+  pub fed_fault : (new : Converter) (used : ℕ) (f : Fault) → AfterStep p (u ++ take at piece) so.tokens (drop at piece) new used (Err f) c d → FedToFault p u b given piece f new.reading a d
   fed_fault new used f to_fault =
       let fed = to_fault.fed in
       record {
@@ -168,6 +168,7 @@ module _ (p : Profile) (u : List ℕ) (b : Option ℕ) (given : List Token) (pie
         };
         no_game = games_still p given so.tokens fed.tokens f a c d so.gains fed.stops ∙ to_fault.no_game ∙ so.no_game;
         counts = counts_still p given so.tokens fed.tokens f a c d so.gains fed.stops new.reading.most_probes to_fault.counts;
+        position = to_fault.position ∙ sym (position_still p given so.tokens fed.tokens f a c d so.gains fed.stops);
       }
 
 -- ---- a front of the piece
@@ -235,8 +236,8 @@ module _ (p : Profile) (u : List ℕ) (b : Option ℕ) (given : List Token) (pie
       }
 
   -- a token of it is rejected, or a write failed
-  pub front_fault : (f : Fault) (most : ℕ) → Follows b piece → FedToFault p u b given (take n piece) f most a c → FedToFault p u b given piece f most a c
-  front_fault f most begins to =
+  pub front_fault : (f : Fault) (reading : ReaderState) → Follows b piece → FedToFault p u b given (take n piece) f reading a c → FedToFault p u b given piece f reading a c
+  front_fault f reading begins to =
       let fed = to.fed in
       record {
         fed = record {
@@ -251,6 +252,7 @@ module _ (p : Profile) (u : List ℕ) (b : Option ℕ) (given : List Token) (pie
         };
         no_game = to.no_game;
         counts = to.counts;
+        position = to.position;
       }
     where
       goes_on : (xs : List ℕ) (n : ℕ) (s : List ℕ) → Follows b xs → Follows (still b xs) s → Follows (still b (take n xs)) (drop n xs ++ s)

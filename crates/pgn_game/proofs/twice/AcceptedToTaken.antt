@@ -20,7 +20,8 @@ use Rattle.pgn_game.specs.Progress.{going, whole, next}
 use Rattle.pgn_game.specs.ReaderState.{Answers, IsAccepted, Leads, ReaderState, as_written}
 use Rattle.pgn_game.specs.ReaderState as reader_state
 use Rattle.pgn_game.specs.Checked.{is_other}
-use Rattle.pgn_game.specs.Pass.{IsAlike, IsTold, LeadsTo, TakesToken, TokenFails, marks_differ, missing_under, model_mark, other, refused, rejects, shows_other, unwritten, with_missing}
+use Rattle.pgn_game.specs.Profile.{with_missing}
+use Rattle.pgn_game.specs.Pass.{IsAlike, IsTold, LeadsTo, TakesToken, TokenFails, marks_differ, missing_under, model_mark, other, refused, rejects, shows_other, unwritten}
 use Rattle.pgn_game.proofs.tokens.StepsAtEnd.{end_at, is_the_end}
 use Rattle.pgn_game.proofs.twice.MarkerCounts.{accepted_under, marker_finishes, no_marker_goes, refusal_counting}
 
@@ -162,7 +163,7 @@ module _ (q : Profile) (part : Part) (told : Option CodeMark) (at : ℕ) (k : Ki
         by_marker None is = let to = no_marker is in by_end (is_end k) to.0 refl to.1
 
     pub fails : (reason : Reason) → Answers old part k new (Err reason) a c → TokenFails q part told t new a c (record { at = at; reason = reason })
-    fails reason (reader_state.refused why some wrote tries) = refused why (sym row ∙ some) wrote
+    fails reason (reader_state.refused why some wrote tries here) = refused why (sym row ∙ some) wrote
     fails reason (reader_state.unwritten none (n, short, wrote) tries) =
         let free = sym row ∙ none in
         unwritten (not_rejected free false (shows_none free n short))

@@ -12,6 +12,7 @@ use Rattle.pgn_lexer.specs.declared.token.LexReason.TheVariants as lexical
 use Rattle.pgn_game.specs.declared.accepted.Accepted.{Accepted}
 use Rattle.pgn_game.specs.declared.accepted.Accepted.TheVariants.{More, Finished}
 use Rattle.pgn_game.proofs.Words.{Kind, Reason, Lexical, BadTagName, ResultDiffers, Mode, Stage, Between, AfterLeftBracket, AfterName, AfterValue, AfterTags, InMovetext, Profile, Missing, counts_as, takes_the_marker, Game, Part, no_part}
+use Rattle.pgn_game.specs.Profile.{counting, with_missing}
 use Rattle.pgn_game.specs.Levels.{depth, start_of}
 use Rattle.pgn_game.specs.FaultTable.{Row, row, rows, first_holding, refusal, in_name, is_score, is_outside_tag_pairs, has_other_result, levels_of_part, marker_of, position_in}
 use Rattle.pgn_game.specs.Text.{game_text}
@@ -20,7 +21,7 @@ use Rattle.pgn_game.specs.MostTried.{CostsUnlessRefused, Tries, added}
 use Rattle.pgn_game.specs.Movetext.{HoldsItems}
 use Rattle.pgn_game.specs.ReaderState.{ReaderState, Agrees, HoldsText, IsAccepted, Leads, is_outside_the_table}
 use Rattle.pgn_game.specs.TokenInMovetext.{game_of, or_else, with_items}
-use Rattle.pgn_game.specs.Pass.{IsAlike, counting, reading_under, with_missing}
+use Rattle.pgn_game.specs.Pass.{IsAlike, reading_under}
 use Rattle.pgn_game.proofs.refusals.RefusalsByStage.{name_refusal, test_failed}
 use Rattle.pgn_game.proofs.refusals.RefusalsInMovetext.{marker_whole, other_if, score_of}
 
@@ -30,7 +31,7 @@ other_alike : (text : List ℕ) (part : Part) (k : Kind) → (marker_of k ≡ No
 other_alike text part k (inl none) = ap (other_if (counts_as text) part.pairs) none ∙ sym (ap (other_if takes_the_marker part.pairs) none)
 other_alike text part k (inr is) = ap (other_if (counts_as text) part.pairs) is ∙ sym (ap (other_if takes_the_marker part.pairs) is)
 
-table_alike : (q : Profile) (a b : Missing) (part : Part) (k : Kind) → has_other_result a part k ≡ has_other_result b part k
+pub table_alike : (q : Profile) (a b : Missing) (part : Part) (k : Kind) → has_other_result a part k ≡ has_other_result b part k
     → refusal (with_missing q a) part k ≡ refusal (with_missing q b) part k
 unfolding refusal
 table_alike q a b part (tokens.refused r) same = refl
@@ -46,7 +47,7 @@ refusal_counting q text part k takes known =
 
 -- A marker is rejected in a pair, and finishes the game elsewhere.
 -- a score has a byte that no name has
-no_name : (s : List ℕ) → is_score s ≡ true → list_all in_name s ≡ false
+pub no_name : (s : List ℕ) → is_score s ≡ true → list_all in_name s ≡ false
 no_name s is = by_tests (bytes_eq s (codes "1-0")) (bytes_eq s (codes "0-1")) (bytes_eq s (codes "1/2-1/2")) refl refl refl is
   where
     by_tests : (a b c : Bool) → bytes_eq s (codes "1-0") ≡ a → bytes_eq s (codes "0-1") ≡ b → bytes_eq s (codes "1/2-1/2") ≡ c

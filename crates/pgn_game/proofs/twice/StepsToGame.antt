@@ -14,7 +14,8 @@ use Rattle.pgn_game.specs.Text.{game_text, torn}
 use Rattle.pgn_game.specs.Due.{gain, text_next}
 use Rattle.pgn_game.specs.ReaderState.{ReaderState, as_written, is_outside_the_table}
 use Rattle.pgn_game.specs.Checked.{Mark, is_other}
-use Rattle.pgn_game.specs.Pass.{AfterRead, AfterStep, AfterWrite, HasMatched, HasGiven, HasMarked, IsAlike, IsGoing, IsTold, LeadsTo, Pass, ReadsSoFar, TokenFails, WritesGameSoFar, WritesSoFar, as_changed, changed_reason, counting, model_mark, part_after, rejects, torn_after, with_missing}
+use Rattle.pgn_game.specs.Profile.{counting, with_missing}
+use Rattle.pgn_game.specs.Pass.{AfterRead, AfterStep, AfterWrite, HasMatched, HasGiven, HasMarked, IsAlike, IsGoing, IsTold, LeadsTo, Pass, ReadsSoFar, TokenFails, WritesGameSoFar, WritesSoFar, as_changed, changed_reason, model_mark, part_after, rejects, torn_after}
 use Rattle.pgn_game.specs.Pass as pass
 use Rattle.pgn_game.proofs.tokens.NextGrows.{next_is}
 use Rattle.pgn_game.proofs.tokens.OneMoreToken.{read-passes}

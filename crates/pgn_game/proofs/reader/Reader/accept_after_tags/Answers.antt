@@ -26,6 +26,7 @@ returns-in-End g c =
     λ o m. refused_after old old (Agrees old) (kind_of c.args.kind) UnexpectedEnd 0 o m (counting_none old) refl (λ part agrees.
     ap (λ (k : TokenKind). refusal old.profile part (kind_of k)) c.in-End.is ∙ end_after_tags old.profile part (part_stage old part AfterTags agrees c.requires))
     (λ part agrees. subst (λ (k : TokenKind). CostsToFind part (kind_of k) 0) (sym c.in-End.is) refl)
+    (λ part agrees. refl)
 
 pub returns-then-is_full : goal.returns-then-is_full
 returns-then-is_full g c =
@@ -38,6 +39,7 @@ returns-then-is_full g c =
     ap (λ (k : TokenKind). refusal old.profile part (kind_of k)) c.in-LeftBracket.is ∙ open_refusal old.profile part (part_stage old part AfterTags agrees c.requires)
     ∙ hit _ _ _ (le-leb old.profile.tags (length part.pairs) (omega (arith, most, full, held, held_of old part agrees c.requires))))
     (λ part agrees. subst (λ (k : TokenKind). CostsToFind part (kind_of k) 0) (sym c.in-LeftBracket.is) refl)
+    (λ part agrees. refl)
 
 pub returns-else-is_full : goal.returns-else-is_full
 returns-else-is_full g c =
@@ -64,6 +66,7 @@ returns-then-lacks_fen g c =
     λ o m. refused_after old c.count_move.new.self (Agrees old) (kind_of c.args.kind) SetUpWithoutFen counts.pairs o m counts.counted refl (λ part agrees.
     refuses_set_up old.profile part c.args.kind (part_stage old part AfterTags agrees c.requires) (textual c.args.kind c.in_default.not-LeftBracket c.in_default.not-End)
     (lacks_of old part true agrees c.requires (sym c.lacks_fen.ensures ∙ c.if-lacks_fen.true))) counts.tried
+    (λ part agrees. refl)
 
 pub returns-else-lacks_fen : goal.returns-else-lacks_fen
 returns-else-lacks_fen g c =

@@ -1,0 +1,416 @@
+-- Reading with a missing Result that counts as a text, and with one that takes the marker.
+-- Letters: q is the profile whose missing Result takes the marker, b the progress, t a token, ts
+-- are tokens.
+use Rattle.std.proofs.Common.{◌≡◌, ◌⊎◌, inl, inr, ℕ, ◌+◌, Bool, true, false, ◌&&◌, ◌||◌, not, nat_le, ◌==◌, List, [], ◌∷◌, ◌++◌, length, take, drop, codes, bytes_eq, unwrap_or, Option, None, Some, is_some, suc, zero, IsTrue, refl, sym, ap, subst, ◌∙◌, length-append, true≢false, arith}
+use Rattle.std.specs.List.{list_all}
+use Rattle.std.proofs.lemmas.Bool.{and_parts, le-leb, not-true}
+use Rattle.std.proofs.lemmas.Slice.Eq.{bytes_eq-Decides}
+use Rattle.pgn_layout.specs.Lines.{lines_of, text_of as text_of_lines}
+use Rattle.pgn_lexer.specs.Tokens as tokens
+use Rattle.pgn_game.proofs.Words.{Kind, Token, Reason, BadTagName, ResultDiffers, MarkerInVariation, Stage, Between, AfterLeftBracket, AfterName, AfterValue, Profile, Missing, counts_as, takes_the_marker, Pair, value_of, Game, Part}
+use Rattle.pgn_game.specs.declared.reason.Fault.{Fault}
+use Rattle.pgn_game.specs.declared.marker.Marker.{Marker}
+use Rattle.pgn_game.specs.declared.marker.Marker.TheVariants.{WhiteWins, BlackWins, Draw, Unknown}
+use Rattle.pgn_game.specs.Markers.{marker_text}
+use Rattle.pgn_game.specs.Profile.{counting, with_missing}
+use Rattle.pgn_game.specs.TagSection.{tag_lines}
+use Rattle.pgn_game.specs.Levels.{depth, start_of}
+use Rattle.pgn_game.specs.FaultTable.{Row, row, rows, first_holding, refusal, in_name, is_marker, is_score, is_outside_tag_pairs, has_other_result, levels_of_part, marker_of}
+use Rattle.pgn_game.specs.Spells.{IsResult}
+use Rattle.pgn_game.specs.Text.{game_text, text_of, tokens_out}
+use Rattle.pgn_game.specs.Progress.{Next, going, whole, at_stage, next, Progress, progress_with, progress_after, no_progress, Read, read_from, read}
+use Rattle.pgn_game.specs.TokenInMovetext.{or_else}
+use Rattle.pgn_game.specs.MissingResults.{is_about_result, rejects_marker, IsReadAlike, MissingResults}
+use Rattle.pgn_game.proofs.refusals.RefusalsInMovetext.{other_if, score_of}
+use Rattle.pgn_game.proofs.refusals.RefusalsByStage.{name_refusal, test_failed}
+use Rattle.pgn_game.proofs.reading.MovetextTokens.{result_is}
+use Rattle.pgn_game.proofs.exporting.GameTextToGame.{exported_result}
+use Rattle.pgn_game.proofs.tokens.OneMoreToken.{after_test, read_from-test, goes_on, text_of-snoc}
+use Rattle.pgn_game.proofs.twice.MarkerCounts.{marker_finishes, no_marker_goes, no_name, refusal_counting, same_game_text, table_alike}
+
+-- One row of the table.
+
+-- the reason is that a marker is not the Result
+abbrev by_result : Option Reason → Bool
+by_result o = elim o [ Some reason ↦ is_about_result reason | None ↦ false ]
+
+unless_first : (b : Bool) (reason : Reason) (o with_row : Option Reason) → by_result (or_else b reason with_row) ≡ false → (by_result with_row ≡ false → o ≡ with_row)
+    → or_else b reason o ≡ or_else b reason with_row
+unless_first true reason o with_row plain further = refl
+unless_first false reason o with_row plain further = further plain
+
+-- where the row is not the one that holds first, it may as well not hold
+without_row : (rs : List Row) (x : Bool) (rest : List Row) → by_result (first_holding (rs ++ row ResultDiffers x ∷ rest)) ≡ false
+    → first_holding (rs ++ row ResultDiffers false ∷ rest) ≡ first_holding (rs ++ row ResultDiffers x ∷ rest)
+without_row [] true rest plain = absurd (true≢false plain)
+without_row [] false rest plain = refl
+without_row (r ∷ rs) x rest plain =
+    unless_first r.holds r.reason (first_holding (rs ++ row ResultDiffers false ∷ rest)) (first_holding (rs ++ row ResultDiffers x ∷ rest)) plain (without_row rs x rest)
+
+none_of : (b : Bool) (reason : Reason) (rest : Option Reason) → or_else b reason rest ≡ None → (b ≡ false) × (rest ≡ None)
+none_of true reason rest e = absurd (cc)
+none_of false reason rest e = (refl, e)
+
+-- if no row holds, this one does not
+row_fails : (rs : List Row) (r : Row) (rest : List Row) → first_holding (rs ++ r ∷ rest) ≡ None → r.holds ≡ false
+row_fails [] r rest e = (none_of r.holds r.reason (first_holding rest) e).0
+row_fails (x ∷ rs) r rest e = row_fails rs r rest (none_of x.holds x.reason (first_holding (rs ++ r ∷ rest)) e).1
+
+and_false : (a b : Bool) → (a && false && b) ≡ false
+and_false true b = refl
+and_false false b = refl
+
+table_without : (q : Profile) (text : List ℕ) (part : Part) (k : Kind) → has_other_result takes_the_marker part k ≡ false
+    → by_result (refusal (counting q text) part k) ≡ false → refusal (with_missing q takes_the_marker) part k ≡ refusal (counting q text) part k
+unfolding refusal
+table_without q text part (tokens.refused r) none plain = refl
+table_without q text part k none plain =
+    let outer = depth (levels_of_part part) == 0 in
+    ap (λ (other : Bool). first_holding (take 21 (rows q part k) ++ row ResultDiffers (is_outside_tag_pairs part && other && outer) ∷ drop 22 (rows q part k))) none
+    ∙ ap (λ (x : Bool). first_holding (take 21 (rows q part k) ++ row ResultDiffers x ∷ drop 22 (rows q part k))) (and_false (is_outside_tag_pairs part) outer)
+    ∙ without_row (take 21 (rows q part k)) (is_outside_tag_pairs part && has_other_result (counts_as text) part k && outer) (drop 22 (rows q part k)) plain
+
+-- A marker that takes itself for a missing Result differs from a given one alone.
+other_of : (text : List ℕ) (part : Part) (k : Kind) (o : Option (List ℕ)) (v : Option (List ℕ)) → marker_of k ≡ o → value_of part.pairs (codes "Result") ≡ v
+    → (has_other_result (counts_as text) part k ≡ has_other_result takes_the_marker part k) ⊎ (has_other_result takes_the_marker part k ≡ false)
+other_of text part k None v is given = inr (ap (other_if takes_the_marker part.pairs) is)
+other_of text part k (Some marker) (Some value) is given =
+    inl (
+    ap (other_if (counts_as text) part.pairs) is ∙ ap (λ (o : Option (List ℕ)). not (bytes_eq marker (unwrap_or o text))) given
+    ∙ sym (ap (other_if takes_the_marker part.pairs) is ∙ ap (λ (o : Option (List ℕ)). not (bytes_eq marker (unwrap_or o marker))) given)
+    )
+other_of text part k (Some marker) None is given =
+    inr (
+    ap (other_if takes_the_marker part.pairs) is ∙ ap (λ (o : Option (List ℕ)). not (bytes_eq marker (unwrap_or o marker))) given
+    ∙ ap not ((bytes_eq-Decides marker marker).1 refl)
+    )
+
+refusal_taking : (q : Profile) (text : List ℕ) (part : Part) (k : Kind) → q.missing_result ≡ takes_the_marker → by_result (refusal (counting q text) part k) ≡ false
+    → refusal q part k ≡ refusal (counting q text) part k
+refusal_taking q text part k takes plain =
+    ap (λ (missing : Missing). refusal (with_missing q missing) part k) takes
+    ∙ elim (other_of text part k (marker_of k) (value_of part.pairs (codes "Result")) refl refl) [
+      | inl same ↦ sym (table_alike q (counts_as text) takes_the_marker part k same)
+      | inr none ↦ table_without q text part k none plain
+    ]
+
+-- A marker that finishes a game is its Result.
+star_outside : (p : Profile) (stage : Stage) (part : Part) → refusal p (at_stage stage part) tokens.asterisk ≡ None → is_outside_tag_pairs (at_stage stage part) ≡ true
+unfolding refusal
+star_outside p Between part free = refl
+star_outside p _ part free = cc
+
+score_outside : (p : Profile) (stage : Stage) (part : Part) (s : List ℕ) → is_score s ≡ true → refusal p (at_stage stage part) (tokens.symbol s) ≡ None
+    → is_outside_tag_pairs (at_stage stage part) ≡ true
+unfolding refusal
+score_outside p AfterLeftBracket part s is free =
+    let named = test_failed (not (list_all in_name s)) BadTagName _ (sym (name_refusal p (at_stage AfterLeftBracket part) s refl) ∙ free) in
+    absurd (true≢false (sym (ap not (no_name s is)) ∙ named))
+score_outside p AfterName part s is free = absurd (cc)
+score_outside p AfterValue part s is free = absurd (cc)
+score_outside p _ part s is free = refl
+
+marker_outside : (p : Profile) (part : Part) (k : Kind) (marker : List ℕ) → marker_of k ≡ Some marker → refusal p part k ≡ None → is_outside_tag_pairs part ≡ true
+marker_outside p part tokens.asterisk marker is free = star_outside p part.stage part free
+marker_outside p part (tokens.symbol s) marker is free = score_outside p part.stage part s (score_of s marker (is_score s) refl is).0 free
+marker_outside p part _ marker is free = absurd (cc)
+
+at_depth_zero : (outside inside other : Bool) (n : ℕ) → outside ≡ true → nat_le 1 n ≡ inside → (outside && true && inside) ≡ false
+    → (outside && other && (n == 0)) ≡ false → other ≡ false
+at_depth_zero true inside other zero is within no_inside no_other = by_other other no_other
+  where
+    by_other : (x : Bool) → (x && true) ≡ false → x ≡ false
+    by_other true e = absurd (true≢false e)
+    by_other false e = refl
+at_depth_zero true inside other (suc n) is within no_inside no_other = absurd (true≢false (sym (le-leb 1 (suc n) (omega arith)) ∙ within ∙ no_inside))
+at_depth_zero false inside other n is within no_inside no_other = absurd (true≢false (sym is))
+
+not_other : (p : Profile) (part : Part) (k : Kind) (marker : List ℕ) → marker_of k ≡ Some marker → refusal p part k ≡ None → has_other_result p.missing_result part k ≡ false
+unfolding refusal
+not_other p part (tokens.refused r) marker is free = absurd (cc)
+not_other p part k marker is free =
+    let deep = depth (levels_of_part part) in
+    let inside = row_fails (take 20 (rows p part k)) (row MarkerInVariation (is_outside_tag_pairs part && is_marker k && nat_le 1 deep)) (drop 21 (rows p part k)) free in
+    let differs = row_fails (take 21 (rows p part k)) (row ResultDiffers (is_outside_tag_pairs part && has_other_result p.missing_result part k && (deep == 0))) (drop 22 (rows p part k)) free in
+    at_depth_zero (is_outside_tag_pairs part) (nat_le 1 deep) (has_other_result p.missing_result part k) deep (marker_outside p part k marker is free) refl
+    (sym (ap (λ (o : Option (List ℕ)). is_outside_tag_pairs part && is_some o && nat_le 1 deep) is) ∙ inside) differs
+
+result_of : (p : Profile) (part : Part) (k : Kind) (marker : List ℕ) → marker_of k ≡ Some marker → refusal p part k ≡ None
+    → IsResult p.missing_result (value_of part.pairs (codes "Result")) marker
+result_of p part k marker is free =
+    result_is p.missing_result (value_of part.pairs (codes "Result")) marker (sym (ap (other_if p.missing_result part.pairs) is) ∙ not_other p part k marker is free)
+
+-- A game that is finished has the same text.
+abbrev text_with : Profile → Game → List Pair → List ℕ
+text_with q g ps =
+    (tag_lines ps ++ 10 ∷ []) ++ text_of_lines (lines_of (tokens_out q.mode (start_of g.pairs) g.items ++ g.marker ∷ [])) ++ 10 ∷ []
+
+game_alike : (q : Profile) (text : List ℕ) (g : Game) → q.missing_result ≡ takes_the_marker → IsResult (counts_as text) (value_of g.pairs (codes "Result")) g.marker
+    → game_text q g ≡ game_text (counting q text) g
+game_alike q text g takes is =
+    sym (same_game_text q g takes) ∙ sym (ap (text_with q g) (exported_result q.mode (counts_as text) g.marker g.pairs is))
+
+finished_alike : (q : Profile) (text : List ℕ) (part : Part) (k : Kind) (g : Game) → q.missing_result ≡ takes_the_marker → refusal (counting q text) part k ≡ None
+    → next part k ≡ whole g → game_text q g ≡ game_text (counting q text) g
+finished_alike q text part k g takes free is = by_marker (marker_of k) refl
+  where
+    by_marker : (o : Option (List ℕ)) → marker_of k ≡ o → game_text q g ≡ game_text (counting q text) g
+    by_marker None none = let to = no_marker_goes part k none in let e : going to.0 ≡ whole g = sym to.1 ∙ is in absurd (cc)
+    by_marker (Some marker) some =
+        let e : whole (record { pairs = part.pairs; items = part.items; marker = marker }) ≡ whole g = sym (marker_finishes (counting q text) part k marker some free) ∙ is in
+        let same : record { pairs = part.pairs; items = part.items; marker = marker } ≡ g = cc in
+        subst (λ (g : Game). game_text q g ≡ game_text (counting q text) g) same
+        (game_alike q text (record { pairs = part.pairs; items = part.items; marker = marker }) takes (result_of (counting q text) part k marker some free))
+
+-- so have all games
+abbrev AreAlike : Profile → List ℕ → List Game → Type 0
+AreAlike q text games = text_of q games ≡ text_of (counting q text) games
+
+one_more : (q : Profile) (text : List ℕ) (games : List Game) (to : Next) → AreAlike q text games → ((g : Game) → to ≡ whole g → game_text q g ≡ game_text (counting q text) g)
+    → AreAlike q text (progress_with games to).games
+one_more q text games (going part) before same = before
+one_more q text games (whole g) before same =
+    text_of-snoc q games g ∙ ap (λ (xs : List ℕ). xs ++ game_text q g) before ∙ ap (λ (xs : List ℕ). text_of (counting q text) games ++ xs) (same g refl)
+    ∙ sym (text_of-snoc (counting q text) games g)
+
+all_alike : (q : Profile) (text : List ℕ) (b : Progress) (ts : List Token) → q.missing_result ≡ takes_the_marker → AreAlike q text b.games
+    → AreAlike q text (read_from (counting q text) b ts).progress.games
+all_alike q text b [] takes before = before
+all_alike q text b (t ∷ ts) takes before =
+    subst (λ (r : Read). AreAlike q text r.progress.games) (sym (read_from-test (counting q text) b t ts)) (by_test (refusal (counting q text) b.part t.kind) refl (all_alike q text (progress_after b t) ts takes))
+  where
+    by_test : (o : Option Reason) → refusal (counting q text) b.part t.kind ≡ o
+        → (AreAlike q text (progress_after b t).games → AreAlike q text (read_from (counting q text) (progress_after b t) ts).progress.games)
+        → AreAlike q text (after_test (counting q text) b t ts o).progress.games
+    by_test (Some reason) is further = before
+    by_test None is further = further (one_more q text b.games (next b.part t.kind) before (λ g leads. finished_alike q text b.part t.kind g takes is leads))
+
+-- Reading.
+
+-- a token that is rejected for another reason, and one that is not rejected
+reads_alike : (q : Profile) (text : List ℕ) (b : Progress) (ts : List Token) → q.missing_result ≡ takes_the_marker → rejects_marker (read_from (counting q text) b ts).fault ≡ false
+    → read_from q b ts ≡ read_from (counting q text) b ts
+reads_alike q text b [] takes plain = refl
+reads_alike q text b (t ∷ ts) takes plain = by_test (refusal (counting q text) b.part t.kind) refl (reads_alike q text (progress_after b t) ts takes)
+  where
+    by_test : (o : Option Reason) → refusal (counting q text) b.part t.kind ≡ o
+        → (rejects_marker (read_from (counting q text) (progress_after b t) ts).fault ≡ false → read_from q (progress_after b t) ts ≡ read_from (counting q text) (progress_after b t) ts)
+        → read_from q b (t ∷ ts) ≡ read_from (counting q text) b (t ∷ ts)
+    by_test (Some reason) is further =
+        let here : read_from (counting q text) b (t ∷ ts) ≡ after_test (counting q text) b t ts (Some reason) = read_from-test (counting q text) b t ts ∙ ap (after_test (counting q text) b t ts) is in
+        let other : is_about_result reason ≡ false = sym (ap (λ (r : Read). rejects_marker r.fault) here) ∙ plain in
+        let same : refusal q b.part t.kind ≡ Some reason = refusal_taking q text b.part t.kind takes (ap by_result is ∙ other) ∙ is in
+        read_from-test q b t ts ∙ ap (after_test q b t ts) same ∙ sym here
+    by_test None is further =
+        let here : read_from (counting q text) b (t ∷ ts) ≡ read_from (counting q text) (progress_after b t) ts = goes_on (counting q text) b t ts is in
+        let same : refusal q b.part t.kind ≡ None = refusal_taking q text b.part t.kind takes (ap by_result is) ∙ is in
+        goes_on q b t ts same ∙ further (sym (ap (λ (r : Read). rejects_marker r.fault) here) ∙ plain) ∙ sym here
+
+is_read_alike : (q : Profile) (text : List ℕ) (ts : List Token) → q.missing_result ≡ takes_the_marker → read q ts ≡ read (counting q text) ts → IsReadAlike q text ts
+is_read_alike q text ts takes same = record {
+  same = same;
+  written = ap (λ (r : Read). text_of q r.progress.games) same ∙ all_alike q text no_progress ts takes refl;
+}
+
+-- The marker that is rejected.
+
+-- no game is taken back
+length_with : (games : List Game) (to : Next) → (n : ℕ) × (length (progress_with games to).games ≡ length games + n)
+length_with games (going part) = (0, omega arith)
+length_with games (whole g) = (1, length-append games (g ∷ []))
+
+none_lost : (p : Profile) (b : Progress) (ts : List Token) → (n : ℕ) × (length (read_from p b ts).progress.games ≡ length b.games + n)
+none_lost p b [] = (0, omega arith)
+none_lost p b (t ∷ ts) =
+    subst (λ (r : Read). (n : ℕ) × (length r.progress.games ≡ length b.games + n)) (sym (read_from-test p b t ts)) (by_test (refusal p b.part t.kind) (none_lost p (progress_after b t) ts))
+  where
+    by_test : (o : Option Reason) → (n : ℕ) × (length (read_from p (progress_after b t) ts).progress.games ≡ length (progress_after b t).games + n)
+        → (n : ℕ) × (length (after_test p b t ts o).progress.games ≡ length b.games + n)
+    by_test (Some reason) others = (0, omega arith)
+    by_test None others =
+        let first = length_with b.games (next b.part t.kind) in
+        (first.0 + others.0, omega (arith, first.1, others.1))
+
+-- a game that a token finishes is there at the end
+game_stays : (p : Profile) (b : Progress) (t : Token) (ts : List Token) (g : Game) → next b.part t.kind ≡ whole g → length (read_from p (progress_after b t) ts).progress.games ≡ length b.games → ⊥
+game_stays p b t ts g is same =
+    let one : length (progress_after b t).games ≡ length b.games + 1 = ap (λ (to : Next). length (progress_with b.games to).games) is ∙ length-append b.games (g ∷ []) in
+    let others = none_lost p (progress_after b t) ts in
+    absurd (omega (arith, one, others.1, same))
+
+score_marker : (s : List ℕ) → is_score s ≡ true → (m : Marker) × (s ≡ marker_text m)
+score_marker s is = by_tests (bytes_eq s (codes "1-0")) (bytes_eq s (codes "0-1")) (bytes_eq s (codes "1/2-1/2")) refl refl refl is
+  where
+    by_tests : (a b c : Bool) → bytes_eq s (codes "1-0") ≡ a → bytes_eq s (codes "0-1") ≡ b → bytes_eq s (codes "1/2-1/2") ≡ c → (a || b || c) ≡ true
+        → (m : Marker) × (s ≡ marker_text m)
+    by_tests true b c first second third is = (WhiteWins, (bytes_eq-Decides s (codes "1-0")).0 first)
+    by_tests false true c first second third is = (BlackWins, (bytes_eq-Decides s (codes "0-1")).0 second)
+    by_tests false false true first second third is = (Draw, (bytes_eq-Decides s (codes "1/2-1/2")).0 third)
+    by_tests false false false first second third is = absurd (cc)
+
+-- each marker is one of the four
+one_of_four : (k : Kind) (text : List ℕ) → marker_of k ≡ Some text → (m : Marker) × (marker_of k ≡ Some (marker_text m))
+one_of_four tokens.asterisk text is = (Unknown, refl)
+one_of_four (tokens.symbol s) text is =
+    let score = score_of s text (is_score s) refl is in
+    let m = score_marker s score.0 in
+    (m.0, is ∙ ap Some (sym score.1 ∙ m.1))
+one_of_four _ text is = absurd (cc)
+
+-- only a marker is rejected for the Result
+abbrev is_harmless : Row → Bool
+is_harmless r = not (is_about_result r.reason && r.holds)
+
+by_row : (b : Bool) (reason : Reason) (rest : Option Reason) → (is_about_result reason && b) ≡ false → by_result rest ≡ false → by_result (or_else b reason rest) ≡ false
+by_row false reason rest plain further = further
+by_row true reason rest plain further = by_reason (is_about_result reason) plain
+  where
+    by_reason : (x : Bool) → (x && true) ≡ false → x ≡ false
+    by_reason true e = absurd (true≢false e)
+    by_reason false e = refl
+
+no_result : (rs : List Row) → IsTrue (list_all is_harmless rs) → by_result (first_holding rs) ≡ false
+no_result [] all = refl
+no_result (r ∷ rs) all =
+    let both = and_parts (is_harmless r) (list_all is_harmless rs) all in
+    by_row r.holds r.reason (first_holding rs) (not-true (is_about_result r.reason && r.holds) both.0) (no_result rs both.1)
+
+not_for_result : (p : Profile) (part : Part) (k : Kind) → marker_of k ≡ None → by_result (refusal p part k) ≡ false
+unfolding refusal
+not_for_result p part (tokens.refused r) none = refl
+not_for_result p part k none =
+    let outer = depth (levels_of_part part) == 0 in
+    ap (λ (other : Bool). by_result (first_holding (take 21 (rows p part k) ++ row ResultDiffers (is_outside_tag_pairs part && other && outer) ∷ drop 22 (rows p part k))))
+    (ap (other_if p.missing_result part.pairs) none)
+    ∙ ap (λ (x : Bool). by_result (first_holding (take 21 (rows p part k) ++ row ResultDiffers x ∷ drop 22 (rows p part k)))) (and_false (is_outside_tag_pairs part) outer)
+    ∙ no_result (take 21 (rows p part k) ++ row ResultDiffers false ∷ drop 22 (rows p part k)) refl
+
+marker_rejected : (q : Profile) (text : List ℕ) (part : Part) (k : Kind) → q.missing_result ≡ takes_the_marker → refusal (counting q text) part k ≡ Some ResultDiffers
+    → (m : Marker) × (marker_of k ≡ Some (marker_text m))
+marker_rejected q text part k takes is = by_marker (marker_of k) refl
+  where
+    by_marker : (o : Option (List ℕ)) → marker_of k ≡ o → (m : Marker) × (marker_of k ≡ Some (marker_text m))
+    by_marker (Some marker) some = one_of_four k marker some
+    by_marker None none = absurd (true≢false (sym (ap by_result is) ∙ not_for_result (counting q text) part k none))
+
+-- what `IsReadByItsMarker` says, from some progress on
+pub record FromThere (q : Profile) (b : Progress) (ts : List Token) (at : ℕ) : Type 0 where
+  pub front : List Token
+  pub token : Token
+  pub rest : List Token
+  pub cut : ts ≡ front ++ token ∷ rest
+  pub place : token.at ≡ at
+  pub marker : Marker
+  pub is_marker : marker_of token.kind ≡ Some (marker_text marker)
+  pub up_to_it : read_from q b (front ++ token ∷ []) ≡ read_from (counting q (marker_text marker)) b (front ++ token ∷ [])
+  pub rejected : length (read_from (counting q (marker_text marker)) b ts).progress.games ≡ length b.games
+      → read_from q b ts ≡ read_from (counting q (marker_text marker)) b ts
+
+-- at the marker itself
+module _ (q : Profile) (b : Progress) (t : Token) (m : Marker) (takes : q.missing_result ≡ takes_the_marker) (is : marker_of t.kind ≡ Some (marker_text m)) where
+  same_row : refusal (counting q (marker_text m)) b.part t.kind ≡ refusal q b.part t.kind
+  same_row = refusal_counting q (marker_text m) b.part t.kind takes (inr is)
+
+  pub up_to_marker : read_from q b (t ∷ []) ≡ read_from (counting q (marker_text m)) b (t ∷ [])
+  up_to_marker = by_test (refusal q b.part t.kind) refl
+    where
+      by_test : (o : Option Reason) → refusal q b.part t.kind ≡ o → read_from q b (t ∷ []) ≡ read_from (counting q (marker_text m)) b (t ∷ [])
+      by_test (Some reason) row =
+          read_from-test q b t [] ∙ ap (after_test q b t []) row
+          ∙ sym (read_from-test (counting q (marker_text m)) b t [] ∙ ap (after_test (counting q (marker_text m)) b t []) (same_row ∙ row))
+      by_test None row = goes_on q b t [] row ∙ sym (goes_on (counting q (marker_text m)) b t [] (same_row ∙ row))
+
+  pub marker_refused : (ts : List Token) → length (read_from (counting q (marker_text m)) b (t ∷ ts)).progress.games ≡ length b.games
+      → read_from q b (t ∷ ts) ≡ read_from (counting q (marker_text m)) b (t ∷ ts)
+  marker_refused ts none = by_test (refusal q b.part t.kind) refl
+    where
+      by_test : (o : Option Reason) → refusal q b.part t.kind ≡ o → read_from q b (t ∷ ts) ≡ read_from (counting q (marker_text m)) b (t ∷ ts)
+      by_test (Some reason) row =
+          read_from-test q b t ts ∙ ap (after_test q b t ts) row
+          ∙ sym (read_from-test (counting q (marker_text m)) b t ts ∙ ap (after_test (counting q (marker_text m)) b t ts) (same_row ∙ row))
+      by_test None row =
+          absurd (game_stays (counting q (marker_text m)) b t ts _ (marker_finishes q b.part t.kind (marker_text m) is row)
+          (ap (λ (r : Read). length r.progress.games) (sym (goes_on (counting q (marker_text m)) b t ts (same_row ∙ row))) ∙ none))
+
+-- at a token before it, which is no marker
+module _ (q : Profile) (b : Progress) (t : Token) (takes : q.missing_result ≡ takes_the_marker) (none : marker_of t.kind ≡ None) (free : refusal q b.part t.kind ≡ None) where
+  passes_counting : (m : Marker) (us : List Token) → read_from (counting q (marker_text m)) b (t ∷ us) ≡ read_from (counting q (marker_text m)) (progress_after b t) us
+  passes_counting m us = goes_on (counting q (marker_text m)) b t us (refusal_counting q (marker_text m) b.part t.kind takes (inl none) ∙ free)
+
+  pub same_count : length (progress_after b t).games ≡ length b.games
+  same_count = let to = no_marker_goes b.part t.kind none in ap (λ (to : Next). length (progress_with b.games to).games) to.1
+
+  pub one_before : (ts : List Token) (at : ℕ) → FromThere q (progress_after b t) ts at → FromThere q b (t ∷ ts) at
+  one_before ts at h = record {
+    front = t ∷ h.front;
+    token = h.token;
+    rest = h.rest;
+    cut = ap (λ (us : List Token). t ∷ us) h.cut;
+    place = h.place;
+    marker = h.marker;
+    is_marker = h.is_marker;
+    up_to_it = goes_on q b t (h.front ++ h.token ∷ []) free ∙ h.up_to_it ∙ sym (passes_counting h.marker (h.front ++ h.token ∷ []));
+    rejected = λ same.
+        goes_on q b t ts free
+        ∙ h.rejected (ap (λ (r : Read). length r.progress.games) (sym (passes_counting h.marker ts)) ∙ same ∙ sym same_count)
+        ∙ sym (passes_counting h.marker ts);
+  }
+
+-- where no game is finished, a token that passes is no marker
+not_a_marker : (p : Profile) (b : Progress) (t : Token) (ts : List Token) (o : Option (List ℕ)) → marker_of t.kind ≡ o → refusal p b.part t.kind ≡ None
+    → length (read_from p (progress_after b t) ts).progress.games ≡ length b.games → marker_of t.kind ≡ None
+not_a_marker p b t ts None is row there = is
+not_a_marker p b t ts (Some marker) is row there = absurd (game_stays p b t ts _ (marker_finishes p b.part t.kind marker is row) there)
+
+from_there : (q : Profile) (text : List ℕ) (b : Progress) (ts : List Token) (at : ℕ) → q.missing_result ≡ takes_the_marker
+    → (read_from (counting q text) b ts).fault ≡ Some (record { at = at; reason = ResultDiffers })
+    → length (read_from (counting q text) b ts).progress.games ≡ length b.games → FromThere q b ts at
+from_there q text b [] at takes fault same = absurd (cc)
+from_there q text b (t ∷ ts) at takes fault same = by_test (refusal (counting q text) b.part t.kind) refl (from_there q text (progress_after b t) ts at takes)
+  where
+    by_test : (o : Option Reason) → refusal (counting q text) b.part t.kind ≡ o
+        → ((read_from (counting q text) (progress_after b t) ts).fault ≡ Some (record { at = at; reason = ResultDiffers })
+        → length (read_from (counting q text) (progress_after b t) ts).progress.games ≡ length (progress_after b t).games → FromThere q (progress_after b t) ts at)
+        → FromThere q b (t ∷ ts) at
+    by_test (Some reason) row further =
+        let here : read_from (counting q text) b (t ∷ ts) ≡ after_test (counting q text) b t ts (Some reason) = read_from-test (counting q text) b t ts ∙ ap (after_test (counting q text) b t ts) row in
+        let f : Some (record { at = t.at; reason = reason }) ≡ Some (record { at = at; reason = ResultDiffers }) = ap (λ (r : Read). r.fault) (sym here) ∙ fault in
+        let place : t.at ≡ at = ap (λ (o : Option Fault). elim o [ None ↦ t.at | Some g ↦ g.at ]) f in
+        let why : reason ≡ ResultDiffers = ap (λ (o : Option Fault). elim o [ None ↦ reason | Some g ↦ g.reason ]) f in
+        let m = marker_rejected q text b.part t.kind takes (row ∙ ap Some why) in
+        record {
+          front = [];
+          token = t;
+          rest = ts;
+          cut = refl;
+          place = place;
+          marker = m.0;
+          is_marker = m.1;
+          up_to_it = up_to_marker q b t m.0 takes m.1;
+          rejected = marker_refused q b t m.0 takes m.1 ts;
+        }
+    by_test None row further =
+        let here : read_from (counting q text) b (t ∷ ts) ≡ read_from (counting q text) (progress_after b t) ts = goes_on (counting q text) b t ts row in
+        let free : refusal q b.part t.kind ≡ None = refusal_taking q text b.part t.kind takes (ap by_result row) ∙ row in
+        let same_there = ap (λ (r : Read). length r.progress.games) (sym here) ∙ same in
+        let none = not_a_marker (counting q text) b t ts (marker_of t.kind) refl row same_there in
+        one_before q b t takes none free ts at
+        (further (ap (λ (r : Read). r.fault) (sym here) ∙ fault) (same_there ∙ sym (same_count q b t takes none free)))
+
+pub missing_results : MissingResults
+missing_results = record {
+  alike = λ q text ts takes plain. is_read_alike q text ts takes (reads_alike q text no_progress ts takes plain);
+  by_its_marker = λ q text ts at takes fault none.
+      let h = from_there q text no_progress ts at takes fault (ap (length {A = Game}) none) in
+      record {
+        front = h.front;
+        token = h.token;
+        rest = h.rest;
+        cut = h.cut;
+        place = h.place;
+        marker = h.marker;
+        is_marker = h.is_marker;
+        up_to_it = is_read_alike q (marker_text h.marker) (h.front ++ h.token ∷ []) takes h.up_to_it;
+        rejected = λ same. is_read_alike q (marker_text h.marker) ts takes (h.rejected (ap (length {A = Game}) same));
+      };
+}
