@@ -33,6 +33,8 @@ pub record LastGame (p : Profile) (u : List ℕ) (given : List Token) : Type 0 w
   pub marker : Token
   pub finishes : FinishesGame p given marker
   pub tokens : tokens_of u ≡ given ++ marker ∷ record { at = length u; kind = tokens.end } ∷ []
+  pub passes : (read p (tokens_of u)).fault ≡ None
+  pub same : games_read p (tokens_of u) ≡ games_read p (given ++ marker ∷ [])
   pub ends : EndsAt marker.kind marker.at (length u)
 
 -- so it is if a converter has read all tokens but those that the end of the text gives

@@ -158,29 +158,35 @@ module _ (once : LexesOnce) (ends : GamesEndByMarker) (p : Profile) (c : Convert
   reads : read p (tokens_of u) ≡ read_from p (read p given).progress (coming l [])
   reads = ap (read p) left_over ∙ reads_behind p no_progress given (coming l []) stands.has_read.passes
 
-  finishes : (t : Token) (place : ℕ) → coming l [] ≡ t ∷ end_at place ∷ [] → FinishesGame p given t
+  -- a token that is left before the end finishes a game
+  record Finished (t : Token) : Type 0 where
+    game : FinishesGame p given t
+    passes : (read p (tokens_of u)).fault ≡ None
+    same : games_read p (tokens_of u) ≡ games_read p (given ++ t ∷ [])
+
+  finishes : (t : Token) (place : ℕ) → coming l [] ≡ t ∷ end_at place ∷ [] → Finished t
   finishes t place is = by_games (subst (AddsOne (games_read p given)) (sym reads) (left_games p (read p given).progress l))
     where
       cut : tokens_of u ≡ (given ++ t ∷ []) ++ end_at place ∷ []
       cut = left_over ∙ ap (λ ts. given ++ ts) is ∙ sym (append_assoc given (t ∷ []) (end_at place ∷ []))
 
-      by_games : AddsOne (games_read p given) (read p (tokens_of u)) → FinishesGame p given t
+      by_games : AddsOne (games_read p given) (read p (tokens_of u)) → Finished t
       by_games (inl same) = absurd (omega (arith, more, ap (length {A = Game}) same))
       by_games (inr (passes, (g, one))) =
           let before = passes_before p (given ++ t ∷ []) (end_at place ∷ []) (ap (λ ts. (read p ts).fault) (sym cut) ∙ passes) in
-          record {
-            passes = before;
-            game = g;
-            one_more = sym (ap (λ ts. games_read p ts) cut
-                ∙ ap (λ (r : Read). r.progress.games) (reads_behind p no_progress (given ++ t ∷ []) (end_at place ∷ []) before)
-                ∙ quiet_games p (read p (given ++ t ∷ [])).progress (end_at place ∷ []) (end, tt)) ∙ one;
-          }
+          let none_more : games_read p (tokens_of u) ≡ games_read p (given ++ t ∷ []) =
+          ap (λ ts. games_read p ts) cut
+          ∙ ap (λ (r : Read). r.progress.games) (reads_behind p no_progress (given ++ t ∷ []) (end_at place ∷ []) before)
+          ∙ quiet_games p (read p (given ++ t ∷ [])).progress (end_at place ∷ []) (end, tt) in
+          record { game = record { passes = before; game = g; one_more = sym none_more ∙ one }; passes = passes; same = none_more }
 
   last : (t : Token) → coming l [] ≡ t ∷ end_at l.count ∷ [] → EndsAt t.kind t.at (length u) → LastGame p u given
   last t is ends_there =
       record {
         marker = t;
-        finishes = finishes t l.count is;
+        finishes = (finishes t l.count is).game;
+        passes = (finishes t l.count is).passes;
+        same = (finishes t l.count is).same;
         tokens = left_over ∙ ap (λ ts. given ++ ts) is ∙ ap (λ n. given ++ t ∷ end_at n ∷ []) stands.lexer.count;
         ends = ends_there;
       }
@@ -189,7 +195,7 @@ module _ (once : LexesOnce) (ends : GamesEndByMarker) (p : Profile) (c : Convert
   of_symbol mode is =
       let text = l.held.text in
       let t : Token = token_at l.held.at (tokens.symbol (text ++ [])) in
-      let finished = finishes t l.count is in
+      let finished = (finishes t l.count is).game in
       let marker = (ends p given t finished).is_marker in
       let short = score_short (text ++ []) (score_of (text ++ []) finished.game.marker (is_score (text ++ [])) refl marker).0 in
       let longer = goes_on l.count l.held.at text (omega (arith, short, length-append text [])) in
@@ -202,7 +208,7 @@ module _ (once : LexesOnce) (ends : GamesEndByMarker) (p : Profile) (c : Convert
   by_left _ is (none ts q) =
       absurd (omega (arith, more, ap (λ (r : Read). length r.progress.games) reads, ap (length {A = Game}) (quiet_games p (read p given).progress (coming l []) (subst AreQuiet (sym is) q))))
   by_left _ is (glyph n) =
-      let finished = finishes (token_at l.held.at (tokens.glyph n)) l.count is in
+      let finished = (finishes (token_at l.held.at (tokens.glyph n)) l.count is).game in
       let marker = (ends p given (token_at l.held.at (tokens.glyph n)) finished).is_marker in
       absurd (cc)
   by_left _ is (symbol mode) = of_symbol mode is
