@@ -2,4 +2,5 @@
 pub mod ConversionToBuffer
 pub mod MoreBytesBehind
 pub mod PairsOnLines
+pub mod NextGames
 pub mod ZerosBehind

@@ -4,3 +4,4 @@ pub mod Positions
 pub mod Explanation
 pub mod TagAt
 pub mod TagScan
+pub mod NextGame

@@ -15,12 +15,14 @@ ghost use Rattle.std.specs.Prelude.{◌≡◌};
 ghost use Rattle.chess_text.specs.Fen.{read};
 ghost use Rattle.pgn_c.specs.Explanation.{explanation};
 ghost use Rattle.pgn_c.specs.Positions.{Normalizes, san_result};
+ghost use Rattle.pgn_c.specs.NextGame.{NextGameIn};
 ghost use Rattle.pgn_c.specs.Results.{Checks, Converts, ConvertsIn, mode_of, result_of};
 ghost use Rattle.pgn_c.specs.TagAt.{TagResult};
 
 mod buffer_sink;
 mod explanation;
 mod fen;
+mod game_result;
 mod next_game;
 mod pgn_result;
 mod san;
@@ -31,12 +33,13 @@ pub use crate::fen::PgnText;
 pub use crate::explanation::PgnExplanation;
 use crate::explanation::{explain, no_explanation};
 use crate::fen::{bad_text, put_fen};
-pub use crate::next_game::PgnGame;
+pub use crate::game_result::PgnGame;
+use crate::game_result::no_game;
 use crate::next_game::next_game;
 pub use crate::tag::PgnTag;
 use crate::tag::tag_at;
 pub use crate::pgn_result::PgnResult;
-use crate::pgn_result::{fault_result, no_mode, totals_result};
+use crate::pgn_result::{NO_MODE, fault_result, no_mode, totals_result};
 pub use crate::san::PgnMove;
 use crate::san::{name_move, no_position};
 use chess_text::read_fen;
@@ -126,6 +129,18 @@ pub extern "C" fn pgn_san(fen: &[u8], text: &[u8]) -> PgnMove
 }
 
 /// Converts the next game of a text, from the byte at `from` on, into the front of a buffer.
+///
+/// `from` is 0, the `end` of the game before, or another place between two games. Places count from
+/// the first byte of the text. The modes are those of `pgn_convert`. If `missing_result` is 0, a
+/// missing Result counts as `*`.
+///
+/// - Status 0: a game. The buffer has its export text. No byte behind the one at `end` decides that.
+/// - Status 1: a token of the game is rejected, whatever comes behind the text.
+/// - Status 2: the buffer is full.
+/// - Status 3: there is no such mode. Nothing was read or written.
+/// - Status 4: no game is left.
+/// - Status 5: the text ends inside a game. If it is whole, this is its fault.
+/// - Status 6: the place is not in the text, or above 2^62. Nothing was read or written.
 #[unsafe(no_mangle)]
 pub extern "C" fn pgn_next_game(
     text: &[u8],
@@ -133,8 +148,14 @@ pub extern "C" fn pgn_next_game(
     mode: u32,
     missing_result: u32,
     buffer: &mut [u8],
-) -> PgnGame {
-    next_game(text, from, mode, missing_result, buffer)
+) -> PgnGame
+    ensures { NextGameIn (mode_of mode) missing_result text.now from buffer.old buffer.new result }
+{
+    match mode {
+        0 => next_game(text, from, Mode::Full, missing_result, buffer),
+        1 => next_game(text, from, Mode::Reduced, missing_result, buffer),
+        _ => no_game(NO_MODE),
+    }
 }
 
 /// Finds the tag pair on the line of an export text that begins at a place (PGN 8.1).

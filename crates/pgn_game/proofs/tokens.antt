@@ -5,6 +5,7 @@ pub mod GamesInTurn
 pub mod GamesJoined
 pub mod GamesRestart
 pub mod LastTokens
+pub mod MarkerEndsGame
 pub mod MissingCountsAs
 pub mod NextGrows
 pub mod OneMoreToken
@@ -13,4 +14,6 @@ pub mod PutToAnswer
 pub mod SoundAtStart
 pub mod StepsAtEnd
 pub mod StepsInPiece
+pub mod SymbolsInText
+pub mod TextEndsGame
 pub mod WholeInput

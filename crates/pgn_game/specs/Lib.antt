@@ -40,5 +40,6 @@ pub mod Filled
 pub mod FixedPoint
 pub mod GamesRestart
 pub mod GamesJoined
+pub mod GameEnds
 pub mod MissingResults
 pub mod GameResult

@@ -1,6 +1,7 @@
 //! Laws of the definitions that the contracts cite. The functions do nothing.
 ghost use Rattle.pgn_game.specs.Laws as laws;
 ghost use Rattle.pgn_game.specs.GamesJoined as joined;
+ghost use Rattle.pgn_game.specs.GameEnds as ends;
 ghost use Rattle.pgn_game.specs.GamesRestart as restart;
 ghost use Rattle.pgn_game.specs.MovesAreLegal as legality;
 ghost use Rattle.pgn_game.specs.FixedPoint as fixed;
@@ -16,8 +17,8 @@ use chess_text::laws::{
 };
 use pgn_layout::laws::lines_keep_tokens;
 use pgn_lexer::laws::{
-    decided_is_prefix, numbers_are_symbols, texts_restart, tokens_are_sound, tokens_rise,
-    written_tokens_are_read_back,
+    decided_is_prefix, lexes_once, numbers_are_symbols, texts_restart, tokens_are_sound,
+    tokens_rise, written_tokens_are_read_back,
 };
 
 /// Output only grows: that for some tokens is a prefix of that for these and more.
@@ -46,6 +47,30 @@ pub fn games_restart()
 pub fn games_join()
     ensures { joined.GamesJoin }
 {}
+
+/// The token that finishes a game is its marker, and the Result of its tag section is that marker.
+///
+/// Behind it the output is that of whole games.
+pub fn games_end_by_marker()
+    ensures { ends.GamesEndByMarker }
+{}
+
+/// A game that the end of a text finishes ends there: its marker is the last token.
+///
+/// The end finishes one game at most.
+pub fn texts_end_behind_marker()
+    ensures { ends.TextsEndBehindMarker }
+{
+    lexes_once();
+    games_end_by_marker();
+}
+
+/// The output of a text without a fault is that of whole games.
+pub fn texts_end_between_games()
+    ensures { ends.TextsEndBetweenGames }
+{
+    tokens_rise();
+}
 
 /// By the grammar, a text spells exactly the games that are read, if no token is rejected.
 ///

@@ -86,7 +86,7 @@ no_fen_of : (m : List ℕ) → value_of (roster m) (codes "FEN") ≡ None
 unfolding roster
 no_fen_of m = refl
 
-result_of : (m : List ℕ) → value_of (roster m) (codes "Result") ≡ Some m
+pub result_of : (m : List ℕ) → value_of (roster m) (codes "Result") ≡ Some m
 unfolding roster
 result_of m = refl
 

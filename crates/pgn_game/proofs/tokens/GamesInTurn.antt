@@ -30,7 +30,7 @@ none_or_some : (o : Option Fault) (f : Fault) → o ≡ Some f → o ≡ None �
 none_or_some o f a b = cc
 
 -- tokens before those that pass do
-passes_before : (p : Profile) (ts us : List Token) → (read p (ts ++ us)).fault ≡ None → (read p ts).fault ≡ None
+pub passes_before : (p : Profile) (ts us : List Token) → (read p (ts ++ us)).fault ≡ None → (read p ts).fault ≡ None
 passes_before p ts us passes = by_fault (read p ts).fault refl
   where
     by_fault : (o : Option Fault) → (read p ts).fault ≡ o → (read p ts).fault ≡ None
@@ -39,7 +39,7 @@ passes_before p ts us passes = by_fault (read p ts).fault refl
         absurd (none_or_some _ f (ap (λ (r : Read). r.fault) (stops_from p no_progress ts us f is) ∙ is) passes)
 
 -- between games all that is due is the text of games
-due_between : (p : Profile) (b : Progress) → b.part ≡ no_part → written p b ≡ text_of p b.games
+pub due_between : (p : Profile) (b : Progress) → b.part ≡ no_part → written p b ≡ text_of p b.games
 due_between p b none =
     ap (λ part. written p (record { games = b.games; part = part })) none
     ∙ ap (λ l. text_of p b.games ++ l) (torn-none p.missing_result p.mode) ∙ append-nil (text_of p b.games)
@@ -48,7 +48,7 @@ not_one_more : (gs : List Game) (g : Game) → gs ≡ gs ++ g ∷ [] → ⊥
 not_one_more gs g e = absurd (omega (arith, ap (length {A = Game}) e, length-append gs (g ∷ [])))
 
 -- the token that finishes a game leaves no part of one
-none_behind : (p : Profile) (ts : List Token) (t : Token) (g : Game) → (read p (ts ++ t ∷ [])).fault ≡ None
+pub none_behind : (p : Profile) (ts : List Token) (t : Token) (g : Game) → (read p (ts ++ t ∷ [])).fault ≡ None
     → (read p (ts ++ t ∷ [])).progress.games ≡ (read p ts).progress.games ++ g ∷ [] → (read p (ts ++ t ∷ [])).progress.part ≡ no_part
 none_behind p ts t g passes one = by_test (refusal p (read p ts).progress.part t.kind) refl
   where
@@ -113,7 +113,7 @@ front_decided p u rest [] given none new a c fed = fed.empty refl ∙ none refl 
 front_decided p u rest (x ∷ xs) given none new a c fed = fed.decided (omega arith)
 
 -- the last of a list
-last_is : {A : Type 0} → (xs ys : List A) (x y : A) → xs ++ x ∷ [] ≡ ys ++ y ∷ [] → x ≡ y
+pub last_is : {A : Type 0} → (xs ys : List A) (x y : A) → xs ++ x ∷ [] ≡ ys ++ y ∷ [] → x ≡ y
 last_is [] [] x y e = cc
 last_is [] (z ∷ zs) x y e = absurd (omega (arith, ap length e, length-append zs (y ∷ [])))
 last_is (z ∷ zs) [] x y e = absurd (omega (arith, ap length e, length-append zs (x ∷ [])))

@@ -23,7 +23,7 @@ reads_on p b t ts o is = read_from-test p b t ts ∙ ap (after_test p b t ts) is
 
 -- ---- tokens that finish no game
 
-data IsQuiet : Kind → Type 0 where
+pub data IsQuiet : Kind → Type 0 where
   end : IsQuiet tokens.end
   word : (text : List ℕ) → IsQuiet (tokens.word text)
   close : IsQuiet tokens.comment_close
@@ -51,11 +51,11 @@ quiet_next b _ (word text) = at_word b.games b.part text b.part.stage
 quiet_next b _ close = at_close b.games b.part b.part.stage
 quiet_next b _ (refused r) = at_refused b.games b.part r b.part.stage
 
-abbrev AreQuiet : List Token → Type 0
+abbrev pub AreQuiet : List Token → Type 0
 AreQuiet [] = Unit {0}
 AreQuiet (t ∷ ts) = IsQuiet t.kind × AreQuiet ts
 
-quiet_games : (p : Profile) (b : Progress) (ts : List Token) → AreQuiet ts → (read_from p b ts).progress.games ≡ b.games
+pub quiet_games : (p : Profile) (b : Progress) (ts : List Token) → AreQuiet ts → (read_from p b ts).progress.games ≡ b.games
 quiet_games p b [] quiet = refl
 quiet_games p b (t ∷ ts) (here, rest) = by_test (refusal p b.part t.kind) refl (quiet_games p (progress_after b t) ts rest)
   where
@@ -134,7 +134,7 @@ last_torn p b place (tokens.refused r) last free = absurd (some-none free)
 last_torn p b place tokens.end last free = end_torn p b.games b.part.stage b.part.pairs b.part.name b.part.items free
 last_torn p b place _ last free = absurd last
 
-none_torn : (p : Profile) (b : Progress) (ts : List Token) → HasLast ts → (read_from p b ts).fault ≡ None → torn p (read_from p b ts).progress.part ≡ []
+pub none_torn : (p : Profile) (b : Progress) (ts : List Token) → HasLast ts → (read_from p b ts).fault ≡ None → torn p (read_from p b ts).progress.part ≡ []
 none_torn p b [] has passes = absurd has
 none_torn p b (t ∷ []) has passes =
     let free = first_passes p b t [] passes in

@@ -1,0 +1,355 @@
+-- What a conversion of one game finds, from the calls of the converter.
+use Rattle.std.proofs.Common.{◌≡◌, ℕ, ◌+◌, ◌-◌, ◌^◌, ◌<◌, ◌≤◌, Bool, true, false, List, [], ◌∷◌, ◌++◌, length, take, drop, replicate, Option, None, Some, Result, Ok, Err, refl, sym, ap, subst, ◌∙◌, append-nil, append_assoc, length-append, arith, bytes_eq, codes, ◌||◌, IsTrue, option_map, unwrap_or}
+use Rattle.std.proofs.lemmas.List.{length-take-le, take-append-drop, take_at}
+use Rattle.std.proofs.lemmas.Slice.Eq.{bytes_eq-Decides}
+use Rattle.std.proofs.Math.Seq.{take-append-add}
+use Rattle.std.proofs.KnownBytes.{Appends-trans}
+use Rattle.std.specs.Io.KnownBytes.{Appends}
+use Rattle.chess_rules.specs.declared.position.Parts.{Parts}
+use Rattle.pgn_layout.specs.Device.{Device, one_more}
+use Rattle.pgn_lexer.specs.Tokens as tokens
+use Rattle.pgn_lexer.specs.Tokens.{Kind, Token, EndsAt}
+use Rattle.pgn_lexer.specs.TokensOf.{tokens_of}
+use Rattle.pgn_lexer.specs.Standing.{coming}
+use Rattle.pgn_lexer.specs.Stands.{Follows, first, still}
+use Rattle.pgn_game.specs.declared.marker.Marker.{Marker}
+use Rattle.pgn_game.specs.declared.marker.Marker.TheVariants.{WhiteWins, BlackWins, Draw, Unknown}
+use Rattle.pgn_game.specs.declared.mode.Mode.{Mode}
+use Rattle.pgn_game.specs.declared.reason.Reason.{Reason}
+use Rattle.pgn_game.specs.declared.reason.Reason.TheVariants.{WriteFault, InputTooLong}
+use Rattle.pgn_game.specs.declared.reason.Fault.{Fault}
+use Rattle.pgn_game.specs.Markers.{marker_text}
+use Rattle.pgn_game.specs.Profile.{Profile, known_result}
+use Rattle.pgn_game.specs.Pairs.{value_of}
+use Rattle.pgn_game.specs.TagSection.{exported}
+use Rattle.pgn_game.specs.Game.{Game}
+use Rattle.pgn_game.specs.FaultTable.{is_score, marker_of}
+use Rattle.pgn_game.specs.Text.{game_text, text_of}
+use Rattle.pgn_game.specs.Progress.{read, due, position_at_fault}
+use Rattle.pgn_game.specs.Due.{Gains}
+use Rattle.pgn_game.specs.ConverterCalls.{Converter, FinishedGame, finished_game_of, finished_game_value, IsLast, Stands, StopsWriting, Stops, refused, unwritten, FedAll, FedGame, FedToFault, AreNext, StopsIn, at_token, too_long, Finishes, FinishesToFault, games_before, position_at_stop, refused_position, reported_position, CountsReason}
+use Rattle.pgn_game.specs.GamesRestart.{games_read, FinishesGame}
+use Rattle.pgn_game.specs.GameEnds.{EndsByMarker, GamesEndByMarker, LastGame, TextsEndBehindMarker, TextsEndBetweenGames}
+use Rattle.pgn_c.specs.declared.game_result.PgnGame.{PgnGame}
+use Rattle.pgn_c.specs.NextGame as next
+use Rattle.pgn_c.specs.NextGame.{AreKnown, NextOf, fault_result, game_result, nothing, profile_counting, status_for}
+
+-- ---- a marker
+
+-- the marker, and where it begins
+record Marks (k : Kind) (at end : ℕ) (text : List ℕ) : Type 0 where
+  marker : Marker
+  is_marker : text ≡ marker_text marker
+  place : end - length (marker_text marker) ≡ at
+
+of_score : (at end : ℕ) (s text : List ℕ) → (b : Bool) → is_score s ≡ b → marker_of (tokens.symbol s) ≡ Some text → end ≡ at + length s → Marks (tokens.symbol s) at end text
+of_score at end s text b is marker ends = by_tests (bytes_eq s (codes "1-0")) (bytes_eq s (codes "0-1")) (bytes_eq s (codes "1/2-1/2")) refl refl refl
+  where
+    here : (m : Marker) → s ≡ marker_text m → Marks (tokens.symbol s) at end text
+    here m same =
+        record {
+          marker = m;
+          is_marker = marks m same marker;
+          place = omega (arith, ends, ap (length {A = ℕ}) same);
+        }
+      where
+        marks : (m : Marker) → s ≡ marker_text m → marker_of (tokens.symbol s) ≡ Some text → text ≡ marker_text m
+        marks WhiteWins same marker = let e : Some (codes "1-0") ≡ Some text = sym (ap (λ l. marker_of (tokens.symbol l)) same) ∙ marker in cc
+        marks BlackWins same marker = let e : Some (codes "0-1") ≡ Some text = sym (ap (λ l. marker_of (tokens.symbol l)) same) ∙ marker in cc
+        marks Draw same marker = let e : Some (codes "1/2-1/2") ≡ Some text = sym (ap (λ l. marker_of (tokens.symbol l)) same) ∙ marker in cc
+        marks Unknown same marker = let e : None ≡ Some text = sym (ap (λ l. marker_of (tokens.symbol l)) same) ∙ marker in absurd (cc)
+
+    by_tests : (x y z : Bool) → bytes_eq s (codes "1-0") ≡ x → bytes_eq s (codes "0-1") ≡ y → bytes_eq s (codes "1/2-1/2") ≡ z → Marks (tokens.symbol s) at end text
+    by_tests true y z p q r = here WhiteWins ((bytes_eq-Decides s (codes "1-0")).0 p)
+    by_tests false true z p q r = here BlackWins ((bytes_eq-Decides s (codes "0-1")).0 q)
+    by_tests false false true p q r = here Draw ((bytes_eq-Decides s (codes "1/2-1/2")).0 r)
+    by_tests false false false p q r =
+        let score : is_score s ≡ false = cc (p, q, r) in
+        let e : None ≡ Some text = ap (λ (b : Bool). elim b [ true ↦ Some s | false ↦ None ]) (sym score) ∙ marker in absurd (cc)
+
+marks : (k : Kind) (at end : ℕ) (text : List ℕ) → marker_of k ≡ Some text → EndsAt k at end → Marks k at end text
+marks tokens.asterisk at end text marker ends = record { marker = Unknown; is_marker = (let e : Some (codes "*") ≡ Some text = marker in cc); place = omega (arith, ends) }
+marks (tokens.symbol s) at end text marker ends = of_score at end s text (is_score s) refl marker ends
+marks _ at end text marker ends = absurd (cc)
+
+-- the marker of a value of Result, as the code finds it
+pub marker_found : (r : Option Marker) (marker : Marker) → option_map marker_text r ≡ marker_of (tokens.symbol (marker_text marker)) → unwrap_or r Unknown ≡ marker
+marker_found (Some WhiteWins) WhiteWins e = refl
+marker_found (Some BlackWins) BlackWins e = refl
+marker_found (Some Draw) Draw e = refl
+marker_found None Unknown e = refl
+marker_found (Some Unknown) Unknown e = refl
+marker_found _ _ e = absurd (cc)
+
+-- ---- a write that fails
+
+-- more was read and written before
+writing_more : (p : Profile) (x y tokens : List Token) (at : ℕ) (a b c : Option (List ℕ)) → Gains p x y a b → StopsWriting p y tokens at b c → StopsWriting p x tokens at a c
+writing_more p x y tokens at a b c first more =
+    record {
+      front = more.front;
+      token = more.token;
+      rest = more.rest;
+      cut = more.cut;
+      place = more.place;
+      passes = more.passes;
+      text = first.text ++ more.text;
+      due_for = more.due_for ∙ ap (λ l. l ++ more.text) first.due_for ∙ append_assoc (due p x) first.text more.text;
+      count = length first.text + more.count;
+      least = omega (arith, more.least, ap (length {A = ℕ}) first.due_for, length-append (due p x) first.text);
+      short = omega (arith, more.short, length-append first.text more.text);
+      appended = subst (Appends a c) (sym (take-append-add first.text more.text more.count)) (Appends-trans a b c _ _ first.appended more.appended);
+    }
+
+-- ---- the converter
+
+module _ (mode : Mode) (missing : Marker) (u piece : List ℕ) (before : Option (List ℕ)) (laws : GamesEndByMarker) (between : TextsEndBetweenGames) where
+  abbrev p : Profile
+  p = profile_counting mode missing
+
+  abbrev s : List ℕ
+  s = u ++ piece
+
+  -- the value of Result that the converter has
+  value_is : (new : Converter) (game : Game) (text : List ℕ) → new.reading.profile ≡ p → new.just_finished ≡ Some (finished_game_of game)
+      → value_of (exported mode (marker_text missing) game.pairs) (codes "Result") ≡ Some text → finished_game_value new (codes "Result") ≡ Some text
+  value_is new game text profile finished is =
+      ap (λ (o : Option FinishedGame). elim o [ None ↦ None | Some done ↦ value_of (exported new.reading.profile.mode (known_result new.reading.profile.missing_result) done.pairs) (codes "Result") ]) finished
+      ∙ ap (λ (q : Profile). value_of (exported q.mode (known_result q.missing_result) game.pairs) (codes "Result")) profile ∙ is
+
+  still_none : (bs : List ℕ) → still None bs ≡ None
+  still_none [] = refl
+  still_none (b ∷ bs) = refl
+
+  none_still : still None piece ≡ None
+  none_still = still_none piece
+
+  position_is : (new : Converter) (f : Fault) → new.fault ≡ Some f → refused_position new ≡ reported_position new.reading f.reason
+  position_is new f kept = ap (λ (o : Option Fault). elim o [ None ↦ None | Some g ↦ reported_position new.reading g.reason ]) kept
+
+  whole_of : (read p (tokens_of s)).fault ≡ None → due p (tokens_of s) ≡ text_of p (games_read p (tokens_of s))
+  whole_of passes = between p s passes
+
+  none_or_some : (o : Option Fault) (f : Fault) → o ≡ Some f → o ≡ None → ⊥
+  none_or_some o f a b = cc
+
+  last_is : (xs ys : List Game) (x y : Game) → xs ++ x ∷ [] ≡ ys ++ y ∷ [] → x ≡ y
+  last_is [] [] x y e = cc
+  last_is [] (z ∷ zs) x y e = absurd (omega (arith, ap (length {A = Game}) e, length-append zs (y ∷ [])))
+  last_is (z ∷ zs) [] x y e = absurd (omega (arith, ap (length {A = Game}) e, length-append zs (x ∷ [])))
+  last_is (z ∷ zs) (w ∷ ws) x y e = last_is zs ws x y (cc)
+
+  -- what the code answers of a game just finished
+  abbrev Answered : Converter → ℕ → PgnGame → Type 0
+  Answered new end result = (game : Game) (marker : Marker) → new.just_finished ≡ Some (finished_game_of game)
+      → finished_game_value new (codes "Result") ≡ Some (marker_text marker) → result ≡ game_result game marker (end - length (marker_text marker)) end
+
+  -- the whole text of one game
+  whole_text : (ts : List Token) (game : Game) → due p ts ≡ text_of p (games_read p ts) → games_read p ts ≡ game ∷ [] → due p ts ≡ game_text p game
+  whole_text ts game whole one = whole ∙ ap (text_of p) one ∙ append-nil (game_text p game)
+
+  module _ (result : PgnGame) (after : Option (List ℕ)) where
+    -- a game that the bytes decide
+    pub game_fed : (new : Converter) (used n : ℕ) → used ≤ length piece → n ≡ length u + used → FedGame p u [] piece used new before after → Answered new n result
+        → NextOf p s piece result before after
+    game_fed new used n within count fed answer =
+        let finishes : FinishesGame p fed.tokens fed.marker =
+        record { passes = fed.stands.has_read.passes; game = fed.game; one_more = fed.one_game ∙ ap (λ gs. gs ++ fed.game ∷ []) (sym fed.no_game) } in
+        let law : EndsByMarker p fed.tokens fed.marker fed.game = laws p fed.tokens fed.marker finishes in
+        let ends : EndsAt fed.marker.kind fed.marker.at n = subst (EndsAt fed.marker.kind fed.marker.at) (sym count) fed.ends in
+        let mark : Marks fed.marker.kind fed.marker.at n fed.game.marker = marks fed.marker.kind fed.marker.at n fed.game.marker law.is_marker ends in
+        let is : result ≡ game_result fed.game mark.marker fed.marker.at n =
+        answer fed.game mark.marker fed.just_finished
+        (value_is new fed.game (marker_text mark.marker) fed.stands.has_read.profile fed.just_finished (law.result ∙ ap Some mark.is_marker))
+        ∙ ap (λ at. game_result fed.game mark.marker at n) mark.place in
+        let end : result.end ≡ n = ap (λ (r : PgnGame). r.end) is in
+        let ts : List Token = fed.tokens ++ fed.marker ∷ [] in
+        let front : List ℕ = u ++ take used piece in
+        let parts : s ≡ front ++ drop used piece =
+        ap (λ l. u ++ l) (sym (take-append-drop used piece)) ∙ sym (append_assoc u (take used piece) (drop used piece)) in
+        let size : length front ≡ n = omega (arith, length-append u (take used piece), length-take-le used piece within, count) in
+        next.game (record {
+          tokens = fed.tokens;
+          at = fed.marker;
+          marker = mark.marker;
+          game = fed.game;
+          first = (
+            coming new.lexer (drop used piece),
+            ap tokens_of parts ∙ fed.stands.lexer.tokens (drop used piece) (own (drop used piece)) ∙ append_assoc fed.tokens (fed.marker ∷ []) (coming new.lexer (drop used piece)),
+          );
+          none_before = fed.no_game;
+          passes = fed.stands.has_read.passes;
+          one_game = fed.one_game;
+          is_marker = mark.is_marker;
+          ends = subst (EndsAt fed.marker.kind fed.marker.at) (sym end) ends;
+          settled = λ behind more. by_rest (drop used piece) refl parts size end behind more;
+          wrote = subst (Appends before after) (sym fed.gains.due_for ∙ whole_text ts fed.game law.whole fed.one_game) fed.gains.appended;
+          is_result = is ∙ ap (λ m. game_result fed.game mark.marker fed.marker.at m) (sym end);
+        })
+      where
+        own : (bs : List ℕ) → Follows (first bs) bs
+        own [] = tt
+        own (b ∷ bs) = refl
+
+        by_rest : (rest : List ℕ) → drop used piece ≡ rest → s ≡ (u ++ take used piece) ++ drop used piece → length (u ++ take used piece) ≡ n → result.end ≡ n
+            → result.end < length s → (more : List ℕ) → (later : List Token) × (tokens_of (take (result.end + 1) s ++ more) ≡ (fed.tokens ++ fed.marker ∷ []) ++ later)
+        by_rest [] is parts size end behind more =
+            absurd (omega (arith, behind, end, size, ap (length {A = ℕ}) parts, length-append (u ++ take used piece) (drop used piece), ap (length {A = ℕ}) is))
+        by_rest (b ∷ bs) is parts size end behind more =
+            let front : List ℕ = u ++ take used piece in
+            let cut : s ≡ (front ++ b ∷ []) ++ bs = parts ∙ ap (λ l. front ++ l) is ∙ sym (append_assoc front (b ∷ []) bs) in
+            let taken : take (result.end + 1) s ≡ front ++ b ∷ [] =
+            ap (take (result.end + 1)) cut ∙ take_at (front ++ b ∷ []) bs (result.end + 1) (omega (arith, end, size, length-append front (b ∷ []))) in (
+              coming new.lexer (b ∷ more),
+              ap (λ l. tokens_of (l ++ more)) taken ∙ ap tokens_of (append_assoc front (b ∷ []) more)
+              ∙ fed.stands.lexer.tokens (b ∷ more) (subst (λ l. Follows (first l) (b ∷ more)) (sym is) refl),
+            )
+
+    -- a token that is rejected whatever comes, a write that failed, or a text that is too long
+    pub fault_fed : (new : Converter) (f : Fault)
+        → StopsIn u piece (λ fault. FedToFault p u None [] piece fault new.reading before after)
+        (λ front. (now : Converter) × FedAll p u None [] front now before after × (new.reading ≡ now.reading)) f
+        → new.fault ≡ Some f → result ≡ fault_result (status_for 1 f.reason) f (refused_position new) → NextOf p s piece result before after
+    fault_fed new f (at_token _ to) kept answer = by_stops f to.fed.stops (answer ∙ ap (fault_result (status_for 1 f.reason) f) (position_is new f kept ∙ to.position)) to.no_game
+      where
+        known : AreKnown s to.fed.tokens
+        known more = subst (λ b. AreNext s b to.fed.tokens) none_still to.fed.next more tt
+
+        by_stops : (g : Fault) (stops : Stops p [] to.fed.tokens before after g) → result ≡ fault_result (status_for 1 g.reason) g (position_at_stop stops) → games_before stops ≡ []
+            → NextOf p s piece result before after
+        by_stops g (refused _ fault gains) is none =
+            next.rejected (record {
+              fault = g;
+              tokens = to.fed.tokens;
+              known = known;
+              rejected = fault;
+              no_game = none;
+              wrote = subst (Appends before after) (sym gains.due_for) gains.appended;
+              is_result = is;
+            })
+        by_stops _ (unwritten at writing) is none =
+            next.full (record {
+              at = at;
+              tokens = to.fed.tokens;
+              first = let all = known [] in (all.0, ap tokens_of (sym (append-nil s)) ∙ all.1);
+              stops = writing;
+              is_result = is;
+            })
+    fault_fed new _ (too_long front rest cut place some (now, fed, same)) kept answer =
+        next.too_long (record {
+          bytes = u ++ front;
+          rest = rest;
+          cut = ap (λ l. u ++ l) cut ∙ sym (append_assoc u front rest);
+          long = place;
+          some = some;
+          tokens = fed.tokens;
+          known = λ more. (coming now.lexer more, fed.stands.lexer.tokens more (subst (λ b. Follows b more) (sym (still_none front)) tt));
+          passes = fed.stands.has_read.passes;
+          no_game = fed.no_game;
+          wrote = subst (Appends before after) (sym fed.gains.due_for) fed.gains.appended;
+          is_result = answer ∙ ap (fault_result 1 (record { at = 2 ^ 62; reason = InputTooLong })) (position_is new _ kept);
+        })
+
+    -- ---- the end of the text
+
+    module _ (mid : Converter) (middle : Option (List ℕ)) (fed : FedAll p u None [] piece mid before middle) where
+      stands : Stands p mid s None fed.tokens
+      stands = subst (λ b. Stands p mid s b fed.tokens) none_still fed.stands
+
+      known : AreKnown s fed.tokens
+      known more = (coming mid.lexer more, stands.lexer.tokens more tt)
+
+      -- what is written is due for all tokens
+      all_due : Gains p fed.tokens (tokens_of s) middle after → Appends before after (due p (tokens_of s))
+      all_due gains =
+          subst (Appends before after) (sym (gains.due_for ∙ ap (λ l. l ++ gains.text) fed.gains.due_for))
+          (Appends-trans before middle after _ _ fed.gains.appended gains.appended)
+
+      pub game_at_end : (new : Converter) (n : ℕ) → TextsEndBehindMarker → n ≡ length s → Finishes p s fed.tokens new true middle after → Answered new n result
+          → NextOf p s piece result before after
+      game_at_end new n law count fin answer =
+          let last = law p mid s fed.tokens stands (fin.game.0 refl) in
+          let game = last.finishes.game in
+          let ends_by : EndsByMarker p fed.tokens last.marker game = laws p fed.tokens last.marker last.finishes in
+          let ts : List Token = fed.tokens ++ last.marker ∷ [] in
+          let one : games_read p ts ≡ game ∷ [] = last.finishes.one_more ∙ ap (λ gs. gs ++ game ∷ []) fed.no_game in
+          let finished = fin.just_finished refl in
+          let held = subst (λ o. IsLast o (games_read p (tokens_of s))) finished.1 fin.has_read.just_finished in
+          let same : held.1 ≡ game = last_is held.0 [] held.1 game (sym held.2 ∙ last.same ∙ one) in
+          let just : new.just_finished ≡ Some (finished_game_of game) = finished.1 ∙ ap Some (held.3 ∙ ap finished_game_of same) in
+          let ends : EndsAt last.marker.kind last.marker.at n = subst (EndsAt last.marker.kind last.marker.at) (sym count) last.ends in
+          let mark : Marks last.marker.kind last.marker.at n game.marker = marks last.marker.kind last.marker.at n game.marker ends_by.is_marker ends in
+          let is : result ≡ game_result game mark.marker last.marker.at n =
+          answer game mark.marker just (value_is new game (marker_text mark.marker) fin.has_read.profile just (ends_by.result ∙ ap Some mark.is_marker))
+          ∙ ap (λ at. game_result game mark.marker at n) mark.place in
+          let end : result.end ≡ n = ap (λ (r : PgnGame). r.end) is in
+          next.game (record {
+            tokens = fed.tokens;
+            at = last.marker;
+            marker = mark.marker;
+            game = game;
+            first = (_, last.tokens);
+            none_before = fed.no_game;
+            passes = last.finishes.passes;
+            one_game = one;
+            is_marker = mark.is_marker;
+            ends = subst (EndsAt last.marker.kind last.marker.at) (sym end) ends;
+            settled = λ behind. absurd (omega (arith, behind, end, count));
+            wrote = subst (Appends before after) (whole_of fin.has_read.passes ∙ ap (text_of p) (last.same ∙ one) ∙ append-nil (game_text p game)) (all_due fin.gains);
+            is_result = is ∙ ap (λ m. game_result game mark.marker last.marker.at m) (sym end);
+          })
+
+      pub none_at_end : (new : Converter) → Finishes p s fed.tokens new false middle after → result ≡ nothing 4 → NextOf p s piece result before after
+      none_at_end new fin is =
+          let none : games_read p (tokens_of s) ≡ [] = by_games (games_read p (tokens_of s)) refl in
+          next.no_game (record {
+            passes = fin.has_read.passes;
+            no_game = none;
+            wrote = subst (Appends before after) (whole_of fin.has_read.passes ∙ ap (text_of p) none) (all_due fin.gains);
+            is_result = is;
+          })
+        where
+          by_games : (gs : List Game) → games_read p (tokens_of s) ≡ gs → games_read p (tokens_of s) ≡ []
+          by_games [] is = is
+          by_games (g ∷ gs) is =
+              let some : IsTrue false = fin.game.1 (omega (arith, ap (length {A = Game}) is, ap (length {A = Game}) fed.no_game)) in absurd (cc)
+
+      pub fault_at_end : (new : Converter) (f : Fault) → TextsEndBehindMarker → FinishesToFault p s fed.tokens new f middle after → new.fault ≡ Some f
+          → result ≡ fault_result (status_for 5 f.reason) f (refused_position new) → NextOf p s piece result before after
+      fault_at_end new f law fin kept answer = by_stops f fin.stops (answer ∙ ap (fault_result (status_for 5 f.reason) f) (position_is new f kept ∙ fin.position))
+        where
+          no_game : (g : Fault) → (read p (tokens_of s)).fault ≡ Some g → (gs : List Game) → games_read p (tokens_of s) ≡ gs → games_read p (tokens_of s) ≡ []
+          no_game g fault [] is = is
+          no_game g fault (h ∷ gs) is =
+              let last = law p mid s fed.tokens stands (omega (arith, ap (length {A = Game}) is, ap (length {A = Game}) fed.no_game)) in
+              absurd (none_or_some _ g fault last.passes)
+
+          by_stops : (g : Fault) (stops : Stops p fed.tokens (tokens_of s) middle after g) → result ≡ fault_result (status_for 5 g.reason) g (position_at_stop stops)
+              → NextOf p s piece result before after
+          by_stops g (refused _ fault gains) is =
+              next.needs_more (record {
+                fault = g;
+                tokens = fed.tokens;
+                known = known;
+                passes = fed.stands.has_read.passes;
+                none_yet = fed.no_game;
+                all_decided = fed.decided;
+                rejected = fault;
+                no_game = no_game g fault (games_read p (tokens_of s)) refl;
+                wrote = all_due gains;
+                is_result = is;
+              })
+          by_stops _ (unwritten at writing) is =
+              next.full (record {
+                at = at;
+                tokens = tokens_of s;
+                first = ([], sym (append-nil (tokens_of s)));
+                stops = writing_more p [] fed.tokens (tokens_of s) at before middle after fed.gains writing;
+                is_result = is;
+              })
+
+-- ---- a full buffer
+
+pub full_at_fault : (status : ℕ) (reason : Reason) (old new : ℕ) → (status ≡ 2 → ⊥) → CountsReason reason old new → status_for status reason ≡ 2 → new ≡ one_more old
+full_at_fault status WriteFault old new other counted is = counted
+full_at_fault status _ old new other counted is = absurd (other is)

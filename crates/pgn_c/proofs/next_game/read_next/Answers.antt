@@ -1,0 +1,73 @@
+use Rattle.std.proofs.Common.{◌≡◌, ℕ, Bool, Ok, Err, ◌++◌, length, drop, ap, sym, subst, ◌∙◌, arith, length-append}
+use Rattle.std.proofs.lemmas.List.{take_rest, length-drop}
+use Rattle.pgn_lexer.specs.WhiteSpace.{white_space}
+use Rattle.pgn_c.specs.NextGame.{NextOf, profile_counting}
+use Rattle.pgn_c.proofs.NextGames.{game_fed, fault_fed, game_at_end, none_at_end, fault_at_end}
+use Rattle.pgn_c.proofs.next_game.read_next.Goals as goal
+
+pub returns-in-Ok-Game-clause-next : goal.returns-in-Ok-Game-clause-next
+returns-in-Ok-Game-clause-next g c =
+    let is = c.in-Ok-Game.is ∙ ap Ok c.in-Ok-Game.field-0-is in
+    let feeds = rw (is, take_rest) at c.feed.ensures.feeds in
+    let used = rw (is, take_rest) at c.feed.ensures.used in
+    let begun = c.begin_at-converter.ensures in
+    let piece = drop c.args.from c.args.text.now in
+    let p = profile_counting c.args.mode c.args.missing in
+    subst (λ (b : Bool). NextOf p (white_space c.args.from b ++ piece) piece c.finished_game.result (g.W.Sink.taken c.args.out.now) (g.W.Sink.taken c.feed.new.out))
+    c.is_first_column-place.ensures
+    (game_fed c.args.mode c.args.missing _ piece _ c.games_end_by_marker.ensures c.texts_end_between_games.ensures _ _ c.feed.new.self _ _ used
+    (omega (arith, begun.count, begun.stands.lexer.count)) (feeds p _ _ _ (c.count_missing_result_as.ensures.stands _ _ _ begun.stands) tt) c.finished_game.ensures.game)
+
+pub returns-in-Ok-true-clause-next : goal.returns-in-Ok-true-clause-next
+returns-in-Ok-true-clause-next g c =
+    let feeds = rw (c.in-Ok-All.is ∙ ap Ok c.in-Ok-All.field-0-is, take_rest) at c.feed.ensures.feeds in
+    let ends = rw (c.in-Ok-true.is ∙ ap Ok c.in-Ok-true.field-0-test) at c.finish.ensures.ends in
+    let begun = c.begin_at-converter.ensures in
+    let piece = drop c.args.from c.args.text.now in
+    let p = profile_counting c.args.mode c.args.missing in
+    let fed = feeds p _ _ _ (c.count_missing_result_as.ensures.stands _ _ _ begun.stands) tt in
+    subst (λ (b : Bool). NextOf p (white_space c.args.from b ++ piece) piece c.finished_game-in-Ok-true.result (g.W.Sink.taken c.args.out.now) (g.W.Sink.taken c.finish.new.out))
+    c.is_first_column-place.ensures
+    (game_at_end c.args.mode c.args.missing _ piece _ c.games_end_by_marker.ensures c.texts_end_between_games.ensures _ _ c.feed.new.self _ fed c.finish.new.self _
+    c.texts_end_behind_marker.ensures
+    (omega (arith, begun.count, begun.stands.lexer.count, length-append (white_space c.args.from c.is_first_column-place.result) piece, length-drop c.args.from c.args.text.now))
+    (ends p _ _ _ fed.stands) c.finished_game-in-Ok-true.ensures.game)
+
+pub returns-in-Ok-false-clause-next : goal.returns-in-Ok-false-clause-next
+returns-in-Ok-false-clause-next g c =
+    let feeds = rw (c.in-Ok-All.is ∙ ap Ok c.in-Ok-All.field-0-is, take_rest) at c.feed.ensures.feeds in
+    let ends = rw (c.in-Ok-false.is ∙ ap Ok c.in-Ok-false.field-0-test) at c.finish.ensures.ends in
+    let begun = c.begin_at-converter.ensures in
+    let piece = drop c.args.from c.args.text.now in
+    let p = profile_counting c.args.mode c.args.missing in
+    let fed = feeds p _ _ _ (c.count_missing_result_as.ensures.stands _ _ _ begun.stands) tt in
+    subst (λ (b : Bool). NextOf p (white_space c.args.from b ++ piece) piece c.no_game.result (g.W.Sink.taken c.args.out.now) (g.W.Sink.taken c.finish.new.out))
+    c.is_first_column-place.ensures
+    (none_at_end c.args.mode c.args.missing _ piece _ c.games_end_by_marker.ensures c.texts_end_between_games.ensures _ _ c.feed.new.self _ fed c.finish.new.self
+    (ends p _ _ _ fed.stands) c.no_game.ensures)
+
+pub returns-in-Err-finish-clause-next : goal.returns-in-Err-finish-clause-next
+returns-in-Err-finish-clause-next g c =
+    let feeds = rw (c.in-Ok-All.is ∙ ap Ok c.in-Ok-All.field-0-is, take_rest) at c.feed.ensures.feeds in
+    let ends = rw c.in-Err-finish.is at c.finish.ensures.ends in
+    let kept = rw c.in-Err-finish.is at c.finish.ensures.fault in
+    let begun = c.begin_at-converter.ensures in
+    let piece = drop c.args.from c.args.text.now in
+    let p = profile_counting c.args.mode c.args.missing in
+    let fed = feeds p _ _ _ (c.count_missing_result_as.ensures.stands _ _ _ begun.stands) tt in
+    subst (λ (b : Bool). NextOf p (white_space c.args.from b ++ piece) piece c.refused_game.result (g.W.Sink.taken c.args.out.now) (g.W.Sink.taken c.finish.new.out))
+    c.is_first_column-place.ensures
+    (fault_at_end c.args.mode c.args.missing _ piece _ c.games_end_by_marker.ensures c.texts_end_between_games.ensures _ _ c.feed.new.self _ fed c.finish.new.self _
+    c.texts_end_behind_marker.ensures (ends p _ _ _ fed.stands) kept c.refused_game.ensures)
+
+pub returns-in-Err-clause-next : goal.returns-in-Err-clause-next
+returns-in-Err-clause-next g c =
+    let feeds = rw (c.in-Err.is, take_rest) at c.feed.ensures.feeds in
+    let kept = rw c.in-Err.is at c.feed.ensures.fault in
+    let begun = c.begin_at-converter.ensures in
+    let piece = drop c.args.from c.args.text.now in
+    let p = profile_counting c.args.mode c.args.missing in
+    subst (λ (b : Bool). NextOf p (white_space c.args.from b ++ piece) piece c.refused_game-in-Err.result (g.W.Sink.taken c.args.out.now) (g.W.Sink.taken c.feed.new.out))
+    c.is_first_column-place.ensures
+    (fault_fed c.args.mode c.args.missing _ piece _ c.games_end_by_marker.ensures c.texts_end_between_games.ensures _ _ c.feed.new.self _
+    (feeds p _ _ _ (c.count_missing_result_as.ensures.stands _ _ _ begun.stands) tt) kept c.refused_game-in-Err.ensures)

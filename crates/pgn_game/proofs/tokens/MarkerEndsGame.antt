@@ -1,0 +1,164 @@
+-- The token that finishes a game is its marker, which is the Result of its tag section.
+use Rattle.std.proofs.Common.{◌≡◌, ℕ, Bool, true, false, ◌&&◌, not, nat_le, List, [], ◌∷◌, ◌++◌, Option, None, Some, refl, sym, ap, subst, ◌∙◌, arith, ◌==◌, bytes_eq, codes, unwrap_or, IsTrue, IsFalse}
+use Rattle.std.proofs.lemmas.Bool.{not-false}
+use Rattle.std.proofs.lemmas.Bool.Decides.{nat_tests}
+use Rattle.std.proofs.lemmas.Slice.Eq.{bytes_eq-Decides}
+use Rattle.pgn_lexer.specs.Tokens as tokens
+use Rattle.pgn_game.proofs.Words.{Kind, Token, Reason, MarkerInVariation, ResultDiffers, SetUpWithoutFen, Stage, Between, AfterLeftBracket, AfterName, AfterValue, AfterTags, InMovetext, Profile, value_of, Game, Part}
+use Rattle.pgn_game.specs.FaultTable.{refusal, marker_of, is_comment, levels_of_part, lacks_fen, result_for}
+use Rattle.pgn_game.specs.Levels.{depth}
+use Rattle.pgn_game.specs.TokenInMovetext.{text_refusal}
+use Rattle.pgn_game.specs.TagSection.{exported}
+use Rattle.pgn_game.specs.Progress.{Next, going, whole, next, next_in, in_text, items_of, at_stage, Progress, progress_with, Read, read}
+use Rattle.pgn_game.specs.GamesRestart.{games_read, FinishesGame}
+use Rattle.pgn_game.specs.GameEnds.{EndsByMarker, GamesEndByMarker}
+use Rattle.pgn_game.proofs.exporting.PairsExportedAgain.{result_of}
+use Rattle.pgn_game.proofs.pairs.ExportedValues.{exported_known}
+use Rattle.pgn_game.proofs.refusals.RefusalsByStage.{is_textual, is_lexical, after_tags, between, rest_passed, test_failed, text_row}
+use Rattle.pgn_game.proofs.refusals.RefusalsInMovetext.{marker_refusal, other_if}
+use Rattle.pgn_game.proofs.tokens.GamesInTurn.{due_between, last_is, none_behind, passes_before}
+use Rattle.pgn_game.proofs.tokens.OneMoreToken.{read-passes, read-refuses}
+
+-- ---- Where a game is finished
+
+-- what a token leads to where no game is finished, or the marker of the game
+abbrev Leads : Kind → Part → Next → Type 0
+Leads k part (going to) = Unit {0}
+Leads k part (whole g) = (marker_of k ≡ Some g.marker) × (g.pairs ≡ part.pairs)
+
+text_leads : (part : Part) (k : Kind) → Leads k part (in_text part k)
+text_leads part tokens.asterisk = (refl, refl)
+text_leads part (tokens.symbol s) = by_marker (marker_of (tokens.symbol s)) refl
+  where
+    by_marker : (o : Option (List ℕ)) → marker_of (tokens.symbol s) ≡ o → Leads (tokens.symbol s) part (elim o [
+      | Some marker ↦ whole (record { pairs = part.pairs; items = part.items; marker = marker })
+      | None ↦ going (record { stage = InMovetext; pairs = part.pairs; name = part.name; items = part.items ++ items_of part (tokens.symbol s) })
+    ])
+    by_marker (Some marker) is = (is, refl)
+    by_marker None is = tt
+text_leads part _ = tt
+
+leads_in : (stage : Stage) (part : Part) (k : Kind) → Leads k part (next_in stage part k)
+leads_in Between part tokens.left_bracket = tt
+leads_in Between part tokens.comment_open = tt
+leads_in Between part (tokens.word text) = tt
+leads_in Between part tokens.comment_close = tt
+leads_in Between part tokens.end = tt
+leads_in Between part k = text_leads part k
+leads_in AfterLeftBracket part (tokens.symbol name) = tt
+leads_in AfterLeftBracket part k = tt
+leads_in AfterName part (tokens.str value) = tt
+leads_in AfterName part k = tt
+leads_in AfterValue part tokens.right_bracket = tt
+leads_in AfterValue part k = tt
+leads_in AfterTags part tokens.left_bracket = tt
+leads_in AfterTags part k = text_leads part k
+leads_in InMovetext part k = text_leads part k
+
+-- inside a pair none is
+none_in_name : (part : Part) (k : Kind) (g : Game) → next_in AfterLeftBracket part k ≡ whole g → ⊥
+none_in_name part (tokens.symbol name) g e = absurd (cc)
+none_in_name part k g e = absurd (cc)
+
+none_in_value : (part : Part) (k : Kind) (g : Game) → next_in AfterName part k ≡ whole g → ⊥
+none_in_value part (tokens.str value) g e = absurd (cc)
+none_in_value part k g e = absurd (cc)
+
+none_behind_value : (part : Part) (k : Kind) (g : Game) → next_in AfterValue part k ≡ whole g → ⊥
+none_behind_value part tokens.right_bracket g e = absurd (cc)
+none_behind_value part k g e = absurd (cc)
+
+-- ---- What the table asks of a marker
+
+-- a marker is no comment, and neither a bracket, the end nor an error
+record IsPlain (k : Kind) : Type 0 where
+  textual : IsTrue (is_textual k)
+  bare : IsFalse (is_comment k)
+  sound : is_lexical k ≡ false
+
+plain : (k : Kind) (marker : List ℕ) → marker_of k ≡ Some marker → IsPlain k
+plain tokens.asterisk marker is = record { textual = refl; bare = refl; sound = refl }
+plain (tokens.symbol s) marker is = record { textual = refl; bare = refl; sound = refl }
+plain _ marker is = absurd (cc)
+
+-- it passes as in movetext
+passes_in_text : (p : Profile) (stage : Stage) (part : Part) (k : Kind) (g : Game) → IsPlain k → refusal p (at_stage stage part) k ≡ None → next_in stage part k ≡ whole g
+    → text_refusal p part k ≡ None
+passes_in_text p Between part k g is free leads =
+    sym (text_row p part k is.sound) ∙ sym (between p part k is.textual is.bare) ∙ free
+passes_in_text p AfterLeftBracket part k g is free leads = absurd (none_in_name part k g leads)
+passes_in_text p AfterName part k g is free leads = absurd (none_in_value part k g leads)
+passes_in_text p AfterValue part k g is free leads = absurd (none_behind_value part k g leads)
+passes_in_text p AfterTags part k g is free leads =
+    sym (text_row p part k is.sound) ∙ rest_passed (lacks_fen part.pairs) SetUpWithoutFen _ (sym (after_tags p part k is.textual) ∙ free)
+passes_in_text p InMovetext part k g is free leads = sym (text_row p part k is.sound) ∙ free
+
+no_one : (n : ℕ) → nat_le 1 n ≡ false → n ≡ 0
+no_one n e = grind (arith, nat_tests)
+
+at_zero : (b : Bool) (n : ℕ) → n ≡ 0 → (b && (n == 0)) ≡ false → b ≡ false
+at_zero true n e h = absurd (let zero_is : (n == 0) ≡ true = ap (λ x. x == 0) e in cc)
+at_zero false n e h = refl
+
+same_result : (p : Profile) (part : Part) (k : Kind) (marker : List ℕ) → marker_of k ≡ Some marker → text_refusal p part k ≡ None
+    → marker ≡ unwrap_or (value_of part.pairs (codes "Result")) (result_for p.missing_result marker)
+same_result p part k marker is free =
+    let rows = sym (marker_refusal p part k marker is) ∙ free in
+    let value = unwrap_or (value_of part.pairs (codes "Result")) (result_for p.missing_result marker) in
+    let deep = depth (levels_of_part part) in
+    let none : deep ≡ 0 = no_one deep (test_failed (nat_le 1 deep) MarkerInVariation _ rows) in
+    let same : not (bytes_eq marker value) ≡ false =
+    at_zero (not (bytes_eq marker value)) deep none
+    (test_failed (other_if p.missing_result part.pairs (Some marker) && (deep == 0)) ResultDiffers None
+    (rest_passed (nat_le 1 deep) MarkerInVariation _ rows)) in
+    (bytes_eq-Decides marker value).0 (not-false (bytes_eq marker value) same)
+
+-- ---- A game that was read
+
+none_or_some : {A : Type 0} (o : Option A) (x : A) → o ≡ Some x → o ≡ None → ⊥
+none_or_some o x a b = cc
+
+not_one_more : (gs : List Game) (g : Game) → gs ≡ gs ++ g ∷ [] → ⊥
+not_one_more [] g e = absurd (cc)
+not_one_more (h ∷ gs) g e = not_one_more gs g (cc)
+
+module _ (p : Profile) (given : List Token) (marker : Token) (finishes : FinishesGame p given marker) where
+  abbrev part : Part
+  part = (read p given).progress.part
+
+  before : (read p given).fault ≡ None
+  before = passes_before p given (marker ∷ []) finishes.passes
+
+  of_game : (g : Game) → refusal p part marker.kind ≡ None → next part marker.kind ≡ whole g → g ≡ finishes.game
+      → EndsByMarker p given marker finishes.game
+  of_game g free leads same =
+      let led : Leads marker.kind part (whole g) = subst (Leads marker.kind part) leads (leads_in part.stage part marker.kind) in
+      let kind : marker_of marker.kind ≡ Some finishes.game.marker = led.0 ∙ ap (λ (h : Game). Some h.marker) same in
+      let pairs = led.1 in
+      let text_free = passes_in_text p part.stage part marker.kind g (plain marker.kind g.marker led.0) free leads in
+      let result = same_result p part marker.kind finishes.game.marker kind text_free in
+      let known = result_for p.missing_result finishes.game.marker in
+      record {
+        is_marker = kind;
+        result = exported_known p.mode known finishes.game.pairs (codes "Result") known (result_of known)
+            ∙ ap (λ ps. Some (unwrap_or (value_of ps (codes "Result")) known)) (ap (λ (h : Game). h.pairs) (sym same) ∙ pairs)
+            ∙ ap Some (sym result);
+        whole = due_between p (read p (given ++ marker ∷ [])).progress (none_behind p given marker finishes.game finishes.passes finishes.one_more);
+      }
+
+  by_next : (nx : Next) → refusal p part marker.kind ≡ None → next part marker.kind ≡ nx
+      → (read p (given ++ marker ∷ [])).progress ≡ progress_with (games_read p given) nx → EndsByMarker p given marker finishes.game
+  by_next (going to) free leads after =
+      absurd (not_one_more (games_read p given) finishes.game (sym (ap (λ (b : Progress). b.games) after) ∙ finishes.one_more))
+  by_next (whole g) free leads after =
+      of_game g free leads
+      (last_is (games_read p given) (games_read p given) g finishes.game (sym (ap (λ (b : Progress). b.games) after) ∙ finishes.one_more))
+
+  by_test : (o : Option Reason) → refusal p part marker.kind ≡ o → EndsByMarker p given marker finishes.game
+  by_test (Some reason) is =
+      absurd (none_or_some _ _ (ap (λ (r : Read). r.fault) (read-refuses p given marker [] reason before is)) finishes.passes)
+  by_test None is =
+      by_next (next part marker.kind) is refl (ap (λ (r : Read). r.progress) (read-passes p given marker before is))
+
+pub games_end_by_marker : GamesEndByMarker
+games_end_by_marker p given marker finishes = by_test p given marker finishes (refusal p (read p given).progress.part marker.kind) refl
