@@ -42,4 +42,3 @@ pub mod GamesRestart
 pub mod GamesJoined
 pub mod GameEnds
 pub mod MissingResults
-pub mod GameResult

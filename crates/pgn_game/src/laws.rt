@@ -8,7 +8,6 @@ ghost use Rattle.pgn_game.specs.FixedPoint as fixed;
 ghost use Rattle.pgn_game.specs.UniqueReading as unique;
 ghost use Rattle.pgn_game.specs.EqualReadings as equal;
 ghost use Rattle.pgn_game.specs.MissingResults as missing;
-ghost use Rattle.pgn_game.specs.GameResult as results;
 
 use chess_rules::laws::a_legal_move_leaves_a_position;
 use chess_text::laws::{
@@ -101,13 +100,6 @@ pub fn interrupted_readings()
     decided_is_prefix();
     tokens_rise();
 }
-
-/// A token that finishes a game is a marker, and the Result in the tag section of the game.
-///
-/// So `Converter::tag` returns the marker that was read as the Result of a game just finished.
-pub fn games_end_with_results()
-    ensures { results.GamesEndWithResults }
-{}
 
 /// A missing Result that counts as a marker gives what one gives that takes the marker.
 ///

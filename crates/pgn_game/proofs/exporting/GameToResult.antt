@@ -1,4 +1,4 @@
--- A game ends with its Result.
+-- The Result of a game that a marker ends, and the four markers.
 use Rattle.std.proofs.Common.{◌≡◌, ℕ, Bool, true, false, ◌&&◌, ◌||◌, not, nat_le, ◌==◌, List, [], ◌∷◌, ◌++◌, length, take, drop, codes, bytes_eq, unwrap_or, Option, None, Some, is_some, suc, zero, refl, sym, ap, subst, ◌∙◌, length-append, true≢false, arith}
 use Rattle.std.specs.List.{list_all}
 use Rattle.std.proofs.lemmas.Bool.{le-leb}
@@ -16,7 +16,6 @@ use Rattle.pgn_game.specs.Levels.{depth}
 use Rattle.pgn_game.specs.FaultTable.{Row, row, rows, first_holding, refusal, in_name, is_marker, is_score, is_outside_tag_pairs, has_other_result, levels_of_part, marker_of}
 use Rattle.pgn_game.specs.Spells.{IsResult}
 use Rattle.pgn_game.specs.Progress.{Next, going, whole, at_stage, next, progress_with, Read, read}
-use Rattle.pgn_game.specs.GameResult.{EndsWithItsResult, GamesEndWithResults}
 use Rattle.pgn_game.specs.TokenInMovetext.{or_else}
 use Rattle.pgn_game.proofs.refusals.RefusalsInMovetext.{other_if, score_of}
 use Rattle.pgn_game.proofs.refusals.RefusalsByStage.{name_refusal, test_failed}
@@ -99,61 +98,3 @@ one_of_four (tokens.symbol s) text is =
     let m = score_marker s score.0 in
     (m.0, is ∙ ap Some (sym score.1 ∙ m.1))
 one_of_four _ text is = absurd (cc)
-
-roster_result : (m : List ℕ) → value_of (roster m) (codes "Result") ≡ Some m
-unfolding roster
-roster_result m = refl
-
--- A token that finishes a game is its marker.
-finished_by : (p : Profile) (part : Part) (k : Kind) (g : Game) → refusal p part k ≡ None → next part k ≡ whole g → EndsWithItsResult p k g
-finished_by p part k g free leads = by_marker (marker_of k) refl
-  where
-    by_marker : (o : Option (List ℕ)) → marker_of k ≡ o → EndsWithItsResult p k g
-    by_marker None none = let to = no_marker_goes part k none in let e : going to.0 ≡ whole g = sym to.1 ∙ leads in absurd (cc)
-    by_marker (Some m) some =
-        let e : whole (record { pairs = part.pairs; items = part.items; marker = m }) ≡ whole g = sym (marker_finishes p part k m some free) ∙ leads in
-        let same : record { pairs = part.pairs; items = part.items; marker = m } ≡ g = cc in
-        let four = one_of_four k m some in
-        let text : m ≡ marker_text four.0 = ap (λ (o : Option (List ℕ)). unwrap_or o []) (sym some ∙ four.1) in
-        let is = result_of p part k m some free in
-        subst (EndsWithItsResult p k) same
-        (record {
-          marker = four.0;
-          is_marker = four.1;
-          of_game = text;
-          value =
-              ap (λ (ps : List Pair). value_of ps (codes "Result")) (exported_result p.mode p.missing_result m part.pairs is)
-              ∙ exported_known p.mode m part.pairs (codes "Result") m (roster_result m)
-              ∙ ap Some (sym (given_result p.missing_result (value_of part.pairs (codes "Result")) m is));
-        })
-
--- Where one token more is not rejected, none before it is, and it is not.
-none_before : (p : Profile) (given : List Token) (t : Token) → (read p (given ++ t ∷ [])).fault ≡ None → (read p given).fault ≡ None
-none_before p given t passes = by_fault (read p given).fault refl
-  where
-    by_fault : (o : Option Fault) → (read p given).fault ≡ o → (read p given).fault ≡ None
-    by_fault None is = is
-    by_fault (Some f) is =
-        let e : Some f ≡ None = sym is ∙ sym (ap (λ (r : Read). r.fault) (stops_from p _ given (t ∷ []) f is)) ∙ passes in absurd (cc)
-
-it_passes : (p : Profile) (given : List Token) (t : Token) → (read p (given ++ t ∷ [])).fault ≡ None → refusal p (read p given).progress.part t.kind ≡ None
-it_passes p given t passes = by_test (refusal p (read p given).progress.part t.kind) refl
-  where
-    by_test : (o : Option Reason) → refusal p (read p given).progress.part t.kind ≡ o → refusal p (read p given).progress.part t.kind ≡ None
-    by_test None is = is
-    by_test (Some reason) is =
-        let e : Some (record { at = t.at; reason = reason }) ≡ None = sym (ap (λ (r : Read). r.fault) (read-refuses p given t [] reason (none_before p given t passes) is)) ∙ passes in
-        absurd (none-some _ (sym e))
-
--- the game that a token adds is the one that it leads to
-game_added : (games : List Game) (to : Next) (g : Game) → (progress_with games to).games ≡ games ++ g ∷ [] → to ≡ whole g
-game_added games (going part) g e = absurd (omega (arith, ap (length {A = Game}) e, length-append games (g ∷ [])))
-game_added games (whole x) g e = let same : x ∷ [] ≡ g ∷ [] = append_cancel_left games (x ∷ []) (g ∷ []) e in let is : x ≡ g = cc in ap whole is
-
-pub games_end_with_results : GamesEndWithResults
-games_end_with_results p given t f =
-    let b = (read p given).progress in
-    let free = it_passes p given t f.passes in
-    let reads = read-passes p given t (none_before p given t f.passes) free in
-    finished_by p b.part t.kind f.game free
-    (game_added b.games (next b.part t.kind) f.game (sym (ap (λ (r : Read). r.progress.games) reads) ∙ f.one_more))
