@@ -1,15 +1,15 @@
 -- The scan of a line finds the tag pair that is on it, and no other.
-use Rattle.std.proofs.Common.{◌≡◌, ◌≢◌, inl, inr, ℕ, zero, suc, ◌+◌, ◌≤◌, ◌<◌, Bool, true, false, cond, ◌&&◌, ◌||◌, List, [], ◌∷◌, ◌++◌, length, take, drop, refl, sym, ◌∙◌, ap, ap₂, subst, arith, append_assoc, length-append}
-use Rattle.std.specs.Prelude.{Option, None, Some, option_map, ◌==◌, nat_le, codes, if◌then◌else◌, MatchOption, IfSome}
+use Rattle.std.proofs.Common.{◌≡◌, ◌≢◌, inl, inr, ℕ, suc, ◌+◌, ◌≤◌, Bool, true, false, cond, ◌&&◌, ◌||◌, List, [], ◌∷◌, ◌++◌, length, drop, refl, sym, ◌∙◌, ap, ap₂, subst, arith, append_assoc, length-append}
+use Rattle.std.specs.Prelude.{Option, None, Some, ◌==◌, nat_le, codes, if◌then◌else◌, MatchOption, IfSome}
 use denote.Ref.{Bor}
-use Rattle.std.specs.List.{list_all, prefix_len}
+use Rattle.std.specs.List.{list_all}
 use Rattle.std.proofs.lemmas.Bool.{false≢true, and_parts, and_from, eqb-true, eq-eqb, leb-true, le-leb}
 use Rattle.std.proofs.lemmas.List.Prefix.{front_rest}
-use Rattle.pgn_layout.specs.TagLine.{needs_escape, escape_of, escaped, tag_line}
+use Rattle.pgn_layout.specs.TagLine.{needs_escape, escaped, tag_line}
 use Rattle.pgn_game.specs.FaultTable.{in_name}
 use Rattle.pgn_c.specs.declared.tag.PairLengths.{PairLengths}
 use Rattle.pgn_c.specs.declared.tag.PgnTag.{PgnTag}
-use Rattle.pgn_c.specs.TagAt.{BeginsWithTag, TagResult, tag_of, no_tag}
+use Rattle.pgn_c.specs.TagAt.{BeginsWithTag, TagResult, no_tag}
 use Rattle.pgn_c.specs.TagScan.{text_behind, name_length, one_more, length_to_quote, value_length, pair_to_end, pair_behind_value, pair_behind_quote, pair_behind_name, pair_behind_bracket, first_pair}
 
 -- ---- a front, and the text behind it

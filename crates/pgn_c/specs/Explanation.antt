@@ -1,5 +1,5 @@
 -- **Definition**: what a move's text means in a position, as C gets it.
-use Rattle.std.specs.Prelude.{ℕ, ◌+◌, ◌*◌, Bool, true, false, List, [], map, replicate, Option, Some, None, Result, Ok, Err}
+use Rattle.std.specs.Prelude.{ℕ, ◌+◌, ◌*◌, true, false, List, map, replicate, Option, Some, None, Result, Ok, Err}
 use Rattle.chess_rules.specs.declared.position.Parts.{Parts}
 use Rattle.chess_rules.specs.Square.{Square}
 use Rattle.chess_text.specs.declared.fen.FenFault.{FenFault}
