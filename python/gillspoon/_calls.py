@@ -1,0 +1,98 @@
+"""The calls on a single position: FEN and SAN."""
+import ctypes
+from typing import NamedTuple, Tuple
+
+from . import _library
+from ._faults import FenFault, MoveFault
+
+
+class Played(NamedTuple):
+    """A move that was played: its SAN, and the FEN of the position after it."""
+
+    san: str
+    fen: str
+
+
+class Explanation(NamedTuple):
+    """What the text of a move means in a position, by the rules of movement."""
+
+    piece: str
+    """The piece: `K`, `Q`, `R`, `B`, `N` or `P`."""
+    target: str
+    """The square it goes to, such as `e4`; with castling that of the king."""
+    castling: str
+    """`O-O` or `O-O-O` if the text says so, else empty."""
+    legal: Tuple[str, ...]
+    """The squares from which such a piece may go there."""
+    exposing: Tuple[str, ...]
+    """Those from which it could, but its own king would be in check."""
+
+
+def normalize_fen(fen: str) -> str:
+    """Returns the canonical text of a FEN (PGN 16.1); raises FenFault.
+
+    >>> normalize_fen("4k3/8/8/8/8/8/8/44K3 w - - 00 01")
+    Traceback (most recent call last):
+    gillspoon.FenFault: bad FEN, field 1: 4k3/8/8/8/8/8/8/44K3 w - - 00 01
+    >>> normalize_fen("4k3/44/8/8/8/8/8/4K3 w - - 00 01")
+    '4k3/8/8/8/8/8/8/4K3 w - - 0 1'
+    """
+    data = _data(fen, "a FEN")
+    buffer = ctypes.create_string_buffer(_library.LONGEST_FEN)
+    result = _library.normalize_fen(data, len(data), buffer, len(buffer))
+    if result.status != _library.OK:
+        raise FenFault(result.field, fen)
+    return buffer.raw[:result.length].decode("ascii")
+
+
+def san(fen: str, move: str) -> Played:
+    """Finds the one legal move that a text names in a position (PGN 8.2.3).
+
+    Returns its SAN, with its mark of check or mate, and the FEN after it. Raises FenFault for the
+    FEN, and MoveFault for the text.
+
+    >>> san("rnbqkbnr/pppppppp/8/8/8/8/PPPPPPPP/RNBQKBNR w KQkq - 0 1", "Ng1f3")
+    Played(san='Nf3', fen='rnbqkbnr/pppppppp/8/8/8/5N2/PPPPPPPP/RNBQKB1R b KQkq - 1 1')
+    """
+    position, text = _data(fen, "a FEN"), _data(move, "a move")
+    result = _library.san(position, len(position), text, len(text))
+    if result.status != _library.OK:
+        _refuse(result.fault, result.field, fen, move)
+    return Played(result.san.decode("ascii"), result.fen.decode("ascii"))
+
+
+def explain(fen: str, move: str) -> Explanation:
+    """Says what a text means in a position, also if it is rejected as a move.
+
+    Raises FenFault for the FEN, and MoveFault if the text has not the form of a move.
+
+    >>> explain("3k4/8/8/8/8/8/4R3/R3K3 w - - 0 1", "Rd1").legal
+    ('a1',)
+    >>> explain("4r2k/8/8/8/8/8/4R3/R3K3 w - - 0 1", "Rd2").exposing
+    ('e2',)
+    """
+    position, text = _data(fen, "a FEN"), _data(move, "a move")
+    result = _library.explain(position, len(position), text, len(text))
+    if result.status != _library.OK:
+        _refuse(result.fault, result.field, fen, move)
+    steps = bytes(result.origins)
+    return Explanation(
+        chr(result.piece), _square(result.target), ("", "", "O-O", "O-O-O")[result.form],
+        tuple(_square(at) for at, it in enumerate(steps) if it == 2),
+        tuple(_square(at) for at, it in enumerate(steps) if it == 1))
+
+
+def _data(text: str, what: str) -> bytes:
+    if not isinstance(text, str):
+        raise TypeError("%s is a str, not %s" % (what, type(text).__name__))
+    return text.encode("utf-8", "surrogateescape")
+
+
+def _refuse(number: int, field: int, fen: str, move: str) -> None:
+    if field:
+        raise FenFault(field, fen)
+    raise MoveFault(number, move, fen)
+
+
+def _square(index: int) -> str:
+    return "abcdefgh"[index % 8] + str(index // 8 + 1)

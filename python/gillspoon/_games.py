@@ -1,0 +1,301 @@
+"""The games of a source, one at a time."""
+import ctypes
+import re
+from typing import Callable, Iterator, Mapping, NamedTuple, Optional, Tuple
+
+from . import _calls, _library
+from ._faults import PgnFault
+from ._moves import Line, Ply, read_moves, read_tags, write_moves, write_tags
+from ._places import BYTE_ORDER_MARK
+from ._sections import BadGame, end_of
+from ._sources import Input, Source, Window
+
+INITIAL_FEN = "rnbqkbnr/pppppppp/8/8/8/8/PPPPPPPP/RNBQKBNR w KQkq - 0 1"
+OnFault = Callable[[PgnFault], object]
+# The first size of a buffer for the export text of a game.
+_CAPACITY = 1 << 16
+# What may be between two games and is whole: white space, and comments and escape lines that end.
+# Behind a line end a `%` begins an escape line, as it does at the start of a source.
+_BETWEEN = re.compile(
+    rb"(?:[\t-\r ]+|\{[^}]*\}|;[^\r\n]*[\r\n]|%(?<![^\r\n]%)[^\r\n]*[\r\n])*")
+_TEXT = re.compile(rb"[^\t-\r ]")
+
+
+class Totals(NamedTuple):
+    """How many games a source has, and how many plies these have without variations."""
+
+    games: int
+    plies: int
+
+
+class Game:
+    """A game: its export text, and what the library says of it.
+
+    >>> from gillspoon import games
+    >>> for game in games(b'[White "Ada"] 1. e4 {best} e5 1-0 [Result "1-0"] d4 1-0', checked=True):
+    ...     print(game.number, game.tags["White"], game.result, game.plies)
+    1 Ada 1-0 2
+    2 ? 1-0 1
+    """
+
+    __slots__ = ("number", "offset", "end", "result", "plies", "fen", "text", "_tags", "_moves")
+
+    def __init__(self, number: int, offset: int, end: int, result: str, plies: int, fen: str,
+                 text: bytes) -> None:
+        self.number = number
+        """The number of the game in its source, from 1; bad games count too."""
+        self.offset = offset
+        """How many bytes of the source are before the game and the comments before it."""
+        self.end = end
+        """How many bytes of the source there are up to its end, with its termination marker."""
+        self.result = result
+        """The result: `1-0`, `0-1`, `1/2-1/2` or `*`."""
+        self.plies = plies
+        """How many plies the game has, without variations."""
+        self.fen = fen
+        """The FEN of its last position."""
+        self.text = text
+        """The game in export format, with an empty line at its end."""
+        self._tags: "Optional[dict[str, str]]" = None
+        self._moves: Optional[Line] = None
+
+    def __repr__(self) -> str:
+        return "<Game %d at %d: %s - %s, %s, %d plies>" % (
+            self.number, self.offset, self.tags["White"], self.tags["Black"], self.result,
+            self.plies)
+
+    @property
+    def encoding(self) -> str:
+        """The encoding of its text: `utf-8` if the text is UTF-8, else `latin-1`."""
+        try:
+            self.text.decode("utf-8")
+        except UnicodeDecodeError:
+            return "latin-1"
+        return "utf-8"
+
+    @property
+    def tags(self) -> Mapping[str, str]:
+        """The tag pairs by their names, in the order of export format: the roster comes first."""
+        if self._tags is None:
+            self._tags = read_tags(self._parts()[0])
+        return self._tags
+
+    def mainline(self) -> Iterator[Ply]:
+        """The moves of the main line in turn.
+
+        >>> from gillspoon import games
+        >>> for ply in next(games(b"1. e4 (1. d4) e5 $1 *")).mainline():
+        ...     print(ply.number, ply.san, ply.nags, ply.fen)
+        1 e4 [] rnbqkbnr/pppppppp/8/8/4P3/8/PPPP1PPP/RNBQKBNR b KQkq e3 0 1
+        2 e5 [1] rnbqkbnr/pppp1ppp/8/4p3/4P3/8/PPPP1PPP/RNBQKBNR w KQkq e6 0 2
+        """
+        return iter(self.moves())
+
+    def moves(self) -> Line:
+        """The moves as a tree: each ply has its NAGs, its comments and its variations.
+
+        >>> from gillspoon import games
+        >>> line = next(games(b"1. e4 {best} (1. d4 d5) e5 *")).moves()
+        >>> line
+        Line(e4 e5)
+        >>> line.plies[0].comments, line.plies[0].variations
+        (['best'], [Line(d4 d5)])
+        """
+        if self._moves is None:
+            self._moves = read_moves(self._parts()[1], self._first_fen())
+        return self._moves
+
+    def position_at(self, ply: int) -> str:
+        """The FEN after so many plies of the main line; 0 is the first position.
+
+        Raises IndexError if the game has fewer plies.
+        """
+        if not 0 <= ply <= self.plies:
+            raise IndexError("the game has %d plies, and no position %d" % (self.plies, ply))
+        if ply == self.plies:
+            return self.fen
+        return self.moves().plies[ply - 1].fen if ply else self._first_fen()
+
+    def _first_fen(self) -> str:
+        fen = self.tags.get("FEN")
+        return INITIAL_FEN if fen is None else _calls.normalize_fen(fen)
+
+    def _parts(self) -> "Tuple[str, str]":
+        tags, _, moves = self.text.decode(self.encoding).partition("\n\n")
+        return tags, moves
+
+
+class _Reader:
+    """Reads a source game by game."""
+
+    def __init__(self, window: Window, checked: bool, reduced: bool) -> None:
+        self.window = window
+        self.mode = _library.REDUCED_FORMAT if reduced else _library.FULL_FORMAT
+        self.missing = _library.RESULT_FROM_MARKER if checked else _library.RESULT_UNKNOWN
+        # the number of the next game, and the offset from where it is read
+        self.number, self.at = 1, 0
+
+    def games(self, on_fault: Optional[OnFault]) -> Iterator[Game]:
+        """The games in turn; a fault is raised, or given to `on_fault`."""
+        window, size, call = self.window, _CAPACITY, _library.next_game
+        buffer, base, data = ctypes.create_string_buffer(size), window.base, window.data
+        length = 0
+        while True:
+            found = call(data, length, self.at - base, self.mode, self.missing, buffer, size)
+            status = found.status
+            if status == _library.OK and (found.end < length or window.is_whole):
+                yield self._game(found, ctypes.string_at(buffer, found.written))
+                continue
+            if status == _library.FULL:
+                size *= 2
+                buffer = ctypes.create_string_buffer(size)
+                continue
+            if status == _library.FAULT or status == _library.MORE and window.is_whole:
+                self._go_on(self._fault(found), on_fault)
+            elif window.is_whole:
+                return
+            else:
+                if status == _library.NO_GAME:
+                    self._skip_between()
+                window.more(self.at)
+            base, data = window.base, window.data
+            length = len(data)
+
+    def _game(self, found: _library.NextGame, text: bytes) -> Game:
+        base = self.window.base
+        game = Game(self.number, self._text_at(), base + found.end,
+                    _library.MARKERS[found.marker], found.plies, found.fen.decode("ascii"), text)
+        self.number, self.at = self.number + 1, base + found.end
+        return game
+
+    def _text_at(self) -> int:
+        """The offset of the first byte from `at` on that is no white space."""
+        begin = self.at - self.window.base
+        found = _TEXT.search(self.window.data, begin)
+        return self.window.base + found.start() if found else self.at
+
+    def _skip_between(self) -> None:
+        """Goes on behind white space, comments and escape lines that are whole.
+
+        There are no games in what is read, so there is nothing else from here on.
+        """
+        if self.at == 0 and self.window.data.startswith(BYTE_ORDER_MARK[:1]):
+            return
+        begin = self.at - self.window.base
+        found = _BETWEEN.match(self.window.data, begin)
+        self.at += found.end() - begin if found else 0
+
+    def _fault(self, found: _library.NextGame) -> PgnFault:
+        offset = self.window.base + found.place
+        line, column = self.window.place(offset)
+        reason = found.message[found.reason_at:].decode("ascii")
+        return PgnFault(found.fault, reason, offset, line, column, self.number,
+                        found.fen.decode("ascii") or None, self._text_at())
+
+    def _go_on(self, fault: PgnFault, on_fault: Optional[OnFault]) -> None:
+        """Goes on behind the game at fault, or raises the fault."""
+        if on_fault is None:
+            raise fault
+        window, bad = self.window, BadGame(fault.offset)
+        head = window.data[fault.begin - window.base:][:4]
+        end = end_of(bad, window.lines(self.at, lambda: bad.escapes_at))
+        at = window.base + len(window.data) if end is None else end
+        if at <= self.at and end is not None:
+            raise fault
+        # byte order marks of joined files are no game
+        if head[:max(at - fault.begin, 0)] not in (b"", BYTE_ORDER_MARK):
+            self.number += 1
+        self.at = at
+        fault.end = at
+        on_fault(fault)
+        if window.data[at - window.base:].startswith(BYTE_ORDER_MARK):
+            self.at += 3
+
+
+def games(source: Source, *, checked: bool = False, reduced: bool = False,
+          on_fault: Optional[OnFault] = None) -> Iterator[Game]:
+    """Reads the games of a source, one at a time.
+
+    A source is a path (`.gz`, `.bz2` and `.zst` are read through), bytes or an mmap, or a binary
+    file. Memory grows with the longest game, and not with the source.
+
+    `checked`: a game without a Result tag takes its termination marker. Else a missing Result
+    counts as `*`, and another marker is a fault.
+    `reduced`: the games have the roster and the main line alone. A FEN tag is then a fault.
+    `on_fault`: is called with each PgnFault, and reading goes on behind the bad game. Without it
+    the first fault is raised.
+
+    >>> text = b"1. e4 e5 2. Ke3 *\\n[White \\"Ada\\"] 1. d4 *"
+    >>> [game.plies for game in games(text, on_fault=print)]
+    line 1, column 13: move is not legal
+    [1]
+    """
+    return _each(Window(source), checked, reduced, on_fault)
+
+
+def _each(window: Window, checked: bool, reduced: bool,
+          on_fault: Optional[OnFault]) -> Iterator[Game]:
+    try:
+        yield from _Reader(window, checked, reduced).games(on_fault)
+    finally:
+        window.close()
+
+
+def check(source: Source, *, checked: bool = False) -> Totals:
+    """Counts the games of a source and their plies; raises PgnFault at the first fault.
+
+    >>> check(b"1. e4 (1. d4) e5 * 1. c4 *")
+    Totals(games=2, plies=3)
+    """
+    count = plies = 0
+    for game in games(source, checked=checked):
+        count, plies = count + 1, plies + game.plies
+    return Totals(count, plies)
+
+
+def convert(source: Source, *, checked: bool = False, reduced: bool = False) -> bytes:
+    """Returns the games of a source in export format; raises PgnFault at the first fault.
+
+    It holds the source and its export in memory: for more, write the `text` of `games`.
+
+    >>> print(convert(b"e4 e5 Nf3 *").decode().split("\\n\\n")[1])
+    1. e4 e5 2. Nf3 *
+    """
+    source = _all_of(source)
+    if not checked:
+        capacity = 2 * len(source) + 4096
+        while True:
+            buffer = ctypes.create_string_buffer(capacity)
+            mode = _library.REDUCED_FORMAT if reduced else _library.FULL_FORMAT
+            found = _library.convert(source, len(source), buffer, capacity, mode)
+            if found.status == _library.OK:
+                return ctypes.string_at(buffer, found.written)
+            if found.status == _library.FAULT:
+                break
+            capacity *= 2
+    # a fault is found again, with its game and its position
+    return b"".join(game.text for game in games(source, checked=checked, reduced=reduced))
+
+
+def _all_of(source: Source) -> bytes:
+    if isinstance(source, bytes):
+        return source
+    opened = Input(source)
+    try:
+        return b"".join(iter(lambda: opened.read(1 << 24), b""))
+    finally:
+        opened.close()
+
+
+def write_game(tags: Mapping[str, str], moves: Line, *, encoding: str = "utf-8") -> bytes:
+    """Returns a game in export format, of its tags and moves; raises PgnFault.
+
+    Its result is that of the Result tag, and `*` if there is none.
+
+    >>> from gillspoon import games
+    >>> game = next(games(b'[White "Ada"] 1. e4 {best} (1. d4) e5 *'))
+    >>> write_game(game.tags, game.moves()) == game.text
+    True
+    """
+    text = "%s\n%s %s\n" % (write_tags(tags), write_moves(moves), tags.get("Result", "*"))
+    return convert(text.encode(encoding))

@@ -1,0 +1,183 @@
+"""The shared library pgn_c: where it is, and its structs and calls, as crates/pgn_c/pgn.h has them.
+
+The file is the first of these that is there:
+
+1. what the environment variable GILLSPOON_LIBRARY names
+2. the one beside this module, where a wheel has it
+3. PREFIX/lib/libpgn_c.so, for a module in PREFIX/share/pgn_tool, where bin/install puts both
+4. cargo/out/target/release/libpgn_c.so of the repository that has this module
+
+Texts are passed as bytes, and a buffer as what ctypes.create_string_buffer makes. A call keeps to
+the conditions of the header, since both stay where they are while it runs.
+"""
+import ctypes
+import os
+import sys
+from typing import Callable
+
+VARIABLE = "GILLSPOON_LIBRARY"
+FILE = "libpgn_c.dylib" if sys.platform == "darwin" else "libpgn_c.so"
+_HERE = os.path.dirname(os.path.realpath(__file__))
+_ROOT = os.path.dirname(os.path.dirname(_HERE))
+
+# what the status of a result says
+OK, FAULT, FULL, NO_MODE, NO_GAME, MORE, BAD_PLACE = range(7)
+FULL_FORMAT, REDUCED_FORMAT = range(2)
+RESULT_UNKNOWN, RESULT_FROM_MARKER = range(2)
+# the text of a termination marker, by its number
+MARKERS = ("", "1-0", "0-1", "1/2-1/2", "*")
+# the most bytes of a FEN
+LONGEST_FEN = 93
+
+
+class Result(ctypes.Structure):
+    """struct pgn_result"""
+
+    status: int
+    fault: int
+    place: int
+    written: int
+    games: int
+    plies: int
+    reason_at: int
+    message: bytes
+    _fields_ = [
+        ("status", ctypes.c_uint32),
+        ("fault", ctypes.c_uint32),
+        ("place", ctypes.c_uint64),
+        ("written", ctypes.c_size_t),
+        ("games", ctypes.c_uint64),
+        ("plies", ctypes.c_uint64),
+        ("reason_at", ctypes.c_size_t),
+        ("message", ctypes.c_char * 104),
+    ]
+
+
+class Text(ctypes.Structure):
+    """struct pgn_text"""
+
+    status: int
+    field: int
+    length: int
+    _fields_ = [
+        ("status", ctypes.c_uint32),
+        ("field", ctypes.c_uint32),
+        ("length", ctypes.c_size_t),
+    ]
+
+
+class Move(ctypes.Structure):
+    """struct pgn_move"""
+
+    status: int
+    fault: int
+    field: int
+    san: bytes
+    fen: bytes
+    _fields_ = [
+        ("status", ctypes.c_uint32),
+        ("fault", ctypes.c_uint32),
+        ("field", ctypes.c_uint32),
+        ("san", ctypes.c_char * 8),
+        ("fen", ctypes.c_char * 96),
+    ]
+
+
+class NextGame(ctypes.Structure):
+    """struct pgn_game"""
+
+    status: int
+    fault: int
+    place: int
+    written: int
+    end: int
+    marker_at: int
+    plies: int
+    reason_at: int
+    marker: int
+    message: bytes
+    fen: bytes
+    _fields_ = [
+        ("status", ctypes.c_uint32),
+        ("fault", ctypes.c_uint32),
+        ("place", ctypes.c_uint64),
+        ("written", ctypes.c_size_t),
+        ("end", ctypes.c_size_t),
+        ("marker_at", ctypes.c_size_t),
+        ("plies", ctypes.c_uint64),
+        ("reason_at", ctypes.c_size_t),
+        ("marker", ctypes.c_uint32),
+        ("message", ctypes.c_char * 104),
+        ("fen", ctypes.c_char * 96),
+    ]
+
+
+class Explanation(ctypes.Structure):
+    """struct pgn_explanation"""
+
+    status: int
+    fault: int
+    field: int
+    form: int
+    piece: int
+    target: int
+    origins: "ctypes.Array[ctypes.c_uint8]"
+    _fields_ = [
+        ("status", ctypes.c_uint32),
+        ("fault", ctypes.c_uint32),
+        ("field", ctypes.c_uint32),
+        ("form", ctypes.c_uint32),
+        ("piece", ctypes.c_uint32),
+        ("target", ctypes.c_uint32),
+        ("origins", ctypes.c_uint8 * 64),
+    ]
+
+
+Buffer = ctypes.Array[ctypes.c_char]
+
+_TEXT = (ctypes.c_void_p, ctypes.c_size_t)
+_CALLS = {
+    "pgn_convert": (Result, (*_TEXT, *_TEXT, ctypes.c_uint32)),
+    "pgn_fen_normalize": (Text, (*_TEXT, *_TEXT)),
+    "pgn_san": (Move, (*_TEXT, *_TEXT)),
+    "pgn_next_game": (NextGame, (*_TEXT, ctypes.c_size_t, ctypes.c_uint32, ctypes.c_uint32,
+                                 *_TEXT)),
+    "pgn_explain": (Explanation, (*_TEXT, *_TEXT)),
+}
+_BUILD = "bin/build_library of the repository builds it, and pip install ./python puts it in a wheel"
+
+
+def path() -> str:
+    """The path of the shared library; raises ImportError, which says how to build it."""
+    named = os.environ.get(VARIABLE)
+    if named:
+        return named
+    places = (
+        os.path.join(_HERE, FILE),
+        os.path.join(_ROOT, "..", "lib", FILE),
+        os.path.join(_ROOT, "cargo", "out", "target", "release", FILE),
+    )
+    for place in places:
+        if os.path.exists(place):
+            return place
+    raise ImportError("gillspoon: there is no %s: %s" % (FILE, _BUILD))
+
+
+def _load() -> ctypes.CDLL:
+    file = path()
+    try:
+        library = ctypes.CDLL(file)
+        for name, (result, arguments) in _CALLS.items():
+            call = getattr(library, name)
+            call.restype, call.argtypes = result, arguments
+    except (OSError, AttributeError) as error:
+        raise ImportError("gillspoon: %s cannot be used (%s): %s" % (file, error, _BUILD)) from None
+    return library
+
+
+_library = _load()
+convert: Callable[[bytes, int, Buffer, int, int], Result] = _library.pgn_convert
+normalize_fen: Callable[[bytes, int, Buffer, int], Text] = _library.pgn_fen_normalize
+san: Callable[[bytes, int, bytes, int], Move] = _library.pgn_san
+next_game: Callable[[bytes, int, int, int, int, Buffer, int], NextGame] = _library.pgn_next_game
+explain: Callable[[bytes, int, bytes, int], Explanation] = _library.pgn_explain

@@ -1,0 +1,173 @@
+"""The moves of a game: read from its export text, and written again.
+
+Export text is a normal form, and what is read here is that form alone: docs/PROFILE.md has its
+grammar. The library has checked every move, so nothing is checked again.
+"""
+import re
+from typing import Iterator, List, Mapping, Optional, Tuple, Union
+
+from . import _calls
+
+Note = Union[int, str, "Line"]
+"""What may be beside a move: a NAG is an int, a comment is a str, a variation is a Line."""
+_WORD = re.compile("[^\t-\r ]+")
+
+
+class Ply:
+    """A move of a game, with the position after it and what is noted behind it."""
+
+    __slots__ = ("number", "san", "notes", "_before", "_fen")
+
+    def __init__(self, number: int, san: str, before: "Union[Ply, str]") -> None:
+        self.number = number
+        """How many plies of its game it is, from 1; in a variation that of the move it replaces."""
+        self.san = san
+        """The move in SAN, with its mark of check or mate: `Nf3`, `exd8=Q#`."""
+        self.notes: List[Note] = []
+        """NAGs, comments and variations behind the move, in order."""
+        self._before = before
+        self._fen: Optional[str] = None
+
+    def __repr__(self) -> str:
+        return "Ply(%d, %r)" % (self.number, self.san)
+
+    @property
+    def fen(self) -> str:
+        """The FEN of the position after the move."""
+        if self._fen is None:
+            plies, at = [], self
+            while at._fen is None:
+                plies.append(at)
+                if isinstance(at._before, str):
+                    break
+                at = at._before
+            for ply in reversed(plies):
+                before = ply._before
+                fen = before if isinstance(before, str) else before._fen
+                assert fen is not None
+                ply._fen = _calls.san(fen, ply.san).fen
+            assert self._fen is not None
+        return self._fen
+
+    @property
+    def nags(self) -> List[int]:
+        """The NAGs behind the move."""
+        return [it for it in self.notes if isinstance(it, int)]
+
+    @property
+    def comments(self) -> List[str]:
+        """The comments behind the move."""
+        return [it for it in self.notes if isinstance(it, str)]
+
+    @property
+    def variations(self) -> "List[Line]":
+        """The variations that replace the move."""
+        return [it for it in self.notes if isinstance(it, Line)]
+
+
+class Line:
+    """A line of play: the main line of a game, or a variation.
+
+    It is iterated over its plies.
+    """
+
+    __slots__ = ("notes", "plies", "start")
+
+    def __init__(self, start: "Union[Ply, str]") -> None:
+        self.notes: List[Note] = []
+        """NAGs and comments before the first move."""
+        self.plies: List[Ply] = []
+        """The moves of this line."""
+        self.start = start
+        """The move that comes before the line; where there is none, the FEN of its position."""
+
+    def __iter__(self) -> Iterator[Ply]:
+        return iter(self.plies)
+
+    def __len__(self) -> int:
+        return len(self.plies)
+
+    def __repr__(self) -> str:
+        return "Line(%s)" % " ".join(it.san for it in self.plies)
+
+    @property
+    def fen(self) -> str:
+        """The FEN of the position that the line begins from."""
+        return self.start if isinstance(self.start, str) else self.start.fen
+
+
+def read_moves(movetext: str, fen: str) -> Line:
+    """The moves of the movetext of a game in export format."""
+    words = movetext.replace("\n", " ").split(" ")
+    line, opened = Line(fen), []  # type: Line, List[Tuple[Line, int]]
+    before: Union[Ply, str] = fen
+    notes, number, at = line.notes, 0, 0
+    while True:
+        word = words[at]
+        at += 1
+        first = word[0]
+        if first in "abcdefghKQRBNO":
+            number += 1
+            before = Ply(number, word, before)
+            line.plies.append(before)
+            notes = before.notes
+        elif word[-1] == ".":
+            pass
+        elif first == "$":
+            notes.append(int(word[1:]))
+        elif first == "{":
+            end = words.index("}", at)
+            notes.append(" ".join(words[at:end]))
+            at = end + 1
+        elif first == "(":
+            opened.append((line, number))
+            last = line.plies[-1]
+            before, number = last._before, number - 1
+            line = Line(before)
+            last.notes.append(line)
+            notes = line.notes
+        elif first == ")":
+            line, number = opened.pop()
+            before = line.plies[-1]
+            notes = before.notes
+        else:
+            return line
+
+
+def write_moves(line: Line) -> str:
+    """The words of a line in import format, without a termination marker."""
+    words: List[str] = []
+    _put_notes(words, line.notes)
+    for ply in line.plies:
+        words.append(ply.san)
+        _put_notes(words, ply.notes)
+    return " ".join(words)
+
+
+def _put_notes(words: List[str], notes: List[Note]) -> None:
+    for note in notes:
+        if isinstance(note, int):
+            words.append("$%d" % note)
+        elif isinstance(note, str):
+            if "}" in note:
+                raise ValueError("a comment cannot have a closing brace: %r" % note)
+            words.extend(("{", *_WORD.findall(note), "}"))
+        else:
+            words.extend(("(", write_moves(note), ")"))
+
+
+def read_tags(section: str) -> "dict[str, str]":
+    """The names and values of the tag pairs of a game in export format, in order."""
+    tags = {}
+    for line in section.split("\n"):
+        name, _, value = line[1:-2].partition(' "')
+        if "\\" in value:
+            value = re.sub(r"\\(.)", r"\1", value)
+        tags[name] = value
+    return tags
+
+
+def write_tags(tags: Mapping[str, str]) -> str:
+    """The tag pairs, a line each."""
+    return "".join('[%s "%s"]\n' % (name, re.sub(r'(["\\])', r"\\\1", value))
+                   for name, value in tags.items())

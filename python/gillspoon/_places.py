@@ -1,0 +1,93 @@
+"""Lines and columns: where a byte of a text is, for people."""
+import re
+from codecs import getincrementaldecoder
+from typing import Tuple
+
+BYTE_ORDER_MARK = b"\xef\xbb\xbf"
+# How many bytes of a line behind a place are looked at for its encoding.
+NEAR = 1 << 12
+LINE_END = re.compile(rb"[\r\n]")
+# In UTF-8 these bytes go on with a character.
+_INSIDE = bytes(range(0x80, 0xC0))
+_Decoder = getincrementaldecoder("utf-8")
+
+
+class LineCounter:
+    """The line and the column of a place in a text that is read from its start on.
+
+    Lines end with LF, CR or both. A column is a character: of UTF-8 where the line is UTF-8, up to
+    a little behind the place, else of Latin-1. The bytes of a line end belong to their line, and a
+    byte order mark at the start of the text has no column of its own.
+
+    >>> counter = LineCounter()
+    >>> counter.feed(b"[White \\"M\\xc3\\xbc")
+    >>> counter.place(b"ller\\"]")
+    (1, 11)
+    """
+
+    def __init__(self) -> None:
+        self._line = 1
+        # of the current line: its bytes so far, those that begin a character, and whether it is UTF-8
+        self._bytes = self._characters = 0
+        self._is_utf8, self._decoder = True, _Decoder()
+        # what the next byte decides: the start of a byte order mark, or a CR
+        self._held, self._is_start = b"", True
+
+    def copy(self) -> "LineCounter":
+        """A counter at the same place, which goes on by itself."""
+        other = LineCounter()
+        other.__dict__.update(self.__dict__)
+        other._decoder = _Decoder()
+        other._decoder.setstate(self._decoder.getstate())
+        return other
+
+    def feed(self, text: bytes) -> None:
+        """Goes on to the place behind these bytes."""
+        text = self._held + text
+        self._held = b""
+        if self._is_start:
+            if len(text) < 3 and BYTE_ORDER_MARK.startswith(text):
+                self._held = text
+                return
+            self._is_start = False
+            text = text[3:] if text.startswith(BYTE_ORDER_MARK) else text
+        if text.endswith(b"\r"):
+            text, self._held = text[:-1], b"\r"
+        self._count(text)
+
+    def _count(self, text: bytes) -> None:
+        begin = max(text.rfind(b"\n"), text.rfind(b"\r")) + 1
+        if begin:
+            self._line += text.count(b"\n") + text.count(b"\r") - text.count(b"\r\n")
+            self._bytes = self._characters = 0
+            self._is_utf8, self._decoder = True, _Decoder()
+            text = text[begin:]
+        self._bytes += len(text)
+        self._characters += len(text.translate(None, _INSIDE))
+        self._is_utf8 = self._is_utf8 and self._decodes(text, False)
+
+    def _decodes(self, text: bytes, is_end: bool) -> bool:
+        try:
+            self._decoder.decode(text, is_end)
+        except UnicodeDecodeError:
+            return False
+        return True
+
+    def place(self, near: bytes) -> Tuple[int, int]:
+        """The line and the column, both from 1; `near` has the next bytes of the text.
+
+        These are NEAR bytes, or fewer at the end of the text or of the line.
+        """
+        end = self.copy()
+        held, end._held = end._held, b""
+        if end._is_start and (held + near).startswith(BYTE_ORDER_MARK):
+            return 1, 1
+        if held == b"\r" and not near.startswith(b"\n"):
+            return end._line + 1, 1
+        end._bytes += len(held)
+        end._characters += len(held.translate(None, _INSIDE))
+        rest = LINE_END.split(near[:NEAR], 1)[0]
+        if end._is_utf8 and end._decodes(held + rest, len(rest) < NEAR):
+            inside = 0x80 <= (near or b" ")[0] < 0xC0
+            return end._line, max(end._characters + 1 - inside, 1)
+        return end._line, end._bytes + 1

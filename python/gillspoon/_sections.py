@@ -1,0 +1,104 @@
+"""Where to go on behind a bad game: the next line that begins a tag section.
+
+docs/PYTHON.md has the rule in words. It is a guess, since a bad game says nothing sure of its end.
+"""
+import re
+from typing import Iterable, Match, Optional, Tuple
+
+# A line that begins with a bracket, also behind stray bytes that joined files have there; with the
+# name and the quote of a tag pair, if it has them. Words such as [%clk stand in comments.
+TAG_LINE = re.compile(
+    rb"(?:[\x00-\x20\x7f]|\xef\xbb\xbf)*?"
+    rb'((?:\xef\xbb\xbf)?\[(?![\t-\r ]*%)(?:[\t-\r ]*(\w+)[\t-\r ]*")?)')
+PAIRS = re.compile(
+    rb"[\x00-\x20\x7f\xef\xbb\xbf]*"
+    rb'(?:\[[\t-\r ]*\w+[\t-\r ]*"(?:[^"\\\r\n]|\\(?:["\\]|(?!["\\])))*"[\t-\r ]*\][\t-\r ]*)*')
+COMMENT = re.compile(rb"\{[^}]*(\}?)|;[^\r\n]*()")
+# A line that is movetext even without an empty line before it.
+MOVETEXT = re.compile(rb"^[\t-\r ]*[0-9]+[\t-\r ]*\.|(?:1-0|0-1|1/2-1/2|\*)[\t-\r ]*$")
+
+
+class BadGame:
+    """What the lines of a bad game had so far.
+
+    `fault` is the offset of its fault, and the first line begins where the game before ends.
+    """
+
+    def __init__(self, fault: int) -> None:
+        self.fault = fault
+        self.has_tags = self.has_movetext = self.in_comment = False
+        self.after_empty_line = True
+        self.escapes_at: Optional[int] = None
+        """Where the escape lines just before the next line begin."""
+
+    def end_before(self, at: int, line: bytes) -> Optional[int]:
+        """The offset where the bad game ends, if that is on this line or just before it, or None.
+
+        It ends before a tag line after movetext, also in a comment, which was probably never
+        closed. A game without movetext ends where an empty line and an Event tag follow, or an
+        empty line and any tag in a comment. Where only stray bytes were rejected before the tag
+        line, they alone are bad.
+        """
+        found = TAG_LINE.match(line)
+        if self.in_comment:
+            is_begin = found and found[2] and (self.has_movetext or self.after_empty_line)
+            return at + found.start(1) if found and is_begin else None
+        if not found:
+            # the end of a tag line whose begin is lost
+            is_rest = self.has_movetext and self.after_empty_line and line.rstrip().endswith(b"]")
+            return self._begin_of_escapes(at) if is_rest else None
+        tag_at = at + found.start(1)
+        if self.has_movetext or self.has_tags and self.after_empty_line and found[2] == b"Event":
+            return self._begin_of_escapes(tag_at)
+        return tag_at if not self.has_tags and self.fault <= tag_at else None
+
+    def _begin_of_escapes(self, at: int) -> int:
+        """Where the escape lines before an offset begin, which go with what follows."""
+        is_before = self.escapes_at is None or self.escapes_at <= self.fault
+        return at if self.escapes_at is None or is_before else self.escapes_at
+
+    def read(self, at: int, line: bytes) -> None:
+        """Takes a line of the bad game."""
+        if not line.strip():
+            self.after_empty_line = True
+        elif not self.in_comment and line.startswith(b"%"):
+            self.escapes_at = at if self.escapes_at is None else self.escapes_at
+        else:
+            self.escapes_at = None
+            self._read_text(line)
+
+    def _read_text(self, line: bytes) -> None:
+        found = None if self.in_comment else PAIRS.match(line)
+        pairs = found.end() if found else 0
+        outside = self._outside_comments(line[pairs:]).strip()
+        is_tag = b"[" in line[:pairs] or outside.startswith(b"[") or outside.endswith(b"]")
+        if outside.startswith(b"["):
+            outside = outside[outside.rfind(b"]") + 1:] if b"]" in outside else b""
+        elif outside.endswith(b"]"):
+            # the rest of a tag pair that is broken over lines
+            outside = b""
+        self.has_tags = self.has_tags or is_tag
+        if outside and (self.after_empty_line or MOVETEXT.search(outside)):
+            self.has_movetext = True
+        self.after_empty_line = False
+
+    def _outside_comments(self, text: bytes) -> bytes:
+        if self.in_comment:
+            _, closed, text = text.partition(b"}")
+            self.in_comment = not closed
+
+        def drop(found: Match[bytes]) -> bytes:
+            self.in_comment = found[0].startswith(b"{") and not found[1]
+            return b" "
+
+        return COMMENT.sub(drop, text)
+
+
+def end_of(bad: BadGame, lines: Iterable[Tuple[int, bytes]]) -> Optional[int]:
+    """The offset where a bad game ends, given its lines with their offsets; None: with the text."""
+    for at, line in lines:
+        end = bad.end_before(at, line)
+        if end is not None:
+            return end
+        bad.read(at, line)
+    return None

@@ -1,0 +1,250 @@
+"""The bytes of a source: a file, a compressed file, an open binary file, or bytes in memory."""
+import bz2
+import gzip
+import io
+import mmap
+import os
+import shutil
+import subprocess
+import zlib
+from typing import Any, BinaryIO, Callable, Iterator, Optional, Protocol, Tuple, Union
+
+from ._places import LINE_END, NEAR, LineCounter
+
+CHUNK = 1 << 20
+
+
+class Readable(Protocol):
+    """A binary file that is open for reading."""
+
+    def read(self, size: int, /) -> bytes:
+        """At most so many bytes; none at the end."""
+
+
+Data = Union[bytes, bytearray, memoryview, mmap.mmap]
+Source = Union[str, "os.PathLike[str]", Data, Readable]
+
+
+class Input:
+    """The bytes of a source, in turn. A file that it opened is closed at the end."""
+
+    def __init__(self, source: Source) -> None:
+        self._close: Callable[[], None] = _nothing
+        if isinstance(source, (bytes, bytearray, memoryview, mmap.mmap)):
+            self._read, self._close = _open_data(source)
+        elif isinstance(source, (str, os.PathLike)):
+            path = os.fspath(source)
+            self._read, self._close = _OPENERS.get(os.path.splitext(path)[1], _open_plain)(path)
+        else:
+            self._read = _reader_of_file(source)
+
+    def read(self, size: int) -> bytes:
+        """At least one byte and mostly at most so many; none at the end."""
+        return self._read(size)
+
+    def close(self) -> None:
+        """Closes what this opened; it may be called again."""
+        close, self._close = self._close, _nothing
+        close()
+
+    def __del__(self) -> None:
+        self.close()
+
+
+Opened = Tuple[Callable[[int], bytes], Callable[[], None]]
+
+
+def _nothing() -> None:
+    pass
+
+
+def _open_data(data: Data) -> Opened:
+    view, at = memoryview(data).cast("B"), 0
+
+    def read(size: int) -> bytes:
+        nonlocal at
+        begin, at = at, at + size
+        return bytes(view[begin:at])
+
+    return read, view.release
+
+
+def _reader_of_file(file: Any) -> Callable[[int], bytes]:
+    """How an open file is read: what a pipe has is taken as it comes."""
+    if isinstance(file, io.TextIOBase):
+        raise TypeError("the file is open as text: open it in binary mode, as in open(path, \"rb\")")
+    reader: Any = getattr(file, "read1", None) or getattr(file, "read", None)
+    if reader is None:
+        raise TypeError("a source is a path, bytes, an mmap or a binary file, not %s"
+                        % type(file).__name__)
+
+    def read(size: int) -> bytes:
+        data = reader(size)
+        if isinstance(data, str):
+            raise TypeError("the file gives text: open it in binary mode, as in open(path, \"rb\")")
+        if data is None:
+            raise BlockingIOError("the file has no bytes yet: open it in blocking mode")
+        return bytes(data)
+
+    return read
+
+
+def _open_plain(path: str) -> Opened:
+    file = open(path, "rb", buffering=0)
+    return _reader_of_file(file), file.close
+
+
+def _open_compressed(
+        open_file: "Callable[[str], Union[gzip.GzipFile, bz2.BZ2File]]") -> Callable[[str], Opened]:
+    """How a compressed file is opened, of which a bad or torn one is an OSError with its path."""
+    def opener(path: str) -> Opened:
+        file = open_file(path)
+
+        def read(size: int) -> bytes:
+            try:
+                return file.read(size)
+            except (EOFError, OSError, zlib.error) as error:
+                raise OSError("%s: %s" % (path, error)) from error
+
+        return read, file.close
+
+    return opener
+
+
+def _open_zstd(path: str) -> Opened:
+    """How a file of Zstandard is opened: by the program zstd, else by the module zstandard."""
+    program = shutil.which("zstd")
+    file = open(path, "rb", buffering=0)
+    try:
+        return _run_zstd(program, file, path) if program else _use_zstandard(file, path)
+    except BaseException:
+        file.close()
+        raise
+
+
+def _run_zstd(program: str, file: BinaryIO, path: str) -> Opened:
+    with file:
+        child = subprocess.Popen([program, "-dcq"], stdin=file, stdout=subprocess.PIPE,
+                                 stderr=subprocess.PIPE, bufsize=0)
+    assert child.stdout and child.stderr
+    out, errors = child.stdout, child.stderr
+
+    def read(size: int) -> bytes:
+        data = out.read(size)
+        if not data and child.wait():
+            said = errors.read().decode("utf-8", "replace").strip()
+            raise OSError("%s: %s" % (path, said or "zstd ended with status %d" % child.returncode))
+        return data
+
+    def close() -> None:
+        child.kill()
+        out.close()
+        errors.close()
+        child.wait()
+
+    return read, close
+
+
+def _use_zstandard(file: BinaryIO, path: str) -> Opened:
+    try:
+        import zstandard
+    except ImportError:
+        raise OSError("%s: needs the program zstd or the module zstandard" % path) from None
+    data = _frames(file, path, zstandard)
+    return lambda size: next(data, b""), file.close
+
+
+def _frames(file: BinaryIO, path: str, zstandard: Any) -> Iterator[bytes]:
+    """The data of all frames of a file of Zstandard, in pieces."""
+    frame = zstandard.ZstdDecompressor().decompressobj()
+    is_begun = False
+    for packed in iter(lambda: file.read(CHUNK // 8), b""):
+        while packed:
+            try:
+                data = frame.decompress(packed)
+            except zstandard.ZstdError as error:
+                raise OSError("%s: %s" % (path, error)) from error
+            is_begun, packed = not frame.eof, frame.unused_data
+            if frame.eof:
+                frame = zstandard.ZstdDecompressor().decompressobj()
+            if data:
+                yield data
+    if is_begun:
+        raise OSError("%s: the file ends inside a frame of Zstandard" % path)
+
+
+_OPENERS: "dict[str, Callable[[str], Opened]]" = {
+    ".gz": _open_compressed(gzip.GzipFile),
+    ".bz2": _open_compressed(bz2.BZ2File),
+    ".zst": _open_zstd,
+}
+
+
+class Window:
+    """The bytes of a source that are in memory: `data`, of which the first is at the offset `base`.
+
+    Offsets count from the first byte of the source.
+    """
+
+    def __init__(self, source: Source) -> None:
+        self._input = Input(source)
+        self._counter = LineCounter()
+        self.data, self.base, self.is_whole = b"", 0, False
+
+    def close(self) -> None:
+        """Closes what the source opened."""
+        self._input.close()
+
+    def more(self, keep: int) -> bool:
+        """Reads on, and lets go the bytes before an offset, but the one just before it.
+
+        It reads a chunk, or as much again as it keeps: so a game of any length is read in a few
+        rounds. False at the end of the source, when `is_whole` is set.
+        """
+        cut = max(keep - 1 - self.base, 0)
+        rest = self.data[cut:]
+        self._counter.feed(self.data[:cut])
+        self.data, self.base = rest, self.base + cut
+        if self.is_whole:
+            return False
+        parts, size, wanted = [rest], 0, len(rest) if len(rest) > CHUNK else 1
+        while size < wanted and not self.is_whole:
+            part = self._input.read(max(CHUNK, wanted - size))
+            self.is_whole = not part
+            parts.append(part)
+            size += len(part)
+        self.data = b"".join(parts)
+        return size > 0
+
+    def place(self, offset: int) -> Tuple[int, int]:
+        """The line and the column of an offset that is in memory."""
+        at = offset - self.base
+        while not LINE_END.search(self.data, at, at + NEAR) and len(self.data) - at < NEAR:
+            if not self.more(self.base + 1):
+                break
+        counter = self._counter.copy()
+        counter.feed(self.data[:at])
+        return counter.place(self.data[at:at + NEAR])
+
+    def lines(self, begin: int, keep: Callable[[], Optional[int]]) -> Iterator[Tuple[int, bytes]]:
+        """Yields (offset, line with its end) from an offset on; a very long line comes in parts.
+
+        Reading on keeps the bytes from the line on, or from the offset that `keep` gives.
+        """
+        at, seen = begin, 0
+        while True:
+            index = at - self.base
+            found = LINE_END.search(self.data, index + seen)
+            end = found.end() if found else len(self.data)
+            if found and self.data[end - 1:end + 1] == b"\r\n":
+                end += 1
+            is_cut = end == len(self.data) and not (found and self.data[end - 1:] == b"\n")
+            if is_cut and not self.is_whole and end - index < CHUNK:
+                kept = keep()
+                seen = max(end - index - 1, 0)
+                self.more(at if kept is None else min(at, kept))
+                continue
+            if end == index:
+                return
+            yield at, self.data[index:end]
+            at, seen = self.base + end, 0
