@@ -5,7 +5,8 @@ The file is the first of these that is there:
 1. what the environment variable GILLSPOON_LIBRARY names
 2. the one beside this module, where a wheel has it
 3. PREFIX/lib/libpgn_c.so, for a module in PREFIX/share/pgn_tool, where bin/install puts both
-4. cargo/out/target/release/libpgn_c.so of the repository that has this module
+4. what bin/build_program --library has built in the repository that has this module: by rt, else by
+   Cargo
 
 Texts are passed as bytes, and a buffer as what ctypes.create_string_buffer makes. A call keeps to
 the conditions of the header, since both stay where they are while it runs.
@@ -144,7 +145,7 @@ _CALLS = {
                                  *_TEXT)),
     "pgn_explain": (Explanation, (*_TEXT, *_TEXT)),
 }
-_BUILD = "bin/build_library of the repository builds it, and pip install ./python puts it in a wheel"
+_BUILD = "in the repository run bin/build_program --library, or pip install ./python"
 
 
 def path() -> str:
@@ -155,6 +156,8 @@ def path() -> str:
     places = (
         os.path.join(_HERE, FILE),
         os.path.join(_ROOT, "..", "lib", FILE),
+        os.path.join(_ROOT, "crates", "pgn_c", "out", FILE),
+        os.path.join(_ROOT, "cargo", "out", FILE),
         os.path.join(_ROOT, "cargo", "out", "target", "release", FILE),
     )
     for place in places:

@@ -1,12 +1,10 @@
-"""The bytes of a source: a file, a compressed file, an open binary file, or bytes in memory."""
-import bz2
-import gzip
+"""The bytes of a source: a file, a compressed file, an open binary file, or bytes in memory.
+
+What only compressed files need is imported when there is one, so that a script starts fast.
+"""
 import io
 import mmap
 import os
-import shutil
-import subprocess
-import zlib
 from typing import Any, BinaryIO, Callable, Iterator, Optional, Protocol, Tuple, Union
 
 from ._places import LINE_END, NEAR, LineCounter
@@ -94,25 +92,32 @@ def _open_plain(path: str) -> Opened:
     return _reader_of_file(file), file.close
 
 
-def _open_compressed(
-        open_file: "Callable[[str], Union[gzip.GzipFile, bz2.BZ2File]]") -> Callable[[str], Opened]:
-    """How a compressed file is opened, of which a bad or torn one is an OSError with its path."""
-    def opener(path: str) -> Opened:
-        file = open_file(path)
+def _open_gzip(path: str) -> Opened:
+    import gzip
+    return _open_compressed(gzip.GzipFile(path), path)
 
-        def read(size: int) -> bytes:
-            try:
-                return file.read(size)
-            except (EOFError, OSError, zlib.error) as error:
-                raise OSError("%s: %s" % (path, error)) from error
 
-        return read, file.close
+def _open_bzip2(path: str) -> Opened:
+    import bz2
+    return _open_compressed(bz2.BZ2File(path), path)
 
-    return opener
+
+def _open_compressed(file: Any, path: str) -> Opened:
+    """How a compressed file is read. One that is bad or cut off is an OSError with its path."""
+    import zlib
+
+    def read(size: int) -> bytes:
+        try:
+            return bytes(file.read(size))
+        except (EOFError, OSError, zlib.error) as error:
+            raise OSError("%s: %s" % (path, error)) from error
+
+    return read, file.close
 
 
 def _open_zstd(path: str) -> Opened:
     """How a file of Zstandard is opened: by the program zstd, else by the module zstandard."""
+    import shutil
     program = shutil.which("zstd")
     file = open(path, "rb", buffering=0)
     try:
@@ -123,6 +128,7 @@ def _open_zstd(path: str) -> Opened:
 
 
 def _run_zstd(program: str, file: BinaryIO, path: str) -> Opened:
+    import subprocess
     with file:
         child = subprocess.Popen([program, "-dcq"], stdin=file, stdout=subprocess.PIPE,
                                  stderr=subprocess.PIPE, bufsize=0)
@@ -174,8 +180,8 @@ def _frames(file: BinaryIO, path: str, zstandard: Any) -> Iterator[bytes]:
 
 
 _OPENERS: "dict[str, Callable[[str], Opened]]" = {
-    ".gz": _open_compressed(gzip.GzipFile),
-    ".bz2": _open_compressed(bz2.BZ2File),
+    ".gz": _open_gzip,
+    ".bz2": _open_bzip2,
     ".zst": _open_zstd,
 }
 

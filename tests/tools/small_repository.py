@@ -73,8 +73,9 @@ class Repository:
     def __init__(self, test, commands=("cargo", "rustc")):
         self.root = os.path.realpath(tempfile.mkdtemp())
         test.addCleanup(shutil.rmtree, self.root)
-        shutil.copytree(ROOT + "/bin", self.root + "/bin",
-                        ignore=shutil.ignore_patterns("__pycache__"))
+        for folder in ("bin", "python"):
+            shutil.copytree(ROOT + "/" + folder, self.root + "/" + folder,
+                            ignore=shutil.ignore_patterns("__pycache__"))
         self.write("bin/to_cargo", TO_CARGO)
         self.write("crates.txt", "# crates\n"
                    "pgn_tool: pgn_game std # more\npgn_game:\npgn_vectors: pgn_game\n"

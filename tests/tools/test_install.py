@@ -13,6 +13,7 @@ from programs import ROOT, run
 from small_repository import CARGO, Repository
 
 INSTALL, UNINSTALL, LIST = "bin/install", "bin/uninstall", "share/pgn_tool/files"
+MODULES = ROOT + "/python/gillspoon"
 FILES = [
     "bin/pgn_fmt", "bin/pgn_sieve", "bin/pgn_tool", "bin/pgn_where",
     "include/pgn.h", "lib/libpgn_c.a", "lib/libpgn_c.so", "lib/pkgconfig/pgn_c.pc",
@@ -20,7 +21,9 @@ FILES = [
     "share/fish/vendor_completions.d/pgn_tool.fish",
     "share/man/man1/pgn_fmt.1", "share/man/man1/pgn_sieve.1", "share/man/man1/pgn_tool.1",
     "share/man/man1/pgn_where.1",
-    LIST, "share/pgn_tool/pgn_files.py", "share/pgn_tool/pgn_fmt", "share/pgn_tool/pgn_sieve",
+    LIST, *("share/pgn_tool/gillspoon/" + it for it in sorted(os.listdir(MODULES))
+            if it != "__pycache__"),
+    "share/pgn_tool/pgn_files.py", "share/pgn_tool/pgn_fmt", "share/pgn_tool/pgn_sieve",
     "share/pgn_tool/pgn_where",
     "share/zsh/site-functions/_pgn_tool",
 ]
