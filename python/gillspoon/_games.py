@@ -14,10 +14,8 @@ INITIAL_FEN = "rnbqkbnr/pppppppp/8/8/8/8/PPPPPPPP/RNBQKBNR w KQkq - 0 1"
 OnFault = Callable[[PgnFault], object]
 # The first size of a buffer for the export text of a game.
 _CAPACITY = 1 << 16
-# What may be between two games and is whole: white space, and comments and escape lines that end.
-# Behind a line end a `%` begins an escape line, as it does at the start of a source.
-_BETWEEN = re.compile(
-    rb"(?:[\t-\r ]+|\{[^}]*\}|;[^\r\n]*[\r\n]|%(?<![^\r\n]%)[^\r\n]*[\r\n])*")
+# Empty lines, of which the last one's end is no first half of CR LF.
+_EMPTY_LINES = re.compile(rb"[\t-\r ]*(?:\n|\r(?=[^\n]))")
 _TEXT = re.compile(rb"[^\t-\r ]")
 
 
@@ -45,7 +43,7 @@ class Game:
         self.number = number
         """The number of the game in its source, from 1; bad games count too."""
         self.offset = offset
-        """How many bytes of the source are before the game and the comments before it."""
+        """How many bytes of the source are before it; comments just before it are its own."""
         self.end = end
         """How many bytes of the source there are up to its end, with its termination marker."""
         self.result = result
@@ -156,7 +154,7 @@ class _Reader:
                 return
             else:
                 if status == _library.NO_GAME:
-                    self._skip_between()
+                    self._skip_empty_lines()
                 window.more(self.at)
             base, data = window.base, window.data
             length = len(data)
@@ -174,16 +172,10 @@ class _Reader:
         found = _TEXT.search(self.window.data, begin)
         return self.window.base + found.start() if found else self.at
 
-    def _skip_between(self) -> None:
-        """Goes on behind white space, comments and escape lines that are whole.
-
-        There are no games in what is read, so there is nothing else from here on.
-        """
-        if self.at == 0 and self.window.data.startswith(BYTE_ORDER_MARK[:1]):
-            return
-        begin = self.at - self.window.base
-        found = _BETWEEN.match(self.window.data, begin)
-        self.at += found.end() - begin if found else 0
+    def _skip_empty_lines(self) -> None:
+        """Goes on behind empty lines. Comments before a game stay in memory with it."""
+        found = _EMPTY_LINES.match(self.window.data, self.at - self.window.base)
+        self.at = self.window.base + found.end() if found else self.at
 
     def _fault(self, found: _library.NextGame) -> PgnFault:
         offset = self.window.base + found.place
@@ -217,7 +209,7 @@ def games(source: Source, *, checked: bool = False, reduced: bool = False,
     """Reads the games of a source, one at a time.
 
     A source is a path (`.gz`, `.bz2` and `.zst` are read through), bytes or an mmap, or a binary
-    file. Memory grows with the longest game, and not with the source.
+    file. Memory grows with the longest game and the comments before it, not with the source.
 
     `checked`: a game without a Result tag takes its termination marker. Else a missing Result
     counts as `*`, and another marker is a fault.

@@ -153,16 +153,15 @@ def path() -> str:
     named = os.environ.get(VARIABLE)
     if named:
         return named
-    places = (
-        os.path.join(_HERE, FILE),
-        os.path.join(_ROOT, "..", "lib", FILE),
-        os.path.join(_ROOT, "crates", "pgn_c", "out", FILE),
-        os.path.join(_ROOT, "cargo", "out", FILE),
-        os.path.join(_ROOT, "cargo", "out", "target", "release", FILE),
-    )
-    for place in places:
-        if os.path.exists(place):
-            return place
+    if os.path.basename(os.path.dirname(_HERE)) == "pgn_tool":
+        folders = [_HERE, os.path.join(os.path.dirname(_ROOT), "lib")]
+    else:
+        folders = [_HERE, os.path.join(_ROOT, "crates", "pgn_c", "out"),
+                   os.path.join(_ROOT, "cargo", "out")]
+    for folder in folders:
+        file = os.path.join(folder, FILE)
+        if os.path.exists(file):
+            return file
     raise ImportError("gillspoon: there is no %s: %s" % (FILE, _BUILD))
 
 

@@ -10,6 +10,8 @@ from typing import Any, BinaryIO, Callable, Iterator, Optional, Protocol, Tuple,
 from ._places import LINE_END, NEAR, LineCounter
 
 CHUNK = 1 << 20
+# A line that is longer comes in parts.
+LONGEST_LINE = 1 << 20
 
 
 class Readable(Protocol):
@@ -245,7 +247,7 @@ class Window:
             if found and self.data[end - 1:end + 1] == b"\r\n":
                 end += 1
             is_cut = end == len(self.data) and not (found and self.data[end - 1:] == b"\n")
-            if is_cut and not self.is_whole and end - index < CHUNK:
+            if is_cut and not self.is_whole and end - index < LONGEST_LINE:
                 kept = keep()
                 seen = max(end - index - 1, 0)
                 self.more(at if kept is None else min(at, kept))

@@ -1,0 +1,820 @@
+#!/usr/bin/env python3
+"""Tests of the Python package (python/gillspoon): its calls, its wheel, and docs/PYTHON.md."""
+import bz2
+import doctest
+import glob
+import gzip
+import importlib
+import io
+import mmap
+import os
+import pickle
+import random
+import re
+import shutil
+import subprocess
+import sys
+import tempfile
+import unittest
+
+sys.path.insert(0, os.path.dirname(os.path.realpath(__file__)))
+import programs
+from documents import blocks_of, lines_of, table
+from programs import ROOT, need, need_program, not_tried, run, vectors
+from test_sieve import BAD, sound
+
+PACKAGE = ROOT + "/python"
+PYTHON = "/usr/bin/python3"
+INITIAL = "rnbqkbnr/pppppppp/8/8/8/8/PPPPPPPP/RNBQKBNR w KQkq - 0 1"
+REAL = "/usr/share/pychess/learn/**/*.pgn"
+RANDOM_GAMES = 100000
+DAMAGED_FILES = 60
+
+
+def library():
+    """The shared library, which is built if need be; the test is left out if it cannot be."""
+    named = os.environ.get("GILLSPOON_LIBRARY")
+    if named:
+        return named
+    static = programs.printed_by_build("--library") or not_tried("the library cannot be built")
+    return os.path.join(os.path.dirname(static), "libpgn_c.so")
+
+
+def setUpModule():
+    global gillspoon
+    os.environ["GILLSPOON_LIBRARY"] = library()
+    if PACKAGE not in sys.path:
+        sys.path.insert(0, PACKAGE)
+    gillspoon = importlib.import_module("gillspoon")
+
+
+def environment(**more):
+    """The environment of a program that imports the package from here."""
+    return dict(os.environ, PATH=programs.PATH, PYTHONPATH=PACKAGE, PYTHONDONTWRITEBYTECODE="1",
+                **more)
+
+
+def archive(games, style, seed=()):
+    """The bytes of an archive of bench/make_archive.py."""
+    words = [sys.executable, "bench/make_archive.py", "--games", str(games), "--lines", "20",
+             "--style", style]
+    return run([*words, *seed]).stdout
+
+
+def seen(source, **options):
+    """The games and the faults of a source, in the order in which they come."""
+    found = []
+    for game in gillspoon.games(source, on_fault=lambda it: found.append(it.args + (it.end,)),
+                                **options):
+        found.append(tuple(getattr(game, it) for it in (
+            "number", "offset", "end", "result", "plies", "fen", "text")))
+    return found
+
+
+class Pieces(io.RawIOBase):
+    """A binary file that gives at most so many bytes at once."""
+
+    def __init__(self, parts):
+        self.parts, self.rest = iter(parts), b""
+
+    def read(self, size=-1):
+        self.rest = self.rest or next(self.parts, b"")
+        data, self.rest = self.rest[:size], self.rest[size:]
+        return data
+
+
+def cut(data, sizes):
+    """The data in parts of these sizes, in turn."""
+    at = 0
+    while at < len(data):
+        size = next(sizes)
+        yield data[at:at + size]
+        at += size
+
+
+def ever(value):
+    while True:
+        yield value
+
+
+class Folder(unittest.TestCase):
+    """A test with a folder of its own."""
+
+    def setUp(self):
+        self.folder = tempfile.mkdtemp()
+        self.addCleanup(shutil.rmtree, self.folder)
+
+    def put(self, name, data):
+        path = os.path.join(self.folder, name)
+        with open(path, "wb") as file:
+            file.write(data)
+        return path
+
+
+# ---- games and their parts
+
+
+class Games(unittest.TestCase):
+    TEXT = (b'{a word} [White "M\xc3\xbcller \\"x\\""] [Black "a\\\\b"] [Result "1-0"] [A "1"]\n'
+            b"{first} $3 1. e4! e5 (1... c5 2. Nf3 {good} (2. c3) $14 {}) (1... e6) 2. Ke2 1-0\n"
+            b'[FEN "4k3/8/8/8/8/8/4P3/4K3 w - - 5 9"] e4 Kd7 *')
+
+    def test_values(self):
+        one, other = gillspoon.games(self.TEXT)
+        self.assertEqual(
+            (one.number, one.offset, one.end, one.result, one.plies, one.fen, one.encoding),
+            (1, 0, self.TEXT.index(b"1-0\n") + 3, "1-0", 3,
+             "rnbqkbnr/pppp1ppp/8/4p3/4P3/8/PPPPKPPP/RNBQ1BNR b kq - 1 2", "utf-8"))
+        self.assertEqual(list(one.tags.items()), [
+            ("Event", "?"), ("Site", "?"), ("Date", "????.??.??"), ("Round", "?"),
+            ("White", 'M\xfcller "x"'), ("Black", "a\\b"), ("Result", "1-0"), ("A", "1")])
+        self.assertEqual((other.number, other.offset, other.end, other.result, other.plies),
+                         (2, self.TEXT.index(b"[FEN"), len(self.TEXT), "*", 2))
+        self.assertEqual(other.position_at(0), "4k3/8/8/8/8/8/4P3/4K3 w - - 5 9")
+        self.assertEqual([it.fen for it in other.mainline()], [
+            "4k3/8/8/8/4P3/8/8/4K3 b - e3 0 9", "8/3k4/8/8/4P3/8/8/4K3 w - - 1 10"])
+        self.assertTrue(other.text.endswith(b'[SetUp "1"]\n\n9. e4 Kd7 *\n\n'))
+        self.assertEqual([it.san for it in one.mainline()], ["e4", "e5", "Ke2"])
+        self.assertEqual([one.position_at(it) for it in (0, 1, 3)], [
+            INITIAL, "rnbqkbnr/pppppppp/8/8/4P3/8/PPPP1PPP/RNBQKBNR b KQkq e3 0 1", one.fen])
+        for ply in (-1, 4):
+            with self.assertRaises(IndexError):
+                one.position_at(ply)
+
+    def test_tree(self):
+        line = next(gillspoon.games(self.TEXT)).moves()
+        self.assertEqual((line.notes, line.fen, len(line)), (["first", 3], INITIAL, 3))
+        e4, e5, king = line
+        self.assertEqual((e4.number, e4.notes, e5.nags, e5.comments, king.notes),
+                         (1, [1], [], [], []))
+        sicilian, french = e5.variations
+        self.assertEqual([(it.number, it.san) for it in sicilian], [(2, "c5"), (3, "Nf3")])
+        self.assertEqual([it.san for it in french], ["e6"])
+        knight = sicilian.plies[1]
+        self.assertEqual((knight.comments, knight.nags), (["good", ""], [14]))
+        self.assertEqual([type(it) for it in knight.notes], [str, gillspoon.Line, int, str])
+        self.assertEqual(
+            knight.variations[0].plies[0].fen,
+            "rnbqkbnr/pp1ppppp/8/2p5/4P3/2P5/PP1P1PPP/RNBQKBNR b KQkq - 0 2")
+        self.assertEqual(knight.variations[0].fen,
+                         "rnbqkbnr/pp1ppppp/8/2p5/4P3/8/PPPP1PPP/RNBQKBNR w KQkq c6 0 2")
+
+    def test_a_changed_game(self):
+        game = next(gillspoon.games(self.TEXT))
+        line = game.moves()
+        for ply in line:
+            ply.notes = [it for it in ply.notes if not isinstance(it, gillspoon.Line)]
+        line.notes = ["a\n%b", 7]
+        del line.plies[2:]
+        tags = {"White": 'x"y', "Result": "0-1", "Zz": "\\"}
+        self.assertEqual(gillspoon.write_game(tags, line).decode(), (
+            '[Event "?"]\n[Site "?"]\n[Date "????.??.??"]\n[Round "?"]\n[White "x\\"y"]\n'
+            '[Black "?"]\n[Result "0-1"]\n[Zz "\\\\"]\n\n{ a %b } $7 1. e4 $1 1... e5 0-1\n\n'))
+        line.notes = ["a } b"]
+        with self.assertRaises(ValueError):
+            gillspoon.write_game(tags, line)
+        line.notes, line.plies[1].san = [], "Ke3"
+        with self.assertRaises(gillspoon.PgnFault):
+            gillspoon.write_game(tags, line)
+
+    def test_latin_1_and_odd_spaces(self):
+        data = '[White "M\xfcller"] 1. e4 {a\xa0b\x85c d} e5 *'.encode("latin-1")
+        game = next(gillspoon.games(data))
+        self.assertEqual((game.encoding, game.tags["White"]), ("latin-1", "M\xfcller"))
+        self.assertEqual(game.moves().plies[0].comments, ["a\xa0b\x85c d"])
+        self.assertEqual(next(gillspoon.games(data.decode("latin-1").encode())).moves().plies[0]
+                         .comments, ["a\xa0b\x85c d"])
+
+    def test_options(self):
+        data = b"1. e4 (1. d4) e5 1-0"
+        with self.assertRaises(gillspoon.PgnFault) as raised:
+            list(gillspoon.games(data))
+        self.assertEqual(raised.exception.number, 41)
+        game = next(gillspoon.games(data, checked=True, reduced=True))
+        self.assertEqual((game.result, game.tags["Result"]), ("1-0", "1-0"))
+        self.assertTrue(game.text.endswith(b"\n\n1. e4 e5 1-0\n\n"))
+        self.assertEqual(gillspoon.convert(data, checked=True, reduced=True), game.text)
+        self.assertEqual(gillspoon.check(data, checked=True), (1, 2))
+        with self.assertRaises(gillspoon.PgnFault) as raised:
+            gillspoon.convert(b'[FEN "%s"] *' % INITIAL.encode(), reduced=True)
+        self.assertEqual(raised.exception.number, 31)
+
+    def test_pickle(self):
+        game = next(gillspoon.games(self.TEXT))
+        copy = pickle.loads(pickle.dumps(game))
+        self.assertEqual((copy.text, copy.fen, copy.tags), (game.text, game.fen, game.tags))
+        with self.assertRaises(gillspoon.PgnFault) as raised:
+            gillspoon.check(b"e4 e5 Ke3 *")
+        copy = pickle.loads(pickle.dumps(raised.exception))
+        self.assertEqual((str(copy), copy.fen), (str(raised.exception), raised.exception.fen))
+
+    def test_long_game(self):
+        """It is longer than a chunk, and its export than the first buffer."""
+        comment = " ".join(["word"] * 700000)
+        data = b"1. e4 {%s} *\n1. d4 *" % comment.encode()
+        for parts in ([data], cut(data, ever(65536))):
+            one, other = gillspoon.games(Pieces(parts))
+            self.assertEqual(one.moves().plies[0].comments, [comment])
+            self.assertEqual((other.number, other.offset), (2, data.rindex(b"1. d4")))
+
+
+class Faults(unittest.TestCase):
+    def test_attributes(self):
+        with open(ROOT + "/examples/no-such-move.pgn", "rb") as file:
+            data = file.read()
+        with self.assertRaises(gillspoon.PgnFault) as raised:
+            list(gillspoon.games(data))
+        fault = raised.exception
+        self.assertEqual(str(fault), "line 4, column 37: move is not legal")
+        self.assertEqual(
+            (fault.number, fault.reason, fault.offset, fault.line, fault.column, fault.game,
+             fault.begin, fault.end), (34, "move is not legal", 77, 4, 37, 1, 0, None))
+        with self.assertRaises(gillspoon.MoveFault):
+            gillspoon.san(fault.fen, data[77:].split()[0].decode())
+
+    def test_position_only_of_a_refused_move(self):
+        for text, fen in ((b"1. e4 e5 (1... e6 2. Ke3) *",
+                           "rnbqkbnr/pppp1ppp/4p3/8/4P3/8/PPPP1PPP/RNBQKBNR w KQkq - 0 2"),
+                          (b"1. e4 e9 *", None), (b"1. e4 & *", None)):
+            with self.assertRaises(gillspoon.PgnFault) as raised:
+                gillspoon.convert(text)
+            self.assertEqual(raised.exception.fen, fen, text)
+
+    def test_words_are_those_of_the_fault_table(self):
+        rows = {int(row[0]): row[3].strip("`") for row in table("docs/PROFILE.md", "No", "Rejected")}
+        words = importlib.import_module("gillspoon._faults").MOVE_FAULTS
+        self.assertEqual(words, {number: rows[number] for number in (33, 34, 35, 36)})
+
+    def test_vectors(self):
+        """Each gives the games before its fault, and the fault."""
+        faults = 0
+        for vector in vectors():
+            data = vector["input"].encode()
+            options, fault, texts = {"reduced": vector["mode"] == "reduced"}, None, []
+            try:
+                for game in gillspoon.games(data, **options):
+                    texts.append(game.text)
+            except gillspoon.PgnFault as raised:
+                fault = raised
+            with self.subTest(vector["file"]):
+                told = vector.get("fault")
+                if told:
+                    faults += 1
+                    self.assertEqual((fault.number, fault.offset), (told["number"], told["place"]))
+                    self.assertEqual("byte %d: %s" % (fault.offset, fault.reason), told["message"])
+                    self.assertEqual(vector["output"].encode()[:len(b"".join(texts))],
+                                     b"".join(texts))
+                else:
+                    self.assertIsNone(fault)
+                    self.assertEqual(b"".join(texts), vector["output"].encode())
+                    self.assertEqual(gillspoon.convert(data, **options), b"".join(texts))
+                    if not options["reduced"]:
+                        self.assertEqual(gillspoon.check(data), (vector["games"], vector["plies"]))
+        self.assertGreater(faults, 50)
+
+
+class Calls(unittest.TestCase):
+    def test_fen(self):
+        self.assertEqual(gillspoon.normalize_fen("4k3/44/8/8/8/8/8/4K3 w - - 00 01"),
+                         "4k3/8/8/8/8/8/8/4K3 w - - 0 1")
+        for fen, field in (("x", 1), (INITIAL.replace(" w ", " x "), 2), ("\xfc", 1),
+                           ("8/8/8/8/8/8/8/8 w - - 0 1", 7)):
+            with self.assertRaises(gillspoon.FenFault) as raised:
+                gillspoon.normalize_fen(fen)
+            self.assertEqual((raised.exception.field, raised.exception.fen), (field, fen))
+            for call in (gillspoon.san, gillspoon.explain):
+                with self.assertRaises(gillspoon.FenFault):
+                    call(fen, "e4")
+
+    def test_san(self):
+        fen = "6k1/5ppp/8/8/8/8/8/R3K2R w KQ - 0 1"
+        self.assertEqual(gillspoon.san(fen, "Ra1a8"),
+                         ("Ra8#", "R5k1/5ppp/8/8/8/8/8/4K2R b K - 1 1"))
+        self.assertEqual(gillspoon.san(fen, "0-0").san, "O-O")
+        for move, number, reason in (("e9", 33, "not a move"), ("Ke3", 34, "move is not legal"),
+                                     ("", 33, "not a move")):
+            with self.assertRaises(gillspoon.MoveFault) as raised:
+                gillspoon.san(fen, move)
+            self.assertEqual((raised.exception.number, raised.exception.reason), (number, reason))
+        with self.assertRaises(gillspoon.MoveFault) as raised:
+            gillspoon.san("1k6/8/8/8/8/8/4K3/R6R w - - 0 1", "Rd1")
+        self.assertEqual(raised.exception.number, 35)
+        for words in ((b"x", "e4"), (INITIAL, b"e4"), (INITIAL, None)):
+            with self.assertRaises(TypeError):
+                gillspoon.san(*words)
+
+    def test_explain(self):
+        fen = "k3r3/8/8/8/8/8/N3N3/4K2R w K - 0 1"
+        said = gillspoon.explain(fen, "Nc3")
+        self.assertEqual(said, ("N", "c3", "", ("a2",), ("e2",)))
+        self.assertEqual(gillspoon.explain(fen, "Nec3")[3:], ((), ("e2",)))
+        self.assertEqual(gillspoon.explain(fen, "Qd4"), ("Q", "d4", "", (), ()))
+        self.assertEqual(gillspoon.explain(fen, "O-O"), ("K", "g1", "O-O", ("e1",), ()))
+        with self.assertRaises(gillspoon.MoveFault):
+            gillspoon.explain(fen, "hello")
+
+
+# ---- sources
+
+
+class Sources(Folder):
+    def setUp(self):
+        super().setUp()
+        self.data = archive(300, "annotated")
+        self.wanted = seen(self.data)
+
+    def test_kinds(self):
+        path = self.put("a.pgn", self.data)
+        self.assertEqual(len(self.wanted), 300)
+        with open(path, "rb") as file, open(path, "rb", buffering=0) as raw, \
+                open(path, "rb") as other, \
+                mmap.mmap(other.fileno(), 0, access=mmap.ACCESS_READ) as mapped:
+            for source in (path, type("P", (), {"__fspath__": lambda self: path})(), file, raw,
+                           mapped, bytearray(self.data), memoryview(self.data),
+                           io.BytesIO(self.data), Pieces(cut(self.data, ever(4000)))):
+                self.assertEqual(seen(source), self.wanted, type(source))
+        for source in (b"", bytearray(), self.put("empty.pgn", b"")):
+            self.assertEqual(seen(source), [])
+
+    def test_a_pipe(self):
+        with subprocess.Popen(["cat", self.put("a.pgn", self.data)],
+                              stdout=subprocess.PIPE) as child:
+            self.assertEqual(seen(child.stdout), self.wanted)
+
+    def test_a_game_comes_before_the_pipe_ends(self):
+        begin, end = os.pipe()
+        with os.fdopen(begin, "rb") as file:
+            os.write(end, b"1. e4 *\n1. d4 *\n1.")
+            games = gillspoon.games(file)
+            self.assertEqual([next(games).plies, next(games).plies], [1, 1])
+            os.write(end, b" c4 *\n")
+            os.close(end)
+            self.assertEqual(len(list(games)), 1)
+
+    def compressed(self, name):
+        data = self.data
+        if name == "gz":
+            return gzip.compress(data[:1000]) + gzip.compress(data[1000:])
+        if name == "bz2":
+            return bz2.compress(data[:1000]) + bz2.compress(data[1000:])
+        need("zstd")
+        return b"".join(run(["zstd", "-qc"], input=it).stdout for it in (data[:1000], data[1000:]))
+
+    def test_compressed(self):
+        for name in ("gz", "bz2", "zst"):
+            whole = self.compressed(name)
+            path = self.put("a.pgn." + name, whole)
+            self.assertEqual(seen(path), self.wanted, name)
+            self.assertEqual(gillspoon.check(path).games, 300)
+            # it can be left at any time
+            self.assertEqual(next(gillspoon.games(path)).number, 1)
+            for damaged in (whole[:-7], whole[:200] + b"\0\0\0\0" + whole[204:], b"no"):
+                with self.assertRaises(OSError, msg=(name, len(damaged))) as raised:
+                    gillspoon.check(self.put("b.pgn." + name, damaged))
+                self.assertIn("b.pgn." + name, str(raised.exception))
+
+    def test_zstandard_in_place_of_the_program(self):
+        ran = run([PYTHON, "-c", "import zstandard"])
+        if ran.returncode:
+            not_tried("python3-zstandard is missing")
+        whole = self.compressed("zst")
+        text = ("import gillspoon, sys\n"
+                "try: print(gillspoon.check(sys.argv[1]).games)\n"
+                "except OSError as error: print(error)\n")
+        env = dict(environment(), PATH="/nowhere")
+        for data, said in ((whole, "300\n"), (whole[:-7], "ends inside a frame"), (b"no", "zst: ")):
+            ran = run([PYTHON, "-c", text, self.put("a.pgn.zst", data)], env=env)
+            self.assertIn(said, ran.stdout.decode() + ran.stderr.decode())
+
+    def test_what_is_no_source(self):
+        path = self.put("a.pgn", b"e4 *")
+        with open(path, encoding="ascii") as file:
+            for source in (file, io.StringIO("e4 *")):
+                with self.assertRaisesRegex(TypeError, "binary mode"):
+                    gillspoon.games(source)
+        for source in (7, None, ["e4 *"]):
+            with self.assertRaisesRegex(TypeError, "path, bytes"):
+                gillspoon.games(source)
+        for call in (gillspoon.games, gillspoon.check, gillspoon.convert):
+            with self.assertRaises(FileNotFoundError):
+                call(self.folder + "/missing.pgn")
+
+
+class InPieces(unittest.TestCase):
+    """However a text is cut, the games, the faults and their places are the same."""
+
+    def check(self, data, count=3, **options):
+        window = importlib.import_module("gillspoon._sources")
+        whole = seen(data, **options)
+        chunk = window.CHUNK
+        try:
+            for seed in range(count):
+                source = random.Random(seed)
+                # with tiny chunks the window lets go what it has read
+                window.CHUNK = source.choice((1, 7, 64, 4096))
+                most = source.choice((1, 2, 9, 100))
+                sizes = iter(lambda: source.randint(1, most), 0)
+                self.assertEqual(seen(Pieces(cut(data, sizes)), **options), whole, (data, seed))
+        finally:
+            window.CHUNK = chunk
+        return whole
+
+    def test_vectors(self):
+        for vector in vectors():
+            if len(vector["input"]) < 5000:
+                self.check(vector["input"].encode(), reduced=vector["mode"] == "reduced")
+
+    def test_bad_games(self):
+        for name, text, _, _ in BAD:
+            self.check(sound(b"a") + text + sound(b"b") + text.replace(b"\n", b"\r\n") + sound(b"c"))
+
+    def test_between_games(self):
+        between = b"  ; a { b\n% 1-0 {\r{ c ; d\n\n% e }\n% f\r\n ;\r\n%\n{}\n\n \r\r\n\t\r"
+        data = b"\xef\xbb\xbf% a\n" + between + b"1. e4 *" + between + b"% 0-1\n*" + between
+        whole = self.check(data, 30)
+        self.assertEqual([(it[4], data[it[2] - 1:it[2]]) for it in whole], [(1, b"*"), (0, b"*")])
+
+    def test_a_gap_is_let_go(self):
+        """Megabytes of empty lines between games do not stay in memory."""
+        parts = [b"1. e4 *\n"] + [b" " * 1000 + b"\n\r"] * 9000 + [b"1. d4 *"]
+        most = 0
+        window = importlib.import_module("gillspoon._sources").Window
+        more = window.more
+
+        def watched(self, keep):
+            nonlocal most
+            got = more(self, keep)
+            most = max(most, len(self.data))
+            return got
+
+        window.more = watched
+        try:
+            self.assertEqual(len(seen(Pieces(parts))), 2)
+        finally:
+            window.more = more
+        self.assertLess(most, 1 << 16)
+
+    def test_memory(self):
+        """It stays within some MiB, also for a large input, and for one with bad games."""
+        text = ("import gillspoon, resource, sys\n"
+                "count = 0\n"
+                "for game in gillspoon.games(sys.stdin.buffer, on_fault=len.__class__):\n"
+                "    count += len(game.tags) > 0\n"
+                "print(count, resource.getrusage(resource.RUSAGE_SELF).ru_maxrss)\n")
+        text = text.replace("len.__class__", "str")
+        data = archive(1000, "plain") + b"1. e4 e5 2. Ke3 *\n\n"
+        peaks = []
+        for rounds in (4, 60):
+            ran = run([PYTHON, "-c", text], input=data * rounds, env=environment())
+            count, peak = ran.stdout.split()
+            self.assertEqual(int(count), 1000 * rounds, ran.stderr)
+            peaks.append(int(peak))
+        self.assertLess(peaks[1], peaks[0] + 4096)
+
+
+# ---- behind a bad game
+
+
+class Sieve(Folder):
+    """A caller with on_fault gets the games that bin/pgn_sieve keeps."""
+
+    def compare(self, data):
+        path = self.put("a.pgn", data)
+        good, bad = self.folder + "/good", self.folder + "/bad"
+        ran = run([ROOT + "/bin/pgn_sieve", path, good, bad],
+                  env=dict(os.environ, PGN_TOOL=need_program()))
+        self.assertLessEqual(ran.returncode, 1, ran.stderr)
+        found = seen(path)
+        games = [it for it in found if len(it) == 7]
+        faults = [it for it in found if len(it) == 9]
+        with open(good, "rb") as kept:
+            self.assertEqual(b"".join(it[6] for it in games), kept.read())
+        with open(bad, "rb") as set_aside:
+            notes = re.findall(rb"(?m)^% byte (\d+): (.*); line (\d+)\n% bytes (\d+) to (\d+),",
+                               set_aside.read())
+        told = [(int(offset), reason.decode(), int(line), int(begin), int(end))
+                for offset, reason, line, begin, end in notes]
+        # a byte order mark between games is a fault, and no bad game
+        ours = [(it[2], it[1], it[3], it[7], it[8]) for it in faults
+                if data[it[7]:it[8]][:4] not in (b"", b"\xef\xbb\xbf")]
+        self.assertEqual(ours, told)
+        return len(games), len(faults)
+
+    def test_bad_games(self):
+        for name, text, reason, _ in BAD:
+            with self.subTest(name):
+                _, faults = self.compare(sound(b"a") + text + sound(b"b") + sound(b"c"))
+                self.assertGreater(faults, 0)
+
+    def test_joined_files(self):
+        mark = b"\xef\xbb\xbf"
+        self.assertEqual(self.compare(mark + sound(b"a") + mark + sound(b"b") + mark), (2, 2))
+        self.assertEqual(self.compare(sound(b"a") + b"\x1a" + sound(b"b") + b"\x00"), (2, 2))
+
+    def test_numbers(self):
+        data = sound(b"a") + b'[Event "x"]\n\n1. e5 *\n\n' + sound(b"b") + b"\xef\xbb\xbf" + sound(b"c")
+        numbers, faults = [], []
+        for game in gillspoon.games(data, on_fault=faults.append):
+            numbers.append((game.number, game.tags["Event"]))
+        self.assertEqual(numbers, [(1, "a"), (3, "b"), (4, "c")])
+        self.assertEqual([it.game for it in faults], [2, 4])
+
+    def test_random_damage(self):
+        source = random.Random(7)
+        whole = archive(30, "annotated") + archive(30, "plain")
+        games = faults = 0
+        for _ in range(DAMAGED_FILES):
+            data = bytearray(whole)
+            for _ in range(source.randint(1, 12)):
+                at, size = source.randrange(len(data)), source.choice((1, 1, 3, 40, 400))
+                put = source.choice((b"", b"", b"{", b"}", b'"', b"[", b"]", b"(", b"\n", b"\n\n", b"%",
+                                     b";", b"*", b"1-0", b"\x00", b"\xef\xbb\xbf", b"Ke9 ", b"--"))
+                data[at:at + size] = put
+            counts = self.compare(bytes(data))
+            games, faults = games + counts[0], faults + counts[1]
+        self.assertGreater(min(games, faults), 2 * DAMAGED_FILES)
+
+
+class Places(Folder):
+    def test_as_pgn_where(self):
+        """Lines and columns are those of bin/pgn_where, however the text comes."""
+        places = importlib.import_module("gillspoon._places")
+        source = random.Random(3)
+        units = [b"a", b" ", b"\n", b"\r", b"\r\n", b"\n\n", "\xfc".encode(), b"\xfc", b"\x80",
+                 "\u20ac".encode(), "\U0001f600".encode(), b"word " * 3, b"\xef\xbb\xbf"]
+        for number in range(60):
+            data = b"".join(source.choices(units, k=source.randint(0, 30)))
+            data = source.choice((b"", b"\xef\xbb\xbf", b"\xef")) + data
+            path = self.put("a", data)
+            offset = source.randint(0, len(data))
+            said = run([ROOT + "/bin/pgn_where", path, str(offset)]).stdout.decode("utf-8", "replace")
+            line, column = re.search(r": line (\d+), column (\d+) ", said).groups()
+            counter, sizes = places.LineCounter(), iter(lambda: source.randint(1, 4), 0)
+            for part in cut(data[:offset], sizes):
+                counter.feed(part)
+            self.assertEqual(counter.place(data[offset:]), (int(line), int(column)),
+                             (number, data, offset))
+
+
+# ---- what was parsed and is written again
+
+
+class RandomGames:
+    """Random games: legal moves of a small tree of positions, with all that movetext can have."""
+
+    WORDS = ["good", "{", "(x", "1-0", "%", ";", "$1", "\xfc\u20ac", "\xa0", "[%clk", "e4", "1.", "*"]
+
+    def __init__(self, seed):
+        self.random = random.Random(seed)
+        self.followers = {}
+        starts = [INITIAL, "r3k2r/pPppp1pp/8/5pP1/8/8/P1PPPP1P/R3K2R w KQkq f6 0 9",
+                  "4k3/P6p/8/8/8/8/p6P/4K3 b - - 99 99000"]
+        self.starts = [(INITIAL, "")] + [(it, '[FEN "%s"]' % it) for it in starts[1:]]
+        level = starts
+        for _ in range(10):
+            level = [after for fen in level for _, after in self.moves_from(fen)]
+            self.random.shuffle(level)
+            del level[90:]
+
+    def moves_from(self, fen):
+        """At most three legal moves with the positions after them."""
+        if fen not in self.followers:
+            found = {}
+            for _ in range(200):
+                text = self.random.choice("PPNBRQK") + self.random.choice("abcdefgh") \
+                    + self.random.choice("12345678")
+                for origin in gillspoon.explain(fen, text).legal:
+                    try:
+                        played = gillspoon.san(fen, text[0] + origin + text[1:])
+                    except gillspoon.MoveFault:
+                        continue
+                    found[played.san] = played.fen
+                if len(found) > 2:
+                    break
+            self.followers[fen] = list(found.items())[:3]
+        return self.followers[fen]
+
+    def notes(self):
+        while self.random.random() < 0.3:
+            words = self.random.choices(self.WORDS, k=self.random.randint(0, 6))
+            yield self.random.choice((
+                "$%d" % self.random.randint(0, 255), "!?", "{%s}" % " ".join(words),
+                "{%s\n}" % "\n".join(words), "; %s\n" % " ".join(words)))
+
+    def line(self, fen, depth, words):
+        """Adds the words of a line from a position."""
+        is_begin = True
+        while True:
+            moves = self.followers.get(fen)
+            if not moves or not is_begin and self.random.random() < 0.12:
+                return
+            san, after = self.random.choice(moves)
+            words.append(self.random.choice((san, san + "+", "7. " + san, "..." + san)))
+            words.extend(self.notes())
+            while depth < 4 and self.random.random() < 0.12:
+                words.append("(")
+                words.extend(self.notes())
+                self.line(fen, depth + 1, words)
+                words.append(")")
+                words.extend(self.notes())
+            fen, is_begin = after, False
+
+    def game(self):
+        """The text of a game, in import format."""
+        fen, tags = self.random.choice(self.starts)
+        result = self.random.choice(("1-0", "0-1", "1/2-1/2", "*"))
+        values = ["a", "", 'x\\"y', "\\\\", "\xfc \u20ac", "\\n"]
+        for name in self.random.sample(("White", "Zz", "a", "Event", "_1"), self.random.randint(0, 3)):
+            tags += '[%s "%s"]' % (name, self.random.choice(values))
+        words = [*self.notes()] if self.random.random() < 0.1 else []
+        if self.random.random() < 0.95:
+            self.line(fen, 0, words)
+        return '%s[Result "%s"]\n%s %s\n' % (tags, result, " ".join(words), result)
+
+    def source(self, count):
+        for _ in range(count // 100):
+            yield "".join(self.game() for _ in range(100)).encode(
+                self.random.choice(("utf-8", "utf-8", "cp1252")))
+
+
+class WrittenAgain(unittest.TestCase):
+    """The text of what was parsed and written again is the same bytes."""
+
+    def check(self, source, **options):
+        count = 0
+        for game in gillspoon.games(source, **options):
+            count += 1
+            again = gillspoon.write_game(game.tags, game.moves(), encoding=game.encoding)
+            if again != game.text:
+                self.assertEqual(again, game.text)
+            if sum(1 for _ in game.mainline()) != game.plies:
+                self.fail("%r has other plies" % game)
+        return count
+
+    def test_vectors(self):
+        count = 0
+        for vector in vectors():
+            # an export with more tag pairs than are read is refused, and so not written again
+            if "fault" not in vector and vector["output"].count('\n[') < 64:
+                count += self.check(vector["input"].encode(), reduced=vector["mode"] == "reduced")
+        self.assertGreater(count, 100)
+
+    def test_archives_and_real_files(self):
+        for style in ("plain", "annotated"):
+            self.assertEqual(self.check(archive(300, style)), 300)
+        paths = glob.glob(REAL, recursive=True) or not_tried("pychess is missing")
+        count = sum(self.check(path, checked=True, on_fault=str) for path in paths)
+        self.assertGreater(count, 1000)
+
+    def test_last_positions(self):
+        """The chain of positions ends in the one that the library gives for the game."""
+        for game in gillspoon.games(archive(50, "annotated")):
+            *_, last = game.mainline()
+            self.assertEqual(last.fen, game.fen)
+
+    def test_random_games(self):
+        made = RandomGames(1)
+        self.assertGreater(len(made.followers), 500)
+        self.assertEqual(self.check(Pieces(made.source(RANDOM_GAMES))), RANDOM_GAMES)
+
+
+# ---- the binding, the wheel and what else is beside the code
+
+
+LAYOUT = """
+#include <stdio.h>
+#include <stddef.h>
+#include "pgn.h"
+int main(void) {
+%s
+    return 0;
+}
+"""
+
+
+class Binding(Folder):
+    def test_structs_are_those_of_the_header(self):
+        need("cc")
+        binding = importlib.import_module("gillspoon._library")
+        names = {"pgn_result": "Result", "pgn_text": "Text", "pgn_move": "Move",
+                 "pgn_game": "NextGame", "pgn_explanation": "Explanation"}
+        lines, wanted = [], []
+        for name, ours in names.items():
+            struct = getattr(binding, ours)
+            lines.append('printf("%%zu\\n", sizeof(%s));' % name)
+            wanted.append(binding.ctypes.sizeof(struct))
+            for field, kind in struct._fields_:
+                lines.append('printf("%%zu %%zu\\n", offsetof(%s, %s), sizeof((*(%s *)0).%s));'
+                             % (name, field, name, field))
+                wanted += [getattr(struct, field).offset, binding.ctypes.sizeof(kind)]
+        source = self.put("layout.c", (LAYOUT % "\n".join(lines)).encode())
+        ran = run(["cc", "-I" + ROOT + "/crates/pgn_c", source, "-o", self.folder + "/layout"])
+        self.assertEqual(ran.returncode, 0, ran.stderr)
+        told = [int(it) for it in run([self.folder + "/layout"]).stdout.split()]
+        self.assertEqual(told, wanted)
+
+    def module(self, to):
+        shutil.copytree(PACKAGE + "/gillspoon", to + "/gillspoon",
+                        ignore=shutil.ignore_patterns("__pycache__", "*.so"))
+        return to
+
+    def imported(self, path, **more):
+        env = dict(os.environ, PYTHONPATH=path, **more)
+        for name in [it for it in ("GILLSPOON_LIBRARY",) if it not in more]:
+            env.pop(name)
+        return run([PYTHON, "-c", "import gillspoon; print(gillspoon._library.path())"], env=env)
+
+    def test_where_the_library_is(self):
+        for module, place in (("a/here", "a/here/gillspoon"), ("b/share/pgn_tool", "b/lib"),
+                              ("c/python", "c/crates/pgn_c/out"), ("d/python", "d/cargo/out")):
+            path = self.module(os.path.join(self.folder, module))
+            ran = self.imported(path)
+            self.assertNotEqual(ran.returncode, 0)
+            self.assertIn(b"ImportError: gillspoon: there is no libpgn_c.so: in the repository run "
+                          b"bin/build_program --library, or pip install ./python", ran.stderr)
+            os.makedirs(os.path.join(self.folder, place), exist_ok=True)
+            file = shutil.copy(library(), os.path.join(self.folder, place, "libpgn_c.so"))
+            ran = self.imported(path)
+            self.assertEqual(os.path.realpath(ran.stdout.decode().strip()), os.path.realpath(file))
+            other = shutil.copy(library(), self.folder + "/other.so")
+            ran = self.imported(path, GILLSPOON_LIBRARY=other)
+            self.assertEqual(ran.stdout.decode().strip(), other)
+
+    def test_a_library_that_cannot_be_used(self):
+        libc = glob.glob("/lib/*/libc.so.6")[0]
+        for path in (self.put("x.so", b"no library"), self.folder + "/missing.so", libc):
+            ran = self.imported(PACKAGE, GILLSPOON_LIBRARY=path)
+            self.assertNotEqual(ran.returncode, 0)
+            self.assertIn(("ImportError: gillspoon: %s cannot be used" % path).encode(), ran.stderr)
+
+    def test_fast_start(self):
+        """Nothing is imported that only some callers need."""
+        text = "import sys, gillspoon; print(*sorted(sys.modules))"
+        loaded = set(run([PYTHON, "-c", text], env=environment()).stdout.decode().split())
+        self.assertEqual(loaded & {"subprocess", "gzip", "bz2", "zstandard", "argparse", "tempfile",
+                                   "dataclasses", "inspect", "multiprocessing"}, set())
+
+
+class Wheel(Folder):
+    """In a fresh virtual environment, without any index."""
+
+    def test_install(self):
+        if not os.path.exists(PYTHON) or run([PYTHON, "-c", "import ensurepip"]).returncode:
+            not_tried("python3-venv is missing")
+        self.assertEqual(run([PYTHON, "-m", "venv", self.folder + "/venv"]).returncode, 0)
+        python, pip = self.folder + "/venv/bin/python", self.folder + "/venv/bin/pip"
+        before = run(["git", "status", "--short"]).stdout
+        for words in (["--no-build-isolation"], ["--no-index", "--force-reinstall"]):
+            ran = run([pip, "install", *words, "./python"],
+                      env=dict(os.environ, PIP_NO_INDEX="1", PATH=programs.PATH))
+            self.assertEqual(ran.returncode, 0, ran.stderr)
+        self.assertEqual(run(["git", "status", "--short"]).stdout, before)
+        env = {"PATH": "/usr/bin:/bin", "HOME": self.folder}
+        text = "import gillspoon; print(gillspoon.__file__, gillspoon._library.path())"
+        ran = run([python, "-c", text], env=env, cwd=self.folder)
+        self.assertEqual(ran.stdout.decode().count(self.folder + "/venv/lib/"), 2, ran.stderr)
+        with open(ROOT + "/README.md", encoding="utf-8") as file:
+            self.assertIn("import gillspoon\nfor game in gillspoon.games(", file.read())
+        ran = run([python, "-c", "import gillspoon\nprint(gillspoon.check('examples/annotated.pgn'))"],
+                  env=env)
+        self.assertEqual(ran.stdout, b"Totals(games=1, plies=7)\n")
+
+    def test_tag(self):
+        ran = run([PYTHON, "-m", "pip", "wheel", "--no-index", "--no-deps", "-w", self.folder,
+                   "./python"])
+        self.assertEqual(ran.returncode, 0, ran.stderr)
+        name, = os.listdir(self.folder)
+        machine = os.uname().machine
+        self.assertRegex(name, r"^gillspoon-[0-9.]+-py3-none-linux_%s\.whl$" % machine)
+
+
+class Typed(unittest.TestCase):
+    def test_mypy(self):
+        need("mypy")
+        with tempfile.TemporaryDirectory() as cache:
+            ran = run(["mypy", "--strict", "--cache-dir", cache, "gillspoon"], cwd=PACKAGE)
+        self.assertEqual((ran.returncode, ran.stderr), (0, b""), ran.stdout)
+
+    def test_pyflakes(self):
+        need("pyflakes3")
+        ran = run(["pyflakes3", PACKAGE])
+        self.assertEqual((ran.returncode, ran.stdout), (0, b""))
+
+    def test_examples_of_docstrings(self):
+        names = ["gillspoon"] + ["gillspoon." + os.path.basename(it)[:-3]
+                                 for it in glob.glob(PACKAGE + "/gillspoon/_[a-z]*.py")]
+        attempted = 0
+        for name in names:
+            failed, count = doctest.testmod(importlib.import_module(name))
+            self.assertEqual(failed, 0, name)
+            attempted += count
+        self.assertGreater(attempted, 15)
+
+    def test_what_is_public_has_a_docstring(self):
+        for name in gillspoon.__all__:
+            if name != "Note":
+                self.assertTrue(getattr(gillspoon, name).__doc__, name)
+
+
+if __name__ == "__main__":
+    unittest.main()
