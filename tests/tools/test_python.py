@@ -624,7 +624,7 @@ class RandomGames:
         fen, tags = self.random.choice(self.starts)
         result = self.random.choice(("1-0", "0-1", "1/2-1/2", "*"))
         values = ["a", "", 'x\\"y', "\\\\", "\xfc \u20ac", "\\n"]
-        for name in self.random.sample(("White", "Zz", "a", "Event", "_1"), self.random.randint(0, 3)):
+        for name in self.random.sample(("White", "Zz", "a", "Event", "1_b"), self.random.randint(0, 3)):
             tags += '[%s "%s"]' % (name, self.random.choice(values))
         words = [*self.notes()] if self.random.random() < 0.1 else []
         if self.random.random() < 0.95:
