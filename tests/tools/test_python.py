@@ -1,11 +1,13 @@
 #!/usr/bin/env python3
 """Tests of the Python package (python/gillspoon): its calls, its wheel, and docs/PYTHON.md."""
+import ast
 import bz2
 import doctest
 import glob
 import gzip
 import importlib
 import io
+import json
 import mmap
 import os
 import pickle
@@ -15,11 +17,12 @@ import shutil
 import subprocess
 import sys
 import tempfile
+import time
 import unittest
 
 sys.path.insert(0, os.path.dirname(os.path.realpath(__file__)))
 import programs
-from documents import blocks_of, lines_of, table
+from documents import blocks_of, lines_of, samples, table
 from programs import ROOT, need, need_program, not_tried, run, vectors
 from test_sieve import BAD, sound
 
@@ -814,6 +817,140 @@ class Typed(unittest.TestCase):
         for name in gillspoon.__all__:
             if name != "Note":
                 self.assertTrue(getattr(gillspoon, name).__doc__, name)
+
+
+class Documents(Folder):
+    """The samples in Python of all documents, each in a folder with games.pgn."""
+
+    def setUp(self):
+        super().setUp()
+        text = b""
+        for name in ("annotated", "one-bad-game"):
+            with open("%s/examples/%s.pgn" % (ROOT, name), "rb") as file:
+                text += file.read()
+        need("zstd")
+        self.assertEqual(run(["zstd", "-q", self.put("games.pgn", text)]).returncode, 0)
+        shutil.copytree(ROOT + "/examples", self.folder + "/examples")
+
+    def run_sample(self, text, *words):
+        path = self.put("sample.py", text.encode())
+        ran = run([PYTHON, path, *words], cwd=self.folder, env=environment())
+        self.assertEqual((ran.returncode, ran.stderr), (0, b""), text)
+        return ran.stdout.decode()
+
+    def sample(self, heading, *words):
+        """What the sample below a heading of docs/PYTHON.md prints, without its line of the fault."""
+        lines = lines_of("docs/PYTHON.md")
+        at = next(number for number, it in enumerate(lines) if it.lstrip("# ") == heading)
+        inner = next(inner for number, before, inner in blocks_of(lines)
+                     if number > at and lines[number - 1] == "```python")
+        printed = self.run_sample("\n".join(inner) + "\n", *words)
+        return re.sub("(?m)^line 14, column 13: move is not legal\n", "", printed)
+
+    def get(self, name):
+        with open(os.path.join(self.folder, name), "rb") as file:
+            return file.read()
+
+    def test_the_five_lines(self):
+        shown = self.sample("The Python package")
+        self.assertTrue(shown.startswith("1 Silva, J. 1-0 7\n1 e4 rnbqkbnr/pppppppp/8/8/4P3/"))
+        self.assertEqual(shown.count("\n"), 3 + 12)
+
+    def test_each_sample_of_other_documents(self):
+        count = 0
+        for place, text, said in samples("python"):
+            if not place.startswith("docs/PYTHON.md"):
+                count += 1
+                with self.subTest(place):
+                    shown = self.run_sample(text)
+                    self.assertTrue(shown)
+                    if said is not None:
+                        self.assertEqual(shown, said)
+        self.assertGreater(count, 1)
+
+    def test_there_are_ten_recipes(self):
+        lines = lines_of("docs/PYTHON.md")
+        self.assertGreaterEqual(sum(it.startswith("### ") for it in lines), 10)
+        tested = set(re.findall(r'self\.sample\("(.*?)"', open(__file__, encoding="utf-8").read()))
+        self.assertEqual({it[4:] for it in lines if it.startswith("### ")} - tested, set())
+
+    def test_filter(self):
+        self.sample("Filter by player")
+        text = self.get("chosen.pgn")
+        self.assertEqual((text.count(b"[Event "), text.count(b'[White "Silva, J."]')), (3, 2))
+
+    def test_openings(self):
+        self.assertEqual(self.sample("Count the openings by their first moves"),
+                         "1 e4 e5 Bc4 Nc6\n1 d4 d5 Nf3 Nc6\n1 c4\n")
+
+    def test_positions(self):
+        self.assertEqual(self.sample("Collect the positions in a set"), "12 positions\n")
+        self.assertEqual(self.sample("Find the games that reach a position"),
+                         "1 Silva, J. Nowak, A.\n")
+
+    def test_comments(self):
+        self.sample("Take out comments and variations")
+        text = self.get("bare.pgn")
+        self.assertIn(b"\n\n1. e4 e5 2. Bc4 Nc6 3. Qh5 Nf6 $2 4. Qxf7# 1-0\n\n", text)
+        self.assertEqual(text.count(b'[Annotator "none"]'), 3)
+
+    def test_variations(self):
+        self.assertEqual(
+            self.sample("Visit every variation"),
+            "1 10 moves, to depth 1\n2 4 moves, to depth 0\n4 1 moves, to depth 0\n")
+
+    def test_report(self):
+        self.assertEqual(
+            self.sample("Report what is rejected"),
+            "game 3: line 14, column 13: move is not legal\n    in "
+            "rnbqkbnr/pppp1ppp/8/4p3/4P3/8/PPPP1PPP/RNBQKBNR w KQkq e6 0 2\n")
+
+    def test_pandas(self):
+        if run([PYTHON, "-c", "import pandas"]).returncode:
+            not_tried("python3-pandas is missing")
+        shown = self.sample("A table for pandas").split()
+        self.assertEqual(shown, "count mean result * 2 2.5 1-0 1 7.0".split())
+
+    def archives(self):
+        """Some more files, and the counts of all by one process."""
+        for number in range(5):
+            self.put("a%d.pgn" % number, archive(20, "plain") + self.get("games.pgn"))
+        counts, bad = {"bad": 0}, []
+        for path in glob.glob(self.folder + "/*.pgn"):
+            for game in gillspoon.games(path, on_fault=bad.append):
+                counts[game.result] = counts.get(game.result, 0) + 1
+        counts["bad"] = len(bad)
+        self.assertEqual((len(bad), sum(counts.values())), (6, 5 * 24 + 4))
+        return counts
+
+    def test_processes(self):
+        counts = self.archives()
+        self.assertEqual(ast.literal_eval(self.sample("Many files by all processors")), counts)
+
+    def test_dask(self):
+        """A scheduler and two workers on the loopback of this machine."""
+        need("dask-scheduler", "dask-worker")
+        counts, place = self.archives(), self.folder + "/scheduler.json"
+        env, log = environment(), open(self.folder + "/log", "wb")
+        self.addCleanup(log.close)
+
+        def start(*words):
+            child = subprocess.Popen([*words, "--no-dashboard", "--scheduler-file", place], env=env,
+                                     cwd=self.folder, stdout=log, stderr=log)
+            self.addCleanup(child.wait)
+            self.addCleanup(child.terminate)
+
+        start("dask-scheduler", "--host", "127.0.0.1", "--port", "0")
+        for _ in range(2):
+            start("dask-worker", "--nthreads", "1", "--no-nanny")
+        begun = time.monotonic()
+        while not os.path.exists(place) and time.monotonic() < begun + 60:
+            time.sleep(0.1)
+        with open(place, encoding="utf-8") as file:
+            address = json.load(file)["address"]
+        self.assertTrue(address.startswith("tcp://127.0.0.1:"), address)
+        shown = self.sample("Many machines by Dask", address)
+        self.assertEqual(ast.literal_eval(shown), counts)
 
 
 if __name__ == "__main__":
