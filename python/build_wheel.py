@@ -108,7 +108,7 @@ def build_wheel(wheel_directory, config_settings=None, metadata_directory=None):
 
 
 def build_editable(wheel_directory, config_settings=None, metadata_directory=None):
-    """Called by pip install --editable ./python: the modules and the library stay where they are."""
+    """Called by pip install --editable ./python: modules and library stay where they are."""
     library()
     return build(wheel_directory, {"gillspoon.pth": (HERE + "\n").encode()})
 

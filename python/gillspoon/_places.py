@@ -27,7 +27,7 @@ class LineCounter:
 
     def __init__(self) -> None:
         self._line = 1
-        # of the current line: its bytes so far, those that begin a character, and whether it is UTF-8
+        # the bytes of the current line, those that begin a character, and whether it is UTF-8
         self._bytes = self._characters = 0
         self._is_utf8, self._decoder = True, _Decoder()
         # what the next byte decides: the start of a byte order mark, or a CR

@@ -10,6 +10,7 @@ from typing import Any, BinaryIO, Callable, Iterator, Optional, Protocol, Tuple,
 from ._places import LINE_END, NEAR, LineCounter
 
 CHUNK = 1 << 20
+_TEXT = 'the file %s: open it in binary mode, as in open(path, "rb")'
 # A line that is longer comes in parts.
 LONGEST_LINE = 1 << 20
 
@@ -72,7 +73,7 @@ def _open_data(data: Data) -> Opened:
 def _reader_of_file(file: Any) -> Callable[[int], bytes]:
     """How an open file is read: what a pipe has is taken as it comes."""
     if isinstance(file, io.TextIOBase):
-        raise TypeError("the file is open as text: open it in binary mode, as in open(path, \"rb\")")
+        raise TypeError(_TEXT % "is open as text")
     reader: Any = getattr(file, "read1", None) or getattr(file, "read", None)
     if reader is None:
         raise TypeError("a source is a path, bytes, an mmap or a binary file, not %s"
@@ -81,7 +82,7 @@ def _reader_of_file(file: Any) -> Callable[[int], bytes]:
     def read(size: int) -> bytes:
         data = reader(size)
         if isinstance(data, str):
-            raise TypeError("the file gives text: open it in binary mode, as in open(path, \"rb\")")
+            raise TypeError(_TEXT % "gives text")
         if data is None:
             raise BlockingIOError("the file has no bytes yet: open it in blocking mode")
         return bytes(data)

@@ -1,14 +1,12 @@
 #!/usr/bin/env python3
-"""Tests of the library for C (crates/pgn_c): its header, and the examples in C and Python."""
+"""Tests of the library for C (crates/pgn_c): its header, and the example in C."""
 import glob
-import importlib.util
 import os
 import re
 import shutil
 import subprocess
 import sys
 import tempfile
-import threading
 import unittest
 
 sys.path.insert(0, os.path.dirname(os.path.realpath(__file__)))
@@ -17,7 +15,6 @@ from programs import ROOT, need, need_library, need_program, run
 from small_repository import Repository
 
 CRATE = ROOT + "/crates/pgn_c"
-INITIAL = b"rnbqkbnr/pppppppp/8/8/8/8/PPPPPPPP/RNBQKBNR w KQkq - 0 1"
 NO_SUCH_MOVE = ROOT + "/examples/no-such-move.pgn"
 
 
@@ -56,13 +53,10 @@ class Builder(unittest.TestCase):
         return ran.returncode, ran.stdout.decode(), ran.stderr.decode()
 
     def test_either_build(self):
-        for words, shared in (([], "cargo built shared\n"), (["--proved"], "cc built shared\n"),
-                              (["--cargo"], "cargo built shared\n")):
+        for words in ([], ["--proved"], ["--cargo"]):
             status, _, told = self.build(*words, "to")
             self.assertEqual(status, 0, told)
-            self.assertEqual(sorted(os.listdir(self.here.root + "/to")), ["libpgn.so", "pgn_check"])
-            with open(self.here.root + "/to/libpgn.so", encoding="ascii") as file:
-                self.assertEqual(file.read(), shared)
+            self.assertEqual(os.listdir(self.here.root + "/to"), ["pgn_check"])
 
     def test_without_cargo_and_the_toolchain(self):
         for name in ("cargo", "rt"):
@@ -329,167 +323,6 @@ class CExampleOfCargo(CExample, unittest.TestCase):
 
 
 class CExampleOfProved(CExample, unittest.TestCase):
-    build = "--proved"
-
-
-# ---- the module for Python
-
-def loaded(build):
-    """The module over the shared object that was built for these tests."""
-    os.environ["PGN_LIBRARY"] = Built.path(build, "libpgn.so")
-    spec = importlib.util.spec_from_file_location("pgn", ROOT + "/examples/python/pgn.py")
-    module = importlib.util.module_from_spec(spec)
-    spec.loader.exec_module(module)
-    return module
-
-
-class Python:
-    """The tests of a build."""
-
-    build = None
-
-    @classmethod
-    def setUpClass(cls):
-        cls.pgn = loaded(cls.build)
-
-    def path(self, name):
-        return Built.path(self.build, name)
-
-    def archive(self, games, style):
-        """The path and the bytes of an archive that is made here."""
-        path = self.path(style + ".pgn")
-        ran = run([sys.executable, "bench/make_archive.py", "--games", str(games),
-                   "--lines", "20", "--style", style])
-        with open(path, "wb") as file:
-            file.write(ran.stdout)
-        return path, ran.stdout
-
-    def test_fault(self):
-        with open(NO_SUCH_MOVE, "rb") as file:
-            text = file.read()
-        for call in (self.pgn.convert, self.pgn.check):
-            with self.assertRaises(self.pgn.PgnFault) as raised:
-                call(text)
-            fault = raised.exception
-            self.assertEqual((fault.number, fault.offset), (34, 77))
-            self.assertEqual(fault.reason, "move is not legal")
-            self.assertEqual(str(fault), "fault 34 at byte 77: move is not legal")
-
-    def test_field_of_a_fen(self):
-        with self.assertRaises(self.pgn.PgnFault) as raised:
-            self.pgn.convert(b'[FEN "8/8/8/8/8/8/8/8 x - - 0 1"] *')
-        self.assertEqual(raised.exception.number, 26)
-        self.assertEqual(raised.exception.reason, "bad FEN, field 2")
-
-    def test_archives_as_the_program(self):
-        program = need_program()
-        for style in ("plain", "annotated"):
-            path, text = self.archive(200, style)
-            for reduced in (False, True):
-                words = ["export", "--reduced", path] if reduced else ["export", path]
-                wanted = run([program, *words]).stdout
-                self.assertTrue(wanted)
-                self.assertEqual(self.pgn.convert(text, reduced), wanted)
-                self.assertEqual(b"".join(self.pgn.games(path, reduced)), wanted)
-            self.assertEqual(len(list(self.pgn.games(path))), 200)
-            self.assertEqual(self.pgn.check(text)[0], 200)
-
-    def test_short_text_with_a_long_export(self):
-        text = b"*" * 3000
-        self.assertEqual(self.pgn.convert(text).count(b"[Event "), 3000)
-
-    def test_games_before_a_fault(self):
-        path = ROOT + "/examples/one-bad-game.pgn"
-        games = self.pgn.games(path)
-        first = next(games)
-        self.assertTrue(first.startswith(b'[Event "'))
-        self.assertTrue(first.endswith(b"\n\n"))
-        with self.assertRaises(self.pgn.PgnFault) as raised:
-            list(games)
-        self.assertEqual(raised.exception.offset, 122)
-
-    def test_kinds_of_bytes(self):
-        for data in (b"", bytearray()):
-            self.assertEqual(self.pgn.convert(data), b"")
-        self.assertEqual(self.pgn.check(bytearray(b"e4 e5 *")), (1, 2))
-        for data in ("e4 *", memoryview(b"e4 *"), 7):
-            with self.assertRaises(TypeError):
-                self.pgn.check(data)
-        path = self.path("empty.pgn")
-        with open(path, "wb"):
-            pass
-        self.assertEqual(list(self.pgn.games(path)), [])
-
-    def test_fen(self):
-        same = b"rnbqkbnr/pppppppp/44/8/11111111/8/PPPPPPPP/RNBQKBNR w KQkq - 00 01"
-        self.assertEqual(self.pgn.normalize_fen(same), INITIAL)
-        for field, fen in enumerate((b"9/8", b"x", b"KK", b"e5", b"x", b""), 1):
-            fields = INITIAL.split(b" ")
-            fields[field - 1] = fen
-            with self.assertRaises(self.pgn.FenFault) as raised:
-                self.pgn.normalize_fen(b" ".join(fields))
-            self.assertEqual(raised.exception.field, field)
-        with self.assertRaises(self.pgn.FenFault) as raised:
-            self.pgn.normalize_fen(b"8/8/8/8/8/8/8/8 w - - 0 1")
-        self.assertEqual(raised.exception.field, 7)
-
-    def test_san(self):
-        after = b"rnbqkbnr/pppppppp/8/8/8/5N2/PPPPPPPP/RNBQKB1R b KQkq - 1 1"
-        self.assertEqual(self.pgn.san(INITIAL, b"Ng1f3"), (b"Nf3", after))
-        mate = b"r1bqkb1r/pppp1ppp/2n2n2/4p2Q/2B1P3/8/PPPP1PPP/RNB1K1NR w KQkq - 4 4"
-        self.assertEqual(self.pgn.san(mate, b"Qf7")[0], b"Qxf7#")
-        rooks = b"7k/8/8/8/8/8/8/R4R1K w - - 0 1"
-        last = b"7k/8/8/8/8/8/8/R4R1K b - - 0 99999"
-        for fen, text, number in ((INITIAL, b"--", 33), (INITIAL, b"e5", 34),
-                                  (rooks, b"Rc1", 35), (last, b"Kg7", 36)):
-            with self.assertRaises(self.pgn.MoveFault) as raised:
-                self.pgn.san(fen, text)
-            self.assertEqual(raised.exception.number, number)
-        with self.assertRaises(self.pgn.FenFault):
-            self.pgn.san(b"x", b"e4")
-
-    def test_threads(self):
-        path, text = self.archive(200, "plain")
-        wanted = self.pgn.convert(text)
-        got = [None] * 4
-
-        def work(n):
-            got[n] = self.pgn.convert(text, reduced=n % 2 == 1)
-
-        threads = [threading.Thread(target=work, args=(n,)) for n in range(4)]
-        for thread in threads:
-            thread.start()
-        for thread in threads:
-            thread.join()
-        self.assertEqual(got[0], wanted)
-        self.assertEqual(got[2], wanted)
-        self.assertEqual(got[1], self.pgn.convert(text, True))
-        self.assertEqual(got[3], got[1])
-
-    def run_sample(self, text):
-        env = dict(os.environ, PGN_LIBRARY=self.path("libpgn.so"))
-        return run([sys.executable, "-c", text], env=env)
-
-    def test_samples_of_the_documents(self):
-        lines = printed_by(self, "python", self.run_sample).split(b"\n")
-        self.assertIn(b'[Event "?"]', lines)
-        self.assertIn(b"1. e4 e5 2. Bc4 Nc6 3. Qh5 Nf6 4. Qxf7# 1-0", lines)
-        self.assertIn(b"34 77 move is not legal", lines)
-        self.assertIn(b"(1, 7)", lines)
-
-    def test_as_a_program(self):
-        env = dict(os.environ, PGN_LIBRARY=self.path("libpgn.so"))
-        ran = run([sys.executable, "examples/python/pgn.py", NO_SUCH_MOVE], env=env)
-        self.assertEqual(ran.returncode, 1)
-        self.assertEqual(ran.stderr, b"fault 34 at byte 77: move is not legal\n")
-        self.assertTrue(ran.stdout.startswith(b'[Event "?"]\n'))
-
-
-class PythonOfCargo(Python, unittest.TestCase):
-    build = "--cargo"
-
-
-class PythonOfProved(Python, unittest.TestCase):
     build = "--proved"
 
 

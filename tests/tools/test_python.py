@@ -17,6 +17,7 @@ import shutil
 import subprocess
 import sys
 import tempfile
+import threading
 import time
 import unittest
 
@@ -45,7 +46,10 @@ def library():
 
 def setUpModule():
     global gillspoon
-    os.environ["GILLSPOON_LIBRARY"] = library()
+    file, named = library(), os.environ.get("GILLSPOON_LIBRARY")
+    os.environ["GILLSPOON_LIBRARY"] = file
+    if not named:
+        unittest.addModuleCleanup(os.environ.pop, "GILLSPOON_LIBRARY")
     if PACKAGE not in sys.path:
         sys.path.insert(0, PACKAGE)
     gillspoon = importlib.import_module("gillspoon")
@@ -244,7 +248,8 @@ class Faults(unittest.TestCase):
             self.assertEqual(raised.exception.fen, fen, text)
 
     def test_words_are_those_of_the_fault_table(self):
-        rows = {int(row[0]): row[3].strip("`") for row in table("docs/PROFILE.md", "No", "Rejected")}
+        rows = {int(row[0]): row[3].strip("`")
+                for row in table("docs/PROFILE.md", "No", "Rejected")}
         words = importlib.import_module("gillspoon._faults").MOVE_FAULTS
         self.assertEqual(words, {number: rows[number] for number in (33, 34, 35, 36)})
 
@@ -276,7 +281,68 @@ class Faults(unittest.TestCase):
         self.assertGreater(faults, 50)
 
 
+class EachBuild(Folder):
+    """The library by Cargo and the one by rt: the package converts what the program exports."""
+
+    TEXT = ("import sys, gillspoon\n"
+            "path, reduced = sys.argv[1], sys.argv[2:] == ['--reduced']\n"
+            "text = gillspoon.convert(path, reduced=reduced)\n"
+            "games = list(gillspoon.games(path, reduced=reduced))\n"
+            "assert b''.join(it.text for it in games) == text\n"
+            "count, plies = gillspoon.check(path)\n"
+            "assert (count, plies) == (200, sum(it.plies for it in games)), count\n"
+            "sys.stdout.buffer.write(text)\n")
+
+    def check(self, build):
+        static = programs.need_library(build)
+        env = environment(GILLSPOON_LIBRARY=os.path.dirname(static) + "/libpgn_c.so")
+        for style in ("plain", "annotated"):
+            path = self.put(style, archive(200, style))
+            for words in ([], ["--reduced"]):
+                ran = run([PYTHON, "-c", self.TEXT, path, *words], env=env)
+                self.assertEqual(ran.returncode, 0, ran.stderr)
+                wanted = run([need_program(), "export", *words, path]).stdout
+                self.assertTrue(wanted)
+                self.assertTrue(ran.stdout == wanted, (style, words))
+
+    def test_by_cargo(self):
+        self.check("--cargo")
+
+    def test_by_rt(self):
+        self.check("--proved")
+
+
 class Calls(unittest.TestCase):
+    def test_threads(self):
+        text = archive(200, "plain")
+        wanted = [gillspoon.convert(text, reduced=it) for it in (False, True)]
+        got = [None] * 4
+
+        def work(number):
+            got[number] = gillspoon.convert(text, reduced=number % 2 == 1)
+
+        threads = [threading.Thread(target=work, args=(it,)) for it in range(4)]
+        for thread in threads:
+            thread.start()
+        for thread in threads:
+            thread.join()
+        self.assertTrue(got == wanted * 2)
+
+    def test_short_text_with_a_long_export(self):
+        self.assertEqual(gillspoon.convert(b"*" * 3000).count(b"[Event "), 3000)
+
+    def test_fields_of_a_fen(self):
+        for field, wrong in enumerate(("9/8", "x", "KK", "e5", "x", ""), 1):
+            fields = INITIAL.split(" ")
+            fields[field - 1] = wrong
+            with self.assertRaises(gillspoon.FenFault) as raised:
+                gillspoon.normalize_fen(" ".join(fields))
+            self.assertEqual(raised.exception.field, field)
+        with self.assertRaises(gillspoon.PgnFault) as raised:
+            gillspoon.convert(b'[FEN "8/8/8/8/8/8/8/8 x - - 0 1"] *')
+        self.assertEqual((raised.exception.number, raised.exception.reason),
+                         (26, "bad FEN, field 2"))
+
     def test_fen(self):
         self.assertEqual(gillspoon.normalize_fen("4k3/44/8/8/8/8/8/4K3 w - - 00 01"),
                          "4k3/8/8/8/8/8/8/4K3 w - - 0 1")
@@ -299,6 +365,9 @@ class Calls(unittest.TestCase):
             with self.assertRaises(gillspoon.MoveFault) as raised:
                 gillspoon.san(fen, move)
             self.assertEqual((raised.exception.number, raised.exception.reason), (number, reason))
+        with self.assertRaises(gillspoon.MoveFault) as raised:
+            gillspoon.san("7k/8/8/8/8/8/8/R4R1K b - - 0 99999", "Kg7")
+        self.assertEqual(raised.exception.number, 36)
         with self.assertRaises(gillspoon.MoveFault) as raised:
             gillspoon.san("1k6/8/8/8/8/8/4K3/R6R w - - 0 1", "Rd1")
         self.assertEqual(raised.exception.number, 35)
@@ -429,7 +498,8 @@ class InPieces(unittest.TestCase):
 
     def test_bad_games(self):
         for name, text, _, _ in BAD:
-            self.check(sound(b"a") + text + sound(b"b") + text.replace(b"\n", b"\r\n") + sound(b"c"))
+            other = text.replace(b"\n", b"\r\n")
+            self.check(sound(b"a") + text + sound(b"b") + other + sound(b"c"))
 
     def test_between_games(self):
         between = b"  ; a { b\n% 1-0 {\r{ c ; d\n\n% e }\n% f\r\n ;\r\n%\n{}\n\n \r\r\n\t\r"
@@ -515,7 +585,8 @@ class Sieve(Folder):
         self.assertEqual(self.compare(sound(b"a") + b"\x1a" + sound(b"b") + b"\x00"), (2, 2))
 
     def test_numbers(self):
-        data = sound(b"a") + b'[Event "x"]\n\n1. e5 *\n\n' + sound(b"b") + b"\xef\xbb\xbf" + sound(b"c")
+        data = sound(b"a") + b'[Event "x"]\n\n1. e5 *\n\n' + sound(b"b") \
+            + b"\xef\xbb\xbf" + sound(b"c")
         numbers, faults = [], []
         for game in gillspoon.games(data, on_fault=faults.append):
             numbers.append((game.number, game.tags["Event"]))
@@ -530,8 +601,9 @@ class Sieve(Folder):
             data = bytearray(whole)
             for _ in range(source.randint(1, 12)):
                 at, size = source.randrange(len(data)), source.choice((1, 1, 3, 40, 400))
-                put = source.choice((b"", b"", b"{", b"}", b'"', b"[", b"]", b"(", b"\n", b"\n\n", b"%",
-                                     b";", b"*", b"1-0", b"\x00", b"\xef\xbb\xbf", b"Ke9 ", b"--"))
+                put = source.choice((b"", b"", b"{", b"}", b'"', b"[", b"]", b"(", b"\n", b"\n\n",
+                                     b"%", b";", b"*", b"1-0", b"\x00", b"\xef\xbb\xbf", b"Ke9 ",
+                                     b"--"))
                 data[at:at + size] = put
             counts = self.compare(bytes(data))
             games, faults = games + counts[0], faults + counts[1]
@@ -550,7 +622,8 @@ class Places(Folder):
             data = source.choice((b"", b"\xef\xbb\xbf", b"\xef")) + data
             path = self.put("a", data)
             offset = source.randint(0, len(data))
-            said = run([ROOT + "/bin/pgn_where", path, str(offset)]).stdout.decode("utf-8", "replace")
+            said = run([ROOT + "/bin/pgn_where", path, str(offset)]).stdout
+            said = said.decode("utf-8", "replace")
             line, column = re.search(r": line (\d+), column (\d+) ", said).groups()
             counter, sizes = places.LineCounter(), iter(lambda: source.randint(1, 4), 0)
             for part in cut(data[:offset], sizes):
@@ -565,7 +638,8 @@ class Places(Folder):
 class RandomGames:
     """Random games: legal moves of a small tree of positions, with all that movetext can have."""
 
-    WORDS = ["good", "{", "(x", "1-0", "%", ";", "$1", "\xfc\u20ac", "\xa0", "[%clk", "e4", "1.", "*"]
+    WORDS = ["good", "{", "(x", "1-0", "%", ";", "$1", "\xfc\u20ac", "\xa0", "[%clk", "e4", "1.",
+             "*"]
 
     def __init__(self, seed):
         self.random = random.Random(seed)
@@ -627,7 +701,8 @@ class RandomGames:
         fen, tags = self.random.choice(self.starts)
         result = self.random.choice(("1-0", "0-1", "1/2-1/2", "*"))
         values = ["a", "", 'x\\"y', "\\\\", "\xfc \u20ac", "\\n"]
-        for name in self.random.sample(("White", "Zz", "a", "Event", "1_b"), self.random.randint(0, 3)):
+        names = ("White", "Zz", "a", "Event", "1_b")
+        for name in self.random.sample(names, self.random.randint(0, 3)):
             tags += '[%s "%s"]' % (name, self.random.choice(values))
         words = [*self.notes()] if self.random.random() < 0.1 else []
         if self.random.random() < 0.95:
@@ -778,8 +853,8 @@ class Wheel(Folder):
         self.assertEqual(ran.stdout.decode().count(self.folder + "/venv/lib/"), 2, ran.stderr)
         with open(ROOT + "/README.md", encoding="utf-8") as file:
             self.assertIn("import gillspoon\nfor game in gillspoon.games(", file.read())
-        ran = run([python, "-c", "import gillspoon\nprint(gillspoon.check('examples/annotated.pgn'))"],
-                  env=env)
+        text = "import gillspoon; print(gillspoon.check('examples/annotated.pgn'))"
+        ran = run([python, "-c", text], env=env)
         self.assertEqual(ran.stdout, b"Totals(games=1, plies=7)\n")
 
     def test_tag(self):
@@ -839,7 +914,7 @@ class Documents(Folder):
         return ran.stdout.decode()
 
     def sample(self, heading, *words):
-        """What the sample below a heading of docs/PYTHON.md prints, without its line of the fault."""
+        """What the sample below a heading of docs/PYTHON.md prints, but the line of the fault."""
         lines = lines_of("docs/PYTHON.md")
         at = next(number for number, it in enumerate(lines) if it.lstrip("# ") == heading)
         inner = next(inner for number, before, inner in blocks_of(lines)
@@ -871,7 +946,8 @@ class Documents(Folder):
     def test_there_are_ten_recipes(self):
         lines = lines_of("docs/PYTHON.md")
         self.assertGreaterEqual(sum(it.startswith("### ") for it in lines), 10)
-        tested = set(re.findall(r'self\.sample\("(.*?)"', open(__file__, encoding="utf-8").read()))
+        with open(__file__, encoding="utf-8") as file:
+            tested = set(re.findall(r'self\.sample\("(.*?)"', file.read()))
         self.assertEqual({it[4:] for it in lines if it.startswith("### ")} - tested, set())
 
     def test_filter(self):
