@@ -6,6 +6,9 @@ from . import _library
 from ._faults import FenFault, MoveFault
 
 
+_san = _library.san
+
+
 class Played(NamedTuple):
     """A move that was played: its SAN, and the FEN of the position after it."""
 
@@ -59,6 +62,15 @@ def san(fen: str, move: str) -> Played:
     if result.status != _library.OK:
         _refuse(result.fault, result.field, fen, move)
     return Played(result.san.decode("ascii"), result.fen.decode("ascii"))
+
+
+def position_after(fen: str, move: str) -> str:
+    """The FEN after a move in SAN, fast: a game has many."""
+    position, text = fen.encode(), move.encode()
+    result = _san(position, len(position), text, len(text))
+    if result.status:
+        _refuse(result.fault, result.field, fen, move)
+    return result.fen.decode()
 
 
 def explain(fen: str, move: str) -> Explanation:

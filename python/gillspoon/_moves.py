@@ -34,20 +34,23 @@ class Ply:
     @property
     def fen(self) -> str:
         """The FEN of the position after the move."""
-        if self._fen is None:
-            plies, at = [], self
-            while at._fen is None:
-                plies.append(at)
-                if isinstance(at._before, str):
-                    break
-                at = at._before
-            for ply in reversed(plies):
-                before = ply._before
-                fen = before if isinstance(before, str) else before._fen
-                assert fen is not None
-                ply._fen = _calls.san(fen, ply.san).fen
-            assert self._fen is not None
-        return self._fen
+        fen = self._fen
+        if fen is None:
+            before = self._before
+            start = before if isinstance(before, str) else before._fen
+            fen = self._fen = _calls.position_after(start or self._first_positions(), self.san)
+        return fen
+
+    def _first_positions(self) -> str:
+        """Finds the position after each move before this one, and gives the last of them."""
+        plies, at = [], self._before
+        while isinstance(at, Ply) and at._fen is None:
+            plies.append(at)
+            at = at._before
+        fen = ""
+        for ply in reversed(plies):
+            fen = ply.fen
+        return fen
 
     @property
     def nags(self) -> List[int]:
