@@ -35,6 +35,8 @@ class Input:
             self._read, self._close = _open_data(source)
         elif isinstance(source, (str, os.PathLike)):
             path = os.fspath(source)
+            if source is path and "\n" in path:
+                raise TypeError("a str is a path: give the text itself as bytes, text.encode()")
             self._read, self._close = _OPENERS.get(os.path.splitext(path)[1], _open_plain)(path)
         else:
             self._read = _reader_of_file(source)

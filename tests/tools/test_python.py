@@ -28,7 +28,8 @@ from programs import ROOT, need, need_program, not_tried, run, vectors
 from test_sieve import BAD, sound
 
 PACKAGE = ROOT + "/python"
-PYTHON = "/usr/bin/python3"
+# Debian's, which has the modules of Debian's packages.
+PYTHON = "/usr/bin/python3" if os.path.exists("/usr/bin/python3") else sys.executable
 INITIAL = "rnbqkbnr/pppppppp/8/8/8/8/PPPPPPPP/RNBQKBNR w KQkq - 0 1"
 REAL = "/usr/share/pychess/learn/**/*.pgn"
 RANDOM_GAMES = 100000
@@ -464,6 +465,8 @@ class Sources(Folder):
             for source in (file, io.StringIO("e4 *")):
                 with self.assertRaisesRegex(TypeError, "binary mode"):
                     gillspoon.games(source)
+        with self.assertRaisesRegex(TypeError, "as bytes"):
+            gillspoon.check('[White "x"]\n1. e4 *\n')
         for source in (7, None, ["e4 *"]):
             with self.assertRaisesRegex(TypeError, "path, bytes"):
                 gillspoon.games(source)
