@@ -257,11 +257,13 @@ def convert(source: Source, *, checked: bool = False, reduced: bool = False) -> 
     if not checked:
         capacity = 2 * len(source) + 4096
         while True:
-            buffer = ctypes.create_string_buffer(capacity)
+            # its memory is not touched before it is written, as that of ctypes would be
+            room = bytearray(capacity)
+            buffer = (ctypes.c_char * capacity).from_buffer(room)
             mode = _library.REDUCED_FORMAT if reduced else _library.FULL_FORMAT
             found = _library.convert(source, len(source), buffer, capacity, mode)
             if found.status == _library.OK:
-                return ctypes.string_at(buffer, found.written)
+                return bytes(memoryview(room)[:found.written])
             if found.status == _library.FAULT:
                 break
             capacity *= 2
@@ -274,7 +276,7 @@ def _all_of(source: Source) -> bytes:
         return source
     opened = Input(source)
     try:
-        return b"".join(iter(lambda: opened.read(1 << 24), b""))
+        return b"".join(iter(lambda: opened.read(1 << 26), b""))
     finally:
         opened.close()
 

@@ -199,7 +199,8 @@ class Window:
 
     def __init__(self, source: Source) -> None:
         self._input = Input(source)
-        self._counter = LineCounter()
+        # at the first byte in memory, and at the last place that was asked for
+        self._counter, self._placed = LineCounter(), (0, LineCounter())
         self.data, self.base, self.is_whole = b"", 0, False
 
     def close(self) -> None:
@@ -233,8 +234,12 @@ class Window:
         while not LINE_END.search(self.data, at, at + NEAR) and len(self.data) - at < NEAR:
             if not self.more(self.base + 1):
                 break
-        counter = self._counter.copy()
-        counter.feed(self.data[:at])
+        begin, counter = self._placed
+        if not self.base <= begin <= offset:
+            begin, counter = self.base, self._counter
+        counter = counter.copy()
+        counter.feed(self.data[begin - self.base:at])
+        self._placed = offset, counter
         return counter.place(self.data[at:at + NEAR])
 
     def lines(self, begin: int, keep: Callable[[], Optional[int]]) -> Iterator[Tuple[int, bytes]]:

@@ -105,6 +105,17 @@ def ever(value):
         yield value
 
 
+def damaged(source, data):
+    """The data with some bytes taken out, and others put in."""
+    data = bytearray(data)
+    for _ in range(source.randint(1, 12)):
+        at, size = source.randrange(len(data)), source.choice((1, 1, 3, 40, 400))
+        data[at:at + size] = source.choice((
+            b"", b"", b"{", b"}", b'"', b"[", b"]", b"(", b"\n", b"\r\n", b"\n\n", b"%", b"\n%",
+            b";", b"*", b"1-0", b"\x00", b"\xef\xbb\xbf", b"\xc3", b"Ke9 ", b"--", b'\n[Event "'))
+    return bytes(data)
+
+
 class Folder(unittest.TestCase):
     """A test with a folder of its own."""
 
@@ -504,6 +515,11 @@ class InPieces(unittest.TestCase):
             other = text.replace(b"\n", b"\r\n")
             self.check(sound(b"a") + text + sound(b"b") + other + sound(b"c"))
 
+    def test_random_damage(self):
+        source, whole = random.Random(5), archive(10, "annotated")
+        for _ in range(DAMAGED_FILES):
+            self.check(damaged(source, whole), 1, checked=source.random() < 0.5)
+
     def test_between_games(self):
         between = b"  ; a { b\n% 1-0 {\r{ c ; d\n\n% e }\n% f\r\n ;\r\n%\n{}\n\n \r\r\n\t\r"
         data = b"\xef\xbb\xbf% a\n" + between + b"1. e4 *" + between + b"% 0-1\n*" + between
@@ -601,14 +617,7 @@ class Sieve(Folder):
         whole = archive(30, "annotated") + archive(30, "plain")
         games = faults = 0
         for _ in range(DAMAGED_FILES):
-            data = bytearray(whole)
-            for _ in range(source.randint(1, 12)):
-                at, size = source.randrange(len(data)), source.choice((1, 1, 3, 40, 400))
-                put = source.choice((b"", b"", b"{", b"}", b'"', b"[", b"]", b"(", b"\n", b"\n\n",
-                                     b"%", b";", b"*", b"1-0", b"\x00", b"\xef\xbb\xbf", b"Ke9 ",
-                                     b"--"))
-                data[at:at + size] = put
-            counts = self.compare(bytes(data))
+            counts = self.compare(damaged(source, whole))
             games, faults = games + counts[0], faults + counts[1]
         self.assertGreater(min(games, faults), 2 * DAMAGED_FILES)
 
