@@ -1,12 +1,10 @@
 -- What a conversion of one game finds, from the calls of the converter.
-use Rattle.std.proofs.Common.{◌≡◌, ℕ, ◌+◌, ◌-◌, ◌^◌, ◌<◌, ◌≤◌, Bool, true, false, List, [], ◌∷◌, ◌++◌, length, take, drop, replicate, Option, None, Some, Result, Ok, Err, refl, sym, ap, subst, ◌∙◌, append-nil, append_assoc, length-append, arith, bytes_eq, codes, ◌||◌, IsTrue, option_map, unwrap_or}
+use Rattle.std.proofs.Common.{◌≡◌, ℕ, ◌+◌, ◌-◌, ◌^◌, ◌<◌, ◌≤◌, Bool, true, false, List, [], ◌∷◌, ◌++◌, length, take, drop, Option, None, Some, refl, sym, ap, subst, ◌∙◌, append-nil, append_assoc, length-append, arith, bytes_eq, codes, IsTrue}
 use Rattle.std.proofs.lemmas.List.{length-take-le, take-append-drop, take_at}
 use Rattle.std.proofs.lemmas.Slice.Eq.{bytes_eq-Decides}
 use Rattle.std.proofs.Math.Seq.{take-append-add}
 use Rattle.std.proofs.KnownBytes.{Appends-trans}
 use Rattle.std.specs.Io.KnownBytes.{Appends}
-use Rattle.chess_rules.specs.declared.position.Parts.{Parts}
-use Rattle.pgn_layout.specs.Device.{Device, one_more}
 use Rattle.pgn_lexer.specs.Tokens as tokens
 use Rattle.pgn_lexer.specs.Tokens.{Kind, Token, EndsAt}
 use Rattle.pgn_lexer.specs.TokensOf.{tokens_of}
@@ -15,8 +13,7 @@ use Rattle.pgn_lexer.specs.Stands.{Follows, first, still}
 use Rattle.pgn_game.specs.declared.marker.Marker.{Marker}
 use Rattle.pgn_game.specs.declared.marker.Marker.TheVariants.{WhiteWins, BlackWins, Draw, Unknown}
 use Rattle.pgn_game.specs.declared.mode.Mode.{Mode}
-use Rattle.pgn_game.specs.declared.reason.Reason.{Reason}
-use Rattle.pgn_game.specs.declared.reason.Reason.TheVariants.{WriteFault, InputTooLong}
+use Rattle.pgn_game.specs.declared.reason.Reason.TheVariants.{InputTooLong}
 use Rattle.pgn_game.specs.declared.reason.Fault.{Fault}
 use Rattle.pgn_game.specs.Markers.{marker_text}
 use Rattle.pgn_game.specs.Profile.{Profile, known_result}
@@ -25,11 +22,11 @@ use Rattle.pgn_game.specs.TagSection.{exported}
 use Rattle.pgn_game.specs.Game.{Game}
 use Rattle.pgn_game.specs.FaultTable.{is_score, marker_of}
 use Rattle.pgn_game.specs.Text.{game_text, text_of}
-use Rattle.pgn_game.specs.Progress.{read, due, position_at_fault}
+use Rattle.pgn_game.specs.Progress.{read, due}
 use Rattle.pgn_game.specs.Due.{Gains}
-use Rattle.pgn_game.specs.ConverterCalls.{Converter, FinishedGame, finished_game_of, finished_game_value, IsLast, Stands, StopsWriting, Stops, refused, unwritten, FedAll, FedGame, FedToFault, AreNext, StopsIn, at_token, too_long, Finishes, FinishesToFault, games_before, position_at_stop, refused_position, reported_position, CountsReason}
+use Rattle.pgn_game.specs.ConverterCalls.{Converter, FinishedGame, finished_game_of, finished_game_value, IsLast, Stands, StopsWriting, Stops, refused, unwritten, FedAll, FedGame, FedToFault, AreNext, StopsIn, at_token, too_long, Finishes, FinishesToFault, games_before, position_at_stop, refused_position, reported_position}
 use Rattle.pgn_game.specs.GamesRestart.{games_read, FinishesGame}
-use Rattle.pgn_game.specs.GameEnds.{EndsByMarker, GamesEndByMarker, LastGame, TextsEndBehindMarker, TextsEndBetweenGames}
+use Rattle.pgn_game.specs.GameEnds.{EndsByMarker, GamesEndByMarker, TextsEndBehindMarker, TextsEndBetweenGames}
 use Rattle.pgn_c.specs.declared.game_result.PgnGame.{PgnGame}
 use Rattle.pgn_c.specs.NextGame as next
 use Rattle.pgn_c.specs.NextGame.{AreKnown, NextOf, fault_result, game_result, nothing, profile_counting, status_for}
@@ -71,15 +68,6 @@ marks : (k : Kind) (at end : ℕ) (text : List ℕ) → marker_of k ≡ Some tex
 marks tokens.asterisk at end text marker ends = record { marker = Unknown; is_marker = (let e : Some (codes "*") ≡ Some text = marker in cc); place = omega (arith, ends) }
 marks (tokens.symbol s) at end text marker ends = of_score at end s text (is_score s) refl marker ends
 marks _ at end text marker ends = absurd (cc)
-
--- the marker of a value of Result, as the code finds it
-pub marker_found : (r : Option Marker) (marker : Marker) → option_map marker_text r ≡ marker_of (tokens.symbol (marker_text marker)) → unwrap_or r Unknown ≡ marker
-marker_found (Some WhiteWins) WhiteWins e = refl
-marker_found (Some BlackWins) BlackWins e = refl
-marker_found (Some Draw) Draw e = refl
-marker_found None Unknown e = refl
-marker_found (Some Unknown) Unknown e = refl
-marker_found _ _ e = absurd (cc)
 
 -- ---- a write that fails
 
@@ -202,7 +190,7 @@ module _ (mode : Mode) (missing : Marker) (u piece : List ℕ) (before : Option 
             ap (take (result.end + 1)) cut ∙ take_at (front ++ b ∷ []) bs (result.end + 1) (omega (arith, end, size, length-append front (b ∷ []))) in (
               coming new.lexer (b ∷ more),
               ap (λ l. tokens_of (l ++ more)) taken ∙ ap tokens_of (append_assoc front (b ∷ []) more)
-              ∙ fed.stands.lexer.tokens (b ∷ more) (subst (λ l. Follows (first l) (b ∷ more)) (sym is) refl),
+                  ∙ fed.stands.lexer.tokens (b ∷ more) (subst (λ l. Follows (first l) (b ∷ more)) (sym is) refl),
             )
 
     -- a token that is rejected whatever comes, a write that failed, or a text that is too long
@@ -347,9 +335,3 @@ module _ (mode : Mode) (missing : Marker) (u piece : List ℕ) (before : Option 
                 stops = writing_more p [] fed.tokens (tokens_of s) at before middle after fed.gains writing;
                 is_result = is;
               })
-
--- ---- a full buffer
-
-pub full_at_fault : (status : ℕ) (reason : Reason) (old new : ℕ) → (status ≡ 2 → ⊥) → CountsReason reason old new → status_for status reason ≡ 2 → new ≡ one_more old
-full_at_fault status WriteFault old new other counted is = counted
-full_at_fault status _ old new other counted is = absurd (other is)

@@ -2,7 +2,7 @@
 -- Letters: p is the profile, s the text, in which the bytes before the place are white space, and
 -- `piece` its bytes from the place on. `before` and `after` are the bytes that were written, before
 -- the call and after it, if they are kept.
-use Rattle.std.specs.Prelude.{◌≡◌, ℕ, ◌+◌, ◌-◌, ◌^◌, ◌<◌, ◌≤◌, ◌==◌, ◌||◌, ◌&&◌, ◌⊎◌, Bool, List, [], ◌∷◌, ◌++◌, length, take, drop, slice_index_or, decimal, Option, Some, None}
+use Rattle.std.specs.Prelude.{◌≡◌, ◌≢◌, ℕ, ◌+◌, ◌-◌, ◌^◌, ◌<◌, ◌≤◌, ◌==◌, ◌||◌, ◌&&◌, ◌⊎◌, Bool, List, [], ◌∷◌, ◌++◌, length, take, drop, slice_index_or, decimal, Option, Some, None}
 use Rattle.std.specs.Io.KnownBytes.{Appends}
 use Rattle.chess_rules.specs.declared.position.Parts.{Parts}
 use Rattle.chess_text.specs.Fen.{fen_text}
@@ -177,14 +177,36 @@ pub record ConvertsNext (p : Profile) (text : List ℕ) (from : ℕ) (before aft
   pub full : result.status ≡ 2 → length written ≡ length before
   pub is_result : result ≡ record found { written = length written }
 
--- The same in a format. `missing_result` is 0: a missing Result counts as `*`. The place is in the
--- text, and at most 2^62. Otherwise nothing is read or written.
+-- The next game is read, and nothing is written. A missing Result counts as this marker.
+abbrev pub ReadsNext : Mode → Marker → List ℕ → ℕ → PgnGame → Type 0
+ReadsNext mode marker text from found = NextOf (profile_counting mode marker) (text_from text from) (drop from text) found None None
+
+-- it is rejected then, because its Result is not its marker (41)
+abbrev pub IsOtherResult : Mode → Marker → List ℕ → ℕ → Type 0
+IsOtherResult mode marker text from = (found : PgnGame) × ReadsNext mode marker text from found × (found.fault ≡ 41)
+
+-- A missing Result takes the marker: it counts as one with which the Result of the game is its
+-- marker, if there is one. A game is converted into the buffer; without a game nothing is written.
+pub record ChecksNext (mode : Mode) (text : List ℕ) (from : ℕ) (before after : List ℕ) (result : PgnGame) : Type 0 where
+  pub marker : Marker
+  pub found : PgnGame
+  pub reads : ReadsNext mode marker text from found
+  pub is_game : found.status ≡ 0
+      → ConvertsNext (profile_counting mode marker) text from before after result
+  pub no_game : found.status ≢ 0 → (after ≡ before) × (result ≡ found)
+  pub by_each : found.fault ≡ 41 → (other : Marker) → IsOtherResult mode other text from
+
+-- The same in a format. If `missing_result` is 0, a missing Result counts as `*`; if it is 1, it
+-- takes the marker. The place is in the text, and at most 2^62. Otherwise nothing is read or
+-- written.
 pub record NextGame (mode : Mode) (missing_result : ℕ) (text : List ℕ) (from : ℕ) (before after : List ℕ) (result : PgnGame) : Type 0 where
-  pub no_mode : 1 ≤ missing_result → (after ≡ before) × (result ≡ nothing 3)
-  pub bad_place : missing_result ≡ 0 → (length text < from) ⊎ (2 ^ 62 < from)
+  pub no_mode : 1 < missing_result → (after ≡ before) × (result ≡ nothing 3)
+  pub bad_place : missing_result ≤ 1 → (length text < from) ⊎ (2 ^ 62 < from)
       → (after ≡ before) × (result ≡ nothing 6)
   pub counts_as_unknown : missing_result ≡ 0 → from ≤ length text → from ≤ 2 ^ 62
       → ConvertsNext (profile_counting mode Unknown) text from before after result
+  pub takes_the_marker : missing_result ≡ 1 → from ≤ length text → from ≤ 2 ^ 62
+      → ChecksNext mode text from before after result
 
 abbrev pub NextGameIn : Option Mode → ℕ → List ℕ → ℕ → List ℕ → List ℕ → PgnGame → Type 0
 NextGameIn (Some mode) missing_result text from before after result = NextGame mode missing_result text from before after result

@@ -51,8 +51,9 @@ pub struct PgnGame {
     pub fen: [u8; 96],
 }
 
-/// The result for the game just finished, whose marker ends at this place. The bytes written are not
-/// counted yet.
+/// The result for the game just finished, whose marker ends at this place.
+///
+/// The bytes written are not counted yet.
 pub fn finished_game(converter: &Converter<TAGS, LEVELS>, end: usize) -> PgnGame
     ensures status { result.status ≡ 0 }
     ensures game { (game : Game) (marker : Marker)
@@ -76,8 +77,9 @@ pub fn finished_game(converter: &Converter<TAGS, LEVELS>, end: usize) -> PgnGame
     }
 }
 
-/// The result for a fault, which has this status unless the buffer is full. The bytes written are
-/// not counted yet.
+/// The result for a fault, which has this status unless the buffer is full.
+///
+/// The bytes written are not counted yet.
 pub fn refused_game(converter: &Converter<TAGS, LEVELS>, fault: Fault, status: u32) -> PgnGame
     ensures { result ≡ fault_result (spec.status_for status fault.reason) fault
         (refused_position converter.now) }

@@ -29,19 +29,19 @@ mod san;
 mod tag;
 
 use crate::buffer_sink::{Before, BufferSink, Room};
-pub use crate::fen::PgnText;
 pub use crate::explanation::PgnExplanation;
 use crate::explanation::{explain, no_explanation};
+pub use crate::fen::PgnText;
 use crate::fen::{bad_text, put_fen};
 pub use crate::game_result::PgnGame;
 use crate::game_result::no_game;
 use crate::next_game::next_game;
-pub use crate::tag::PgnTag;
-use crate::tag::tag_at;
 pub use crate::pgn_result::PgnResult;
 use crate::pgn_result::{NO_MODE, fault_result, no_mode, totals_result};
 pub use crate::san::PgnMove;
 use crate::san::{name_move, no_position};
+pub use crate::tag::PgnTag;
+use crate::tag::tag_at;
 use chess_text::read_fen;
 use pgn_game::laws::due_grows;
 use pgn_game::{Fault, Mode, Nowhere, Totals, convert_slice};
@@ -132,9 +132,10 @@ pub extern "C" fn pgn_san(fen: &[u8], text: &[u8]) -> PgnMove
 ///
 /// `from` is 0, the `end` of the game before, or another place between two games. Places count from
 /// the first byte of the text. The modes are those of `pgn_convert`. If `missing_result` is 0, a
-/// missing Result counts as `*`.
+/// missing Result counts as `*`. If it is 1, it takes the game's marker, and then nothing is
+/// written of a game at fault. Another number is status 3.
 ///
-/// - Status 0: a game. The buffer has its export text. No byte behind the one at `end` decides that.
+/// - Status 0: a game. The buffer has its export text. Bytes behind the one at `end` do not matter.
 /// - Status 1: a token of the game is rejected, whatever comes behind the text.
 /// - Status 2: the buffer is full.
 /// - Status 3: there is no such mode. Nothing was read or written.

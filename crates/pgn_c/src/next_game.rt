@@ -1,17 +1,19 @@
 //! The next game of a text.
-ghost use Rattle.std.specs.Prelude.{◌≡◌, ◌<◌, ◌≤◌, ◌^◌, ◌⊎◌, length, drop};
+ghost use Rattle.std.specs.Prelude.{◌≡◌, ◌<◌, ◌≤◌, ◌^◌, ◌⊎◌, ◌↔◌, IsTrue, length, drop};
 ghost use Rattle.pgn_layout.specs.Device.{one_more};
 ghost use Rattle.pgn_game.specs.declared.marker.Marker.TheVariants.{Unknown};
-ghost use Rattle.pgn_c.specs.NextGame.{ConvertsNext, NextOf, nothing, profile_counting, text_from};
+ghost use Rattle.pgn_game.specs.declared.marker.Marker.{Marker as CodeMarker};
+ghost use Rattle.pgn_c.specs.NextGame.{ChecksNext, ConvertsNext, IsOtherResult, NextOf, ReadsNext};
+ghost use Rattle.pgn_c.specs.NextGame.{nothing, profile_counting, text_from};
 ghost use Rattle.pgn_lexer.specs.TokensOf.{has_mark};
 ghost use Rattle.pgn_c.specs.NextGame as spec;
 
 use crate::buffer_sink::{Before, BufferSink, Room};
 use crate::game_result::{BAD_PLACE, MORE, NO_GAME, PgnGame, finished_game, no_game, refused_game};
-use crate::pgn_result::{FAULT, NO_MODE};
+use crate::pgn_result::{FAULT, NO_MODE, OK};
 use crate::{LEVELS, TAGS};
 use pgn_game::laws::{games_end_by_marker, texts_end_behind_marker, texts_end_between_games};
-use pgn_game::{Converter, Fed, Marker, Mode, Sink};
+use pgn_game::{Converter, Fed, Marker, Mode, Nowhere, Reason, Sink};
 use std::marker::{Brand, PhantomData};
 
 /// The last place from which a text can be read.
@@ -25,29 +27,93 @@ pub fn next_game(
     missing_result: u32,
     buffer: &mut [u8],
 ) -> PgnGame
-    ensures no_mode { 1 ≤ missing_result → (buffer.new ≡ buffer.old) × (result ≡ nothing 3) }
-    ensures bad_place { missing_result ≡ 0 → (length text.now < from) ⊎ (2 ^ 62 < from)
+    ensures no_mode { 1 < missing_result → (buffer.new ≡ buffer.old) × (result ≡ nothing 3) }
+    ensures bad_place { missing_result ≤ 1 → (length text.now < from) ⊎ (2 ^ 62 < from)
         → (buffer.new ≡ buffer.old) × (result ≡ nothing 6) }
     ensures counts_as_unknown { missing_result ≡ 0 → from ≤ length text.now → from ≤ 2 ^ 62
         → ConvertsNext (profile_counting mode Unknown) text.now from buffer.old buffer.new result }
+    ensures takes_the_marker { missing_result ≡ 1 → from ≤ length text.now → from ≤ 2 ^ 62
+        → ChecksNext mode text.now from buffer.old buffer.new result }
 {
-    if missing_result > 0 {
+    if missing_result > 1 {
         return no_game(NO_MODE);
     }
     if from > text.len() || from as u64 > LAST_PLACE {
         return no_game(BAD_PLACE);
     }
-    convert_next(text, from, mode, Marker::Unknown, buffer)
+    if missing_result == 0 {
+        return convert_next(text, from, mode, Marker::Unknown, buffer);
+    }
+    check_next(text, from, mode, buffer)
+}
+
+// Converts the next game, in which a missing Result takes the marker. Only a game without a fault
+// is written.
+fn check_next(text: &[u8], from: usize, mode: Mode, buffer: &mut [u8]) -> PgnGame
+    requires within { from ≤ length text.now }
+    requires place { from ≤ 2 ^ 62 }
+    ensures { ChecksNext mode text.now from buffer.old buffer.new result }
+{
+    let read = read_by_marker(text, from, mode);
+    if read.found.status == OK {
+        return convert_next(text, from, mode, read.marker, buffer);
+    }
+    read.found
+}
+
+/// What the next game is by a marker, which a missing Result counts as.
+#[derive(Clone, Copy)]
+struct ByMarker {
+    marker: Marker,
+    found: PgnGame,
+}
+
+// Reads the next game, and counts a missing Result as each marker in turn, until the marker of the
+// game is not rejected for it.
+fn read_by_marker(text: &[u8], from: usize, mode: Mode) -> ByMarker
+    requires within { from ≤ length text.now }
+    requires place { from ≤ 2 ^ 62 }
+    ensures next { ReadsNext mode result.marker text.now from result.found }
+    ensures by_each { result.found.fault ≡ 41 → (marker : CodeMarker)
+        → IsOtherResult mode marker text.now from }
+{
+    let unknown = read_counting(text, from, mode, Marker::Unknown);
+    if !has_other_result(&unknown.found) {
+        return unknown;
+    }
+    let white = read_counting(text, from, mode, Marker::WhiteWins);
+    if !has_other_result(&white.found) {
+        return white;
+    }
+    let black = read_counting(text, from, mode, Marker::BlackWins);
+    if !has_other_result(&black.found) {
+        return black;
+    }
+    read_counting(text, from, mode, Marker::Draw)
+}
+
+// Reads the next game. A missing Result counts as this marker.
+fn read_counting(text: &[u8], from: usize, mode: Mode, marker: Marker) -> ByMarker
+    requires within { from ≤ length text.now }
+    requires place { from ≤ 2 ^ 62 }
+    ensures marker { result.marker ≡ marker }
+    ensures next { ReadsNext mode marker text.now from result.found }
+{
+    ByMarker {
+        marker,
+        found: read_next(text, from, mode, marker, &mut Nowhere),
+    }
+}
+
+// Whether the game has another Result than its marker.
+fn has_other_result(found: &PgnGame) -> bool
+    ensures { IsTrue result ↔ (found.now.fault ≡ 41) }
+{
+    found.fault == Reason::ResultDiffers.number() as u32
 }
 
 // Converts the next game into the front of a buffer. A missing Result counts as this marker.
-fn convert_next(
-    text: &[u8],
-    from: usize,
-    mode: Mode,
-    missing: Marker,
-    buffer: &mut [u8],
-) -> PgnGame
+fn convert_next(text: &[u8], from: usize, mode: Mode, missing: Marker, buffer: &mut [u8]) -> PgnGame
     requires within { from ≤ length text.now }
     requires place { from ≤ 2 ^ 62 }
     ensures { ConvertsNext (profile_counting mode missing) text.now from buffer.old buffer.new
@@ -88,13 +154,7 @@ fn fill_next<'a, K: Before>(
 }
 
 // Converts the next game to a sink. The bytes written are not counted yet.
-fn read_next<W: Sink>(
-    text: &[u8],
-    from: usize,
-    mode: Mode,
-    missing: Marker,
-    out: &mut W,
-) -> PgnGame
+fn read_next<W: Sink>(text: &[u8], from: usize, mode: Mode, missing: Marker, out: &mut W) -> PgnGame
     requires within { from ≤ length text.now }
     requires place { from ≤ 2 ^ 62 }
     ensures next { NextOf (profile_counting mode missing) (text_from text.now from)

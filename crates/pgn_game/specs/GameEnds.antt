@@ -28,7 +28,8 @@ GamesEndByMarker =
     (p : Profile) (given : List Token) (marker : Token) (finishes : FinishesGame p given marker)
     → EndsByMarker p given marker finishes.game
 
--- The end of the text u finishes a game: its marker is the last token, and ends where the text does.
+-- The end of the text u finishes a game: its marker is the last token, and ends where the text
+-- does. No token is rejected, and there is no other game behind the tokens given.
 pub record LastGame (p : Profile) (u : List ℕ) (given : List Token) : Type 0 where
   pub marker : Token
   pub finishes : FinishesGame p given marker

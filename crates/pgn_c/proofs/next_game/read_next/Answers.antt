@@ -1,4 +1,4 @@
-use Rattle.std.proofs.Common.{◌≡◌, ℕ, Bool, Ok, Err, ◌++◌, length, drop, ap, sym, subst, ◌∙◌, arith, length-append}
+use Rattle.std.proofs.Common.{Bool, Ok, ◌++◌, drop, ap, subst, ◌∙◌, arith, length-append}
 use Rattle.std.proofs.lemmas.List.{take_rest, length-drop}
 use Rattle.pgn_lexer.specs.WhiteSpace.{white_space}
 use Rattle.pgn_c.specs.NextGame.{NextOf, profile_counting}
