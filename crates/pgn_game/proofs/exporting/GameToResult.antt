@@ -1,29 +1,22 @@
 -- The Result of a game that a marker ends, and the four markers.
-use Rattle.std.proofs.Common.{◌≡◌, ℕ, Bool, true, false, ◌&&◌, ◌||◌, not, nat_le, ◌==◌, List, [], ◌∷◌, ◌++◌, length, take, drop, codes, bytes_eq, unwrap_or, Option, None, Some, is_some, suc, zero, refl, sym, ap, subst, ◌∙◌, length-append, true≢false, arith}
+use Rattle.std.proofs.Common.{◌≡◌, ℕ, Bool, true, false, ◌&&◌, ◌||◌, not, nat_le, ◌==◌, List, [], ◌∷◌, ◌++◌, take, drop, codes, bytes_eq, Option, None, Some, is_some, suc, zero, refl, sym, ap, ◌∙◌, true≢false, arith}
 use Rattle.std.specs.List.{list_all}
 use Rattle.std.proofs.lemmas.Bool.{le-leb}
-use Rattle.std.proofs.lemmas.List.{append_cancel_left}
-use Rattle.std.proofs.lemmas.Option.{none-some}
 use Rattle.std.proofs.lemmas.Slice.Eq.{bytes_eq-Decides}
 use Rattle.pgn_lexer.specs.Tokens as tokens
-use Rattle.pgn_game.proofs.Words.{Kind, Token, Reason, BadTagName, ResultDiffers, MarkerInVariation, Stage, Between, AfterLeftBracket, AfterName, AfterValue, Profile, Pair, value_of, Game, Part}
-use Rattle.pgn_game.specs.declared.reason.Fault.{Fault}
+use Rattle.pgn_game.proofs.Words.{Kind, Reason, BadTagName, ResultDiffers, MarkerInVariation, Stage, Between, AfterLeftBracket, AfterName, AfterValue, Profile, value_of, Part}
 use Rattle.pgn_game.specs.declared.marker.Marker.{Marker}
 use Rattle.pgn_game.specs.declared.marker.Marker.TheVariants.{WhiteWins, BlackWins, Draw, Unknown}
 use Rattle.pgn_game.specs.Markers.{marker_text}
-use Rattle.pgn_game.specs.TagSection.{roster}
 use Rattle.pgn_game.specs.Levels.{depth}
 use Rattle.pgn_game.specs.FaultTable.{Row, row, rows, first_holding, refusal, in_name, is_marker, is_score, is_outside_tag_pairs, has_other_result, levels_of_part, marker_of}
 use Rattle.pgn_game.specs.Spells.{IsResult}
-use Rattle.pgn_game.specs.Progress.{Next, going, whole, at_stage, next, progress_with, Read, read}
+use Rattle.pgn_game.specs.Progress.{at_stage}
 use Rattle.pgn_game.specs.TokenInMovetext.{or_else}
 use Rattle.pgn_game.proofs.refusals.RefusalsInMovetext.{other_if, score_of}
 use Rattle.pgn_game.proofs.refusals.RefusalsByStage.{name_refusal, test_failed}
 use Rattle.pgn_game.proofs.reading.MovetextTokens.{result_is}
-use Rattle.pgn_game.proofs.pairs.ExportedValues.{exported_known}
-use Rattle.pgn_game.proofs.exporting.GameTextToGame.{exported_result, given_result}
-use Rattle.pgn_game.proofs.tokens.OneMoreToken.{read-passes, read-refuses, stops_from}
-use Rattle.pgn_game.proofs.twice.MarkerCounts.{marker_finishes, no_marker_goes, no_name}
+use Rattle.pgn_game.proofs.twice.MarkerCounts.{no_name}
 
 none_of : (b : Bool) (reason : Reason) (rest : Option Reason) → or_else b reason rest ≡ None → (b ≡ false) × (rest ≡ None)
 none_of true reason rest e = absurd (cc)

@@ -1,15 +1,14 @@
 -- Calls of `next` one after another.
-use Rattle.std.proofs.Common.{◌≡◌, ℕ, ◌∷◌, ◌++◌, true, false, List, [], length, map, sum, Bool, Option, None, Some, Result, Ok, Err, IfSome, refl, sym, ap, subst, ◌∙◌}
+use Rattle.std.proofs.Common.{◌≡◌, ℕ, ◌∷◌, ◌++◌, true, false, List, [], length, map, sum, Option, None, Some, Ok, Err, refl, sym, ap, subst, ◌∙◌}
 use Rattle.std.proofs.KnownBytes.{Consumes-nil, Consumes-trans}
 use Rattle.std.proofs.lemmas.List.{map-append, length-map}
 use Rattle.std.specs.Io.KnownBytes.{Appends}
-use Rattle.pgn_layout.specs.Device.{Device}
 use Rattle.pgn_lexer.specs.TokensOf.{tokens_of}
-use Rattle.pgn_game.proofs.Words.{Fault, Profile, Game}
+use Rattle.pgn_game.proofs.Words.{Profile, Game}
 use Rattle.pgn_game.specs.Levels.{plies_of}
-use Rattle.pgn_game.specs.Progress.{read, totals, verdict}
+use Rattle.pgn_game.specs.Progress.{read, totals}
 use Rattle.pgn_game.specs.ConverterCalls.{FinishedGame, finished_game_of}
-use Rattle.pgn_game.specs.GamesCalls.{Games, HaveRead, ReadSoFar, NextGame, NoGame}
+use Rattle.pgn_game.specs.GamesCalls.{Games, HaveRead, ReadSoFar, NextGame}
 use Rattle.pgn_game.specs.GamesRestart.{games_read}
 use Rattle.pgn_game.specs.GamesJoined as joined
 use Rattle.pgn_game.specs.GamesJoined.{TakesGames, GamesJoin}

@@ -8,7 +8,6 @@ use Rattle.pgn_game.proofs.Words.{Kind, Token, Reason, MarkerInVariation, Result
 use Rattle.pgn_game.specs.FaultTable.{refusal, marker_of, is_comment, levels_of_part, lacks_fen, result_for}
 use Rattle.pgn_game.specs.Levels.{depth}
 use Rattle.pgn_game.specs.TokenInMovetext.{text_refusal}
-use Rattle.pgn_game.specs.TagSection.{exported}
 use Rattle.pgn_game.specs.Progress.{Next, going, whole, next, next_in, in_text, items_of, at_stage, Progress, progress_with, Read, read}
 use Rattle.pgn_game.specs.GamesRestart.{games_read, FinishesGame}
 use Rattle.pgn_game.specs.GameEnds.{EndsByMarker, GamesEndByMarker}

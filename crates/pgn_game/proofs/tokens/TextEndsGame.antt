@@ -1,6 +1,6 @@
 -- A game that the end of a text finishes: its marker is a symbol that ends with the text.
-use Rattle.std.proofs.Common.{◌≡◌, ℕ, ◌+◌, ◌<◌, ◌≤◌, Bool, true, false, List, [], ◌∷◌, ◌++◌, length, nat_le, Option, None, Some, refl, sym, ap, subst, ◌∙◌, ◌⊎◌, inl, inr, drop, bytes_eq, codes, ◌||◌, append-nil, append_assoc, length-append, arith, IsFalse}
-use Rattle.std.specs.Prelude.{if◌then◌else◌, take_while}
+use Rattle.std.proofs.Common.{◌≡◌, ℕ, ◌+◌, ◌<◌, ◌≤◌, Bool, true, false, List, [], ◌∷◌, ◌++◌, length, nat_le, None, refl, sym, ap, subst, ◌∙◌, inl, inr, drop, bytes_eq, codes, ◌||◌, append-nil, append_assoc, length-append, arith}
+use Rattle.std.specs.Prelude.{if◌then◌else◌}
 use Rattle.std.proofs.lemmas.Bool.{le-leb}
 use Rattle.std.proofs.lemmas.List.{drop_at}
 use Rattle.std.proofs.lemmas.Slice.Eq.{bytes_eq-Decides}
@@ -10,18 +10,18 @@ use Rattle.pgn_lexer.specs.declared.partial_token.SuffixRun.{SuffixRun}
 use Rattle.pgn_lexer.specs.declared.partial_token.SuffixRun.TheVariants as runs
 use Rattle.pgn_lexer.specs.declared.token.LexReason.TheVariants.{SymbolTooLong, WordTooLong, GlyphRange}
 use Rattle.pgn_lexer.specs.Bytes.{continues_symbol}
-use Rattle.pgn_lexer.specs.Spelling.{Found, gives, nothing, stops}
+use Rattle.pgn_lexer.specs.Spelling.{gives, stops}
 use Rattle.pgn_lexer.specs.Tokens as tokens
 use Rattle.pgn_lexer.specs.Tokens.{EndsAt}
 use Rattle.pgn_lexer.specs.TokensOf.{in_symbol, onto, tokens_from, tokens_of}
 use Rattle.pgn_lexer.specs.Lexes.{StopsAt}
 use Rattle.pgn_lexer.specs.PartialToken.{tokens_to_come_in}
 use Rattle.pgn_lexer.specs.Standing.{Standing, coming}
-use Rattle.pgn_lexer.specs.Laws.{CanBeMarker, LexesOnce, RisesTo, TokensRise}
+use Rattle.pgn_lexer.specs.Laws.{LexesOnce, RisesTo, TokensRise}
 use Rattle.pgn_game.proofs.Words.{Kind, Token, Profile, Game}
-use Rattle.pgn_game.specs.FaultTable.{marker_of, is_score}
-use Rattle.pgn_game.specs.Text.{text_of, torn}
-use Rattle.pgn_game.specs.Progress.{Progress, no_progress, Read, read, read_from, written, due}
+use Rattle.pgn_game.specs.FaultTable.{is_score}
+use Rattle.pgn_game.specs.Text.{text_of}
+use Rattle.pgn_game.specs.Progress.{no_progress, Read, read, read_from}
 use Rattle.pgn_game.specs.ConverterCalls.{Converter, Stands}
 use Rattle.pgn_game.specs.GamesRestart.{games_read, FinishesGame}
 use Rattle.pgn_game.specs.GameEnds.{GamesEndByMarker, LastGame, TextsEndBehindMarker, TextsEndBetweenGames}
