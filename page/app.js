@@ -1,6 +1,6 @@
 // The page: takes files or pasted games, lets a worker convert them, and shows what it answers.
 import { MISSING_RESULTS, MODES, loadModule } from "./module.js";
-import { decoded } from "./text.js";
+import { decodedLines } from "./text.js";
 import { faultView, placeOf } from "./fault_view.js";
 import { PositionFields } from "./position.js";
 import { GameList } from "./game_list.js";
@@ -148,7 +148,9 @@ class Page {
   showEnd(state, what) {
     this.state = state;
     byId("stop").hidden = byId("work-bar").hidden = true;
-    byId("work-text").textContent = what + ", after " + (state.milliseconds / 1000).toFixed(1) + " s.";
+    byId("work-text").textContent = what + ", after " +
+      (state.milliseconds / 1000).toFixed(1) + " s" +
+      (state.waiting ? "; " + counted(state.waiting, "file") + " not read yet." : ".");
     byId("result").hidden = false;
     byId("counts").textContent = counted(state.games, "game") + ", " + plies(state.plies) +
       (state.bad ? "; " + counted(state.bad, "bad game") + " set aside" : "") + ".";
@@ -194,7 +196,7 @@ class Page {
 
   head({ bytes }) {
     const rest = this.state.exportLength - bytes.length;
-    byId("export").textContent = decoded(bytes);
+    byId("export").textContent = decodedLines(bytes);
     byId("export-note").textContent = rest
       ? "The first " + megabytes(bytes.length) + " of " + megabytes(this.state.exportLength) +
         ". The download has all."
@@ -207,7 +209,7 @@ class Page {
   }
 
   game({ index, bytes }) {
-    this.list.open(index, decoded(bytes));
+    this.list.open(index, decodedLines(bytes));
   }
 
   async exported({ blob }) {
@@ -216,9 +218,9 @@ class Page {
       return;
     }
     try {
-      const text = decoded(new Uint8Array(await blob.arrayBuffer()));
+      const text = decodedLines(new Uint8Array(await blob.arrayBuffer()));
       await navigator.clipboard.writeText(text);
-      byId("copied").textContent = "Copied, as characters. The download has the same bytes as given.";
+      byId("copied").textContent = "Copied, as characters. The download has the bytes.";
     } catch (error) {
       byId("copied").textContent = "The browser does not let the page copy. Use the download.";
     }

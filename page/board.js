@@ -107,7 +107,7 @@ function drawPiece(piece, x, y) {
 }
 
 function label(text, x, y) {
-  const drawn = element("text", { x, y, "text-anchor": "middle" });
+  const drawn = element("text", { x, y, "text-anchor": "middle", "aria-hidden": "true" });
   drawn.textContent = text;
   return drawn;
 }

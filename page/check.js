@@ -2,7 +2,7 @@
 // no word that came later than 2009.
 (function () {
   var lacks = typeof WebAssembly !== "object" ? "WebAssembly"
-    : typeof BigInt !== "function" ? "integers of 64 bits (BigInt)"
+    : typeof BigInt !== "function" ? "BigInt"
     : typeof Worker !== "function" ? "workers" : "";
   window.cannotRun = function (why) {
     var told = document.getElementById("unable");
@@ -13,6 +13,6 @@
   };
   window.canRun = !lacks;
   if (lacks) {
-    window.cannotRun("it has no " + lacks + ", or they are switched off.");
+    window.cannotRun("it has no " + lacks + ".");
   }
 })();

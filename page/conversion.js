@@ -28,7 +28,6 @@ export class Conversion {
     this.plies = [];
     this.allPlies = 0;
     this.bad = [];
-    this.badBytes = 0;
   }
 
   get games() {
@@ -178,23 +177,18 @@ export class Conversion {
     return tags;
   }
 
-  // Sets the bad game aside, and goes on behind it. Answers how many bytes it has.
+  // Sets the bad game aside, and goes on behind it.
   goOn(place) {
     const bytes = this.fileBytes();
     const found = nextSection(bytes, this.from, place);
     const end = found === null ? this.length : found;
     const part = bytes.slice(this.from, end);
-    const begin = this.from;
-    // a byte order mark that joined files have between them is no game
-    const isJoint = !/[^\s\u00ef\u00bb\u00bf]/.test(latin1(part.subarray(0, 64))) && part.length < 64;
     this.from = startsWithByteOrderMark(bytes, end) ? end + 3 : end;
-    if (isJoint) {
-      return 0;
+    // a byte order mark that joined files have between them is no game
+    if (!/^[\t-\r ]*(?:\u00ef\u00bb\u00bf)?$/.test(latin1(part))) {
+      this.bad.push(part);
+      this.inFile++;
     }
-    this.bad.push(part);
-    this.badBytes += part.length;
-    this.inFile++;
-    return end - begin;
   }
 
   // The bytes of the export text between two places.

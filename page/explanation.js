@@ -49,26 +49,33 @@ export function explained(fault) {
   const target = squareName(explanation.target);
   const legal = squaresWith(explanation, LEGAL);
   const inCheck = squaresWith(explanation, IN_CHECK);
-  const sentences = [];
+  if (isPromotionMissing(explanation, symbol)) {
+    return ["A pawn that reaches the last rank needs a piece: write " + symbol + "=Q."];
+  }
   if (legal.length > 1) {
-    sentences.push(
-      piece + "s on " + listed(legal, "and") + " can all go to " + target + ". Write " +
-      listed(spellings, "or") + ".");
-  } else if (legal.length === 1) {
-    sentences.push(piece + " on " + legal[0] + " can go to " + target + ".");
-  } else if (inCheck.length) {
-    sentences.push(
+    return [
+      piece + "s on " + listed(legal, "and") + " can " + (legal.length > 2 ? "all" : "both") +
+      " go to " + target + ". Write " + listed(spellings, "or") + ".",
+    ];
+  }
+  if (legal.length === 1) {
+    return [piece + " on " + legal[0] + " can go to " + target + "."];
+  }
+  if (inCheck.length) {
+    return [
       piece + " on " + listed(inCheck, "or") + " can step to " + target +
-      ", but then the king would be in check.");
-  } else {
-    sentences.push(
-      "No " + nameOfPiece(explanation.piece) + " of " + side + " can step to " + target +
-      (isHinted(symbol, explanation.piece) ? " from where “" + symbol + "” says." : "."));
+      ", but then the king would be in check.",
+    ];
   }
-  if (explanation.piece === "P" && !legal.length && /[18]/.test(target[1]) && !/[QRBN]/.test(symbol)) {
-    sentences.push("A pawn that reaches the last rank needs a piece: " + symbol + "=Q.");
-  }
-  return sentences;
+  return [
+    "No " + nameOfPiece(explanation.piece) + " of " + side + " can step to " + target +
+    (isHinted(symbol, explanation.piece) ? " from where “" + symbol + "” says." : "."),
+  ];
+}
+
+function isPromotionMissing(explanation, symbol) {
+  return explanation.piece === "P" && /[18]/.test(squareName(explanation.target)[1]) &&
+    !/[QRBN]/.test(symbol);
 }
 
 function castlingExplained(explanation, side) {

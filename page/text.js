@@ -1,11 +1,29 @@
 // Bytes as text, and places in them as lines and columns.
 
+const LF = 10;
+const CR = 13;
+
 // A text is shown as UTF-8 where it is that, else as Latin-1. Its bytes are never changed.
 export function decoded(bytes) {
   try {
     return new TextDecoder("utf-8", { fatal: true, ignoreBOM: true }).decode(bytes);
   } catch (error) {
     return latin1(bytes);
+  }
+}
+
+// The same line by line, since files of several sources mix both.
+export function decodedLines(bytes) {
+  try {
+    return new TextDecoder("utf-8", { fatal: true, ignoreBOM: true }).decode(bytes);
+  } catch (error) {
+    const lines = [];
+    for (let at = 0; at < bytes.length;) {
+      const end = bytes.indexOf(LF, at) + 1 || bytes.length;
+      lines.push(decoded(bytes.subarray(at, end)));
+      at = end;
+    }
+    return lines.join("");
   }
 }
 
@@ -28,9 +46,6 @@ export function printable(text) {
   return text.replace(/[\u0000-\u0008\u000a-\u001f\u007f]/g, (character) =>
     character === "\u007f" ? "\u2421" : String.fromCharCode(0x2400 + character.charCodeAt(0)));
 }
-
-const LF = 10;
-const CR = 13;
 
 // How many lines end between two places: by LF, by CR, or by both together.
 export function lineEnds(bytes, begin, end) {

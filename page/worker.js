@@ -46,6 +46,7 @@ const ANSWERS = {
   },
 
   async goOn(message) {
+    isStopped = false;
     goesOnByItself = message.every;
     const begin = performance.now();
     setAside(conversion.lastFault);
@@ -169,7 +170,7 @@ function end(kind, begin) {
   workTime += performance.now() - begin;
   report(kind, {
     exportLength: conversion.exportLength, milliseconds: workTime,
-    place: conversion.from, length: conversion.length, file: conversion.name,
+    place: conversion.from, file: conversion.name, waiting: files.length,
   });
   isStopped = false;
 }

@@ -32,12 +32,15 @@ class Browser:
         words = ["--headless=new", "--no-sandbox", "--disable-gpu", "--disable-dev-shm-usage",
                  "--no-first-run", "--hide-scrollbars", "--user-data-dir=" + self.folder,
                  "--window-size=%d,%d" % size, *flags]
-        self.session = self.call("POST", "/session", {"capabilities": {"alwaysMatch": {
+        begun = self.call("POST", "/session", {"capabilities": {"alwaysMatch": {
             "browserName": "chrome",
             "goog:chromeOptions": {"binary": programs.found(CHROMIUM), "args": words},
             "goog:loggingPrefs": {"performance": "ALL", "browser": "ALL"},
-        }}})["sessionId"]
+        }}})
+        self.session, self.version = begun["sessionId"], begun["capabilities"]["browserVersion"]
         self.post("/timeouts", {"script": 1000 * PATIENCE})
+        self.open("about:blank")
+        self.log("performance")  # what the browser asked for by itself as it began
 
     def port(self):
         """The port that the driver has chosen."""
@@ -95,11 +98,13 @@ class Browser:
                       "it => answer({value: it}), error => answer({error: String(error)}))"
                       % script, "args": list(values)})
 
+    def command(self, name, **parameters):
+        """A command of Chromium's own protocol."""
+        return self.post("/goog/cdp/execute", {"cmd": name, "params": parameters})
+
     def picture(self, path):
         """Writes a picture of the whole page."""
-        height = self.run("return document.documentElement.scrollHeight")
-        self.call("POST", "/session/%s/window/rect" % self.session, {"height": height + 120})
-        data = self.call("GET", "/session/%s/screenshot" % self.session)
+        data = self.command("Page.captureScreenshot", captureBeyondViewport=True)["data"]
         with open(path, "wb") as file:
             file.write(base64.b64decode(data))
 
