@@ -137,7 +137,8 @@ class Page {
   }
 
   stopped(state) {
-    this.showEnd(state, "Stopped at byte " + state.place.toLocaleString("en") + " of " + state.file);
+    const place = state.place.toLocaleString("en");
+    this.showEnd(state, "Stopped at byte " + place + " of " + state.file);
   }
 
   refused(state) {
@@ -247,8 +248,8 @@ class Page {
     byId("stop").hidden = byId("work-bar").hidden = true;
     byId("work").dataset.state = byId("work").dataset.shown = "failed";
     byId("work-text").textContent =
-      reason === "memory" ? file + " does not fit into the memory that the browser gives to a page. " +
-        "Convert it in parts, or with the program pgn_tool, which takes under 3 MiB for any size."
+      reason === "memory" ? file + " does not fit into the memory that the browser gives to a " +
+        "page. Convert it in parts, or with the program pgn_tool, which takes under 3 MiB for any size."
       : reason === "read" ? file + " cannot be read." : "The conversion has failed: " + text + ".";
   }
 }

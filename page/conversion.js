@@ -1,5 +1,5 @@
-// The conversion of files, a game a call, and what it keeps: the export text, and where each game is
-// in it. It runs in a worker.
+// The conversion of files, a game a call, and what it keeps: the export text, and where each game
+// is in it. It runs in a worker.
 import { FAULT, FULL, MORE, NO_GAME, OK } from "./module.js";
 import {
   decoded, encoded, latin1, lineAround, lineBegin, lineEnds, startsWithByteOrderMark, symbolAt,
@@ -22,7 +22,9 @@ export class Conversion {
     this.options = options;
     this.chunks = [];
     this.chunkStarts = [];
+    // how much of the export text is in the chunks, and how much is still in the module's memory
     this.moved = 0;
+    this.used = 0;
     // of each game: where its export text begins, and its plies
     this.starts = [];
     this.plies = [];

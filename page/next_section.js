@@ -4,11 +4,13 @@ import { latin1 } from "./text.js";
 
 // A line that begins with a bracket, also behind stray bytes that joined files have there; with the
 // name and the quote of a tag pair, if it has them. Words such as [%clk stand in comments.
-const TAG_LINE = /^((?:[\x00-\x20\x7f]|\xef\xbb\xbf)*?)\[(?![\t-\r ]*%)(?:[\t-\r ]*(\w+)[\t-\r ]*")?/;
+const TAG_LINE = new RegExp(
+  "^((?:[\\x00-\\x20\\x7f]|\\xef\\xbb\\xbf)*?)" +
+  '\\[(?![\\t-\\r ]*%)(?:[\\t-\\r ]*(\\w+)[\\t-\\r ]*")?');
 const PAIRS = new RegExp(
   "^[\\x00-\\x20\\x7f\\xef\\xbb\\xbf]*" +
-  '(?:\\[[\\t-\\r ]*\\w+[\\t-\\r ]*"(?:[^"\\\\\\r\\n]|\\\\(?:["\\\\]|(?!["\\\\])))*"[\\t-\\r ]*\\]' +
-  "[\\t-\\r ]*)*");
+  '(?:\\[[\\t-\\r ]*\\w+[\\t-\\r ]*"(?:[^"\\\\\\r\\n]|\\\\(?:["\\\\]|(?!["\\\\])))*"' +
+  "[\\t-\\r ]*\\][\\t-\\r ]*)*");
 const COMMENT = /\{[^}]*(\}?)|;[^\r\n]*()/g;
 // A line that is movetext even without an empty line before it.
 const MOVETEXT = /^[\t-\r ]*[0-9]+[\t-\r ]*\.|(?:1-0|0-1|1\/2-1\/2|\*)[\t-\r ]*$/;

@@ -37,7 +37,6 @@ const ANSWERS = {
     files = message.files;
     const begin = performance.now();
     conversion = new Conversion(await loadModule(message.module), message.options);
-    conversion.used = 0;
     await nextFile(begin);
   },
 

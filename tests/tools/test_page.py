@@ -75,7 +75,7 @@ CONVERT = """
       calls.pgn_convert(BigInt(base), BigInt(text), BigInt(bytes.length), BigInt(buffer),
         BigInt(capacity), mode);
       const number = (at) => Number(view.getBigUint64(base + at, true));
-      const message = memory.subarray(base + 56, base + 160);
+      const message = memory.subarray(base + 48, base + 152);
       return {
         status: view.getUint32(base, true), fault: view.getUint32(base + 4, true),
         place: number(8), games: number(24), plies: number(32),
@@ -134,6 +134,11 @@ class Case(unittest.TestCase):
         self.assertNotIn("error", answer)
         return answer["value"][0], base64.b64decode(answer["value"][1])
 
+    def downloaded(self, button):
+        """The bytes of a download, or none if the button is not offered."""
+        script = "const it = document.getElementById(arguments[0]); return it.disabled || it.hidden"
+        return b"" if self.browser.run(script, button) else self.download(button)[1]
+
     def text(self, identity):
         return re.sub(r"\n{2,}", "\n", self.browser.run(TEXT, identity)).strip()
 
@@ -168,8 +173,7 @@ class Vectors(Case):
                 if fault:
                     self.assertEqual(
                         (found["status"], found["fault"], found["place"], found["message"]),
-                        (1, fault["number"], fault["place"],
-                         "byte %d: %s" % (fault["place"], fault["message"])))
+                        (1, fault["number"], fault["place"], fault["message"]))
                 else:
                     self.assertEqual((found["status"], found["games"], found["plies"]),
                                      (0, vector["games"], vector["plies"]))
@@ -192,16 +196,13 @@ class Vectors(Case):
         self.assertEqual(state, "refused" if fault else "done")
         if fault:
             told = self.text("fault").split("\n")
-            self.assertRegex(told[1], r"\(byte %d[,)].*: %s$" % (
-                fault["place"], re.escape(fault["message"])))
+            place, reason = re.fullmatch(r"byte (\d+): (.*)", fault["message"]).groups()
+            self.assertRegex(told[1], r"\(byte %s[,)].*: %s$" % (place, re.escape(reason)))
         else:
             self.assertEqual(self.text("counts"), "%d %s, %d %s." % (
                 vector["games"], "game" if vector["games"] == 1 else "games",
                 vector["plies"], "ply" if vector["plies"] == 1 else "plies"))
-        if self.browser.run("return document.getElementById('download').disabled"):
-            games = b""
-        else:
-            games = self.download("download")[1]
+        games = self.downloaded("download")
         expected = vector["output"].encode()
         if fault:
             self.assertTrue(expected.startswith(games))
@@ -241,7 +242,8 @@ class States(Case):
                                 ["2", "Amaral, Rita", "Okafor, Ben", "1-0", "0"],
                                 ["3", "Silva, J.", "Nowak, A.", "1/2-1/2", "0"]])
         readme = "\n".join(lines_of("README.md"))
-        first = re.search(r"export examples/annotated\.pgn\n(.*?\n\n.*?\n\n)```", readme, re.S)[1]
+        first = re.search(r"\$ pgn_tool export examples/annotated\.pgn\n(.*?\n\n.*?\n\n)```",
+                          readme, re.S)[1]
         shown = self.browser.run("return document.getElementById('export').textContent")
         self.assertTrue(shown.startswith(first))
         self.browser.run("document.querySelector('#list button').click()")
@@ -276,7 +278,7 @@ class States(Case):
         self.assertEqual(self.text("counts"), "1 game, 4 plies.")
         self.browser.run(CLICK, "go-on-once")
         self.browser.wait_for("return document.getElementById('work').dataset.shown === 'done'")
-        self.assertEqual(self.text("counts"), "2 games, 6 plies; 1 bad game set aside.")
+        self.assertEqual(self.text("counts"), "2 games, 5 plies; 1 bad game set aside.")
         name, text = self.download("download-bad")
         self.assertEqual(name, "one-bad-game.bad.pgn")
         self.assertIn(b"2. Bd4", text)
@@ -295,11 +297,32 @@ class States(Case):
         self.assertEqual(shades, ["rgb(27, 28, 30)", "rgb(185, 171, 144)", "rgb(117, 88, 59)"])
 
     def test_no_module(self):
-        self.page("--js-flags=--no-expose-wasm")
+        """A browser without one of the things that the page needs."""
+        self.page()
+        for lacking in ("Worker", "BigInt", "WebAssembly"):
+            identifier = self.browser.command("Page.addScriptToEvaluateOnNewDocument",
+                                              source="delete window.%s" % lacking)["identifier"]
+            self.browser.open(need_page())
+            self.browser.wait_for(IS_READY)
+            self.browser.command("Page.removeScriptToEvaluateOnNewDocument", identifier=identifier)
+            self.assertEqual(
+                self.text("unable"),
+                "This browser cannot run the converter: it has no %s. Use a newer browser, or the "
+                "program pgn_tool." % lacking.replace("Worker", "workers"))
+            self.assertFalse(self.browser.run(IS_VISIBLE, "main"))
         self.picture("no-module")
-        self.assertEqual(self.text("unable"),
-                         "This browser cannot run the converter: it has no WebAssembly. Use a newer "
-                         "browser, or the program pgn_tool.")
+
+    def test_module_is_refused(self):
+        """A browser that has WebAssembly, and does not take this module."""
+        self.page()
+        self.browser.command("Page.addScriptToEvaluateOnNewDocument", source=(
+            "WebAssembly.instantiate = () => Promise.reject(new Error('no BigInt in calls'))"))
+        self.browser.open(need_page())
+        self.browser.wait_for(IS_READY)
+        self.assertEqual(
+            self.text("unable"),
+            "This browser cannot run the converter: its WebAssembly does not take this module (no "
+            "BigInt in calls). Use a newer browser, or the program pgn_tool.")
         self.assertFalse(self.browser.run(IS_VISIBLE, "main"))
 
     def test_phone(self):
@@ -308,8 +331,11 @@ class States(Case):
                              deviceScaleFactor=2, mobile=True)
         self.convert(("one-bad-game.pgn", example("one-bad-game")))
         self.picture("phone")
-        widths = self.browser.run("return [document.documentElement.scrollWidth, innerWidth]")
-        self.assertLessEqual(widths[0], widths[1])
+        wide = self.browser.run(
+            "return [...document.querySelectorAll('body *')].filter(it => "
+            "it.getBoundingClientRect().right > 360 && !it.closest('pre, svg, .wide'))"
+            ".map(it => it.outerHTML.slice(0, 80))")
+        self.assertEqual(wide, [])
 
 
 class Large(Case):
@@ -351,7 +377,8 @@ class Large(Case):
         counts = run([program, "check", self.archive]).stdout.decode().split()
         self.assertEqual(self.text("counts").replace(",", "").rstrip(".").split()[::2],
                          [counts[1].rstrip(","), counts[3]])
-        self.assertEqual(self.download("download")[1], run([program, "export", self.archive]).stdout)
+        exported = run([program, "export", self.archive]).stdout
+        self.assertEqual(self.download("download")[1], exported)
         self.assertQuiet()
 
     def test_stop(self):
@@ -411,7 +438,8 @@ class Rest(Case):
         for text in (bad, bad + good, good + bad + bad + good, b"{ never closed\n" + good + good,
                      good + b"\xef\xbb\xbf" + good, good + b"% note\n" + bad + b"% note\n" + good,
                      b'[Event "a"]\n\n1. e4 {open\n\n' + good, bad.replace(b"\n", b"\r\n") + good,
-                     b"1. e4 e4 *\n1. d4 *\n" + good, good + b'[Event "The "x""]\n\n1. e4 *\n\n' + good,
+                     b"1. e4 e4 *\n1. d4 *\n" + good,
+                     good + b'[Event "The "x""]\n\n1. e4 *\n\n' + good,
                      good + b"1. e4 e5", b'[Event "a"]\n[Site "s"]\n\n' + good,
                      good + b"\xa0\n" + good, good + b"1. e4 {x} (\n" + good):
             self.check_sieve(text)
@@ -431,14 +459,10 @@ class Rest(Case):
             if self.convert(("in.pgn", text)) == "refused":
                 self.browser.run(CLICK, "go-on-always")
                 self.browser.wait_for(IS_SHOWN.replace(".shown", ".shown === 'done'"))
-            found = b"" if self.browser.run("return document.getElementById('download').disabled") \
-                else self.download("download")[1]
-            self.assertEqual(found, good)
-            aside = b"" if self.browser.run("return document.getElementById('download-bad').hidden") \
-                else self.download("download-bad")[1]
-            notes = re.compile(rb"^% (byte \d+: .*; line \d+|bytes \d+ to \d+, .*|the fault is .*)\n",
-                               re.M)
-            self.assertEqual(aside.split(), notes.sub(b"", bad).split())
+            self.assertEqual(self.downloaded("download"), good)
+            notes = rb"(?m)^% (byte \d+: .*; line \d+|bytes \d+ to \d+, .*|the fault is .*)\n"
+            self.assertEqual(self.downloaded("download-bad").split(),
+                             re.sub(notes, b"", bad).split())
 
     def test_position(self):
         self.page()
@@ -464,8 +488,8 @@ class Rest(Case):
         for fen, move, said in (
                 ("4k3/8/8/8/8/8/3P4/N2K1N2 w - - 0 1", "Nb3", "Nb3, and then"),
                 ("4k3/8/8/8/8/5N2/8/1N2K3 w - - 0 1", "Nd2",
-                 "“Nd2” is ambiguous. White’s knights on b1 and f3 can both go to d2. Write Nbd2 or "
-                 "Nfd2."),
+                 "“Nd2” is ambiguous. White’s knights on b1 and f3 can both go to d2. Write Nbd2 "
+                 "or Nfd2."),
                 ("4r1k1/8/8/8/8/8/4N3/4K3 w - - 0 1", "Nc3",
                  "“Nc3” is not legal. White’s knight on e2 can step to c3, but then the king would "
                  "be in check."),
@@ -568,7 +592,8 @@ class Builder(unittest.TestCase):
         # nothing in the page is fetched from elsewhere
         self.assertEqual(set(re.findall(r"\bhttps?://[^\s\"']*", text)),
                          {"http://www.w3.org/2000/svg"})
-        self.assertEqual(re.findall(r"<(?:link|img|iframe|object)\b|\bsrc=|@import|url\(", text), [])
+        elsewhere = r"<(?:link|img|iframe|object)\b|\bsrc=|@import|url\("
+        self.assertEqual(re.findall(elsewhere, text), [])
 
     def test_structs(self):
         """Those of the JavaScript are those of the header."""
