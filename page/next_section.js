@@ -1,11 +1,11 @@
 // Where a bad game ends, by guess: before the next line that begins a tag section. The rule is that
 // of bin/pgn_sieve, whose parts have the same names.
-import { latin1 } from "./text.js";
+import { latin1, startsWithByteOrderMark } from "./text.js";
 
 // A line that begins with a bracket, also behind stray bytes that joined files have there; with the
 // name and the quote of a tag pair, if it has them. Words such as [%clk stand in comments.
 const TAG_LINE = new RegExp(
-  "^((?:[\\x00-\\x20\\x7f]|\\xef\\xbb\\xbf)*?)" +
+  "^((?:[\\x00-\\x20\\x7f]|\\xef\\xbb\\xbf)*?)(?:\\xef\\xbb\\xbf)?" +
   '\\[(?![\\t-\\r ]*%)(?:[\\t-\\r ]*(\\w+)[\\t-\\r ]*")?');
 const PAIRS = new RegExp(
   "^[\\x00-\\x20\\x7f\\xef\\xbb\\xbf]*" +
@@ -24,8 +24,8 @@ export function nextSection(bytes, begin, fault) {
     const next = nextLine(bytes, at);
     const line = latin1(bytes.subarray(at, next));
     const end = section.endBefore(at, line, fault);
-    // a conversion from the same place again would not end
-    if (end !== null && end > begin) {
+    // from the same place a conversion would end again, unless a byte order mark is skipped there
+    if (end !== null && (end > begin || startsWithByteOrderMark(bytes, end))) {
       return end;
     }
     section.read(at, line);

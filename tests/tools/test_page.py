@@ -436,7 +436,7 @@ class Rest(Case):
         bad = b'[Event "a"]\n\n1. e5 *\n\n'
         good = b'[Event "b"]\n\n1. e4 *\n\n'
         for text in (bad, bad + good, good + bad + bad + good, b"{ never closed\n" + good + good,
-                     good + b"\xef\xbb\xbf" + good, good + b"% note\n" + bad + b"% note\n" + good,
+                     good + b"\xef\xbb\xbf" + good, bad + b"\xef\xbb\xbf" + good, good + b"% note\n" + bad + b"% note\n" + good,
                      b'[Event "a"]\n\n1. e4 {open\n\n' + good, bad.replace(b"\n", b"\r\n") + good,
                      b"1. e4 e4 *\n1. d4 *\n" + good,
                      good + b'[Event "The "x""]\n\n1. e4 *\n\n' + good,
