@@ -53,15 +53,19 @@ class Page {
 
   listenToDrops() {
     const mark = (isOver) => byId("drop").classList.toggle("over", isOver);
+    // text that is dragged goes where the browser puts it
+    const hasFiles = (event) => Array.from(event.dataTransfer.types).includes("Files");
     document.addEventListener("dragover", (event) => {
-      event.preventDefault();
-      mark(true);
+      if (hasFiles(event)) {
+        event.preventDefault();
+        mark(true);
+      }
     });
     document.addEventListener("dragleave", () => mark(false));
     document.addEventListener("drop", (event) => {
-      event.preventDefault();
       mark(false);
-      if (event.dataTransfer.files.length) {
+      if (hasFiles(event)) {
+        event.preventDefault();
         this.begin(event.dataTransfer.files);
       }
     });

@@ -28,8 +28,9 @@ export class GameList {
   }
 
   show({ first, rows }) {
-    byId("shown").textContent =
-      "Games " + (first + 1) + " to " + (first + rows.length) + " of " + this.games;
+    const [begin, end, all] = [first + 1, first + rows.length, this.games].map(
+      (it) => it.toLocaleString("en"));
+    byId("shown").textContent = "Games " + begin + " to " + end + " of " + all;
     byId("list").replaceChildren(...rows.map((row) => this.row(row)));
   }
 

@@ -83,24 +83,48 @@ export function startsWithByteOrderMark(bytes, at) {
   return bytes[at] === 0xef && bytes[at + 1] === 0xbb && bytes[at + 2] === 0xbf;
 }
 
+// How much of a line is decoded before and behind a place.
+const NEAR = 4096;
+
 // The line of a place as text before it and from it on, and the column, from 1, in characters.
 export function lineAround(bytes, place, width) {
   let begin = lineBegin(bytes, place);
   if (begin === 0 && startsWithByteOrderMark(bytes, 0) && place >= 3) {
     begin = 3;
   }
-  const near = 4096;
-  const end = Math.min(lineEnd(bytes, place), place + near);
-  const isUtf8 = decoded(bytes.subarray(begin, end)) !== latin1(bytes.subarray(begin, end));
-  const read = (from, to) => (isUtf8 ? decoded : latin1)(bytes.subarray(from, to));
-  const left = Array.from(read(begin, place));
-  const right = Array.from(read(place, end));
-  // a long line is cut around the place
+  let first = Math.max(begin, place - NEAR);
+  while (first > begin && first < place && isContinuation(bytes[first])) {
+    first++;
+  }
+  const end = Math.min(lineEnd(bytes, place), place + NEAR);
+  const near = bytes.subarray(first, end);
+  const isUtf8 = decoded(near) !== latin1(near);
+  const read = (from, to) => Array.from((isUtf8 ? decoded : latin1)(bytes.subarray(from, to)));
+  return {
+    column: charactersBetween(bytes, begin, place, isUtf8) + 1,
+    ...cutLine(read(first, place), read(place, end), width),
+  };
+}
+
+function isContinuation(byte) {
+  return (byte & 0xc0) === 0x80;
+}
+
+function charactersBetween(bytes, begin, end, isUtf8) {
+  let count = end - begin;
+  for (let at = begin; isUtf8 && at < end; at++) {
+    count -= isContinuation(bytes[at]) ? 1 : 0;
+  }
+  return count;
+}
+
+// Cuts a long line around the place between its two parts.
+function cutLine(left, right, width) {
   const keep = Math.max(Math.floor(width / 2), width - right.length);
   const before = left.length > keep ? "…" + left.slice(-keep).join("") : left.join("");
   const room = Math.max(width - Array.from(before).length, 20);
   const after = right.length > room ? right.slice(0, room).join("") + "…" : right.join("");
-  return { column: left.length + 1, before: printable(before), after: printable(after) };
+  return { before: printable(before), after: printable(after) };
 }
 
 // The symbol that begins at a place, as the reader of PGN has symbols.

@@ -377,6 +377,11 @@ class Large(Case):
         counts = run([program, "check", self.archive]).stdout.decode().split()
         self.assertEqual(self.text("counts").replace(",", "").rstrip(".").split()[::2],
                          [counts[1].rstrip(","), counts[3]])
+        self.browser.run(CLICK, "next")
+        self.browser.wait_for("return document.getElementById('shown').innerText === arguments[0]",
+                              "Games 51 to 100 of {:,}".format(ARCHIVE_GAMES))
+        self.assertEqual(self.browser.run("return document.querySelector('#list button').innerText"),
+                         "51")
         exported = run([program, "export", self.archive]).stdout
         self.assertEqual(self.download("download")[1], exported)
         self.assertQuiet()
@@ -420,10 +425,52 @@ class Rest(Case):
         self.assertIn(b'[White "Jos\xe9 \x80"]', exported)
         self.assertIn(b"{ \xe9 \xff }", exported)
 
+    def test_drop_and_paste(self):
+        self.page()
+        self.browser.run("""
+            const transfer = new DataTransfer();
+            transfer.items.add(new File(["1. e4 *"], "dropped.pgn"));
+            document.body.dispatchEvent(
+              new DragEvent("drop", {dataTransfer: transfer, bubbles: true, cancelable: true}));""")
+        self.browser.wait_for(IS_SHOWN)
+        self.assertEqual(self.text("counts"), "1 game, 1 ply.")
+        self.assertEqual(self.download("download")[0], "dropped.export.pgn")
+        self.browser.run("delete document.getElementById('work').dataset.shown")
+        self.set("paste", "1. e4 e5 *\n1. d4 {é} *")
+        self.browser.run(CLICK, "convert-paste")
+        self.browser.wait_for(IS_SHOWN)
+        self.assertEqual(self.text("counts"), "2 games, 3 plies.")
+        self.assertIn("{ é }".encode(), self.download("download")[1])
+
+    def test_reduced(self):
+        """The other format converts the same files again."""
+        self.page()
+        self.convert(("annotated.pgn", example("annotated")))
+        self.browser.run("delete document.getElementById('work').dataset.shown")
+        self.set("mode", "reduced")
+        self.browser.wait_for(IS_SHOWN)
+        self.assertTrue(self.download("download")[1].decode().endswith(
+            "\n\n1. e4 e5 2. Bc4 Nc6 3. Qh5 Nf6 4. Qxf7# 1-0\n\n"))
+
+    def test_several_faults(self):
+        """Each fault is listed, and opens."""
+        self.page()
+        self.convert(("in.pgn", b"".join(it[1] + b"\n" for it in BAD[:3])))
+        self.browser.run("delete document.getElementById('work').dataset.shown;"
+                         "document.getElementById('go-on-always').click()")
+        self.assertEqual(self.browser.wait_for(IS_SHOWN), "done")
+        listed = self.browser.run("return [...document.querySelectorAll('#other-faults button')]"
+                                  ".map(it => it.innerText.split(': ').pop())")
+        self.assertEqual(listed, ["stray byte", "control byte", "reserved character"])
+        self.browser.run("document.querySelector('#other-faults button').click()")
+        self.assertEqual(self.text("faults-title"), "Fault 1 of 3")
+        self.assertTrue(self.text("fault").startswith("Stray byte\n"))
+
     def test_column_in_characters(self):
         self.page()
         for text, column in (("{é} 1. e9 *".encode(), 8), ("{é} 1. e9 *".encode("latin-1"), 8),
-                             (b"\xef\xbb\xbfe9 *", 1), (b"e4\r\n e9 *", 2)):
+                             (b"\xef\xbb\xbfe9 *", 1), (b"e4\r\n e9 *", 2),
+                             (b"{" + b"\xc3\xa9 " * 9000 + b"} e9 *", 18004)):
             self.convert(("in.pgn", text))
             self.assertIn("column %d " % column, self.text("fault").split("\n")[1], text)
 
