@@ -6,6 +6,8 @@ import { OutOfMemory, loadModule } from "./module.js";
 import { Conversion } from "./conversion.js";
 
 const WORK_MILLISECONDS = 50;
+// So much of a file is read at a time.
+const PART = 1 << 22;
 // So many faults are told in full; of more the page shows the number alone.
 const MOST_FAULTS = 500;
 
@@ -100,27 +102,16 @@ async function nextFile(begin) {
 
 // Reads a file into the module's memory; false if that was stopped.
 async function readFile(file, begin) {
-  const reader = file.stream().getReader();
-  let at = 0;
-  for (;;) {
-    const { done, value } = await reader.read();
-    if (done) {
-      break;
-    }
+  for (let at = 0; at < file.size; at += PART) {
+    // a part of the file that has changed since it was chosen cannot be read
+    const part = await file.slice(at, at + PART).arrayBuffer();
     if (isStopped) {
       conversion.length = 0;
       end("stopped", begin);
       return false;
     }
-    if (at + value.length > file.size) {
-      throw new Error("the file grows while it is read");
-    }
-    conversion.fill(at, value);
-    at += value.length;
-    progress("reads", at);
-  }
-  if (at < file.size) {
-    throw new Error("the file became shorter while it was read");
+    conversion.fill(at, new Uint8Array(part));
+    progress("reads", at + part.byteLength);
   }
   return true;
 }
