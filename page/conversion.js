@@ -1,0 +1,254 @@
+// The conversion of files, a game a call, and what it keeps: the export text, and where each game
+// is in it. It runs in a worker.
+import { FAULT, FULL, MORE, NO_GAME, OK } from "./module.js";
+import {
+  decoded, encoded, latin1, lineAround, lineBegin, lineEnds, startsWithByteOrderMark, symbolAt,
+} from "./text.js";
+import { nextSection } from "./next_section.js";
+import { spellings } from "./spellings.js";
+
+// The room for export text in the module's memory, from where it is moved into a chunk of its own.
+const ROOM = 1 << 22;
+// How much of the game at fault is read for its tag pairs.
+const TAGS_SIZE = 1 << 16;
+const LINE_WIDTH = 76;
+const UNCLOSED_COMMENT = 12;
+const OPENING_BRACE = 123;
+const CLOSING_BRACE = 125;
+
+export class Conversion {
+  constructor(module, options) {
+    this.module = module;
+    this.options = options;
+    this.chunks = [];
+    this.chunkStarts = [];
+    // how much of the export text is in the chunks, and how much is still in the module's memory
+    this.moved = 0;
+    this.used = 0;
+    // of each game: where its export text begins, and its plies
+    this.starts = [];
+    this.plies = [];
+    this.allPlies = 0;
+    this.bad = [];
+  }
+
+  get games() {
+    return this.starts.length;
+  }
+
+  get exportLength() {
+    return this.moved + this.used;
+  }
+
+  // Gets the room for a file of this length, whose bytes `fill` may then put into the memory.
+  beginFile(name, length) {
+    this.move();
+    this.name = name;
+    this.length = length;
+    this.text = this.module.free;
+    this.buffer = this.text + length;
+    this.capacity = ROOM;
+    this.used = 0;
+    this.from = 0;
+    this.inFile = 0;
+    this.lineAt = { place: 0, ends: 0 };
+    this.module.reserve(this.buffer + this.capacity);
+  }
+
+  fill(at, bytes) {
+    this.module.bytes.set(bytes, this.text + at);
+  }
+
+  // The bytes of the file. They are another array after the memory has grown.
+  fileBytes() {
+    return this.module.bytes.subarray(this.text, this.text + this.length);
+  }
+
+  // Converts games until a time: "more" are to come, the file is at its "end", or there is a fault.
+  convertUntil(time) {
+    const { module } = this;
+    const read = (name) => module.field("pgn_game", name);
+    for (;;) {
+      const status = module.nextGame(
+        this.text, this.length, this.from, this.options,
+        this.buffer + this.used, this.capacity - this.used);
+      if (status === OK) {
+        this.starts.push(this.exportLength);
+        this.used += read("written");
+        this.plies.push(read("plies"));
+        this.allPlies += read("plies");
+        this.from = read("end");
+        this.inFile++;
+      } else if (status === FULL) {
+        this.makeRoom();
+      } else if (status === NO_GAME) {
+        this.from = this.length;
+        this.move();
+        return "end";
+      } else if (status === FAULT || status === MORE) {
+        return "fault";
+      } else {
+        throw new Error("the module answers " + status);
+      }
+      if (performance.now() > time) {
+        return "more";
+      }
+    }
+  }
+
+  makeRoom() {
+    if (this.used === 0) {
+      this.capacity *= 2;
+      this.module.reserve(this.buffer + this.capacity);
+    }
+    this.move();
+  }
+
+  // Moves the export text from the module's memory into a chunk.
+  move() {
+    if (this.used) {
+      this.chunkStarts.push(this.moved);
+      this.chunks.push(this.module.bytes.slice(this.buffer, this.buffer + this.used));
+      this.moved += this.used;
+    }
+    this.used = 0;
+  }
+
+  // What is known of the fault that the last call has answered.
+  fault() {
+    const { module } = this;
+    const bytes = this.fileBytes();
+    const number = module.field("pgn_game", "fault");
+    const place = module.field("pgn_game", "place");
+    const message = module.textField("pgn_game", "message");
+    const fen = module.textField("pgn_game", "fen");
+    const reason = message.slice(module.field("pgn_game", "reason_at"));
+    const tags = this.tagsOfGame(bytes);
+    const fault = {
+      file: this.name, number, place, message, reason, fen, line: this.lineOf(place),
+      symbol: symbolAt(bytes, place), game: this.inFile + 1, tags, hasResult: "Result" in tags,
+      near: latin1(bytes.subarray(place, place + 4)), isAtEnd: place === this.length,
+      ...lineAround(bytes, place, LINE_WIDTH),
+    };
+    if (number === UNCLOSED_COMMENT) {
+      fault.openedLine = this.lineOf(this.openBrace(bytes));
+    }
+    if (fen) {
+      Object.assign(fault, this.explanation(fen, fault.symbol));
+    }
+    return fault;
+  }
+
+  // The brace that opens the comment which the text ends in, by guess: the first one behind the
+  // last closing brace.
+  openBrace(bytes) {
+    let open = bytes.length;
+    for (let at = bytes.length - 1; at >= this.from && bytes[at] !== CLOSING_BRACE; at--) {
+      open = bytes[at] === OPENING_BRACE ? at : open;
+    }
+    return open;
+  }
+
+  // What the refused text means in its position, and the SAN of each move that it may mean.
+  explanation(fen, symbol) {
+    const position = encoded(fen);
+    const explanation = this.module.explain(position, encoded(symbol));
+    return { explanation, spellings: spellings(this.module, position, explanation, symbol) };
+  }
+
+  lineOf(place) {
+    const bytes = this.fileBytes();
+    const begin = lineBegin(bytes, place);
+    const from = this.lineAt.place <= begin ? this.lineAt : { place: 0, ends: 0 };
+    this.lineAt = { place: begin, ends: from.ends + lineEnds(bytes, from.place, begin) };
+    return this.lineAt.ends + 1;
+  }
+
+  // White, Black, Event and Result of the game at fault, as far as its lines have them.
+  tagsOfGame(bytes) {
+    const text = latin1(bytes.subarray(this.from, this.from + TAGS_SIZE));
+    const tags = {};
+    const pair = /^[ \t]*\[[ \t]*(White|Black|Event|Result)[ \t]+"((?:[^"\\\r\n]|\\["\\]?)*)/gm;
+    const movetext = text.search(/^[ \t]*[0-9]+[ \t]*\./m);
+    for (const found of text.slice(0, movetext < 0 ? text.length : movetext).matchAll(pair)) {
+      const value = Uint8Array.from(found[2].replace(/\\(["\\])/g, "$1"), (it) => it.charCodeAt(0));
+      if (!(found[1] in tags)) {
+        tags[found[1]] = decoded(value);
+      }
+    }
+    return tags;
+  }
+
+  // Sets the bad game aside, and goes on behind it.
+  goOn(place) {
+    const bytes = this.fileBytes();
+    const found = nextSection(bytes, this.from, place);
+    const end = found === null ? this.length : found;
+    const part = bytes.slice(this.from, end);
+    this.from = startsWithByteOrderMark(bytes, end) ? end + 3 : end;
+    // a byte order mark that joined files have between them is no game
+    if (!/^[\t-\r ]*(?:\u00ef\u00bb\u00bf)?$/.test(latin1(part))) {
+      this.bad.push(part);
+      this.inFile++;
+    }
+  }
+
+  // The bytes of the export text between two places.
+  exported(begin, end) {
+    this.move();
+    const text = new Uint8Array(end - begin);
+    let at = 0;
+    for (let index = this.chunkOf(begin); at < text.length; index++) {
+      const chunk = this.chunks[index];
+      const from = begin + at - this.chunkStarts[index];
+      const part = chunk.subarray(from, Math.min(chunk.length, end - this.chunkStarts[index]));
+      text.set(part, at);
+      at += part.length;
+    }
+    return text;
+  }
+
+  chunkOf(place) {
+    let low = 0;
+    let high = this.chunkStarts.length;
+    while (high - low > 1) {
+      const middle = (low + high) >> 1;
+      if (this.chunkStarts[middle] <= place) {
+        low = middle;
+      } else {
+        high = middle;
+      }
+    }
+    return low;
+  }
+
+  // The first games of the export text, of at most so many bytes, but one game at least.
+  head(most) {
+    if (this.exportLength <= most || this.games < 2) {
+      return this.exported(0, this.exportLength);
+    }
+    let end = this.starts[1];
+    for (let index = 2; index < this.games && this.starts[index] <= most; index++) {
+      end = this.starts[index];
+    }
+    return this.exported(0, end);
+  }
+
+  game(index) {
+    const end = index + 1 < this.games ? this.starts[index + 1] : this.exportLength;
+    return this.exported(this.starts[index], end);
+  }
+
+  // Number, White, Black, Result and plies of some games.
+  rows(first, count) {
+    const rows = [];
+    for (let index = first; index < Math.min(first + count, this.games); index++) {
+      const row = { number: index + 1, plies: this.plies[index] };
+      for (const [name, value] of this.module.tags(this.game(index))) {
+        row[latin1(name)] = decoded(value).replace(/\\(["\\])/g, "$1");
+      }
+      rows.push(row);
+    }
+    return rows;
+  }
+}

@@ -1,0 +1,93 @@
+// Why a move was refused, in sentences, from what the library's explanation says.
+import { squareName } from "./spellings.js";
+import { nameOfPiece, sideOf } from "./board.js";
+
+const LEGAL = 2;
+const IN_CHECK = 1;
+
+// The classes of the squares that the board marks: the target, and where a step begins.
+export function marksOf(explanation) {
+  const marks = {};
+  if (explanation.status !== 0) {
+    return marks;
+  }
+  marks[explanation.target] = "target";
+  explanation.origins.forEach((kind, square) => {
+    if (kind) {
+      marks[square] = kind === LEGAL ? "legal" : "pinned";
+    }
+  });
+  return marks;
+}
+
+function squaresWith(explanation, wanted) {
+  const found = [];
+  explanation.origins.forEach((kind, square) => {
+    if (kind === wanted) {
+      found.push(squareName(square));
+    }
+  });
+  return found;
+}
+
+function listed(words, last) {
+  return words.length < 2 ? words.join("")
+    : words.slice(0, -1).join(", ") + " " + last + " " + words[words.length - 1];
+}
+
+// The sentences about a refused move. `spellings` has the SAN of each legal move that it may mean.
+export function explained(fault) {
+  const { explanation, spellings, fen, symbol } = fault;
+  if (explanation.status !== 0) {
+    return [];
+  }
+  const side = sideOf(fen);
+  if (explanation.form !== 1) {
+    return [castlingExplained(explanation, side)];
+  }
+  const piece = side + "’s " + nameOfPiece(explanation.piece);
+  const target = squareName(explanation.target);
+  const legal = squaresWith(explanation, LEGAL);
+  const inCheck = squaresWith(explanation, IN_CHECK);
+  if (isPromotionMissing(explanation, symbol)) {
+    return ["A pawn that reaches the last rank needs a piece: write " + symbol + "=Q."];
+  }
+  if (legal.length > 1) {
+    return [
+      piece + "s on " + listed(legal, "and") + " can " + (legal.length > 2 ? "all" : "both") +
+      " go to " + target + ". Write " + listed(spellings, "or") + ".",
+    ];
+  }
+  if (legal.length === 1) {
+    return [piece + " on " + legal[0] + " can go to " + target + "."];
+  }
+  if (inCheck.length) {
+    return [
+      piece + " on " + listed(inCheck, "or") + " can step to " + target +
+      ", but then the king would be in check.",
+    ];
+  }
+  return [
+    "No " + nameOfPiece(explanation.piece) + " of " + side + " can step to " + target +
+    (isHinted(symbol, explanation.piece) ? " from where “" + symbol + "” says." : "."),
+  ];
+}
+
+function isPromotionMissing(explanation, symbol) {
+  return explanation.piece === "P" && /[18]/.test(squareName(explanation.target)[1]) &&
+    !/[QRBN]/.test(symbol);
+}
+
+function castlingExplained(explanation, side) {
+  const wing = explanation.form === 2 ? "king’s side" : "queen’s side";
+  return squaresWith(explanation, IN_CHECK).length
+    ? "After castling on the " + wing + " " + side + "’s king would be in check."
+    : side + " cannot castle on the " + wing + " here: the right is lost, a square between king " +
+      "and rook is not empty, or the king stands on or passes an attacked square.";
+}
+
+// Whether a text says more of the origin than the piece: a file, a rank or both.
+function isHinted(symbol, piece) {
+  const text = symbol.replace(/[+#]*$/, "").replace(/=?[QRBN]$/, "").replace("x", "");
+  return text.length > (piece === "P" ? 2 : 3) || piece === "P" && /^[a-h]x/.test(symbol);
+}

@@ -1,0 +1,59 @@
+// The list of games: some rows a time, of which one opens as text.
+import { button, byId } from "./elements.js";
+
+const ROWS = 50;
+const COLUMNS = ["number", "White", "Black", "Result", "plies"];
+
+export class GameList {
+  // `ask` sends a message to the worker.
+  constructor(ask) {
+    this.ask = ask;
+    byId("previous").addEventListener("click", () => this.turn(-ROWS));
+    byId("next").addEventListener("click", () => this.turn(ROWS));
+  }
+
+  begin(games) {
+    this.games = games;
+    this.first = 0;
+    byId("game").hidden = true;
+    this.turn(0);
+  }
+
+  turn(step) {
+    this.first += step;
+    byId("pages").hidden = this.games <= ROWS;
+    byId("previous").disabled = this.first === 0;
+    byId("next").disabled = this.first + ROWS >= this.games;
+    this.ask({ kind: "rows", first: this.first, count: ROWS });
+  }
+
+  show({ first, rows }) {
+    const [begin, end, all] = [first + 1, first + rows.length, this.games].map(
+      (it) => it.toLocaleString("en"));
+    byId("shown").textContent = "Games " + begin + " to " + end + " of " + all;
+    byId("list").replaceChildren(...rows.map((row) => this.row(row)));
+  }
+
+  row(row) {
+    const made = document.createElement("tr");
+    for (const column of COLUMNS) {
+      const cell = document.createElement("td");
+      if (column === "number") {
+        const opener = button(row.number, () => this.ask({ kind: "game", index: row.number - 1 }));
+        opener.setAttribute("aria-label", "Show game " + row.number);
+        cell.append(opener);
+      } else {
+        cell.textContent = row[column];
+      }
+      made.append(cell);
+    }
+    return made;
+  }
+
+  open(index, text) {
+    byId("game").hidden = false;
+    byId("game-title").textContent = "Game " + (index + 1);
+    byId("game-text").textContent = text;
+    byId("game-title").focus();
+  }
+}

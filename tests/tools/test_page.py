@@ -1,0 +1,659 @@
+#!/usr/bin/env python3
+"""Tests of the page that bin/build_page writes, in headless Chromium.
+
+Each state that is compared here is also written as a picture, to page/out/pictures.
+"""
+import base64
+import os
+import re
+import shutil
+import sys
+import tempfile
+import unittest
+
+sys.path.insert(0, os.path.dirname(os.path.realpath(__file__)))
+import programs
+from browser import Browser
+from documents import lines_of
+from programs import ROOT, need_program, run
+from test_library import c_structs
+from test_sieve import BAD, sound
+
+PAGE = ROOT + "/page/out/gillspoon.html"
+PICTURES = ROOT + "/page/out/pictures"
+ARCHIVE_GAMES = 12500
+MEGABYTE = 1000000
+INITIAL = "rnbqkbnr/pppppppp/8/8/8/8/PPPPPPPP/RNBQKBNR w KQkq - 0 1"
+
+# Scripts that the tests run in the page.
+IS_READY = ("return document.documentElement.dataset.state === 'ready' || "
+            "!document.getElementById('unable').hidden")
+IS_SHOWN = "return document.getElementById('work').dataset.shown"
+TEXT = "return document.getElementById(arguments[0]).innerText"
+IS_VISIBLE = "return document.getElementById(arguments[0]).offsetParent !== null"
+CLICK = "document.getElementById(arguments[0]).click()"
+# Gives bytes to the page as files that are opened.
+OPEN = """
+    const transfer = new DataTransfer();
+    for (const [name, bytes] of arguments[0]) {
+      transfer.items.add(new File([Uint8Array.from(atob(bytes), it => it.charCodeAt(0))], name));
+    }
+    const files = document.getElementById('files');
+    delete document.getElementById('work').dataset.shown;
+    files.files = transfer.files;
+    files.dispatchEvent(new Event('change'));
+"""
+# Clicks a button of a download, and gives the name and the bytes in place of storing them.
+DOWNLOAD = """
+    const make = URL.createObjectURL, click = HTMLAnchorElement.prototype.click;
+    const blob = await new Promise((resolve) => {
+      let taken = null;
+      URL.createObjectURL = (it) => make.call(URL, taken = it);
+      HTMLAnchorElement.prototype.click = function () { resolve([this.download, taken]); };
+      document.getElementById(values[0]).click();
+    });
+    URL.createObjectURL = make;
+    HTMLAnchorElement.prototype.click = click;
+    const bytes = new Uint8Array(await blob[1].arrayBuffer());
+    let text = '';
+    for (let at = 0; at < bytes.length; at += 8192) {
+      text += String.fromCharCode(...bytes.subarray(at, at + 8192));
+    }
+    return [blob[0], btoa(text)];
+"""
+# Converts inputs by pgn_convert of the page's own module, without the page's JavaScript.
+CONVERT = """
+    const code = atob(document.getElementById('module').textContent);
+    const made = await WebAssembly.instantiate(Uint8Array.from(code, it => it.charCodeAt(0)), {});
+    const calls = made.instance.exports, base = Number(calls.__heap_base.value) + 16 & -16;
+    calls.memory.grow(64);
+    const memory = new Uint8Array(calls.memory.buffer), view = new DataView(calls.memory.buffer);
+    const text = base + 512, buffer = text + (1 << 20), capacity = 1 << 20;
+    return values[0].map(([mode, input]) => {
+      const bytes = Uint8Array.from(atob(input), it => it.charCodeAt(0));
+      memory.set(bytes, text);
+      calls.pgn_convert(BigInt(base), BigInt(text), BigInt(bytes.length), BigInt(buffer),
+        BigInt(capacity), mode);
+      const number = (at) => Number(view.getBigUint64(base + at, true));
+      const message = memory.subarray(base + 48, base + 152);
+      return {
+        status: view.getUint32(base, true), fault: view.getUint32(base + 4, true),
+        place: number(8), games: number(24), plies: number(32),
+        message: String.fromCharCode(...message.subarray(0, message.indexOf(0))),
+        output: btoa(String.fromCharCode(...memory.subarray(buffer, buffer + number(16)))),
+      };
+    });
+"""
+# Notes the longest time in which the page did nothing else, while it is called.
+BEAT = """
+    window.longest = 0;
+    let last = performance.now();
+    setInterval(() => {
+      window.longest = Math.max(window.longest, performance.now() - last);
+      last = performance.now();
+    }, 10);
+"""
+
+
+def as_text(value):
+    return base64.b64encode(value).decode()
+
+
+def need_page():
+    """The address of the page; the test is left out if bin/build_page has not written it."""
+    if not os.path.exists(PAGE):
+        programs.not_tried("bin/build_page has not written page/out/gillspoon.html")
+    return "file://" + PAGE
+
+
+class Case(unittest.TestCase):
+    """A test with the page in a browser."""
+
+    def page(self, *flags, **more):
+        address = need_page()
+        self.browser = Browser(self, *flags, **more)
+        self.browser.open(address)
+        self.browser.wait_for(IS_READY)
+        return self.browser
+
+    def convert(self, *files):
+        """Opens files, given as names and bytes, and waits for the end."""
+        self.browser.run(OPEN, [[name, as_text(text)] for name, text in files])
+        return self.browser.wait_for(IS_SHOWN)
+
+    def set(self, field, value):
+        """Sets a field, as a person who types does."""
+        self.browser.run(
+            "const field = document.getElementById(arguments[0]);"
+            "field.value = arguments[1];"
+            "field.dispatchEvent(new Event('input')); field.dispatchEvent(new Event('change'));",
+            field, value)
+
+    def download(self, button):
+        answer = self.browser.await_script(DOWNLOAD, button)
+        self.assertNotIn("error", answer)
+        return answer["value"][0], base64.b64decode(answer["value"][1])
+
+    def downloaded(self, button):
+        """The bytes of a download, or none if the button is not offered."""
+        script = "const it = document.getElementById(arguments[0]); return it.disabled || it.hidden"
+        return b"" if self.browser.run(script, button) else self.download(button)[1]
+
+    def text(self, identity):
+        return re.sub(r"\n{2,}", "\n", self.browser.run(TEXT, identity)).strip()
+
+    def picture(self, name):
+        os.makedirs(PICTURES, exist_ok=True)
+        self.browser.picture("%s/%s.png" % (PICTURES, name))
+
+    def assertQuiet(self):
+        """The browser has nothing to complain of, and asked for the page and its worker alone."""
+        self.assertEqual(self.browser.log("browser"), [])
+        for address in self.browser.requests():
+            self.assertTrue(address == "file://" + PAGE or address.startswith("blob:"), address)
+
+
+def example(name):
+    with open("%s/examples/%s.pgn" % (ROOT, name), "rb") as file:
+        return file.read()
+
+
+class Vectors(Case):
+    def test_module(self):
+        """The bytes and the verdict of each worked input, by one call of the module."""
+        browser, vectors = self.page(), programs.vectors()
+        inputs = [[int(it["mode"] == "reduced"), as_text(it["input"].encode())] for it in vectors]
+        answer = browser.await_script(CONVERT, inputs)
+        self.assertNotIn("error", answer)
+        self.assertEqual(len(answer["value"]), len(vectors))
+        for vector, found in zip(vectors, answer["value"]):
+            with self.subTest(vector["file"]):
+                self.assertEqual(base64.b64decode(found["output"]).decode(), vector["output"])
+                fault = vector.get("fault")
+                if fault:
+                    self.assertEqual(
+                        (found["status"], found["fault"], found["place"], found["message"]),
+                        (1, fault["number"], fault["place"], fault["message"]))
+                else:
+                    self.assertEqual((found["status"], found["games"], found["plies"]),
+                                     (0, vector["games"], vector["plies"]))
+
+    def test_page(self):
+        """The same through the page, which keeps nothing of the game at fault."""
+        self.page()
+        mode = "full"
+        for vector in programs.vectors():
+            if vector["mode"] != mode:
+                mode = vector["mode"]
+                self.set("mode", mode)
+            with self.subTest(vector["file"]):
+                self.check(vector)
+        self.assertQuiet()
+
+    def check(self, vector):
+        state = self.convert(("in.pgn", vector["input"].encode()))
+        fault = vector.get("fault")
+        self.assertEqual(state, "refused" if fault else "done")
+        if fault:
+            told = self.text("fault").split("\n")
+            place, reason = re.fullmatch(r"byte (\d+): (.*)", fault["message"]).groups()
+            self.assertRegex(told[1], r"\(byte %s[,)].*: %s$" % (place, re.escape(reason)))
+        else:
+            self.assertEqual(self.text("counts"), "%d %s, %d %s." % (
+                vector["games"], "game" if vector["games"] == 1 else "games",
+                vector["plies"], "ply" if vector["plies"] == 1 else "plies"))
+        games = self.downloaded("download")
+        expected = vector["output"].encode()
+        if fault:
+            self.assertTrue(expected.startswith(games))
+            # the whole games: an empty line ends each tag section, and another one each game
+            self.assertEqual(games.count(b"\n\n"), expected.count(b"\n\n") // 2 * 2)
+            self.assertTrue(not games or games.endswith(b"\n\n"))
+        else:
+            self.assertEqual(games, expected)
+
+
+class States(Case):
+    def test_empty(self):
+        self.page()
+        self.picture("empty")
+        for part in ("work", "faults", "result", "unable"):
+            self.assertFalse(self.browser.run(IS_VISIBLE, part), part)
+        self.assertEqual(self.text("privacy"),
+                         "Nothing leaves your browser. This page makes no request. It works from a "
+                         "disk, and without a network.")
+        self.assertEqual(
+            self.text("proved"),
+            "The module inside this page, as the Rattle toolchain wrote it, is proved for every "
+            "text, by the same clauses as the program. Its lowering to 32-bit memory and the "
+            "JavaScript of the page are tested.")
+        self.assertQuiet()
+
+    def test_converted(self):
+        self.page()
+        self.convert(("annotated.pgn", example("annotated")), ("two.pgn", example("two-games")))
+        self.picture("converted")
+        self.assertRegex(self.text("work"), r"^Work\nDone, after \d+\.\d s\.$")
+        self.assertEqual(self.text("counts"), "3 games, 7 plies.")
+        rows = self.browser.run(
+            "return [...document.querySelectorAll('#list tr')].map(row => "
+            "[...row.cells].map(cell => cell.innerText))")
+        self.assertEqual(rows, [["1", "Silva, J.", "Nowak, A.", "1-0", "7"],
+                                ["2", "Amaral, Rita", "Okafor, Ben", "1-0", "0"],
+                                ["3", "Silva, J.", "Nowak, A.", "1/2-1/2", "0"]])
+        readme = "\n".join(lines_of("README.md"))
+        first = re.search(r"\$ pgn_tool export examples/annotated\.pgn\n(.*?\n\n.*?\n\n)```",
+                          readme, re.S)[1]
+        shown = self.browser.run("return document.getElementById('export').textContent")
+        self.assertTrue(shown.startswith(first))
+        self.browser.run("document.querySelector('#list button').click()")
+        self.browser.wait_for("return !document.getElementById('game').hidden")
+        self.assertEqual(self.text("game-title"), "Game 1")
+        self.assertEqual(
+            self.browser.run("return document.getElementById('game-text').textContent"), first)
+        name, text = self.download("download")
+        self.assertEqual((name, text.decode()), ("games.export.pgn", shown))
+        self.assertQuiet()
+
+    def test_fault(self):
+        self.page()
+        self.convert(("one-bad-game.pgn", example("one-bad-game")))
+        self.picture("fault")
+        self.assertEqual(self.text("fault").split("\nThe position in words")[0], "\n".join([
+            "Move is not legal",
+            "one-bad-game.pgn: line 9, column 13 (byte 122): move is not legal",
+            "1. e4 e5 2. Bd4 *",
+            "            ^",
+            "Game 2: White “Okafor, Ben”, Black “Amaral, Rita”, Event “?”",
+            "No bishop of White can step to d4.",
+            *"a1b2c3d4e5f6g7h8",
+            "Marked squares: dotted: where the move goes.",
+        ]))
+        words = self.browser.run(
+            "return document.querySelector('#fault svg').getAttribute('aria-label')")
+        self.assertEqual(words, (
+            "White: king e1; queen d1; rooks a1, h1; bishops c1, f1; knights b1, g1; pawns a2, b2, "
+            "c2, d2, f2, g2, h2, e4. Black: king e8; queen d8; rooks a8, h8; bishops c8, f8; "
+            "knights b8, g8; pawns e5, a7, b7, c7, d7, f7, g7, h7. White to move."))
+        self.assertEqual(self.text("counts"), "1 game, 4 plies.")
+        self.browser.run(CLICK, "go-on-once")
+        self.browser.wait_for("return document.getElementById('work').dataset.shown === 'done'")
+        self.assertEqual(self.text("counts"), "2 games, 5 plies; 1 bad game set aside.")
+        name, text = self.download("download-bad")
+        self.assertEqual(name, "one-bad-game.bad.pgn")
+        self.assertIn(b"2. Bd4", text)
+        self.assertQuiet()
+
+    def test_dark(self):
+        self.page("--force-dark-mode")
+        self.browser.command("Emulation.setEmulatedMedia",
+                             features=[{"name": "prefers-color-scheme", "value": "dark"}])
+        self.convert(("one-bad-game.pgn", example("one-bad-game")))
+        self.picture("dark")
+        shades = self.browser.run(
+            "return ['body', '.board .light', '.board .dark'].map(it => {"
+            "const style = getComputedStyle(document.querySelector(it));"
+            "return it === 'body' ? style.backgroundColor : style.fill; })")
+        self.assertEqual(shades, ["rgb(27, 28, 30)", "rgb(185, 171, 144)", "rgb(117, 88, 59)"])
+
+    def test_no_module(self):
+        """A browser without one of the things that the page needs."""
+        self.page()
+        for lacking in ("Worker", "BigInt", "WebAssembly"):
+            identifier = self.browser.command("Page.addScriptToEvaluateOnNewDocument",
+                                              source="delete window.%s" % lacking)["identifier"]
+            self.browser.open(need_page())
+            self.browser.wait_for(IS_READY)
+            self.browser.command("Page.removeScriptToEvaluateOnNewDocument", identifier=identifier)
+            self.assertEqual(
+                self.text("unable"),
+                "This browser cannot run the converter: it has no %s. Use a newer browser, or the "
+                "program pgn_tool." % lacking.replace("Worker", "workers"))
+            self.assertFalse(self.browser.run(IS_VISIBLE, "main"))
+        self.picture("no-module")
+
+    def test_module_is_refused(self):
+        """A browser that has WebAssembly, and does not take this module."""
+        self.page()
+        self.browser.command("Page.addScriptToEvaluateOnNewDocument", source=(
+            "WebAssembly.instantiate = () => Promise.reject(new Error('no BigInt in calls'))"))
+        self.browser.open(need_page())
+        self.browser.wait_for(IS_READY)
+        self.assertEqual(
+            self.text("unable"),
+            "This browser cannot run the converter: its WebAssembly does not take this module (no "
+            "BigInt in calls). Use a newer browser, or the program pgn_tool.")
+        self.assertFalse(self.browser.run(IS_VISIBLE, "main"))
+
+    def test_phone(self):
+        self.page(size=(360, 740))
+        self.browser.command("Emulation.setDeviceMetricsOverride", width=360, height=740,
+                             deviceScaleFactor=2, mobile=True)
+        self.convert(("one-bad-game.pgn", example("one-bad-game")))
+        self.picture("phone")
+        wide = self.browser.run(
+            "return [...document.querySelectorAll('body *')].filter(it => "
+            "it.getBoundingClientRect().right > 360 && !it.closest('pre, svg, .wide'))"
+            ".map(it => it.outerHTML.slice(0, 80))")
+        self.assertEqual(wide, [])
+
+
+class Large(Case):
+    """A file of some 20 MB."""
+
+    @classmethod
+    def setUpClass(cls):
+        need_page()
+        cls.folder = tempfile.mkdtemp()
+        cls.addClassCleanup(shutil.rmtree, cls.folder)
+        cls.archive = cls.folder + "/large.pgn"
+        with open(cls.archive, "wb") as file:
+            ran = run([sys.executable, "bench/make_archive.py", "--games", str(ARCHIVE_GAMES),
+                       "--style", "annotated"], stdout=file, timeout=300)
+        if ran.returncode:
+            raise AssertionError(ran.stderr.decode())
+
+    def open_archive(self):
+        """Opens the archive by its path, as a person does by a dialog."""
+        field = self.browser.post("/element", {"using": "css selector", "value": "#files"})
+        self.browser.post("/element/%s/value" % next(iter(field.values())), {"text": self.archive})
+
+    def test_whole(self):
+        """The same bytes as the program's, and the page stays alive."""
+        program = need_program()
+        size = os.path.getsize(self.archive)
+        self.assertGreater(size, 19 * MEGABYTE)
+        self.page()
+        self.browser.run(BEAT)
+        self.open_archive()
+        self.browser.wait_for("return document.getElementById('work-bar').value > 0.3")
+        self.picture("large-in-work")
+        told = self.text("work-text")
+        self.assertRegex(told, r"^Converts large\.pgn: \d+\.\d MB of %.1f MB, [\d,]+ games\.$"
+                         % (size / MEGABYTE))
+        self.assertTrue(self.browser.run(IS_VISIBLE, "stop"))
+        self.assertEqual(self.browser.wait_for(IS_SHOWN), "done")
+        self.assertLess(self.browser.run("return window.longest"), 1000)
+        counts = run([program, "check", self.archive]).stdout.decode().split()
+        self.assertEqual(self.text("counts").replace(",", "").rstrip(".").split()[::2],
+                         [counts[1].rstrip(","), counts[3]])
+        self.browser.run(CLICK, "next")
+        self.browser.wait_for("return document.getElementById('shown').innerText === arguments[0]",
+                              "Games 51 to 100 of {:,}".format(ARCHIVE_GAMES))
+        self.assertEqual(self.browser.run("return document.querySelector('#list button').innerText"),
+                         "51")
+        exported = run([program, "export", self.archive]).stdout
+        self.assertEqual(self.download("download")[1], exported)
+        self.assertQuiet()
+
+    def test_stop(self):
+        self.page()
+        self.open_archive()
+        self.browser.wait_for("return document.getElementById('work-bar').value > 0.1 && "
+                              "document.getElementById('work-text').innerText.startsWith('Conv')")
+        self.browser.run(CLICK, "stop")
+        self.assertEqual(self.browser.wait_for(IS_SHOWN), "stopped")
+        self.assertRegex(self.text("work-text"),
+                         r"^Stopped at byte [\d,]+ of large\.pgn, after \d+\.\d s\.$")
+        games = self.download("download")[1]
+        export = run([need_program(), "export", self.archive]).stdout
+        self.assertTrue(games and games.endswith(b"\n\n") and export.startswith(games))
+        self.assertLess(len(games), len(export))
+
+    def test_no_memory(self):
+        """A file that no memory of 32 bits holds."""
+        self.archive = self.folder + "/sparse.pgn"
+        with open(self.archive, "wb") as file:
+            file.truncate(5000 * MEGABYTE)
+        self.page()
+        self.open_archive()
+        self.assertEqual(self.browser.wait_for(IS_SHOWN), "failed")
+        self.assertEqual(self.text("work-text"), (
+            "sparse.pgn does not fit into the memory that the browser gives to a page. Convert it "
+            "in parts, or with the program pgn_tool, which takes under 3 MiB for any size."))
+
+
+class Rest(Case):
+    def test_any_bytes(self):
+        """Latin-1 is shown as such, and the bytes stay."""
+        self.page()
+        text = b'[White "Jos\xe9 \x80"] [Black "J\xc3\xb6rg"] {\xe9 \xff} 1. e4 *'
+        self.convert(("bytes.pgn", text))
+        rows = self.browser.run("return document.querySelector('#list tr').innerText")
+        self.assertEqual(rows.split("\t")[1:3], ["José \x80", "Jörg"])
+        exported = self.download("download")[1]
+        self.assertIn(b'[White "Jos\xe9 \x80"]', exported)
+        self.assertIn(b"{ \xe9 \xff }", exported)
+
+    def test_drop_and_paste(self):
+        self.page()
+        self.browser.run("""
+            const transfer = new DataTransfer();
+            transfer.items.add(new File(["1. e4 *"], "dropped.pgn"));
+            document.body.dispatchEvent(
+              new DragEvent("drop", {dataTransfer: transfer, bubbles: true, cancelable: true}));""")
+        self.browser.wait_for(IS_SHOWN)
+        self.assertEqual(self.text("counts"), "1 game, 1 ply.")
+        self.assertEqual(self.download("download")[0], "dropped.export.pgn")
+        self.browser.run("delete document.getElementById('work').dataset.shown")
+        self.set("paste", "1. e4 e5 *\n1. d4 {é} *")
+        self.browser.run(CLICK, "convert-paste")
+        self.browser.wait_for(IS_SHOWN)
+        self.assertEqual(self.text("counts"), "2 games, 3 plies.")
+        self.assertIn("{ é }".encode(), self.download("download")[1])
+
+    def test_reduced(self):
+        """The other format converts the same files again."""
+        self.page()
+        self.convert(("annotated.pgn", example("annotated")))
+        self.browser.run("delete document.getElementById('work').dataset.shown")
+        self.set("mode", "reduced")
+        self.browser.wait_for(IS_SHOWN)
+        self.assertTrue(self.download("download")[1].decode().endswith(
+            "\n\n1. e4 e5 2. Bc4 Nc6 3. Qh5 Nf6 4. Qxf7# 1-0\n\n"))
+
+    def test_several_faults(self):
+        """Each fault is listed, and opens."""
+        self.page()
+        self.convert(("in.pgn", b"".join(it[1] + b"\n" for it in BAD[:3])))
+        self.browser.run("delete document.getElementById('work').dataset.shown;"
+                         "document.getElementById('go-on-always').click()")
+        self.assertEqual(self.browser.wait_for(IS_SHOWN), "done")
+        listed = self.browser.run("return [...document.querySelectorAll('#other-faults button')]"
+                                  ".map(it => it.innerText.split(': ').pop())")
+        self.assertEqual(listed, ["stray byte", "control byte", "reserved character"])
+        self.browser.run("document.querySelector('#other-faults button').click()")
+        self.assertEqual(self.text("faults-title"), "Fault 1 of 3")
+        self.assertTrue(self.text("fault").startswith("Stray byte\n"))
+
+    def test_column_in_characters(self):
+        self.page()
+        for text, column in (("{é} 1. e9 *".encode(), 8), ("{é} 1. e9 *".encode("latin-1"), 8),
+                             (b"\xef\xbb\xbfe9 *", 1), (b"e4\r\n e9 *", 2),
+                             (b"{" + b"\xc3\xa9 " * 9000 + b"} e9 *", 18004)):
+            self.convert(("in.pgn", text))
+            self.assertIn("column %d " % column, self.text("fault").split("\n")[1], text)
+
+    def test_goes_on_as_the_sieve_does(self):
+        """Sound and bad games are those of bin/pgn_sieve."""
+        need_program()
+        self.page()
+        for name in ("one-bad-game", "no-such-move", "differing-result", "no-result-tag"):
+            self.check_sieve(example(name))
+        bad = b'[Event "a"]\n\n1. e5 *\n\n'
+        good = b'[Event "b"]\n\n1. e4 *\n\n'
+        for text in (bad, bad + good, good + bad + bad + good, b"{ never closed\n" + good + good,
+                     good + b"\xef\xbb\xbf" + good, bad + b"\xef\xbb\xbf" + good, good + b"% note\n" + bad + b"% note\n" + good,
+                     b'[Event "a"]\n\n1. e4 {open\n\n' + good, bad.replace(b"\n", b"\r\n") + good,
+                     b"1. e4 e4 *\n1. d4 *\n" + good,
+                     good + b'[Event "The "x""]\n\n1. e4 *\n\n' + good,
+                     good + b"1. e4 e5", b'[Event "a"]\n[Site "s"]\n\n' + good,
+                     good + b"\xa0\n" + good, good + b"1. e4 {x} (\n" + good):
+            self.check_sieve(text)
+        for _, text, _, _ in BAD:
+            self.check_sieve(sound(b"a") + text + b"\n" + sound(b"b"))
+        self.check_sieve(sound(b"a") + b"\n".join(it[1] for it in BAD) + sound(b"b"))
+
+    def check_sieve(self, text):
+        with self.subTest(text[:60]), tempfile.TemporaryDirectory() as folder:
+            with open(folder + "/in.pgn", "wb") as file:
+                file.write(text)
+            run(["bin/pgn_sieve", *(folder + it for it in ("/in.pgn", "/good", "/bad"))])
+            with open(folder + "/good", "rb") as file:
+                good = file.read()
+            with open(folder + "/bad", "rb") as file:
+                bad = file.read()
+            if self.convert(("in.pgn", text)) == "refused":
+                self.browser.run(CLICK, "go-on-always")
+                self.browser.wait_for(IS_SHOWN.replace(".shown", ".shown === 'done'"))
+            self.assertEqual(self.downloaded("download"), good)
+            notes = rb"(?m)^% (byte \d+: .*; line \d+|bytes \d+ to \d+, .*|the fault is .*)\n"
+            self.assertEqual(self.downloaded("download-bad").split(),
+                             re.sub(notes, b"", bad).split())
+
+    def test_position(self):
+        self.page()
+        self.set("fen", "rnbqkbnr/pppppppp/44/8/8/8/PPPPPPPP/RNBQKBNR w KQkq - 0 01")
+        self.assertEqual(self.text("fen-answer"), "Canonical: " + INITIAL)
+        self.set("fen", INITIAL.replace("KQkq", "QK"))
+        self.assertEqual(self.text("fen-answer"),
+                         "This FEN is no position: field 3, the castling rights.")
+        self.set("fen", INITIAL)
+        self.set("move", "g1f3")
+        self.assertEqual(self.text("move-answer"),
+                         "“g1f3” is not legal. No pawn of White can step to f3 from where “g1f3” "
+                         "says.")
+        self.set("move", "Ng1f3")
+        after = "rnbqkbnr/pppppppp/8/8/8/5N2/PPPPPPPP/RNBQKB1R b KQkq - 1 1"
+        self.assertEqual(self.text("move-answer"), "Nf3, and then " + after)
+        self.browser.run(CLICK, "play")
+        self.assertEqual(self.browser.run("return document.getElementById('fen').value"), after)
+
+    def test_explanations(self):
+        """What is said of moves that are not legal, each for its reason."""
+        self.page()
+        for fen, move, said in (
+                ("4k3/8/8/8/8/8/3P4/N2K1N2 w - - 0 1", "Nb3", "Nb3, and then"),
+                ("4k3/8/8/8/8/5N2/8/1N2K3 w - - 0 1", "Nd2",
+                 "“Nd2” is ambiguous. White’s knights on b1 and f3 can both go to d2. Write Nbd2 "
+                 "or Nfd2."),
+                ("4r1k1/8/8/8/8/8/4N3/4K3 w - - 0 1", "Nc3",
+                 "“Nc3” is not legal. White’s knight on e2 can step to c3, but then the king would "
+                 "be in check."),
+                ("4k3/8/8/8/8/8/8/4K2R w - - 0 1", "O-O",
+                 "“O-O” is not legal. White cannot castle on the king’s side here"),
+                ("4k3/P7/8/8/8/8/8/4K3 w - - 0 1", "a8",
+                 "“a8” is not legal. A pawn that reaches the last rank needs a piece: write "
+                 "a8=Q.")):
+            with self.subTest(move):
+                self.set("fen", fen)
+                self.set("move", move)
+                told = self.text("move-answer")
+                self.assertTrue(told.startswith(said), told)
+
+    def test_advice(self):
+        """What a person would try next, by README's table of rejections."""
+        self.page()
+        for text, words in (
+                (b"1. e4 e5 (1... -- 2. d4) *", "null move"), (b"1. e4 (1. Z0) *", "null move"),
+                (b"1. e2-e4 *", "hyphen"), (b"1. e4 1-0", "no Result tag"),
+                (b"1. e4 e5", "no result at its end"), (b'1. e4\n[Event "a"]', "no result"),
+                (b'[Event "The "Open""] *', "quote"), (b"\xff\xfee\x004\x00", "UTF-16"),
+                (b"1. e4 *\x1a", "byte 26"), (b"g1f3 *", "Ng1f3")):
+            with self.subTest(text):
+                self.assertEqual(self.convert(("in.pgn", text)), "refused")
+                told = self.text("fault")
+                self.assertIn("Try this: ", told)
+                self.assertIn(words, told.split("Try this: ")[1])
+
+    def test_offer(self):
+        """A missing result is taken from the end of the game, as by export --checked."""
+        self.page()
+        self.convert(("in.pgn", example("no-result-tag")))
+        self.browser.run("delete document.getElementById('work').dataset.shown;"
+                         "document.querySelector('#fault p button').click()")
+        self.assertEqual(self.browser.wait_for(IS_SHOWN), "done")
+        self.assertIn(b'[Result "0-1"]', self.download("download")[1])
+        self.assertEqual(self.browser.run("return document.getElementById('missing').value"),
+                         "fromMarker")
+
+    def test_keyboard(self):
+        """Each control is reached by the tab key, and has a name."""
+        self.page()
+        self.convert(("one-bad-game.pgn", example("one-bad-game")))
+        wanted = set(self.browser.run(
+            "return [...document.querySelectorAll('button, input, select, textarea')]"
+            ".filter(it => it.offsetParent && !it.disabled && it.id).map(it => it.id)"))
+        self.browser.run("document.activeElement.blur(); scrollTo(0, 0)")
+        reached, key = set(), {"actions": [{"type": "key", "id": "keys", "actions": [
+            {"type": "keyDown", "value": "\ue004"}, {"type": "keyUp", "value": "\ue004"}]}]}
+        for _ in range(60):
+            self.browser.post("/actions", key)
+            reached.add(self.browser.run("return document.activeElement.id"))
+        self.assertEqual(wanted - reached, set())
+        nameless = self.browser.run(
+            "return [...document.querySelectorAll('button, input, select, textarea')].filter(it => "
+            "!it.innerText && !it.labels?.length && !it.getAttribute('aria-label'))"
+            ".map(it => it.outerHTML)")
+        self.assertEqual(nameless, [])
+
+    def test_policy(self):
+        """A request is refused by the page itself."""
+        self.page()
+        answer = self.browser.await_script("await fetch('http://127.0.0.1:9/');")
+        self.assertIn("Failed to fetch", answer.get("error", ""))
+        said = [it["message"] for it in self.browser.log("browser")]
+        self.assertTrue(any("Content Security Policy" in it for it in said), said)
+
+
+class Builder(unittest.TestCase):
+    """bin/build_page, and what it puts together."""
+
+    def setUp(self):
+        self.folder = tempfile.mkdtemp()
+        self.addCleanup(shutil.rmtree, self.folder)
+
+    def build(self, *words, **env):
+        ran = run([sys.executable, ROOT + "/bin/build_page", *words], env=env or None)
+        return ran.returncode, ran.stderr.decode()
+
+    def test_names_what_it_lacks(self):
+        self.assertEqual(self.build(self.folder + "/page.html", PATH=self.folder), (
+            127, "bin/build_page: rt, the command of the Rattle toolchain, is not on the PATH\n"))
+        os.symlink("/bin/true", self.folder + "/rt")
+        self.assertEqual(self.build(self.folder + "/page.html", PATH=self.folder), (
+            127, "bin/build_page: wasm-opt is not on the PATH: Debian has it in the package "
+            "binaryen\n"))
+        self.assertFalse(os.path.exists(self.folder + "/page.html"))
+
+    def test_another_module(self):
+        """The page then says that nothing of it is proved."""
+        with open(self.folder + "/module", "wb") as file:
+            file.write(b"\0asm\1\0\0\0")
+        out = self.folder + "/page.html"
+        self.assertEqual(self.build("--module", self.folder + "/module", out)[0], 0)
+        with open(out, encoding="utf-8") as file:
+            text = file.read()
+        self.assertIn("Nothing of it is proved.", text)
+        self.assertIn(as_text(b"\0asm\1\0\0\0"), text)
+        # nothing in the page is fetched from elsewhere
+        self.assertEqual(set(re.findall(r"\bhttps?://[^\s\"']*", text)),
+                         {"http://www.w3.org/2000/svg"})
+        elsewhere = r"<(?:link|img|iframe|object)\b|\bsrc=|@import|url\("
+        self.assertEqual(re.findall(elsewhere, text), [])
+
+    def test_structs(self):
+        """Those of the JavaScript are those of the header."""
+        with open(ROOT + "/page/module.js", encoding="utf-8") as file:
+            text = re.search(r"STRUCTS = \{(.*?)\n\};", file.read(), re.S)[1]
+        header = c_structs()
+        found = dict(re.findall(r"^  (\w+): \[(.*?)\],?$(?=\n  \w|\Z)", text, re.S | re.M))
+        self.assertEqual(sorted(found), sorted(set(header) - {"pgn_result"}))
+        for name, body in found.items():
+            fields = ["%s %s%s" % (kind, field, "[%s]" % count if count else "") for
+                      field, kind, count in re.findall(r'\["(\w+)", "(\w+)"(?:, (\d+))?\]', body)]
+            self.assertEqual(fields, header[name], name)
+
+
+if __name__ == "__main__":
+    unittest.main()
