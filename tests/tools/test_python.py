@@ -603,6 +603,16 @@ class Sieve(Folder):
         self.assertEqual(self.compare(mark + sound(b"a") + mark + sound(b"b") + mark), (2, 2))
         self.assertEqual(self.compare(sound(b"a") + b"\x1a" + sound(b"b") + b"\x00"), (2, 2))
 
+    def test_escape_lines(self):
+        """Those just before the next game are its own."""
+        bad = b'[Event "x"]\n\n1. e5 *\n'
+        for lines in (b"% one\n% two\n", b"% one\n\n% two\n\n", b"% one\nrest *\n% two\n"):
+            data = sound(b"a") + bad + lines + sound(b"b")
+            self.assertEqual(self.compare(data), (2, 1))
+            fault, = [it for it in seen(data) if len(it) == 9]
+            own = lines[lines.index(b"% two"):] if b"rest" in lines else lines
+            self.assertEqual(fault[8], data.index(own + sound(b"b")))
+
     def test_numbers(self):
         data = sound(b"a") + b'[Event "x"]\n\n1. e5 *\n\n' + sound(b"b") \
             + b"\xef\xbb\xbf" + sound(b"c")
