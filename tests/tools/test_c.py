@@ -268,7 +268,7 @@ class Installed:
         """Where it ends, which marker it has, and where that is."""
         count = 0
         for vector in vectors():
-            data, at = vector["input"].encode(), 0
+            data = vector["input"].encode()
             for missing in (0, 1):
                 for game, text in self.library.games(data, 0, missing):
                     if game.status != OK:
