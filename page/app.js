@@ -123,11 +123,10 @@ class Page {
 
   // ---- What the worker tells
 
-  progress({ what, file, done, length, games, bad }) {
+  progress({ file, done, length, games, bad }) {
     byId("work-bar").value = length ? done / length : 1;
     byId("work-text").textContent =
-      (what === "reads" ? "Reads " : "Converts ") + file + ": " + megabytes(done) + " of " +
-      megabytes(length) + ", " + counted(games, "game") + (bad ? ", " + bad + " bad" : "") + ".";
+      "Converts " + file + ": " + megabytes(done) + " of " + megabytes(length) + ", " + counted(games, "game") + (bad ? ", " + bad + " bad" : "") + ".";
   }
 
   fault({ fault }) {

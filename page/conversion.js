@@ -50,6 +50,8 @@ export class Conversion {
     this.capacity = ROOM;
     this.used = 0;
     this.from = 0;
+    // how many bytes are there, and how many there have to be before the next call
+    this.known = this.wanted = 0;
     this.inFile = 0;
     this.lineAt = { place: 0, ends: 0 };
     this.module.reserve(this.buffer + this.capacity);
@@ -57,6 +59,7 @@ export class Conversion {
 
   fill(at, bytes) {
     this.module.bytes.set(bytes, this.text + at);
+    this.known = at + bytes.length;
   }
 
   // The bytes of the file. They are another array after the memory has grown.
@@ -64,21 +67,18 @@ export class Conversion {
     return this.module.bytes.subarray(this.text, this.text + this.length);
   }
 
-  // Converts games until a time: "more" are to come, the file is at its "end", or there is a fault.
+  // Converts games until a time: "more" are to come, the file is at its "end", there is a "fault",
+  // or it has to "wait" for more bytes of the file.
   convertUntil(time) {
-    const { module } = this;
-    const read = (name) => module.field("pgn_game", name);
-    for (;;) {
-      const status = module.nextGame(
-        this.text, this.length, this.from, this.options,
+    while (this.known >= this.wanted) {
+      const status = this.module.nextGame(
+        this.text, this.known, this.from, this.options,
         this.buffer + this.used, this.capacity - this.used);
-      if (status === OK) {
-        this.starts.push(this.exportLength);
-        this.used += read("written");
-        this.plies.push(read("plies"));
-        this.allPlies += read("plies");
-        this.from = read("end");
-        this.inFile++;
+      if (this.needsMore(status)) {
+        // twice as much of the game, so that a long one is not read many times
+        this.wanted = Math.min(this.length, 2 * this.known - this.from + 1);
+      } else if (status === OK) {
+        this.takeGame();
       } else if (status === FULL) {
         this.makeRoom();
       } else if (status === NO_GAME) {
@@ -94,6 +94,23 @@ export class Conversion {
         return "more";
       }
     }
+    return "wait";
+  }
+
+  // Whether more bytes of the file could change the answer.
+  needsMore(status) {
+    return this.known < this.length && (status === NO_GAME || status === MORE ||
+      status === OK && this.module.field("pgn_game", "end") === this.known);
+  }
+
+  takeGame() {
+    const read = (name) => this.module.field("pgn_game", name);
+    this.starts.push(this.exportLength);
+    this.used += read("written");
+    this.plies.push(read("plies"));
+    this.allPlies += read("plies");
+    this.from = read("end");
+    this.inFile++;
   }
 
   makeRoom() {

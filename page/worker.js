@@ -17,6 +17,9 @@ let isStopped = false;
 let goesOnByItself = false;
 let faults = 0;
 let workTime = 0;
+// the part of the file that is being read, and the reading of the whole
+let part = null;
+let wholeFile = null;
 
 // Lets messages come in. A channel has no least delay, as setTimeout has.
 const channel = new MessageChannel();
@@ -95,44 +98,39 @@ async function nextFile(begin) {
     return;
   }
   conversion.beginFile(file.name, file.size);
-  if (await readFile(file, begin)) {
-    await convert(begin);
-  }
+  wholeFile = readFile(file);
+  // a part that cannot be read is met where the conversion waits for it
+  wholeFile.catch(() => {});
+  await convert(begin);
 }
 
-// Reads a file into the module's memory; false if that was stopped.
-async function readFile(file, begin) {
-  for (let at = 0; at < file.size; at += PART) {
+// Reads a file into the module's memory, while its games are converted.
+async function readFile(file) {
+  for (let at = 0; at < file.size && !isStopped; at += PART) {
     // a part of the file that has changed since it was chosen cannot be read
-    const part = await file.slice(at, at + PART).arrayBuffer();
-    if (isStopped) {
-      conversion.length = 0;
-      end("stopped", begin);
-      return false;
-    }
-    conversion.fill(at, new Uint8Array(part));
-    progress("reads", at + part.byteLength);
+    part = file.slice(at, at + PART).arrayBuffer();
+    conversion.fill(at, new Uint8Array(await part));
   }
-  return true;
-}
-
-function progress(what, done) {
-  report("progress", { what, file: conversion.name, done, length: conversion.length });
 }
 
 async function convert(begin) {
   for (;;) {
     const state = conversion.convertUntil(performance.now() + WORK_MILLISECONDS);
-    progress("converts", conversion.from);
-    if (state === "fault" && !tellFault()) {
-      end("refused", begin);
-      return;
+    report("progress", {
+      file: conversion.name, done: conversion.from, length: conversion.length,
+    });
+    if (state === "fault") {
+      await wholeFile;
+      if (!tellFault()) {
+        end("refused", begin);
+        return;
+      }
     }
     if (state === "end") {
       await nextFile(begin);
       return;
     }
-    await otherTasks();
+    await (state === "wait" ? part : otherTasks());
     if (isStopped) {
       end("stopped", begin);
       return;

@@ -400,6 +400,18 @@ class Large(Case):
         self.assertTrue(games and games.endswith(b"\n\n") and export.startswith(games))
         self.assertLess(len(games), len(export))
 
+    def test_long_game(self):
+        """A game that is longer than the parts in which a file is read, and one behind it."""
+        self.archive = self.folder + "/long.pgn"
+        with open(self.archive, "wb") as file:
+            file.write(b"1. e4 {" + b"word " * 2000000 + b"} *\n1. d4 *\n")
+        self.page()
+        self.open_archive()
+        self.assertEqual(self.browser.wait_for(IS_SHOWN), "done")
+        self.assertEqual(self.text("counts"), "2 games, 2 plies.")
+        exported = run([need_program(), "export", self.archive]).stdout
+        self.assertEqual(self.download("download")[1], exported)
+
     def test_no_memory(self):
         """A file that no memory of 32 bits holds."""
         self.archive = self.folder + "/sparse.pgn"
