@@ -164,7 +164,7 @@ class HeaderTest(unittest.TestCase):
         self.assertEqual(sorted(c_structs()), sorted(STRUCTS.values()))
 
     def test_statuses(self):
-        texts = source("src/pgn_result.rt") + source("src/next_game.rt")
+        texts = source("src/pgn_result.rt") + source("src/game_result.rt")
         consts = dict(re.findall(r"pub const (\w+): u32 = (\d+);", texts))
         self.assertEqual(sorted(consts), ["BAD_PLACE", "FAULT", "FULL", "MORE", "NO_GAME",
                                           "NO_MODE", "OK"])

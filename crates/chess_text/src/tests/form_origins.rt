@@ -24,7 +24,7 @@ const PROMOTION: &str = "8/P6k/8/8/8/8/8/K7 w - - 0 1";
 // Whether the square with this place among all has that name.
 fn is_named(index: usize, name: [u8; 2]) -> bool {
     let file = (index % 8) as u8;
-    let rank = (index / 8) as u8;
+    let rank = (index / 8 % 8) as u8;
     name[0] == b'a'.wrapping_add(file) && name[1] == b'1'.wrapping_add(rank)
 }
 
