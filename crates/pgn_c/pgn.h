@@ -34,11 +34,11 @@ enum {
     PGN_FULL = 2,   /* the buffer is too short */
     PGN_NO_MODE = 3, /* there is no such mode; nothing was read or written */
     PGN_NO_GAME = 4, /* no game is left in the text */
-    PGN_MORE = 5,    /* the text ends inside a game: a caller who reads in chunks gives more */
-    PGN_BAD_PLACE = 6 /* the place is behind the text; nothing was read or written */
+    PGN_MORE = 5,    /* a fault if the text ends here: a caller who reads in chunks gives more */
+    PGN_BAD_PLACE = 6 /* the place is behind the text or above 2^62; nothing was read or written */
 };
 
-/* The modes of pgn_convert. */
+/* The modes of pgn_convert and pgn_next_game. */
 enum {
     PGN_FULL_FORMAT = 0,   /* export format (PGN 3.2) */
     PGN_REDUCED_FORMAT = 1 /* reduced export format (PGN 3.2.4) */
@@ -114,10 +114,10 @@ typedef struct pgn_explanation {
     uint32_t field;      /* with fault 26 the field of the FEN that is at fault, 1 to 7; else 0 */
     uint32_t form;       /* 1: a piece or a pawn; 2: castling king's side; 3: queen's side */
     uint32_t piece;      /* 'K', 'Q', 'R', 'B', 'N' or 'P' */
-    uint32_t target;     /* the target square: 8 * rank + file, both from 0 */
+    uint32_t target;     /* the target square, in castling the king's: 8 * rank + file, from 0 */
     uint8_t origins[64]; /* by square: 1: a piece of this kind can step from here to the target by
                             its own rules, but its king would be in check; 2: that is a legal move;
-                            0: neither, or the text says another file or rank */
+                            0: neither, or the text says another file, rank, promotion */
 } pgn_explanation;
 
 /*
@@ -176,18 +176,30 @@ pgn_move pgn_san(const uint8_t *fen, size_t fen_length, const uint8_t *text, siz
  * Converts the next game of a text, from the byte at `from` on, into the front of a buffer.
  *
  * `from` is 0, the `end` of the game before, or another place between two games. Places count from
- * the first byte of the text.
+ * the first byte of the text. The bytes before `from` count as white space. So from a place inside
+ * a token, a comment or an escape line, the rest of it is read as if it were outside. A byte order
+ * mark is skipped at place 0 alone. A `%` at `from` begins an escape line only in the first column:
+ * at place 0, behind CR or LF, and at place 3 of a text that begins with a byte order mark.
  *
- * PGN_OK: a game. If `end` is `length`, more bytes behind the text could change the answer: a
- *     caller who reads in chunks gives more, and calls again with the same `from`.
- * PGN_NO_GAME: no game is left; there may be white space, comments and escape lines.
- * PGN_FAULT: the game has a fault. More bytes would not change that.
- * PGN_MORE: the text ends inside a game. A caller who reads in chunks gives more, and calls again
- *     with the same `from`. If the text is whole, this is its fault: `fault`, `place` and `message`
- *     say which.
- * PGN_FULL: the buffer is full. Call again with a larger one.
+ * PGN_OK: a game; the buffer has its export text. Bytes behind the one at `end` do not matter. If
+ *     `end` is `length`, more bytes behind the text could change the answer: a caller who reads in
+ *     chunks gives more, and calls again with the same `from`.
+ * PGN_NO_GAME: no game is left; there may be white space, comments and escape lines. Nothing is
+ *     written. With more bytes there may be a game.
+ * PGN_FAULT: the game has a fault, or (52) goes on to the byte at 2^62. More bytes would not change
+ *     that. The buffer has the complete lines of the game, if its movetext has begun.
+ * PGN_MORE: the text has a fault if it ends here: inside a game or a comment, or behind a token
+ *     that could go on. More bytes could change that. A caller who reads in chunks gives more, and
+ *     calls again with the same `from`. If the text is whole, this is its fault: `fault`, `place`
+ *     and `message` say which. The buffer has what it has with PGN_FAULT.
+ * PGN_FULL: the buffer is full, and there is more to write. It has the first `capacity` bytes of
+ *     that. `fault` is 51, and `place` is that of the token whose text is not all written. Call
+ *     again with a larger one.
  * PGN_NO_MODE: `mode` or `missing_result` is neither 0 nor 1.
  * PGN_BAD_PLACE: `from` is greater than `length` or than 2^62.
+ *
+ * With PGN_RESULT_FROM_MARKER nothing is written with PGN_FAULT and PGN_MORE, and PGN_FULL is only
+ * for a game without a fault. The bytes of the buffer behind the first `written` are as they were.
  */
 pgn_game pgn_next_game(const uint8_t *text, size_t length, size_t from, uint32_t mode,
                        uint32_t missing_result, uint8_t *buffer, size_t capacity);
@@ -203,6 +215,10 @@ pgn_tag pgn_tag_at(const uint8_t *text, size_t length, size_t at);
 /*
  * Explains what a move's text means in the position of a FEN, also if it is rejected: from which
  * squares a piece of that kind can step to the target, and which of these steps are legal.
+ *
+ * An `x`, a `+` and a `#` in the text do not matter. Castling is a step only if the king leaves,
+ * crosses and reaches no attacked square, so it never has a 1. A legal move has a 2 also where
+ * pgn_san has fault 36.
  */
 pgn_explanation pgn_explain(const uint8_t *fen, size_t fen_length,
                             const uint8_t *text, size_t length);
