@@ -191,6 +191,7 @@ pub record ChecksNext (mode : Mode) (text : List ℕ) (from : ℕ) (before after
   pub marker : Marker
   pub found : PgnGame
   pub reads : ReadsNext mode marker text from found
+  pub not_full : found.status ≢ 2
   pub is_game : found.status ≡ 0
       → ConvertsNext (profile_counting mode marker) text from before after result
   pub no_game : found.status ≢ 0 → (after ≡ before) × (result ≡ found)

@@ -1,5 +1,5 @@
 //! The next game of a text.
-ghost use Rattle.std.specs.Prelude.{◌≡◌, ◌<◌, ◌≤◌, ◌^◌, ◌⊎◌, ◌↔◌, IsTrue, length, drop};
+ghost use Rattle.std.specs.Prelude.{◌≡◌, ◌≢◌, ◌<◌, ◌≤◌, ◌^◌, ◌⊎◌, ◌↔◌, IsTrue, length, drop};
 ghost use Rattle.pgn_layout.specs.Device.{one_more};
 ghost use Rattle.pgn_game.specs.declared.marker.Marker.TheVariants.{Unknown};
 ghost use Rattle.pgn_game.specs.declared.marker.Marker.{Marker as CodeMarker};
@@ -74,6 +74,7 @@ fn read_by_marker(text: &[u8], from: usize, mode: Mode) -> ByMarker
     requires within { from ≤ length text.now }
     requires place { from ≤ 2 ^ 62 }
     ensures next { ReadsNext mode result.marker text.now from result.found }
+    ensures not_full { result.found.status ≢ 2 }
     ensures by_each { result.found.fault ≡ 41 → (marker : CodeMarker)
         → IsOtherResult mode marker text.now from }
 {
@@ -98,6 +99,7 @@ fn read_counting(text: &[u8], from: usize, mode: Mode, marker: Marker) -> ByMark
     requires place { from ≤ 2 ^ 62 }
     ensures marker { result.marker ≡ marker }
     ensures next { ReadsNext mode marker text.now from result.found }
+    ensures not_full { result.found.status ≢ 2 }
 {
     ByMarker {
         marker,
