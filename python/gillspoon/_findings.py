@@ -23,10 +23,9 @@ STEP = 256
 SHOWN = 60
 # How many lines of a bad game are searched for its tags.
 MOST_LINES = 64
-RESULT_DIFFERS = 41
+UNCLOSED_COMMENT, RESULT_DIFFERS = 12, 41
 # What a message leaves out, by the number of the fault.
 NOTES = {
-    12: "its opening brace is before",
     32: "the game before may have no result at its end",
     42: "the last game has no result at its end",
 }
@@ -84,7 +83,7 @@ class Linter(Reader):
         super().__init__(Window(source), checked, False)
         self.name = name
         self.found: List[Finding] = []
-        self._bad = _BadGame("", 0, "?", "?", None, False)
+        self._bad = _BadGame("", 0, "?", "?", None, "")
 
     def findings(self, step: Callable[[int], None] = lambda number: None) -> Iterator[Finding]:
         """The faults in turn. At the end `number` is one above the number of games.
@@ -122,9 +121,27 @@ class Linter(Reader):
         before, after = line_around(data, at)
         white, black = self._names(fault)
         symbol = SYMBOL.match(data, at) if fault.fen else None
-        lacks_result = fault.number == RESULT_DIFFERS and self._passes_without_result()
         return _BadGame(before + after, len(before), white, black,
-                        symbol[0].decode("ascii") if symbol else None, lacks_result)
+                        symbol[0].decode("ascii") if symbol else None, self._note(fault))
+
+    def _note(self, fault: PgnFault) -> str:
+        """What the reason leaves out."""
+        if fault.number == UNCLOSED_COMMENT:
+            return self._begin_of_comment()
+        if fault.number == RESULT_DIFFERS and self._passes_without_result():
+            return NO_RESULT
+        return NOTES.get(fault.number, "")
+
+    def _begin_of_comment(self) -> str:
+        """Where a comment begins that the text ends in: at the first brace that opens one."""
+        base, data, begin = self.window.base, self.window.data, self.at - self.window.base
+        at = data.find(b"{", max(data.rfind(b"}"), begin))
+        while at >= 0:
+            found, _ = self._next_game(data[begin:at + 1], 0, _library.RESULT_FROM_MARKER)
+            if found.fault == UNCLOSED_COMMENT:
+                return "it begins at line %d, column %d" % self.window.place(base + at)
+            at = data.find(b"{", at + 1)
+        return ""
 
     def _next_game(self, text: bytes, begin: int, missing: int) -> Tuple[_library.NextGame, bytes]:
         """The answer of the library, and what it has written."""
@@ -165,10 +182,9 @@ class Linter(Reader):
         sentence = ""
         if fault.fen and bad.move:
             legal, exposing, sentence = explained(fault.number, fault.fen, bad.move)
-        note = NO_RESULT if bad.lacks_result else NOTES.get(fault.number, "")
         assert fault.end is not None
         self.found.append(Finding(
-            self.name, fault.line, fault.column, fault.offset, fault.number, fault.reason, note,
+            self.name, fault.line, fault.column, fault.offset, fault.number, fault.reason, bad.note,
             fault.game, bad.white, bad.black, fault.begin, fault.end, bad.text, bad.before,
             fault.fen, bad.move, legal, exposing, sentence))
 
@@ -181,7 +197,7 @@ class _BadGame(NamedTuple):
     white: str
     black: str
     move: Optional[str]
-    lacks_result: bool
+    note: str
 
 
 # ---- the line
