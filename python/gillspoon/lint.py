@@ -29,7 +29,12 @@ a bad game ends is a guess: before the next line that begins a tag section.
 status:
   0  no fault
   1  there are faults
-  2  wrong arguments, or a file could not be read
+  2  wrong arguments, or a file cannot be read, or the output cannot be written
+  127  there is no shared library
+
+environment:
+  GILLSPOON_LIBRARY  the shared library to use [default: the one that is installed or built]
+  NO_COLOR           if it is set, there are no colours on a terminal
 """
 SUFFIXES = (".pgn", ".pgn.gz", ".pgn.zst", ".pgn.bz2")
 STANDARD_INPUT = "<stdin>"
