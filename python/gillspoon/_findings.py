@@ -23,13 +23,15 @@ STEP = 256
 SHOWN = 60
 # How many lines of a bad game are searched for its tags.
 MOST_LINES = 64
-UNCLOSED_COMMENT, RESULT_DIFFERS = 12, 41
+UNCLOSED_COMMENT, MOVE_LIMIT, RESULT_DIFFERS = 12, 36, 41
 # What a message leaves out, by the number of the fault.
 NOTES = {
     32: "the game before may have no result at its end",
     42: "the last game has no result at its end",
 }
 NO_RESULT = "there is no Result tag, which counts as *; --checked takes the result at the end"
+CASTLING = ("%s may not castle by %s here: the right is lost, a square between is occupied, or the "
+            "king is in check, or passes or reaches an attacked square.")
 PIECES = {"K": "king", "Q": "queen", "R": "rook", "B": "bishop", "N": "knight", "P": "pawn"}
 
 
@@ -266,47 +268,54 @@ def explained(number: int, fen: str, move: str) -> Tuple[Tuple[str, ...], Tuple[
         said = _calls.explain(fen, move)
     except MoveFault:
         return (), (), ""
-    if number == 36:
+    if number == MOVE_LIMIT:
         sentence = "No FEN has a move number above 99,999."
     elif said.legal:
         sentence = _many(fen, move, said)
     elif said.exposing:
-        sentence = "%s can go to %s from %s, but its king would then be in check." % (
-            _piece(fen, said, "A"), said.target, _joined(said.exposing))
+        sentence = _exposing(fen, said)
+    elif said.castling:
+        sentence = CASTLING % (_side(fen).capitalize(), said.castling)
     else:
         sentence = _none(fen, move, said)
     return said.legal, said.exposing, sentence
 
 
 def _many(fen: str, move: str, said: _calls.Explanation) -> str:
-    if len(said.legal) == 1:
-        return "%s may go to %s from %s." % (_piece(fen, said, "A"), said.target, said.legal[0])
     letter, promotion = said.piece.replace("P", ""), "".join(move.partition("=")[1:])
     ways = [_calls.san(fen, letter + it + said.target + promotion).san for it in said.legal]
     return "%d %ss may go to %s, from %s: write %s." % (
-        len(ways), _piece(fen, said, ""), said.target, _joined(said.legal), _joined(ways, "or"))
+        len(ways), _piece(fen, said), said.target, _joined(said.legal), _joined(ways, "or"))
+
+
+def _exposing(fen: str, said: _calls.Explanation) -> str:
+    if said.piece == "K":
+        return "The %s can go to %s, but would be in check there." % (
+            _piece(fen, said), said.target)
+    return "A %s can go to %s from %s, but its king would then be in check." % (
+        _piece(fen, said), said.target, _joined(said.exposing))
 
 
 def _none(fen: str, move: str, said: _calls.Explanation) -> str:
-    if said.castling:
-        return ("%s may not castle with %s here: the right is lost, a square between is occupied, "
-                "or the king is in check or would pass or reach an attacked square." % (
-                    _side(fen).capitalize(), said.castling))
-    others: Tuple[str, ...] = ()
-    if said.piece != "P":
-        others = _calls.explain(fen, said.piece + said.target).legal
+    """The sentence where no such piece can go there: perhaps one of another file or rank can."""
+    if said.piece == "K":
+        return "The %s cannot go to %s." % (_piece(fen, said), said.target)
+    letter, promotion = said.piece.replace("P", ""), "".join(move.partition("=")[1:])
+    if not letter and not promotion and _calls.explain(fen, move + "=Q").legal:
+        return "A %s is promoted on %s: write %s=Q." % (_piece(fen, said), said.target, move)
+    others = _calls.explain(fen, letter + said.target + promotion).legal
     if others:
-        return "No such %s can go to %s as %s says; one may from %s." % (
-            _piece(fen, said, ""), said.target, move, _joined(others))
-    return "No %s can go to %s." % (_piece(fen, said, ""), said.target)
+        return "No %s can go to %s as %s says, but one may from %s." % (
+            _piece(fen, said), said.target, move, _joined(others))
+    return "No %s can go to %s." % (_piece(fen, said), said.target)
 
 
 def _side(fen: str) -> str:
     return "white" if fen.split()[1] == "w" else "black"
 
 
-def _piece(fen: str, said: _calls.Explanation, article: str) -> str:
-    return ("%s %s %s" % (article, _side(fen), PIECES[said.piece])).strip()
+def _piece(fen: str, said: _calls.Explanation) -> str:
+    return "%s %s" % (_side(fen), PIECES[said.piece])
 
 
 def _joined(words: "List[str] | Tuple[str, ...]", last: str = "and") -> str:
