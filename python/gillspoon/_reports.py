@@ -261,6 +261,9 @@ def message(text: str) -> None:
 
 
 def has_colours(out: Output) -> bool:
-    """Whether the output is a terminal that is to have colours (NO_COLOR: no-color.org)."""
-    return (out.is_terminal and not os.environ.get("NO_COLOR")
-            and os.environ.get("TERM") != "dumb")
+    """Whether the output is a terminal that is to have colours (NO_COLOR: no-color.org).
+
+    What emacs runs has a terminal too, but emacs looks for the names of files in plain text.
+    """
+    is_plain = os.environ.get("NO_COLOR") or os.environ.get("INSIDE_EMACS")
+    return out.is_terminal and not is_plain and os.environ.get("TERM") != "dumb"

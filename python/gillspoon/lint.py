@@ -66,7 +66,11 @@ def arguments(words: Optional[List[str]]) -> argparse.Namespace:
     parser.add_argument("--max", metavar="N", type=_number, help="write the first N faults alone")
     parser.add_argument("-j", "--jobs", metavar="N", type=_number, default=1,
                         help="check files by N processes [default: 1]")
-    given = parser.parse_args(words)
+    words = sys.argv[1:] if words is None else words
+    # options may be between files, and behind -- there are none
+    end = words.index("--") if "--" in words else len(words)
+    given = parser.parse_intermixed_args(words[:end])
+    given.paths += words[end + 1:]
     if given.board and (given.json or given.sarif):
         parser.error("--board goes with neither --json nor --sarif, which have all that it shows")
     if not given.paths and sys.stdin and sys.stdin.isatty():
@@ -204,21 +208,23 @@ class Run:
 
         Standard input is read by this one.
         """
-        with ProcessPoolExecutor(self.given.jobs, initializer=_end_with_parent) as pool:
+        pool = ProcessPoolExecutor(self.given.jobs, initializer=_end_with_parent)
+        try:
             asked: "Dict[int, Future[Checked]]" = {
                 at: pool.submit(check_file, file, self.given.checked, self.given.max)
                 for at, file in enumerate(self.files) if isinstance(file, str) and file != "-"}
-            try:
-                for at, file in enumerate(self.files):
-                    if at in asked:
-                        self._take(asked.pop(at).result())
-                        self._show(self.games)
-                    else:
-                        self._check_here(file)
-            except BaseException:
-                for process in multiprocessing.active_children():
-                    process.terminate()
-                raise
+            for at, file in enumerate(self.files):
+                if at in asked:
+                    self._take(asked.pop(at).result())
+                    self._show(self.games)
+                else:
+                    self._check_here(file)
+        except BaseException:
+            for process in multiprocessing.active_children():
+                process.terminate()
+            pool.shutdown(wait=False, cancel_futures=True)
+            raise
+        pool.shutdown()
 
     def _take(self, checked: Checked) -> None:
         for finding in checked.findings:
@@ -247,9 +253,9 @@ class Run:
 
 
 def _end_with_parent() -> None:
-    """In a process of a pool: an interrupt ends it at once and silently."""
-    signal.signal(signal.SIGINT, signal.SIG_DFL)
-    signal.signal(signal.SIGTERM, signal.SIG_DFL)
+    """In a process of a pool: an interrupt ends it at once and silently, if it is not ignored."""
+    if signal.getsignal(signal.SIGINT) != signal.SIG_IGN:
+        signal.signal(signal.SIGINT, signal.SIG_DFL)
 
 
 def main(words: Optional[List[str]] = None) -> int:
