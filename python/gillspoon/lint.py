@@ -4,16 +4,17 @@
 """
 import argparse
 import errno
-import multiprocessing
 import os
 import signal
 import sys
-from concurrent.futures import Future, ProcessPoolExecutor
-from typing import Dict, Iterator, List, NamedTuple, NoReturn, Optional, Union
+from typing import TYPE_CHECKING, Dict, Iterator, List, NamedTuple, NoReturn, Optional, Union
 
 from ._findings import Finding, Linter
 from ._reports import (AnyReport, JsonReport, Output, OutputFault, Progress, Report, SarifReport,
                        Summary, Unread, has_colours, message)
+
+if TYPE_CHECKING:
+    from concurrent.futures import Future
 
 DESCRIPTION = "Checks PGN files, and names each fault by file, line and column."
 HELP = """examples:
@@ -208,6 +209,9 @@ class Run:
 
         Standard input is read by this one.
         """
+        # they take as long as all other imports together
+        import multiprocessing
+        from concurrent.futures import ProcessPoolExecutor
         pool = ProcessPoolExecutor(self.given.jobs, initializer=_end_with_parent)
         try:
             asked: "Dict[int, Future[Checked]]" = {
