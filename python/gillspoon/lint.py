@@ -130,13 +130,23 @@ class Checked(NamedTuple):
     unread: Optional[Unread]
 
 
+class FilePath(os.PathLike[str]):
+    """The name of a file, which may have line ends: as a str it would be taken for a text."""
+
+    def __init__(self, name: str) -> None:
+        self.name = name
+
+    def __fspath__(self) -> str:
+        return self.name
+
+
 def linter_of(path: str, checked: bool) -> Linter:
     """The reader of a file, or of standard input."""
     if path == "-":
         if sys.stdin is None:
             raise OSError(errno.EBADF, os.strerror(errno.EBADF))
         return Linter(sys.stdin.buffer, STANDARD_INPUT, checked)
-    return Linter(path, path, checked)
+    return Linter(FilePath(path), path, checked)
 
 
 def check_file(path: str, checked: bool, most: Optional[int]) -> Checked:

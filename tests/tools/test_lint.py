@@ -380,8 +380,8 @@ class Files(Lint):
                  "\x1b[2J.pgn": "\\x1b[2J.pgn", "\u00fc\u4e16.pgn": "\u00fc\u4e16.pgn"}
         for name in shown:
             self.put("names/" + name, BAD)
-            status, out, _ = self.lint("--quiet", "names/" + name)
-            self.assertEqual((status, out), (1, "names/%s:%s\n" % (shown[name], BAD_LINE)))
+            self.assertEqual(self.lint("--quiet", "names/" + name),
+                             (1, "names/%s:%s\n" % (shown[name], BAD_LINE), ""))
             found = self.records("names/" + name)[0]
             self.assertEqual(found["file"], "names/" + name)
         status, out, _ = self.lint("names")
