@@ -85,6 +85,7 @@ class Linter(Reader):
         super().__init__(Window(source), checked, False)
         self.name = name
         self.found: List[Finding] = []
+        self._buffer = ctypes.create_string_buffer(1 << 16)
         self._bad = _BadGame("", 0, "?", "?", None, "")
 
     def findings(self, step: Callable[[int], None] = lambda number: None) -> Iterator[Finding]:
@@ -147,10 +148,12 @@ class Linter(Reader):
 
     def _next_game(self, text: bytes, begin: int, missing: int) -> Tuple[_library.NextGame, bytes]:
         """The answer of the library, and what it has written."""
-        buffer = ctypes.create_string_buffer(2 * len(text) + 4096)
-        found = _library.next_game(text, len(text), begin, _library.FULL_FORMAT, missing, buffer,
-                                   len(buffer))
-        return found, buffer.raw[:found.written]
+        while True:
+            found = _library.next_game(text, len(text), begin, _library.FULL_FORMAT, missing,
+                                       self._buffer, len(self._buffer))
+            if found.status != _library.FULL:
+                return found, ctypes.string_at(self._buffer, found.written)
+            self._buffer = ctypes.create_string_buffer(2 * len(self._buffer))
 
     def _passes_without_result(self) -> bool:
         begin = self.at - self.window.base
