@@ -30,6 +30,9 @@ Requires-Python: %s
 Description-Content-Type: text/markdown
 
 %s"""
+COMMANDS = """[console_scripts]
+pgn_lint = gillspoon.lint:main
+"""
 WHEEL = """Wheel-Version: 1.0
 Generator: gillspoon
 Root-Is-Purelib: false
@@ -79,6 +82,7 @@ def build(folder, files):
     info = "gillspoon-%s.dist-info/" % version()
     name = "gillspoon-%s-%s.whl" % (version(), tag)
     files = {**files, info + "LICENSE-MIT": read(ROOT + "/LICENSE-MIT").encode(),
+             info + "entry_points.txt": COMMANDS.encode(),
              info + "METADATA": metadata().encode(), info + "WHEEL": (WHEEL % tag).encode()}
     record = ""
     with zipfile.ZipFile(os.path.join(folder, name), "w", zipfile.ZIP_DEFLATED) as wheel:

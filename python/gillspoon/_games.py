@@ -123,7 +123,7 @@ class Game:
         return tags, moves
 
 
-class _Reader:
+class Reader:
     """Reads a source game by game."""
 
     def __init__(self, window: Window, checked: bool, reduced: bool) -> None:
@@ -228,7 +228,7 @@ def games(source: Source, *, checked: bool = False, reduced: bool = False,
 def _each(window: Window, checked: bool, reduced: bool,
           on_fault: Optional[OnFault]) -> Iterator[Game]:
     try:
-        yield from _Reader(window, checked, reduced).games(on_fault)
+        yield from Reader(window, checked, reduced).games(on_fault)
     finally:
         window.close()
 

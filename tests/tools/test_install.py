@@ -15,19 +15,20 @@ from small_repository import CARGO, Repository
 INSTALL, UNINSTALL, LIST = "bin/install", "bin/uninstall", "share/pgn_tool/files"
 MODULES = ROOT + "/python/gillspoon"
 FILES = [
-    "bin/pgn_fmt", "bin/pgn_sieve", "bin/pgn_tool", "bin/pgn_where",
+    "bin/pgn_fmt", "bin/pgn_lint", "bin/pgn_sieve", "bin/pgn_tool", "bin/pgn_where",
     "include/pgn.h", "lib/libpgn_c.a", "lib/libpgn_c.so", "lib/pkgconfig/pgn_c.pc",
-    "share/bash-completion/completions/pgn_tool",
+    "share/bash-completion/completions/pgn_lint", "share/bash-completion/completions/pgn_tool",
+    "share/fish/vendor_completions.d/pgn_lint.fish",
     "share/fish/vendor_completions.d/pgn_tool.fish",
-    "share/man/man1/pgn_fmt.1", "share/man/man1/pgn_sieve.1", "share/man/man1/pgn_tool.1",
-    "share/man/man1/pgn_where.1",
+    "share/man/man1/pgn_fmt.1", "share/man/man1/pgn_lint.1", "share/man/man1/pgn_sieve.1",
+    "share/man/man1/pgn_tool.1", "share/man/man1/pgn_where.1",
     LIST, *("share/pgn_tool/gillspoon/" + it for it in sorted(os.listdir(MODULES))
             if it != "__pycache__"),
-    "share/pgn_tool/pgn_files.py", "share/pgn_tool/pgn_fmt", "share/pgn_tool/pgn_sieve",
-    "share/pgn_tool/pgn_where",
-    "share/zsh/site-functions/_pgn_tool",
+    "share/pgn_tool/pgn_files.py", "share/pgn_tool/pgn_fmt", "share/pgn_tool/pgn_lint",
+    "share/pgn_tool/pgn_sieve", "share/pgn_tool/pgn_where",
+    "share/zsh/site-functions/_pgn_lint", "share/zsh/site-functions/_pgn_tool",
 ]
-SCRIPTS = ("pgn_where", "pgn_sieve", "pgn_fmt")
+SCRIPTS = ("pgn_lint", "pgn_where", "pgn_sieve", "pgn_fmt")
 
 
 def files(folder):
@@ -310,11 +311,14 @@ class Installed(unittest.TestCase):
     def test_they_work_from_another_folder(self):
         ran = self.shell("printf '1. e4 *\\n\\n[White \"Ann\"]\\n\\n1. Ke2 *\\n' >games.pgn\n"
                          "pgn_tool check games.pgn 2>&1 | pgn_where games.pgn\n"
+                         "pgn_lint games.pgn\n"
                          "pgn_sieve games.pgn good.pgn bad.pgn >/dev/null\n"
                          "pgn_fmt good.pgn | tail -n 2; pgn_fmt --check bad.pgn")
         self.assertEqual(ran.stdout.decode().splitlines(), [
             "games.pgn: line 5, column 4 (byte 27): move is not legal", "1. Ke2 *", "   ^",
-            'game 2: White "Ann", Black "?", Event "?"', "1. e4 *", ""])
+            'game 2: White "Ann", Black "?", Event "?"',
+            "games.pgn:5:4: move is not legal (game 2, Ann \u2013 ?)",
+            "1 file, 2 games, 1 fault in 1 file", "1. e4 *", ""])
         self.assertRegex(ran.stderr, rb"\Apgn_fmt: bad.pgn: byte \d+: move is not legal\n\Z")
 
     def test_no_path_of_the_repository_is_named(self):

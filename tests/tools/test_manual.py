@@ -16,7 +16,8 @@ from programs import ROOT, run
 
 PAGES = ROOT + "/share/man/man1/"
 PAGE = PAGES + "pgn_tool.1"
-SCRIPTS = ("pgn_where", "pgn_sieve", "pgn_fmt")
+SCRIPTS = ("pgn_lint", "pgn_where", "pgn_sieve", "pgn_fmt")
+VARIABLES = {"pgn_lint": ["GILLSPOON_LIBRARY", "NO_COLOR"], "pgn_where": []}
 COMPLETIONS = ROOT + "/share/completions/"
 # What a shell says of a process that a signal ended: 11, or 6, which Rust sends itself.
 KILLED = (-11, 128 + 11, -6, 128 + 6)
@@ -64,7 +65,7 @@ class Folder(unittest.TestCase):
     def shell(self, script, run=run, **more):
         program = programs.need_program()
         path = ":".join((os.path.dirname(program), ROOT + "/bin", programs.PATH))
-        env = dict(os.environ, PATH=path)
+        env = dict(os.environ, PATH=path, NO_COLOR="1", LC_ALL="C.UTF-8")
         return run(["bash", "-c", script], cwd=more.pop("cwd", self.folder), env=env, **more)
 
 
@@ -147,14 +148,14 @@ class Page(Folder):
         for name in ("pgn_tool", *SCRIPTS):
             page = section(text_of(PAGES + name + ".1"), "EXAMPLES")
             for block in re.findall(r"^\.Bd -literal.*?\n(.*?)^\.Ed", page, re.M | re.S):
-                block = block.replace("\\e", "\\")
+                block = block.replace("\\e", "\\").replace("\\(en", "\u2013")
                 if block.startswith("$ parallel"):
                     continue
                 script = "".join(re.findall(r"^\$ (.*\n)", block, re.M))
                 shown = "".join(re.findall(r"^(?!\$ ).*\n", block, re.M))
                 self.assertEqual(self.shell(script, programs.on_a_terminal), shown, script)
                 tried += 1
-        self.assertEqual(tried, 5)
+        self.assertEqual(tried, 6)
 
     def test_the_example_of_a_compressed_archive(self):
         programs.need("zstd")
@@ -214,7 +215,7 @@ class Scripts(unittest.TestCase):
             page = text_of(PAGES + name + ".1")
             said = re.findall(r"^\.It Ev (\w+)$", page, re.M)
             self.assertEqual(said, re.findall(r"^  (\w+)  ", helped[1], re.M) if helped else [])
-            self.assertEqual(said, [] if name == "pgn_where" else ["PGN_TOOL"])
+            self.assertEqual(said, VARIABLES.get(name, ["PGN_TOOL"]))
 
 
 class Statuses(Folder):
@@ -278,10 +279,11 @@ class Statuses(Folder):
 
 class Completions(Folder):
     def words(self, *line):
+        """What bash completes as the last word of a line."""
         if shutil.which("bash") is None:
             programs.not_tried("bash is missing")
-        script = 'source %spgn_tool.bash; COMP_WORDS=("$@"); COMP_CWORD=$(($# - 1)); _pgn_tool;' \
-            ' printf "%%s\\n" "${COMPREPLY[@]}"' % COMPLETIONS
+        script = 'source %s%s.bash; COMP_WORDS=("$@"); COMP_CWORD=$(($# - 1)); _%s;' \
+            ' printf "%%s\\n" "${COMPREPLY[@]}"' % (COMPLETIONS, line[0], line[0])
         ran = run(["bash", "-c", script, "sh", *line], cwd=self.folder)
         self.assertEqual(ran.stderr, b"")
         return sorted(it for it in ran.stdout.decode().split("\n") if it)
@@ -317,6 +319,35 @@ class Completions(Folder):
         self.assertEqual(re.findall(r"^ +'([a-z]+):[a-z]", text, re.M), commands())
         for option in options() + options("export"):
             self.assertIn(option, text)
+
+    def lint_options(self):
+        text = run(["bin/pgn_lint", "--help"]).stdout.decode()
+        rows = re.search(r"^options:\n((?:  .*\n)+)", text, re.M)[1]
+        return sorted(re.findall(r"(?<![\w-])--?[\w-]+", "\n".join(
+            it.split("  ")[1] for it in rows.splitlines() if it.startswith("  -"))))
+
+    def test_bash_for_pgn_lint(self):
+        self.assertEqual(self.words("pgn_lint", "-"), self.lint_options())
+        self.assertIn("--sarif", self.lint_options())
+        open(self.folder + "/some games.pgn", "wb").close()
+        self.assertEqual(self.words("pgn_lint", "--board", "some"), ["some games.pgn"])
+        self.assertEqual(self.words("pgn_lint", "--max", "s"), [])
+
+    def test_fish_for_pgn_lint(self):
+        programs.need("fish")
+        script = "source %spgn_lint.fish; complete -C 'pgn_lint -'" % COMPLETIONS
+        env = dict(os.environ, HOME=self.folder, XDG_CONFIG_HOME=self.folder)
+        ran = run(["fish", "-c", script], cwd=self.folder, env=env)
+        found = sorted(it.split("\t")[0] for it in ran.stdout.decode().splitlines())
+        self.assertEqual(found, self.lint_options())
+
+    def test_zsh_for_pgn_lint(self):
+        programs.need("zsh")
+        ran = run(["zsh", "-n", COMPLETIONS + "_pgn_lint"])
+        self.assertEqual((ran.returncode, ran.stderr), (0, b""))
+        text = text_of(COMPLETIONS + "_pgn_lint")
+        for option in self.lint_options():
+            self.assertRegex(text, r"[{',)]%s[,}\[]" % option)
 
 
 if __name__ == "__main__":

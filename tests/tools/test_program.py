@@ -312,8 +312,8 @@ class CallTest(unittest.TestCase):
 
 class Helps(unittest.TestCase):
     def test_help(self):
-        for script in ("pgn_where", "pgn_sieve", "pgn_fmt", "install", "uninstall", "test_tools",
-                       "build_program", "try_allocations"):
+        for script in ("pgn_lint", "pgn_where", "pgn_sieve", "pgn_fmt", "install", "uninstall",
+                       "test_tools", "build_program", "try_allocations"):
             ran = run(["bin/" + script, "--help"])
             self.assertEqual((ran.returncode, ran.stderr), (0, b""), script)
             without_examples = ("test_tools", "build_program")

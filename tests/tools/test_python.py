@@ -878,6 +878,8 @@ class Wheel(Folder):
         text = "import gillspoon; print(gillspoon.check('examples/annotated.pgn'))"
         ran = run([python, "-c", text], env=env)
         self.assertEqual(ran.stdout, b"Totals(games=1, plies=7)\n")
+        ran = run([self.folder + "/venv/bin/pgn_lint", "examples/two-games.pgn"], env=env)
+        self.assertEqual(ran.stdout, b"1 file, 2 games, 0 faults\n", ran.stderr)
 
     def test_tag(self):
         ran = run([PYTHON, "-m", "pip", "wheel", "--no-index", "--no-deps", "-w", self.folder,

@@ -106,6 +106,9 @@ class Whole(Recipe):
     def test_see_where_a_fault_is(self):
         self.put("games.pgn", "1. e4 e5\n2. Ke3 *\n")
         ran = self.recipe("See where a fault is")
+        self.assertEqual((ran.returncode, ran.stderr), (1, b""))
+        self.assertTrue(ran.stdout.startswith(b"games.pgn:2:4: move is not legal (game 1, "))
+        ran = self.recipe("See where a fault is", 1)
         self.assertEqual((ran.returncode, ran.stderr), (0, b""))
         self.assertIn(b"Ke3", ran.stdout)
 

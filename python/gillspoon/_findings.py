@@ -1,0 +1,342 @@
+"""What pgn_lint finds in a source: each fault with its game, its line, and what explains it.
+
+All that is said of a text comes from the library: the faults and their places, the names of a bad
+game, and whether a Result is missing, which is so if the game is accepted without one.
+"""
+import ctypes
+import re
+import unicodedata
+from typing import Callable, Iterator, List, NamedTuple, Optional, Tuple
+
+from . import _calls, _library
+from ._faults import MoveFault, PgnFault
+from ._games import Reader
+from ._moves import read_tags
+from ._places import LINE_END
+from ._sources import Source, Window
+
+# A symbol (PGN 7), which is what a text of a move is.
+SYMBOL = re.compile(rb"[\w+#=:/-]+", re.ASCII)
+# After how many games a step is reported.
+STEP = 256
+# How many bytes of a line are shown before a fault, and behind it.
+SHOWN = 60
+# How many lines of a bad game are searched for its tags.
+MOST_LINES = 64
+UNCLOSED_COMMENT, MOVE_LIMIT, RESULT_DIFFERS = 12, 36, 41
+# What a message leaves out, by the number of the fault.
+NOTES = {
+    32: "the game before may have no result at its end",
+    42: "the last game has no result at its end",
+}
+NO_RESULT = "there is no Result tag, which counts as *; --checked takes the result at the end"
+CASTLING = ("%s may not castle by %s here: the right is lost, a square between is occupied, or the "
+            "king is in check, or passes or reaches an attacked square.")
+PIECES = {"K": "king", "Q": "queen", "R": "rook", "B": "bishop", "N": "knight", "P": "pawn"}
+
+
+class Finding(NamedTuple):
+    """A fault of a file, with all that is said of it. These are the fields of --json."""
+
+    file: str
+    """The name of the file as it was given, or as it was found in a folder."""
+    line: int
+    """The line of the fault, from 1."""
+    column: int
+    """Its column in characters, from 1."""
+    offset: int
+    """How many bytes are before it."""
+    number: int
+    """The number of the fault in docs/PROFILE.md."""
+    reason: str
+    """Why the game is rejected."""
+    note: str
+    """What the reason leaves out, or nothing."""
+    game: int
+    """The number of the game, from 1."""
+    white: str
+    """The value of its White tag, or `?`."""
+    black: str
+    """The value of its Black tag, or `?`."""
+    begin: int
+    """How many bytes are before the game."""
+    end: int
+    """How many bytes there are up to its end, which is a guess."""
+    text: str
+    """The line around the fault, without control characters."""
+    before: int
+    """How many characters of it are before the fault."""
+    fen: Optional[str]
+    """The position in which a move was rejected, else None."""
+    move: Optional[str]
+    """The text of that move, else None."""
+    legal: Tuple[str, ...]
+    """The squares from which such a piece may go there."""
+    exposing: Tuple[str, ...]
+    """Those from which it could, but its own king would be in check."""
+    explanation: str
+    """What is wrong with that move, in a sentence, or nothing."""
+
+
+class Linter(Reader):
+    """Reads a file and makes a Finding of each fault."""
+
+    def __init__(self, source: Source, name: str, checked: bool) -> None:
+        super().__init__(Window(source), checked, False)
+        self.name = name
+        self.found: List[Finding] = []
+        self._buffer = ctypes.create_string_buffer(1 << 16)
+        self._bad = _BadGame("", 0, "?", "?", None, "")
+
+    def findings(self, step: Callable[[int], None] = lambda number: None) -> Iterator[Finding]:
+        """The faults in turn. At the end `number` is one above the number of games.
+
+        Now and then `step` is called with the number of a game.
+        """
+        try:
+            for game in self.games(self._add):
+                if self.found:
+                    yield from self._taken()
+                if not game.number % STEP:
+                    step(game.number)
+        except PgnFault as fault:
+            # nothing is read behind a fault that would be met again
+            fault.end = self.window.base + len(self.window.data)
+            self._add(fault)
+            self.number += 1
+        finally:
+            self.window.close()
+        yield from self._taken()
+
+    def _taken(self) -> List[Finding]:
+        taken, self.found = self.found, []
+        return taken
+
+    def _fault(self, found: _library.NextGame) -> PgnFault:
+        fault = super()._fault(found)
+        self._bad = self._look_at(fault)
+        return fault
+
+    def _look_at(self, fault: PgnFault) -> "_BadGame":
+        """What the bytes of a bad game say, while they are in memory."""
+        base, data = self.window.base, self.window.data
+        at = fault.offset - base
+        before, after = line_around(data, at)
+        white, black = self._names(fault)
+        symbol = SYMBOL.match(data, at) if fault.fen else None
+        return _BadGame(before + after, len(before), white, black,
+                        symbol[0].decode("ascii") if symbol else None, self._note(fault))
+
+    def _note(self, fault: PgnFault) -> str:
+        """What the reason leaves out."""
+        if fault.number == UNCLOSED_COMMENT:
+            return self._begin_of_comment()
+        if fault.number == RESULT_DIFFERS and self._passes_without_result():
+            return NO_RESULT
+        return NOTES.get(fault.number, "")
+
+    def _begin_of_comment(self) -> str:
+        """Where a comment begins that the text ends in: at the first brace that opens one."""
+        base, data, begin = self.window.base, self.window.data, self.at - self.window.base
+        at = data.find(b"{", max(data.rfind(b"}"), begin))
+        while at >= 0:
+            found, _ = self._next_game(data[begin:at + 1], 0, _library.RESULT_FROM_MARKER)
+            if found.fault == UNCLOSED_COMMENT:
+                return "it begins at line %d, column %d" % self.window.place(base + at)
+            at = data.find(b"{", at + 1)
+        return ""
+
+    def _next_game(self, text: bytes, begin: int, missing: int) -> Tuple[_library.NextGame, bytes]:
+        """The answer of the library, and what it has written."""
+        while True:
+            found = _library.next_game(text, len(text), begin, _library.FULL_FORMAT, missing,
+                                       self._buffer, len(self._buffer))
+            if found.status != _library.FULL:
+                return found, ctypes.string_at(self._buffer, found.written)
+            self._buffer = ctypes.create_string_buffer(2 * len(self._buffer))
+
+    def _passes_without_result(self) -> bool:
+        begin = self.at - self.window.base
+        found, _ = self._next_game(self.window.data, begin, _library.RESULT_FROM_MARKER)
+        return found.status == _library.OK
+
+    def _names(self, fault: PgnFault) -> Tuple[str, str]:
+        """White and Black of a bad game, if the library reads its tags, or each on its line."""
+        begin, end = self.at - self.window.base, fault.offset - self.window.base
+        before = self.window.data[begin:end] + b"\n*"
+        _, text = self._next_game(before, 0, _library.RESULT_UNKNOWN)
+        if not text:
+            text = self._good_tag_lines(fault.begin - self.window.base)
+        tags = read_tags(_decoded(text).partition("\n\n")[0])
+        return printable(tags.get("White", "?")), printable(tags.get("Black", "?"))
+
+    def _good_tag_lines(self, begin: int) -> bytes:
+        """The export of those lines of a tag section that are good by themselves."""
+        good = b""
+        for line in LINE_END.split(self.window.data[begin:begin + (1 << 14)])[:MOST_LINES]:
+            if not line.lstrip(b"\xef\xbb\xbf").startswith((b"[", b"%")):
+                break
+            found, _ = self._next_game(good + line + b"\n*", 0, _library.RESULT_FROM_MARKER)
+            good += line + b"\n" if found.status == _library.OK else b""
+        return self._next_game(good + b"*", 0, _library.RESULT_FROM_MARKER)[1]
+
+    def _add(self, fault: PgnFault) -> None:
+        bad = self._bad
+        legal: Tuple[str, ...] = ()
+        exposing: Tuple[str, ...] = ()
+        sentence = ""
+        if fault.fen and bad.move:
+            legal, exposing, sentence = explained(fault.number, fault.fen, bad.move)
+        assert fault.end is not None
+        self.found.append(Finding(
+            self.name, fault.line, fault.column, fault.offset, fault.number, fault.reason, bad.note,
+            fault.game, bad.white, bad.black, fault.begin, fault.end, bad.text, bad.before,
+            fault.fen, bad.move, legal, exposing, sentence))
+
+
+class _BadGame(NamedTuple):
+    """What is read of a bad game before reading goes on."""
+
+    text: str
+    before: int
+    white: str
+    black: str
+    move: Optional[str]
+    note: str
+
+
+# ---- the line
+
+
+def line_around(data: bytes, at: int) -> Tuple[str, str]:
+    """The text of a line before a place and behind it, cut where it is long.
+
+    >>> line_around(b"1. e4\\r\\n2. Ke3 *\\n", 10)
+    ('2. ', 'Ke3 *')
+    """
+    if data[at - 1:at + 1] == b"\r\n" and at:
+        at -= 1
+    first = max(at - 4 * SHOWN, 0)
+    ends = list(LINE_END.finditer(data, first, at))
+    begin = ends[-1].end() if ends else first
+    left, right = data[begin:at], LINE_END.split(data[at:at + 4 * SHOWN], 1)[0]
+    while left and 0x80 <= (right or b" ")[0] < 0xC0 and _is_utf8(left + right):
+        left, right = left[:-1], left[-1:] + right
+    encoding = "utf-8" if _is_utf8(left + right) else "latin-1"
+    before = printable(left.decode(encoding, "ignore").lstrip("\ufeff"))
+    after = printable(right.decode(encoding, "ignore"))
+    if len(before) > SHOWN or begin and not ends:
+        before = "..." + before[-SHOWN:]
+    return before, after if len(after) <= SHOWN else after[:SHOWN] + "..."
+
+
+def _is_utf8(text: bytes) -> bool:
+    """Whether a text is UTF-8, but for a character that is cut at either end."""
+    try:
+        text.lstrip(bytes(range(0x80, 0xC0))).decode("utf-8")
+    except UnicodeDecodeError as error:
+        return error.reason == "unexpected end of data"
+    return True
+
+
+def _decoded(text: bytes) -> str:
+    try:
+        return text.decode("utf-8")
+    except UnicodeDecodeError:
+        return text.decode("latin-1")
+
+
+def printable(text: str) -> str:
+    """The text with a mark for each control character, which a terminal could take as a command.
+
+    >>> printable("a\\x1b[2Jb")
+    'a\ufffd[2Jb'
+    """
+    if text.isprintable():
+        return text
+    return "".join(it if it == "\t" or unicodedata.category(it)[0] != "C" else "\ufffd"
+                   for it in text)
+
+
+# ---- the move
+
+
+def explained(number: int, fen: str, move: str) -> Tuple[Tuple[str, ...], Tuple[str, ...], str]:
+    """From where a piece may go there, from where it would expose its king, and a sentence.
+
+    >>> explained(34, "4r2k/8/8/8/8/8/4R3/4K3 w - - 0 1", "Rd2")[2]
+    'A white rook can go to d2 from e2, but its king would then be in check.'
+    """
+    try:
+        said = _calls.explain(fen, move)
+    except MoveFault:
+        return (), (), ""
+    if number == MOVE_LIMIT:
+        sentence = "No FEN has a move number above 99,999."
+    elif said.legal:
+        sentence = _many(fen, move, said)
+    elif said.exposing:
+        sentence = _exposing(fen, said)
+    elif said.castling:
+        sentence = CASTLING % (_side(fen).capitalize(), said.castling)
+    else:
+        sentence = _none(fen, move, said)
+    return said.legal, said.exposing, sentence
+
+
+def _many(fen: str, move: str, said: _calls.Explanation) -> str:
+    letter, promotion = said.piece.replace("P", ""), "".join(move.partition("=")[1:])
+    ways = [_calls.san(fen, letter + it + said.target + promotion).san for it in said.legal]
+    return "%d %ss may go to %s, from %s: write %s." % (
+        len(ways), _piece(fen, said), said.target, _joined(said.legal), _joined(ways, "or"))
+
+
+def _exposing(fen: str, said: _calls.Explanation) -> str:
+    if said.piece == "K":
+        return "The %s can go to %s, but would be in check there." % (
+            _piece(fen, said), said.target)
+    return "A %s can go to %s from %s, but its king would then be in check." % (
+        _piece(fen, said), said.target, _joined(said.exposing))
+
+
+def _none(fen: str, move: str, said: _calls.Explanation) -> str:
+    """The sentence where no such piece can go there: perhaps one of another file or rank can."""
+    if said.piece == "K":
+        return "The %s cannot go to %s." % (_piece(fen, said), said.target)
+    letter, promotion = said.piece.replace("P", ""), "".join(move.partition("=")[1:])
+    if not letter and not promotion and _calls.explain(fen, move + "=Q").legal:
+        return "A %s is promoted on %s: write %s=Q." % (_piece(fen, said), said.target, move)
+    others = _calls.explain(fen, letter + said.target + promotion).legal
+    if others:
+        return "No %s can go to %s as %s says, but one may from %s." % (
+            _piece(fen, said), said.target, move, _joined(others))
+    return "No %s can go to %s." % (_piece(fen, said), said.target)
+
+
+def _side(fen: str) -> str:
+    return "white" if fen.split()[1] == "w" else "black"
+
+
+def _piece(fen: str, said: _calls.Explanation) -> str:
+    return "%s %s" % (_side(fen), PIECES[said.piece])
+
+
+def _joined(words: "List[str] | Tuple[str, ...]", last: str = "and") -> str:
+    if len(words) < 2:
+        return "".join(words)
+    return "%s %s %s" % (", ".join(words[:-1]), last, words[-1])
+
+
+def board(fen: str) -> List[str]:
+    """The lines of a board, White below, with the side to move.
+
+    >>> print("\\n".join(board("4k3/8/8/8/8/8/4P3/4K3 w - - 0 1")[6:]))
+    2  . . . . P . . .
+    1  . . . . K . . .
+       a b c d e f g h   White to move
+    """
+    rows = []
+    for rank, row in zip("87654321", fen.split()[0].split("/")):
+        squares = "".join("." * int(it) if it.isdigit() else it for it in row)
+        rows.append("%s  %s" % (rank, " ".join(squares)))
+    return rows + ["   a b c d e f g h   %s to move" % _side(fen).capitalize()]

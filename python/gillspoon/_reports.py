@@ -1,0 +1,269 @@
+"""How pgn_lint writes what it finds: lines for people and editors, records of JSON, SARIF."""
+import codecs
+import errno
+import io
+import json
+import os
+import sys
+import time
+import unicodedata
+from typing import Dict, List, NamedTuple, Optional, TextIO, Tuple, Union
+from urllib.parse import quote
+
+from ._findings import Finding, board
+
+VERSION_OF_SARIF = "2.1.0"
+SCHEMA_OF_SARIF = "https://json.schemastore.org/sarif-2.1.0.json"
+BOLD, RED, GREEN, PLAIN = "\x1b[1m", "\x1b[31m", "\x1b[32m", "\x1b[0m"
+
+
+class Unread(NamedTuple):
+    """A file that could not be read, or an argument that names nothing, and why."""
+
+    file: str
+    reason: str
+
+
+class Summary(NamedTuple):
+    """What all files had together."""
+
+    files: int
+    games: int
+    faults: int
+    bad_files: int
+
+    def __str__(self) -> str:
+        words = [_count(self.files, "file"), _count(self.games, "game"),
+                 _count(self.faults, "fault")]
+        if self.faults:
+            words[2] += " in " + _count(self.bad_files, "file")
+        return ", ".join(words)
+
+
+def _count(number: int, what: str) -> str:
+    """The number with commas, and the word for so many."""
+    return "%s %s%s" % (format(number, ","), what, "" if number == 1 else "s")
+
+
+def in_a_line(name: str) -> str:
+    """The name of a file without line ends or other control characters.
+
+    >>> in_a_line("a\\nb.pgn")
+    'a\\\\nb.pgn'
+    """
+    if name.isprintable():
+        return name
+    return "".join(it if unicodedata.category(it) not in ("Cc", "Cf") else
+                   it.encode("unicode_escape").decode("ascii") for it in name)
+
+
+class OutputFault(Exception):
+    """Standard output cannot be written, for the system's reason."""
+
+
+class Output:
+    """Standard output. It can write every text: names as their bytes, and `?` for the rest."""
+
+    def __init__(self, stream: Optional[TextIO]) -> None:
+        codecs.register_error("gillspoon", _replacement)
+        if isinstance(stream, io.TextIOWrapper):
+            stream.reconfigure(errors="gillspoon")
+        self.stream = stream
+        self.is_terminal = bool(stream and stream.isatty())
+
+    def write(self, text: str) -> None:
+        """Writes a text; raises OutputFault."""
+        try:
+            if self.stream is None:
+                raise OSError(errno.EBADF, os.strerror(errno.EBADF))
+            self.stream.write(text)
+        except OSError as error:
+            raise OutputFault(error.strerror or str(error)) from None
+
+    def flush(self) -> None:
+        """Hands what was written to the system; raises OutputFault."""
+        try:
+            if self.stream is not None:
+                self.stream.flush()
+        except OSError as error:
+            raise OutputFault(error.strerror or str(error)) from None
+
+    def give_up(self) -> None:
+        """Writes nothing any more, also when Python ends."""
+        if self.stream is not None:
+            os.dup2(os.open(os.devnull, os.O_WRONLY), self.stream.fileno())
+
+
+def _replacement(error: UnicodeError) -> "Tuple[Union[str, bytes], int]":
+    assert isinstance(error, UnicodeEncodeError)
+    character = error.object[error.start]
+    if "\udc80" <= character <= "\udcff":
+        return bytes((ord(character) - 0xDC00,)), error.start + 1
+    return "-" if character == "\u2013" else "?", error.start + 1
+
+
+class Report:
+    """Lines for people: one for each fault, and with `with_board` what explains it."""
+
+    def __init__(self, out: Output, with_board: bool, is_quiet: bool, has_colours: bool) -> None:
+        self.out, self.with_board, self.is_quiet = out, with_board, is_quiet
+        self.has_colours = has_colours
+
+    def fault(self, it: Finding) -> None:
+        """Writes a fault."""
+        place = "%s:%d:%d:" % (in_a_line(it.file), it.line, it.column)
+        reason = it.reason + (": " + it.note if it.note else "")
+        self._put("%s %s (game %d, %s \u2013 %s)" % (
+            self._in(BOLD, place), self._in(RED, reason), it.game, it.white, it.black))
+        if self.with_board:
+            for line in self._explanation(it):
+                self._put("  " + line if line else "")
+
+    def _explanation(self, it: Finding) -> List[str]:
+        """The line with a caret; of a move also the board, its FEN and a sentence."""
+        caret = "".join(map(_blank, it.text[:it.before])) + "^"
+        lines = [it.text, self._in(GREEN, caret)]
+        if it.fen:
+            lines += board(it.fen) + [it.fen]
+        if it.explanation:
+            lines.append(it.explanation)
+        return lines + [""]
+
+    def _in(self, colour: str, text: str) -> str:
+        return colour + text + PLAIN if self.has_colours else text
+
+    def end(self, summary: Summary, unread: List[Unread]) -> None:
+        """Writes the summary."""
+        if not self.is_quiet:
+            self._put(str(summary))
+
+    def _put(self, line: str) -> None:
+        self.out.write(line + "\n")
+
+
+def _blank(character: str) -> str:
+    """White space as wide as a character on a terminal."""
+    if character == "\t" or unicodedata.combining(character):
+        return character if character == "\t" else ""
+    return "  " if unicodedata.east_asian_width(character) in "WF" else " "
+
+
+class JsonReport:
+    """A record a line: `fault` for each fault, and `summary` at the end."""
+
+    def __init__(self, out: Output, is_quiet: bool) -> None:
+        self.out, self.is_quiet = out, is_quiet
+
+    def fault(self, it: Finding) -> None:
+        """Writes the record of a fault."""
+        self._put(dict({"kind": "fault"}, **it._asdict()))
+
+    def end(self, summary: Summary, unread: List[Unread]) -> None:
+        """Writes the record of the summary."""
+        if not self.is_quiet:
+            self._put(dict({"kind": "summary"}, **summary._asdict()))
+
+    def _put(self, record: "Dict[str, object]") -> None:
+        self.out.write(json.dumps(record) + "\n")
+
+
+class SarifReport:
+    """A log of SARIF 2.1.0, which is written at the end."""
+
+    def __init__(self, out: Output) -> None:
+        self.out = out
+        self.rules: "Dict[int, str]" = {}
+        self.results: "List[Dict[str, object]]" = []
+
+    def fault(self, it: Finding) -> None:
+        """Takes a fault."""
+        self.rules.setdefault(it.number, it.reason.partition(", field")[0])
+        game = " (game %d, %s \u2013 %s)" % (it.game, it.white, it.black)
+        reason = it.reason + (": " + it.note if it.note else "")
+        text = ". ".join([reason + game, it.explanation]) if it.explanation else reason + game
+        self.results.append({
+            "ruleId": _rule(it.number),
+            "level": "error",
+            "message": {"text": text},
+            "locations": [{"physicalLocation": {
+                "artifactLocation": {"uri": uri_of(it.file)},
+                "region": {"startLine": it.line, "startColumn": it.column,
+                           "byteOffset": it.offset},
+            }}],
+        })
+
+    def end(self, summary: Summary, unread: List[Unread]) -> None:
+        """Writes the log."""
+        notes = [{"level": "error", "message": {"text": "%s: %s" % it}} for it in unread]
+        invocation: "Dict[str, object]" = {"executionSuccessful": not notes}
+        if notes:
+            invocation["toolExecutionNotifications"] = notes
+        rules = [{"id": _rule(number), "shortDescription": {"text": reason}}
+                 for number, reason in sorted(self.rules.items())]
+        self.out.write(json.dumps({
+            "$schema": SCHEMA_OF_SARIF,
+            "version": VERSION_OF_SARIF,
+            "runs": [{
+                "tool": {"driver": {"name": "pgn_lint", "rules": rules}},
+                "invocations": [invocation],
+                "columnKind": "unicodeCodePoints",
+                "results": self.results,
+            }],
+        }, indent=1) + "\n")
+
+
+AnyReport = Union[Report, JsonReport, SarifReport]
+
+
+def _rule(number: int) -> str:
+    """The name of a rule: that of a fault with its number in docs/PROFILE.md."""
+    return "PGN%02d" % number
+
+
+def uri_of(name: str) -> str:
+    """The name of a file as a relative or absolute reference of RFC 3986.
+
+    >>> uri_of("my games/a:b.pgn")
+    'my%20games/a%3Ab.pgn'
+    """
+    path = quote(os.fsencode(name))
+    return "file://" + path if name.startswith("/") else path
+
+
+class Progress:
+    """How far the files are read: a line on a terminal, if it takes more than a second."""
+
+    def __init__(self, files: int, is_wanted: bool) -> None:
+        self.files, self.due = files, time.monotonic() + 1
+        self.is_shown, self.is_on = False, bool(is_wanted and sys.stderr and sys.stderr.isatty())
+
+    def show(self, file: int, games: int) -> None:
+        """Shows it, a few times a second."""
+        now = time.monotonic() if self.is_on else 0
+        if self.is_on and now >= self.due:
+            self.due, self.is_shown = now + 0.25, True
+            sys.stderr.write("\r\x1b[Kpgn_lint: file %s of %s, %s" % (
+                format(file, ","), format(self.files, ","), _count(games, "game")))
+            sys.stderr.flush()
+
+    def clear(self) -> None:
+        """Removes the line, so that another one can be written."""
+        if self.is_shown:
+            self.is_shown = False
+            sys.stderr.write("\r\x1b[K")
+            sys.stderr.flush()
+
+
+def message(text: str) -> None:
+    """Writes an error."""
+    if sys.stderr:
+        sys.stderr.write("pgn_lint: %s\n" % in_a_line(text))
+
+
+def has_colours(out: Output) -> bool:
+    """Whether the output is a terminal that is to have colours (NO_COLOR: no-color.org).
+
+    What emacs runs has a terminal too, but emacs looks for the names of files in plain text.
+    """
+    is_plain = os.environ.get("NO_COLOR") or os.environ.get("INSIDE_EMACS")
+    return out.is_terminal and not is_plain and os.environ.get("TERM") != "dumb"

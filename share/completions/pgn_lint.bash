@@ -1,0 +1,21 @@
+# Completion of pgn_lint for bash: source this file, or put it into
+# ~/.local/share/bash-completion/completions/ under the name pgn_lint.
+_pgn_lint() {
+    local word=${COMP_WORDS[COMP_CWORD]} before=${COMP_WORDS[COMP_CWORD - 1]} i
+    COMPREPLY=()
+    case $before in
+        --max | -j | --jobs) return ;;
+    esac
+    if [[ $word == -* ]]; then
+        while IFS= read -r i; do
+            COMPREPLY+=("$i")
+        done < <(compgen -W '-h --help --board --json --sarif --quiet --checked --max -j --jobs' \
+            -- "$word")
+    else
+        compopt -o filenames 2>/dev/null
+        while IFS= read -r i; do
+            COMPREPLY+=("$i")
+        done < <(compgen -f -- "$word")
+    fi
+}
+complete -F _pgn_lint pgn_lint

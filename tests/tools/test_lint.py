@@ -1,0 +1,726 @@
+#!/usr/bin/env python3
+"""Tests of pgn_lint: what it says of bad games, its options, its statuses, and what reads it."""
+import bz2
+import doctest
+import gzip
+import importlib
+import json
+import os
+import re
+import shutil
+import signal
+import stat
+import subprocess
+import sys
+import tempfile
+import time
+import unittest
+
+sys.path.insert(0, os.path.dirname(os.path.realpath(__file__)))
+import programs
+from documents import blocks_of, lines_of, table
+from programs import ROOT, need, not_tried, run, vectors
+from test_python import PACKAGE, library
+
+LINT = ROOT + "/bin/pgn_lint"
+INITIAL = "rnbqkbnr/pppppppp/8/8/8/8/PPPPPPPP/RNBQKBNR w KQkq - 0 1"
+AFTER_E4_E5 = "rnbqkbnr/pppp1ppp/8/4p3/4P3/8/PPPP1PPP/RNBQKBNR w KQkq e6 0 2"
+PLAYERS = b'[White "Ada"]\n[Black "Bob"]\n'
+GOOD = PLAYERS + b"\n1. e4 e5 *\n"
+BAD = PLAYERS + b"\n1. e4 e5 2. Ke3 *\n"
+BAD_LINE = "4:13: move is not legal (game 1, Ada \u2013 Bob)"
+ILLEGAL = "move is not legal (game 1, ? \u2013 ?)"
+# Each way to be bad: the text, and the lines about it without the name of the file.
+WAYS = {
+    "no such move": (BAD, [BAD_LINE]),
+    "an exposed king": (
+        b'[FEN "4r2k/8/8/8/8/8/4R3/4K3 w - - 0 1"]\n' + PLAYERS + b"\nRd2 *\n",
+        ["5:1: move is not legal (game 1, Ada \u2013 Bob)"]),
+    "two knights": (b'[FEN "4k3/8/8/8/1N3N2/8/8/4K3 w - - 0 1"]\n\n1. Nd3 *\n',
+                    ["3:4: move is ambiguous (game 1, ? \u2013 ?)"]),
+    "no move": (b"1. e4 e9 *\n", ["1:7: not a move (game 1, ? \u2013 ?)"]),
+    "a null move": (b"1. e4 -- *\n", ["1:7: stray byte (game 1, ? \u2013 ?)"]),
+    "a move in a variation": (b"1. e4 (1. Ke3) *\n", ["1:11: " + ILLEGAL]),
+    "a parenthesis": (PLAYERS + b"1. e4 ) *\n", [
+        "3:7: closing parenthesis without an open one (game 1, Ada \u2013 Bob)"]),
+    "no result": (b'[White "Ada"]\n\n1. e4\n\n[White "Bob"]\n\n1. d4 *\n', [
+        "5:1: tag in movetext: the game before may have no result at its end "
+        "(game 1, Ada \u2013 ?)"]),
+    "no result at the end": (b"1. e4\n", [
+        "2:1: unexpected end of input: the last game has no result at its end "
+        "(game 1, ? \u2013 ?)"]),
+    "no closing brace": (b"1. e4 {a} {b\nc ; {\n", [
+        "3:1: comment is not closed: it begins at line 1, column 11 (game 1, ? \u2013 ?)"]),
+    "no closing quote": (b'[White "Ada\n\n1. e4 *\n', [
+        "1:8: string is not closed (game 1, ? \u2013 ?)"]),
+    "quotes in a tag": (b'[Event "a "b""]\n' + GOOD, [
+        "1:12: closing bracket expected (game 1, Ada \u2013 Bob)"]),
+    "a tag twice": (b'[White "Ada"]\n[White "Bob"]\n\n1. e4 *\n', [
+        "2:2: tag is given twice (game 1, Ada \u2013 ?)"]),
+    "a bad result": (b'[White "Ada"]\n[Result "1"]\n[Black "Bob"]\n\n1. e4 *\n', [
+        "2:9: bad result value (game 1, Ada \u2013 Bob)"]),
+    "a bad FEN": (b'[FEN "x"]\n\n*\n', ["1:6: bad FEN, field 1 (game 1, ? \u2013 ?)"]),
+    "another result": (b'[Result "0-1"]\n\n1. e4 1-0\n', [
+        "3:7: result differs from the Result tag (game 1, ? \u2013 ?)"]),
+    "no Result tag": (b"1. e4 1-0\n", [
+        "1:7: result differs from the Result tag: there is no Result tag, which counts as *; "
+        "--checked takes the result at the end (game 1, ? \u2013 ?)"]),
+    "CR LF": (BAD.replace(b"\n", b"\r\n"), [BAD_LINE]),
+    "CR": (BAD.replace(b"\n", b"\r"), [BAD_LINE]),
+    "a byte order mark": (b"\xef\xbb\xbf1. Ke3 *\n", ["1:4: " + ILLEGAL]),
+    "UTF-8": ('[White "M\u00fcller"]\n\n1. e4 {\u00e4\u4e16} Ke3 *\n'.encode(), [
+        "3:12: move is not legal (game 1, M\u00fcller \u2013 ?)"]),
+    "Latin-1": ('[White "M\u00fcller"]\n\n1. e4 {\u00e4\u00e4} Ke3 *\n'.encode("latin-1"), [
+        "3:12: move is not legal (game 1, M\u00fcller \u2013 ?)"]),
+    "three bad games of five": (
+        GOOD + b"\n" + BAD + b"\n" + BAD + b"\n" + GOOD + b"\n" + BAD, [
+            "%d:13: move is not legal (game %d, Ada \u2013 Bob)" % it
+            for it in ((9, 2), (14, 3), (24, 5))]),
+    "an escape sequence in a name": (b'[White "a\x1b[2J"]\n\n1. e4 *\n', [
+        "1:10: control byte (game 1, ? \u2013 ?)"]),
+}
+# What is below a line with --board.
+BOARDS = {
+    "no such move": """\
+  1. e4 e5 2. Ke3 *
+              ^
+  8  r n b q k b n r
+  7  p p p p . p p p
+  6  . . . . . . . .
+  5  . . . . p . . .
+  4  . . . . P . . .
+  3  . . . . . . . .
+  2  P P P P . P P P
+  1  R N B Q K B N R
+     a b c d e f g h   White to move
+  rnbqkbnr/pppp1ppp/8/4p3/4P3/8/PPPP1PPP/RNBQKBNR w KQkq e6 0 2
+  The white king cannot go to e3.
+""",
+    "an exposed king": """\
+  Rd2 *
+  ^
+  8  . . . . r . . k
+  7  . . . . . . . .
+  6  . . . . . . . .
+  5  . . . . . . . .
+  4  . . . . . . . .
+  3  . . . . . . . .
+  2  . . . . R . . .
+  1  . . . . K . . .
+     a b c d e f g h   White to move
+  4r2k/8/8/8/8/8/4R3/4K3 w - - 0 1
+  A white rook can go to d2 from e2, but its king would then be in check.
+""",
+    "two knights": """\
+  1. Nd3 *
+     ^
+  8  . . . . k . . .
+  7  . . . . . . . .
+  6  . . . . . . . .
+  5  . . . . . . . .
+  4  . N . . . N . .
+  3  . . . . . . . .
+  2  . . . . . . . .
+  1  . . . . K . . .
+     a b c d e f g h   White to move
+  4k3/8/8/8/1N3N2/8/8/4K3 w - - 0 1
+  2 white knights may go to d3, from b4 and f4: write Nbd3 or Nfd3.
+""",
+    "a move in a variation": """\
+  1. e4 (1. Ke3) *
+            ^
+  8  r n b q k b n r
+  7  p p p p p p p p
+  6  . . . . . . . .
+  5  . . . . . . . .
+  4  . . . . . . . .
+  3  . . . . . . . .
+  2  P P P P P P P P
+  1  R N B Q K B N R
+     a b c d e f g h   White to move
+  rnbqkbnr/pppppppp/8/8/8/8/PPPPPPPP/RNBQKBNR w KQkq - 0 1
+  The white king cannot go to e3.
+""",
+    "UTF-8": """\
+  1. e4 {\u00e4\u4e16} Ke3 *
+              ^
+  8  r n b q k b n r
+  7  p p p p p p p p
+  6  . . . . . . . .
+  5  . . . . . . . .
+  4  . . . . P . . .
+  3  . . . . . . . .
+  2  P P P P . P P P
+  1  R N B Q K B N R
+     a b c d e f g h   Black to move
+  rnbqkbnr/pppppppp/8/8/4P3/8/PPPP1PPP/RNBQKBNR b KQkq e3 0 1
+  The black king cannot go to e3.
+""",
+    "no closing quote": """\
+  [White "Ada
+         ^
+""",
+    "no result at the end": """\
+
+  ^
+""",
+}
+QUEENS = "1k6/8/8/8/4Q2Q/8/8/K6Q w - - 0 1"
+KINGS = "4k3/8/8/8/8/8/8/4K3 %s - - 0 %s"
+CASTLING = ("White may not castle by %s here: the right is lost, a square between is occupied, "
+            "or the king is in check, or passes or reaches an attacked square.")
+# For each vector in which a move is rejected the position before it, and the sentence.
+VECTORS = {
+    "faults.34": (INITIAL, "The white king cannot go to e2."),
+    "faults.34-a-number-joined-to-a-move": (
+        INITIAL, "No white pawn can go to e4 as 1e4 says, but one may from e2."),
+    "faults.34-no-letter": (
+        INITIAL, "No white pawn can go to f3 as g1f3 says, but one may from f2."),
+    "faults.34-illegal-king-move": (AFTER_E4_E5, "The white king cannot go to e3."),
+    "faults.34-castling": (AFTER_E4_E5, CASTLING % "O-O"),
+    "faults.34-castling-after-the-king-moved": (
+        "rnbq1bnr/ppppkppp/8/4p3/4P3/8/PPPPKPPP/RNBQ1BNR w - - 2 3", CASTLING % "O-O-O"),
+    "faults.35": (
+        "rnbqkbnr/pppp1ppp/8/8/3N4/N1P1p3/PP1PPPPP/R1BQKB1R w KQkq - 0 5",
+        "2 white knights may go to c2, from a3 and d4: write Nac2 or Ndc2."),
+    "faults.34-in-a-second-game": (AFTER_E4_E5, "The white king cannot go to e3."),
+    "limits.a-line-that-is-full-before-the-fault": (
+        AFTER_E4_E5, "The white king cannot go to e3."),
+    "position_faults.35-three-queens": (
+        QUEENS, "3 white queens may go to e1, from h1, e4 and h4: write Q1e1, Qee1 or Qh4e1."),
+    "position_faults.35-three-queens-a-file": (
+        QUEENS, "2 white queens may go to e1, from h1 and h4: write Q1e1 or Qh4e1."),
+    "position_faults.35-three-queens-a-rank": (
+        QUEENS, "2 white queens may go to e1, from e4 and h4: write Qee1 or Qh4e1."),
+    "position_faults.34-en-passant-discovers": (
+        "8/8/8/K2pP2r/8/8/8/7k w - d6 0 1",
+        "A white pawn can go to d6 from e5, but its king would then be in check."),
+    "position_faults.34-castling-through-an-attack": (
+        "4k3/8/8/8/8/5r2/8/4K2R w K - 0 1", CASTLING % "O-O"),
+    "position_faults.34-castling-as-a-king-s-move": (
+        "r3k2r/8/8/8/8/8/8/R3K2R w KQkq - 0 1", "The white king cannot go to g1."),
+    "position_faults.34-bare-promotion": (
+        "8/P6k/8/8/8/8/8/K7 w - - 0 1", "A white pawn is promoted on a8: write a8=Q."),
+    "position_faults.36-number-limit": (
+        KINGS % ("b", "99999"), "No FEN has a move number above 99,999."),
+    "position_faults.34-no-such-move-at-the-limit": (
+        KINGS % ("b", "99999"), "The black king cannot go to d6."),
+    "position_faults.34-the-side-not-to-move": (
+        KINGS % ("w", "1"), "The white king cannot go to d8."),
+    "position_faults.34-a-king-beside-a-king": (
+        "4k3/4p3/4K3/8/8/8/8/8 w - - 0 1",
+        "The white king can go to e7, but would be in check there."),
+    "variations.a-move-from-the-position-after-the-variation": (
+        AFTER_E4_E5, "No white pawn can go to d5."),
+    "variations.a-move-from-the-position-after-the-variation-reduced": (
+        AFTER_E4_E5, "No white pawn can go to d5."),
+    "variations.a-move-of-the-side-not-to-move-in-a-variation": (
+        INITIAL, "No white pawn can go to e5."),
+    "variations.a-move-of-the-side-not-to-move-in-a-variation-reduced": (
+        INITIAL, "No white pawn can go to e5."),
+}
+FIELDS = ["kind", "file", "line", "column", "offset", "number", "reason", "note", "game", "white",
+          "black", "begin", "end", "text", "before", "fen", "move", "legal", "exposing",
+          "explanation"]
+TEXT = {"type": "object", "required": ["text"], "properties": {"text": {"type": "string"}}}
+
+
+def record(required, **properties):
+    """A schema of an object that has no other property."""
+    return {"type": "object", "required": required, "properties": properties,
+            "additionalProperties": False}
+
+
+def array(items):
+    return {"type": "array", "items": items}
+
+
+# What SARIF 2.1.0 requires of a log, of those properties that are used here.
+SARIF = record(
+    ["version", "runs"],
+    **{"$schema": {"type": "string", "format": "uri"}},
+    version={"enum": ["2.1.0"]},
+    runs=array(record(
+        ["tool"],
+        tool=record(["driver"], driver=record(
+            ["name"], name={"type": "string"},
+            rules=array(record(["id"], id={"type": "string"}, shortDescription=TEXT)))),
+        invocations=array(record(
+            ["executionSuccessful"], executionSuccessful={"type": "boolean"},
+            toolExecutionNotifications=array(record(
+                ["message"], message=TEXT,
+                level={"enum": ["none", "note", "warning", "error"]})))),
+        columnKind={"enum": ["utf16CodeUnits", "unicodeCodePoints"]},
+        results=array(record(
+            ["message"], ruleId={"type": "string"}, message=TEXT,
+            level={"enum": ["none", "note", "warning", "error"]},
+            locations=array(record([], physicalLocation=record(
+                ["artifactLocation"],
+                artifactLocation=record([], uri={"type": "string", "format": "uri-reference"}),
+                region=record([], startLine={"type": "integer", "minimum": 1},
+                              startColumn={"type": "integer", "minimum": 1},
+                              byteOffset={"type": "integer", "minimum": -1})))))))))
+
+
+def setUpModule():
+    file, named = library(), os.environ.get("GILLSPOON_LIBRARY")
+    os.environ["GILLSPOON_LIBRARY"] = file
+    if not named:
+        unittest.addModuleCleanup(os.environ.pop, "GILLSPOON_LIBRARY")
+
+
+class Lint(unittest.TestCase):
+    """A test with a folder of its own."""
+
+    def setUp(self):
+        self.folder = tempfile.mkdtemp()
+        self.addCleanup(shutil.rmtree, self.folder)
+        self.env = dict(os.environ, PATH=ROOT + "/bin:" + programs.PATH, LC_ALL="C.UTF-8",
+                        PYTHONDONTWRITEBYTECODE="1")
+        for name in ("NO_COLOR", "INSIDE_EMACS"):
+            self.env.pop(name, None)
+
+    def put(self, name, data):
+        path = os.path.join(os.fsencode(self.folder), os.fsencode(name))
+        os.makedirs(os.path.dirname(path), exist_ok=True)
+        with open(path, "wb") as file:
+            file.write(data)
+
+    def lint(self, *words, **more):
+        """The status, the output and the errors of a call in the folder."""
+        more.setdefault("env", self.env)
+        if "input" not in more:
+            more.setdefault("stdin", subprocess.DEVNULL)
+        ran = run([LINT, *words], cwd=self.folder, **more)
+        return ran.returncode, (ran.stdout or b"").decode(), (ran.stderr or b"").decode()
+
+    def records(self, *words):
+        _, out, _ = self.lint("--json", *words)
+        return [json.loads(it) for it in out.splitlines()]
+
+
+class Faults(Lint):
+    def test_each_way_to_be_bad(self):
+        for name, (text, _) in WAYS.items():
+            self.put(name + ".pgn", text)
+        for name, (_, lines) in WAYS.items():
+            with self.subTest(name):
+                status, out, told = self.lint("--quiet", name + ".pgn")
+                wanted = "".join("%s.pgn:%s\n" % (name, it) for it in lines)
+                self.assertEqual((status, out, told), (1, wanted, ""))
+
+    def test_all_at_once(self):
+        for name, (text, _) in WAYS.items():
+            self.put("ways/" + name + ".pgn", text)
+        wanted = ["ways/%s.pgn:%s" % (name, it) for name in sorted(WAYS, key="{}.pgn".format)
+                  for it in WAYS[name][1]]
+        # 24 files have a game each, but one has a second game, and one has five
+        wanted.append("24 files, 29 games, 26 faults in 24 files")
+        for words in ([], ["-j", "3"]):
+            status, out, told = self.lint("ways", *words)
+            self.assertEqual((status, out.splitlines(), told), (1, wanted, ""))
+
+    def test_boards(self):
+        for name, shown in BOARDS.items():
+            with self.subTest(name):
+                text, lines = WAYS[name]
+                self.put("a.pgn", text)
+                _, out, _ = self.lint("--board", "--quiet", "a.pgn")
+                shown = re.sub(r"(?m)^ +$", "", shown)
+                self.assertEqual(re.sub(r"(?m)^ +$", "", out),
+                                 "a.pgn:%s\n%s\n" % (lines[0], shown))
+
+    def test_a_long_line_is_cut_around_the_caret(self):
+        self.put("a.pgn", b"1. e4 {" + b"w " * 200 + b"} Ke3 {" + b"w " * 200 + b"} *\n")
+        lines = self.lint("--board", "a.pgn")[1].splitlines()
+        self.assertEqual(lines[1][2:], "..." + "w " * 29 + "} " + "Ke3 {" + "w " * 27 + "w...")
+        self.assertEqual(lines[2][2:], " " * 63 + "^")
+
+    def test_vectors(self):
+        tried = 0
+        for vector in vectors():
+            if vector.get("fault", {}).get("number") in (34, 35, 36):
+                with self.subTest(vector["file"]):
+                    self.put("a.pgn", vector["input"].encode())
+                    found = self.records("a.pgn")[0]
+                    self.assertEqual((found["number"], found["offset"]),
+                                     (vector["fault"]["number"], vector["fault"]["place"]))
+                    self.assertEqual((found["fen"], found["explanation"]),
+                                     VECTORS[vector["file"]])
+                    tried += 1
+        self.assertEqual(tried, len(VECTORS))
+
+    def test_doctests(self):
+        sys.path.insert(0, PACKAGE)
+        for name in ("_findings", "_reports", "lint"):
+            module = importlib.import_module("gillspoon." + name)
+            self.assertEqual(doctest.testmod(module).failed, 0, name)
+
+
+class Files(Lint):
+    def test_a_folder(self):
+        need("zstd")
+        self.put("all/b.pgn", GOOD)
+        self.put("all/a.PGN", BAD)
+        self.put("all/below/c.pgn.gz", gzip.compress(BAD))
+        self.put("all/below/d.pgn.bz2", bz2.compress(BAD))
+        self.put("all/below/e.pgn.zst", subprocess.run(
+            ["zstd", "-qc"], input=BAD, stdout=subprocess.PIPE, check=True).stdout)
+        for name in ("all/.hidden.pgn", "all/.git/f.pgn", "all/readme.txt", "all/pgn"):
+            self.put(name, BAD)
+        wanted = ["all/%s:%s" % (it, BAD_LINE) for it in (
+            "a.PGN", "below/c.pgn.gz", "below/d.pgn.bz2", "below/e.pgn.zst")]
+        wanted.append("5 files, 5 games, 4 faults in 4 files")
+        for words in (["all"], ["-j2", "all"]):
+            status, out, told = self.lint(*words)
+            self.assertEqual((status, out.splitlines(), told), (1, wanted, ""))
+
+    def test_names(self):
+        shown = {"a b.pgn": "a b.pgn", "a\nb.pgn": "a\\nb.pgn", "-c.pgn": "-c.pgn",
+                 "\x1b[2J.pgn": "\\x1b[2J.pgn", "\u00fc\u4e16.pgn": "\u00fc\u4e16.pgn"}
+        for name in shown:
+            self.put("names/" + name, BAD)
+            self.assertEqual(self.lint("--quiet", "names/" + name),
+                             (1, "names/%s:%s\n" % (shown[name], BAD_LINE), ""))
+            found = self.records("names/" + name)[0]
+            self.assertEqual(found["file"], "names/" + name)
+        status, out, _ = self.lint("names")
+        self.assertEqual((status, out.count("\n")), (1, len(shown) + 1))
+
+    def test_a_leading_dash(self):
+        self.put("-c.pgn", BAD)
+        self.put("d.pgn", BAD)
+        self.assertEqual(self.lint("d.pgn", "--quiet", "--", "-c.pgn", "d.pgn")[1],
+                         "".join("%s.pgn:%s\n" % (it, BAD_LINE) for it in ("d", "-c", "d")))
+        self.assertEqual(self.lint("--quiet", "--", "-c.pgn"), (1, "-c.pgn:%s\n" % BAD_LINE, ""))
+
+    def test_a_name_that_is_no_utf_8(self):
+        self.put(b"\xff.pgn", BAD)
+        ran = run([LINT, "--quiet", b"\xff.pgn"], cwd=self.folder, env=self.env)
+        self.assertEqual(ran.stdout, b"\xff.pgn:" + BAD_LINE.encode() + b"\n")
+        self.assertIn("%FF.pgn", self.lint("--sarif", b"\xff.pgn")[1])
+
+    def test_another_encoding_of_the_output(self):
+        self.put("a.pgn", BAD.replace(b"Ada", "Ad\u00e4".encode()))
+        env = dict(self.env, LC_ALL="C", PYTHONIOENCODING="ascii", PYTHONUTF8="0")
+        self.assertEqual(self.lint("--quiet", "a.pgn", env=env)[1],
+                         "a.pgn:4:13: move is not legal (game 1, Ad? - Bob)\n")
+
+    def test_standard_input(self):
+        for words in ([], ["-"], ["-j", "2", "-", "good.pgn"]):
+            self.put("good.pgn", GOOD)
+            status, out, told = self.lint("--quiet", *words, input=BAD)
+            self.assertEqual((status, out, told), (1, "<stdin>:%s\n" % BAD_LINE, ""))
+
+    def test_what_cannot_be_read(self):
+        self.put("good.pgn", GOOD)
+        self.put("bad.pgn", BAD)
+        self.put("cut.pgn.gz", gzip.compress(GOOD * 100)[:-20])
+        os.mkdir(self.folder + "/empty")
+        for name, reason in (
+                ("missing.pgn", "No such file or directory"),
+                ("good.pgn/x", "Not a directory"),
+                ("empty", "has no file *.pgn, *.pgn.gz, *.pgn.zst or *.pgn.bz2"),
+                ("cut.pgn.gz", "Compressed file ended before the end-of-stream marker was "
+                 "reached")):
+            for words in ([], ["-j", "2"]):
+                with self.subTest(name):
+                    status, out, told = self.lint(*words, "good.pgn", name, "bad.pgn")
+                    self.assertEqual((status, told), (2, "pgn_lint: %s: %s\n" % (name, reason)))
+                    self.assertEqual(out.splitlines()[0], "bad.pgn:" + BAD_LINE)
+                    self.assertIn("2 files, ", out)
+
+    def test_a_file_without_permission(self):
+        self.put("a.pgn", GOOD)
+        os.chmod(self.folder + "/a.pgn", 0)
+        os.chmod(self.folder, 0o755)
+        words = [sys.executable, LINT, "a.pgn"]
+        if os.geteuid() == 0:
+            need("setpriv")
+            words = ["setpriv", "--reuid=65534", "--clear-groups", *words]
+        ran = run(words, cwd=self.folder, env=self.env)
+        if b"build" in ran.stderr or b"cannot be used" in ran.stderr:
+            not_tried("another user cannot read the library")
+        self.assertEqual((ran.returncode, ran.stderr),
+                         (2, b"pgn_lint: a.pgn: Permission denied\n"))
+
+    def test_no_library(self):
+        self.env["GILLSPOON_LIBRARY"] = "/missing.so"
+        status, out, told = self.lint("a.pgn")
+        self.assertEqual((status, out), (127, ""))
+        self.assertIn("/missing.so cannot be used", told)
+
+
+class Options(Lint):
+    def test_sound(self):
+        self.put("a.pgn", GOOD * 1200)
+        self.assertEqual(self.lint("a.pgn"), (0, "1 file, 1,200 games, 0 faults\n", ""))
+        self.assertEqual(self.lint("--quiet", "a.pgn"), (0, "", ""))
+
+    def test_checked(self):
+        self.put("a.pgn", b"1. e4 1-0\n[White \"Ada\"]\n1. d4 1/2-1/2\n")
+        self.assertEqual(self.lint("--checked", "a.pgn"), (0, "1 file, 2 games, 0 faults\n", ""))
+        self.put("a.pgn", b'[Result "0-1"]\n\n1. e4 1-0\n')
+        self.assertEqual(self.lint("--checked", "--quiet", "a.pgn")[:2], (
+            1, "a.pgn:3:7: result differs from the Result tag (game 1, ? \u2013 ?)\n"))
+
+    def test_max(self):
+        for name in "abc":
+            self.put(name + ".pgn", (BAD + b"\n") * 3)
+        for jobs in ("1", "2"):
+            status, out, _ = self.lint("--max", "4", "-j", jobs, ".")
+            self.assertEqual((status, out.splitlines()), (1, [
+                "./%s.pgn:%d:13: move is not legal (game %d, Ada \u2013 Bob)" % it for it in (
+                    ("a", 4, 1), ("a", 9, 2), ("a", 14, 3), ("b", 4, 1))] + [
+                        "3 files, 9 games, 9 faults in 3 files"]))
+
+    def test_processes_change_nothing(self):
+        for number in range(20):
+            self.put("all/%d.pgn" % number, b"\n".join([GOOD, BAD, GOOD][:number % 4] * number))
+        for words in (["--board"], ["--json"], ["--sarif"], ["--quiet"], ["--max", "7"]):
+            one = self.lint(*words, "all", "missing")
+            self.assertEqual(one[0], 2)
+            self.assertEqual(self.lint(*words, "-j", "3", "all", "missing"), one)
+
+    def test_json(self):
+        self.put("a.pgn", WAYS["an exposed king"][0])
+        fault, summary = self.records("a.pgn")
+        self.assertEqual(list(fault), FIELDS)
+        self.assertEqual(list(fault.values()), [
+            "fault", "a.pgn", 5, 1, 70, 34, "move is not legal", "", 1, "Ada", "Bob", 0, 76,
+            "Rd2 *", 0, "4r2k/8/8/8/8/8/4R3/4K3 w - - 0 1", "Rd2", [], ["e2"],
+            "A white rook can go to d2 from e2, but its king would then be in check."])
+        self.assertEqual(summary, {"kind": "summary", "files": 1, "games": 1, "faults": 1,
+                                   "bad_files": 1})
+
+    def test_the_fields_are_documented(self):
+        with open(ROOT + "/share/man/man1/pgn_lint.1", encoding="utf-8") as page:
+            rows = re.findall(r"(?m)^\.It Cm (.*)$", page.read())
+        self.assertEqual([it.replace("Cm ", "") for row in rows for it in row.split(" , ")],
+                         FIELDS[1:])
+        rows = table("docs/TOOLS.md", "Field of `--json`")
+        self.assertEqual([it for row in rows for it in re.findall(r"`(\w+)`", row[0])], FIELDS)
+
+    def test_sarif(self):
+        try:
+            import jsonschema
+        except ImportError:
+            not_tried("python3-jsonschema is missing")
+        self.put("my games/a:b.pgn", BAD + b"\n" + WAYS["an exposed king"][0] + b'\n[White "Cy"]\n\n1. e4 &\n')
+        status, out, _ = self.lint("--sarif", "my games", "missing")
+        log = json.loads(out)
+        jsonschema.validate(log, SARIF)
+        self.assertEqual(status, 2)
+        ran, = log["runs"]
+        self.assertEqual(ran["invocations"][0], {
+            "executionSuccessful": False, "toolExecutionNotifications": [
+                {"level": "error", "message": {"text": "missing: No such file or directory"}}]})
+        self.assertEqual(ran["tool"]["driver"]["rules"], [
+            {"id": "PGN01", "shortDescription": {"text": "stray byte"}},
+            {"id": "PGN34", "shortDescription": {"text": "move is not legal"}}])
+        places = [it["locations"][0]["physicalLocation"] for it in ran["results"]]
+        self.assertEqual([it["region"] for it in places], [
+            {"startLine": 4, "startColumn": 13, "byteOffset": 41},
+            {"startLine": 10, "startColumn": 1, "byteOffset": 118},
+            {"startLine": 14, "startColumn": 7, "byteOffset": 145}])
+        self.assertEqual({it["artifactLocation"]["uri"] for it in places},
+                         {"my%20games/a%3Ab.pgn"})
+        self.assertEqual(ran["results"][0]["message"]["text"],
+                         BAD_LINE[6:] + ". The white king cannot go to e3.")
+        for broken in ({}, {"version": "2.1.0"}, {"version": "2", "runs": []}):
+            with self.assertRaises(jsonschema.ValidationError):
+                jsonschema.validate(broken, SARIF)
+
+    def test_sarif_of_sound_files(self):
+        self.put("a.pgn", GOOD)
+        status, out, _ = self.lint("--sarif", "a.pgn")
+        self.assertEqual(status, 0)
+        self.assertEqual(json.loads(out)["runs"][0]["results"], [])
+
+    def test_wrong_words(self):
+        for words in (["--no"], ["--max", "0", "a"], ["--max", "x", "a"], ["-j", "-1", "a"],
+                      ["--json", "--sarif", "a"], ["--board", "--json", "a"]):
+            status, out, told = self.lint(*words)
+            self.assertEqual((status, out, told.count("\n")), (2, "", 1), words)
+            self.assertIn("(--help shows the usage)", told)
+
+    def test_help(self):
+        status, out, told = self.lint("--help")
+        self.assertEqual((status, told), (0, ""))
+        for word in ("--board", "--json", "--sarif", "--quiet", "--checked", "--max", "-j"):
+            self.assertIn(word, out)
+
+    def test_as_a_module(self):
+        self.put("a.pgn", BAD)
+        env = dict(self.env, PYTHONPATH=PACKAGE)
+        ran = run([sys.executable, "-m", "gillspoon.lint", "--quiet", "a.pgn"], cwd=self.folder,
+                  env=env)
+        self.assertEqual((ran.returncode, ran.stdout.decode()), (1, "a.pgn:%s\n" % BAD_LINE))
+
+
+class Streams(Lint):
+    def test_a_closed_pipe(self):
+        self.put("a.pgn", (BAD + b"\n") * 3000)
+        ran = run(["bash", "-c", "pgn_lint a.pgn | head -n 1; echo ${PIPESTATUS[0]}"],
+                  cwd=self.folder, env=self.env)
+        self.assertEqual(ran.stdout.decode().splitlines(), ["a.pgn:" + BAD_LINE, "2"])
+        self.assertEqual(ran.stderr, b"pgn_lint: output cannot be written: Broken pipe\n")
+
+    def test_a_full_device(self):
+        self.put("a.pgn", BAD)
+        for words in ([], ["--json"], ["--sarif"], ["-j", "2", "a.pgn"]):
+            with open("/dev/full", "wb") as full:
+                status, _, told = self.lint("a.pgn", *words, stdout=full)
+            self.assertEqual((status, told), (
+                2, "pgn_lint: output cannot be written: No space left on device\n"))
+
+    def interrupted(self, *words):
+        """The status and the errors of a call that waits for a pipe, and gets SIGINT."""
+        os.mkfifo(self.folder + "/pipe.pgn")
+        # a shell has background jobs ignore the signal, so the tests may do so too
+        words = ["env", "--default-signal=INT", LINT, *words]
+        with subprocess.Popen(words, cwd=self.folder, env=self.env,
+                              stdout=subprocess.PIPE, stderr=subprocess.PIPE) as child:
+            # once this opens, the other end is open in the process that reads
+            with open(self.folder + "/pipe.pgn", "wb", buffering=0) as pipe:
+                pipe.write(b"1. e4 ")
+                time.sleep(0.2)
+                child.send_signal(signal.SIGINT)
+                _, told = child.communicate(timeout=20)
+                for _ in range(100):
+                    try:
+                        pipe.write(b" ")
+                    except BrokenPipeError:
+                        break
+                    time.sleep(0.05)
+                else:
+                    self.fail("a process still reads")
+        return child.returncode, told
+
+    def test_an_interrupt(self):
+        self.assertEqual(self.interrupted("pipe.pgn"), (-signal.SIGINT, b""))
+
+    def test_an_interrupt_of_processes(self):
+        self.put("b.pgn", GOOD)
+        self.assertEqual(self.interrupted("-j", "2", "pipe.pgn", "b.pgn"),
+                         (-signal.SIGINT, b""))
+
+    def test_colours_on_a_terminal_alone(self):
+        self.put("a.pgn", BAD)
+        shown = programs.on_a_terminal([LINT, "a.pgn"], cwd=self.folder,
+                                       env=dict(self.env, TERM="xterm"))
+        self.assertEqual(shown, "\x1b[1ma.pgn:4:13:\x1b[0m \x1b[31mmove is not legal\x1b[0m "
+                         "(game 1, Ada \u2013 Bob)\n1 file, 1 game, 1 fault in 1 file\n")
+        for more in ({"NO_COLOR": "1"}, {"TERM": "dumb"}):
+            shown = programs.on_a_terminal([LINT, "a.pgn"], cwd=self.folder,
+                                           env=dict(self.env, **more))
+            self.assertNotIn("\x1b", shown)
+
+    def test_progress_on_a_terminal(self):
+        """A second and more is needed until it is shown, and it goes before a line."""
+        os.mkfifo(self.folder + "/pipe.pgn")
+        with subprocess.Popen(["sh", "-c", "exec >pipe.pgn; cat a; sleep 1.2; cat a b"],
+                              cwd=self.folder):
+            self.put("a", GOOD * 600)
+            self.put("b", BAD)
+            shown = programs.on_a_terminal([LINT, "pipe.pgn"], cwd=self.folder,
+                                           env=dict(self.env, NO_COLOR="1"))
+        self.assertRegex(shown, "\\A(\r\x1b\\[Kpgn_lint: file 1 of 1, [0-9,]+ games)+\r\x1b\\[K"
+                         "pipe.pgn:[0-9]+:13: move is not legal \\(game 1,201, .*\n"
+                         "1 file, 1,201 games, 1 fault in 1 file\n\\Z".replace("1,201, ", "1201, "))
+
+
+class Others(Lint):
+    """What reads the lines: editors, code hosts, hooks."""
+
+    def recipe(self, language):
+        """The block of a language in the recipe of pgn_lint."""
+        lines = lines_of("docs/RECIPES.md")
+        begin = lines.index("## Check games in CI and in an editor")
+        return ["\n".join(inner) + "\n" for number, _, inner in blocks_of(lines)
+                if number > begin and lines[number - 1].strip() == "```" + language]
+
+    def test_vim(self):
+        need("vim")
+        text = WAYS["UTF-8"][0].decode().replace("\u4e16", "\u00e4")
+        self.put("a b.pgn", text.encode() + b"\n" + BAD)
+        option = re.search(r"errorformat=\S+ %m", self.recipe("vim")[0])[0]
+        self.put("found", self.lint("a b.pgn")[1].encode())
+        run(["vim", "-u", "NONE", "-N", "-es", "-c", "set encoding=utf-8 " + option, "-c",
+             "cfile found", "-c", "redir! > seen", "-c",
+             "for it in filter(getqflist(), 'v:val.valid') | exe 'cc' |"
+             " echo bufname('%') it.lnum it.text | endfor", "-c",
+             "cfirst | echo line('.') getline('.')[col('.') - 1 : col('.') + 1]", "-c",
+             "cnext | echo line('.') getline('.')[col('.') - 1 : col('.') + 1]", "-c", "qa!"],
+            cwd=self.folder, env=self.env)
+        with open(self.folder + "/seen", encoding="utf-8") as seen:
+            lines = [it for it in seen.read().split("\n") if it]
+        self.assertIn("a b.pgn 3 move is not legal (game 1, M\u00fcller \u2013 ?)", lines)
+        self.assertEqual([it for it in lines if it.endswith("Ke3")], ["3 Ke3", "8 Ke3"])
+
+    def test_emacs(self):
+        need("emacs")
+        self.put("a.pgn", WAYS["UTF-8"][0] + b"\n" + BAD)
+        setting = self.recipe("elisp")[0]
+        script = """(progn (require 'compile) %s
+          (find-file "a.pgn")
+          (with-current-buffer (compile "%s --quiet a.pgn")
+            (while (get-buffer-process (current-buffer)) (accept-process-output nil 0.1)))
+          (dotimes (_ 2) (next-error)
+            (with-current-buffer "a.pgn" (message "at %%d %%s" (line-number-at-pos)
+              (buffer-substring (point) (+ 3 (point)))))))""" % (setting, LINT)
+        ran = run(["emacs", "-Q", "--batch", "--eval", script], cwd=self.folder, env=self.env)
+        self.assertEqual(re.findall("(?m)^at .*", ran.stderr.decode()), ["at 3 Ke3", "at 8 Ke3"],
+                         ran.stderr)
+
+    def test_the_hook(self):
+        need("pre-commit", "git")
+        if run(["git", "rev-parse", "HEAD"]).returncode:
+            not_tried("this is no repository of git")
+        self.put("good games.pgn", GOOD)
+        self.put("-c.pgn", BAD)
+        self.put("bad.txt", BAD)
+        env = dict(self.env, PRE_COMMIT_HOME=self.folder + "/.home", HOME=self.folder,
+                   GIT_CONFIG_COUNT="1", GIT_CONFIG_KEY_0="safe.directory", GIT_CONFIG_VALUE_0="*")
+        for words in (["init", "-q"], ["add", "--", "good games.pgn", "-c.pgn", "bad.txt"]):
+            self.assertEqual(run(["git", *words], cwd=self.folder, env=env).returncode, 0)
+        ran = run(["pre-commit", "try-repo", ROOT, "pgn_lint", "--all-files", "--color", "never"],
+                  cwd=self.folder, env=env)
+        self.assertEqual(ran.returncode, 1, ran.stdout + ran.stderr)
+        found = [it for it in ran.stdout.decode().splitlines() if ".pgn" in it or ".txt" in it]
+        self.assertEqual(found, ["-c.pgn:" + BAD_LINE])
+        run(["git", "rm", "-qf", "--", "-c.pgn"], cwd=self.folder, env=env)
+        ran = run(["pre-commit", "try-repo", ROOT, "pgn_lint", "--all-files"],
+                  cwd=self.folder, env=env)
+        self.assertEqual(ran.returncode, 0, ran.stdout + ran.stderr)
+
+    def test_the_configuration_of_the_hook(self):
+        """What the recipe says of pre-commit names the hook of this repository."""
+        with open(ROOT + "/.pre-commit-hooks.yaml", encoding="utf-8") as hooks:
+            name = re.search(r"(?m)^- id: (\w+)$", hooks.read())[1]
+        text = next(it for it in self.recipe("yaml") if "repos:" in it)
+        self.assertEqual(re.findall(r"- id: (\w+)", text), [name])
+
+    def test_the_workflow(self):
+        """Its commands are run, but those that fetch and install."""
+        text = next(it for it in self.recipe("yaml") if "runs-on" in it)
+        self.assertLessEqual(text.count("\n"), 12)
+        commands = re.findall(r"(?m)^ +- run: (.*)$", text)
+        lint, = [it for it in commands if "pgn_lint" in it]
+        self.put("games/a.pgn", BAD)
+        ran = run(["sh", "-ec", lint], cwd=self.folder, env=self.env)
+        self.assertEqual(ran.returncode, 1, ran.stderr)
+        name = re.search(r"sarif_file: ([\w.]+)", text)[1]
+        with open(os.path.join(self.folder, name), encoding="utf-8") as log:
+            result, = json.load(log)["runs"][0]["results"]
+        place = result["locations"][0]["physicalLocation"]
+        self.assertEqual(place["artifactLocation"]["uri"], "games/a.pgn")
+
+
+class Script(unittest.TestCase):
+    def test_it_can_be_run(self):
+        self.assertTrue(os.stat(LINT).st_mode & stat.S_IXUSR)
+
+
+if __name__ == "__main__":
+    unittest.main()
