@@ -145,6 +145,35 @@ def repository_program(scripts):
     return os.fsdecode(made.stdout).rstrip("\n")
 
 
+def package():
+    """The Python package gillspoon. In the repository its library for C is built if need be."""
+    here = os.path.dirname(os.path.realpath(__file__))
+    if os.path.exists(here + "/build_program"):
+        sys.path.insert(0, os.path.dirname(here) + "/python")
+        words = [here + "/build_program", "--library"]
+        if not os.environ.get("GILLSPOON_LIBRARY") and subprocess.run(
+                words, stdout=subprocess.DEVNULL, check=False).returncode:
+            raise Failure(NO_PROGRAM, "the library pgn_c was not built")
+    try:
+        import gillspoon
+    except ImportError as error:
+        raise Failure(NO_PROGRAM, str(error)) from None
+    return gillspoon
+
+
+class Part:
+    """The bytes of an open file between two offsets, as a source of gillspoon."""
+
+    def __init__(self, file, begin, end):
+        self.file, self.at, self.end = file, begin, end
+
+    def read(self, size):
+        """The next bytes, at most so many; other reads of the file do not matter."""
+        text = os.pread(self.file.fileno(), min(size, BLOCK // 16, self.end - self.at), self.at)
+        self.at += len(text)
+        return text
+
+
 # ---- PGN text in blocks
 
 

@@ -184,6 +184,23 @@ class WhereTest(unittest.TestCase):
                              (status, b"", 1), (words, ran.stderr))
         self.assertEqual(self.call(["--help"]).returncode, 0)
 
+    def test_bad_games_before_the_byte_count(self):
+        bad = b'[Event "x"]\n\n1. e9 {1-0} e5'
+        text = bad + b"\n\n" + TAGS + b"1. e4 e5 1-0\n\n" + bad + b" 0-1\n" + TAGS + b"1. d4 *\n"
+        for place, line in ((b"e9", 'game 1: White "?", Black "?", Event "x"'),
+                            (b"e4", 'game 2: White "Ann", Black "Bob", Event "Cup"'),
+                            (b"0-1", 'game 3: White "?", Black "?", Event "x"'),
+                            (b"d4", 'game 4: White "Ann", Black "Bob", Event "Cup"')):
+            self.assertEqual(self.lines(text, text.index(place))[3], line)
+
+    def test_without_the_library(self):
+        with open(self.file, "wb") as file:
+            file.write(b"*\n")
+        env = dict(os.environ, GILLSPOON_LIBRARY=self.folder + "/none")
+        ran = run([sys.executable, WHERE, self.file, "0"], env=env)
+        self.assertEqual((ran.returncode, ran.stdout, ran.stderr.count(b"\n")), (127, b"", 1))
+        self.assertIn(b"in the repository run bin/build_program --library", ran.stderr)
+
     def test_closed_output(self):
         ran = run(["sh", "-c", '"$0" "$1" examples/two-games.pgn 3 >/dev/full', sys.executable,
                    WHERE])
