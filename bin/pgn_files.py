@@ -128,7 +128,8 @@ def repository_program(scripts):
 def package():
     """The Python package gillspoon. In the repository its library for C is built if need be."""
     here = os.path.dirname(os.path.realpath(__file__))
-    if os.path.exists(here + "/build_program"):
+    is_repository = os.path.exists(here + "/build_program")
+    if is_repository:
         sys.path.insert(0, os.path.dirname(here) + "/python")
         words = [here + "/build_program", "--library"]
         if not os.environ.get("GILLSPOON_LIBRARY") and subprocess.run(
@@ -137,7 +138,8 @@ def package():
     try:
         import gillspoon
     except ImportError as error:
-        raise Failure(NO_PROGRAM, str(error)) from None
+        again = "" if is_repository else ", or bin/install again"
+        raise Failure(NO_PROGRAM, "%s%s" % (error, again)) from None
     return gillspoon
 
 
