@@ -145,6 +145,18 @@ class WhereTest(unittest.TestCase):
                                       'game 1: White "Ann", Black "Bob", Event "Cup"'])
         self.assertNotIn("comment", self.lines(b"{a}e9", 3)[3])
 
+    def test_a_comment_longer_than_what_is_kept_in_memory(self):
+        words = (b"w" * 70 + b" ") * 100 + b"\n"
+        text = TAGS + b"1. e4 {" + words * ((1 << 24) // len(words) + 100)  # LONG of pgn_where
+        self.assertEqual(self.lines(text, len(text))[3:5], [
+            "in a comment that begins at line 5, column 7 (byte %d)" % (len(TAGS) + 6),
+            'game 1: White "Ann", Black "Bob", Event "Cup"'])
+        text += b'} e5 *\n[White "C"]\n\n1. e4 {x} e9 *\n'
+        self.assertEqual(self.lines(text, text.index(b"e9"))[3],
+                         'game 2: White "C", Black "?", Event "?"')
+        self.assertEqual(self.lines(text, text.index(b"e5"))[3],
+                         'game 1: White "Ann", Black "Bob", Event "Cup"')
+
     def test_message(self):
         program = need_program()
         with open(self.file, "wb") as file:
