@@ -205,6 +205,12 @@ class WhereTest(unittest.TestCase):
                             (b"d4", 'game 4: White "Ann", Black "Bob", Event "Cup"')):
             self.assertEqual(self.lines(text, text.index(place))[3], line)
 
+    def test_a_byte_order_mark_just_behind_a_game(self):
+        text = b"e4 *\xef\xbb\xbf" + TAGS + b"e4 *\n"
+        for place, number in ((4, 2), (text.rindex(b"e4"), 2)):
+            self.assertEqual(self.lines(text, place)[3],
+                             'game %d: White "Ann", Black "Bob", Event "Cup"' % number)
+
     def test_without_the_library(self):
         with open(self.file, "wb") as file:
             file.write(b"*\n")
