@@ -1,11 +1,10 @@
-"""What the scripts beside the program share: marks in PGN text, files replaced whole, the program.
+"""What the scripts beside the program share: files replaced whole, the program, its library.
 
-Each function that reads a file keeps at most a few blocks of it in memory.
+What PGN text means they leave to the program, and to the Python package over the library.
 """
 import argparse
 import contextlib
 import os
-import re
 import shutil
 import signal
 import stat
@@ -18,25 +17,6 @@ BYTE_ORDER_MARK = b"\xef\xbb\xbf"
 # The status of a script, which are those of the program.
 REFUSED, USAGE, NO_MEMORY, NO_PROGRAM = 1, 2, 3, 127
 
-# Comments, escapes and strings, which hide what is in them, and the markers that end games. A
-# marker is a whole symbol. Each alternative begins with a literal byte, and plain tag sections are
-# matched at once: both keep a search fast.
-MARKS = re.compile(
-    rb"\{[^}]*\}?"
-    rb"|;[^\r\n]*"
-    rb"|%(?<![^\r\n]%)[^\r\n]*"
-    rb'|\[\w+ "[^"\\\r\n]*"\](?:\r?\n\[\w+ "[^"\\\r\n]*"\])*'
-    rb'|"[^"\\\r\n]*(?:\\["\\]?[^"\\\r\n]*)*"?'
-    rb"|1(?<![\w+#=:/-]1)(?:-0|/2-1/2)(?![\w+#=:/-])"
-    rb"|0(?<![\w+#=:/-]0)-1(?![\w+#=:/-])"
-    rb"|\*"
-)
-# Where a comment or an escape ends that began in an earlier block, by its first byte.
-BEFORE_LINE_END = re.compile(rb"(?=[\r\n])")
-CLOSERS = {b"{": re.compile(rb"\}"), b";": BEFORE_LINE_END, b"%": BEFORE_LINE_END}
-LINE_END = re.compile(rb"\r\n?|\n")
-# No marker is longer, with the byte that ends it.
-LONGEST_MARKER = 8
 
 
 class Failure(Exception):
@@ -145,80 +125,39 @@ def repository_program(scripts):
     return os.fsdecode(made.stdout).rstrip("\n")
 
 
-# ---- PGN text in blocks
+def package():
+    """The Python package gillspoon. In the repository its library for C is built if need be."""
+    here = os.path.dirname(os.path.realpath(__file__))
+    is_repository = os.path.exists(here + "/build_program")
+    if is_repository:
+        sys.path.insert(0, os.path.dirname(here) + "/python")
+        words = [here + "/build_program", "--library"]
+        if not os.environ.get("GILLSPOON_LIBRARY") and subprocess.run(
+                words, stdout=subprocess.DEVNULL, check=False).returncode:
+            raise Failure(NO_PROGRAM, "the library pgn_c was not built")
+    try:
+        import gillspoon
+    except ImportError as error:
+        again = "" if is_repository else ", or bin/install again"
+        raise Failure(NO_PROGRAM, "%s%s" % (error, again)) from None
+    return gillspoon
 
 
-def marks(file, begin, end):
-    """Yields (begin, end, first byte) of each comment and each marker between two offsets.
+class Part:
+    """The bytes of an open file between two offsets, as a source of gillspoon."""
 
-    The offset begin is read as the start of an input, outside comments. A comment that is still
-    open at the end is given up to the end.
-    """
-    if os.pread(file.fileno(), 3, begin) == BYTE_ORDER_MARK:
-        begin += 3
-    opened, before, position = None, b"", begin
-    while position < end:
-        text = before + os.pread(file.fileno(), min(BLOCK, end - position), position)
-        base, start = position - len(before), len(before)
-        is_last = base + len(text) >= end
-        if len(text) == start:
-            raise Failure(REFUSED, "the file became shorter while it was read")
-        if opened:
-            close = CLOSERS[opened[1]].search(text, start)
-            if not close and not is_last:
-                before, position = text[-1:], base + len(text)
-                continue
-            start = close.end() if close else len(text)
-            if opened[1] != b"%":
-                yield opened[0], base + start, opened[1]
-            opened = None
-        limit = len(text) if is_last else max(len(text) - LONGEST_MARKER, start)
-        for found in MARKS.finditer(text, start):
-            kind = found[0][:1]
-            if found.start() >= limit:
-                break
-            if found.end() == len(text) and not is_last:
-                if kind in CLOSERS:
-                    opened, limit = (base + found.start(), kind), len(text)
-                elif found.start() > start:
-                    limit = found.start()
-                break
-            limit = max(limit, found.end())
-            if kind not in b'"%[':
-                yield base + found.start(), base + found.end(), kind
-        before, position = text[limit - 1:limit], base + limit
+    def __init__(self, file, begin, end):
+        self.file, self.at, self.end = file, begin, end
 
+    def read(self, size):
+        """The next bytes, at most so many; other reads of the file do not matter."""
+        text = os.pread(self.file.fileno(), min(size, BLOCK // 16, self.end - self.at), self.at)
+        self.at += len(text)
+        return text
 
-def lines(file, begin):
-    """Yields (offset, line with its end) from an offset on; a very long line comes in parts."""
-    rest, at = b"", begin
-    while True:
-        block = os.pread(file.fileno(), BLOCK // 16, at + len(rest))
-        text, used = rest + block, 0
-        for found in LINE_END.finditer(text, max(len(rest) - 1, 0)):
-            if found.end() == len(text) and found[0] == b"\r" and block:
-                break
-            yield at + used, text[used:found.end()]
-            used = found.end()
-        rest, at = text[used:], at + used
-        if rest and (not block or len(rest) >= BLOCK):
-            yield at, rest
-            rest, at = b"", at + len(rest)
-        if not block:
-            return
-
-
-def line_ends(file, begin, end):
-    """How many lines end between two offsets: by LF, by CR, or by both together."""
-    count, at = 0, begin
-    while at < end:
-        text = os.pread(file.fileno(), min(BLOCK, end - at) + 1, at)
-        size = min(len(text), BLOCK, end - at)
-        if not size:
-            break
-        count += text.count(b"\n", 0, size) + text.count(b"\r", 0, size) - text.count(b"\r\n")
-        at += size
-    return count
+    def pieces(self):
+        """The bytes in turn, in pieces."""
+        return iter(lambda: self.read(BLOCK), b"")
 
 
 # ---- files that are replaced whole

@@ -192,7 +192,8 @@ class Reader:
         head = window.data[fault.begin - window.base:][:4]
         end = end_of(bad, window.lines(self.at, lambda: bad.escapes_at))
         at = window.base + len(window.data) if end is None else end
-        if at <= self.at and end is not None:
+        is_mark = window.data.startswith(BYTE_ORDER_MARK, at - window.base)
+        if at <= self.at and end is not None and not is_mark:
             raise fault
         # byte order marks of joined files are no game
         if head[:max(at - fault.begin, 0)] not in (b"", BYTE_ORDER_MARK):
@@ -200,7 +201,7 @@ class Reader:
         self.at = at
         fault.end = at
         on_fault(fault)
-        if window.data[at - window.base:].startswith(BYTE_ORDER_MARK):
+        if is_mark:
             self.at += 3
 
 

@@ -1,7 +1,7 @@
 """Lines and columns: where a byte of a text is, for people."""
 import re
 from codecs import getincrementaldecoder
-from typing import Tuple
+from typing import NamedTuple, Tuple
 
 BYTE_ORDER_MARK = b"\xef\xbb\xbf"
 # How many bytes of a line behind a place are looked at for its encoding.
@@ -10,6 +10,19 @@ LINE_END = re.compile(rb"[\r\n]")
 # In UTF-8 these bytes go on with a character.
 _INSIDE = bytes(range(0x80, 0xC0))
 _Decoder = getincrementaldecoder("utf-8")
+
+
+class Place(NamedTuple):
+    """Where a byte is, for people."""
+
+    line: int
+    """Its line, from 1."""
+    column: int
+    """Its column in characters, from 1."""
+    before: int
+    """How many bytes of its line are before it."""
+    encoding: str
+    """The encoding of its line: `utf-8`, or else `latin-1`."""
 
 
 class LineCounter:
@@ -78,16 +91,27 @@ class LineCounter:
 
         These are NEAR bytes, or fewer at the end of the text or of the line.
         """
+        return self.find(near)[:2]
+
+    def find(self, near: bytes) -> Place:
+        """The line and the column, as `place` gives them, and what of the line is before them.
+
+        >>> counter = LineCounter()
+        >>> counter.feed(b"e4 e5\\n2. ")
+        >>> counter.find(b"Nf9 *")
+        Place(line=2, column=4, before=3, encoding='utf-8')
+        """
         end = self.copy()
         held, end._held = end._held, b""
         if end._is_start and (held + near).startswith(BYTE_ORDER_MARK):
-            return 1, 1
+            return Place(1, 1, 0, "utf-8")
         if held == b"\r" and not near.startswith(b"\n"):
-            return end._line + 1, 1
+            end._count(held)
+            held = b""
         end._bytes += len(held)
         end._characters += len(held.translate(None, _INSIDE))
         rest = LINE_END.split(near[:NEAR], 1)[0]
         if end._is_utf8 and end._decodes(held + rest, len(rest) < NEAR):
             inside = 0x80 <= (near or b" ")[0] < 0xC0
-            return end._line, max(end._characters + 1 - inside, 1)
-        return end._line, end._bytes + 1
+            return Place(end._line, max(end._characters + 1 - inside, 1), end._bytes, "utf-8")
+        return Place(end._line, end._bytes + 1, end._bytes, "latin-1")

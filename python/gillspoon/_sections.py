@@ -1,9 +1,10 @@
-"""Where to go on behind a bad game: the next line that begins a tag section.
+"""What a bad game is by guess: where it ends, which comment is open in it, and its tag pairs.
 
-docs/PYTHON.md has the rule in words. It is a guess, since a bad game says nothing sure of its end.
+It ends before the next line that begins a tag section. docs/PYTHON.md has the rule in words. All
+of it is a guess, since a bad game says nothing sure of its text. Sound games are the library's.
 """
 import re
-from typing import Iterable, Match, Optional, Tuple
+from typing import Dict, Iterable, Match, Optional, Tuple
 
 # A line that begins with a bracket, also behind stray bytes that joined files have there; with the
 # name and the quote of a tag pair, if it has them. Words such as [%clk stand in comments.
@@ -16,6 +17,14 @@ PAIRS = re.compile(
 COMMENT = re.compile(rb"\{[^}]*(\}?)|;[^\r\n]*()")
 # A line that is movetext even without an empty line before it.
 MOVETEXT = re.compile(rb"^[\t-\r ]*[0-9]+[\t-\r ]*\.|(?:1-0|0-1|1/2-1/2|\*)[\t-\r ]*$")
+# White space, comments and escapes between tag pairs.
+SPACE = re.compile(
+    rb"(?:[\t-\r ]|\xef\xbb\xbf|\{[^}]*\}?|;[^\r\n]*|%(?<![^\r\n]%)[^\r\n]*)*")
+# A tag pair. Where no bracket follows the value, the rest of the line is passed over.
+PAIR = re.compile(
+    rb'\[%(space)b(\w+)%(space)b"((?:[^"\\\r\n]|\\["\\]?)*)"?(?:%(space)b\]|[^\[\r\n]*)'
+    % {b"space": SPACE.pattern})
+BRACKET_LINE = re.compile(rb"\[[^\r\n]*")
 
 
 class BadGame:
@@ -30,6 +39,8 @@ class BadGame:
         self.after_empty_line = True
         self.escapes_at: Optional[int] = None
         """Where the escape lines just before the next line begin."""
+        self.comment_at = 0
+        """Where the comment begins that is open, if `in_comment`."""
 
     def end_before(self, at: int, line: bytes) -> Optional[int]:
         """The offset where the bad game ends, if that is on this line or just before it, or None.
@@ -65,12 +76,12 @@ class BadGame:
             self.escapes_at = at if self.escapes_at is None else self.escapes_at
         else:
             self.escapes_at = None
-            self._read_text(line)
+            self._read_text(at, line)
 
-    def _read_text(self, line: bytes) -> None:
+    def _read_text(self, at: int, line: bytes) -> None:
         found = None if self.in_comment else PAIRS.match(line)
         pairs = found.end() if found else 0
-        outside = self._outside_comments(line[pairs:]).strip()
+        outside = self._outside_comments(at, line, pairs).strip()
         is_tag = b"[" in line[:pairs] or outside.startswith(b"[") or outside.endswith(b"]")
         if outside.startswith(b"["):
             outside = outside[outside.rfind(b"]") + 1:] if b"]" in outside else b""
@@ -82,16 +93,19 @@ class BadGame:
             self.has_movetext = True
         self.after_empty_line = False
 
-    def _outside_comments(self, text: bytes) -> bytes:
+    def _outside_comments(self, at: int, line: bytes, begin: int) -> bytes:
+        """What a line has outside comments, from an index on."""
         if self.in_comment:
-            _, closed, text = text.partition(b"}")
-            self.in_comment = not closed
+            end = line.find(b"}") + 1
+            self.in_comment = not end
+            begin = end or len(line)
 
         def drop(found: Match[bytes]) -> bytes:
             self.in_comment = found[0].startswith(b"{") and not found[1]
+            self.comment_at = at + begin + found.start()
             return b" "
 
-        return COMMENT.sub(drop, text)
+        return COMMENT.sub(drop, line[begin:])
 
 
 def end_of(bad: BadGame, lines: Iterable[Tuple[int, bytes]]) -> Optional[int]:
@@ -102,3 +116,24 @@ def end_of(bad: BadGame, lines: Iterable[Tuple[int, bytes]]) -> Optional[int]:
             return end
         bad.read(at, line)
     return None
+
+
+def tag_pairs(text: bytes) -> Dict[bytes, bytes]:
+    """The tag pairs that a game's text begins with; lines with a mistake are passed over.
+
+    >>> tag_pairs(b'[White "Ada"] [Event "a"b"] [Black "\\\\"Bo\\\\""] 1. e4 *')
+    {b'White': b'Ada', b'Event': b'a', b'Black': b'"Bo"'}
+    """
+    pairs: Dict[bytes, bytes] = {}
+    at = 0
+    while True:
+        space = SPACE.match(text, at)
+        at = space.end() if space else at
+        found = PAIR.match(text, at)
+        if found:
+            pairs.setdefault(found[1], re.sub(rb'\\(["\\])', rb"\1", found[2]))
+        else:
+            found = BRACKET_LINE.match(text, at)
+        if not found:
+            return pairs
+        at = found.end()

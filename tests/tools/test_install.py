@@ -140,6 +140,20 @@ class Small(unittest.TestCase):
         status, _, told = self.call("--proved", self.prefix, env={"CC": "rt"})
         self.assertEqual(status, 127)
 
+    def test_scripts_say_what_to_run_without_the_library(self):
+        self.call(self.prefix)
+        games, env = self.here.root + "/games.pgn", {"PATH": self.here.root + "/path"}
+        self.here.write("games.pgn", "*")
+        for is_there in (True, False):
+            if not is_there:
+                os.unlink(self.prefix + "/lib/libpgn_c.so")
+            for name, words in (("pgn_where", ["0"]), ("pgn_sieve", [games + "1", games + "2"])):
+                ran = run([self.prefix + "/bin/" + name, games, *words], cwd="/", env=env)
+                self.assertEqual((ran.returncode, ran.stdout), (127, b""))
+                said = "%s/lib/libpgn_c.so cannot be used" % self.prefix
+                self.assertIn(said if is_there else "there is no libpgn_c.so", ran.stderr.decode())
+                self.assertTrue(ran.stderr.endswith(b" or bin/install again\n"), ran.stderr)
+
     def test_scripts_call_the_program_beside_them(self):
         self.call(self.prefix)
         self.here.command("pgn_tool", "#!/bin/sh\necho another\n")

@@ -306,6 +306,14 @@ class SieveTest(unittest.TestCase):
         with open(file, "rb") as text:
             self.assertEqual(text.read(), sound(b"A"))
 
+    def test_without_the_library(self):
+        done = Sieved(self, sound(b"A"))
+        env = dict(os.environ, PGN_TOOL=need_program(), GILLSPOON_LIBRARY=done.folder + "/none")
+        ran = run([sys.executable, SIEVE, *done.paths], env=env)
+        self.assertEqual((ran.returncode, ran.stdout, ran.stderr.count(b"\n")), (127, b"", 1))
+        self.assertIn(b"in the repository run bin/build_program --library", ran.stderr)
+        self.assertEqual(sorted(os.listdir(done.folder)), ["bad.pgn", "good.pgn", "in.pgn"])
+
     def test_outputs_keep_their_mode_and_follow_links(self):
         done = Sieved(self, sound(b"A"))
         os.chmod(done.paths[1], 0o640)

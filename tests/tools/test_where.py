@@ -145,6 +145,18 @@ class WhereTest(unittest.TestCase):
                                       'game 1: White "Ann", Black "Bob", Event "Cup"'])
         self.assertNotIn("comment", self.lines(b"{a}e9", 3)[3])
 
+    def test_a_comment_longer_than_what_is_kept_in_memory(self):
+        words = (b"w" * 70 + b" ") * 100 + b"\n"
+        text = TAGS + b"1. e4 {" + words * ((1 << 24) // len(words) + 100)  # LONG of pgn_where
+        self.assertEqual(self.lines(text, len(text))[3:5], [
+            "in a comment that begins at line 5, column 7 (byte %d)" % (len(TAGS) + 6),
+            'game 1: White "Ann", Black "Bob", Event "Cup"'])
+        text += b'} e5 *\n[White "C"]\n\n1. e4 {x} e9 *\n'
+        self.assertEqual(self.lines(text, text.index(b"e9"))[3],
+                         'game 2: White "C", Black "?", Event "?"')
+        self.assertEqual(self.lines(text, text.index(b"e5"))[3],
+                         'game 1: White "Ann", Black "Bob", Event "Cup"')
+
     def test_message(self):
         program = need_program()
         with open(self.file, "wb") as file:
@@ -183,6 +195,29 @@ class WhereTest(unittest.TestCase):
             self.assertEqual((ran.returncode, ran.stdout, ran.stderr.count(b"\n")),
                              (status, b"", 1), (words, ran.stderr))
         self.assertEqual(self.call(["--help"]).returncode, 0)
+
+    def test_bad_games_before_the_byte_count(self):
+        bad = b'[Event "x"]\n\n1. e9 {1-0} e5'
+        text = bad + b"\n\n" + TAGS + b"1. e4 e5 1-0\n\n" + bad + b" 0-1\n" + TAGS + b"1. d4 *\n"
+        for place, line in ((b"e9", 'game 1: White "?", Black "?", Event "x"'),
+                            (b"e4", 'game 2: White "Ann", Black "Bob", Event "Cup"'),
+                            (b"0-1", 'game 3: White "?", Black "?", Event "x"'),
+                            (b"d4", 'game 4: White "Ann", Black "Bob", Event "Cup"')):
+            self.assertEqual(self.lines(text, text.index(place))[3], line)
+
+    def test_a_byte_order_mark_just_behind_a_game(self):
+        text = b"e4 *\xef\xbb\xbf" + TAGS + b"e4 *\n"
+        for place, number in ((4, 2), (text.rindex(b"e4"), 2)):
+            self.assertEqual(self.lines(text, place)[3],
+                             'game %d: White "Ann", Black "Bob", Event "Cup"' % number)
+
+    def test_without_the_library(self):
+        with open(self.file, "wb") as file:
+            file.write(b"*\n")
+        env = dict(os.environ, GILLSPOON_LIBRARY=self.folder + "/none")
+        ran = run([sys.executable, WHERE, self.file, "0"], env=env)
+        self.assertEqual((ran.returncode, ran.stdout, ran.stderr.count(b"\n")), (127, b"", 1))
+        self.assertIn(b"in the repository run bin/build_program --library", ran.stderr)
 
     def test_closed_output(self):
         ran = run(["sh", "-c", '"$0" "$1" examples/two-games.pgn 3 >/dev/full', sys.executable,
