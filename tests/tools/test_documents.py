@@ -22,7 +22,8 @@ from programs import ROOT, on_a_terminal, run
 
 MARK = re.compile(r"<!-- *not run\b:? *(.*?) *-->")
 LINK = re.compile(r"\[(?:[^\]`]|`[^`]*`)*\]\(([^)\s]+)\)")
-MOST_LINES_OF_README = 200
+MOST_LINES = {"README.md": 200, "docs/PROVED.md": 320}
+MOST_BYTES_OF_A_ROW = 400
 BUILT = ["%s/%s" % (ROOT, it) for it in (
     "crates/pgn_tool/out/pgn_tool", "crates/pgn_c/out/libpgn_c.a", "crates/pgn_c/out/libpgn_c.so",
     "cargo/out/pgn_tool", "cargo/out/libpgn_c.a", "cargo/out/libpgn_c.so")]
@@ -234,23 +235,24 @@ class Names(unittest.TestCase):
 
     def test_names_are_of_the_repository(self):
         known = self.words(".") | self.ELSEWHERE
-        for document in ("ARCHITECTURE", "DECISIONS", "GLOSSARY", "LIBRARY", "PROVED"):
+        for document in ("ARCHITECTURE", "DECISIONS", "GLOSSARY", "GUARDS", "LIBRARY", "PROVED"):
             for number, line in enumerate(prose_of(lines_of("docs/%s.md" % document)), 1):
                 with self.subTest("docs/%s.md:%d" % (document, number)):
                     self.assertEqual([it for it in code_of(line) if it not in known], [])
 
     def test_rows_name_what_their_crate_has(self):
-        """Functions and clauses of a row of the ledger are of its crate, or of one that it uses."""
-        crate, found = None, 0
+        """Functions and clauses of a row of the ledger are of its crates, or of those they use."""
+        crates, found = [], 0
         for number, line in enumerate(lines_of("docs/PROVED.md"), 1):
             if line.startswith("## "):
-                crate = next(iter(code_of(line)), None)
-                known = crate and self.words(*("crates/" + it for it in [crate, *USES[crate]]))
-            elif crate and line.startswith("| ") and line.count(" | ") >= 2:
+                crates = code_of(line)
+                used = {it for crate in crates for it in [crate, *USES[crate]]}
+                known = self.words(*("crates/" + it for it in used))
+            elif crates and line.startswith("| "):
                 found += 1
-                cells = re.split(r" \| ", line)[1:-1]
+                names = code_of(line.rsplit(" | ", 1)[1])
                 with self.subTest("docs/PROVED.md:%d" % number):
-                    self.assertEqual([it for it in code_of(" ".join(cells)) if it not in known], [])
+                    self.assertEqual([it for it in names if it not in known], [])
         self.assertGreater(found, 100)
 
     def test_crates(self):
@@ -272,18 +274,15 @@ class Names(unittest.TestCase):
                     of_tests = re.findall(r"#\[cfg\(test\)\]\s+mod (\w+);", root.read())
                 self.assertEqual(files - {"lib", *of_tests, *code_of(row[1])}, set())
 
-    def test_definitions_and_bookkeeping(self):
-        for row in table("docs/PROVED.md", "Crate", "Definitions to believe"):
-            crate = code_of(row[0])[0]
-            for kind, cell in zip(("Definition", "Bookkeeping"), row[1:]):
-                with self.subTest("%s of %s" % (kind, crate)):
-                    files = set()
-                    for path in glob.glob("%s/crates/%s/specs/**/*.antt" % (ROOT, crate),
-                                          recursive=True):
-                        with open(path, encoding="utf-8") as file:
-                            if "**%s**" % kind in file.readline():
-                                files.add(os.path.splitext(os.path.basename(path))[0])
-                    self.assertEqual(files - {"Lib"}, set(code_of(cell)))
+    def test_a_file_of_specs_is_a_definition_or_bookkeeping(self):
+        paths = glob.glob(ROOT + "/crates/*/specs/**/*.antt", recursive=True)
+        self.assertGreater(len(paths), 50)
+        for path in paths:
+            with open(path, encoding="utf-8") as file:
+                first = file.readline()
+            if os.path.basename(path) != "Lib.antt":
+                with self.subTest(os.path.relpath(path, ROOT)):
+                    self.assertRegex(first, r"^-- \*\*(Definition|Bookkeeping)\*\*")
 
     def test_files_of_proofs(self):
         folder = ROOT + "/crates/pgn_game/proofs"
@@ -297,9 +296,15 @@ class Names(unittest.TestCase):
 
 
 class Length(unittest.TestCase):
-    def test_readme(self):
-        count = len(lines_of("README.md")) - 1
-        self.assertLessEqual(count, MOST_LINES_OF_README, "lines of README.md")
+    def test_lines(self):
+        for document, most in MOST_LINES.items():
+            self.assertLessEqual(len(lines_of(document)) - 1, most, "lines of " + document)
+
+    def test_rows_of_the_ledger(self):
+        for number, line in enumerate(lines_of("docs/PROVED.md"), 1):
+            if line.startswith("|"):
+                with self.subTest("docs/PROVED.md:%d" % number):
+                    self.assertLessEqual(len(line.encode()), MOST_BYTES_OF_A_ROW)
 
 
 if __name__ == "__main__":

@@ -1,5 +1,5 @@
-"""The wrong bodies of edits/ fit the sources, docs/PROVED.md names each where it guards a row, and
-bin/try_edits reads what a check says of them."""
+"""The wrong bodies of edits/ fit the sources, docs/GUARDS.md is what its sources give, and
+bin/try_edits reads what a check says of an edit."""
 import glob
 import importlib.machinery
 import importlib.util
@@ -36,6 +36,7 @@ class Edits(unittest.TestCase):
         script = loaded()
         self.by_crate, self.others = script.edits_by_crate(), script.edits_of_toolchain()
         self.edits = [it for them in self.by_crate.values() for it in them]
+        self.notices = script.notices()
 
     def test_each_fits_its_source(self):
         for it in self.edits + self.others:
@@ -62,16 +63,32 @@ class Edits(unittest.TestCase):
             groups = [them[0].name.split("-")[:2] for them in loaded().by_function(edits)]
             self.assertEqual([it for it in groups if groups.count(it) > 1], [], crate)
 
-    def test_the_rows_of_the_ledger_name_those_that_guard_them(self):
-        ran = call("--ledger", "--check")
+    def test_the_page_of_guards_is_what_its_sources_give(self):
+        ran = call("--guards", "--check")
         self.assertEqual((ran.returncode, ran.stdout, ran.stderr), (0, "", ""))
 
-    def test_documents_name_no_other(self):
+    def test_the_page_names_each(self):
         names = {it.name for it in self.edits + self.others}
-        for document in (("docs", "PROVED.md"), ("edits", "README.md")):
+        for document in (("docs", "GUARDS.md"), ("edits", "README.md")):
             said = set(re.findall("`(%s)`" % loaded().NAME, text_of(*document)))
             self.assertEqual(sorted(said - names), [], document)
             self.assertTrue(said, document)
+        page = text_of("docs", "GUARDS.md")
+        self.assertEqual([it for it in sorted(names) if "`%s`" % it not in page], [])
+
+    def test_each_test_and_file_of_rows_is_there(self):
+        sources = "".join(text_of(it) for pattern in ("crates/*/src/**/*.rt", "tests/tools/*.py")
+                          for it in glob.glob(pattern, root_dir=ROOT, recursive=True))
+        for it in self.notices:
+            with self.subTest(it.place):
+                if it.kind == "test":
+                    self.assertRegex(sources, r"\b(fn|def) %s\(" % it.text)
+                elif it.kind == "rows":
+                    files = glob.glob("crates/*/proofs/**/%s.antt" % it.text, root_dir=ROOT,
+                                      recursive=True)
+                    self.assertEqual(len(files), 1)
+        kinds = {it.kind for it in self.notices}
+        self.assertEqual(kinds, {"test", "rows", "noticed"})
 
     def test_the_mistakes_that_matter_most_are_tried_on_each_change(self):
         tried = {it.name for it in self.others + [it for it in self.edits if it.each_change]}
@@ -95,10 +112,10 @@ class Edits(unittest.TestCase):
         last = call("--list").stdout.rstrip("\n").split("\n")[len(self.edits):]
         self.assertEqual(last[0], "%d edits, %d of them tried on each change; %d more are in "
                          "must-fail/" % (len(self.edits), len(each), len(self.others)))
-        rows = [set(re.findall("`(%s)`" % loaded().NAME, it.rsplit("|", 2)[1]))
-                for it in text_of("docs", "PROVED.md").split("\n") if it.startswith("|")]
+        rows = [set(re.findall("`(%s)`" % loaded().NAME, it))
+                for it in text_of("docs", "GUARDS.md").split("\n- ")]
         names = {it.name for it in each + self.others}
-        self.assertEqual(last[1], "%d rows of docs/PROVED.md name edits, %d of them one that is "
+        self.assertEqual(last[1], "%d rows of docs/PROVED.md have edits, %d of them one that is "
                          "tried on each change" % (sum(1 for it in rows if it),
                                                    sum(1 for it in rows if it & names)))
 
@@ -133,7 +150,7 @@ class Reading(unittest.TestCase):
         with tempfile.TemporaryDirectory() as room:
             with open(os.path.join(room, name), "w", encoding="utf-8") as file:
                 file.write(text)
-            return loaded().read_edits(os.path.join(room, name), "low")
+            return loaded().read_guards(os.path.join(room, name), "low")
 
     def test_lines_of_an_edit(self):
         edits = self.read("# low\n\n" + HEAD + "# a reason\nold:  a\nnew:  b: c\nold: d\nnew:\n\n\n"
@@ -151,16 +168,28 @@ class Reading(unittest.TestCase):
         self.assertEqual((edit.name, edit.guards), ("lib-f-is-wrong", [{"f", "text"}]))
         self.assertEqual(edit.changes, [("src/lib.rt", "a", "b")])
 
+    def test_what_else_guards_a_row(self):
+        found = self.read("test: a_b\nguards: f, text\nguards: g\n\nrows: ARows\nguards: h\n\n"
+                          "noticed: a word: `b`\n# why\nguards: i\n")
+        self.assertEqual([(it.kind, it.text, it.guards) for it in found], [
+            ("test", "a_b", [{"f", "text"}, {"g"}]), ("rows", "ARows", [{"h"}]),
+            ("noticed", "a word: `b`", [{"i"}])])
+
     def test_what_cannot_be_read(self):
         pair = "an `old:` line is followed by its `new:` line"
+        incomplete = "each has a `guards:` line, and an edit changes something"
         for text, number, why in (
             (HEAD + "old: a\n", 5, pair),
             (HEAD + "old: a\n\nnew: b\n", 5, pair),
             (HEAD + "new: a\n", 4, pair),
             (HEAD + "old: a\nold: b\nnew: c\n", 5, pair),
-            (HEAD, 1, "an edit has a `guards:` line and changes something"),
-            ("edit: lib-f-is-wrong\nfile: a\nold: a\nnew: b\n", 1,
-             "an edit has a `guards:` line and changes something"),
+            (HEAD, 1, incomplete),
+            ("edit: lib-f-is-wrong\nfile: a\nold: a\nnew: b\n", 1, incomplete),
+            ("test: a_b\n", 1, incomplete),
+            ("test:\n", 1, "this line is out of place: test:"),
+            ("test: a_b\nfile: a\n", 2, "this line is out of place: file: a"),
+            ("noticed: a\ntried: on each change\n", 2,
+             "this line is out of place: tried: on each change"),
             ("edit: is wrong\n", 1, "a name is a file, a function and what is wrong"),
             ("guards: f\n", 1, "this line is out of place: guards: f"),
             (HEAD + "edit: lib-g\n", 4, "this line is out of place: edit: lib-g"),
@@ -175,47 +204,73 @@ class Reading(unittest.TestCase):
             self.assertTrue(str(raised.exception).endswith(": " + why), text)
 
 
-class Ledger(unittest.TestCase):
-    """The last column of docs/PROVED.md."""
+class Guards(unittest.TestCase):
+    """The page docs/GUARDS.md, from rows of a made ledger."""
 
-    TABLES = """| For all .. | Function | Clause | Noticed by |
-|---|---|---|---|
-| text | `put`, `g` | `text` (`Puts`) |%s|
-| line | `put` | `text` |%s|
+    LEDGER = """## `low`
 
-| Column | Noticed by |
-| `put`, `text` | a test |
+| What holds | Function: clause |
+|---|---|
+| text | `put`, `g`: `text` (`Puts`) |
+| line | `put`: `text` |
 
-| For all .. | Function and clause | Noticed by |
-|---|---|---|
-| last | `end` (`all`) |%s|
+| Words | Meaning |
+|---|---|
+| `put` | `text` |
+
+## `top`
+
+| What holds | Function: clause |
+|---|---|
+| last | `end` (`all of it`) |
+| never | `end`: `never` |
 """
 
-    def written(self, cells, *edits):
+    def page(self, *guards):
+        """The page from where the rows begin."""
         script, found = loaded(), []
-        for name, *guards in edits:
-            found.append(script.Edit("low", name, "low.edits:1"))
-            found[-1].guards = [frozenset(it.split(", ")) for it in guards]
-        return script.ledger_with(self.TABLES % cells, found)
+        for kind, name, *rows in guards:
+            found.append(script.Edit("low", name, "low.edits:1") if kind == "edit"
+                         else script.Notice("low", kind, name, "low.edits:1"))
+            found[-1].guards = [frozenset(it.split(", ")) for it in rows]
+        text = script.guards_page(self.LEDGER, found)
+        return text[text.index("## `low`"):]
 
-    def test_a_row_names_its_edits_before_what_is_written_by_hand(self):
-        old = (" `lib-put-old`, `lib-put-older`, test `t` ", " ", " `lib-end-c`; all tests ")
-        new = self.written(old, ("lib-put-b", "put, Puts", "put, text"), ("lib-put-a", "g, text"),
-                           ("lib-end-d", "end, all"))
-        self.assertEqual(new, self.TABLES % (
-            " `lib-put-a`, `lib-put-b`, test `t` ", " `lib-put-b` ", " `lib-end-d`; all tests "))
-        self.assertEqual(self.written(old), self.TABLES % (" test `t` ", " ", " all tests "))
+    def test_a_row_has_its_edits_and_then_the_rest(self):
+        page = self.page(
+            ("edit", "lib-put-b", "put, Puts", "put, text"), ("edit", "lib-put-a", "g, text"),
+            ("noticed", "all tests", "g, text"), ("rows", "PutRows", "Puts"),
+            ("test", "puts_b", "Puts"), ("test", "puts_a", "Puts"), ("test", "puts_a", "all of it"))
+        self.assertEqual(page, """## `low`
 
-    def test_what_is_written_by_hand_names_no_edit(self):
-        with self.assertRaises(Exception) as raised:
-            self.written((" the same, `lib-put-old` ", " ", " "))
-        self.assertEqual(str(raised.exception),
-                         "docs/PROVED.md:3: an edit comes after other words")
+- `put`, `g`: `text` (`Puts`)
+  - `lib-put-a`, `lib-put-b`
+  - tests `puts_a`, `puts_b`; worked rows `PutRows`; all tests
+- `put`: `text`
+  - `lib-put-b`
+
+## `top`
+
+- `end` (`all of it`)
+  - test `puts_a`
+
+No edit and no test is named for:
+
+- `end`: `never`
+""")
+
+    def test_its_lines_are_short_and_break_in_no_name(self):
+        names = ["lib-put-%s" % ("ab" * number) for number in range(1, 40)]
+        page = self.page(*(("edit", it, "put, text") for it in names))
+        self.assertLessEqual(max(map(len, page.split("\n"))), 100)
+        self.assertEqual(sorted(re.findall("`(lib-put-[a-b]+)`", page)), sorted(names))
+        lines = loaded().wrapped("`%s`, `a b`" % ("c" * 90), "")
+        self.assertEqual(lines, ["- `%s`," % ("c" * 90), "  `a b`"])
 
     def test_a_guard_names_one_row(self):
-        for guard, count in (("Puts, all", 0), ("text, put, other", 0), ("text", 2)):
+        for guard, count in (("Puts, all of it", 0), ("text, put, other", 0), ("end", 2)):
             with self.assertRaises(Exception) as raised:
-                self.written((" ", " ", " "), ("lib-put-a", guard))
+                self.page(("edit", "lib-put-a", guard))
             said = ", ".join(sorted(guard.split(", ")))
             self.assertEqual(str(raised.exception), "low.edits:1: %d rows of docs/PROVED.md have %s"
                              " as function and clause" % (count, said))
