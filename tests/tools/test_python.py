@@ -897,11 +897,6 @@ class Typed(unittest.TestCase):
             ran = run(["mypy", "--strict", "--cache-dir", cache, "gillspoon"], cwd=PACKAGE)
         self.assertEqual((ran.returncode, ran.stderr), (0, b""), ran.stdout)
 
-    def test_pyflakes(self):
-        need("pyflakes3")
-        ran = run(["pyflakes3", PACKAGE])
-        self.assertEqual((ran.returncode, ran.stdout), (0, b""))
-
     def test_examples_of_docstrings(self):
         names = ["gillspoon"] + ["gillspoon." + os.path.basename(it)[:-3]
                                  for it in glob.glob(PACKAGE + "/gillspoon/_[a-z]*.py")]

@@ -1,13 +1,17 @@
 #!/usr/bin/env python3
 """Tests of bin/unused."""
 import os
+import re
 import shutil
 import sys
 import tempfile
 import unittest
 
 sys.path.insert(0, os.path.dirname(os.path.realpath(__file__)))
-from programs import run
+from programs import ROOT, need, run
+
+# Names the files of the repository, new ones too.
+WORKING = ["git", "ls-files", "--cached", "--others", "--exclude-standard"]
 
 # A small repository in which everything is used.
 FILES = {
@@ -223,6 +227,22 @@ class MadeTree(unittest.TestCase):
         self.assertEqual(self.unused("--skip", "pgn_lexer"), [])
         ran = run([sys.executable, "bin/unused", "--root", self.folder, "--skip", "no_crate"])
         self.assertEqual(ran.returncode, 2)
+
+
+class Scripts(unittest.TestCase):
+    def test_pyflakes(self):
+        """No file of Python imports or assigns what it does not use."""
+        need("pyflakes3")
+        files = []
+        for name in run(WORKING).stdout.decode().split("\n")[:-1]:
+            if os.path.isfile(os.path.join(ROOT, name)):
+                with open(os.path.join(ROOT, name), "rb") as file:
+                    first = file.readline()
+                if name.endswith(".py") or re.match(rb"#!.*python3$", first):
+                    files.append(name)
+        self.assertGreater(len(files), 50)
+        ran = run(["pyflakes3", *files], cwd=ROOT)
+        self.assertEqual((ran.returncode, ran.stdout.decode()), (0, ""))
 
 
 if __name__ == "__main__":
