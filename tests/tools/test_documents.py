@@ -295,6 +295,16 @@ class Names(unittest.TestCase):
                 self.assertEqual(set(code_of(row[2])), files)
 
 
+class Written(unittest.TestCase):
+    """What a script writes is what its sources give."""
+
+    def test_each(self):
+        for words in (["bin/try_edits", "--guards"], ["bin/write_tables"], ["bin/write_vectors"]):
+            with self.subTest(words[0]):
+                ran = run([*words, "--check"])
+                self.assertEqual((ran.returncode, ran.stderr), (0, b""), ran.stdout.decode())
+
+
 class Length(unittest.TestCase):
     def test_lines(self):
         for document, most in MOST_LINES.items():
