@@ -97,7 +97,8 @@ class Page {
     this.begun = performance.now();
     this.showWork();
     this.worker.postMessage({
-      kind: "begin", module: this.moduleBytes, files: this.files,
+      kind: "begin", module: this.moduleBytes,
+      files: this.files.map(({ name, size }, index) => ({ index, name, size })),
       options: {
         mode: MODES[byId("mode").value], missingResult: MISSING_RESULTS[byId("missing").value],
       },
@@ -122,6 +123,18 @@ class Page {
   }
 
   // ---- What the worker tells
+
+  // Reads a part of a file for the worker. Not every browser lets the worker of a page that is on a
+  // disk read the files of that page.
+  async read({ index, begin, end }) {
+    const worker = this.worker;
+    try {
+      const bytes = await this.files[index].slice(begin, end).arrayBuffer();
+      worker.postMessage({ kind: "part", bytes }, [bytes]);
+    } catch (error) {
+      worker.postMessage({ kind: "part", refusal: error.name });
+    }
+  }
 
   progress({ file, done, length, games, bad }) {
     byId("work-bar").value = length ? done / length : 1;

@@ -20,6 +20,8 @@ let workTime = 0;
 // the part of the file that is being read, and the reading of the whole
 let part = null;
 let wholeFile = null;
+// takes the page's answer with that part
+let takePart = null;
 
 // Lets messages come in. A channel has no least delay, as setTimeout has.
 const channel = new MessageChannel();
@@ -43,6 +45,10 @@ const ANSWERS = {
     const begin = performance.now();
     conversion = new Conversion(await loadModule(message.module), message.options);
     await nextFile(begin);
+  },
+
+  part(message) {
+    takePart(message);
   },
 
   stop() {
@@ -107,10 +113,18 @@ async function nextFile(begin) {
 // Reads a file into the module's memory, while its games are converted.
 async function readFile(file) {
   for (let at = 0; at < file.size && !isStopped; at += PART) {
-    // a part of the file that has changed since it was chosen cannot be read
-    part = file.slice(at, at + PART).arrayBuffer();
+    part = readPart(file.index, at, at + PART);
     conversion.fill(at, new Uint8Array(await part));
   }
+}
+
+// Lets the page read a part of a file. A file that has changed since it was chosen cannot be read.
+function readPart(index, begin, end) {
+  return new Promise((resolve, reject) => {
+    takePart = ({ bytes, refusal }) =>
+      bytes ? resolve(bytes) : reject(Object.assign(new Error(), { name: refusal }));
+    postMessage({ kind: "read", index, begin, end });
+  });
 }
 
 async function convert(begin) {

@@ -225,8 +225,8 @@ class States(Case):
         self.assertEqual(
             self.text("proved"),
             "The module inside this page, as the Rattle toolchain wrote it, is proved for every "
-            "text, by the same clauses as the program. Its lowering to 32-bit memory and the "
-            "JavaScript of the page are tested.")
+            "text, by the same clauses as the library for C. Its lowering to 32-bit memory, which "
+            "optimizes it too, and the JavaScript of the page are tested.")
         self.assertQuiet()
 
     def test_converted(self):
@@ -412,6 +412,21 @@ class Large(Case):
         exported = run([need_program(), "export", self.archive]).stdout
         self.assertEqual(self.download("download")[1], exported)
 
+    def test_changed_file(self):
+        """A file that is another one by the time it is read again."""
+        self.archive = self.folder + "/changed.pgn"
+        with open(self.archive, "wb") as file:
+            file.write(b"1. e4 *\n")
+        self.page()
+        self.open_archive()
+        self.assertEqual(self.browser.wait_for(IS_SHOWN), "done")
+        with open(self.archive, "wb") as file:
+            file.write(b"1. e4 e5 *\n")
+        self.browser.run("delete document.getElementById('work').dataset.shown")
+        self.set("mode", "reduced")
+        self.assertEqual(self.browser.wait_for(IS_SHOWN), "failed")
+        self.assertEqual(self.text("work-text"), "changed.pgn cannot be read.")
+
     def test_no_memory(self):
         """A file that no memory of 32 bits holds."""
         self.archive = self.folder + "/sparse.pgn"
@@ -426,6 +441,21 @@ class Large(Case):
 
 
 class Rest(Case):
+    def test_worker_that_reads_no_file(self):
+        """A browser that lets the page alone read its files, as WebKit does with one on a disk."""
+        self.page()
+        self.browser.command("Page.addScriptToEvaluateOnNewDocument", source="""
+            const make = URL.createObjectURL, refusing = "Blob.prototype.arrayBuffer = " +
+              "async () => { throw new DOMException('no', 'NotReadableError'); };";
+            URL.createObjectURL = (it) => make.call(URL, it.type === "text/javascript"
+              ? new Blob([refusing, it], {type: it.type}) : it);""")
+        self.browser.open(need_page())
+        self.browser.wait_for(IS_READY)
+        self.assertEqual(self.convert(("annotated.pgn", example("annotated")),
+                                      ("two.pgn", example("two-games"))), "done")
+        self.assertEqual(self.text("counts"), "3 games, 7 plies.")
+        self.assertIn(b"Qxf7#", self.download("download")[1])
+
     def test_any_bytes(self):
         """Latin-1 is shown as such, and the bytes stay."""
         self.page()
@@ -453,6 +483,26 @@ class Rest(Case):
         self.browser.wait_for(IS_SHOWN)
         self.assertEqual(self.text("counts"), "2 games, 3 plies.")
         self.assertIn("{ é }".encode(), self.download("download")[1])
+
+    def test_copy(self):
+        """The clipboard gets the whole export, and the page says so if it may not."""
+        self.page()
+        self.browser.command("Browser.grantPermissions",
+                             permissions=["clipboardReadWrite", "clipboardSanitizedWrite"])
+        self.convert(("annotated.pgn", example("annotated")), ("latin.pgn", b"e4 {caf\xe9} *"))
+        self.browser.run(CLICK, "copy")
+        self.browser.wait_for("return document.getElementById('copied').textContent")
+        self.assertEqual(self.text("copied"), "Copied, as characters. The download has the bytes.")
+        found = self.browser.await_script("return navigator.clipboard.readText()")
+        text = self.download("download")[1]
+        self.assertIn(b"{ caf\xe9 }", text)
+        self.assertEqual(found, {"value": text.decode("latin-1")})
+        self.browser.run("navigator.clipboard.writeText = () => Promise.reject(new Error('no'))")
+        self.browser.run(CLICK, "copy")
+        self.browser.wait_for("return !document.getElementById('copied').textContent"
+                              ".startsWith('Copied')")
+        self.assertEqual(self.text("copied"),
+                         "The browser does not let the page copy. Use the download.")
 
     def test_reduced(self):
         """The other format converts the same files again."""
