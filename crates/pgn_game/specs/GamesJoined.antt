@@ -25,12 +25,13 @@ pub data TakesGames (left before : Option (List ℕ)) (first : Games) : List Fin
       → ReadsNext old new (Ok true) source sink → new.converter.just_finished ≡ Some game
       → TakesGames left before first (taken ++ game ∷ []) new source.after sink.after
 
--- The source has given the bytes `read` so far. The games taken are those of the tokens read, and
--- their export text is written, and nothing else.
+-- The source has given the bytes `read` so far. The tokens read are the first ones of its text. The
+-- games taken are those of the tokens read, and their export text is written, and nothing else.
 pub record TookGames (p : Profile) (left left_new : Option (List ℕ)) (taken : List FinishedGame) (before after : Option (List ℕ)) : Type 0 where
   pub bytes : List ℕ
   pub consumed : Consumes left left_new bytes
   pub tokens : List Token
+  pub of_text : IfSome left (λ s. (later : List Token) × (tokens_of s ≡ tokens ++ later))
   pub games : taken ≡ map finished_game_of (games_read p tokens)
   pub written : Appends before after (text_of p (games_read p tokens))
 

@@ -1,19 +1,24 @@
 -- Calls of `next` one after another.
 use Rattle.std.proofs.Common.{◌≡◌, ℕ, ◌∷◌, ◌++◌, true, false, List, [], length, map, sum, Option, None, Some, Ok, Err, refl, sym, ap, subst, ◌∙◌}
 use Rattle.std.proofs.KnownBytes.{Consumes-nil, Consumes-trans}
-use Rattle.std.proofs.lemmas.List.{map-append, length-map}
-use Rattle.std.specs.Io.KnownBytes.{Appends}
+use Rattle.std.proofs.lemmas.List.{append_assoc, append-nil, map-append, length-map}
+use Rattle.std.specs.Io.KnownBytes.{Appends, Consumes}
+use Rattle.std.specs.Prelude.{IfSome}
+use Rattle.pgn_lexer.specs.Standing.{coming}
+use Rattle.pgn_lexer.specs.Stands.{Follows, first}
+use Rattle.pgn_lexer.specs.Tokens.{Token}
 use Rattle.pgn_lexer.specs.TokensOf.{tokens_of}
 use Rattle.pgn_game.proofs.Words.{Profile, Game}
 use Rattle.pgn_game.specs.Levels.{plies_of}
 use Rattle.pgn_game.specs.Progress.{read, totals}
 use Rattle.pgn_game.specs.ConverterCalls.{FinishedGame, finished_game_of}
+use Rattle.pgn_game.specs.GamesCalls as calls
 use Rattle.pgn_game.specs.GamesCalls.{Games, HaveRead, ReadSoFar, NextGame}
 use Rattle.pgn_game.specs.GamesRestart.{games_read}
 use Rattle.pgn_game.specs.GamesJoined as joined
 use Rattle.pgn_game.specs.GamesJoined.{TakesGames, GamesJoin}
 use Rattle.pgn_game.proofs.tokens.OneMoreToken.{gains_none, gains_more}
-use Rattle.pgn_game.proofs.tokens.WholeInput.{games_stop, verdict_passes, appended, known_whole}
+use Rattle.pgn_game.proofs.tokens.WholeInput.{games_stop, verdict_passes, appended, known_left, known_whole}
 
 abbrev finished : List Game → List FinishedGame
 finished games = map finished_game_of games
@@ -25,6 +30,23 @@ same_game o x y e f = ap (λ (q : Option FinishedGame). elim q [ None ↦ x | So
 plies_taken : (games : List Game) → map (λ (game : FinishedGame). game.plies) (finished games) ≡ map plies_of games
 plies_taken [] = refl
 plies_taken (g ∷ games) = ap (λ l. plies_of g ∷ l) (plies_taken games)
+
+-- a piece begins with its first byte
+begins_with : (piece rest : List ℕ) → Follows (first piece) (piece ++ rest)
+begins_with [] rest = tt
+begins_with (b ∷ piece) rest = refl
+
+-- the tokens read are the first ones of the text that the source had
+first_of_text : (p : Profile) (left left_new : Option (List ℕ)) (u : List ℕ) (now : Games) (given : List Token)
+    → Consumes left left_new u → HaveRead p left_new u now given → IfSome left (λ s. (later : List Token) × (tokens_of s ≡ given ++ later))
+first_of_text p left left_new u now given consumed (calls.within on) =
+    known_left left left_new u (λ s. (later : List Token) × (tokens_of s ≡ given ++ later)) consumed (λ rest.
+        (coming now.converter.lexer (now.unused ++ rest),
+        ap (λ l. tokens_of (l ++ rest)) on.bytes ∙ ap tokens_of (append_assoc on.used now.unused rest)
+        ∙ on.stands.lexer.tokens (now.unused ++ rest) (begins_with now.unused rest)))
+first_of_text p left left_new u now given consumed (calls.at_end all) =
+    known_whole left left_new u (λ s. (later : List Token) × (tokens_of s ≡ given ++ later)) consumed all.at_end
+    ([], sym all.whole ∙ sym (append-nil given))
 
 -- what was read and written so far; the games taken are those read
 record SoFar (p : Profile) (left before : Option (List ℕ)) (taken : List FinishedGame) (now : Games) (left_now after : Option (List ℕ)) : Type 0 where
@@ -72,6 +94,8 @@ games_join p left before first old new taken (Ok true) source sink begins calls 
       bytes = so.reads.bytes ++ next.more;
       consumed = Consumes-trans left source.before source.after so.reads.bytes next.more so.reads.consumed next.consumed;
       tokens = next.tokens;
+      of_text = first_of_text p left source.after (so.reads.bytes ++ next.more) new next.tokens
+          (Consumes-trans left source.before source.after so.reads.bytes next.more so.reads.consumed next.consumed) next.have_read;
       games = taken_more p left source.before source.after before sink.before sink.after taken game old new so next e;
       written = subst (Appends before sink.after) next.whole
           (appended p next.tokens before sink.after (gains_more p [] so.reads.tokens next.tokens before sink.before sink.after so.reads.gains next.gains));
