@@ -264,15 +264,22 @@ class Names(unittest.TestCase):
         for name in ("chess_rules", "chess_text", "pgn_layout", "pgn_lexer", "pgn_game"):
             self.assertIn(" ".join([name + ":", *USES[name]]), lines)
 
-    def test_files_of_a_crate(self):
-        for row in table("docs/ARCHITECTURE.md", "Crate", "Its files in `src/`"):
-            crate = code_of(row[0])[0]
+    def test_rooms_of_a_crate(self):
+        """The tables of rooms have each file of src/ that is no test, and no other."""
+        rooms, crate, is_in_table = {it: set() for it in USES}, None, False
+        for line in lines_of("docs/ARCHITECTURE.md"):
+            if line.startswith("## "):
+                crate = next((it for it in code_of(line) if it in USES), None)
+            is_in_table = line.startswith("|") and (is_in_table or line.startswith("| Room |"))
+            if is_in_table and crate:
+                rooms[crate].update(code_of(line.split(" | ")[0]))
+        for crate, names in rooms.items():
             with self.subTest(crate):
                 folder = "%s/crates/%s/src" % (ROOT, crate)
                 files = {it[:-3] for it in glob.glob("*.rt", root_dir=folder)}
                 with open("%s/%s.rt" % (folder, "lib" if "lib" in files else "main")) as root:
                     of_tests = re.findall(r"#\[cfg\(test\)\]\s+mod (\w+);", root.read())
-                self.assertEqual(files - {"lib", *of_tests, *code_of(row[1])}, set())
+                self.assertEqual(files - {"lib", *of_tests}, names)
 
     def test_a_file_of_specs_is_a_definition_or_bookkeeping(self):
         paths = glob.glob(ROOT + "/crates/*/specs/**/*.antt", recursive=True)
@@ -283,16 +290,6 @@ class Names(unittest.TestCase):
             if os.path.basename(path) != "Lib.antt":
                 with self.subTest(os.path.relpath(path, ROOT)):
                     self.assertRegex(first, r"^-- \*\*(Definition|Bookkeeping)\*\*")
-
-    def test_files_of_proofs(self):
-        folder = ROOT + "/crates/pgn_game/proofs"
-        for row in table("docs/ARCHITECTURE.md", "Folder of `proofs/`"):
-            name = "".join(code_of(row[0]))
-            files = {it[:-5] for it in glob.glob("*.antt", root_dir=os.path.join(folder, name))}
-            if not name:
-                files -= {"Lib", *(it for it in files if os.path.isdir(os.path.join(folder, it)))}
-            with self.subTest(name):
-                self.assertEqual(set(code_of(row[2])), files)
 
 
 class Written(unittest.TestCase):
