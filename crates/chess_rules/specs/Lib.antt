@@ -12,6 +12,6 @@ pub mod Legal
 pub mod Candidate
 pub mod Laws
 pub mod Reach
-pub mod Plain
+pub mod StepKinds
 pub mod StoredPosition
 pub mod Pairs

@@ -84,16 +84,6 @@ pub(crate) fn piece_attacks(
     }
 }
 
-// Whether the piece on `from`, if there is one, attacks `to`.
-pub(crate) fn attacks(board: &Board, from: Square, to: Square) -> bool
-    ensures { result ≡ spec.attacks board.now from to }
-{
-    match board.at(from) {
-        None => false,
-        Some(piece) => piece_attacks(board, piece.kind, piece.colour, from, to),
-    }
-}
-
 // Whether the piece on `from`, if there is one, attacks `to` if all squares between are empty.
 //
 // From most squares no piece attacks it: these need no look at the board.

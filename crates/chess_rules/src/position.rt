@@ -5,7 +5,7 @@ ghost use Rattle.chess_rules.specs.Board.{at, other};
 ghost use Rattle.chess_rules.specs.Attacks.{king_attacked};
 ghost use Rattle.chess_rules.specs.Position as spec;
 ghost use Rattle.chess_rules.specs.Step as step;
-ghost use Rattle.chess_rules.specs.Plain.{is_plain as plain_step};
+ghost use Rattle.chess_rules.specs.StepKinds.{kind as step_kind};
 ghost use Rattle.chess_rules.specs.Legal.{legal, is_legal, is_check};
 ghost use Rattle.chess_rules.specs.Reach.{king_square as king_square_of};
 ghost use Rattle.chess_rules.specs.Reach as reach;
@@ -17,7 +17,7 @@ use crate::geometry::sees;
 use crate::piece::{Colour, Kind, Piece, Promotion};
 use crate::square::Square;
 use crate::squares::Squares;
-use crate::step::{board_after, board_to_test, crossed, is_double_step, is_plain};
+use crate::step::{StepKind, board_after, crossed, is_double_step};
 use std::marker::Model;
 
 /// A move: its origin, its target and what a pawn becomes.
@@ -234,32 +234,37 @@ impl Position {
 
     // Whether the step, which leaves that board, attacks the other king.
     //
-    // A step that carries one piece attacks it by that piece, or along the line that it leaves.
-    fn gives_check(&self, mv: &Move, plain: bool, board: &Board) -> bool
-        requires plain { plain ≡ plain_step self.now mv.now }
+    // A plain step attacks it by the piece that it moves, or along the line that this leaves.
+    fn gives_check(&self, mv: &Move, kind: StepKind, board: &Board) -> bool
+        requires kind { kind ≡ step_kind self.now mv.now }
         requires on_board { IsTrue (step.is_on_board mv.now) }
         requires step { step.board_after self.now mv.now ≡ Some board.now }
         ensures { result ≡ king_attacked board.now (other self.now.side) }
     {
         let king = self.king_of(self.side.other());
-        if plain && !sees(mv.from, king) && !may_attack(board, mv.to, king) {
+        if matches!(kind, StepKind::Plain)
+            && !sees(mv.from, king)
+            && !may_attack(board, mv.to, king)
+        {
             return false;
         }
         is_attacked(board, self.side, king_after(king, mv))
     }
 
     // Whether the king of the side to move is safe after its step.
-    pub(crate) fn is_safe_after(&self, mv: &Move) -> bool
+    pub(crate) fn is_safe_after(&self, mv: &Move, kind: StepKind) -> bool
+        requires kind { kind ≡ step_kind self.now mv.now }
         requires on_board { IsTrue (step.is_on_board mv.now) }
         requires step { IsTrue (is_some (step.board_after self.now mv.now)) }
         ensures { result ≡ is_legal self.now mv.now }
     {
-        self.keeps_line(mv) || self.is_safe_on_board(mv)
+        self.keeps_line(mv, kind) || self.is_safe_on_board(mv, kind)
     }
 
     // Whether a quick test shows that the step leaves the king safe: the king is not attacked and
     // does not move, and the step opens no line to it, or no rook, bishop or queen is on its lines.
-    fn keeps_line(&self, mv: &Move) -> bool
+    fn keeps_line(&self, mv: &Move, kind: StepKind) -> bool
+        requires kind { kind ≡ step_kind self.now mv.now }
         requires on_board { IsTrue (step.is_on_board mv.now) }
         requires step { IsTrue (is_some (step.board_after self.now mv.now)) }
         ensures { result ≡ true → is_legal self.now mv.now ≡ true }
@@ -271,7 +276,7 @@ impl Position {
         if mv.from.is(king) {
             return false;
         }
-        if !is_plain(self, mv) {
+        if !matches!(kind, StepKind::Plain) {
             return false;
         }
         if !sees(mv.from, king) {
@@ -282,26 +287,27 @@ impl Position {
 
     // Whether the king of the side to move is safe on the board after its step.
     #[inline(never)]
-    fn is_safe_on_board(&self, mv: &Move) -> bool
+    fn is_safe_on_board(&self, mv: &Move, kind: StepKind) -> bool
+        requires kind { kind ≡ step_kind self.now mv.now }
         requires on_board { IsTrue (step.is_on_board mv.now) }
         requires step { IsTrue (is_some (step.board_after self.now mv.now)) }
         ensures { result ≡ is_legal self.now mv.now }
     {
         let king = self.king();
-        let board = board_to_test(self, mv);
+        let board = board_after(self, mv, kind);
         !is_attacked(&board, self.side.other(), king_after(king, mv))
     }
 
     // The position after a legal move.
     #[inline(always)]
-    pub(crate) fn after(&self, mv: &Move) -> Position
+    pub(crate) fn after(&self, mv: &Move, kind: StepKind) -> Position
+        requires kind { kind ≡ step_kind self.now mv.now }
         requires on_board { IsTrue (step.is_on_board mv.now) }
         requires legal { IsTrue (is_legal self.now mv.now) }
         ensures { Some result ≡ legal self.now mv.now }
     {
-        let plain = is_plain(self, mv);
-        let board = board_after(self, mv, plain);
-        let checked = self.gives_check(mv, plain, &board);
+        let board = board_after(self, mv, kind);
+        let checked = self.gives_check(mv, kind, &board);
         Position {
             board,
             side: self.side.other(),

@@ -1,8 +1,10 @@
-use Rattle.std.proofs.Common.{◌≡◌, true, sym, ◌∙◌, ap, subst}
+use Rattle.std.proofs.Common.{◌≡◌, true, sym, ◌∙◌, ap, subst, arith}
 use Rattle.chess_rules.specs.declared.position.Parts.{Parts}
 use Rattle.chess_rules.specs.Board.{other}
 use Rattle.chess_rules.specs.Attacks.{is_attacked}
 use Rattle.chess_rules.specs.Position.{is_position}
+use Rattle.chess_rules.specs.StepKinds.{kind}
+use Rattle.chess_rules.specs.declared.step.StepKind.TheVariants.{Plain}
 use Rattle.chess_rules.specs.Reach.{king_square, king_after}
 use Rattle.chess_rules.proofs.moves.LegalToPosition.{check_is_seen}
 use Rattle.chess_rules.proofs.moves.PlainStepAttacks.{no_check_when_plain}
@@ -18,7 +20,8 @@ returns c =
 
 pub returns-then-not-may_attack : goal.returns-then-not-may_attack
 returns-then-not-may_attack c =
+    let plain : kind c.args.self.now c.args.mv.now ≡ Plain = grind arith in
     sym (no_check_when_plain c.args.self.now c.args.mv.now c.args.board.now c.king_of-king.result
-    (subst (λ (q : Parts). is_position q ≡ true) c.self.view_is c.self.invariant.position) c.requires.on_board c.requires.step (sym c.requires.plain ∙ c.if-plain.true)
+    (subst (λ (q : Parts). is_position q ≡ true) c.self.view_is c.self.invariant.position) c.requires.on_board c.requires.step plain
     (c.king_of-king.ensures ∙ ap (λ d. king_square d c.args.self.now.board) (c.other.ensures ∙ ap (λ p. other p.side) c.self.view_is))
     (sym c.sees.ensures ∙ c.if-not-sees.true) (c.may_attack.ensures (c.if-not-may_attack.true)))
