@@ -149,14 +149,13 @@ pub(crate) fn is_attacked(board: &Board, by: Colour, target: Square) -> bool
     !(others & (pieces_in_view(board, target) | knights_to(target))).is_empty()
 }
 
-// Whether the colour's one king, on that square, is attacked.
-pub(crate) fn is_king_attacked(board: &Board, colour: Colour, king: Square) -> bool
-    requires one { IsTrue (one_king board.now colour) }
-    requires there { king ≡ reach.king_square colour board.now }
+// Whether the colour's one king is attacked.
+pub(crate) fn is_king_attacked(board: &Board, colour: Colour) -> bool
+    requires { IsTrue (one_king board.now colour) }
     ensures { result ≡ spec.king_attacked board.now colour }
 {
     board.recall_invariant();
-    is_attacked(board, colour.other(), king)
+    is_attacked(board, colour.other(), board.king(colour))
 }
 
 // The squares of the pieces of the colour that attack the target, and those between the target and

@@ -1,8 +1,8 @@
 //! The board: the piece on each of the 64 squares, in four words.
 
-ghost use Rattle.std.specs.Prelude.{◌≡◌, is_some, length};
+ghost use Rattle.std.specs.Prelude.{◌≡◌, IsTrue, is_some, length};
 ghost use Rattle.chess_rules.specs.Board as spec;
-ghost use Rattle.chess_rules.specs.Position.{initial_board};
+ghost use Rattle.chess_rules.specs.Position.{initial_board, one_king};
 ghost use Rattle.chess_rules.specs.Reach as reach;
 ghost use Rattle.chess_rules.specs.Words as words;
 ghost use Rattle.chess_rules.specs.Words.{Marks};
@@ -165,6 +165,18 @@ impl Board {
         ensures { Marks result (spec.has_piece colour kind) self.now }
     {
         self.of_kind(kind) & chosen(self.black, is_black(colour))
+    }
+
+    // The square of the colour's one king.
+    pub(crate) fn king(&self, colour: Colour) -> Square
+        requires { IsTrue (one_king self.now colour) }
+        ensures { result ≡ reach.king_square colour self.now }
+    {
+        self.recall_invariant();
+        match self.pieces(colour, Kind::King).lowest() {
+            None => Square::nth(0),
+            Some(king) => king,
+        }
     }
 
     pub(crate) fn at(&self, square: Square) -> Option<Piece>

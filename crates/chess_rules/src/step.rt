@@ -293,9 +293,9 @@ fn move_rook(position: &Position, wing: Wing, board: &mut Board)
 fn king_goes_far(position: &Position, mv: &Move) -> bool
     ensures { result ≡ kinds.king_goes_far position.now mv.now }
 {
-    position.recall_invariant();
-    mv.from.recall_invariant();
-    mv.from.is(position.king()) && mv.from.file().abs_diff(mv.to.file()) > 1
+    let board = position.board();
+    board.has_piece(mv.from, position.side(), Kind::King)
+        && mv.from.file().abs_diff(mv.to.file()) > 1
 }
 
 // Whether a pawn goes to the en passant target, which is empty, and leaves its file.

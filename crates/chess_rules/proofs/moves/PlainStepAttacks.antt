@@ -16,7 +16,7 @@ use Rattle.chess_rules.specs.Attacks.{attacks, cell_attacks, is_attacked, is_cle
 use Rattle.chess_rules.specs.Position.{is_position}
 use Rattle.chess_rules.specs.Step.{is_piece_step, is_pawn_step, is_on_board, promoted, carried, board_after, after}
 use Rattle.chess_rules.specs.Legal.{legal, if_safe, is_legal, is_check}
-use Rattle.chess_rules.specs.Reach.{is_aligned, king_square, king_after, slides, slides_with}
+use Rattle.chess_rules.specs.Reach.{is_aligned, king_square, slides, slides_with}
 use Rattle.chess_rules.specs.declared.step.StepKind.TheVariants.{Plain}
 use Rattle.chess_rules.specs.StepKinds.{kind}
 use Rattle.chess_rules.proofs.sets.AllSquares.{first_true, second_true, each_square, all_squares, Passes, some_square, any_square, not_true, implied}
@@ -27,7 +27,7 @@ use Rattle.chess_rules.proofs.positions.RulesOfPosition.{Sound, sound_from_posit
 use Rattle.chess_rules.proofs.moves.BoardAfterMove.{arriving}
 use Rattle.chess_rules.proofs.moves.StepsKeepBoard.{other-other, colour_of_piece, not_both}
 use Rattle.chess_rules.proofs.moves.KindsOfSteps.{obeys, board_of, OfKind, step_of_kind}
-use Rattle.chess_rules.proofs.moves.LegalToPosition.{on_board_means, legal_unless_attacked, check_is_seen}
+use Rattle.chess_rules.proofs.moves.LegalToPosition.{on_board_means, king_stays, king_seen, legal_unless_attacked}
 
 -- A square between two lies on a line with the second.
 
@@ -145,17 +145,15 @@ arriving_own c q cell h = grind arith
 not_other : (c : Colour) (cell : Option Piece) → has_colour c cell ≡ true → has_colour (other c) cell ≡ false
 not_other c cell h = grind arith
 
-king_waits : (m : Move) (k : Square) → same_square m.from k ≡ false → king_after k m ≡ k
-king_waits m k apart = grind arith
-
 -- the king that stays is safe, if it was not attacked and sees no square that is left
 pub safe_when_plain : (p : Parts) (m : Move) (b : Board) (k : Square) → is_position p ≡ true → is_on_board m ≡ true → board_after p m ≡ Some b → kind p m ≡ Plain
     → k ≡ king_square p.side p.board → is_check p ≡ false → same_square m.from k ≡ false
     → (is_aligned m.from k ≡ false) ⊎ (list_any (slides p.board (other p.side) k) squares ≡ false) → is_legal p m ≡ true
 safe_when_plain p m b k position on h plain is calm_before apart unseen =
-    sym (legal_unless_attacked p m b (other p.side) (king_after (king_square p.side p.board) m) false position on h refl refl
-    (sym (ap (is_attacked b (other p.side)) (ap (λ s. king_after s m) (sym is) ∙ king_waits m k apart)
-    ∙ (ap (λ a. is_attacked a (other p.side) k) (sym step.board) ∙ quiet))))
+    sym (legal_unless_attacked p m b false on h
+    (sym (king_seen p m b p.side position on h
+    ∙ (ap (is_attacked b (other p.side)) (sym (is ∙ king_stays p m b p.side sound on h (subst (λ (s : Square). same_square m.from s ≡ false) is apart)))
+    ∙ (ap (λ a. is_attacked a (other p.side) k) (sym step.board) ∙ quiet)))))
   where
     sound : Sound p
     sound = sound_from_position p position
@@ -181,13 +179,18 @@ safe_when_plain p m b k position on h plain is calm_before apart unseen =
         (none_or_all p.side (arriving p m) arrives) unseen
         (ap (λ x. x && attacks (carried p m) m.to k) (not_other p.side (arriving p m) arrives)) before
 
+-- whether the step gives check, seen from the other king
+pub check_is_seen : (p : Parts) (m : Move) (b : Board) (k : Square) → is_position p ≡ true → is_on_board m ≡ true → board_after p m ≡ Some b
+    → k ≡ king_square (other p.side) b → king_attacked b (other p.side) ≡ is_attacked b p.side k
+check_is_seen p m b k position on h is =
+    king_seen p m b (other p.side) position on h ∙ ap₂ (λ c s. is_attacked b c s) (other-other p.side) (sym is)
+
 -- the other king is not attacked, if the piece that arrives does not attack it, and it sees no
 -- square that is left
 pub no_check_when_plain : (p : Parts) (m : Move) (b : Board) (k : Square) → is_position p ≡ true → is_on_board m ≡ true → board_after p m ≡ Some b → kind p m ≡ Plain
-    → k ≡ king_square (other p.side) p.board → is_aligned m.from k ≡ false → attacks b m.to k ≡ false → king_attacked b (other p.side) ≡ false
+    → k ≡ king_square (other p.side) b → is_aligned m.from k ≡ false → attacks b m.to k ≡ false → king_attacked b (other p.side) ≡ false
 no_check_when_plain p m b k position on h plain is unseen harmless =
-    check_is_seen p m b k position on h (is ∙ sym (king_waits m (king_square (other p.side) p.board) (subst (λ (s : Square). same_square m.from s ≡ false) is apart)))
-    ∙ (ap (λ a. is_attacked a p.side k) (sym step.board) ∙ quiet)
+    check_is_seen p m b k position on h is ∙ (ap (λ a. is_attacked a p.side k) (sym step.board) ∙ quiet)
   where
     sound : Sound p
     sound = sound_from_position p position
@@ -198,16 +201,19 @@ no_check_when_plain p m b k position on h plain is unseen harmless =
     stands : StandsAt (other p.side) p.board (king_square (other p.side) p.board)
     stands = king_stands (other p.side) p.board sound.long (sound.kings_of (other p.side))
 
-    stands_k : StandsAt (other p.side) p.board k
-    stands_k = subst (λ (s : Square). StandsAt (other p.side) p.board s) (sym is) stands
+    apart : same_square m.from (king_square (other p.side) p.board) ≡ false
+    apart = false_from_ne_true (same_square m.from (king_square (other p.side) p.board)) (λ same. not_both p.side (at p.board (king_square (other p.side) p.board))
+        (subst (λ (s : Square). has_colour p.side (at p.board s) ≡ true) (squares_same m.from (king_square (other p.side) p.board) same) step.own)
+        (colour_of_piece (other p.side) King (at p.board (king_square (other p.side) p.board)) stands.king))
 
-    apart : same_square m.from k ≡ false
-    apart = false_from_ne_true (same_square m.from k) (λ same. not_both p.side (at p.board k)
-        (subst (λ (s : Square). has_colour p.side (at p.board s) ≡ true) (squares_same m.from k same) step.own)
-        (colour_of_piece (other p.side) King (at p.board k) stands_k.king))
+    was : k ≡ king_square (other p.side) p.board
+    was = is ∙ sym (king_stays p m b (other p.side) sound on h apart)
+
+    stands_k : StandsAt (other p.side) p.board k
+    stands_k = subst (λ (s : Square). StandsAt (other p.side) p.board s) (sym was) stands
 
     before : is_attacked p.board p.side k ≡ false
-    before = ap₂ (λ c s. is_attacked p.board c s) (sym (other-other p.side)) is ∙ (sym (king_attacked_there (other p.side) p.board sound.long (sound.kings_of (other p.side))) ∙ sound.safe)
+    before = ap₂ (λ c s. is_attacked p.board c s) (sym (other-other p.side)) was ∙ (sym (king_attacked_there (other p.side) p.board sound.long (sound.kings_of (other p.side))) ∙ sound.safe)
 
     arrives : has_colour p.side (arriving p m) ≡ true
     arrives = arriving_own p.side m.promotion (at p.board m.from) step.own
