@@ -1,5 +1,7 @@
 -- **Bookkeeping**: which kind of step a move is, if it is one. No rule of play rests on it.
-use Rattle.std.specs.Prelude.{Bool, ◌&&◌, not, nat_lt, ◌==◌, if◌then◌else◌}
+use Rattle.std.specs.Prelude.{ℕ, ◌-◌, Bool, ◌&&◌, not, nat_lt, ◌==◌, if◌then◌else◌}
+use Rattle.chess_rules.specs.declared.piece.Colour.{Colour}
+use Rattle.chess_rules.specs.declared.piece.Colour.TheVariants.{White, Black}
 use Rattle.chess_rules.specs.declared.piece.Kind.TheVariants.{King, Pawn}
 use Rattle.chess_rules.specs.declared.position.Move.{Move}
 use Rattle.chess_rules.specs.declared.position.Parts.{Parts}
@@ -23,3 +25,8 @@ kind p m =
     if king_goes_far p m then (if m.to.file == 6 then ShortCastling else LongCastling)
     else if pawn_passes p m then EnPassant
     else Plain
+
+-- a rank, counted from the colour's home rank
+abbrev pub rank_from : Colour → ℕ → ℕ
+rank_from White rank = rank
+rank_from Black rank = 7 - rank

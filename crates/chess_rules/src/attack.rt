@@ -102,19 +102,12 @@ pub(crate) fn may_attack(board: &Board, from: Square, to: Square) -> bool
 
 // The rooks, bishops and queens of the colour that would attack the target if all squares between
 // were empty.
-fn sliders(board: &Board, by: Colour, target: Square) -> Squares
+pub(crate) fn sliders(board: &Board, by: Colour, target: Square) -> Squares
     ensures { Places result (reach.slides board.now by target) }
 {
     (lines(target) & (board.of_kind(Kind::Rook) | board.of_kind(Kind::Queen))
         | diagonals(target) & (board.of_kind(Kind::Bishop) | board.of_kind(Kind::Queen)))
         & board.of_colour(by)
-}
-
-// Whether there is one of these.
-pub(crate) fn has_sliders(board: &Board, by: Colour, target: Square) -> bool
-    ensures { result ≡ list_any (reach.slides board.now by target) squares }
-{
-    !sliders(board, by, target).is_empty()
 }
 
 // All pieces of the colour that would attack the target if all squares between were empty.

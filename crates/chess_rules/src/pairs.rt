@@ -14,14 +14,14 @@ use crate::position::{Move, Position};
 use crate::probes::Probes;
 use crate::square::Square;
 use crate::squares::Squares;
-use crate::step::last_rank;
+use crate::step::rank_from;
 
 // What a pawn becomes if the pair is tried: all four promotions are legal, or none.
 fn one_promotion(position: &Position, from: Square, to: Square) -> Option<Promotion>
     ensures { result ≡ spec.one_promotion position.now from to }
 {
     let side = position.side();
-    if to.rank() == last_rank(side) && position.board().has_piece(from, side, Kind::Pawn) {
+    if to.rank() == rank_from(side, 7) && position.board().has_piece(from, side, Kind::Pawn) {
         Some(Promotion::Queen)
     } else {
         None

@@ -10,7 +10,7 @@ ghost use Rattle.chess_rules.specs.StepKinds.{kind as step_kind};
 ghost use Rattle.chess_rules.specs.Legal.{legal, is_legal, is_check};
 ghost use Rattle.chess_rules.specs.Reach.{king_square as king_square_of};
 
-use crate::attack::{has_sliders, is_attacked, is_king_attacked, may_attack};
+use crate::attack::{is_attacked, is_king_attacked, may_attack, sliders};
 use crate::board::Board;
 use crate::geometry::sees;
 use crate::piece::{Colour, Kind, Piece, Promotion};
@@ -264,7 +264,7 @@ impl Position {
         if !sees(mv.from, king) {
             return true;
         }
-        !has_sliders(&self.board, self.side.other(), king)
+        sliders(&self.board, self.side.other(), king).is_empty()
     }
 
     // Whether the king of the side to move is safe on the board after its step.

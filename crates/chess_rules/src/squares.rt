@@ -73,22 +73,6 @@ fn bit_of(square: Square) -> u64
     1 << square.index()
 }
 
-// The square of the lowest bit that is set.
-fn lowest(bits: u64) -> Square
-    requires { 0 < bits }
-    ensures { IsFirst bits result }
-{
-    Square::nth(bits.trailing_zeros() as usize)
-}
-
-// The square of the highest bit that is set.
-fn highest(bits: u64) -> Square
-    requires { 0 < bits }
-    ensures { IsHighest bits (cell_of result) }
-{
-    Square::nth(63 - bits.leading_zeros() as usize)
-}
-
 impl Squares {
     // The set with these bits.
     #[inline(always)]
@@ -163,7 +147,7 @@ impl Squares {
         if self.bits == 0 {
             return None;
         }
-        Some(lowest(self.bits))
+        Some(Square::nth(self.bits.trailing_zeros() as usize))
     }
 
     // The first square alone; none of a set that has none.
@@ -185,9 +169,8 @@ impl Squares {
         if self.bits == 0 {
             return Squares { bits: 0 };
         }
-        Squares {
-            bits: bit_of(highest(self.bits)),
-        }
+        let last = Square::nth(63 - self.bits.leading_zeros() as usize);
+        Squares { bits: bit_of(last) }
     }
 
     // Takes the first square out of the set, if it has one. Repeated, it goes through all in order.

@@ -47,30 +47,16 @@ const LONG_WING: Wing = Wing {
     crossing: 3,
 };
 
-fn home_rank(colour: Colour) -> u8
-    ensures value { result ≡ spec.home_rank colour }
+// A rank, counted from 0 at the colour's home rank.
+pub(crate) fn rank_from(colour: Colour, rank: u8) -> u8
+    requires { rank < 8 }
+    ensures value { result ≡ kinds.rank_from colour rank }
     ensures below { result < 8 }
 {
     match colour {
-        Colour::White => 0,
-        Colour::Black => 7,
+        Colour::White => rank,
+        Colour::Black => 7 - rank,
     }
-}
-
-// The rank on which the colour's pawns are promoted.
-pub(crate) fn last_rank(colour: Colour) -> u8
-    ensures { result ≡ spec.last_rank colour }
-{
-    home_rank(colour.other())
-}
-
-// Whether a pawn of the side to move may go one square forward. (FIDE Laws 3.7.1)
-fn is_advance(position: &Position, mv: &Move) -> bool
-    ensures { result ≡ spec.is_advance position.now mv.now }
-{
-    mv.from.file() == mv.to.file()
-        && is_ahead(position.side(), mv.from.rank(), mv.to.rank())
-        && position.board().is_empty(mv.to)
 }
 
 // The square between the two ranks of a double step.
@@ -81,26 +67,6 @@ pub(crate) fn crossed(mv: &Move) -> Square
     Square::nth(place as usize)
 }
 
-// The rank on which the colour's pawns begin.
-fn pawn_rank(colour: Colour) -> u8
-    ensures { result ≡ spec.pawn_rank colour }
-{
-    match colour {
-        Colour::White => 1,
-        Colour::Black => 6,
-    }
-}
-
-// The rank that the colour's pawns reach by a double step.
-fn double_rank(colour: Colour) -> u8
-    ensures { result ≡ spec.double_rank colour }
-{
-    match colour {
-        Colour::White => 3,
-        Colour::Black => 4,
-    }
-}
-
 // Whether a pawn of the side to move may go two squares forward. (FIDE Laws 3.7.2)
 pub(crate) fn is_double_step(position: &Position, mv: &Move) -> bool
     ensures { result ≡ spec.is_double_step position.now mv.now }
@@ -108,26 +74,17 @@ pub(crate) fn is_double_step(position: &Position, mv: &Move) -> bool
     let board = position.board();
     let side = position.side();
     mv.from.file() == mv.to.file()
-        && mv.from.rank() == pawn_rank(side)
-        && mv.to.rank() == double_rank(side)
+        && mv.from.rank() == rank_from(side, 1)
+        && mv.to.rank() == rank_from(side, 3)
         && board.is_empty(crossed(mv))
         && board.is_empty(mv.to)
-}
-
-// Whether a pawn, which is on the origin, takes a piece of the other side. (FIDE Laws 3.7.3)
-fn is_pawn_capture(position: &Position, mv: &Move) -> bool
-    requires { IsTrue (spec.own position.now Pawn mv.now.from) }
-    ensures { result ≡ spec.is_pawn_capture position.now mv.now }
-{
-    let side = position.side();
-    reaches(Kind::Pawn, side, mv.from, mv.to) && position.board().has_colour(mv.to, side.other())
 }
 
 // Whether a promotion is named exactly if the move is one. (FIDE Laws 3.7.3.3)
 fn promotion_fits(position: &Position, mv: &Move) -> bool
     ensures { result ≡ spec.promotion_fits position.now mv.now }
 {
-    (mv.to.rank() == last_rank(position.side())) == mv.promotion.is_some()
+    (mv.to.rank() == rank_from(position.side(), 7)) == mv.promotion.is_some()
 }
 
 // The square of the pawn that is taken in passing.
@@ -166,7 +123,7 @@ fn home(position: &Position, file: u8) -> Square
     requires { file < 8 }
     ensures { result ≡ spec.home position.now file }
 {
-    Square::nth(8 * home_rank(position.side()) as usize + file as usize)
+    Square::nth(8 * rank_from(position.side(), 0) as usize + file as usize)
 }
 
 fn short_right(position: &Position) -> bool
@@ -185,28 +142,6 @@ fn long_right(position: &Position) -> bool
         Colour::White => position.rights().white_long,
         Colour::Black => position.rights().black_long,
     }
-}
-
-// Whether the move leads from the king's square to that file of its rank.
-fn is_king_move(position: &Position, mv: &Move, end: u8) -> bool
-    requires { end < 8 }
-    ensures { result ≡ spec.is_king_move position.now mv.now end }
-{
-    mv.from.is(home(position, 4)) && mv.to.is(home(position, end))
-}
-
-// Whether king and rook are on their squares, and those between are empty.
-fn stand_ready(position: &Position, rook: u8) -> bool
-    requires { rook < 8 }
-    ensures { result ≡ spec.stand_ready position.now rook }
-{
-    let board = position.board();
-    let side = position.side();
-    let king_square = home(position, 4);
-    let rook_square = home(position, rook);
-    board.has_piece(king_square, side, Kind::King)
-        && board.has_piece(rook_square, side, Kind::Rook)
-        && is_clear(board, king_square, rook_square)
 }
 
 // Whether the square on that file of the home rank is not attacked.
@@ -229,10 +164,17 @@ fn castles(position: &Position, mv: &Move, right: bool, wing: Wing) -> bool
     ensures { result ≡ spec.castles position.now mv.now right
         (record { rook = wing.rook; end = wing.end; crossing = wing.crossing }) }
 {
+    let board = position.board();
+    let side = position.side();
+    let king = home(position, 4);
+    let rook = home(position, wing.rook);
     right
         && mv.promotion.is_none()
-        && is_king_move(position, mv, wing.end)
-        && stand_ready(position, wing.rook)
+        && mv.from.is(king)
+        && mv.to.is(home(position, wing.end))
+        && board.has_piece(king, side, Kind::King)
+        && board.has_piece(rook, side, Kind::Rook)
+        && is_clear(board, king, rook)
         && is_unattacked(position, 4)
         && is_unattacked(position, wing.crossing)
         && is_unattacked(position, wing.end)
@@ -330,13 +272,16 @@ fn is_pawn_step(position: &Position, mv: &Move) -> bool
     requires { IsTrue (spec.own position.now Pawn mv.now.from) }
     ensures { result ≡ spec.is_pawn_step position.now mv.now }
 {
+    let board = position.board();
+    let side = position.side();
     if !promotion_fits(position, mv) {
         return false;
     }
-    if mv.from.file() == mv.to.file() {
-        return is_advance(position, mv) || is_double_step(position, mv);
+    if mv.from.file() != mv.to.file() {
+        return reaches(Kind::Pawn, side, mv.from, mv.to) && board.has_colour(mv.to, side.other());
     }
-    is_pawn_capture(position, mv)
+    is_ahead(side, mv.from.rank(), mv.to.rank()) && board.is_empty(mv.to)
+        || is_double_step(position, mv)
 }
 
 // Whether a piece of the side to move goes so by itself. The cheapest tests are first.

@@ -1,6 +1,6 @@
-use Rattle.std.proofs.Common.{◌≡◌, inl, inr, sym, ◌∙◌, ap, ap₂, arith}
+use Rattle.std.proofs.Common.{◌≡◌, not, inl, inr, sym, ◌∙◌, ap, ap₂, arith}
 use Rattle.std.specs.List.{list_any}
-use Rattle.std.proofs.lemmas.Bool.{not-true}
+use Rattle.chess_rules.proofs.sets.SetsToSquares.{full_when}
 use Rattle.chess_rules.specs.Board.{other}
 use Rattle.chess_rules.specs.Legal.{is_check}
 use Rattle.chess_rules.specs.Reach.{slides}
@@ -31,4 +31,4 @@ returns c none =
     safe_when_plain p m b c.king-king.result (stored_position c.self.inside c.args.self.now c.self.invariant c.self.view_is)
     c.requires.on_board stepped plain c.king-king.ensures
     (ap is_check (sym c.self.view_is) ∙ (sym c.self.invariant.checked ∙ c.if-self.false)) (sym c.is.ensures ∙ c.if-is.false)
-    (inr (ap₂ (λ a d. list_any (slides a d c.king-king.result) squares) (sym (ap (λ q. q.board) c.self.view_is)) (sym (c.other.ensures ∙ ap (λ q. other q.side) c.self.view_is)) ∙ (sym c.has_sliders.ensures ∙ not-true c.has_sliders.result none)))
+    (inr (ap₂ (λ a d. list_any (slides a d c.king-king.result) squares) (sym (ap (λ q. q.board) c.self.view_is)) (sym (c.other.ensures ∙ ap (λ q. other q.side) c.self.view_is)) ∙ (sym (full_when c.sliders.result (slides c.self.inside.board c.other.result c.king-king.result) c.is_empty.result c.sliders.ensures c.is_empty.ensures) ∙ ap not none)))
