@@ -10,7 +10,7 @@ use Rattle.chess_rules.specs.declared.piece.Kind.TheVariants.{King, Queen, Rook,
 use Rattle.chess_rules.specs.declared.piece.Piece.{Piece}
 use Rattle.chess_rules.specs.declared.board.Board.TheInside.{Inside}
 use Rattle.chess_rules.specs.Square.{Square, squares}
-use Rattle.chess_rules.specs.Board.{cell_of, some_piece}
+use Rattle.chess_rules.specs.Board.{cell_of, same_kind, some_piece}
 use Rattle.chess_rules.specs.Reach.{square_at}
 
 -- a word as a set of places: whether it has place i
@@ -52,28 +52,13 @@ kind_in Pawn straight diagonal near = (near && not straight) && not diagonal
 -- The bits of what a square holds.
 
 abbrev pub is_straight : Kind → Bool
-is_straight King = false
-is_straight Queen = true
-is_straight Rook = true
-is_straight Bishop = false
-is_straight Knight = true
-is_straight Pawn = false
+is_straight k = same_kind k Queen || (same_kind k Rook || same_kind k Knight)
 
 abbrev pub is_diagonal : Kind → Bool
-is_diagonal King = true
-is_diagonal Queen = true
-is_diagonal Rook = false
-is_diagonal Bishop = true
-is_diagonal Knight = false
-is_diagonal Pawn = false
+is_diagonal k = same_kind k King || (same_kind k Queen || same_kind k Bishop)
 
 abbrev pub is_near : Kind → Bool
-is_near King = true
-is_near Queen = false
-is_near Rook = false
-is_near Bishop = false
-is_near Knight = true
-is_near Pawn = true
+is_near k = same_kind k King || (same_kind k Knight || same_kind k Pawn)
 
 abbrev pub is_black : Colour → Bool
 is_black White = false
@@ -176,14 +161,10 @@ pub record IsHighest (word place : ℕ) : Type 0 where
   pub here : has word place ≡ true
   pub none : (i : ℕ) → place < i → i < 64 → has word i ≡ false
 
--- the first place of a word, or the last, alone: none if the word has none
-pub record IsOnlyLowest (word only : ℕ) : Type 0 where
-  pub here : (i : ℕ) → i < 64 → has only i ≡ true → IsLowest word i
-  pub there : (i : ℕ) → IsLowest word i → has only i ≡ true
-
-pub record IsOnlyHighest (word only : ℕ) : Type 0 where
-  pub here : (i : ℕ) → i < 64 → has only i ≡ true → IsHighest word i
-  pub there : (i : ℕ) → IsHighest word i → has only i ≡ true
+-- such a place of a word alone: none if the word has none
+pub record IsOnly (Is : ℕ → ℕ → Type 0) (word only : ℕ) : Type 0 where
+  pub here : (i : ℕ) → i < 64 → has only i ≡ true → Is word i
+  pub there : (i : ℕ) → Is word i → has only i ≡ true
 
 -- the squares of a set, in the order of their places
 unfoldable pub members : ℕ → List Square

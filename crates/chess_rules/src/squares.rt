@@ -3,7 +3,7 @@
 ghost use Rattle.std.specs.Prelude.{◌≡◌, ◌<◌, ◌≤◌, ◌^◌, false, length, nat_lt, not};
 ghost use Rattle.chess_rules.specs.Board.{cell_of};
 ghost use Rattle.chess_rules.specs.Words as spec;
-ghost use Rattle.chess_rules.specs.Words.{Carries, FirstOf, IsFirst, IsHighest, IsOnlyHighest, IsOnlyLowest, Joins, Meets, Misses, Places, Sets, Takes};
+ghost use Rattle.chess_rules.specs.Words.{Carries, FirstOf, IsFirst, IsHighest, IsLowest, IsOnly, Joins, Meets, Misses, Places, Sets, Takes};
 
 use crate::square::Square;
 use std::marker::Model;
@@ -152,7 +152,7 @@ impl Squares {
 
     // The first square alone; none of a set that has none.
     pub(crate) fn only_lowest(self) -> Squares
-        ensures { IsOnlyLowest self result }
+        ensures { IsOnly IsLowest self result }
     {
         match self.lowest() {
             None => self,
@@ -164,7 +164,7 @@ impl Squares {
 
     // The last square alone; none of a set that has none.
     pub(crate) fn only_highest(self) -> Squares
-        ensures { IsOnlyHighest self result }
+        ensures { IsOnly IsHighest self result }
     {
         if self.bits == 0 {
             return Squares { bits: 0 };
