@@ -297,7 +297,7 @@ fn is_plain_step(position: &Position, mv: &Move) -> bool
     let Some(piece) = board.at(mv.from) else {
         return false;
     };
-    if !side.is(piece.colour) {
+    if piece.colour != side {
         return false;
     }
     match piece.kind {
