@@ -130,10 +130,6 @@ pub record Joins (a b either : ℕ) : Type 0 where
 pub record Misses (a rest : ℕ) : Type 0 where
   pub of : (i : ℕ) → i < 64 → has rest i ≡ not (has a i)
 
--- the set has exactly the places with a piece of the kind, by the three words
-pub record HasKinds (kinds : ℕ) (kind : Kind) (straight diagonal near : ℕ) : Type 0 where
-  pub of : (i : ℕ) → i < 64 → has kinds i ≡ kind_in kind (has straight i) (has diagonal i) (has near i)
-
 -- the places whose bit is of that value
 abbrev pub is_it : Bool → Bool → Bool
 is_it true x = x
