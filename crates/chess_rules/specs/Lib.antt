@@ -1,7 +1,6 @@
 -- **Bookkeeping**: the list of this crate's files of definitions.
 pub mod Square
 pub mod Words
-pub mod Masks
 pub mod Board
 pub mod Index
 pub mod WordsAndCells

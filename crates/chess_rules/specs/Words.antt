@@ -40,15 +40,6 @@ coded true true true black = some_piece (colour_of black) King
 abbrev pub is_code : Bool → Bool → Bool → Bool → Bool
 is_code straight diagonal near black = not (straight && (diagonal && near)) && (not black || (straight || (diagonal || near)))
 
--- a piece of the kind is there, by the three bits
-abbrev pub kind_in : Kind → Bool → Bool → Bool → Bool
-kind_in King straight diagonal near = near && diagonal
-kind_in Queen straight diagonal near = straight && diagonal
-kind_in Rook straight diagonal near = (straight && not diagonal) && not near
-kind_in Bishop straight diagonal near = (diagonal && not straight) && not near
-kind_in Knight straight diagonal near = near && straight
-kind_in Pawn straight diagonal near = (near && not straight) && not diagonal
-
 -- The bits of what a square holds.
 
 abbrev pub is_straight : Kind → Bool
@@ -141,10 +132,6 @@ pub record Chosen (word chosen : ℕ) (value : Bool) : Type 0 where
 -- the word has exactly the squares that pass
 pub record Places (word : ℕ) (test : Square → Bool) : Type 0 where
   pub of : (i : ℕ) → i < 64 → has word i ≡ test (square_at i)
-
--- the word of the squares that pass
-unfoldable pub mask : (Square → Bool) → ℕ
-mask test = word (λ i. test (square_at i)) (range_with_len 0 64)
 
 -- the first place, and the last one
 pub record IsLowest (word place : ℕ) : Type 0 where

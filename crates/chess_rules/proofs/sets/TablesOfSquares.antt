@@ -8,10 +8,26 @@ use Rattle.std.specs.List.{range_with_len}
 use Rattle.std.proofs.lemmas.List.FromFn.{get_or-range_with_len, length-range_with_len}
 use Rattle.chess_rules.specs.Board.{cell_of}
 use Rattle.chess_rules.specs.WordsAndCells.{digit, word_bit}
-use Rattle.chess_rules.specs.Masks.{mask_to, between_mask}
-use Rattle.chess_rules.specs.Words.{has, mask, Places}
+use Rattle.chess_rules.specs.Words.{has, word, Places}
 use Rattle.chess_rules.specs.Reach.{square_at, is_aligned}
 use Rattle.chess_rules.proofs.positions.OneKing.{square_at-cell_of}
+
+-- What the tables hold.
+
+-- the word of the squares that pass
+unfoldable pub mask : (Square → Bool) → ℕ
+mask test = word (λ i. test (square_at i)) (range_with_len 0 64)
+
+-- for each square: those that lie to it as the test says
+unfoldable pub mask_to : (Square → Square → Bool) → ℕ → ℕ
+mask_to lies n = mask (λ s. lies s (square_at n))
+
+-- for each square, for each square: those strictly between
+unfoldable pub between_mask : ℕ → ℕ
+between_mask n =
+    if is_aligned (square_at (n / 64)) (square_at (n % 64))
+    then mask (λ u. strictly_between (square_at (n / 64)) u (square_at (n % 64)))
+    else 0
 
 -- n numbers from k on
 abbrev pub numbers : ℕ → ℕ → List ℕ

@@ -1,8 +1,7 @@
 use Rattle.std.proofs.Common.{refl}
-use Rattle.chess_rules.specs.Masks.{mask_to}
 use Rattle.chess_rules.specs.Square.{in_line}
-use Rattle.chess_rules.specs.Words.{mask, word}
-use Rattle.chess_rules.proofs.sets.TablesOfSquares.{table_places}
+use Rattle.chess_rules.specs.Words.{word}
+use Rattle.chess_rules.proofs.sets.TablesOfSquares.{mask, mask_to, table_places}
 use Rattle.chess_rules.proofs.geometry.lines.Goals as goal
 
 pub returns : goal.returns

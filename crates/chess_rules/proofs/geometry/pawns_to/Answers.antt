@@ -2,10 +2,9 @@ use Rattle.std.proofs.Common.{refl, sym, subst}
 use Rattle.chess_rules.specs.declared.piece.Colour.{Colour}
 use Rattle.chess_rules.specs.declared.piece.Colour.TheVariants.{White, Black}
 use Rattle.chess_rules.specs.declared.piece.Kind.TheVariants.{Pawn}
-use Rattle.chess_rules.specs.Masks.{mask_to}
 use Rattle.chess_rules.specs.Reach.{reaches}
-use Rattle.chess_rules.specs.Words.{Places, mask, word}
-use Rattle.chess_rules.proofs.sets.TablesOfSquares.{table_places}
+use Rattle.chess_rules.specs.Words.{Places, word}
+use Rattle.chess_rules.proofs.sets.TablesOfSquares.{mask, mask_to, table_places}
 use Rattle.chess_rules.proofs.geometry.pawns_to.Goals as goal
 
 pub returns-in-White : goal.returns-in-White

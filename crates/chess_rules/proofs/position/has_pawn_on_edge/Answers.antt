@@ -4,9 +4,9 @@ use Rattle.chess_rules.specs.declared.piece.Kind.TheVariants.{Pawn}
 use Rattle.chess_rules.specs.declared.piece.Piece.{Piece}
 use Rattle.chess_rules.specs.Board.{at, is_pawn}
 use Rattle.chess_rules.specs.Reach.{has_kind, square_at}
-use Rattle.chess_rules.specs.Words.{Places, mask, word}
+use Rattle.chess_rules.specs.Words.{Places, word}
 use Rattle.chess_rules.proofs.sets.SetsToSquares.{marked, places_and, full_when}
-use Rattle.chess_rules.proofs.sets.TablesOfSquares.{places}
+use Rattle.chess_rules.proofs.sets.TablesOfSquares.{mask, places}
 use Rattle.chess_rules.proofs.position.has_pawn_on_edge.Goals as goal
 
 edges : Places 18374686479671623935 (λ s. (s.rank == 0) || (s.rank == 7))
