@@ -1,4 +1,3 @@
 -- The rules that a position meets.
 pub mod OneKing
-pub mod PawnsOnEdge
 pub mod RulesOfPosition

@@ -1,7 +1,6 @@
 -- **Bookkeeping**: the list of this crate's files of definitions.
 pub mod Square
 pub mod Words
-pub mod Masks
 pub mod Board
 pub mod Index
 pub mod WordsAndCells
@@ -12,6 +11,6 @@ pub mod Legal
 pub mod Candidate
 pub mod Laws
 pub mod Reach
-pub mod Plain
+pub mod StepKinds
 pub mod StoredPosition
 pub mod Pairs

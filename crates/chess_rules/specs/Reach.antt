@@ -1,13 +1,12 @@
 -- **Bookkeeping**: squares by their numbers, what a piece reaches on an empty board, and the king's
 -- square. No rule of play rests on it.
 -- Letters: b is a board, c a colour, k a kind, s, t and u are squares.
-use Rattle.std.specs.Prelude.{◌≡◌, ◌<◌, ℕ, ◌+◌, ◌/◌, ◌%◌, Bool, true, false, ◌&&◌, ◌||◌, Option, None, Some, is_some, position, unwrap_or, ◌==◌, if◌then◌else◌}
+use Rattle.std.specs.Prelude.{◌≡◌, ◌<◌, ℕ, ◌+◌, ◌/◌, ◌%◌, Bool, true, false, ◌&&◌, ◌||◌, Option, None, Some, is_some, position, unwrap_or, ◌==◌}
 use Rattle.chess_rules.specs.declared.piece.Colour.{Colour}
 use Rattle.chess_rules.specs.declared.piece.Kind.{Kind}
 use Rattle.chess_rules.specs.declared.piece.Kind.TheVariants.{King, Queen, Rook, Bishop, Knight, Pawn}
 use Rattle.chess_rules.specs.declared.piece.Piece.{Piece}
-use Rattle.chess_rules.specs.declared.position.Move.{Move}
-use Rattle.chess_rules.specs.Square.{Square, square, same_square, gap, inside, is_adjacent, is_jump, in_line, on_diagonal, strictly_between}
+use Rattle.chess_rules.specs.Square.{Square, square, gap, inside, is_adjacent, is_jump, in_line, on_diagonal, strictly_between}
 use Rattle.chess_rules.specs.Board.{Board, at, cell_of, has_colour, has_piece, same_kind}
 use Rattle.chess_rules.specs.Attacks.{is_ahead, is_clear}
 
@@ -76,7 +75,3 @@ may_attack b c t s = near_with c (at b s) s t || slides_with c (at b s) s t
 
 abbrev pub king_square : Colour → Board → Square
 king_square c b = square_at (unwrap_or (position (has_piece c King) b) 0)
-
--- where a king stands after a move that may be its own
-abbrev pub king_after : Square → Move → Square
-king_after k m = if same_square m.from k then m.to else k

@@ -10,7 +10,7 @@ use Rattle.chess_rules.specs.declared.piece.Kind.TheVariants.{King, Queen, Rook,
 use Rattle.chess_rules.specs.declared.piece.Piece.{Piece}
 use Rattle.chess_rules.specs.declared.board.Board.TheInside.{Inside}
 use Rattle.chess_rules.specs.Square.{Square, squares}
-use Rattle.chess_rules.specs.Board.{cell_of, some_piece}
+use Rattle.chess_rules.specs.Board.{cell_of, same_kind, some_piece}
 use Rattle.chess_rules.specs.Reach.{square_at}
 
 -- a word as a set of places: whether it has place i
@@ -40,40 +40,16 @@ coded true true true black = some_piece (colour_of black) King
 abbrev pub is_code : Bool → Bool → Bool → Bool → Bool
 is_code straight diagonal near black = not (straight && (diagonal && near)) && (not black || (straight || (diagonal || near)))
 
--- a piece of the kind is there, by the three bits
-abbrev pub kind_in : Kind → Bool → Bool → Bool → Bool
-kind_in King straight diagonal near = near && diagonal
-kind_in Queen straight diagonal near = straight && diagonal
-kind_in Rook straight diagonal near = (straight && not diagonal) && not near
-kind_in Bishop straight diagonal near = (diagonal && not straight) && not near
-kind_in Knight straight diagonal near = near && straight
-kind_in Pawn straight diagonal near = (near && not straight) && not diagonal
-
 -- The bits of what a square holds.
 
 abbrev pub is_straight : Kind → Bool
-is_straight King = false
-is_straight Queen = true
-is_straight Rook = true
-is_straight Bishop = false
-is_straight Knight = true
-is_straight Pawn = false
+is_straight k = same_kind k Queen || (same_kind k Rook || same_kind k Knight)
 
 abbrev pub is_diagonal : Kind → Bool
-is_diagonal King = true
-is_diagonal Queen = true
-is_diagonal Rook = false
-is_diagonal Bishop = true
-is_diagonal Knight = false
-is_diagonal Pawn = false
+is_diagonal k = same_kind k King || (same_kind k Queen || same_kind k Bishop)
 
 abbrev pub is_near : Kind → Bool
-is_near King = true
-is_near Queen = false
-is_near Rook = false
-is_near Bishop = false
-is_near Knight = true
-is_near Pawn = true
+is_near k = same_kind k King || (same_kind k Knight || same_kind k Pawn)
 
 abbrev pub is_black : Colour → Bool
 is_black White = false
@@ -145,10 +121,6 @@ pub record Joins (a b either : ℕ) : Type 0 where
 pub record Misses (a rest : ℕ) : Type 0 where
   pub of : (i : ℕ) → i < 64 → has rest i ≡ not (has a i)
 
--- the set has exactly the places with a piece of the kind, by the three words
-pub record HasKinds (kinds : ℕ) (kind : Kind) (straight diagonal near : ℕ) : Type 0 where
-  pub of : (i : ℕ) → i < 64 → has kinds i ≡ kind_in kind (has straight i) (has diagonal i) (has near i)
-
 -- the places whose bit is of that value
 abbrev pub is_it : Bool → Bool → Bool
 is_it true x = x
@@ -161,10 +133,6 @@ pub record Chosen (word chosen : ℕ) (value : Bool) : Type 0 where
 pub record Places (word : ℕ) (test : Square → Bool) : Type 0 where
   pub of : (i : ℕ) → i < 64 → has word i ≡ test (square_at i)
 
--- the word of the squares that pass
-unfoldable pub mask : (Square → Bool) → ℕ
-mask test = word (λ i. test (square_at i)) (range_with_len 0 64)
-
 -- the first place, and the last one
 pub record IsLowest (word place : ℕ) : Type 0 where
   pub inside : place < 64
@@ -176,14 +144,10 @@ pub record IsHighest (word place : ℕ) : Type 0 where
   pub here : has word place ≡ true
   pub none : (i : ℕ) → place < i → i < 64 → has word i ≡ false
 
--- the first place of a word, or the last, alone: none if the word has none
-pub record IsOnlyLowest (word only : ℕ) : Type 0 where
-  pub here : (i : ℕ) → i < 64 → has only i ≡ true → IsLowest word i
-  pub there : (i : ℕ) → IsLowest word i → has only i ≡ true
-
-pub record IsOnlyHighest (word only : ℕ) : Type 0 where
-  pub here : (i : ℕ) → i < 64 → has only i ≡ true → IsHighest word i
-  pub there : (i : ℕ) → IsHighest word i → has only i ≡ true
+-- such a place of a word alone: none if the word has none
+pub record IsOnly (Is : ℕ → ℕ → Type 0) (word only : ℕ) : Type 0 where
+  pub here : (i : ℕ) → i < 64 → has only i ≡ true → Is word i
+  pub there : (i : ℕ) → Is word i → has only i ≡ true
 
 -- the squares of a set, in the order of their places
 unfoldable pub members : ℕ → List Square

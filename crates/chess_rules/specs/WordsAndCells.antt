@@ -65,58 +65,32 @@ word_again test w n fits same =
     word_bit test (cells w) i None (omega (arith, cells_long w))
     ∙ (ap (λ x. digit (test x)) (cell_at w i low) ∙ (ap digit (same i low) ∙ digit_again n i)))
 
-one_again : (a b c d : Bool) → is_code a b c d ≡ true → straight_of (coded a b c d) ≡ a
-one_again true true true d h = cc
-one_again true true false d h = refl
-one_again true false true d h = refl
-one_again true false false d h = refl
-one_again false true true d h = refl
-one_again false true false d h = refl
-one_again false false true d h = refl
-one_again false false false d h = refl
-
-two_again : (a b c d : Bool) → is_code a b c d ≡ true → diagonal_of (coded a b c d) ≡ b
-two_again true true true d h = cc
-two_again true true false d h = refl
-two_again true false true d h = refl
-two_again true false false d h = refl
-two_again false true true d h = refl
-two_again false true false d h = refl
-two_again false false true d h = refl
-two_again false false false d h = refl
-
-four_again : (a b c d : Bool) → is_code a b c d ≡ true → near_of (coded a b c d) ≡ c
-four_again true true true d h = cc
-four_again true true false d h = refl
-four_again true false true d h = refl
-four_again true false false d h = refl
-four_again false true true d h = refl
-four_again false true false d h = refl
-four_again false false true d h = refl
-four_again false false false d h = refl
-
-black_again : (a b c d : Bool) → is_code a b c d ≡ true → black_of (coded a b c d) ≡ d
-black_again true true true d h = cc
-black_again true true false true h = refl
-black_again true true false false h = refl
-black_again true false true true h = refl
-black_again true false true false h = refl
-black_again true false false true h = refl
-black_again true false false false h = refl
-black_again false true true true h = refl
-black_again false true true false h = refl
-black_again false true false true h = refl
-black_again false true false false h = refl
-black_again false false true true h = refl
-black_again false false true false h = refl
-black_again false false false true h = cc
-black_again false false false false h = refl
+-- the bits of what the bits say
+again : (a b c d : Bool) → is_code a b c d ≡ true
+    → (straight_of (coded a b c d) ≡ a) × (diagonal_of (coded a b c d) ≡ b) × (near_of (coded a b c d) ≡ c) × (black_of (coded a b c d) ≡ d)
+again true true true d h = cc
+again false false false true h = cc
+again false false false false h = (refl, refl, refl, refl)
+again true true false true h = (refl, refl, refl, refl)
+again true true false false h = (refl, refl, refl, refl)
+again true false true true h = (refl, refl, refl, refl)
+again true false true false h = (refl, refl, refl, refl)
+again true false false true h = (refl, refl, refl, refl)
+again true false false false h = (refl, refl, refl, refl)
+again false true true true h = (refl, refl, refl, refl)
+again false true true false h = (refl, refl, refl, refl)
+again false true false true h = (refl, refl, refl, refl)
+again false true false false h = (refl, refl, refl, refl)
+again false false true true h = (refl, refl, refl, refl)
+again false false true false h = (refl, refl, refl, refl)
 
 pub words_again : (a : Inside) → AreWords a → words (cells a) ≡ a
 words_again a h =
     ap₂ (λ x y. record { straight = x; diagonal = y; near = word near_of (cells a); black = word black_of (cells a) })
-    (word_again straight_of a a.straight h.straight (λ i low. one_again (has a.straight i) (has a.diagonal i) (has a.near i) (has a.black i) (h.codes i low)))
-    (word_again diagonal_of a a.diagonal h.diagonal (λ i low. two_again (has a.straight i) (has a.diagonal i) (has a.near i) (has a.black i) (h.codes i low)))
+    (word_again straight_of a a.straight h.straight (λ i low. (cell i low).0)) (word_again diagonal_of a a.diagonal h.diagonal (λ i low. (cell i low).1))
     ∙ ap₂ (λ x y. record { straight = a.straight; diagonal = a.diagonal; near = x; black = y })
-    (word_again near_of a a.near h.near (λ i low. four_again (has a.straight i) (has a.diagonal i) (has a.near i) (has a.black i) (h.codes i low)))
-    (word_again black_of a a.black h.black (λ i low. black_again (has a.straight i) (has a.diagonal i) (has a.near i) (has a.black i) (h.codes i low)))
+    (word_again near_of a a.near h.near (λ i low. (cell i low).2)) (word_again black_of a a.black h.black (λ i low. (cell i low).3))
+  where
+    cell : (i : ℕ) → i < 64
+        → (straight_of (cell_in a i) ≡ has a.straight i) × (diagonal_of (cell_in a i) ≡ has a.diagonal i) × (near_of (cell_in a i) ≡ has a.near i) × (black_of (cell_in a i) ≡ has a.black i)
+    cell i low = again (has a.straight i) (has a.diagonal i) (has a.near i) (has a.black i) (h.codes i low)

@@ -84,16 +84,6 @@ pub(crate) fn piece_attacks(
     }
 }
 
-// Whether the piece on `from`, if there is one, attacks `to`.
-pub(crate) fn attacks(board: &Board, from: Square, to: Square) -> bool
-    ensures { result ≡ spec.attacks board.now from to }
-{
-    match board.at(from) {
-        None => false,
-        Some(piece) => piece_attacks(board, piece.kind, piece.colour, from, to),
-    }
-}
-
 // Whether the piece on `from`, if there is one, attacks `to` if all squares between are empty.
 //
 // From most squares no piece attacks it: these need no look at the board.
@@ -112,19 +102,12 @@ pub(crate) fn may_attack(board: &Board, from: Square, to: Square) -> bool
 
 // The rooks, bishops and queens of the colour that would attack the target if all squares between
 // were empty.
-fn sliders(board: &Board, by: Colour, target: Square) -> Squares
+pub(crate) fn sliders(board: &Board, by: Colour, target: Square) -> Squares
     ensures { Places result (reach.slides board.now by target) }
 {
     (lines(target) & (board.of_kind(Kind::Rook) | board.of_kind(Kind::Queen))
         | diagonals(target) & (board.of_kind(Kind::Bishop) | board.of_kind(Kind::Queen)))
         & board.of_colour(by)
-}
-
-// Whether there is one of these.
-pub(crate) fn has_sliders(board: &Board, by: Colour, target: Square) -> bool
-    ensures { result ≡ list_any (reach.slides board.now by target) squares }
-{
-    !sliders(board, by, target).is_empty()
 }
 
 // All pieces of the colour that would attack the target if all squares between were empty.
@@ -159,14 +142,13 @@ pub(crate) fn is_attacked(board: &Board, by: Colour, target: Square) -> bool
     !(others & (pieces_in_view(board, target) | knights_to(target))).is_empty()
 }
 
-// Whether the colour's one king, on that square, is attacked.
-pub(crate) fn is_king_attacked(board: &Board, colour: Colour, king: Square) -> bool
-    requires one { IsTrue (one_king board.now colour) }
-    requires there { king ≡ reach.king_square colour board.now }
+// Whether the colour's one king is attacked.
+pub(crate) fn is_king_attacked(board: &Board, colour: Colour) -> bool
+    requires { IsTrue (one_king board.now colour) }
     ensures { result ≡ spec.king_attacked board.now colour }
 {
     board.recall_invariant();
-    is_attacked(board, colour.other(), king)
+    is_attacked(board, colour.other(), board.king(colour))
 }
 
 // The squares of the pieces of the colour that attack the target, and those between the target and

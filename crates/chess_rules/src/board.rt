@@ -1,8 +1,8 @@
 //! The board: the piece on each of the 64 squares, in four words.
 
-ghost use Rattle.std.specs.Prelude.{◌≡◌, is_some, length};
+ghost use Rattle.std.specs.Prelude.{◌≡◌, IsTrue, is_some, length};
 ghost use Rattle.chess_rules.specs.Board as spec;
-ghost use Rattle.chess_rules.specs.Position.{initial_board};
+ghost use Rattle.chess_rules.specs.Position.{initial_board, one_king};
 ghost use Rattle.chess_rules.specs.Reach as reach;
 ghost use Rattle.chess_rules.specs.Words as words;
 ghost use Rattle.chess_rules.specs.Words.{Marks};
@@ -40,59 +40,7 @@ impl Model for Board {
     ghost inverse_ok = { words_again };
 }
 
-// Which of the words have a square.
-#[derive(Clone, Copy)]
-struct Code {
-    straight: bool,
-    diagonal: bool,
-    near: bool,
-    black: bool,
-}
-
-impl Code {
-    fn of(content: Option<Piece>) -> Code
-        ensures straight { result.straight ≡ words.straight_of content }
-        ensures diagonal { result.diagonal ≡ words.diagonal_of content }
-        ensures near { result.near ≡ words.near_of content }
-        ensures black { result.black ≡ words.black_of content }
-    {
-        match content {
-            None => Code {
-                straight: false,
-                diagonal: false,
-                near: false,
-                black: false,
-            },
-            Some(piece) => Code {
-                straight: is_straight(piece.kind),
-                diagonal: is_diagonal(piece.kind),
-                near: is_near(piece.kind),
-                black: is_black(piece.colour),
-            },
-        }
-    }
-
-    fn content(self) -> Option<Piece>
-        ensures { result ≡ words.coded self.straight self.diagonal self.near self.black }
-    {
-        let kind = match (self.straight, self.diagonal, self.near) {
-            (false, false, false) => return None,
-            (true, false, false) => Kind::Rook,
-            (false, true, false) => Kind::Bishop,
-            (true, true, false) => Kind::Queen,
-            (false, false, true) => Kind::Pawn,
-            (true, false, true) => Kind::Knight,
-            (_, true, true) => Kind::King,
-        };
-        let colour = if self.black {
-            Colour::Black
-        } else {
-            Colour::White
-        };
-        Some(Piece { colour, kind })
-    }
-}
-
+// Whether `straight` has the squares of the kind; below, the other two and `black`.
 fn is_straight(kind: Kind) -> bool
     ensures { result ≡ words.is_straight kind }
 {
@@ -117,20 +65,6 @@ fn is_black(colour: Colour) -> bool
     colour == Colour::Black
 }
 
-// The squares with a piece of the kind, by the three words that tell kinds apart.
-fn kind_set(kind: Kind, straight: Squares, diagonal: Squares, near: Squares) -> Squares
-    ensures { words.HasKinds result kind straight diagonal near }
-{
-    match kind {
-        Kind::King => near & diagonal,
-        Kind::Queen => straight & diagonal,
-        Kind::Rook => straight & !diagonal & !near,
-        Kind::Bishop => diagonal & !straight & !near,
-        Kind::Knight => near & straight,
-        Kind::Pawn => near & !straight & !diagonal,
-    }
-}
-
 // The places whose bit is of that value.
 fn chosen(set: Squares, value: bool) -> Squares
     ensures { words.Chosen set result value }
@@ -150,7 +84,14 @@ impl Board {
     pub(crate) fn of_kind(&self, kind: Kind) -> Squares
         ensures { Marks result (reach.has_kind kind) self.now }
     {
-        kind_set(kind, self.straight, self.diagonal, self.near)
+        match kind {
+            Kind::King => self.near & self.diagonal,
+            Kind::Queen => self.straight & self.diagonal,
+            Kind::Rook => self.straight & !self.diagonal & !self.near,
+            Kind::Bishop => self.diagonal & !self.straight & !self.near,
+            Kind::Knight => self.near & self.straight,
+            Kind::Pawn => self.near & !self.straight & !self.diagonal,
+        }
     }
 
     // The squares with a piece of the colour.
@@ -167,16 +108,38 @@ impl Board {
         self.of_kind(kind) & chosen(self.black, is_black(colour))
     }
 
+    // The square of the colour's one king.
+    pub(crate) fn king(&self, colour: Colour) -> Square
+        requires { IsTrue (one_king self.now colour) }
+        ensures { result ≡ reach.king_square colour self.now }
+    {
+        self.recall_invariant();
+        match self.pieces(colour, Kind::King).lowest() {
+            None => Square::nth(0),
+            Some(king) => king,
+        }
+    }
+
     pub(crate) fn at(&self, square: Square) -> Option<Piece>
         ensures { result ≡ spec.at self.now square }
     {
-        let code = Code {
-            straight: self.straight.has(square),
-            diagonal: self.diagonal.has(square),
-            near: self.near.has(square),
-            black: self.black.has(square),
+        let straight = self.straight.has(square);
+        let diagonal = self.diagonal.has(square);
+        let kind = match (straight, diagonal, self.near.has(square)) {
+            (false, false, false) => return None,
+            (true, false, false) => Kind::Rook,
+            (false, true, false) => Kind::Bishop,
+            (true, true, false) => Kind::Queen,
+            (false, false, true) => Kind::Pawn,
+            (true, false, true) => Kind::Knight,
+            (_, true, true) => Kind::King,
         };
-        code.content()
+        let colour = if self.black.has(square) {
+            Colour::Black
+        } else {
+            Colour::White
+        };
+        Some(Piece { colour, kind })
     }
 
     pub(crate) fn is_empty(&self, square: Square) -> bool
@@ -201,13 +164,24 @@ impl Board {
     pub(crate) fn put(&mut self, square: Square, content: Option<Piece>)
         ensures { self.new ≡ spec.put self.old square content }
     {
-        let code = Code::of(content);
-        *self = Board {
-            straight: self.straight.with(square, code.straight),
-            diagonal: self.diagonal.with(square, code.diagonal),
-            near: self.near.with(square, code.near),
-            black: self.black.with(square, code.black),
-        };
+        match content {
+            None => {
+                *self = Board {
+                    straight: self.straight.with(square, false),
+                    diagonal: self.diagonal.with(square, false),
+                    near: self.near.with(square, false),
+                    black: self.black.with(square, false),
+                };
+            }
+            Some(piece) => {
+                *self = Board {
+                    straight: self.straight.with(square, is_straight(piece.kind)),
+                    diagonal: self.diagonal.with(square, is_diagonal(piece.kind)),
+                    near: self.near.with(square, is_near(piece.kind)),
+                    black: self.black.with(square, is_black(piece.colour)),
+                };
+            }
+        }
     }
 
     // Moves the content of one square to another.

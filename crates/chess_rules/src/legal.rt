@@ -8,7 +8,7 @@ ghost use Rattle.chess_rules.specs.Legal as spec;
 use crate::pairs::{has_king_step, has_other_move};
 use crate::position::{Move, Position};
 use crate::probes::Probes;
-use crate::step::goes;
+use crate::step::{is_step_of_kind, kind_of_step};
 
 /// Returns the position after the move, or `None` if the move is not legal. (FIDE Laws 3.10.1)
 ///
@@ -37,7 +37,7 @@ pub fn try_pair(position: &Position, mv: Move, probes: &mut Probes) -> Option<Po
     mv.from.recall_invariant();
     mv.to.recall_invariant();
     if is_legal(position, mv, probes) {
-        Some(position.after(&mv))
+        Some(position.after(&mv, kind_of_step(position, &mv)))
     } else {
         None
     }
@@ -53,7 +53,7 @@ pub fn position_after(position: &Position, mv: &Move) -> Position
 {
     mv.from.recall_invariant();
     mv.to.recall_invariant();
-    position.after(mv)
+    position.after(mv, kind_of_step(position, mv))
 }
 
 // Whether the move is legal: `try_pair` without the position after it.
@@ -77,7 +77,8 @@ fn allows(position: &Position, mv: &Move) -> bool
     requires { IsTrue (is_on_board mv.now) }
     ensures { result ≡ spec.is_legal position.now mv.now }
 {
-    goes(position, mv) && position.is_safe_after(mv)
+    let kind = kind_of_step(position, mv);
+    is_step_of_kind(position, mv, kind) && position.is_safe_after(mv, kind)
 }
 
 /// Whether the king of the side to move is in check. (FIDE Laws 3.9.1)

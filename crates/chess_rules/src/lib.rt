@@ -6,7 +6,6 @@
 mod attack;
 mod board;
 mod candidates;
-mod contents;
 mod geometry;
 pub mod laws;
 mod legal;

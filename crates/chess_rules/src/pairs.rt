@@ -14,14 +14,14 @@ use crate::position::{Move, Position};
 use crate::probes::Probes;
 use crate::square::Square;
 use crate::squares::Squares;
-use crate::step::last_rank;
+use crate::step::rank_from;
 
 // What a pawn becomes if the pair is tried: all four promotions are legal, or none.
 fn one_promotion(position: &Position, from: Square, to: Square) -> Option<Promotion>
     ensures { result ≡ spec.one_promotion position.now from to }
 {
     let side = position.side();
-    if to.rank() == last_rank(side) && position.board().has_piece(from, side, Kind::Pawn) {
+    if to.rank() == rank_from(side, 7) && position.board().has_piece(from, side, Kind::Pawn) {
         Some(Promotion::Queen)
     } else {
         None
@@ -123,20 +123,11 @@ fn has_other_move_to(position: &Position, targets: Squares, probes: &mut Probes)
 {
     let mut left = targets;
     while let Some(target) = left.take_lowest() {
-        if has_untried_move(position, target, probes) {
+        if has_legal_origin(position, untried(position, target), target, probes) {
             return true;
         }
     }
     false
-}
-
-// Whether a pair that is still to be tried for the target is legal.
-fn has_untried_move(position: &Position, target: Square, probes: &mut Probes) -> bool
-    requires { probes.old + spec.count_untried position.now target < 2 ^ 32 }
-    ensures found { result ≡ spec.has_untried_move position.now target }
-    ensures count { Counts result probes.old probes.new (spec.count_untried position.now target) }
-{
-    has_legal_origin(position, untried(position, target), target, probes)
 }
 
 // The origins still to be tried for the target: the side's knights a jump away, and its other

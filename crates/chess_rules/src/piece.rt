@@ -10,7 +10,7 @@ pub enum Colour {
 }
 
 impl Colour {
-    ghost use Rattle.chess_rules.specs.Board.{other, same_colour};
+    ghost use Rattle.chess_rules.specs.Board.{other};
 
     // The other side.
     pub(crate) fn other(self) -> Colour
@@ -20,13 +20,6 @@ impl Colour {
             Colour::White => Colour::Black,
             Colour::Black => Colour::White,
         }
-    }
-
-    // Whether the two are the same colour.
-    pub(crate) fn is(self, colour: Colour) -> bool
-        ensures { result ≡ same_colour self colour }
-    {
-        self == colour
     }
 }
 

@@ -1,23 +1,22 @@
 //! Moves and positions.
 
 ghost use Rattle.std.specs.Prelude.{◌≡◌, ◌<◌, ◌≤◌, IsTrue, Some, is_some, true};
-ghost use Rattle.chess_rules.specs.Board.{at, other};
+ghost use Rattle.chess_rules.specs.Board.{at, has_piece, kings as count_of_kings, other};
+ghost use Rattle.chess_rules.specs.declared.piece.Kind.TheVariants.{King};
 ghost use Rattle.chess_rules.specs.Attacks.{king_attacked};
 ghost use Rattle.chess_rules.specs.Position as spec;
 ghost use Rattle.chess_rules.specs.Step as step;
-ghost use Rattle.chess_rules.specs.Plain.{is_plain as plain_step};
+ghost use Rattle.chess_rules.specs.StepKinds.{kind as step_kind};
 ghost use Rattle.chess_rules.specs.Legal.{legal, is_legal, is_check};
 ghost use Rattle.chess_rules.specs.Reach.{king_square as king_square_of};
-ghost use Rattle.chess_rules.specs.Reach as reach;
 
-use crate::attack::{has_sliders, is_attacked, is_king_attacked, may_attack};
+use crate::attack::{is_attacked, is_king_attacked, may_attack, sliders};
 use crate::board::Board;
-use crate::contents::{has_pawn_on_edge, king_square, kings};
 use crate::geometry::sees;
 use crate::piece::{Colour, Kind, Piece, Promotion};
 use crate::square::Square;
 use crate::squares::Squares;
-use crate::step::{board_after, board_to_test, crossed, is_double_step, is_plain};
+use crate::step::{StepKind, board_after, crossed, is_double_step};
 use std::marker::Model;
 
 /// A move: its origin, its target and what a pawn becomes.
@@ -84,8 +83,6 @@ pub struct Position {
     target: Option<Square>,
     half: u32,
     full: u32,
-    white_king: Square,
-    black_king: Square,
     // Whether the king of the side to move is attacked.
     checked: bool,
 }
@@ -125,8 +122,6 @@ impl Position {
             target: None,
             half: 0,
             full: 1,
-            white_king: Square::nth(4),
-            black_king: Square::nth(60),
             checked: false,
         }
     }
@@ -167,12 +162,11 @@ impl Position {
         if kings(&parts.board, Colour::White) != 1 || kings(&parts.board, Colour::Black) != 1 {
             return Err(PositionFault::Kings);
         }
-        if has_pawn_on_edge(&parts.board) {
+        let board = Board::of(&parts.board);
+        if has_pawn_on_edge(&board) {
             return Err(PositionFault::PawnOnEdge);
         }
-        let board = Board::of(&parts.board);
-        let other_king = king_square(&parts.board, parts.side.other());
-        if is_king_attacked(&board, parts.side.other(), other_king) {
+        if is_king_attacked(&board, parts.side.other()) {
             return Err(PositionFault::KingCapturable);
         }
         if !target_fits(parts.side, parts.target) {
@@ -188,9 +182,7 @@ impl Position {
             target: parts.target,
             half: parts.half,
             full: parts.full,
-            white_king: king_square(&parts.board, Colour::White),
-            black_king: king_square(&parts.board, Colour::Black),
-            checked: is_king_attacked(&board, parts.side, king_square(&parts.board, parts.side)),
+            checked: is_king_attacked(&board, parts.side),
         })
     }
 
@@ -208,21 +200,11 @@ impl Position {
         let _ = &self.board;
     }
 
-    // The square of the colour's king.
-    fn king_of(&self, colour: Colour) -> Square
-        ensures { result ≡ king_square_of colour self.now.board }
-    {
-        match colour {
-            Colour::White => self.white_king,
-            Colour::Black => self.black_king,
-        }
-    }
-
     // The square of the king of the side to move.
     pub(crate) fn king(&self) -> Square
         ensures { result ≡ king_square_of self.now.side self.now.board }
     {
-        self.king_of(self.side)
+        self.board.king(self.side)
     }
 
     // Whether the king of the side to move is attacked.
@@ -234,32 +216,37 @@ impl Position {
 
     // Whether the step, which leaves that board, attacks the other king.
     //
-    // A step that carries one piece attacks it by that piece, or along the line that it leaves.
-    fn gives_check(&self, mv: &Move, plain: bool, board: &Board) -> bool
-        requires plain { plain ≡ plain_step self.now mv.now }
+    // A plain step attacks it by the piece that it moves, or along the line that this leaves.
+    fn gives_check(&self, mv: &Move, kind: StepKind, board: &Board) -> bool
+        requires kind { kind ≡ step_kind self.now mv.now }
         requires on_board { IsTrue (step.is_on_board mv.now) }
         requires step { step.board_after self.now mv.now ≡ Some board.now }
         ensures { result ≡ king_attacked board.now (other self.now.side) }
     {
-        let king = self.king_of(self.side.other());
-        if plain && !sees(mv.from, king) && !may_attack(board, mv.to, king) {
+        let king = board.king(self.side.other());
+        if matches!(kind, StepKind::Plain)
+            && !sees(mv.from, king)
+            && !may_attack(board, mv.to, king)
+        {
             return false;
         }
-        is_attacked(board, self.side, king_after(king, mv))
+        is_attacked(board, self.side, king)
     }
 
     // Whether the king of the side to move is safe after its step.
-    pub(crate) fn is_safe_after(&self, mv: &Move) -> bool
+    pub(crate) fn is_safe_after(&self, mv: &Move, kind: StepKind) -> bool
+        requires kind { kind ≡ step_kind self.now mv.now }
         requires on_board { IsTrue (step.is_on_board mv.now) }
         requires step { IsTrue (is_some (step.board_after self.now mv.now)) }
         ensures { result ≡ is_legal self.now mv.now }
     {
-        self.keeps_line(mv) || self.is_safe_on_board(mv)
+        self.keeps_line(mv, kind) || self.is_safe_on_board(mv, kind)
     }
 
     // Whether a quick test shows that the step leaves the king safe: the king is not attacked and
     // does not move, and the step opens no line to it, or no rook, bishop or queen is on its lines.
-    fn keeps_line(&self, mv: &Move) -> bool
+    fn keeps_line(&self, mv: &Move, kind: StepKind) -> bool
+        requires kind { kind ≡ step_kind self.now mv.now }
         requires on_board { IsTrue (step.is_on_board mv.now) }
         requires step { IsTrue (is_some (step.board_after self.now mv.now)) }
         ensures { result ≡ true → is_legal self.now mv.now ≡ true }
@@ -271,37 +258,36 @@ impl Position {
         if mv.from.is(king) {
             return false;
         }
-        if !is_plain(self, mv) {
+        if !matches!(kind, StepKind::Plain) {
             return false;
         }
         if !sees(mv.from, king) {
             return true;
         }
-        !has_sliders(&self.board, self.side.other(), king)
+        sliders(&self.board, self.side.other(), king).is_empty()
     }
 
     // Whether the king of the side to move is safe on the board after its step.
     #[inline(never)]
-    fn is_safe_on_board(&self, mv: &Move) -> bool
+    fn is_safe_on_board(&self, mv: &Move, kind: StepKind) -> bool
+        requires kind { kind ≡ step_kind self.now mv.now }
         requires on_board { IsTrue (step.is_on_board mv.now) }
         requires step { IsTrue (is_some (step.board_after self.now mv.now)) }
         ensures { result ≡ is_legal self.now mv.now }
     {
-        let king = self.king();
-        let board = board_to_test(self, mv);
-        !is_attacked(&board, self.side.other(), king_after(king, mv))
+        !is_king_attacked(&board_after(self, mv, kind), self.side)
     }
 
     // The position after a legal move.
     #[inline(always)]
-    pub(crate) fn after(&self, mv: &Move) -> Position
+    pub(crate) fn after(&self, mv: &Move, kind: StepKind) -> Position
+        requires kind { kind ≡ step_kind self.now mv.now }
         requires on_board { IsTrue (step.is_on_board mv.now) }
         requires legal { IsTrue (is_legal self.now mv.now) }
         ensures { Some result ≡ legal self.now mv.now }
     {
-        let plain = is_plain(self, mv);
-        let board = board_after(self, mv, plain);
-        let checked = self.gives_check(mv, plain, &board);
+        let board = board_after(self, mv, kind);
+        let checked = self.gives_check(mv, kind, &board);
         Position {
             board,
             side: self.side.other(),
@@ -309,8 +295,6 @@ impl Position {
             target: self.target_after(mv),
             half: self.half_after(mv),
             full: full_after(self.side, self.full),
-            white_king: king_after(self.white_king, mv),
-            black_king: king_after(self.black_king, mv),
             checked,
         }
     }
@@ -382,6 +366,35 @@ impl Position {
     }
 }
 
+fn is_king_of(content: Option<Piece>, colour: Colour) -> bool
+    ensures { result ≡ has_piece colour King content }
+{
+    match content {
+        None => false,
+        Some(piece) => piece.colour == colour && piece.kind == Kind::King,
+    }
+}
+
+// How many kings the colour has.
+fn kings(contents: &[Option<Piece>; 64], colour: Colour) -> usize
+    ensures { result ≡ count_of_kings colour contents.now }
+{
+    contents
+        .iter()
+        .filter(|content| is_king_of(**content, colour))
+        .count()
+}
+
+// Ranks 1 and 8.
+const EDGES: u64 = 0xff00_0000_0000_00ff;
+
+// Whether a pawn is on rank 1 or 8.
+fn has_pawn_on_edge(board: &Board) -> bool
+    ensures { result ≡ spec.pawn_on_edge board.now }
+{
+    !(Squares::of_bits(EDGES) & board.of_kind(Kind::Pawn)).is_empty()
+}
+
 // Whether the target is on the rank that a pawn of the other side crosses by its double step.
 fn target_fits(side: Colour, target: Option<Square>) -> bool
     ensures { result ≡ spec.target_fits side target }
@@ -391,13 +404,6 @@ fn target_fits(side: Colour, target: Option<Square>) -> bool
         (Colour::White, Some(square)) => square.rank() == 5,
         (Colour::Black, Some(square)) => square.rank() == 2,
     }
-}
-
-// The square of a king after the move: the move may be its own.
-fn king_after(king: Square, mv: &Move) -> Square
-    ensures { result ≡ reach.king_after king mv.now }
-{
-    if mv.from.is(king) { mv.to } else { king }
 }
 
 // One more, up to 99,999.

@@ -3,7 +3,7 @@
 ghost use Rattle.std.specs.Prelude.{◌≡◌, ◌<◌, ◌≤◌, ◌^◌, false, length, nat_lt, not};
 ghost use Rattle.chess_rules.specs.Board.{cell_of};
 ghost use Rattle.chess_rules.specs.Words as spec;
-ghost use Rattle.chess_rules.specs.Words.{Carries, FirstOf, IsFirst, IsHighest, IsOnlyHighest, IsOnlyLowest, Joins, Meets, Misses, Places, Sets, Takes};
+ghost use Rattle.chess_rules.specs.Words.{Carries, FirstOf, IsFirst, IsHighest, IsLowest, IsOnly, Joins, Meets, Misses, Places, Sets, Takes};
 
 use crate::square::Square;
 use std::marker::Model;
@@ -71,22 +71,6 @@ fn bit_of(square: Square) -> u64
     ensures inside { cell_of square < 64 }
 {
     1 << square.index()
-}
-
-// The square of the lowest bit that is set.
-fn lowest(bits: u64) -> Square
-    requires { 0 < bits }
-    ensures { IsFirst bits result }
-{
-    Square::nth(bits.trailing_zeros() as usize)
-}
-
-// The square of the highest bit that is set.
-fn highest(bits: u64) -> Square
-    requires { 0 < bits }
-    ensures { IsHighest bits (cell_of result) }
-{
-    Square::nth(63 - bits.leading_zeros() as usize)
 }
 
 impl Squares {
@@ -163,12 +147,12 @@ impl Squares {
         if self.bits == 0 {
             return None;
         }
-        Some(lowest(self.bits))
+        Some(Square::nth(self.bits.trailing_zeros() as usize))
     }
 
     // The first square alone; none of a set that has none.
     pub(crate) fn only_lowest(self) -> Squares
-        ensures { IsOnlyLowest self result }
+        ensures { IsOnly IsLowest self result }
     {
         match self.lowest() {
             None => self,
@@ -180,14 +164,13 @@ impl Squares {
 
     // The last square alone; none of a set that has none.
     pub(crate) fn only_highest(self) -> Squares
-        ensures { IsOnlyHighest self result }
+        ensures { IsOnly IsHighest self result }
     {
         if self.bits == 0 {
             return Squares { bits: 0 };
         }
-        Squares {
-            bits: bit_of(highest(self.bits)),
-        }
+        let last = Square::nth(63 - self.bits.leading_zeros() as usize);
+        Squares { bits: bit_of(last) }
     }
 
     // Takes the first square out of the set, if it has one. Repeated, it goes through all in order.

@@ -1,45 +1,62 @@
 //! One step (pseudo-legal move) of the side to move: which pairs are one, and the board after it.
 
-ghost use Rattle.std.specs.Prelude.{◌≡◌, ◌<◌, IsTrue, Some, None, if◌then◌else◌, is_some, false};
-ghost use Rattle.chess_rules.specs.Board.{at, has_colour};
-ghost use Rattle.chess_rules.specs.Plain as ways;
-ghost use Rattle.chess_rules.specs.declared.piece.Kind.TheVariants.{King, Pawn};
+ghost use Rattle.std.specs.Prelude.{◌≡◌, ◌<◌, ◌||◌, IsTrue, Some, None, is_some};
+ghost use Rattle.chess_rules.specs.Board.{put, some_piece};
 ghost use Rattle.chess_rules.specs.Step as spec;
+ghost use Rattle.chess_rules.specs.StepKinds as kinds;
+ghost use Rattle.chess_rules.specs.declared.piece.Kind.TheVariants.{Pawn, Rook};
 
-use crate::attack::{attacks, is_attacked, is_clear, piece_attacks};
+use crate::attack::{is_attacked, is_clear, piece_attacks};
 use crate::board::Board;
-use crate::geometry::is_ahead;
+use crate::geometry::{is_ahead, reaches};
 use crate::piece::{Colour, Kind, Piece, Promotion};
 use crate::position::{Move, Position};
 use crate::square::Square;
 
-fn home_rank(colour: Colour) -> u8
-    ensures value { result ≡ spec.home_rank colour }
+// The kinds of steps, by what they do to the board.
+#[derive(Clone, Copy)]
+pub(crate) enum StepKind {
+    // One piece goes to the target, or a pawn becomes another there.
+    Plain,
+    // A pawn takes the pawn beside it.
+    EnPassant,
+    // The king goes two files, and the rook of the h file to the square that he crosses.
+    ShortCastling,
+    // The same, with the rook of the a file.
+    LongCastling,
+}
+
+// A wing of the board: the files of its rook, of the king's end, and of the square that the king
+// crosses, where the rook ends.
+#[derive(Clone, Copy)]
+struct Wing {
+    rook: u8,
+    end: u8,
+    crossing: u8,
+}
+
+const SHORT_WING: Wing = Wing {
+    rook: 7,
+    end: 6,
+    crossing: 5,
+};
+
+const LONG_WING: Wing = Wing {
+    rook: 0,
+    end: 2,
+    crossing: 3,
+};
+
+// A rank, counted from 0 at the colour's home rank.
+pub(crate) fn rank_from(colour: Colour, rank: u8) -> u8
+    requires { rank < 8 }
+    ensures value { result ≡ kinds.rank_from colour rank }
     ensures below { result < 8 }
 {
     match colour {
-        Colour::White => 0,
-        Colour::Black => 7,
+        Colour::White => rank,
+        Colour::Black => 7 - rank,
     }
-}
-
-// The rank on which the colour's pawns are promoted.
-pub(crate) fn last_rank(colour: Colour) -> u8
-    ensures { result ≡ spec.last_rank colour }
-{
-    match colour {
-        Colour::White => 7,
-        Colour::Black => 0,
-    }
-}
-
-// Whether a pawn of the side to move may go one square forward. (FIDE Laws 3.7.1)
-fn is_advance(position: &Position, mv: &Move) -> bool
-    ensures { result ≡ spec.is_advance position.now mv.now }
-{
-    mv.from.file() == mv.to.file()
-        && is_ahead(position.side(), mv.from.rank(), mv.to.rank())
-        && position.board().is_empty(mv.to)
 }
 
 // The square between the two ranks of a double step.
@@ -50,26 +67,6 @@ pub(crate) fn crossed(mv: &Move) -> Square
     Square::nth(place as usize)
 }
 
-// The rank on which the colour's pawns begin.
-fn pawn_rank(colour: Colour) -> u8
-    ensures { result ≡ spec.pawn_rank colour }
-{
-    match colour {
-        Colour::White => 1,
-        Colour::Black => 6,
-    }
-}
-
-// The rank that the colour's pawns reach by a double step.
-fn double_rank(colour: Colour) -> u8
-    ensures { result ≡ spec.double_rank colour }
-{
-    match colour {
-        Colour::White => 3,
-        Colour::Black => 4,
-    }
-}
-
 // Whether a pawn of the side to move may go two squares forward. (FIDE Laws 3.7.2)
 pub(crate) fn is_double_step(position: &Position, mv: &Move) -> bool
     ensures { result ≡ spec.is_double_step position.now mv.now }
@@ -77,25 +74,17 @@ pub(crate) fn is_double_step(position: &Position, mv: &Move) -> bool
     let board = position.board();
     let side = position.side();
     mv.from.file() == mv.to.file()
-        && mv.from.rank() == pawn_rank(side)
-        && mv.to.rank() == double_rank(side)
+        && mv.from.rank() == rank_from(side, 1)
+        && mv.to.rank() == rank_from(side, 3)
         && board.is_empty(crossed(mv))
         && board.is_empty(mv.to)
-}
-
-// Whether a piece takes one of the other side. (FIDE Laws 3.7.3)
-fn is_pawn_capture(position: &Position, mv: &Move) -> bool
-    ensures { result ≡ spec.is_pawn_capture position.now mv.now }
-{
-    let board = position.board();
-    board.has_colour(mv.to, position.side().other()) && attacks(board, mv.from, mv.to)
 }
 
 // Whether a promotion is named exactly if the move is one. (FIDE Laws 3.7.3.3)
 fn promotion_fits(position: &Position, mv: &Move) -> bool
     ensures { result ≡ spec.promotion_fits position.now mv.now }
 {
-    (mv.to.rank() == last_rank(position.side())) == mv.promotion.is_some()
+    (mv.to.rank() == rank_from(position.side(), 7)) == mv.promotion.is_some()
 }
 
 // The square of the pawn that is taken in passing.
@@ -120,12 +109,13 @@ fn is_en_passant(position: &Position, mv: &Move) -> bool
     ensures { result ≡ spec.is_en_passant position.now mv.now }
 {
     let board = position.board();
+    let side = position.side();
     is_target(position.target(), mv.to)
-        && board.has_piece(mv.from, position.side(), Kind::Pawn)
+        && board.has_piece(mv.from, side, Kind::Pawn)
         && promotion_fits(position, mv)
         && board.is_empty(mv.to)
-        && attacks(board, mv.from, mv.to)
-        && board.has_piece(captured_pawn(mv), position.side().other(), Kind::Pawn)
+        && reaches(Kind::Pawn, side, mv.from, mv.to)
+        && board.has_piece(captured_pawn(mv), side.other(), Kind::Pawn)
 }
 
 // The square of that file on the side's home rank.
@@ -133,7 +123,7 @@ fn home(position: &Position, file: u8) -> Square
     requires { file < 8 }
     ensures { result ≡ spec.home position.now file }
 {
-    Square::nth(8 * home_rank(position.side()) as usize + file as usize)
+    Square::nth(8 * rank_from(position.side(), 0) as usize + file as usize)
 }
 
 fn short_right(position: &Position) -> bool
@@ -154,28 +144,6 @@ fn long_right(position: &Position) -> bool
     }
 }
 
-// Whether the move leads from the king's square to that file of its rank.
-fn is_king_move(position: &Position, mv: &Move, end: u8) -> bool
-    requires { end < 8 }
-    ensures { result ≡ spec.is_king_move position.now mv.now end }
-{
-    mv.from.is(home(position, 4)) && mv.to.is(home(position, end))
-}
-
-// Whether king and rook are on their squares, and those between are empty.
-fn stand_ready(position: &Position, rook: u8) -> bool
-    requires { rook < 8 }
-    ensures { result ≡ spec.stand_ready position.now rook }
-{
-    let board = position.board();
-    let side = position.side();
-    let king_square = home(position, 4);
-    let rook_square = home(position, rook);
-    board.has_piece(king_square, side, Kind::King)
-        && board.has_piece(rook_square, side, Kind::Rook)
-        && is_clear(board, king_square, rook_square)
-}
-
 // Whether the square on that file of the home rank is not attacked.
 fn is_unattacked(position: &Position, file: u8) -> bool
     requires { file < 8 }
@@ -188,30 +156,28 @@ fn is_unattacked(position: &Position, file: u8) -> bool
     )
 }
 
-// Whether the move is castling with the rook of the h file. (FIDE Laws 3.8.2)
-fn castles_short(position: &Position, mv: &Move) -> bool
-    ensures { result ≡ spec.castles_short position.now mv.now }
+// Whether the move castles on the wing, if the side has that right. (FIDE Laws 3.8.2)
+fn castles(position: &Position, mv: &Move, right: bool, wing: Wing) -> bool
+    requires rook { wing.rook < 8 }
+    requires end { wing.end < 8 }
+    requires crossing { wing.crossing < 8 }
+    ensures { result ≡ spec.castles position.now mv.now right
+        (record { rook = wing.rook; end = wing.end; crossing = wing.crossing }) }
 {
-    is_king_move(position, mv, 6)
+    let board = position.board();
+    let side = position.side();
+    let king = home(position, 4);
+    let rook = home(position, wing.rook);
+    right
         && mv.promotion.is_none()
-        && short_right(position)
-        && stand_ready(position, 7)
+        && mv.from.is(king)
+        && mv.to.is(home(position, wing.end))
+        && board.has_piece(king, side, Kind::King)
+        && board.has_piece(rook, side, Kind::Rook)
+        && is_clear(board, king, rook)
         && is_unattacked(position, 4)
-        && is_unattacked(position, 5)
-        && is_unattacked(position, 6)
-}
-
-// Whether the move is castling with the rook of the a file. (FIDE Laws 3.8.2)
-fn castles_long(position: &Position, mv: &Move) -> bool
-    ensures { result ≡ spec.castles_long position.now mv.now }
-{
-    is_king_move(position, mv, 2)
-        && mv.promotion.is_none()
-        && long_right(position)
-        && stand_ready(position, 0)
-        && is_unattacked(position, 4)
-        && is_unattacked(position, 3)
-        && is_unattacked(position, 2)
+        && is_unattacked(position, wing.crossing)
+        && is_unattacked(position, wing.end)
 }
 
 fn kind_of(promotion: Promotion) -> Kind
@@ -247,29 +213,17 @@ fn carry(position: &Position, mv: &Move, board: &mut Board)
     }
 }
 
-// Captures en passant: the pawn that is captured is not on the target.
+// Puts the rook of a king that castles on the square that the king crosses.
 #[inline(always)]
-fn take_in_passing(position: &Position, mv: &Move, board: &mut Board)
-    requires { board.old ≡ position.now.board }
-    ensures { board.new ≡ spec.en_passant_board position.now mv.now }
+fn move_rook(position: &Position, wing: Wing, board: &mut Board)
+    requires rook { wing.rook < 8 }
+    requires crossing { wing.crossing < 8 }
+    ensures { board.new ≡ put (put board.old (spec.home position.now wing.rook) None)
+        (spec.home position.now wing.crossing) (some_piece position.now.side Rook) }
 {
-    carry(position, mv, board);
-    board.put(captured_pawn(mv), None);
-}
-
-// Castles: the rook goes to the square that the king crossed. `rook` is the file of the rook, and
-// `crossing` that of the crossed square.
-#[inline(always)]
-fn castle(position: &Position, mv: &Move, rook: u8, crossing: u8, board: &mut Board)
-    requires rook { rook < 8 }
-    requires crossing { crossing < 8 }
-    requires board { board.old ≡ position.now.board }
-    ensures { board.new ≡ spec.castled position.now mv.now rook crossing }
-{
-    carry(position, mv, board);
-    board.put(home(position, rook), None);
+    board.put(home(position, wing.rook), None);
     board.put(
-        home(position, crossing),
+        home(position, wing.crossing),
         Some(Piece {
             colour: position.side(),
             kind: Kind::Rook,
@@ -277,60 +231,79 @@ fn castle(position: &Position, mv: &Move, rook: u8, crossing: u8, board: &mut Bo
     );
 }
 
-// Whether the move is a pawn's advance by one or two squares. (FIDE Laws 3.7.1, 3.7.2)
-fn pawn_advances(position: &Position, mv: &Move) -> bool
-    ensures { result ≡ ways.pawn_advances position.now mv.now }
+// Whether the move takes a king further than to the next file.
+fn king_goes_far(position: &Position, mv: &Move) -> bool
+    ensures { result ≡ kinds.king_goes_far position.now mv.now }
 {
-    is_advance(position, mv) || is_double_step(position, mv)
+    let board = position.board();
+    board.has_piece(mv.from, position.side(), Kind::King)
+        && mv.from.file().abs_diff(mv.to.file()) > 1
 }
 
-// Whether a pawn may take so. (FIDE Laws 3.7.3)
-fn pawn_takes(position: &Position, mv: &Move) -> bool
-    ensures { result ≡ ways.pawn_takes position.now mv.now }
+// Whether a pawn goes to the en passant target, which is empty, and leaves its file.
+fn pawn_passes(position: &Position, mv: &Move) -> bool
+    ensures { result ≡ kinds.pawn_passes position.now mv.now }
 {
-    if position.board().is_empty(mv.to) {
-        return is_target(position.target(), mv.to) && is_en_passant(position, mv);
+    let board = position.board();
+    is_target(position.target(), mv.to)
+        && board.has_piece(mv.from, position.side(), Kind::Pawn)
+        && mv.from.file() != mv.to.file()
+        && board.is_empty(mv.to)
+}
+
+// The kind of step that the move is, if it is one. This asks no rule.
+pub(crate) fn kind_of_step(position: &Position, mv: &Move) -> StepKind
+    ensures { result ≡ kinds.kind position.now mv.now }
+{
+    if king_goes_far(position, mv) {
+        if mv.to.file() == 6 {
+            return StepKind::ShortCastling;
+        }
+        return StepKind::LongCastling;
     }
-    is_pawn_capture(position, mv)
+    if pawn_passes(position, mv) {
+        return StepKind::EnPassant;
+    }
+    StepKind::Plain
 }
 
-// Whether a pawn of the side to move, which the origin has, may go so. (FIDE Laws 3.7)
-fn pawn_goes(position: &Position, mv: &Move) -> bool
+// Whether a pawn, which is on the origin, may go so. (FIDE Laws 3.7)
+fn is_pawn_step(position: &Position, mv: &Move) -> bool
     requires { IsTrue (spec.own position.now Pawn mv.now.from) }
-    ensures { result ≡ ways.pawn_goes position.now mv.now }
+    ensures { result ≡ spec.is_pawn_step position.now mv.now }
 {
+    let board = position.board();
+    let side = position.side();
     if !promotion_fits(position, mv) {
         return false;
     }
-    if mv.from.file() == mv.to.file() {
-        return pawn_advances(position, mv);
+    if mv.from.file() != mv.to.file() {
+        return reaches(Kind::Pawn, side, mv.from, mv.to) && board.has_colour(mv.to, side.other());
     }
-    pawn_takes(position, mv)
+    is_ahead(side, mv.from.rank(), mv.to.rank()) && board.is_empty(mv.to)
+        || is_double_step(position, mv)
 }
 
-// Whether a piece of this kind on the origin may go so. It is no pawn, and no piece of its side is
-// on the target. (FIDE Laws 3.1)
-fn piece_goes(position: &Position, kind: Kind, mv: &Move) -> bool
-    requires own { IsTrue (spec.own position.now kind mv.now.from) }
-    requires no_pawn { ¬ (kind ≡ Pawn) }
-    requires free { has_colour position.now.side (at position.now.board mv.now.to) ≡ false }
-    ensures { result ≡ spec.is_piece_step position.now mv.now }
+// Whether a piece of the side to move goes so by itself. The cheapest tests are first.
+fn is_plain_step(position: &Position, mv: &Move) -> bool
+    ensures { result
+        ≡ (spec.is_piece_step position.now mv.now || spec.is_pawn_step position.now mv.now) }
 {
-    if mv.promotion.is_some() {
+    let board = position.board();
+    let side = position.side();
+    if board.has_colour(mv.to, side) {
         return false;
     }
-    piece_attacks(position.board(), kind, position.side(), mv.from, mv.to)
-}
-
-// Whether this move of a king is a step to a neighbouring square, or castling (FIDE Laws 3.8).
-fn king_goes(position: &Position, mv: &Move) -> bool
-    requires own { IsTrue (spec.own position.now King mv.now.from) }
-    requires free { has_colour position.now.side (at position.now.board mv.now.to) ≡ false }
-    ensures { result ≡ ways.king_goes position.now mv.now }
-{
-    piece_goes(position, Kind::King, mv)
-        || castles_short(position, mv)
-        || castles_long(position, mv)
+    let Some(piece) = board.at(mv.from) else {
+        return false;
+    };
+    if piece.colour != side {
+        return false;
+    }
+    match piece.kind {
+        Kind::Pawn => is_pawn_step(position, mv),
+        kind => mv.promotion.is_none() && piece_attacks(board, kind, side, mv.from, mv.to),
+    }
 }
 
 /// Whether the move is a step (pseudo-legal move) of the side to move. (FIDE Laws 3.1 to 3.8)
@@ -368,117 +341,47 @@ pub fn is_step(position: &Position, mv: &Move) -> bool
 {
     mv.from.recall_invariant();
     mv.to.recall_invariant();
-    goes(position, mv)
+    is_step_of_kind(position, mv, kind_of_step(position, mv))
 }
 
-// Whether a piece of the side to move goes so. The cheapest tests are first.
-pub(crate) fn goes(position: &Position, mv: &Move) -> bool
+// Whether the move is a step, by the rules of its kind.
+pub(crate) fn is_step_of_kind(position: &Position, mv: &Move, kind: StepKind) -> bool
+    requires { kind ≡ kinds.kind position.now mv.now }
     ensures { result ≡ is_some (spec.board_after position.now mv.now) }
 {
-    let board = position.board();
-    let side = position.side();
-    if board.has_colour(mv.to, side) {
-        return false;
-    }
-    let Some(piece) = board.at(mv.from) else {
-        return false;
-    };
-    if !side.is(piece.colour) {
-        return false;
-    }
-    match piece.kind {
-        Kind::Pawn => pawn_goes(position, mv),
-        Kind::King => king_goes(position, mv),
-        kind => piece_goes(position, kind, mv),
+    match kind {
+        StepKind::Plain => is_plain_step(position, mv),
+        StepKind::EnPassant => is_en_passant(position, mv),
+        StepKind::ShortCastling => castles(position, mv, short_right(position), SHORT_WING),
+        StepKind::LongCastling => castles(position, mv, long_right(position), LONG_WING),
     }
 }
 
-// Whether the move takes a king further than to the next file.
-fn king_goes_far(position: &Position, mv: &Move) -> bool
-    ensures { result ≡ ways.king_goes_far position.now mv.now }
-{
-    position.recall_invariant();
-    mv.from.recall_invariant();
-    mv.from.is(position.king()) && mv.from.file().abs_diff(mv.to.file()) > 1
-}
-
-// Whether the move, if it is a step, moves one piece and does nothing more.
-pub(crate) fn is_plain(position: &Position, mv: &Move) -> bool
-    ensures { result ≡ ways.is_plain position.now mv.now }
-{
-    !is_target(position.target(), mv.to) && !king_goes_far(position, mv)
-}
-
-// The board after a step, of whatever kind. No rule is asked but that of en passant.
+// The board after a step of that kind. This asks no rule.
 //
 // All that writes to the board is inlined here. So the compiler sees that a test of legality writes
 // to nothing else, and drops it if nobody asks for the result.
 #[inline(always)]
-fn rare_board(position: &Position, mv: &Move) -> Board
-    requires { IsTrue (is_some (spec.board_after position.now mv.now)) }
-    ensures { spec.board_after position.now mv.now ≡ Some result }
-{
-    let mut board = *position.board();
-    if is_en_passant(position, mv) {
-        take_in_passing(position, mv, &mut board);
-        return board;
-    }
-    if !king_goes_far(position, mv) {
-        carry(position, mv, &mut board);
-        return board;
-    }
-    if mv.to.file() == 6 {
-        castle(position, mv, 7, 5, &mut board);
-        return board;
-    }
-    castle(position, mv, 0, 3, &mut board);
-    board
-}
-
-// The same, not inlined: for a caller whose common case it would slow down.
-#[inline(never)]
-fn rare_board_apart(position: &Position, mv: &Move) -> Board
-    requires { IsTrue (is_some (spec.board_after position.now mv.now)) }
-    ensures { spec.board_after position.now mv.now ≡ Some result }
-{
-    rare_board(position, mv)
-}
-
-// The board after a step that moves one piece and does nothing more.
-#[inline(always)]
-fn plain_board(position: &Position, mv: &Move) -> Board
-    requires plain { IsTrue (ways.is_plain position.now mv.now) }
+pub(crate) fn board_after(position: &Position, mv: &Move, kind: StepKind) -> Board
+    requires kind { kind ≡ kinds.kind position.now mv.now }
     requires step { IsTrue (is_some (spec.board_after position.now mv.now)) }
     ensures { spec.board_after position.now mv.now ≡ Some result }
 {
     let mut board = *position.board();
     carry(position, mv, &mut board);
-    board
-}
-
-// The board after a step.
-#[inline(always)]
-pub(crate) fn board_after(position: &Position, mv: &Move, plain: bool) -> Board
-    requires plain { plain ≡ ways.is_plain position.now mv.now }
-    requires step { IsTrue (is_some (spec.board_after position.now mv.now)) }
-    ensures { spec.board_after position.now mv.now ≡ Some result }
-{
-    if plain {
-        plain_board(position, mv)
-    } else {
-        rare_board_apart(position, mv)
-    }
-}
-
-// The same, for a test of the king's safety.
-#[inline(always)]
-pub(crate) fn board_to_test(position: &Position, mv: &Move) -> Board
-    requires { IsTrue (is_some (spec.board_after position.now mv.now)) }
-    ensures { spec.board_after position.now mv.now ≡ Some result }
-{
-    if is_plain(position, mv) {
-        plain_board(position, mv)
-    } else {
-        rare_board(position, mv)
+    match kind {
+        StepKind::Plain => board,
+        StepKind::EnPassant => {
+            board.put(captured_pawn(mv), None);
+            board
+        }
+        StepKind::ShortCastling => {
+            move_rook(position, SHORT_WING, &mut board);
+            board
+        }
+        StepKind::LongCastling => {
+            move_rook(position, LONG_WING, &mut board);
+            board
+        }
     }
 }

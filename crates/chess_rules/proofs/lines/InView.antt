@@ -7,7 +7,7 @@ use Rattle.chess_rules.specs.Square.{Square, squares, inside, in_line, on_diagon
 use Rattle.chess_rules.specs.Board.{Board, at, cell_of, is_empty}
 use Rattle.chess_rules.specs.Attacks.{is_clear}
 use Rattle.chess_rules.specs.Reach.{IsLine, is_in_view, is_open, is_steep, square_at}
-use Rattle.chess_rules.specs.Words.{has, IsHighest, IsLowest, IsOnlyHighest, IsOnlyLowest, Joins, Places}
+use Rattle.chess_rules.specs.Words.{has, IsHighest, IsLowest, IsOnly, Joins, Places}
 use Rattle.chess_rules.proofs.positions.OneKing.{cell_of-square_at}
 use Rattle.chess_rules.proofs.sets.AllSquares.{first_true, second_true, same_tests, each_square, not_true}
 use Rattle.chess_rules.proofs.sets.SetsToSquares.{at_square, one_kept}
@@ -49,7 +49,7 @@ module _ (b : Board) (t : Square) (line occupied up down low high : ℕ) (tf : t
     (on : IsLine (λ s. has line (cell_of s)) t) (pieces : Places occupied (λ s. is_some (at b s)))
     (after : (i : ℕ) → i < 64 → has up i ≡ ((has line i && has occupied i) && not (nat_lt i (cell_of t))))
     (before : (i : ℕ) → i < 64 → has down i ≡ ((has line i && has occupied i) && nat_lt i (cell_of t)))
-    (lowest : IsOnlyLowest up low) (highest : IsOnlyHighest down high) where
+    (lowest : IsOnly IsLowest up low) (highest : IsOnly IsHighest down high) where
   on_line : (i : ℕ) → i < 64 → has line i ≡ true → has line (cell_of (square_at i)) ≡ true
   on_line i h e = grind arith
 

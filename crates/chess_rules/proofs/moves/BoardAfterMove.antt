@@ -1,7 +1,7 @@
--- What a move leaves on the board: one king of each colour, each where it is said to be, and no
--- pawn on rank 1 or 8.
-use Rattle.std.proofs.Common.{◌≡◌, ◌≢◌, ℕ, ◌+◌, Bool, true, false, inl, inr, refl, sym, ◌∙◌, ap, subst, arith, length, cond}
-use Rattle.std.specs.Prelude.{Option, None, if◌then◌else◌}
+-- What a move leaves on the board: one king of each colour, where it was if it does not move,
+-- and no pawn on rank 1 or 8.
+use Rattle.std.proofs.Common.{◌≡◌, ◌≢◌, ℕ, ◌+◌, true, false, inl, inr, sym, ◌∙◌, ap, subst, arith, length, cond}
+use Rattle.std.specs.Prelude.{Option, None}
 use Rattle.chess_rules.specs.declared.piece.Colour.{Colour}
 use Rattle.chess_rules.specs.declared.piece.Kind.TheVariants.{King}
 use Rattle.chess_rules.specs.declared.piece.Piece.{Piece}
@@ -10,10 +10,8 @@ use Rattle.chess_rules.specs.declared.position.Parts.{Parts}
 use Rattle.chess_rules.specs.Square.{Square, same_square}
 use Rattle.chess_rules.specs.Board.{Board, at, put, kings, has_piece, is_pawn}
 use Rattle.chess_rules.specs.Step.{promoted, carried}
-use Rattle.chess_rules.specs.Reach.{king_after}
-use Rattle.chess_rules.proofs.lines.AttackToReach.{squares_same}
 use Rattle.chess_rules.proofs.positions.OneKing.{StandsAt}
-use Rattle.chess_rules.proofs.moves.CellsAfterPut.{OnBoard, at_put, at_put_here, length-put, king_count, kings-put, kings-put_alike}
+use Rattle.chess_rules.proofs.moves.CellsAfterPut.{OnBoard, at_put, length-put, king_count, kings-put, kings-put_alike}
 use Rattle.chess_rules.proofs.positions.RulesOfPosition.{Sound, is_edge, no_pawn_there}
 
 abbrev pub arriving : Parts → Move → Option Piece
@@ -32,7 +30,7 @@ pub record Stays (p : Parts) (m : Move) (b : Board) : Type 0 where
   pub long : length b ≡ 64
   pub kings_of : (c : Colour) → kings c b ≡ 1
   pub pawns : (u : Square) → OnBoard u → is_edge u.rank ≡ true → is_pawn (at b u) ≡ false
-  pub placed : (c : Colour) (k : Square) → StandsAt c p.board k → StandsAt c b (king_after k m)
+  pub placed : (c : Colour) (k : Square) → same_square m.from k ≡ false → StandsAt c p.board k → StandsAt c b k
 
 count_none : (c : Colour) (cell : Option Piece) → has_piece c King cell ≡ false → king_count c cell ≡ 0
 count_none c cell h = ap (λ v. cond v 1 0) h
@@ -46,7 +44,7 @@ carried_stays p m sound lands =
       long = length-put left m.to (arriving p m) ∙ left_long;
       kings_of = kings_kept;
       pawns = no_pawns;
-      placed = λ c k stands. by_own c k stands (same_square m.from k) refl;
+      placed = still;
     }
   where
     left : Board
@@ -80,15 +78,8 @@ carried_stays p m sound lands =
           ]
         ]
 
-    by_own : (c : Colour) (k : Square) → StandsAt c p.board k → (x : Bool) → same_square m.from k ≡ x → StandsAt c (carried p m) (if x then m.to else k)
-    by_own c k stands true same =
-        record {
-          file = lands.on_to.file;
-          rank = lands.on_to.rank;
-          king = ap (has_piece c King) (at_put_here (put p.board m.from None) m.to (arriving p m) left_long lands.on_to)
-              ∙ (lands.alike c ∙ subst (λ (s : Square). has_piece c King (at p.board s) ≡ true) (sym (squares_same m.from k same)) stands.king);
-        }
-    by_own c k stands false differ =
+    still : (c : Colour) (k : Square) → same_square m.from k ≡ false → StandsAt c p.board k → StandsAt c (carried p m) k
+    still c k differ stands =
         record {
           file = stands.file;
           rank = stands.rank;
@@ -120,7 +111,7 @@ put_stays p m b s x stays on free plain =
             | inl here ↦ ap is_pawn here.1 ∙ plain.no_pawn
             | inr there ↦ ap is_pawn there.1 ∙ stays.pawns u on_u edge
           ];
-      placed = λ c k stands. there_still c (king_after k m) (stays.placed c k stands);
+      placed = λ c k apart stands. there_still c k (stays.placed c k apart stands);
     }
   where
     there_still : (c : Colour) (k : Square) → StandsAt c b k → StandsAt c (put b s x) k

@@ -1,19 +1,19 @@
--- A legal move leaves a position, and the kings where they are said to be.
+-- A legal move leaves a position, and a king that does not move where it was.
 use Rattle.std.proofs.Common.{◌≡◌, ℕ, ◌<◌, ◌≤◌, Bool, true, false, not, ◌||◌, ◌⊎◌, inl, inr, refl, sym, ◌∙◌, ap, subst, arith}
 use Rattle.std.specs.Prelude.{nat_lt, Option, None, Some, option_map, if◌then◌else◌}
 use Rattle.std.proofs.lemmas.Bool.Decides.{nat_tests}
 use Rattle.chess_rules.specs.declared.piece.Colour.{Colour}
 use Rattle.chess_rules.specs.declared.position.Move.{Move}
 use Rattle.chess_rules.specs.declared.position.Parts.{Parts}
-use Rattle.chess_rules.specs.Square.{Square, on_board}
+use Rattle.chess_rules.specs.Square.{Square, on_board, same_square}
 use Rattle.chess_rules.specs.Board.{Board, other}
 use Rattle.chess_rules.specs.Attacks.{is_attacked, king_attacked}
-use Rattle.chess_rules.specs.Position.{is_position, target_fits}
+use Rattle.chess_rules.specs.Position.{is_position, one_king, target_fits}
 use Rattle.chess_rules.specs.Step.{is_on_board, is_piece_step, is_pawn_step, is_en_passant, castles_short, castles_long, short_right, long_right, short_wing, long_wing, carried, en_passant_board, castled, board_after, after, target_after, half_after, full_after}
 use Rattle.chess_rules.specs.Legal.{legal, if_safe, is_legal}
-use Rattle.chess_rules.specs.Reach.{king_square, king_after}
+use Rattle.chess_rules.specs.Reach.{king_square}
 use Rattle.chess_rules.specs.Laws.{LeavesPosition}
-use Rattle.chess_rules.proofs.sets.AllSquares.{first_true, second_true}
+use Rattle.chess_rules.proofs.sets.AllSquares.{first_true, second_true, equal_tests}
 use Rattle.chess_rules.proofs.positions.OneKing.{king_stands, king_only_there, king_attacked_there}
 use Rattle.chess_rules.proofs.moves.CellsAfterPut.{OnBoard}
 use Rattle.chess_rules.proofs.positions.RulesOfPosition.{Sound, sound_from_position, position_from_sound, no_pawn_on_edge}
@@ -96,21 +96,22 @@ after_sound p m b sound on h safe =
       full = full_low p.side p.full sound.full;
     }
 
--- each king stands where the move leaves it
-pub king_moves : (p : Parts) (m : Move) (b : Board) (c : Colour) → Sound p → is_on_board m ≡ true → board_after p m ≡ Some b → king_after (king_square c p.board) m ≡ king_square c b
-king_moves p m b c sound on h =
+-- a king that does not move stays where it is
+pub king_stays : (p : Parts) (m : Move) (b : Board) (c : Colour) → Sound p → is_on_board m ≡ true → board_after p m ≡ Some b → same_square m.from (king_square c p.board) ≡ false → king_square c p.board ≡ king_square c b
+king_stays p m b c sound on h apart =
     let stays : Stays p m b = board_stays p m b sound on h in
-    king_only_there c b (king_after (king_square c p.board) m) (king_square c b) stays.long (stays.kings_of c)
-    (stays.placed c (king_square c p.board) (king_stands c p.board sound.long (sound.kings_of c)))
+    king_only_there c b (king_square c p.board) (king_square c b) stays.long (stays.kings_of c)
+    (stays.placed c (king_square c p.board) apart (king_stands c p.board sound.long (sound.kings_of c)))
     (king_stands c b stays.long (stays.kings_of c))
 
--- whether the mover's king is attacked is seen from where the move leaves it
-pub king_seen : (p : Parts) (m : Move) (b : Board) → Sound p → is_on_board m ≡ true → board_after p m ≡ Some b → king_attacked b (other (other p.side)) ≡ is_attacked b (other p.side) (king_after (king_square p.side p.board) m)
-king_seen p m b sound on h =
-    let stays : Stays p m b = board_stays p m b sound on h in
-    ap (king_attacked b) (other-other p.side)
-    ∙ (king_attacked_there p.side b stays.long (stays.kings_of p.side)
-    ∙ ap (is_attacked b (other p.side)) (sym (king_moves p m b p.side sound on h)))
+-- whether a king is attacked is seen from its square
+pub king_seen : (p : Parts) (m : Move) (b : Board) (c : Colour) → is_position p ≡ true → is_on_board m ≡ true → board_after p m ≡ Some b → king_attacked b c ≡ is_attacked b (other c) (king_square c b)
+king_seen p m b c position on h =
+    let stays : Stays p m b = board_stays p m b (sound_from_position p position) on h in
+    king_attacked_there c b stays.long (stays.kings_of c)
+
+pub one_king_after : (p : Parts) (m : Move) (b : Board) (c : Colour) → is_position p ≡ true → is_on_board m ≡ true → board_after p m ≡ Some b → one_king b c ≡ true
+one_king_after p m b c position on h = equal_tests _ 1 ((board_stays p m b (sound_from_position p position) on h).kings_of c)
 
 -- Legality of a step.
 
@@ -145,34 +146,13 @@ leaves_position p q m position h =
     subst (λ (r : Parts). is_position r ≡ true) l.next
     (position_from_sound (after p m l.board) (after_sound p m l.board (sound_from_position p position) l.on l.stepped l.safe))
 
--- what the code looks at, in the words of the rules
-pub attacked_is : (p : Parts) (m : Move) (b : Board) (by : Colour) (king : Square) (attacked : Bool) → is_position p ≡ true → is_on_board m ≡ true → board_after p m ≡ Some b
-    → by ≡ other p.side → king ≡ king_after (king_square p.side p.board) m → attacked ≡ is_attacked b by king → king_attacked b (other (other p.side)) ≡ attacked
-attacked_is p m b by king attacked position on h e f g = grind (arith, on, king_seen, sound_from_position)
-
 pub position_after : (p : Parts) (m : Move) (b : Board) → is_position p ≡ true → is_on_board m ≡ true → board_after p m ≡ Some b → king_attacked b (other (other p.side)) ≡ false → is_position (after p m b) ≡ true
 position_after p m b position on h safe =
     position_from_sound (after p m b) (after_sound p m b (sound_from_position p position) on h safe)
 
--- a king's square that was kept, after the move
-pub king_kept : (p : Parts) (m : Move) (b : Board) (c : Colour) (old new : Square) → is_position p ≡ true → is_on_board m ≡ true → board_after p m ≡ Some b → old ≡ king_square c p.board → new ≡ king_after old m → new ≡ king_square c b
-king_kept p m b c old new position on h e f =
-    f ∙ (ap (λ k. king_after k m) e ∙ king_moves p m b c (sound_from_position p position) on h)
-
 -- a step is legal exactly if the king is not attacked then
-pub legal_unless_attacked : (p : Parts) (m : Move) (b : Board) (by : Colour) (king : Square) (attacked : Bool) → is_position p ≡ true → is_on_board m ≡ true → board_after p m ≡ Some b
-    → by ≡ other p.side → king ≡ king_after (king_square p.side p.board) m → attacked ≡ is_attacked b by king → not attacked ≡ is_legal p m
-legal_unless_attacked p m b by king attacked position on h e f g = by_test attacked (attacked_is p m b by king attacked position on h e f g)
+pub legal_unless_attacked : (p : Parts) (m : Move) (b : Board) (attacked : Bool) → is_on_board m ≡ true → board_after p m ≡ Some b → attacked ≡ king_attacked b p.side → not attacked ≡ is_legal p m
+legal_unless_attacked p m b attacked on h e = by_test attacked (ap (king_attacked b) (other-other p.side) ∙ sym e)
   where
     by_test : (x : Bool) → king_attacked b (other (other p.side)) ≡ x → not x ≡ is_legal p m
     by_test x is = grind arith
-
--- whether the step gives check, seen from where the other king stands then
-pub check_is_seen : (p : Parts) (m : Move) (b : Board) (k : Square) → is_position p ≡ true → is_on_board m ≡ true → board_after p m ≡ Some b
-    → k ≡ king_after (king_square (other p.side) p.board) m → king_attacked b (other p.side) ≡ is_attacked b p.side k
-check_is_seen p m b k position on h is =
-    let sound : Sound p = sound_from_position p position in
-    let stays : Stays p m b = board_stays p m b sound on h in
-    king_attacked_there (other p.side) b stays.long (stays.kings_of (other p.side))
-    ∙ (ap (λ c. is_attacked b c (king_square (other p.side) b)) (other-other p.side)
-    ∙ ap (is_attacked b p.side) (sym (is ∙ king_moves p m b (other p.side) sound on h)))

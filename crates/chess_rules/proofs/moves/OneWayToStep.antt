@@ -20,7 +20,7 @@ no_pawn_moves p m h pawn = grind arith
 pub pawn_of_step : (p : Parts) (m : Move) → is_pawn_step p m ≡ true → own p Pawn m.from ≡ true
 pawn_of_step p m h = first_true (own p Pawn m.from) (is_pawn_way p m && promotion_fits p m) h
 
-en_passant_stands : (p : Parts) (m : Move) → is_en_passant p m ≡ true → ((own p Pawn m.from && promotion_fits p m) && (is_target p.target m.to && is_empty p.board m.to)) ≡ true
+pub en_passant_stands : (p : Parts) (m : Move) → is_en_passant p m ≡ true → ((own p Pawn m.from && promotion_fits p m) && (is_target p.target m.to && is_empty p.board m.to)) ≡ true
 en_passant_stands p m h = first_true _ (attacks p.board m.from m.to && has_piece (other p.side) Pawn (at p.board (captured_pawn m))) h
 
 pub pawn_of_en_passant : (p : Parts) (m : Move) → is_en_passant p m ≡ true → own p Pawn m.from ≡ true

@@ -1,8 +1,8 @@
 -- A plain step gives an attack only by the piece that moves, or along the line that it leaves.
-use Rattle.std.proofs.Common.{◌≡◌, ◌≢◌, ◌≤◌, Bool, true, false, not, ◌&&◌, ◌||◌, ◌⊎◌, inl, inr, refl, sym, ◌∙◌, ap, ap₂, subst, arith, length}
-use Rattle.std.specs.Prelude.{nat_lt, Option, None, Some, is_none, is_some, option_map, if◌then◌else◌}
+use Rattle.std.proofs.Common.{◌≡◌, ◌≢◌, Bool, true, false, not, ◌&&◌, ◌||◌, ◌⊎◌, inl, inr, refl, sym, ◌∙◌, ap, ap₂, subst, arith, length}
+use Rattle.std.specs.Prelude.{Option, None, Some, is_none, is_some, option_map, if◌then◌else◌}
 use Rattle.std.specs.List.{list_any}
-use Rattle.std.proofs.lemmas.Bool.{false≢true, or_cases, not-true, and_from, false_from_ne_true}
+use Rattle.std.proofs.lemmas.Bool.{false≢true, or_cases, and_from, false_from_ne_true}
 use Rattle.std.proofs.lemmas.Bool.Decides.{nat_tests}
 use Rattle.chess_rules.specs.declared.piece.Colour.{Colour}
 use Rattle.chess_rules.specs.declared.piece.Kind.TheVariants.{King, Pawn}
@@ -10,23 +10,24 @@ use Rattle.chess_rules.specs.declared.piece.Piece.{Piece}
 use Rattle.chess_rules.specs.declared.piece.Promotion.{Promotion}
 use Rattle.chess_rules.specs.declared.position.Move.{Move}
 use Rattle.chess_rules.specs.declared.position.Parts.{Parts}
-use Rattle.chess_rules.specs.Square.{Square, on_board, gap, same_square, is_adjacent, between_on_rank, between_on_file, between_on_diagonal, strictly_between, squares}
+use Rattle.chess_rules.specs.Square.{Square, on_board, same_square, between_on_rank, between_on_file, between_on_diagonal, strictly_between, squares}
 use Rattle.chess_rules.specs.Board.{Board, at, put, is_empty, other, has_colour}
 use Rattle.chess_rules.specs.Attacks.{attacks, cell_attacks, is_attacked, is_clear, king_attacked}
 use Rattle.chess_rules.specs.Position.{is_position}
-use Rattle.chess_rules.specs.Step.{own, is_target, is_piece_step, is_pawn_step, is_en_passant, castles_short, castles_long, is_on_board, short_right, long_right, short_wing, long_wing, Wing, promoted, carried, en_passant_board, castled, board_after, after}
+use Rattle.chess_rules.specs.Step.{is_piece_step, is_pawn_step, is_on_board, promoted, carried, board_after, after}
 use Rattle.chess_rules.specs.Legal.{legal, if_safe, is_legal, is_check}
-use Rattle.chess_rules.specs.Reach.{is_aligned, king_square, king_after, slides, slides_with}
-use Rattle.chess_rules.specs.Plain.{is_plain, king_goes_far}
+use Rattle.chess_rules.specs.Reach.{is_aligned, king_square, slides, slides_with}
+use Rattle.chess_rules.specs.declared.step.StepKind.TheVariants.{Plain}
+use Rattle.chess_rules.specs.StepKinds.{kind}
 use Rattle.chess_rules.proofs.sets.AllSquares.{first_true, second_true, each_square, all_squares, Passes, some_square, any_square, not_true, implied}
 use Rattle.chess_rules.proofs.lines.AttackToReach.{squares_same, none_or_all}
 use Rattle.chess_rules.proofs.positions.OneKing.{StandsAt, king_stands, king_attacked_there}
 use Rattle.chess_rules.proofs.moves.CellsAfterPut.{OnBoard, at_put, at_put_here, length-put}
 use Rattle.chess_rules.proofs.positions.RulesOfPosition.{Sound, sound_from_position}
 use Rattle.chess_rules.proofs.moves.BoardAfterMove.{arriving}
-use Rattle.chess_rules.proofs.moves.StepsKeepBoard.{other-other, colour_of_piece, not_both, Castles, castles_means, attacks_as, one_kind, pawn_is_no_king}
-use Rattle.chess_rules.proofs.moves.OneWayToStep.{no_pawn_moves, pawn_of_en_passant, pawn_steps_apart}
-use Rattle.chess_rules.proofs.moves.LegalToPosition.{on_board_means, way_of, legal_unless_attacked, check_is_seen}
+use Rattle.chess_rules.proofs.moves.StepsKeepBoard.{other-other, colour_of_piece, not_both}
+use Rattle.chess_rules.proofs.moves.KindsOfSteps.{obeys, board_of, OfKind, step_of_kind}
+use Rattle.chess_rules.proofs.moves.LegalToPosition.{on_board_means, king_stays, king_seen, legal_unless_attacked}
 
 -- A square between two lies on a line with the second.
 
@@ -125,39 +126,18 @@ pub record PlainStep (p : Parts) (m : Move) (b : Board) : Type 0 where
   pub own : has_colour p.side (at p.board m.from) ≡ true
   pub board : carried p m ≡ b
 
--- a step that is not en passant, and takes no king far
-near_step : (p : Parts) (m : Move) (b : Board) → is_en_passant p m ≡ false → king_goes_far p m ≡ false → board_after p m ≡ Some b → PlainStep p m b
-near_step p m b passes far h =
-    elim (way_of p m b h) [
-      | inl piece ↦ record {
-        own = first_true _ _ (first_true _ _ (first_true _ _ piece.0));
-        board = piece.1;
-      }
-      | inr more ↦ elim more [
-        | inl pawn ↦ record {
-          own = colour_of_piece p.side Pawn (at p.board m.from) (first_true _ _ pawn.0);
-          board = pawn.1;
-        }
-        | inr more ↦ elim more [
-          | inl passing ↦ absurd (false≢true (sym passes ∙ passing.0))
-          | inr more ↦ elim more [
-            | inl short ↦ absurd (no_castling short_wing (omega arith) (castles_means p m (short_right p.side p.rights) short_wing short.0))
-            | inr long ↦ absurd (no_castling long_wing (omega arith) (castles_means p m (long_right p.side p.rights) long_wing long.0))
-          ]
-        ]
-      ]
-    ]
-  where
-    no_castling : (wing : Wing) → 2 ≤ gap 4 wing.end → Castles p m wing → ⊥
-    no_castling wing distant w = grind arith
-
-no_target_no_passing : (p : Parts) (m : Move) → is_target p.target m.to ≡ false → is_en_passant p m ≡ false
-no_target_no_passing p m h = grind arith
-
-pub plain_step : (p : Parts) (m : Move) (b : Board) → is_plain p m ≡ true → board_after p m ≡ Some b → PlainStep p m b
+pub plain_step : (p : Parts) (m : Move) (b : Board) → kind p m ≡ Plain → board_after p m ≡ Some b → PlainStep p m b
 plain_step p m b plain h =
-    near_step p m b (no_target_no_passing p m (not-true (is_target p.target m.to) (first_true _ _ plain)))
-    (not-true (king_goes_far p m) (second_true (not (is_target p.target m.to)) _ plain)) h
+    record {
+      own = elim (or_cases (is_piece_step p m) (is_pawn_step p m) (ap (λ k. obeys k p m) (sym plain) ∙ step.obeys)) [
+        | inl piece ↦ first_true _ _ (first_true _ _ (first_true _ _ piece))
+        | inr pawn ↦ colour_of_piece p.side Pawn (at p.board m.from) (first_true _ _ pawn)
+      ];
+      board = ap (λ k. board_of k p m) (sym plain) ∙ step.board;
+    }
+  where
+    step : OfKind p m b
+    step = step_of_kind p m b h
 
 arriving_own : (c : Colour) (q : Option Promotion) (cell : Option Piece) → has_colour c cell ≡ true → has_colour c (promoted c q cell) ≡ true
 arriving_own c q cell h = grind arith
@@ -165,17 +145,15 @@ arriving_own c q cell h = grind arith
 not_other : (c : Colour) (cell : Option Piece) → has_colour c cell ≡ true → has_colour (other c) cell ≡ false
 not_other c cell h = grind arith
 
-king_waits : (m : Move) (k : Square) → same_square m.from k ≡ false → king_after k m ≡ k
-king_waits m k apart = grind arith
-
 -- the king that stays is safe, if it was not attacked and sees no square that is left
-pub safe_when_plain : (p : Parts) (m : Move) (b : Board) (k : Square) → is_position p ≡ true → is_on_board m ≡ true → board_after p m ≡ Some b → is_plain p m ≡ true
+pub safe_when_plain : (p : Parts) (m : Move) (b : Board) (k : Square) → is_position p ≡ true → is_on_board m ≡ true → board_after p m ≡ Some b → kind p m ≡ Plain
     → k ≡ king_square p.side p.board → is_check p ≡ false → same_square m.from k ≡ false
     → (is_aligned m.from k ≡ false) ⊎ (list_any (slides p.board (other p.side) k) squares ≡ false) → is_legal p m ≡ true
 safe_when_plain p m b k position on h plain is calm_before apart unseen =
-    sym (legal_unless_attacked p m b (other p.side) (king_after (king_square p.side p.board) m) false position on h refl refl
-    (sym (ap (is_attacked b (other p.side)) (ap (λ s. king_after s m) (sym is) ∙ king_waits m k apart)
-    ∙ (ap (λ a. is_attacked a (other p.side) k) (sym step.board) ∙ quiet))))
+    sym (legal_unless_attacked p m b false on h
+    (sym (king_seen p m b p.side position on h
+    ∙ (ap (is_attacked b (other p.side)) (sym (is ∙ king_stays p m b p.side sound on h (subst (λ (s : Square). same_square m.from s ≡ false) is apart)))
+    ∙ (ap (λ a. is_attacked a (other p.side) k) (sym step.board) ∙ quiet)))))
   where
     sound : Sound p
     sound = sound_from_position p position
@@ -201,13 +179,18 @@ safe_when_plain p m b k position on h plain is calm_before apart unseen =
         (none_or_all p.side (arriving p m) arrives) unseen
         (ap (λ x. x && attacks (carried p m) m.to k) (not_other p.side (arriving p m) arrives)) before
 
+-- whether the step gives check, seen from the other king
+pub check_is_seen : (p : Parts) (m : Move) (b : Board) (k : Square) → is_position p ≡ true → is_on_board m ≡ true → board_after p m ≡ Some b
+    → k ≡ king_square (other p.side) b → king_attacked b (other p.side) ≡ is_attacked b p.side k
+check_is_seen p m b k position on h is =
+    king_seen p m b (other p.side) position on h ∙ ap₂ (λ c s. is_attacked b c s) (other-other p.side) (sym is)
+
 -- the other king is not attacked, if the piece that arrives does not attack it, and it sees no
 -- square that is left
-pub no_check_when_plain : (p : Parts) (m : Move) (b : Board) (k : Square) → is_position p ≡ true → is_on_board m ≡ true → board_after p m ≡ Some b → is_plain p m ≡ true
-    → k ≡ king_square (other p.side) p.board → is_aligned m.from k ≡ false → attacks b m.to k ≡ false → king_attacked b (other p.side) ≡ false
+pub no_check_when_plain : (p : Parts) (m : Move) (b : Board) (k : Square) → is_position p ≡ true → is_on_board m ≡ true → board_after p m ≡ Some b → kind p m ≡ Plain
+    → k ≡ king_square (other p.side) b → is_aligned m.from k ≡ false → attacks b m.to k ≡ false → king_attacked b (other p.side) ≡ false
 no_check_when_plain p m b k position on h plain is unseen harmless =
-    check_is_seen p m b k position on h (is ∙ sym (king_waits m (king_square (other p.side) p.board) (subst (λ (s : Square). same_square m.from s ≡ false) is apart)))
-    ∙ (ap (λ a. is_attacked a p.side k) (sym step.board) ∙ quiet)
+    check_is_seen p m b k position on h is ∙ (ap (λ a. is_attacked a p.side k) (sym step.board) ∙ quiet)
   where
     sound : Sound p
     sound = sound_from_position p position
@@ -218,16 +201,19 @@ no_check_when_plain p m b k position on h plain is unseen harmless =
     stands : StandsAt (other p.side) p.board (king_square (other p.side) p.board)
     stands = king_stands (other p.side) p.board sound.long (sound.kings_of (other p.side))
 
-    stands_k : StandsAt (other p.side) p.board k
-    stands_k = subst (λ (s : Square). StandsAt (other p.side) p.board s) (sym is) stands
+    apart : same_square m.from (king_square (other p.side) p.board) ≡ false
+    apart = false_from_ne_true (same_square m.from (king_square (other p.side) p.board)) (λ same. not_both p.side (at p.board (king_square (other p.side) p.board))
+        (subst (λ (s : Square). has_colour p.side (at p.board s) ≡ true) (squares_same m.from (king_square (other p.side) p.board) same) step.own)
+        (colour_of_piece (other p.side) King (at p.board (king_square (other p.side) p.board)) stands.king))
 
-    apart : same_square m.from k ≡ false
-    apart = false_from_ne_true (same_square m.from k) (λ same. not_both p.side (at p.board k)
-        (subst (λ (s : Square). has_colour p.side (at p.board s) ≡ true) (squares_same m.from k same) step.own)
-        (colour_of_piece (other p.side) King (at p.board k) stands_k.king))
+    was : k ≡ king_square (other p.side) p.board
+    was = is ∙ sym (king_stays p m b (other p.side) sound on h apart)
+
+    stands_k : StandsAt (other p.side) p.board k
+    stands_k = subst (λ (s : Square). StandsAt (other p.side) p.board s) (sym was) stands
 
     before : is_attacked p.board p.side k ≡ false
-    before = ap₂ (λ c s. is_attacked p.board c s) (sym (other-other p.side)) is ∙ (sym (king_attacked_there (other p.side) p.board sound.long (sound.kings_of (other p.side))) ∙ sound.safe)
+    before = ap₂ (λ c s. is_attacked p.board c s) (sym (other-other p.side)) was ∙ (sym (king_attacked_there (other p.side) p.board sound.long (sound.kings_of (other p.side))) ∙ sound.safe)
 
     arrives : has_colour p.side (arriving p m) ≡ true
     arrives = arriving_own p.side m.promotion (at p.board m.from) step.own
@@ -241,67 +227,6 @@ no_check_when_plain p m b k position on h plain is unseen harmless =
         (record { file = stands_k.file; rank = stands_k.rank })
         (none_or_all p.side (arriving p m) arrives) (inl unseen)
         (ap (λ x. has_colour p.side (arriving p m) && x) (ap (λ a. attacks a m.to k) step.board ∙ harmless) ∙ no (has_colour p.side (arriving p m))) before
-
--- the board of a step
-pub stepped_board : (p : Parts) (m : Move) → is_some (board_after p m) ≡ true → (b : Board) × (board_after p m ≡ Some b)
-stepped_board p m h = by_board (board_after p m) refl h
-  where
-    by_board : (o : Option Board) → board_after p m ≡ o → is_some o ≡ true → (b : Board) × (board_after p m ≡ Some b)
-    by_board o e g = grind (arith, nat_tests)
-
--- the board of each kind of step
-
-pub near_board : (p : Parts) (m : Move) → is_some (board_after p m) ≡ true → is_en_passant p m ≡ false → king_goes_far p m ≡ false → board_after p m ≡ Some (carried p m)
-near_board p m h passes far =
-    let (b, stepped) = stepped_board p m h in
-    stepped ∙ ap Some (sym (near_step p m b passes far stepped).board)
-
-pub plain_board : (p : Parts) (m : Move) → is_plain p m ≡ true → is_some (board_after p m) ≡ true → board_after p m ≡ Some (carried p m)
-plain_board p m plain h =
-    let (b, stepped) = stepped_board p m h in
-    stepped ∙ ap Some (sym (plain_step p m b plain stepped).board)
-
-third : (v w x y z : Bool) (i j k l : Board) → v ≡ false → w ≡ false → x ≡ true → (if v || w then Some i else if x then Some j else if y then Some k else if z then Some l else None) ≡ Some j
-third v w x y z i j k l e f g = grind arith
-
-pub passing_board : (p : Parts) (m : Move) → is_en_passant p m ≡ true → board_after p m ≡ Some (en_passant_board p m)
-passing_board p m h =
-    third (is_piece_step p m) (is_pawn_step p m) (is_en_passant p m) (castles_short p m) (castles_long p m) _ _ _ _
-    (false_from_ne_true _ (λ piece. no_pawn_moves p m piece (pawn_of_en_passant p m h))) (false_from_ne_true _ (λ pawn. pawn_steps_apart p m pawn h)) h
-
--- a king that goes far castles, to the wing of its target
-far_step : (p : Parts) (m : Move) (b : Board) → is_en_passant p m ≡ false → king_goes_far p m ≡ true → board_after p m ≡ Some b
-    → ((m.to.file ≡ 6) × (castled p m 7 5 ≡ b)) ⊎ ((m.to.file ≡ 2) × (castled p m 0 3 ≡ b))
-far_step p m b passes far h =
-    elim (way_of p m b h) [
-      | inl piece ↦ absurd (no_step (attacks_as p.side King (at p.board m.from) p.board m.from m.to king (first_true _ _ (second_true _ _ piece.0))))
-      | inr more ↦ elim more [
-        | inl pawn ↦ absurd (pawn_is_no_king (one_kind p.side p.side King Pawn (at p.board m.from) king (first_true _ _ pawn.0)))
-        | inr more ↦ elim more [
-          | inl passing ↦ absurd (false≢true (sym passes ∙ passing.0))
-          | inr more ↦ elim more [
-            | inl short ↦ inl (ap (λ s. s.file) (castles_means p m (short_right p.side p.rights) short_wing short.0).to, short.1)
-            | inr long ↦ inr (ap (λ s. s.file) (castles_means p m (long_right p.side p.rights) long_wing long.0).to, long.1)
-          ]
-        ]
-      ]
-    ]
-  where
-    king : own p King m.from ≡ true
-    king = second_true (nat_lt 1 (gap m.from.file m.to.file)) _ far
-
-    no_step : is_adjacent m.from m.to ≡ true → ⊥
-    no_step beside = grind (arith, nat_tests)
-
-pub short_board : (p : Parts) (m : Move) → is_some (board_after p m) ≡ true → is_en_passant p m ≡ false → king_goes_far p m ≡ true → m.to.file ≡ 6 → board_after p m ≡ Some (castled p m 7 5)
-short_board p m h passes far file =
-    let (b, stepped) = stepped_board p m h in
-    elim (far_step p m b passes far stepped) [ inl short ↦ stepped ∙ ap Some (sym short.1) | inr long ↦ absurd (omega arith) ]
-
-pub long_board : (p : Parts) (m : Move) → is_some (board_after p m) ≡ true → is_en_passant p m ≡ false → king_goes_far p m ≡ true → (m.to.file ≡ 6 → ⊥) → board_after p m ≡ Some (castled p m 0 3)
-long_board p m h passes far file =
-    let (b, stepped) = stepped_board p m h in
-    elim (far_step p m b passes far stepped) [ inl short ↦ absurd (file short.0) | inr long ↦ stepped ∙ ap Some (sym long.1) ]
 
 -- a move that is no step is not legal, and a legal one is a step
 by_step : (on : Bool) (p : Parts) (m : Move) (o : Option Board) → is_some o ≡ false → if_safe (if on then option_map (after p m) o else None) ≡ None

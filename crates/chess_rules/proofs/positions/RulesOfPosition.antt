@@ -1,5 +1,5 @@
 -- The rules of a position, one by one.
-use Rattle.std.proofs.Common.{◌≡◌, ℕ, ◌≤◌, Bool, true, false, not, ◌&&◌, ◌||◌, arith, length}
+use Rattle.std.proofs.Common.{◌≡◌, ℕ, ◌≤◌, Bool, true, false, not, ◌&&◌, ◌||◌, subst, arith, length}
 use Rattle.std.specs.Prelude.{◌==◌, nat_le, Option, None, Some, is_none, if◌then◌else◌}
 use Rattle.std.proofs.lemmas.Bool.{and_from, false_from_ne_true}
 use Rattle.chess_rules.specs.declared.piece.Colour.{Colour}
@@ -11,6 +11,8 @@ use Rattle.chess_rules.specs.Square.{Square}
 use Rattle.chess_rules.specs.Board.{Board, at, other, kings, is_pawn}
 use Rattle.chess_rules.specs.Attacks.{king_attacked}
 use Rattle.chess_rules.specs.Position.{is_position, one_king, pawn_on_edge, target_fits}
+use Rattle.chess_rules.specs.StoredPosition.{parts_of, FitsPosition}
+use Rattle.chess_rules.specs.declared.position.Position.TheInside.{Inside}
 use Rattle.chess_rules.proofs.sets.AllSquares.{first_true, second_true, Passes, some_square, any_square, equal_from, equal_tests}
 use Rattle.chess_rules.proofs.moves.CellsAfterPut.{OnBoard}
 
@@ -79,6 +81,10 @@ position_from_sound p s =
       target_ok = s.target;
       numbers_ok = and_from _ _ (at_most_holds p.half 99999 s.half) (at_most_holds p.full 99999 s.full);
     }))
+
+-- what is stored as a position is one
+pub stored_position : (a : Inside) (p : Parts) → FitsPosition a → parts_of a ≡ p → is_position p ≡ true
+stored_position a p kept view = subst (λ (q : Parts). is_position q ≡ true) view kept.position
 
 -- rank 1 or 8
 abbrev pub is_edge : ℕ → Bool

@@ -5,7 +5,7 @@ use Rattle.std.proofs.lemmas.Bool.{false≢true}
 use Rattle.std.specs.Int.{bit_at, leading_zeros, trailing_zeros}
 use Rattle.std.proofs.lemmas.Nat.{leading_length}
 use Rattle.std.proofs.lemmas.Nat.Bits.{bit_at_above, bit_at-trailing_zeros}
-use Rattle.chess_rules.specs.Words.{has, HasNone, IsHighest, IsLowest, IsOnlyHighest, IsOnlyLowest}
+use Rattle.chess_rules.specs.Words.{has, HasNone, IsHighest, IsLowest, IsOnly}
 use Rattle.chess_rules.proofs.sets.AllSquares.{equal_from, equal_tests}
 use Rattle.chess_rules.proofs.sets.WordsToCells.{has_single, has_zero}
 
@@ -39,10 +39,10 @@ highest_place n some fits = by_length (leading_length 64 n fits)
 nothing_in : (w i : ℕ) → w ≡ 0 → has w i ≡ true → ⊥
 nothing_in w i none h = false≢true (sym (has_zero i) ∙ (ap (λ n. has n i) (sym none) ∙ h))
 
-pub no_lowest : (w : ℕ) → HasNone w → IsOnlyLowest w w
+pub no_lowest : (w : ℕ) → HasNone w → IsOnly IsLowest w w
 no_lowest w none = record { here = λ i low h. absurd (false≢true (sym (none.of i low) ∙ h)); there = λ i l. l.here }
 
-pub no_highest : (w : ℕ) → w ≡ 0 → IsOnlyHighest w 0
+pub no_highest : (w : ℕ) → w ≡ 0 → IsOnly IsHighest w 0
 no_highest w none = record { here = λ i _ h. absurd (false≢true (sym (has_zero i) ∙ h)); there = λ i l. absurd (nothing_in w i none l.here) }
 
 at_single : (r n i : ℕ) → r ≡ 2 ^ n → has r i ≡ (i == n)
@@ -52,14 +52,14 @@ at_single r n i is = ap (λ m. has m i) is ∙ has_single n i
 one_of_order : (i n : ℕ) → (i < n → ⊥) → (n < i → ⊥) → i ≡ n
 one_of_order i n h g = grind arith
 
-pub lowest_alone : (w n r : ℕ) → IsLowest w n → r ≡ 2 ^ n → IsOnlyLowest w r
+pub lowest_alone : (w n r : ℕ) → IsLowest w n → r ≡ 2 ^ n → IsOnly IsLowest w r
 lowest_alone w n r lowest is =
     record {
       here = λ i _ h. subst (IsLowest w) (sym (equal_from i n (sym (at_single r n i is) ∙ h))) lowest;
       there = λ i l. at_single r n i is ∙ equal_tests i n (one_of_order i n (λ less. false≢true (sym (lowest.none i less) ∙ l.here)) (λ less. false≢true (sym (l.none n less) ∙ lowest.here)));
     }
 
-pub highest_alone : (w n r : ℕ) → IsHighest w n → r ≡ 2 ^ n → IsOnlyHighest w r
+pub highest_alone : (w n r : ℕ) → IsHighest w n → r ≡ 2 ^ n → IsOnly IsHighest w r
 highest_alone w n r highest is =
     record {
       here = λ i _ h. subst (IsHighest w) (sym (equal_from i n (sym (at_single r n i is) ∙ h))) highest;

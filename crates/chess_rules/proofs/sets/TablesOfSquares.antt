@@ -8,9 +8,26 @@ use Rattle.std.specs.List.{range_with_len}
 use Rattle.std.proofs.lemmas.List.FromFn.{get_or-range_with_len, length-range_with_len}
 use Rattle.chess_rules.specs.Board.{cell_of}
 use Rattle.chess_rules.specs.WordsAndCells.{digit, word_bit}
-use Rattle.chess_rules.specs.Masks.{between_mask}
-use Rattle.chess_rules.specs.Words.{has, mask, Places}
+use Rattle.chess_rules.specs.Words.{has, word, Places}
 use Rattle.chess_rules.specs.Reach.{square_at, is_aligned}
+use Rattle.chess_rules.proofs.positions.OneKing.{square_at-cell_of}
+
+-- What the tables hold.
+
+-- the word of the squares that pass
+unfoldable pub mask : (Square → Bool) → ℕ
+mask test = word (λ i. test (square_at i)) (range_with_len 0 64)
+
+-- for each square: those that lie to it as the test says
+unfoldable pub mask_to : (Square → Square → Bool) → ℕ → ℕ
+mask_to lies n = mask (λ s. lies s (square_at n))
+
+-- for each square, for each square: those strictly between
+unfoldable pub between_mask : ℕ → ℕ
+between_mask n =
+    if is_aligned (square_at (n / 64)) (square_at (n % 64))
+    then mask (λ u. strictly_between (square_at (n / 64)) u (square_at (n % 64)))
+    else 0
 
 -- n numbers from k on
 abbrev pub numbers : ℕ → ℕ → List ℕ
@@ -42,6 +59,14 @@ mask_has test i low =
 
 pub places : (test : Square → Bool) (n : ℕ) → n ≡ mask test → Places n test
 places test n is = record { of = λ i low. ap (λ m. has m i) is ∙ mask_has test i low }
+
+-- a table of the squares that lie to each square so
+pub table_places : (lies : Square → Square → Bool) (table : List ℕ) (t : Square) (i n : ℕ) → table ≡ map (mask_to lies) (numbers 64 0) → n ≡ get_or table i 0
+    → i ≡ cell_of t → i < 64 → t.file < 8 → Places n (λ s. lies s t)
+unfolding mask_to
+table_places lies table t i n are is at low file =
+    places (λ s. lies s t) n
+    (is ∙ (table_at (mask_to lies) table 64 i are low ∙ ap (λ u. mask (λ s. lies s u)) (ap square_at at ∙ square_at-cell_of t file)))
 
 -- two squares again from the number of their pair
 first_of_pair : (s t : Square) → s.file < 8 → t.file < 8 → t.rank < 8 → square_at ((64 * cell_of s + cell_of t) / 64) ≡ s

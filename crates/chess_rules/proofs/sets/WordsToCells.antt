@@ -9,10 +9,11 @@ use Rattle.std.proofs.lemmas.Nat.{and_le_r, or_lt}
 use Rattle.std.proofs.lemmas.Nat.Bits.{bit_at_and, bit_at_or, bit_at_not, bit_at-lt, bit_at-pow_same, bit_at-pow_other, bit_at_ones, bit_at_ones_above}
 use Rattle.chess_rules.specs.declared.piece.Colour.{Colour}
 use Rattle.chess_rules.specs.declared.piece.Kind.{Kind}
+use Rattle.chess_rules.specs.declared.piece.Kind.TheVariants.{King, Queen, Rook, Bishop, Knight, Pawn}
 use Rattle.chess_rules.specs.declared.piece.Piece.{Piece}
 use Rattle.chess_rules.specs.declared.board.Board.TheInside.{Inside}
 use Rattle.chess_rules.specs.WordsAndCells.{cell_at, cells_long}
-use Rattle.chess_rules.specs.Words.{Marks, cell_in, cells, has, Sets, Carries, Chosen, Misses, coded, is_code, is_it, kind_in, is_black, straight_of, diagonal_of, near_of, black_of}
+use Rattle.chess_rules.specs.Words.{Marks, cell_in, cells, has, Sets, Carries, Chosen, Misses, coded, is_code, is_it, is_black, straight_of, diagonal_of, near_of, black_of}
 use Rattle.chess_rules.specs.Reach.{has_kind}
 use Rattle.chess_rules.specs.Board.{has_colour, has_piece}
 
@@ -120,6 +121,15 @@ pub chosen_else : (word rest : ℕ) (value : Bool) → Misses word rest → valu
 chosen_else word rest value h e = record { of = λ i low. h.of i low ∙ ap (λ v. is_it v (has word i)) (sym e) }
 
 -- What the bits say of a cell.
+
+-- a piece of the kind is there, by the three bits
+abbrev pub kind_in : Kind → Bool → Bool → Bool → Bool
+kind_in King straight diagonal near = near && diagonal
+kind_in Queen straight diagonal near = straight && diagonal
+kind_in Rook straight diagonal near = (straight && not diagonal) && not near
+kind_in Bishop straight diagonal near = (diagonal && not straight) && not near
+kind_in Knight straight diagonal near = near && straight
+kind_in Pawn straight diagonal near = (near && not straight) && not diagonal
 
 pub is_occupied : (a b c d : Bool) → ((a || b) || c) ≡ is_some (coded a b c d)
 is_occupied a b c d = grind arith

@@ -1,8 +1,7 @@
 use Rattle.std.proofs.Common.{◌≡◌, ◌+◌, ◌*◌, refl, ◌∙◌, ap, ap₂, arith}
 use Rattle.chess_rules.specs.Board.{cell_of}
-use Rattle.chess_rules.specs.Masks.{between_mask}
-use Rattle.chess_rules.specs.Words.{mask, word}
-use Rattle.chess_rules.proofs.sets.TablesOfSquares.{between_places, table_at}
+use Rattle.chess_rules.specs.Words.{word}
+use Rattle.chess_rules.proofs.sets.TablesOfSquares.{between_mask, between_places, mask, table_at}
 use Rattle.chess_rules.proofs.geometry.between.Goals as goal
 
 pub returns : goal.returns

@@ -1,16 +1,9 @@
-use Rattle.std.proofs.Common.{refl, ◌∙◌, ap}
-use Rattle.chess_rules.specs.Masks.{jump_mask}
+use Rattle.std.proofs.Common.{refl}
 use Rattle.chess_rules.specs.Square.{is_jump}
-use Rattle.chess_rules.specs.Reach.{square_at}
-use Rattle.chess_rules.specs.Words.{mask, word}
-use Rattle.chess_rules.proofs.positions.OneKing.{square_at-cell_of}
-use Rattle.chess_rules.proofs.sets.TablesOfSquares.{places, table_at}
+use Rattle.chess_rules.specs.Words.{word}
+use Rattle.chess_rules.proofs.sets.TablesOfSquares.{mask, mask_to, table_places}
 use Rattle.chess_rules.proofs.geometry.knights_to.Goals as goal
 
 pub returns : goal.returns
-unfolding jump_mask mask word
-returns c =
-    places (λ s. is_jump s c.args.target) _
-    (c.of_bits.ensures
-    ∙ (table_at jump_mask _ 64 c.index.result refl c.index.ensures.below
-    ∙ ap (λ t. mask (λ s. is_jump s t)) (ap square_at c.index.ensures.value ∙ square_at-cell_of c.args.target c.recall_invariant.ensures.file)))
+unfolding mask_to mask word
+returns c = table_places is_jump _ c.args.target c.index.result _ refl c.of_bits.ensures c.index.ensures.value c.index.ensures.below c.recall_invariant.ensures.file

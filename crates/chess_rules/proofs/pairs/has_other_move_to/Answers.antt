@@ -1,23 +1,49 @@
-use Rattle.std.proofs.Common.{◌^◌, length, ap, arith}
+use Rattle.std.proofs.Common.{◌≡◌, ℕ, Bool, ◌+◌, ◌<◌, ◌^◌, length, sym, ◌∙◌, ap, subst, arith}
+use Rattle.std.specs.Prelude.{filter}
+use Rattle.std.specs.List.{list_any}
+use Rattle.chess_rules.specs.declared.position.Parts.{Parts}
+use Rattle.chess_rules.specs.Square.{Square, squares}
 use Rattle.chess_rules.specs.Pairs as spec
+use Rattle.chess_rules.specs.Pairs.{Counts, has_untried_move, count_untried, is_untried, is_legal_pair}
+use Rattle.chess_rules.specs.Words.{Places, members}
+use Rattle.chess_rules.proofs.sets.SetsToSquares.{members_are}
 use Rattle.chess_rules.proofs.trying.SearchThatCounts.{target_fits, fewer_targets, target_hit, no_target}
 use Rattle.chess_rules.proofs.pairs.has_other_move_to.Goals as goal
+
+-- the origins of one target
+module _ (p : Parts) (t : Square) (w : ℕ) (origins : Places w (is_untried p t)) where
+  these : members w ≡ filter (is_untried p t) squares
+  these = members_are w (is_untried p t) origins.of
+
+  found : (r : Bool) → r ≡ list_any (λ s. is_legal_pair p s t) (members w) → r ≡ has_untried_move p t
+  unfolding has_untried_move
+  found r h = h ∙ ap (list_any (λ s. is_legal_pair p s t)) these
+
+  many : length (members w) ≡ count_untried p t
+  unfolding count_untried
+  many = ap length these
+
+  counted : (r : Bool) (old new : ℕ) → Counts r old new (length (members w)) → Counts r old new (count_untried p t)
+  counted r old new h = subst (Counts r old new) many h
 
 pub loop-target-init : goal.loop-target-init
 loop-target-init c = grind arith
 
-pub has_untried_move-requires : goal.has_untried_move-requires
-has_untried_move-requires c =
-    target_fits (spec.has_untried_move c.args.position.now) (spec.count_untried c.args.position.now) c.args.targets c.loop-target.left c.take_lowest.new.self c.args.probes.now c.loop-target.probes c.in-Some.target
-    c.in-Some.ensures.next c.loop-target.invariant (2 ^ 32) c.requires
+pub has_legal_origin-requires : goal.has_legal_origin-requires
+has_legal_origin-requires c =
+    subst (λ n. c.loop-target.probes + n < 2 ^ 32) (sym (many c.args.position.now c.in-Some.target c.untried.result c.untried.ensures))
+    (target_fits (has_untried_move c.args.position.now) (count_untried c.args.position.now) c.args.targets c.loop-target.left c.take_lowest.new.self c.args.probes.now c.loop-target.probes c.in-Some.target
+    c.in-Some.ensures.next c.loop-target.invariant (2 ^ 32) c.requires)
 
-pub returns-then-has_untried_move-clause-found : goal.returns-then-has_untried_move-clause-found
-returns-then-has_untried_move-clause-found c = grind (arith, target_hit)
+pub returns-then-has_legal_origin-clause-found : goal.returns-then-has_legal_origin-clause-found
+returns-then-has_legal_origin-clause-found c =
+    (target_hit (has_untried_move c.args.position.now) (count_untried c.args.position.now) c.args.targets c.loop-target.left c.take_lowest.new.self c.args.probes.now c.loop-target.probes c.in-Some.target
+    c.in-Some.ensures.next c.loop-target.invariant c.has_legal_origin.result c.has_legal_origin.new.probes (found c.args.position.now c.in-Some.target c.untried.result c.untried.ensures c.has_legal_origin.result c.has_legal_origin.ensures.found) c.if-has_legal_origin.true (counted c.args.position.now c.in-Some.target c.untried.result c.untried.ensures c.has_legal_origin.result _ _ c.has_legal_origin.ensures.count)).0
 
-pub returns-then-has_untried_move-clause-count : goal.returns-then-has_untried_move-clause-count
-returns-then-has_untried_move-clause-count c =
-    (target_hit (spec.has_untried_move c.args.position.now) (spec.count_untried c.args.position.now) c.args.targets c.loop-target.left c.take_lowest.new.self c.args.probes.now c.loop-target.probes c.in-Some.target
-    c.in-Some.ensures.next c.loop-target.invariant c.has_untried_move.result c.has_untried_move.new.probes c.has_untried_move.ensures.found c.if-has_untried_move.true c.has_untried_move.ensures.count).1
+pub returns-then-has_legal_origin-clause-count : goal.returns-then-has_legal_origin-clause-count
+returns-then-has_legal_origin-clause-count c =
+    (target_hit (has_untried_move c.args.position.now) (count_untried c.args.position.now) c.args.targets c.loop-target.left c.take_lowest.new.self c.args.probes.now c.loop-target.probes c.in-Some.target
+    c.in-Some.ensures.next c.loop-target.invariant c.has_legal_origin.result c.has_legal_origin.new.probes (found c.args.position.now c.in-Some.target c.untried.result c.untried.ensures c.has_legal_origin.result c.has_legal_origin.ensures.found) c.if-has_legal_origin.true (counted c.args.position.now c.in-Some.target c.untried.result c.untried.ensures c.has_legal_origin.result _ _ c.has_legal_origin.ensures.count)).1
 
 pub loop-target-smaller : goal.loop-target-smaller
 loop-target-smaller c = omega (arith, ap length c.in-Some.ensures.next)
@@ -25,7 +51,7 @@ loop-target-smaller c = omega (arith, ap length c.in-Some.ensures.next)
 pub loop-target-preserved : goal.loop-target-preserved
 loop-target-preserved c =
     fewer_targets (spec.has_untried_move c.args.position.now) (spec.count_untried c.args.position.now) c.args.targets c.loop-target.left c.take_lowest.new.self c.args.probes.now c.loop-target.probes c.in-Some.target
-    c.in-Some.ensures.next c.loop-target.invariant c.has_untried_move.result c.has_untried_move.new.probes c.has_untried_move.ensures.found c.if-has_untried_move.false c.has_untried_move.ensures.count
+    c.in-Some.ensures.next c.loop-target.invariant c.has_legal_origin.result c.has_legal_origin.new.probes (found c.args.position.now c.in-Some.target c.untried.result c.untried.ensures c.has_legal_origin.result c.has_legal_origin.ensures.found) c.if-has_legal_origin.false (counted c.args.position.now c.in-Some.target c.untried.result c.untried.ensures c.has_legal_origin.result _ _ c.has_legal_origin.ensures.count)
 
 pub returns-clause-found : goal.returns-clause-found
 returns-clause-found c =

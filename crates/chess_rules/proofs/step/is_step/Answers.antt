@@ -17,4 +17,4 @@ board_makes_step p m false o h = absurd (false≢true h)
 pub returns : goal.returns
 returns c =
     let on : is_on_board c.args.mv.now ≡ true = grind (arith, nat_tests) in
-    c.goes.ensures ∙ board_makes_step c.args.position.now c.args.mv.now (is_on_board c.args.mv.now) (board_after c.args.position.now c.args.mv.now) on
+    c.is_step_of_kind.ensures ∙ board_makes_step c.args.position.now c.args.mv.now (is_on_board c.args.mv.now) (board_after c.args.position.now c.args.mv.now) on

@@ -1,42 +1,30 @@
 use Rattle.std.proofs.Common.{arith, ◌≡◌, true, false, sym, ◌∙◌, ap, subst}
 use Rattle.std.specs.Prelude.{Some}
-use Rattle.chess_rules.specs.declared.piece.Colour.TheVariants.{White, Black}
 use Rattle.chess_rules.specs.declared.position.Parts.{Parts}
 use Rattle.chess_rules.specs.Board.{other}
 use Rattle.chess_rules.specs.Attacks.{king_attacked}
 use Rattle.chess_rules.specs.Position.{is_position}
 use Rattle.chess_rules.specs.Legal.{is_check}
 use Rattle.chess_rules.specs.Step.{after}
-use Rattle.chess_rules.specs.Reach.{king_square}
-use Rattle.chess_rules.specs.StoredPosition.{parts_of, FitsPosition}
-use Rattle.chess_rules.specs.declared.position.Position.TheInside.{Inside}
-use Rattle.chess_rules.proofs.moves.LegalToPosition.{position_after, king_kept, legal_when}
+use Rattle.chess_rules.specs.StoredPosition.{parts_of}
+use Rattle.chess_rules.proofs.positions.RulesOfPosition.{stored_position}
+use Rattle.chess_rules.proofs.moves.LegalToPosition.{position_after, legal_when}
 use Rattle.chess_rules.proofs.moves.PlainStepAttacks.{step_when_legal}
 use Rattle.chess_rules.proofs.position.Position.after.Goals as goal
 
--- the position before the move is one
-before : (a : Inside) (p : Parts) → FitsPosition a → parts_of a ≡ p → is_position p ≡ true
-before a p kept view = subst (λ (q : Parts). is_position q ≡ true) view kept.position
-
-safe : (c : goal.After-king_after-2) → king_attacked c.board_after-board.result (other (other c.args.self.now.side)) ≡ false
+safe : (c : goal.After-full_after) → king_attacked c.board_after-board.result (other (other c.args.self.now.side)) ≡ false
 safe c = grind arith
 
 -- the parts that are made
-same : (c : goal.After-king_after-2) → parts_of (record { board = c.board_after-board.result; side = c.other.result; rights = c.rights_after.result; target = c.target_after.result; half = c.half_after.result; full = c.full_after.result; white_king = c.king_after.result; black_king = c.king_after-2.result; checked = c.gives_check-checked.result }) ≡ after c.args.self.now c.args.mv.now c.board_after-board.result
+same : (c : goal.After-full_after) → parts_of (record { board = c.board_after-board.result; side = c.other.result; rights = c.rights_after.result; target = c.target_after.result; half = c.half_after.result; full = c.full_after.result; checked = c.gives_check-checked.result }) ≡ after c.args.self.now c.args.mv.now c.board_after-board.result
 same c = grind arith
 
 pub invariant_of-result : goal.invariant_of-result
 invariant_of-result c =
     record {
       position = subst (λ (q : Parts). is_position q ≡ true) (sym (same c))
-          (position_after c.args.self.now c.args.mv.now c.board_after-board.result (before c.self.inside c.args.self.now c.self.invariant c.self.view_is) c.requires.on_board c.board_after-board.ensures (safe c));
-      white_king = king_kept c.args.self.now c.args.mv.now c.board_after-board.result White c.self.inside.white_king c.king_after.result
-          (before c.self.inside c.args.self.now c.self.invariant c.self.view_is) c.requires.on_board c.board_after-board.ensures
-          (c.self.invariant.white_king ∙ ap (λ p. king_square White p.board) c.self.view_is) c.king_after.ensures;
+          (position_after c.args.self.now c.args.mv.now c.board_after-board.result (stored_position c.self.inside c.args.self.now c.self.invariant c.self.view_is) c.requires.on_board c.board_after-board.ensures (safe c));
       checked = c.gives_check-checked.ensures ∙ ap is_check (sym (same c));
-      black_king = king_kept c.args.self.now c.args.mv.now c.board_after-board.result Black c.self.inside.black_king c.king_after-2.result
-          (before c.self.inside c.args.self.now c.self.invariant c.self.view_is) c.requires.on_board c.board_after-board.ensures
-          (c.self.invariant.black_king ∙ ap (λ p. king_square Black p.board) c.self.view_is) c.king_after-2.ensures;
     }
 
 pub returns : goal.returns

@@ -1,9 +1,19 @@
-use Rattle.std.proofs.Common.{arith}
-use Rattle.chess_rules.proofs.sets.LowestAndHighest.{highest_alone, no_highest}
+use Rattle.std.proofs.Common.{◌-◌, ◌<◌, ◌^◌, sym, ◌∙◌, ap, subst, w64, arith}
+use Rattle.std.specs.Int.{leading_zeros}
+use Rattle.chess_rules.specs.Board.{cell_of}
+use Rattle.chess_rules.specs.Words.{IsHighest}
+use Rattle.chess_rules.proofs.positions.OneKing.{cell_of-square_at}
+use Rattle.chess_rules.proofs.sets.LowestAndHighest.{highest_place, highest_alone, no_highest}
 use Rattle.chess_rules.proofs.squares.Squares.only_highest.Goals as goal
 
 pub returns-then-self-eq0 : goal.returns-then-self-eq0
 returns-then-self-eq0 c = grind (arith, no_highest)
 
 pub returns : goal.returns
-returns c = grind (arith, highest_alone)
+returns c =
+    let some : 0 < c.self.inside.bits = grind arith in
+    let fits : c.self.inside.bits < 2 ^ 64 = grind arith in
+    highest_alone c.args.self (cell_of c.nth-last.result) c.bit_of.result
+    (subst (λ n. IsHighest n (cell_of c.nth-last.result)) c.self.view_is
+    (subst (IsHighest c.self.inside.bits) (sym (ap cell_of c.nth-last.ensures ∙ cell_of-square_at (63 - leading_zeros w64 c.self.inside.bits))) (highest_place c.self.inside.bits some fits)))
+    c.bit_of.ensures.bit

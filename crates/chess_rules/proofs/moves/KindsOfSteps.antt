@@ -1,0 +1,191 @@
+-- A step is of one kind, obeys the rules of that kind, and has its board.
+use Rattle.std.proofs.Common.{◌≡◌, ℕ, Bool, true, false, not, ◌&&◌, ◌||◌, ◌⊎◌, inl, inr, refl, sym, ◌∙◌, ap, arith}
+use Rattle.std.specs.Prelude.{nat_lt, ◌==◌, Option, None, Some, is_some, if◌then◌else◌}
+use Rattle.std.proofs.lemmas.Bool.{false≢true, false_from_ne_true, and_from}
+use Rattle.std.proofs.lemmas.Bool.Decides.{nat_tests}
+use Rattle.chess_rules.specs.declared.piece.Kind.TheVariants.{King, Pawn}
+use Rattle.chess_rules.specs.declared.position.Move.{Move}
+use Rattle.chess_rules.specs.declared.position.Parts.{Parts}
+use Rattle.chess_rules.specs.declared.step.StepKind.{StepKind}
+use Rattle.chess_rules.specs.declared.step.StepKind.TheVariants.{Plain, EnPassant, ShortCastling, LongCastling}
+use Rattle.chess_rules.specs.Square.{gap, is_adjacent}
+use Rattle.chess_rules.specs.Attacks.{attacks}
+use Rattle.chess_rules.specs.Board.{Board, at, is_empty, has_colour}
+use Rattle.chess_rules.specs.Step.{own, is_piece_step, is_pawn_way, is_pawn_step, promotion_fits, is_target, is_en_passant, castles_short, castles_long, short_right, long_right, short_wing, long_wing, carried, en_passant_board, castled, board_after}
+use Rattle.chess_rules.specs.StepKinds.{king_goes_far, pawn_passes, kind}
+use Rattle.chess_rules.proofs.sets.AllSquares.{first_true, second_true, same_tests, equal_tests}
+use Rattle.chess_rules.proofs.moves.StepsKeepBoard.{one_kind, not_both, attacks_as, pawn_is_no_king, pawn_attack, Castles, castles_means}
+use Rattle.chess_rules.proofs.moves.OneWayToStep.{no_pawn_moves, pawn_of_step, pawn_of_en_passant, en_passant_stands}
+use Rattle.chess_rules.proofs.moves.LegalToPosition.{way_of}
+
+-- Nothing goes to a square with a piece of its side.
+
+module _ (p : Parts) (m : Move) (mine : has_colour p.side (at p.board m.to) ≡ true) where
+  not_empty_there : is_empty p.board m.to ≡ true → ⊥
+  not_empty_there h = grind arith
+
+  no_pawn_there : is_pawn_way p m ≡ true → ⊥
+  no_pawn_there h = grind (arith, nat_tests, not_empty_there, not_both)
+
+  pub none_there : false ≡ (is_piece_step p m || is_pawn_step p m)
+  none_there =
+      neither (false_from_ne_true (is_piece_step p m) (λ h. false≢true (sym (ap not mine) ∙ second_true _ _ (second_true _ _ h))))
+      (false_from_ne_true (is_pawn_step p m) (λ h. no_pawn_there (first_true (is_pawn_way p m) _ (second_true (own p Pawn m.from) _ h))))
+    where
+      neither : is_piece_step p m ≡ false → is_pawn_step p m ≡ false → false ≡ (is_piece_step p m || is_pawn_step p m)
+      neither g h = grind arith
+
+-- The rules of a kind, and its board.
+
+abbrev pub obeys : StepKind → Parts → Move → Bool
+obeys Plain p m = is_piece_step p m || is_pawn_step p m
+obeys EnPassant p m = is_en_passant p m
+obeys ShortCastling p m = castles_short p m
+obeys LongCastling p m = castles_long p m
+
+abbrev pub board_of : StepKind → Parts → Move → Board
+board_of Plain p m = carried p m
+board_of EnPassant p m = en_passant_board p m
+board_of ShortCastling p m = castled p m 7 5
+board_of LongCastling p m = castled p m 0 3
+
+abbrev kind_by : Bool → Bool → Bool → StepKind
+kind_by far short passes = if far then (if short then ShortCastling else LongCastling) else if passes then EnPassant else Plain
+
+plain_by : (far short passes : Bool) → far ≡ false → passes ≡ false → kind_by far short passes ≡ Plain
+plain_by far short passes e f = grind arith
+
+passing_by : (far short passes : Bool) → far ≡ false → passes ≡ true → kind_by far short passes ≡ EnPassant
+passing_by far short passes e f = grind arith
+
+module _ (p : Parts) (m : Move) where
+  no_far_pawn : own p Pawn m.from ≡ true → king_goes_far p m ≡ false
+  no_far_pawn pawn =
+      false_from_ne_true (king_goes_far p m) (λ far. pawn_is_no_king (one_kind p.side p.side King Pawn (at p.board m.from) (second_true (nat_lt 1 (gap m.from.file m.to.file)) _ far) pawn))
+
+  piece_is_plain : is_piece_step p m ≡ true → kind p m ≡ Plain
+  unfolding kind
+  piece_is_plain h =
+      plain_by (king_goes_far p m) (m.to.file == 6) (pawn_passes p m)
+      (false_from_ne_true (king_goes_far p m) (λ far. near far (attacks_as p.side King (at p.board m.from) p.board m.from m.to (second_true (nat_lt 1 (gap m.from.file m.to.file)) _ far) (first_true _ _ (second_true _ _ h)))))
+      (false_from_ne_true (pawn_passes p m) (λ passes. no_pawn_moves p m h (second_true _ (own p Pawn m.from) (first_true _ _ passes))))
+    where
+      near : king_goes_far p m ≡ true → is_adjacent m.from m.to ≡ true → ⊥
+      near far beside = grind (arith, nat_tests)
+
+  -- a pawn that keeps to its rules goes ahead, or finds a piece
+  file_or_full : is_pawn_way p m ≡ true → (m.from.file ≡ m.to.file) ⊎ (is_empty p.board m.to ≡ false)
+  file_or_full h = grind (arith, nat_tests)
+
+  pawn_is_plain : is_pawn_step p m ≡ true → kind p m ≡ Plain
+  unfolding kind
+  pawn_is_plain h =
+      plain_by (king_goes_far p m) (m.to.file == 6) (pawn_passes p m)
+      (no_far_pawn (pawn_of_step p m h)) (false_from_ne_true (pawn_passes p m) no_passing)
+    where
+      way : is_pawn_way p m ≡ true
+      way = first_true (is_pawn_way p m) _ (second_true (own p Pawn m.from) _ h)
+
+      apart : (not (m.from.file == m.to.file) && is_empty p.board m.to) ≡ true → ⊥
+      apart leaves = elim (file_or_full way) [
+        | inl same ↦ false≢true (sym (ap not (equal_tests m.from.file m.to.file same)) ∙ first_true _ _ leaves)
+        | inr full ↦ false≢true (sym full ∙ second_true _ _ leaves)
+      ]
+
+      no_passing : pawn_passes p m ≡ true → ⊥
+      no_passing passes = apart (second_true (is_target p.target m.to && own p Pawn m.from) _ passes)
+
+  passing_is_en_passant : is_en_passant p m ≡ true → kind p m ≡ EnPassant
+  unfolding kind
+  passing_is_en_passant h = passing_by (king_goes_far p m) (m.to.file == 6) (pawn_passes p m) (no_far_pawn (pawn_of_en_passant p m h)) passes
+    where
+      goes : ((own p Pawn m.from && promotion_fits p m) && (is_target p.target m.to && is_empty p.board m.to)) ≡ true
+      goes = en_passant_stands p m h
+
+      hits : attacks p.board m.from m.to ≡ true
+      hits = first_true _ _ (second_true ((own p Pawn m.from && promotion_fits p m) && (is_target p.target m.to && is_empty p.board m.to)) _ h)
+
+      leaves : (a b : ℕ) → (gap a b == 1) ≡ true → not (a == b) ≡ true
+      leaves a b h = grind arith
+
+      passes : pawn_passes p m ≡ true
+      passes =
+          and_from _ _ (and_from _ _ (first_true _ _ (second_true (own p Pawn m.from && promotion_fits p m) _ goes)) (pawn_of_en_passant p m h))
+          (and_from _ _ (leaves m.from.file m.to.file (first_true _ _ (pawn_attack p m (pawn_of_en_passant p m h) hits))) (second_true (is_target p.target m.to) _ (second_true (own p Pawn m.from && promotion_fits p m) _ goes)))
+
+  castling_is_short : castles_short p m ≡ true → kind p m ≡ ShortCastling
+  unfolding kind
+  castling_is_short h = by_wing (castles_means p m (short_right p.side p.rights) short_wing h)
+    where
+      by_wing : Castles p m short_wing → kind p m ≡ ShortCastling
+      by_wing w = grind arith
+
+  castling_is_long : castles_long p m ≡ true → kind p m ≡ LongCastling
+  unfolding kind
+  castling_is_long h = by_wing (castles_means p m (long_right p.side p.rights) long_wing h)
+    where
+      by_wing : Castles p m long_wing → kind p m ≡ LongCastling
+      by_wing w = grind arith
+
+  -- a step obeys the rules of its kind, and has its board
+  pub record OfKind (b : Board) : Type 0 where
+    pub obeys : obeys (kind p m) p m ≡ true
+    pub board : board_of (kind p m) p m ≡ b
+
+  of_kind : (k : StepKind) (b : Board) → kind p m ≡ k → obeys k p m ≡ true → board_of k p m ≡ b → OfKind b
+  of_kind k b is h g = record { obeys = ap (λ l. obeys l p m) is ∙ h; board = ap (λ l. board_of l p m) is ∙ g }
+
+  pub step_of_kind : (b : Board) → board_after p m ≡ Some b → OfKind b
+  step_of_kind b h =
+      elim (way_of p m b h) [
+        | inl piece ↦ of_kind Plain b (piece_is_plain piece.0) (ap (λ x. x || is_pawn_step p m) piece.0) piece.1
+        | inr more ↦ elim more [
+          | inl pawn ↦ of_kind Plain b (pawn_is_plain pawn.0) (either (is_piece_step p m) (is_pawn_step p m) pawn.0) pawn.1
+          | inr more ↦ elim more [
+            | inl passing ↦ of_kind EnPassant b (passing_is_en_passant passing.0) passing.0 passing.1
+            | inr more ↦ elim more [
+              | inl short ↦ of_kind ShortCastling b (castling_is_short short.0) short.0 short.1
+              | inr long ↦ of_kind LongCastling b (castling_is_long long.0) long.0 long.1
+            ]
+          ]
+        ]
+      ]
+    where
+      either : (x y : Bool) → y ≡ true → (x || y) ≡ true
+      either x y h = grind arith
+
+  -- the board of a step
+  pub stepped_board : is_some (board_after p m) ≡ true → (b : Board) × (board_after p m ≡ Some b)
+  stepped_board h = by_board (board_after p m) refl h
+    where
+      by_board : (o : Option Board) → board_after p m ≡ o → is_some o ≡ true → (b : Board) × (board_after p m ≡ Some b)
+      by_board o e g = grind (arith, nat_tests)
+
+  -- a move is a step exactly if it obeys the rules of its kind
+  pub obeys_if_step : (k : StepKind) → k ≡ kind p m → obeys k p m ≡ is_some (board_after p m)
+  obeys_if_step k is =
+      same_tests (obeys k p m) (is_some (board_after p m)) (there k)
+      (λ h. let (b, stepped) = stepped_board h in ap (λ l. obeys l p m) is ∙ (step_of_kind b stepped).obeys)
+    where
+      some_way : (v w x y z : Bool) (i j k l : Board) → (((v || w) || x) || (y || z)) ≡ true
+          → is_some (if v || w then Some i else if x then Some j else if y then Some k else if z then Some l else None) ≡ true
+      some_way v w x y z i j k l h = grind arith
+
+      one_of : (x y z w : Bool) → (x ≡ true) ⊎ ((y ≡ true) ⊎ ((z ≡ true) ⊎ (w ≡ true))) → ((x || y) || (z || w)) ≡ true
+      one_of x y z w h = grind arith
+
+      made : (((is_piece_step p m || is_pawn_step p m) ≡ true) ⊎ ((is_en_passant p m ≡ true) ⊎ ((castles_short p m ≡ true) ⊎ (castles_long p m ≡ true)))) → is_some (board_after p m) ≡ true
+      made h =
+          some_way (is_piece_step p m) (is_pawn_step p m) (is_en_passant p m) (castles_short p m) (castles_long p m) _ _ _ _
+          (one_of (is_piece_step p m || is_pawn_step p m) (is_en_passant p m) (castles_short p m) (castles_long p m) h)
+
+      there : (l : StepKind) → obeys l p m ≡ true → is_some (board_after p m) ≡ true
+      there Plain h = made (inl h)
+      there EnPassant h = made (inr (inl h))
+      there ShortCastling h = made (inr (inr (inl h)))
+      there LongCastling h = made (inr (inr (inr h)))
+
+  pub board_of_step : (k : StepKind) → k ≡ kind p m → is_some (board_after p m) ≡ true → board_after p m ≡ Some (board_of k p m)
+  board_of_step k is h =
+      let (b, stepped) = stepped_board h in
+      stepped ∙ ap Some (sym (ap (λ l. board_of l p m) is ∙ (step_of_kind b stepped).board))
