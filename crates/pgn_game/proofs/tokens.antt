@@ -8,6 +8,7 @@ pub mod LastTokens
 pub mod MarkerEndsGame
 pub mod MissingCountsAs
 pub mod NextGrows
+pub mod NoneBeforeFault
 pub mod OneMoreToken
 pub mod PairsTriedForToken
 pub mod PutToAnswer

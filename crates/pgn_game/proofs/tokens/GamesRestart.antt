@@ -15,7 +15,7 @@ use Rattle.pgn_game.specs.Text.{game_text, text_of, torn}
 use Rattle.pgn_game.specs.Progress.{Next, going, whole, next, next_in, in_text, Progress, progress_with, progress_after, no_progress, Read, read_from, read, written, output, verdict, verdict_of, refused, totals}
 use Rattle.pgn_game.specs.GamesRestart.{games_read, FinishesGame, counting_also, GamesRestart}
 use Rattle.pgn_game.proofs.tokens.OneMoreToken.{read_from-test, after_test, first_passes, goes_on, stops_from}
-use Rattle.pgn_game.proofs.tokens.GamesInTurn.{reads_behind}
+use Rattle.pgn_game.proofs.tokens.NoneBeforeFault.{reads_behind}
 
 -- ---- Games before what is read
 

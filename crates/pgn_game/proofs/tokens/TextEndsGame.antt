@@ -25,7 +25,8 @@ use Rattle.pgn_game.specs.Progress.{no_progress, Read, read, read_from}
 use Rattle.pgn_game.specs.ConverterCalls.{Converter, Stands}
 use Rattle.pgn_game.specs.GamesRestart.{games_read, FinishesGame}
 use Rattle.pgn_game.specs.GameEnds.{GamesEndByMarker, LastGame, TextsEndBehindMarker, TextsEndBetweenGames}
-use Rattle.pgn_game.proofs.tokens.GamesInTurn.{passes_before, reads_behind}
+use Rattle.pgn_game.proofs.tokens.GamesInTurn.{passes_before}
+use Rattle.pgn_game.proofs.tokens.NoneBeforeFault.{reads_behind}
 use Rattle.pgn_game.proofs.refusals.RefusalsInMovetext.{score_of}
 use Rattle.pgn_game.proofs.tokens.LastTokens.{AddsOne, AreQuiet, HasLast, close, end, left_games, none_torn, quiet_games, refused, word}
 use Rattle.pgn_game.proofs.tokens.SymbolsInText.{in_text, IsInText}
