@@ -15,6 +15,5 @@ pub mod PutToAnswer
 pub mod SoundAtStart
 pub mod StepsAtEnd
 pub mod StepsInPiece
-pub mod SymbolsInText
 pub mod TextEndsGame
 pub mod WholeInput
