@@ -235,6 +235,7 @@ impl Position {
     // Whether the step, which leaves that board, attacks the other king.
     //
     // A step that carries one piece attacks it by that piece, or along the line that it leaves.
+    #[inline(always)]
     fn gives_check(&self, mv: &Move, plain: bool, board: &Board) -> bool
         requires plain { plain ≡ plain_step self.now mv.now }
         requires on_board { IsTrue (step.is_on_board mv.now) }
@@ -316,6 +317,7 @@ impl Position {
     }
 
     // The square crossed by a pawn that goes two squares. (PGN 16.1.3.4)
+    #[inline(always)]
     fn target_after(&self, mv: &Move) -> Option<Square>
         ensures { result ≡ step.target_after self.now mv.now }
     {
@@ -327,6 +329,7 @@ impl Position {
     }
 
     // The halfmove clock after the move. (PGN 16.1.3.5)
+    #[inline(always)]
     fn half_after(&self, mv: &Move) -> u32
         ensures { result ≡ step.half_after self.now mv.now }
     {

@@ -372,6 +372,7 @@ pub fn is_step(position: &Position, mv: &Move) -> bool
 }
 
 // Whether a piece of the side to move goes so. The cheapest tests are first.
+#[inline(always)]
 pub(crate) fn goes(position: &Position, mv: &Move) -> bool
     ensures { result ≡ is_some (spec.board_after position.now mv.now) }
 {
@@ -403,6 +404,7 @@ fn king_goes_far(position: &Position, mv: &Move) -> bool
 }
 
 // Whether the move, if it is a step, moves one piece and does nothing more.
+#[inline(always)]
 pub(crate) fn is_plain(position: &Position, mv: &Move) -> bool
     ensures { result ≡ ways.is_plain position.now mv.now }
 {

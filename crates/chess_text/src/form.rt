@@ -39,6 +39,7 @@ pub enum Form {
 /// assert!(read_form(b"Nbxd7").is_some());
 /// assert_eq!(read_form(b"castles"), None);
 /// ```
+#[inline(always)]
 pub fn read_form(text: &[u8]) -> Option<Form>
     ensures { result ≡ spec.form_of text.now }
 {
