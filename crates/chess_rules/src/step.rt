@@ -71,6 +71,7 @@ fn double_rank(colour: Colour) -> u8
 }
 
 // Whether a pawn of the side to move may go two squares forward. (FIDE Laws 3.7.2)
+#[inline(always)]
 pub(crate) fn is_double_step(position: &Position, mv: &Move) -> bool
     ensures { result ≡ spec.is_double_step position.now mv.now }
 {
@@ -295,6 +296,7 @@ fn pawn_takes(position: &Position, mv: &Move) -> bool
 }
 
 // Whether a pawn of the side to move, which the origin has, may go so. (FIDE Laws 3.7)
+#[inline(always)]
 fn pawn_goes(position: &Position, mv: &Move) -> bool
     requires { IsTrue (spec.own position.now Pawn mv.now.from) }
     ensures { result ≡ ways.pawn_goes position.now mv.now }
