@@ -1,5 +1,7 @@
 """The games of a source, one at a time."""
+import contextlib
 import ctypes
+import mmap
 import re
 from typing import Callable, Iterator, Mapping, NamedTuple, Optional, Tuple
 
@@ -256,20 +258,34 @@ def convert(source: Source, *, checked: bool = False, reduced: bool = False) -> 
     """
     source = _all_of(source)
     if not checked:
-        capacity = 2 * len(source) + 4096
+        capacity, mode = 2 * len(source) + 4096, _library.FULL_FORMAT
+        if reduced:
+            mode = _library.REDUCED_FORMAT
         while True:
-            # its memory is not touched before it is written, as that of ctypes would be
-            room = bytearray(capacity)
+            room = _room(capacity)
             buffer = (ctypes.c_char * capacity).from_buffer(room)
-            mode = _library.REDUCED_FORMAT if reduced else _library.FULL_FORMAT
             found = _library.convert(source, len(source), buffer, capacity, mode)
             if found.status == _library.OK:
-                return bytes(memoryview(room)[:found.written])
+                return room[:found.written]
             if found.status == _library.FAULT:
                 break
             capacity *= 2
     # a fault is found again, with its game and its position
     return b"".join(game.text for game in games(source, checked=checked, reduced=reduced))
+
+
+def _room(size: int) -> mmap.mmap:
+    """Memory of which only the pages that are written take room, and which nobody clears first.
+
+    A bytearray, or a buffer of ctypes, is cleared whole. Large pages, where the system has them,
+    cost fewer page faults.
+    """
+    room = mmap.mmap(-1, size, access=mmap.ACCESS_COPY)
+    advice = getattr(mmap, "MADV_HUGEPAGE", None)
+    if advice is not None:
+        with contextlib.suppress(OSError):
+            room.madvise(advice)
+    return room
 
 
 def _all_of(source: Source) -> bytes:

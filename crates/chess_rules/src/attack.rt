@@ -87,6 +87,7 @@ pub(crate) fn piece_attacks(
 // Whether the piece on `from`, if there is one, attacks `to` if all squares between are empty.
 //
 // From most squares no piece attacks it: these need no look at the board.
+#[inline(always)]
 pub(crate) fn may_attack(board: &Board, from: Square, to: Square) -> bool
     ensures { result ≡ false → spec.attacks board.now from to ≡ false }
 {

@@ -300,6 +300,7 @@ impl Position {
     }
 
     // The square crossed by a pawn that goes two squares. (PGN 16.1.3.4)
+    #[inline(always)]
     fn target_after(&self, mv: &Move) -> Option<Square>
         ensures { result ≡ step.target_after self.now mv.now }
     {
@@ -311,6 +312,7 @@ impl Position {
     }
 
     // The halfmove clock after the move. (PGN 16.1.3.5)
+    #[inline(always)]
     fn half_after(&self, mv: &Move) -> u32
         ensures { result ≡ step.half_after self.now mv.now }
     {

@@ -68,6 +68,7 @@ pub(crate) fn crossed(mv: &Move) -> Square
 }
 
 // Whether a pawn of the side to move may go two squares forward. (FIDE Laws 3.7.2)
+#[inline(always)]
 pub(crate) fn is_double_step(position: &Position, mv: &Move) -> bool
     ensures { result ≡ spec.is_double_step position.now mv.now }
 {

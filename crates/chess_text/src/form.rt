@@ -39,6 +39,7 @@ pub enum Form {
 /// assert!(read_form(b"Nbxd7").is_some());
 /// assert_eq!(read_form(b"castles"), None);
 /// ```
+#[inline(always)]
 pub fn read_form(text: &[u8]) -> Option<Form>
     ensures { result ≡ spec.form_of text.now }
 {
@@ -50,6 +51,7 @@ pub fn read_form(text: &[u8]) -> Option<Form>
 
 // The form of a text with one of the most common shapes: `e4`, `Nf3`, `Nxf3` or `exd5`. For any
 // other text it is `None`.
+#[inline(always)]
 fn common_form(text: &[u8]) -> Option<Form>
     ensures { IfSome result (λ form. spec.form_of text.now ≡ Some form) }
 {

@@ -105,8 +105,8 @@ fn rank_text(position: &Position, rank: u8) -> ArrayVec<u8, 8>
 {
     let mut text = ArrayVec::new();
     let mut run = 0u8;
-    for cell in cells_of_rank(position, rank) {
-        match cell {
+    for file in 0..8 {
+        match cell(position, file, rank) {
             None => run += 1,
             Some(piece) => {
                 push_run(&mut text, run);
@@ -128,23 +128,6 @@ fn push_run(text: &mut ArrayVec<u8, 8>, run: u8)
     if run > 0 {
         text.push(b'0' + run);
     }
-}
-
-// The content of the squares of the rank, from file a to file h.
-fn cells_of_rank(position: &Position, rank: u8) -> [Option<Piece>; 8]
-    requires { rank < 8 }
-    ensures { result ≡ row position.now.board rank }
-{
-    [
-        cell(position, 0, rank),
-        cell(position, 1, rank),
-        cell(position, 2, rank),
-        cell(position, 3, rank),
-        cell(position, 4, rank),
-        cell(position, 5, rank),
-        cell(position, 6, rank),
-        cell(position, 7, rank),
-    ]
 }
 
 // The content of the square.

@@ -1,5 +1,6 @@
 -- Lemmas on the memory that a caller is given, and on the lines of tag pairs.
 pub mod ConversionToBuffer
+pub mod MarkerTaken
 pub mod MoreBytesBehind
 pub mod PairsOnLines
 pub mod NextGames

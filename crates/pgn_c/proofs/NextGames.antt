@@ -118,9 +118,6 @@ module _ (mode : Mode) (missing : Marker) (u piece : List ℕ) (before : Option 
   whole_of : (read p (tokens_of s)).fault ≡ None → due p (tokens_of s) ≡ text_of p (games_read p (tokens_of s))
   whole_of passes = between p s passes
 
-  none_or_some : (o : Option Fault) (f : Fault) → o ≡ Some f → o ≡ None → ⊥
-  none_or_some o f a b = cc
-
   last_is : (xs ys : List Game) (x y : Game) → xs ++ x ∷ [] ≡ ys ++ y ∷ [] → x ≡ y
   last_is [] [] x y e = cc
   last_is [] (z ∷ zs) x y e = absurd (omega (arith, ap (length {A = Game}) e, length-append zs (y ∷ [])))
@@ -221,6 +218,7 @@ module _ (mode : Mode) (missing : Marker) (u piece : List ℕ) (before : Option 
               tokens = to.fed.tokens;
               first = let all = known [] in (all.0, ap tokens_of (sym (append-nil s)) ∙ all.1);
               stops = writing;
+              no_game = none;
               is_result = is;
             })
     fault_fed new _ (too_long front rest cut place some (now, fed, same)) kept answer =
@@ -232,6 +230,7 @@ module _ (mode : Mode) (missing : Marker) (u piece : List ℕ) (before : Option 
           some = some;
           tokens = fed.tokens;
           known = λ more. (coming now.lexer more, fed.stands.lexer.tokens more (subst (λ b. Follows b more) (sym (still_none front)) tt));
+          all_decided = λ less. fed.decided (omega (arith, less, ap (length {A = ℕ}) cut, length-append front rest));
           passes = fed.stands.has_read.passes;
           no_game = fed.no_game;
           wrote = subst (Appends before after) (sym fed.gains.due_for) fed.gains.appended;
@@ -302,19 +301,15 @@ module _ (mode : Mode) (missing : Marker) (u piece : List ℕ) (before : Option 
           by_games (g ∷ gs) is =
               let some : IsTrue false = fin.game.1 (omega (arith, ap (length {A = Game}) is, ap (length {A = Game}) fed.no_game)) in absurd (cc)
 
-      pub fault_at_end : (new : Converter) (f : Fault) → TextsEndBehindMarker → FinishesToFault p s fed.tokens new f middle after → new.fault ≡ Some f
+      pub fault_at_end : (new : Converter) (f : Fault) → FinishesToFault p s fed.tokens new f middle after → new.fault ≡ Some f
           → result ≡ fault_result (status_for 5 f.reason) f (refused_position new) → NextOf p s piece result before after
-      fault_at_end new f law fin kept answer = by_stops f fin.stops (answer ∙ ap (fault_result (status_for 5 f.reason) f) (position_is new f kept ∙ fin.position))
+      unfolding writing_more
+      fault_at_end new f fin kept answer =
+          by_stops f fin.stops (answer ∙ ap (fault_result (status_for 5 f.reason) f) (position_is new f kept ∙ fin.position)) (fin.no_game ∙ fed.no_game)
         where
-          no_game : (g : Fault) → (read p (tokens_of s)).fault ≡ Some g → (gs : List Game) → games_read p (tokens_of s) ≡ gs → games_read p (tokens_of s) ≡ []
-          no_game g fault [] is = is
-          no_game g fault (h ∷ gs) is =
-              let last = law p mid s fed.tokens stands (omega (arith, ap (length {A = Game}) is, ap (length {A = Game}) fed.no_game)) in
-              absurd (none_or_some _ g fault last.passes)
-
-          by_stops : (g : Fault) (stops : Stops p fed.tokens (tokens_of s) middle after g) → result ≡ fault_result (status_for 5 g.reason) g (position_at_stop stops)
+          by_stops : (g : Fault) (stops : Stops p fed.tokens (tokens_of s) middle after g) → result ≡ fault_result (status_for 5 g.reason) g (position_at_stop stops) → games_before stops ≡ []
               → NextOf p s piece result before after
-          by_stops g (refused _ fault gains) is =
+          by_stops g (refused _ fault gains) is none =
               next.needs_more (record {
                 fault = g;
                 tokens = fed.tokens;
@@ -323,15 +318,16 @@ module _ (mode : Mode) (missing : Marker) (u piece : List ℕ) (before : Option 
                 none_yet = fed.no_game;
                 all_decided = fed.decided;
                 rejected = fault;
-                no_game = no_game g fault (games_read p (tokens_of s)) refl;
+                no_game = none;
                 wrote = all_due gains;
                 is_result = is;
               })
-          by_stops _ (unwritten at writing) is =
+          by_stops _ (unwritten at writing) is none =
               next.full (record {
                 at = at;
                 tokens = tokens_of s;
                 first = ([], sym (append-nil (tokens_of s)));
                 stops = writing_more p [] fed.tokens (tokens_of s) at before middle after fed.gains writing;
+                no_game = none;
                 is_result = is;
               })

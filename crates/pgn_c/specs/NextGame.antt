@@ -19,6 +19,7 @@ use Rattle.pgn_game.specs.declared.reason.Reason.TheVariants.{WriteFault, InputT
 use Rattle.pgn_game.specs.declared.reason.Fault.{Fault}
 use Rattle.pgn_game.specs.Markers.{marker_text}
 use Rattle.pgn_game.specs.Profile.{Profile, counting}
+use Rattle.pgn_game.specs.Checked.{checked_profile}
 use Rattle.pgn_game.specs.Reason.{number_of, line_of}
 use Rattle.pgn_game.specs.Game.{Game}
 use Rattle.pgn_game.specs.Levels.{plies_of, last_position}
@@ -130,16 +131,19 @@ pub record NeedsMore (p : Profile) (s piece : List ℕ) (result : PgnGame) (befo
   pub wrote : Appends before after (due p (tokens_of s))
   pub is_result : result ≡ fault_result (status_for 5 fault.reason) fault (position_at_fault (read p (tokens_of s)))
 
--- The buffer is full: more is due for the token at this place and those before it.
+-- The buffer is full: more is due for the token at this place and those before it. These are of the
+-- first game.
 pub record IsFull (p : Profile) (s : List ℕ) (result : PgnGame) (before after : Option (List ℕ)) : Type 0 where
   pub at : ℕ
   pub tokens : List Token
   pub first : (later : List Token) × (tokens_of s ≡ tokens ++ later)
   pub stops : StopsWriting p [] tokens at before after
+  pub no_game : games_read p stops.front ≡ []
   pub is_result : result ≡ fault_result 2 (record { at = at; reason = WriteFault }) None
 
 -- The text has a byte at place 2^62, and those before it neither decide a game nor reject a token.
-pub record IsTooLong (p : Profile) (s : List ℕ) (result : PgnGame) (before after : Option (List ℕ)) : Type 0 where
+-- All tokens that they decide were read, if a byte of the piece is among them.
+pub record IsTooLong (p : Profile) (s piece : List ℕ) (result : PgnGame) (before after : Option (List ℕ)) : Type 0 where
   pub bytes : List ℕ
   pub rest : List ℕ
   pub cut : s ≡ bytes ++ rest
@@ -147,6 +151,7 @@ pub record IsTooLong (p : Profile) (s : List ℕ) (result : PgnGame) (before aft
   pub some : 0 < length rest
   pub tokens : List Token
   pub known : AreKnown bytes tokens
+  pub all_decided : length rest < length piece → tokens ≡ decided bytes
   pub passes : (read p tokens).fault ≡ None
   pub no_game : games_read p tokens ≡ []
   pub wrote : Appends before after (due p tokens)
@@ -159,7 +164,7 @@ pub data NextOf (p : Profile) (s piece : List ℕ) (result : PgnGame) (before af
   rejected : IsRejected p s result before after → NextOf p s piece result before after
   needs_more : NeedsMore p s piece result before after → NextOf p s piece result before after
   full : IsFull p s result before after → NextOf p s piece result before after
-  too_long : IsTooLong p s result before after → NextOf p s piece result before after
+  too_long : IsTooLong p s piece result before after → NextOf p s piece result before after
 
 -- ---- the calls
 
@@ -185,6 +190,26 @@ ReadsNext mode marker text from found = NextOf (profile_counting mode marker) (t
 abbrev pub IsOtherResult : Mode → Marker → List ℕ → ℕ → Type 0
 IsOtherResult mode marker text from = (found : PgnGame) × ReadsNext mode marker text from found × (found.fault ≡ 41)
 
+-- A missing Result takes the marker
+abbrev pub profile_taking : Mode → Profile
+profile_taking mode = checked_profile 64 32 mode
+
+-- A missing Result takes the marker: the first tokens of the text, up to its marker, are read into
+-- this game, and the buffer begins with its export text.
+pub record TakesMarker (mode : Mode) (s : List ℕ) (before after : List ℕ) (result : PgnGame) : Type 0 where
+  pub tokens : List Token
+  pub at : Token
+  pub marker : Marker
+  pub game : Game
+  pub first : (later : List Token) × (tokens_of s ≡ tokens ++ at ∷ later)
+  pub passes : (read (profile_taking mode) (tokens ++ at ∷ [])).fault ≡ None
+  pub one_game : games_read (profile_taking mode) (tokens ++ at ∷ []) ≡ game ∷ []
+  pub is_marker : game.marker ≡ marker_text marker
+  pub ends : EndsAt at.kind at.at result.end
+  pub filled : IsFilled before after (game_text (profile_taking mode) game)
+  pub is_result : result
+      ≡ record (game_result game marker at.at result.end) { written = length (game_text (profile_taking mode) game) }
+
 -- A missing Result takes the marker: it counts as one with which the Result of the game is its
 -- marker, if there is one. A game is converted into the buffer; without a game nothing is written.
 pub record ChecksNext (mode : Mode) (text : List ℕ) (from : ℕ) (before after : List ℕ) (result : PgnGame) : Type 0 where
@@ -194,6 +219,7 @@ pub record ChecksNext (mode : Mode) (text : List ℕ) (from : ℕ) (before after
   pub not_full : found.status ≢ 2
   pub is_game : found.status ≡ 0
       → ConvertsNext (profile_counting mode marker) text from before after result
+  pub takes : result.status ≡ 0 → TakesMarker mode (text_from text from) before after result
   pub no_game : found.status ≢ 0 → (after ≡ before) × (result ≡ found)
   pub by_each : found.fault ≡ 41 → (other : Marker) → IsOtherResult mode other text from
 

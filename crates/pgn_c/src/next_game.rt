@@ -12,7 +12,9 @@ use crate::buffer_sink::{Before, BufferSink, Room};
 use crate::game_result::{BAD_PLACE, MORE, NO_GAME, PgnGame, finished_game, no_game, refused_game};
 use crate::pgn_result::{FAULT, NO_MODE, OK};
 use crate::{LEVELS, TAGS};
-use pgn_game::laws::{games_end_by_marker, texts_end_behind_marker, texts_end_between_games};
+use pgn_game::laws::{
+    games_end_by_marker, missing_results, texts_end_behind_marker, texts_end_between_games,
+};
 use pgn_game::{Converter, Fed, Marker, Mode, Nowhere, Reason, Sink};
 use std::marker::{Brand, PhantomData};
 
@@ -54,6 +56,7 @@ fn check_next(text: &[u8], from: usize, mode: Mode, buffer: &mut [u8]) -> PgnGam
     requires place { from ≤ 2 ^ 62 }
     ensures { ChecksNext mode text.now from buffer.old buffer.new result }
 {
+    missing_results();
     let read = read_by_marker(text, from, mode);
     if read.found.status == OK {
         return convert_next(text, from, mode, read.marker, buffer);

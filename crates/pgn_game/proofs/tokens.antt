@@ -8,12 +8,12 @@ pub mod LastTokens
 pub mod MarkerEndsGame
 pub mod MissingCountsAs
 pub mod NextGrows
+pub mod NoneBeforeFault
 pub mod OneMoreToken
 pub mod PairsTriedForToken
 pub mod PutToAnswer
 pub mod SoundAtStart
 pub mod StepsAtEnd
 pub mod StepsInPiece
-pub mod SymbolsInText
 pub mod TextEndsGame
 pub mod WholeInput

@@ -311,10 +311,12 @@ pub record Finishes (p : Profile) (u : List ℕ) (given : List Token) (new : Con
   pub none_just_finished : finished_game ≡ false → new.just_finished ≡ None
   pub gains : Gains p given (tokens_of u) before after
 
--- The text u has ended, but one of its tokens is rejected, or a write failed. The games before that
--- are counted, and the reader holds the position in which a move was rejected.
+-- The text u has ended, but one of its tokens is rejected, or a write failed. Before that the end
+-- finished no game. The games are counted, and the reader holds the position in which a move was
+-- rejected.
 pub record FinishesToFault (p : Profile) (u : List ℕ) (given : List Token) (new : Converter) (f : Fault) (before after : Option (List ℕ)) : Type 0 where
   pub stops : Stops p given (tokens_of u) before after f
+  pub no_game : games_before stops ≡ (read p given).progress.games
   pub games : new.games ≡ length (games_before stops)
   pub counts : ProbesAtStop stops new.reading.most_probes
   pub position : reported_position new.reading f.reason ≡ position_at_stop stops

@@ -16,7 +16,7 @@ use chess_text::laws::{
 };
 use pgn_layout::laws::lines_keep_tokens;
 use pgn_lexer::laws::{
-    decided_is_prefix, lexes_once, numbers_are_symbols, texts_restart, tokens_are_sound,
+    decided_is_prefix, numbers_are_symbols, symbols_stand_in_text, texts_restart, tokens_are_sound,
     tokens_rise, written_tokens_are_read_back,
 };
 
@@ -60,7 +60,7 @@ pub fn games_end_by_marker()
 pub fn texts_end_behind_marker()
     ensures { ends.TextsEndBehindMarker }
 {
-    lexes_once();
+    symbols_stand_in_text();
     games_end_by_marker();
 }
 

@@ -32,10 +32,13 @@ impl Default for Level {
     }
 }
 
-/// The levels of the current game: at least one and at most `L`, the main line first.
+/// The levels of the current game: at least one and at most `L`.
 #[derive(Drop)]
 pub struct Levels<const L: usize> {
-    levels: ArrayVec<Level, L>,
+    current: Level,
+    // The levels around it, the main line first. Each is `Some`: so the blank places of the vector
+    // are zeros, and the toolchain makes a new one by a single call of `memset`.
+    around: ArrayVec<Option<Level>, L>,
 }
 
 impl<const L: usize> Model for Levels<L> {
@@ -43,9 +46,9 @@ impl<const L: usize> Model for Levels<L> {
 
     ghost Value = { Seen };
 
-    ghost view = { λ l. code_levels l.levels.items };
+    ghost view = { λ l. code_levels l.current l.around.items };
 
-    ghost invariant = { λ l. FitsLevelStore L l.levels.items };
+    ghost invariant = { λ l. FitsLevelStore L l.around.items };
 }
 
 impl<const L: usize> Levels<L> {
@@ -54,17 +57,18 @@ impl<const L: usize> Levels<L> {
         requires { 1 ≤ L }
         ensures { result ≡ only_level first_position }
     {
-        let mut levels = ArrayVec::new();
-        levels.push(Level::at(Position::initial()));
-        Levels { levels }
+        Levels {
+            current: Level::at(Position::initial()),
+            around: ArrayVec::new(),
+        }
     }
 
     /// Begins a game: the main line alone, at this position.
     pub fn begin(&mut self, start: Position)
         ensures { self.new ≡ only_level start }
     {
-        self.levels.truncate(1);
-        self.levels[0] = Level::at(start);
+        self.around.clear();
+        self.current = Level::at(start);
     }
 
     /// Returns the position of the current level.
@@ -72,7 +76,7 @@ impl<const L: usize> Levels<L> {
     pub fn present(&self) -> &Position
         ensures { result.now ≡ self.now.present.present }
     {
-        &self.levels[self.levels.len() - 1].present
+        &self.current.present
     }
 
     /// Returns how many variations are open.
@@ -81,7 +85,7 @@ impl<const L: usize> Levels<L> {
         ensures value { result ≡ length self.now.around }
         ensures room { result + 1 ≤ L }
     {
-        self.levels.len() - 1
+        self.around.len()
     }
 
     /// Whether a move was played at the current level.
@@ -89,7 +93,7 @@ impl<const L: usize> Levels<L> {
     pub fn has_own_move(&self) -> bool
         ensures { result ≡ is_some self.now.present.before }
     {
-        self.levels[self.levels.len() - 1].before.is_some()
+        self.current.before.is_some()
     }
 
     /// Plays a move that leads to this position.
@@ -100,10 +104,8 @@ impl<const L: usize> Levels<L> {
           around = self.old.around;
         } }
     {
-        let last = self.levels.len() - 1;
-        let level = &mut self.levels[last];
-        level.before = Some(level.present);
-        level.present = next;
+        self.current.before = Some(self.current.present);
+        self.current.present = next;
     }
 
     /// Opens a variation, which begins before the last move of the current level.
@@ -113,9 +115,9 @@ impl<const L: usize> Levels<L> {
         ensures { IfSome self.old.present.before (λ start. self.new
             ≡ record { present = level_at start; around = self.old.present ∷ self.old.around }) }
     {
-        let last = self.levels[self.levels.len() - 1];
-        if let Some(present) = last.before {
-            self.levels.push(Level::at(present));
+        if let Some(start) = self.current.before {
+            self.around.push(Some(self.current));
+            self.current = Level::at(start);
         }
     }
 
@@ -124,6 +126,11 @@ impl<const L: usize> Levels<L> {
         requires { 0 < length self.old.around }
         ensures { ClosesLevel self.old.around self.new }
     {
-        self.levels.truncate(self.levels.len() - 1);
+        match self.around.pop() {
+            Some(Some(level)) => self.current = level,
+            // Never: each level around is there.
+            Some(None) => {}
+            None => {}
+        }
     }
 }

@@ -47,14 +47,16 @@ use std::marker::Model;
 /// not full yet.
 #[derive(Drop)]
 pub struct Reader<const T: usize, const L: usize> {
+    // The large fields come first: with a gap of small ones before them, the toolchain makes them
+    // somewhere else, and copies them into their place.
+    tags: TagPairs<T>,
+    text: Movetext<L>,
+    line: CurrentLine,
+    earlier_plies: u64,
+    most_probes: u32,
     mode: Mode,
     missing_result: MissingResult,
     stage: Stage,
-    tags: TagPairs<T>,
-    text: Movetext<L>,
-    earlier_plies: u64,
-    most_probes: u32,
-    line: CurrentLine,
 }
 
 impl<const T: usize, const L: usize> Model for Reader<T, L> {

@@ -4,9 +4,22 @@ use Rattle.std.specs.Prelude.{None, Some}
 use Rattle.std.proofs.lemmas.Bool.Decides.{nat_tests}
 use Rattle.std.proofs.lemmas.List.{drop_all}
 use Rattle.chess_rules.specs.declared.piece.Piece.{Piece}
-use Rattle.chess_rules.specs.Board.{Board}
+use Rattle.chess_rules.specs.Board.{Board, at}
+use Rattle.chess_rules.specs.Square.{square}
 use Rattle.chess_text.specs.Letter.{piece_letter}
-use Rattle.chess_text.specs.Placement.{run_text, rank_text}
+use Rattle.chess_text.specs.Placement.{row, run_text, rank_text}
+
+-- the content of a square in its rank
+pub in_row : (b : Board) (rank file : ℕ) → file < 8 → get_or (row b rank) file None ≡ at b (square file rank)
+in_row b rank zero h = refl
+in_row b rank (suc zero) h = refl
+in_row b rank (suc (suc zero)) h = refl
+in_row b rank (suc (suc (suc zero))) h = refl
+in_row b rank (suc (suc (suc (suc zero)))) h = refl
+in_row b rank (suc (suc (suc (suc (suc zero))))) h = refl
+in_row b rank (suc (suc (suc (suc (suc (suc zero)))))) h = refl
+in_row b rank (suc (suc (suc (suc (suc (suc (suc zero))))))) h = refl
+in_row b rank (suc (suc (suc (suc (suc (suc (suc (suc file)))))))) h = absurd (omega (arith, h))
 
 next : (n i : ℕ) (cells : Board) → i < length cells → rank_text n (drop i cells) ≡ rank_text n (get_or cells i None ∷ drop (i + 1) cells)
 next n i cells h =

@@ -11,23 +11,24 @@ use Rattle.pgn_lexer.specs.Stands.{IsDecided, first}
 use Rattle.pgn_game.proofs.Words.{Token, ReadFault, Reason, Fault, Profile, Game, no_part}
 use Rattle.pgn_game.specs.FaultTable.{refusal}
 use Rattle.pgn_game.specs.Text.{text_of}
-use Rattle.pgn_game.specs.Progress.{Next, going, whole, next, Progress, progress_with, progress_after, no_progress, Read, read, read_from, written, due}
+use Rattle.pgn_game.specs.Progress.{Next, going, whole, next, Progress, progress_with, no_progress, Read, read, read_from, written, due}
 use Rattle.pgn_game.specs.Due.{Gains}
-use Rattle.pgn_game.specs.ConverterCalls.{Converter, finished_game_of, IsLast, HasRead, Stands, AreNext, FedAll, FedGame, FedToFault, Stops, refused, unwritten, StopsWriting, games_before, StopsIn, at_token, too_long, AfterFinish, Finishes, FinishesToFault}
+use Rattle.pgn_game.specs.ConverterCalls.{Converter, finished_game_of, IsLast, HasRead, Stands, AreNext, FedAll, FedGame, FedToFault, StopsIn, at_token, too_long, AfterFinish, Finishes, FinishesToFault}
 use Rattle.pgn_game.specs.GamesCalls as games
 use Rattle.pgn_game.specs.GamesCalls.{Games, games_of, ReadsOn, HasReadAll, HaveRead, within, at_end, NextGame, NoGame, StopsAtToken, StopsAtEnd, ReadsNoGame, NextStops, AfterNext}
 use Rattle.pgn_game.specs.GamesSteps.{NextSoFar}
-use Rattle.pgn_game.proofs.tokens.OneMoreToken.{first_passes, goes_on, read-passes, read-refuses, stops_from, torn-none, gains_none, gains_more, stops_more, games_still, counts_still, due_grows}
+use Rattle.pgn_game.proofs.tokens.OneMoreToken.{read-passes, read-refuses, stops_from, torn-none, gains_none, gains_more, stops_more, games_still, counts_still}
 use Rattle.pgn_game.proofs.tokens.StepsInPiece.{decided_at_end, stands_before_any}
 use Rattle.pgn_game.proofs.tokens.GamesInPiece.{behind_first}
 use Rattle.pgn_game.proofs.tokens.StepsAtEnd.{let_go}
-use Rattle.pgn_game.proofs.tokens.LastTokens.{AddsOne, left_games, left_none_begun, none_finished_before}
+use Rattle.pgn_game.proofs.tokens.LastTokens.{AddsOne, left_games, left_none_begun}
+use Rattle.pgn_game.proofs.tokens.NoneBeforeFault.{reads_behind}
 use Rattle.pgn_game.proofs.tokens.WholeInput.{keeps_consumed}
 
 -- ---- the text of a game
 
-none_or_some : (o : Option Fault) (f : Fault) → o ≡ Some f → o ≡ None → ⊥
-none_or_some o f a b = cc
+pub none_or_some : {A : Type 0} (o : Option A) (x : A) → o ≡ Some x → o ≡ None → ⊥
+none_or_some o x a b = cc
 
 -- tokens before those that pass do
 pub passes_before : (p : Profile) (ts us : List Token) → (read p (ts ++ us)).fault ≡ None → (read p ts).fault ≡ None
@@ -44,7 +45,7 @@ due_between p b none =
     ap (λ part. written p (record { games = b.games; part = part })) none
     ∙ ap (λ l. text_of p b.games ++ l) (torn-none p.missing_result p.mode) ∙ append-nil (text_of p b.games)
 
-not_one_more : (gs : List Game) (g : Game) → gs ≡ gs ++ g ∷ [] → ⊥
+pub not_one_more : (gs : List Game) (g : Game) → gs ≡ gs ++ g ∷ [] → ⊥
 not_one_more gs g e = absurd (omega (arith, ap (length {A = Game}) e, length-append gs (g ∷ [])))
 
 -- the token that finishes a game leaves no part of one
@@ -122,79 +123,11 @@ last_is (z ∷ zs) (w ∷ ws) x y e = last_is zs ws x y (cc)
 not_true : IsTrue false → ⊥
 not_true h = absurd (cc)
 
--- behind tokens that pass the rest is read from where they led
-pub reads_behind : (p : Profile) (b : Progress) (ts us : List Token) → (read_from p b ts).fault ≡ None → read_from p b (ts ++ us) ≡ read_from p (read_from p b ts).progress us
-reads_behind p b [] us e = refl
-reads_behind p b (t ∷ ts) us e =
-    let none = first_passes p b t ts e in
-    let here : read_from p b (t ∷ ts) ≡ read_from p (progress_after b t) ts = goes_on p b t ts none in
-    goes_on p b t (ts ++ us) none ∙ reads_behind p (progress_after b t) ts us (ap (λ (r : Read). r.fault) (sym here) ∙ e)
-    ∙ ap (λ (r : Read). read_from p r.progress us) (sym here)
-
 decided_before : (u piece : List ℕ) (ts : List Token) → IsDecided u [] ts → IsDecided u piece ts
 decided_before u piece ts (inl e) = inl e
 decided_before u piece ts (inr (b, e, k)) = absurd (cc)
 
--- ---- a write that fails at the end
-
--- two ways to part a list: one front goes on where the other ends
-abbrev Parted : List Token → List Token → List Token → List Token → Type 0
-Parted xs ys behind_xs behind_ys =
-    ((mid : List Token) × (ys ≡ xs ++ mid) × (behind_xs ≡ mid ++ behind_ys)) ⊎ ((mid : List Token) × (xs ≡ ys ++ mid) × (behind_ys ≡ mid ++ behind_xs))
-
-parted : (xs ys behind_xs behind_ys : List Token) → xs ++ behind_xs ≡ ys ++ behind_ys → Parted xs ys behind_xs behind_ys
-parted [] ys behind_xs behind_ys e = inl (ys, refl, e)
-parted (x ∷ xs) [] behind_xs behind_ys e = inr (x ∷ xs, refl, sym e)
-parted (x ∷ xs) (y ∷ ys) behind_xs behind_ys e = further (parted xs ys behind_xs behind_ys (cc))
-  where
-    head_same : x ≡ y
-    head_same = cc
-
-    further : Parted xs ys behind_xs behind_ys → Parted (x ∷ xs) (y ∷ ys) behind_xs behind_ys
-    further (inl (mid, is, parts)) = inl (mid, ap (λ l. y ∷ l) is ∙ ap (λ z. z ∷ (xs ++ mid)) (sym head_same), parts)
-    further (inr (mid, is, parts)) = inr (mid, ap (λ l. x ∷ l) is ∙ ap (λ z. z ∷ (ys ++ mid)) head_same, parts)
-
--- the token at fault is the first of those that are left: the games before it are those so far
-module _ (p : Profile) (given : List Token) (l : Standing) (ts : List Token) (passes : (read p given).fault ≡ None) (whole_text : ts ≡ given ++ coming l [])
-    (at : ℕ) (a b : Option (List ℕ)) (writing : StopsWriting p given ts at a b) where
-  longer : length (due p (writing.front ++ writing.token ∷ [])) ≡ length (due p given) + length writing.text
-  longer = ap (length {A = ℕ}) writing.due_for ∙ length-append (due p given) writing.text
-
-  behind_given : (mid : List Token) → writing.front ≡ given ++ mid → coming l [] ≡ mid ++ writing.token ∷ writing.rest
-      → (read p writing.front).progress.games ≡ (read p given).progress.games
-  behind_given mid is parts =
-      let start = (read p given).progress in
-      let front : read p writing.front ≡ read_from p start mid = ap (read p) is ∙ reads_behind p no_progress given mid passes in
-      let more : read p (writing.front ++ writing.token ∷ []) ≡ read_from p start (mid ++ writing.token ∷ []) =
-      ap (λ ts. read p (ts ++ writing.token ∷ [])) is ∙ ap (read p) (append_assoc given mid (writing.token ∷ []))
-      ∙ reads_behind p no_progress given (mid ++ writing.token ∷ []) passes in
-      let grows : length (due p writing.front) < length (due p (writing.front ++ writing.token ∷ [])) =
-      omega (arith, longer, writing.least, writing.short) in
-      ap (λ (r : Read). r.progress.games) front
-      ∙ none_finished_before p start l mid writing.token writing.rest parts (ap (λ (r : Read). r.fault) (sym more) ∙ writing.passes)
-      (subst (λ (r : Read). length (written p r.progress) < length (written p (read_from p start (mid ++ writing.token ∷ [])).progress)) front
-      (subst (λ (r : Read). length (due p writing.front) < length (written p r.progress)) more grows))
-
-  head : {t u : Token} {ts us : List Token} → t ∷ ts ≡ u ∷ us → t ≡ u
-  head e = cc
-
-  by_parts : Parted given writing.front (coming l []) (writing.token ∷ writing.rest) → (read p writing.front).progress.games ≡ (read p given).progress.games
-  by_parts (inl (mid, is, parts)) = behind_given mid is parts
-  by_parts (inr ([], is, parts)) = ap (λ ts. (read p ts).progress.games) (sym (is ∙ append-nil writing.front))
-  by_parts (inr (m ∷ mid, is, parts)) =
-      let all : given ≡ (writing.front ++ writing.token ∷ []) ++ mid =
-      is ∙ ap (λ x. writing.front ++ x ∷ mid) (sym (head parts)) ∙ sym (append_assoc writing.front (writing.token ∷ []) mid) in
-      let grown = due_grows p (writing.front ++ writing.token ∷ []) mid in
-      absurd (omega (
-        arith,
-        longer,
-        writing.short,
-        ap (length {A = ℕ}) (ap (due p) all ∙ grown.1),
-        length-append (due p (writing.front ++ writing.token ∷ [])) grown.0,
-      ))
-
-  none_before : (read p writing.front).progress.games ≡ (read p given).progress.games
-  none_before = by_parts (parted given writing.front (coming l []) (writing.token ∷ writing.rest) (sym whole_text ∙ writing.cut))
+-- ---- what a call reads
 
 module _ (p : Profile) (u : List ℕ) (given : List Token) (left_old left : Option (List ℕ)) (now : Games) (a c : Option (List ℕ)) (so : NextSoFar p u given left_old left now a c)
     (d : Option (List ℕ)) where
@@ -400,19 +333,9 @@ module _ (p : Profile) (u : List ℕ) (given : List Token) (left_old left left_n
     ended_at_fault f fed =
         games.at_end f so.more all end (subst (λ xs. StopsAtEnd p xs given new.reading.most_probes f a d) (sym all_used) (record {
           stops = stops_more p given so.tokens (tokens_of so.reads_on.used) f a c d so.gains fed.stops;
-          no_game = games_still p given so.tokens (tokens_of so.reads_on.used) f a c d so.gains fed.stops ∙ none_yet_before fed.stops ∙ so.no_game;
+          no_game = games_still p given so.tokens (tokens_of so.reads_on.used) f a c d so.gains fed.stops ∙ fed.no_game ∙ so.no_game;
           counts = counts_still p given so.tokens (tokens_of so.reads_on.used) f a c d so.gains fed.stops new.reading.most_probes fed.counts;
         }))
-      where
-        none_yet_before : {h : Fault} (stops : Stops p so.tokens (tokens_of so.reads_on.used) c d h) → games_before stops ≡ (read p so.tokens).progress.games
-        none_yet_before (unwritten at writing) =
-            none_before p so.tokens now.lexer (tokens_of so.reads_on.used) so.reads_on.stands.has_read.passes left_over at c d writing
-        none_yet_before (refused h fault gains) = by_games adds
-          where
-            by_games : AddsOne (read p so.tokens).progress.games (read p (tokens_of so.reads_on.used))
-                → (read p (tokens_of so.reads_on.used)).progress.games ≡ (read p so.tokens).progress.games
-            by_games (inl same) = same
-            by_games (inr (passes, more)) = absurd (none_or_some _ h fault passes)
 
     pub finished : (r : Result Bool Fault) → AfterFinish p so.reads_on.used so.tokens new r c d → new.is_finished ≡ is_ok r → now.lexer.count ≤ 2 ^ 62
         → AfterNext p u given left_old left_new (games_of new []) r a d

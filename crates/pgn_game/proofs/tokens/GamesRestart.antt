@@ -7,15 +7,15 @@ use Rattle.pgn_lexer.specs.TokensOf.{tokens_of}
 use Rattle.pgn_lexer.specs.WhiteSpace.{white_space}
 use Rattle.pgn_lexer.specs.Laws.{TextsRestart, CanBeMarker}
 use Rattle.pgn_game.proofs.Words.{Kind, Token, Reason, Fault, Profile, Game, Part, no_part}
-use Rattle.pgn_game.specs.declared.stage.Stage.{Stage}
-use Rattle.pgn_game.specs.declared.stage.Stage.TheVariants.{Between, AfterLeftBracket, AfterName, AfterValue, AfterTags, InMovetext}
 use Rattle.pgn_game.specs.Levels.{plies_of}
 use Rattle.pgn_game.specs.FaultTable.{refusal, marker_of}
 use Rattle.pgn_game.specs.Text.{game_text, text_of, torn}
-use Rattle.pgn_game.specs.Progress.{Next, going, whole, next, next_in, in_text, Progress, progress_with, progress_after, no_progress, Read, read_from, read, written, output, verdict, verdict_of, refused, totals}
+use Rattle.pgn_game.specs.Progress.{Next, going, whole, next, Progress, progress_with, progress_after, no_progress, Read, read_from, read, written, output, verdict, verdict_of, refused, totals}
 use Rattle.pgn_game.specs.GamesRestart.{games_read, FinishesGame, counting_also, GamesRestart}
-use Rattle.pgn_game.proofs.tokens.OneMoreToken.{read_from-test, after_test, first_passes, goes_on, stops_from}
-use Rattle.pgn_game.proofs.tokens.GamesInTurn.{reads_behind}
+use Rattle.pgn_game.proofs.tokens.OneMoreToken.{read_from-test, after_test}
+use Rattle.pgn_game.proofs.tokens.GamesInTurn.{none_behind}
+use Rattle.pgn_game.proofs.tokens.MarkerEndsGame.{games_end_by_marker}
+use Rattle.pgn_game.proofs.tokens.NoneBeforeFault.{reads_behind}
 
 -- ---- Games before what is read
 
@@ -67,86 +67,25 @@ verdict_with_front games r = by_fault r.fault
 
 -- ---- A marker
 
--- what a token leads to where no game is finished, or the kinds that can finish one
-abbrev Leads : Kind → Next → Type 0
-Leads k (going part) = Unit {0}
-Leads k (whole g) = CanBeMarker k
-
-text_leads : (part : Part) (k : Kind) → Leads k (in_text part k)
-text_leads part tokens.asterisk = tt
-text_leads part (tokens.symbol s) = by_marker (marker_of (tokens.symbol s))
-  where
-    by_marker : (o : Option (List ℕ)) → Leads (tokens.symbol s) (elim o [
-      | Some marker ↦ whole (record { pairs = part.pairs; items = part.items; marker = marker })
-      | None ↦ going (record { stage = InMovetext; pairs = part.pairs; name = part.name; items = part.items ++ Rattle.pgn_game.specs.Progress.items_of part (tokens.symbol s) })
-    ])
-    by_marker (Some marker) = tt
-    by_marker None = tt
-text_leads part _ = tt
-
-leads_in : (stage : Stage) (part : Part) (k : Kind) → Leads k (next_in stage part k)
-leads_in Between part tokens.left_bracket = tt
-leads_in Between part tokens.comment_open = tt
-leads_in Between part (tokens.word text) = tt
-leads_in Between part tokens.comment_close = tt
-leads_in Between part tokens.end = tt
-leads_in Between part k = text_leads part k
-leads_in AfterLeftBracket part (tokens.symbol name) = tt
-leads_in AfterLeftBracket part k = tt
-leads_in AfterName part (tokens.str value) = tt
-leads_in AfterName part k = tt
-leads_in AfterValue part tokens.right_bracket = tt
-leads_in AfterValue part k = tt
-leads_in AfterTags part tokens.left_bracket = tt
-leads_in AfterTags part k = text_leads part k
-leads_in InMovetext part k = text_leads part k
-
-no_more : (xs : List Game) (g : Game) → xs ≡ xs ++ g ∷ [] → ⊥
-no_more xs g e = absurd (omega (arith, ap length e, length-append xs (g ∷ [])))
-
--- behind the marker no part of a game was read, and its kind can finish a game
-record Behind (p : Profile) (given : List Token) (marker : Token) : Type 0 where
-  progress : (read p (given ++ marker ∷ [])).progress ≡ record { games = games_read p (given ++ marker ∷ []); part = no_part }
-  kind : CanBeMarker marker.kind
-
-module _ (p : Profile) (given : List Token) (marker : Token) (finishes : FinishesGame p given marker) where
-  abbrev b : Progress
-  b = (read p given).progress
-
-  no_part_behind : (q : Progress) (games : List Game) → q ≡ record { games = games; part = no_part } → q ≡ record { games = q.games; part = no_part }
-  no_part_behind q games is = is ∙ ap (λ (l : List Game). record { games = l; part = no_part }) (sym (ap (λ (c : Progress). c.games) is))
-
-  by_next : (nx : Next) → next b.part marker.kind ≡ nx → Leads marker.kind nx → (read p (given ++ marker ∷ [])).progress ≡ progress_with b.games nx → Behind p given marker
-  by_next (going part) is leads progress =
-      absurd (no_more b.games finishes.game (sym (ap (λ (c : Progress). c.games) progress) ∙ finishes.one_more))
-  by_next (whole g) is leads progress = record {
-    progress = no_part_behind (read p (given ++ marker ∷ [])).progress (b.games ++ g ∷ []) progress;
-    kind = leads;
-  }
-
-  by_fault : (o : Option Fault) → (read p given).fault ≡ o → Behind p given marker
-  by_fault (Some f) e =
-      let fault : (read p (given ++ marker ∷ [])).fault ≡ Some f = ap (λ (r : Read). r.fault) (stops_from p no_progress given (marker ∷ []) f e) ∙ e in
-      absurd (cc (fault, finishes.passes))
-  by_fault None e =
-      let here : read p (given ++ marker ∷ []) ≡ read_from p b (marker ∷ []) = reads_behind p no_progress given (marker ∷ []) e in
-      let free : refusal p b.part marker.kind ≡ None = first_passes p b marker [] (ap (λ (r : Read). r.fault) (sym here) ∙ finishes.passes) in
-      by_next (next b.part marker.kind) refl (leads_in b.part.stage b.part marker.kind) (ap (λ (r : Read). r.progress) (here ∙ goes_on p b marker [] free))
-
-  behind : Behind p given marker
-  behind = by_fault (read p given).fault refl
+can_be : (k : Kind) (marker : List ℕ) → marker_of k ≡ Some marker → CanBeMarker k
+can_be tokens.asterisk marker is = tt
+can_be (tokens.symbol s) marker is = tt
+can_be _ marker is = absurd (cc)
 
 pub games_restart : TextsRestart → GamesRestart
 games_restart restart p u s given rest marker cut ends finishes =
     let ts : List Token = given ++ marker ∷ [] in
     let gs : List Game = games_read p ts in
     let later : List ℕ = white_space (length u) false ++ s in
-    let after : Behind p given marker = behind p given marker finishes in
-    let same : rest ≡ tokens_of later = restart u s given rest marker cut ends after.kind in
+    let kind : CanBeMarker marker.kind = can_be marker.kind finishes.game.marker (games_end_by_marker p given marker finishes).is_marker in
+    let progress : (read p ts).progress ≡ record { games = gs; part = no_part } =
+    ap (λ (part : Part). record { games = gs; part = part })
+    (none_behind p given marker finishes.game finishes.passes finishes.one_more) in
+    let same : rest ≡ tokens_of later = restart u s given rest marker cut ends kind in
     let joined : read p (tokens_of (u ++ s)) ≡ reads_with_front gs (read p (tokens_of later)) =
     ap (read p) (cut ∙ sym (append_assoc given (marker ∷ []) rest))
     ∙ reads_behind p no_progress ts rest finishes.passes
-    ∙ ap (λ (c : Progress). read_from p c rest) (after.progress ∙ ap (λ (l : List Game). record { games = l; part = no_part }) (sym (append-nil gs)))
+    ∙ ap (λ (c : Progress). read_from p c rest) (progress ∙ ap (λ (l : List Game). record { games = l; part = no_part }) (sym (append-nil gs)))
     ∙ front_stays p gs no_progress rest
     ∙ ap (λ (us : List Token). reads_with_front gs (read p us)) same in
     record {

@@ -15,7 +15,7 @@ use Rattle.pgn_game.proofs.exporting.PairsExportedAgain.{result_of}
 use Rattle.pgn_game.proofs.pairs.ExportedValues.{exported_known}
 use Rattle.pgn_game.proofs.refusals.RefusalsByStage.{is_textual, is_lexical, after_tags, between, rest_passed, test_failed, text_row}
 use Rattle.pgn_game.proofs.refusals.RefusalsInMovetext.{marker_refusal, other_if}
-use Rattle.pgn_game.proofs.tokens.GamesInTurn.{due_between, last_is, none_behind, passes_before}
+use Rattle.pgn_game.proofs.tokens.GamesInTurn.{due_between, last_is, none_behind, none_or_some, not_one_more, passes_before}
 use Rattle.pgn_game.proofs.tokens.OneMoreToken.{read-passes, read-refuses}
 
 -- ---- Where a game is finished
@@ -113,13 +113,6 @@ same_result p part k marker is free =
     (bytes_eq-Decides marker value).0 (not-false (bytes_eq marker value) same)
 
 -- ---- A game that was read
-
-none_or_some : {A : Type 0} (o : Option A) (x : A) → o ≡ Some x → o ≡ None → ⊥
-none_or_some o x a b = cc
-
-not_one_more : (gs : List Game) (g : Game) → gs ≡ gs ++ g ∷ [] → ⊥
-not_one_more [] g e = absurd (cc)
-not_one_more (h ∷ gs) g e = not_one_more gs g (cc)
 
 module _ (p : Profile) (given : List Token) (marker : Token) (finishes : FinishesGame p given marker) where
   abbrev part : Part

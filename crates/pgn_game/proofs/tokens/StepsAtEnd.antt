@@ -18,6 +18,7 @@ use Rattle.pgn_game.specs.ReaderState.{ReaderState, Answers, IsKnown, as_written
 use Rattle.pgn_game.specs.ConverterCalls.{Converter, IsSound, game_in_reader, game_in_reader_if, IsLast, HasRead, Stands, unwritten, Finishes, FinishesToFault, ProbesAtStop, CountsFault, CountsReason}
 use Rattle.pgn_game.specs.ConverterSteps.{SameGames, FaultAtEnd, AfterStepAtEnd, StepAtEndAdvances, AtEndSoFar, StaysBetween, outcome_at, is_ended, games_after, none_at_end, fault_of_step}
 use Rattle.pgn_game.proofs.tokens.OneMoreToken.{gains_none, gains_more, stops_more, games_still, counts_still, position_still, read-passes}
+use Rattle.pgn_game.proofs.tokens.NoneBeforeFault.{none_before_fault}
 use Rattle.pgn_game.proofs.tokens.AcceptedToConverter.{stepped, gains_token, same_games, has_read_more, one_game, has_read_game, stops_refused, writing, stops_lexical, none_before_refused, none_before_unwritten, none_before_lexical, count_at_refused, count_at_unwritten, count_at_lexical, position_at_lexical, position_at_refused}
 
 -- what is left behind a token: nothing behind the end
@@ -248,23 +249,27 @@ pub not_just_finished : (b : Bool) (r : ReaderState) → game_in_reader_if b r �
 not_just_finished true r h = absurd (cc)
 not_just_finished false r h = refl
 
+-- what the lexer has left behind the last piece
+pub left_of : (p : Profile) (old : Converter) (u : List ℕ) (b : Option ℕ) (given : List Token) → Stands p old u b given → HasLeft old.lexer u given
+left_of p old u b given stands = ap tokens_of (sym (append-nil u)) ∙ stands.lexer.tokens [] (follows_end b)
+  where
+    follows_end : (b : Option ℕ) → Follows b []
+    follows_end None = tt
+    follows_end (Some x) = tt
+
 -- before the first step behind the last piece
 pub closed_none : (p : Profile) (old : Converter) (u : List ℕ) (b : Option ℕ) (given : List Token) (o : Option (List ℕ)) → Stands p old u b given
     → AtEndSoFar p u given (record old { just_finished = None }) false o o
 closed_none p old u b given o stands =
     record {
       tokens = given;
-      left = ap tokens_of (sym (append-nil u)) ∙ stands.lexer.tokens [] (follows_end b);
+      left = left_of p old u b given stands;
       has_read = let_go p old given stands.has_read;
       no_fewer = le_refl (length (read p given).progress.games);
       game = (λ h. absurd (cc), λ h. absurd (omega (arith, h)));
       last = λ h. absurd (cc);
       gains = gains_none p given o;
     }
-  where
-    follows_end : (b : Option ℕ) → Follows b []
-    follows_end None = tt
-    follows_end (Some x) = tt
 
 module _ (p : Profile) (u : List ℕ) (given : List Token) (now new : Converter) (finished_game : Bool) (a c d : Option (List ℕ)) (so : AtEndSoFar p u given now finished_game a c) where
   same_length : (ts : List Token) → SameGames p so.tokens ts
@@ -323,10 +328,13 @@ module _ (p : Profile) (u : List ℕ) (given : List Token) (now new : Converter)
       hands ts true h = h refl
       hands ts false h = tt
 
-  pub closed_fault : (f : Fault) → AfterStepAtEnd p u so.tokens now new (Err f) c d → new.games ≡ now.games → FinishesToFault p u given new f a d
-  closed_fault f to same =
+  pub closed_fault : (f : Fault) (l : Standing) → HasLeft l u given → (read p given).fault ≡ None → AfterStepAtEnd p u so.tokens now new (Err f) c d → new.games ≡ now.games
+      → FinishesToFault p u given new f a d
+  closed_fault f l left passes to same =
+      let stops = stops_more p given so.tokens (tokens_of u) f a c d so.gains to.stops in
       record {
-        stops = stops_more p given so.tokens (tokens_of u) f a c d so.gains to.stops;
+        stops = stops;
+        no_game = none_before_fault p u given l left passes a d stops;
         games = same ∙ so.has_read.games ∙ sym (ap (length {A = Game}) (games_still p given so.tokens (tokens_of u) f a c d so.gains to.stops ∙ to.no_game));
         counts = counts_still p given so.tokens (tokens_of u) f a c d so.gains to.stops new.reading.most_probes to.counts;
         position = to.position ∙ sym (position_still p given so.tokens (tokens_of u) f a c d so.gains to.stops);

@@ -2,22 +2,20 @@
 use Rattle.std.proofs.Common.{◌≡◌, ℕ, ◌+◌, ◌<◌, ◌≤◌, Bool, true, false, List, [], ◌∷◌, ◌++◌, length, nat_le, None, refl, sym, ap, subst, ◌∙◌, inl, inr, drop, bytes_eq, codes, ◌||◌, append-nil, append_assoc, length-append, arith}
 use Rattle.std.specs.Prelude.{if◌then◌else◌}
 use Rattle.std.proofs.lemmas.Bool.{le-leb}
-use Rattle.std.proofs.lemmas.List.{drop_at}
+use Rattle.std.proofs.lemmas.List.{drop_at, drop-append-le, drop-drop, length-drop}
 use Rattle.std.proofs.lemmas.Slice.Eq.{bytes_eq-Decides}
 use Rattle.pgn_lexer.specs.declared.partial_token.Mode.{Mode}
 use Rattle.pgn_lexer.specs.declared.partial_token.Mode.TheVariants as modes
 use Rattle.pgn_lexer.specs.declared.partial_token.SuffixRun.{SuffixRun}
 use Rattle.pgn_lexer.specs.declared.partial_token.SuffixRun.TheVariants as runs
 use Rattle.pgn_lexer.specs.declared.token.LexReason.TheVariants.{SymbolTooLong, WordTooLong, GlyphRange}
-use Rattle.pgn_lexer.specs.Bytes.{continues_symbol}
 use Rattle.pgn_lexer.specs.Spelling.{gives, stops}
 use Rattle.pgn_lexer.specs.Tokens as tokens
 use Rattle.pgn_lexer.specs.Tokens.{EndsAt}
-use Rattle.pgn_lexer.specs.TokensOf.{in_symbol, onto, tokens_from, tokens_of}
-use Rattle.pgn_lexer.specs.Lexes.{StopsAt}
+use Rattle.pgn_lexer.specs.TokensOf.{onto, tokens_of}
 use Rattle.pgn_lexer.specs.PartialToken.{tokens_to_come_in}
 use Rattle.pgn_lexer.specs.Standing.{Standing, coming}
-use Rattle.pgn_lexer.specs.Laws.{LexesOnce, RisesTo, TokensRise}
+use Rattle.pgn_lexer.specs.Laws.{BeginsWithToken, RisesTo, SymbolsStandInText, TokensRise}
 use Rattle.pgn_game.proofs.Words.{Kind, Token, Profile, Game}
 use Rattle.pgn_game.specs.FaultTable.{is_score}
 use Rattle.pgn_game.specs.Text.{text_of}
@@ -25,10 +23,10 @@ use Rattle.pgn_game.specs.Progress.{no_progress, Read, read, read_from}
 use Rattle.pgn_game.specs.ConverterCalls.{Converter, Stands}
 use Rattle.pgn_game.specs.GamesRestart.{games_read, FinishesGame}
 use Rattle.pgn_game.specs.GameEnds.{GamesEndByMarker, LastGame, TextsEndBehindMarker, TextsEndBetweenGames}
-use Rattle.pgn_game.proofs.tokens.GamesInTurn.{passes_before, reads_behind}
+use Rattle.pgn_game.proofs.tokens.GamesInTurn.{passes_before}
+use Rattle.pgn_game.proofs.tokens.NoneBeforeFault.{reads_behind}
 use Rattle.pgn_game.proofs.refusals.RefusalsInMovetext.{score_of}
 use Rattle.pgn_game.proofs.tokens.LastTokens.{AddsOne, AreQuiet, HasLast, close, end, left_games, none_torn, quiet_games, refused, word}
-use Rattle.pgn_game.proofs.tokens.SymbolsInText.{in_text, IsInText}
 
 -- ---- The output of a text without a fault
 
@@ -111,43 +109,54 @@ score_short s is = by_tests (bytes_eq s (codes "1-0")) (bytes_eq s (codes "0-1")
     by_tests false false false first second third is = absurd (cc)
 
 -- where a text goes on with a digit, the symbol does
-goes_on : (place at : ℕ) (text : List ℕ) → length text ≤ 254
-    → (rest : List Token) × (tokens_to_come_in modes.Symbol place at text (49 ∷ []) ≡ token_at at (tokens.symbol (text ++ 49 ∷ [])) ∷ rest)
-goes_on place at text short =
-    by_fits (nat_le (length (text ++ 49 ∷ [])) 255)
-    (le-leb _ _ (omega (arith, short, length-append text (49 ∷ []))))
-  where
-    by_fits : (fits : Bool) → fits ≡ true
-        → (rest : List Token) × (onto at (if fits then gives (tokens.symbol (text ++ 49 ∷ [])) else stops at SymbolTooLong) (tokens_from place in_symbol (49 ∷ [])) ≡ token_at at (tokens.symbol (text ++ 49 ∷ [])) ∷ rest)
-    by_fits true is = (_, refl)
-    by_fits false is = absurd (cc)
+symbol_given : (at : ℕ) (text : List ℕ) (behind : List Token) (fits : Bool) → fits ≡ true
+    → (rest : List Token) × (onto at (if fits then gives (tokens.symbol text) else stops at SymbolTooLong) behind ≡ token_at at (tokens.symbol text) ∷ rest)
+symbol_given at text behind true is = (behind, refl)
+symbol_given at text behind false is = absurd (cc)
 
--- so it ends with the text
-ends_with_text : (u : List ℕ) (at : ℕ) (text : List ℕ) → IsInText 0 u at (text ++ []) → IsInText 0 (u ++ 49 ∷ []) at (text ++ 49 ∷ []) → length u ≡ at + length (text ++ [])
-ends_with_text u at text here longer = by_behind here.behind refl here.stops
+fits_digit : (text : List ℕ) (digit : ℕ) → length text ≤ 254 → nat_le (length (text ++ digit ∷ [])) 255 ≡ true
+fits_digit text digit short = le-leb _ _ (omega (arith, short, length-append text (digit ∷ [])))
+
+abbrev GoesOn : ℕ → ℕ → List ℕ → ℕ → Type 0
+GoesOn place at text digit =
+    (rest : List Token) × (tokens_to_come_in modes.Symbol place at text (digit ∷ []) ≡ token_at at (tokens.symbol (text ++ digit ∷ [])) ∷ rest)
+
+goes_on_one : (place at : ℕ) (text : List ℕ) → length text ≤ 254 → GoesOn place at text 49
+goes_on_one place at text short = symbol_given at (text ++ 49 ∷ []) _ _ (fits_digit text 49 short)
+
+goes_on_two : (place at : ℕ) (text : List ℕ) → length text ≤ 254 → GoesOn place at text 50
+goes_on_two place at text short = symbol_given at (text ++ 50 ∷ []) _ _ (fits_digit text 50 short)
+
+-- so it ends with the text: no byte behind it could be both digits
+abbrev HasDigit : List ℕ → ℕ → List ℕ → ℕ → Type 0
+HasDigit u at text digit = BeginsWithToken (tokens.symbol (text ++ digit ∷ [])) (drop at (u ++ digit ∷ []))
+
+ends_with_text : (u : List ℕ) (at : ℕ) (text : List ℕ) → HasDigit u at text 49 → HasDigit u at text 50 → length u ≡ at + length (text ++ [])
+ends_with_text u at text one two = by_rest (drop n u) refl
   where
     n : ℕ
     n = at + length text
 
-    by_behind : (behind : List ℕ) → here.behind ≡ behind → StopsAt continues_symbol behind → length u ≡ at + length (text ++ [])
-    by_behind [] is before =
-        omega (arith, ap (length {A = ℕ}) here.cut, ap (length {A = ℕ}) is, here.place, length-append here.front ((text ++ []) ++ here.behind), length-append (text ++ []) here.behind)
-    by_behind (b ∷ bs) is before =
-        let one : u ++ 49 ∷ [] ≡ (longer.front ++ text) ++ 49 ∷ longer.behind = longer.cut ∙ simp append_assoc in
-        let two : u ++ 49 ∷ [] ≡ (here.front ++ text) ++ b ∷ (bs ++ 49 ∷ []) =
-        ap (λ l. l ++ 49 ∷ []) (here.cut ∙ ap (λ l. here.front ++ ((text ++ []) ++ l)) is) ∙ simp (append_assoc, append-nil) in
-        let from_one : drop n (u ++ 49 ∷ []) ≡ 49 ∷ longer.behind =
-        ap (drop n) one ∙ drop_at (longer.front ++ text) (49 ∷ longer.behind) n (omega (arith, longer.place, length-append longer.front text)) in
-        let from_two : drop n (u ++ 49 ∷ []) ≡ b ∷ (bs ++ 49 ∷ []) =
-        ap (drop n) two ∙ drop_at (here.front ++ text) (b ∷ (bs ++ 49 ∷ [])) n (omega (arith, here.place, length-append here.front text)) in
-        let same : b ∷ (bs ++ 49 ∷ []) ≡ 49 ∷ longer.behind = sym from_two ∙ from_one in
-        let digit : b ≡ 49 = cc in
-        let stops_at_digit : continues_symbol 49 ≡ false = sym (ap continues_symbol digit) ∙ before in
-        absurd (cc)
+    behind : (digit : ℕ) → (has : HasDigit u at text digit) → drop n (u ++ digit ∷ []) ≡ digit ∷ has.0
+    behind digit has =
+        sym (drop-drop (length text) at (u ++ digit ∷ [])) ∙ ap (drop (length text)) (has.1 ∙ append_assoc text (digit ∷ []) has.0)
+        ∙ drop_at text (digit ∷ has.0) (length text) refl
+
+    within : n ≤ length u
+    within = omega (arith, ap (length {A = ℕ}) (behind 49 one), length-drop n (u ++ 49 ∷ []), length-append u (49 ∷ []))
+
+    next_byte : (b digit : ℕ) (bs : List ℕ) → drop n u ≡ b ∷ bs → HasDigit u at text digit → b ≡ digit
+    next_byte b digit bs is has =
+        let same : b ∷ (bs ++ digit ∷ []) ≡ digit ∷ has.0 =
+        ap (λ l. l ++ digit ∷ []) (sym is) ∙ sym (drop-append-le n u (digit ∷ []) within) ∙ behind digit has in cc
+
+    by_rest : (rest : List ℕ) → drop n u ≡ rest → length u ≡ at + length (text ++ [])
+    by_rest [] is = omega (arith, within, ap (length {A = ℕ}) is, length-drop n u, length-append text [])
+    by_rest (b ∷ bs) is = absurd (omega (arith, next_byte b 49 bs is one, next_byte b 50 bs is two))
 
 -- ---- The game
 
-module _ (once : LexesOnce) (ends : GamesEndByMarker) (p : Profile) (c : Converter) (u : List ℕ) (given : List Token) (stands : Stands p c u None given)
+module _ (stand : SymbolsStandInText) (ends : GamesEndByMarker) (p : Profile) (c : Converter) (u : List ℕ) (given : List Token) (stands : Stands p c u None given)
     (more : length (games_read p given) < length (games_read p (tokens_of u))) where
   abbrev l : Standing
   l = c.lexer
@@ -198,11 +207,15 @@ module _ (once : LexesOnce) (ends : GamesEndByMarker) (p : Profile) (c : Convert
       let finished = (finishes t l.count is).game in
       let marker = (ends p given t finished).is_marker in
       let short = score_short (text ++ []) (score_of (text ++ []) finished.game.marker (is_score (text ++ [])) refl marker).0 in
-      let longer = goes_on l.count l.held.at text (omega (arith, short, length-append text [])) in
+      let short_enough : length text ≤ 254 = omega (arith, short, length-append text []) in
+      let one = goes_on_one l.count l.held.at text short_enough in
+      let two = goes_on_two l.count l.held.at text short_enough in
       last t is
-      (ends_with_text u l.held.at text (in_text once u given l.held.at (text ++ []) (end_at l.count ∷ []) (left_over ∙ ap (λ ts. given ++ ts) is))
-      (in_text once (u ++ 49 ∷ []) given l.held.at (text ++ 49 ∷ []) longer.0
-      (stands.lexer.tokens (49 ∷ []) tt ∙ ap (λ m. given ++ tokens_to_come_in m l.count l.held.at text (49 ∷ [])) mode ∙ ap (λ ts. given ++ ts) longer.1)))
+      (ends_with_text u l.held.at text
+      (stand (u ++ 49 ∷ []) given one.0 (token_at l.held.at (tokens.symbol (text ++ 49 ∷ [])))
+      (stands.lexer.tokens (49 ∷ []) tt ∙ ap (λ m. given ++ tokens_to_come_in m l.count l.held.at text (49 ∷ [])) mode ∙ ap (λ ts. given ++ ts) one.1))
+      (stand (u ++ 50 ∷ []) given two.0 (token_at l.held.at (tokens.symbol (text ++ 50 ∷ [])))
+      (stands.lexer.tokens (50 ∷ []) tt ∙ ap (λ m. given ++ tokens_to_come_in m l.count l.held.at text (50 ∷ [])) mode ∙ ap (λ ts. given ++ ts) two.1)))
 
   by_left : (ts : List Token) → coming l [] ≡ ts → IsLeft l.held.mode l.count l.held.at l.held.text ts → LastGame p u given
   by_left _ is (none ts q) =
@@ -216,5 +229,5 @@ module _ (once : LexesOnce) (ends : GamesEndByMarker) (p : Profile) (c : Convert
   last_game : LastGame p u given
   last_game = by_left (coming l []) refl (left_in l.held.mode l.count l.held.at l.held.text)
 
-pub behind_marker : LexesOnce → GamesEndByMarker → TextsEndBehindMarker
-behind_marker once ends p c u given stands more = last_game once ends p c u given stands more
+pub behind_marker : SymbolsStandInText → GamesEndByMarker → TextsEndBehindMarker
+behind_marker stand ends p c u given stands more = last_game stand ends p c u given stands more

@@ -2,5 +2,5 @@ use Rattle.chess_text.specs.Placement.{row}
 use Rattle.chess_text.proofs.positions.RankToText.{WrittenSoFar}
 use Rattle.chess_text.proofs.placement.rank_text.Given as goal
 
-abbrev pub invariant-loop-cell : goal.invariant-loop-cell
-invariant-loop-cell l = WrittenSoFar (row l.fn.position.board l.fn.rank) l.text.items l.run l.cell-index l.cell-items
+abbrev pub invariant-loop-file : goal.invariant-loop-file
+invariant-loop-file l = WrittenSoFar (row l.fn.position.board l.fn.rank) l.text.items l.run l.file (row l.fn.position.board l.fn.rank)

@@ -58,7 +58,7 @@ returns-in-Err-finish-clause-next g c =
     subst (λ (b : Bool). NextOf p (white_space c.args.from b ++ piece) piece c.refused_game.result (g.W.Sink.taken c.args.out.now) (g.W.Sink.taken c.finish.new.out))
     c.is_first_column-place.ensures
     (fault_at_end c.args.mode c.args.missing _ piece _ c.games_end_by_marker.ensures c.texts_end_between_games.ensures _ _ c.feed.new.self _ fed c.finish.new.self _
-    c.texts_end_behind_marker.ensures (ends p _ _ _ fed.stands) kept c.refused_game.ensures)
+    (ends p _ _ _ fed.stands) kept c.refused_game.ensures)
 
 pub returns-in-Err-clause-next : goal.returns-in-Err-clause-next
 returns-in-Err-clause-next g c =

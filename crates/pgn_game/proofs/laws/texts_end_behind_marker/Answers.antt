@@ -2,4 +2,4 @@ use Rattle.pgn_game.proofs.tokens.TextEndsGame as ends
 use Rattle.pgn_game.proofs.laws.texts_end_behind_marker.Goals as goal
 
 pub returns : goal.returns
-returns c = ends.behind_marker c.lexes_once.ensures c.games_end_by_marker.ensures
+returns c = ends.behind_marker c.symbols_stand_in_text.ensures c.games_end_by_marker.ensures

@@ -2,7 +2,7 @@ use Rattle.std.proofs.Common.{rules, arith, le_refl, le_trans, refl, sym, ap, su
 use Rattle.std.proofs.lemmas.Option.{none-some}
 use Rattle.pgn_game.specs.ConverterCalls.{Converter, Stands}
 use Rattle.pgn_game.proofs.ReaderFitsInMemory.{fits_reader}
-use Rattle.pgn_game.proofs.tokens.StepsAtEnd.{sound_at_none, closed_none, closed_more, closed_game, closed_end, closed_fault}
+use Rattle.pgn_game.proofs.tokens.StepsAtEnd.{sound_at_none, left_of, closed_none, closed_more, closed_game, closed_end, closed_fault}
 use Rattle.pgn_game.proofs.tokens.StepsInPiece.{counts_step}
 use Rattle.pgn_game.specs.ConverterSteps.{AfterStepAtEnd}
 use Rattle.pgn_game.proofs.converter.Converter.finish.Goals as goal
@@ -78,7 +78,7 @@ pub returns-in-Err-clause-ends : goal.returns-in-Err-clause-ends
 returns-in-Err-clause-ends g c p u b given stands =
     let after = rw c.in-Err.is at c.step_at_end.ensures.after in
     let so = c.loop-finished_game.invariant.closes p u b given stands in
-    closed_fault p u given _ c.step_at_end.new.self _ _ _ _ so c.in-Err.fault (after p u _ so.left so.has_read) (rw c.in-Err.is at c.step_at_end.ensures.games)
+    closed_fault p u given _ c.step_at_end.new.self _ _ _ _ so c.in-Err.fault c.args.self.now.lexer (left_of p c.args.self.now u b given stands) stands.has_read.passes (after p u _ so.left so.has_read) (rw c.in-Err.is at c.step_at_end.ensures.games)
 
 pub returns-in-Err-clause-finished : goal.returns-in-Err-clause-finished
 returns-in-Err-clause-finished g c = rw c.in-Err.is at c.step_at_end.ensures.finished

@@ -1,17 +1,39 @@
-use Rattle.std.proofs.Common.{arith}
-use Rattle.pgn_game.proofs.putting.CodeLevelsToStored.{depth-held, front-held}
+use Rattle.std.proofs.Common.{◌≡◌, ℕ, ◌+◌, ◌≤◌, List, [], ◌∷◌, ◌++◌, length, Option, None, Some, ap, subst, sym, ◌∙◌, arith, length-append}
+use Rattle.std.specs.Option.{option_to_list}
+use Rattle.pgn_game.specs.declared.levels.Level.{Level as CodeLevel}
+use Rattle.pgn_game.specs.Movetext.{StoredLevel, StoredLevels, AreThere, ClosesLevel, FitsLevelStore, code_levels, inside}
+use Rattle.pgn_game.proofs.putting.CodeLevelsToStored.{closes, last-there, there-front}
 use Rattle.pgn_game.proofs.levels.Levels.close.Goals as goal
 
-pub returns : goal.returns
-returns g c =
-    rw c.truncate.ensures.items (front-held c.self.inside.levels.items c.args.self.now c.len.result c.self.view_is c.self.invariant.some c.len.ensures.value c.requires)
-
-pub overflow_sub-len : goal.overflow_sub-len
-overflow_sub-len g c = omega (arith, c.len.ensures.value, c.self.invariant.some)
+-- without the last one the others still fit
+fits_front : (most : ℕ) (xs ys zs : List (Option CodeLevel)) → xs ≡ ys ++ zs → FitsLevelStore most xs → FitsLevelStore most ys
+fits_front most xs ys zs is fits = record {
+  there = there-front ys zs (subst AreThere is fits.there);
+  room = omega (arith, fits.room, ap (length {A = Option CodeLevel}) is, length-append ys zs);
+}
 
 pub invariant_of-self : goal.invariant_of-self
 invariant_of-self g c =
-    let depth = depth-held c.self.inside.levels.items c.args.self.now c.self.view_is c.self.invariant.some in record {
-      some = omega (arith, c.truncate.ensures.len, c.len.ensures.value, depth, c.requires);
-      room = omega (arith, c.truncate.ensures.len, c.self.invariant.room);
-    }
+    fits_front g.row.L c.self.inside.around.items c.pop.new.self.items (option_to_list c.pop.result) c.pop.ensures.items
+    (record { there = c.self.invariant.there; room = c.self.invariant.room })
+
+pub invariant_of-self-in-Some-None : goal.invariant_of-self-in-Some-None
+invariant_of-self-in-Some-None g c =
+    fits_front g.row.L c.self.inside.around.items c.pop.new.self.items (option_to_list c.pop.result) c.pop.ensures.items
+    (record { there = c.self.invariant.there; room = c.self.invariant.room })
+
+pub returns-in-Some-Some : goal.returns-in-Some-Some
+returns-in-Some-Some g c =
+    let new = c.pop.new.self.items in
+    let found : c.pop.result ≡ Some (Some c.in-Some-Some.level) = c.in-Some-Some.is ∙ ap Some c.in-Some-Some.field-0-is in
+    let items : c.self.inside.around.items ≡ new ++ Some c.in-Some-Some.level ∷ [] = c.pop.ensures.items ∙ ap (λ (o : Option (Option CodeLevel)). new ++ option_to_list o) found in
+    let around : inside [] (new ++ Some c.in-Some-Some.level ∷ []) ≡ c.args.self.now.around =
+    ap (inside []) (sym items) ∙ ap (λ (ls : StoredLevels). ls.around) c.self.view_is in
+    subst (λ (ls : List StoredLevel). ClosesLevel ls (code_levels c.in-Some-Some.level new)) around (closes new c.in-Some-Some.level)
+
+pub returns-in-Some-None : goal.returns-in-Some-None
+returns-in-Some-None g c =
+    let new = c.pop.new.self.items in
+    let found : c.pop.result ≡ Some None = c.in-Some-None.is ∙ ap Some c.in-Some-None.field-0-is in
+    let items : c.self.inside.around.items ≡ new ++ None ∷ [] = c.pop.ensures.items ∙ ap (λ (o : Option (Option CodeLevel)). new ++ option_to_list o) found in
+    absurd (last-there new (subst AreThere items c.self.invariant.there))

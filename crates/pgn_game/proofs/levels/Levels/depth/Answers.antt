@@ -1,7 +1,8 @@
-use Rattle.std.proofs.Common.{arith}
+use Rattle.std.proofs.Common.{arith, ap, length}
+use Rattle.pgn_game.specs.Movetext.{StoredLevels}
 use Rattle.pgn_game.proofs.putting.CodeLevelsToStored.{depth-held}
 use Rattle.pgn_game.proofs.levels.Levels.depth.Goals as goal
 
 pub returns-clause-value : goal.returns-clause-value
 returns-clause-value g c =
-    omega (arith, depth-held c.self.inside.levels.items c.args.self.now c.self.view_is c.self.invariant.some, c.len.ensures.value)
+    omega (arith, depth-held c.self.inside.around.items c.self.invariant.there, c.len.ensures.value, ap (λ (ls : StoredLevels). length ls.around) c.self.view_is)

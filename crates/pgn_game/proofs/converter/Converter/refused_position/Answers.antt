@@ -1,0 +1,5 @@
+use Rattle.pgn_game.proofs.ReaderFitsInMemory.{fits_reader}
+use Rattle.pgn_game.proofs.converter.Converter.refused_position.Goals as goal
+
+pub position-requires : goal.position-requires
+position-requires g c = search fits_reader

@@ -1,0 +1,99 @@
+-- Behind the last piece no game is finished before a token that is rejected, or a write that fails.
+use Rattle.std.proofs.Common.{◌≡◌, ℕ, ◌+◌, ◌<◌, List, [], ◌∷◌, ◌++◌, length, Option, None, Some, refl, sym, ap, subst, ◌∙◌, inl, inr, ◌⊎◌, append-nil, append_assoc, length-append, arith}
+use Rattle.pgn_lexer.specs.TokensOf.{tokens_of}
+use Rattle.pgn_lexer.specs.Standing.{Standing, coming}
+use Rattle.pgn_lexer.specs.Stands.{HasLeft}
+use Rattle.pgn_game.proofs.Words.{Token, Fault, Profile}
+use Rattle.pgn_game.specs.Progress.{Progress, progress_after, no_progress, Read, read, read_from, written, due}
+use Rattle.pgn_game.specs.ConverterCalls.{Stops, refused, unwritten, StopsWriting, games_before}
+use Rattle.pgn_game.proofs.tokens.OneMoreToken.{first_passes, goes_on, due_grows}
+use Rattle.pgn_game.proofs.tokens.LastTokens.{AddsOne, left_games, none_finished_before}
+
+-- behind tokens that pass the rest is read from where they led
+pub reads_behind : (p : Profile) (b : Progress) (ts us : List Token) → (read_from p b ts).fault ≡ None → read_from p b (ts ++ us) ≡ read_from p (read_from p b ts).progress us
+reads_behind p b [] us e = refl
+reads_behind p b (t ∷ ts) us e =
+    let none = first_passes p b t ts e in
+    let here : read_from p b (t ∷ ts) ≡ read_from p (progress_after b t) ts = goes_on p b t ts none in
+    goes_on p b t (ts ++ us) none ∙ reads_behind p (progress_after b t) ts us (ap (λ (r : Read). r.fault) (sym here) ∙ e)
+    ∙ ap (λ (r : Read). read_from p r.progress us) (sym here)
+
+-- ---- a write that fails
+
+-- two ways to part a list: one front goes on where the other ends
+abbrev Parted : List Token → List Token → List Token → List Token → Type 0
+Parted xs ys behind_xs behind_ys =
+    ((mid : List Token) × (ys ≡ xs ++ mid) × (behind_xs ≡ mid ++ behind_ys)) ⊎ ((mid : List Token) × (xs ≡ ys ++ mid) × (behind_ys ≡ mid ++ behind_xs))
+
+parted : (xs ys behind_xs behind_ys : List Token) → xs ++ behind_xs ≡ ys ++ behind_ys → Parted xs ys behind_xs behind_ys
+parted [] ys behind_xs behind_ys e = inl (ys, refl, e)
+parted (x ∷ xs) [] behind_xs behind_ys e = inr (x ∷ xs, refl, sym e)
+parted (x ∷ xs) (y ∷ ys) behind_xs behind_ys e = further (parted xs ys behind_xs behind_ys (cc))
+  where
+    head_same : x ≡ y
+    head_same = cc
+
+    further : Parted xs ys behind_xs behind_ys → Parted (x ∷ xs) (y ∷ ys) behind_xs behind_ys
+    further (inl (mid, is, parts)) = inl (mid, ap (λ l. y ∷ l) is ∙ ap (λ z. z ∷ (xs ++ mid)) (sym head_same), parts)
+    further (inr (mid, is, parts)) = inr (mid, ap (λ l. x ∷ l) is ∙ ap (λ z. z ∷ (ys ++ mid)) head_same, parts)
+
+-- the token at fault is the first of those that are left: the games before it are those so far
+module _ (p : Profile) (given : List Token) (l : Standing) (ts : List Token) (passes : (read p given).fault ≡ None) (whole_text : ts ≡ given ++ coming l [])
+    (at : ℕ) (a b : Option (List ℕ)) (writing : StopsWriting p given ts at a b) where
+  longer : length (due p (writing.front ++ writing.token ∷ [])) ≡ length (due p given) + length writing.text
+  longer = ap (length {A = ℕ}) writing.due_for ∙ length-append (due p given) writing.text
+
+  behind_given : (mid : List Token) → writing.front ≡ given ++ mid → coming l [] ≡ mid ++ writing.token ∷ writing.rest
+      → (read p writing.front).progress.games ≡ (read p given).progress.games
+  behind_given mid is parts =
+      let start = (read p given).progress in
+      let front : read p writing.front ≡ read_from p start mid = ap (read p) is ∙ reads_behind p no_progress given mid passes in
+      let more : read p (writing.front ++ writing.token ∷ []) ≡ read_from p start (mid ++ writing.token ∷ []) =
+      ap (λ ts. read p (ts ++ writing.token ∷ [])) is ∙ ap (read p) (append_assoc given mid (writing.token ∷ []))
+      ∙ reads_behind p no_progress given (mid ++ writing.token ∷ []) passes in
+      let grows : length (due p writing.front) < length (due p (writing.front ++ writing.token ∷ [])) =
+      omega (arith, longer, writing.least, writing.short) in
+      ap (λ (r : Read). r.progress.games) front
+      ∙ none_finished_before p start l mid writing.token writing.rest parts (ap (λ (r : Read). r.fault) (sym more) ∙ writing.passes)
+      (subst (λ (r : Read). length (written p r.progress) < length (written p (read_from p start (mid ++ writing.token ∷ [])).progress)) front
+      (subst (λ (r : Read). length (due p writing.front) < length (written p r.progress)) more grows))
+
+  head : {t u : Token} {ts us : List Token} → t ∷ ts ≡ u ∷ us → t ≡ u
+  head e = cc
+
+  by_parts : Parted given writing.front (coming l []) (writing.token ∷ writing.rest) → (read p writing.front).progress.games ≡ (read p given).progress.games
+  by_parts (inl (mid, is, parts)) = behind_given mid is parts
+  by_parts (inr ([], is, parts)) = ap (λ ts. (read p ts).progress.games) (sym (is ∙ append-nil writing.front))
+  by_parts (inr (m ∷ mid, is, parts)) =
+      let all : given ≡ (writing.front ++ writing.token ∷ []) ++ mid =
+      is ∙ ap (λ x. writing.front ++ x ∷ mid) (sym (head parts)) ∙ sym (append_assoc writing.front (writing.token ∷ []) mid) in
+      let grown = due_grows p (writing.front ++ writing.token ∷ []) mid in
+      absurd (omega (
+        arith,
+        longer,
+        writing.short,
+        ap (length {A = ℕ}) (ap (due p) all ∙ grown.1),
+        length-append (due p (writing.front ++ writing.token ∷ [])) grown.0,
+      ))
+
+  none_before : (read p writing.front).progress.games ≡ (read p given).progress.games
+  none_before = by_parts (parted given writing.front (coming l []) (writing.token ∷ writing.rest) (sym whole_text ∙ writing.cut))
+
+-- ---- both
+
+-- u is the whole text, and of its tokens the lexer has left those behind the given ones
+pub none_before_fault : (p : Profile) (u : List ℕ) (given : List Token) (l : Standing) → HasLeft l u given → (read p given).fault ≡ None → (a b : Option (List ℕ)) {f : Fault} (stops : Stops p given (tokens_of u) a b f)
+    → games_before stops ≡ (read p given).progress.games
+none_before_fault p u given l left passes a b (unwritten at writing) = none_before p given l (tokens_of u) passes left at a b writing
+none_before_fault p u given l left passes a b (refused f fault gains) =
+    by_games (subst (AddsOne (read p given).progress.games) (sym reads) (left_games p (read p given).progress l))
+  where
+    reads : read p (tokens_of u) ≡ read_from p (read p given).progress (coming l [])
+    reads = ap (read p) left ∙ reads_behind p no_progress given (coming l []) passes
+
+    none_or_some : (o : Option Fault) (g : Fault) → o ≡ Some g → o ≡ None → ⊥
+    none_or_some o g some none = cc
+
+    by_games : AddsOne (read p given).progress.games (read p (tokens_of u)) → (read p (tokens_of u)).progress.games ≡ (read p given).progress.games
+    by_games (inl same) = same
+    by_games (inr (none, more)) = absurd (none_or_some _ f fault none)
