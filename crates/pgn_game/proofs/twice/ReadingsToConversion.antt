@@ -23,7 +23,7 @@ use Rattle.pgn_game.specs.Conversion.{verdict_in}
 use Rattle.pgn_game.specs.MostTried.{MostTried}
 use Rattle.pgn_game.specs.Checked.{Mark, marks_from, is_other, is_changed, marks_after, Comparison, compared_from, compared, with_mark, torn_before, written_by, earlier_fault}
 use Rattle.pgn_game.specs.CheckedConversion.{AreConverted, AreTotalled, IsTokenPrefix, Decides, HasTaken, MatchesAllMarks, FirstStops, SecondStops, WriteStops, TwoReadingsFail, TwoReadingsConvert}
-use Rattle.pgn_game.specs.Pass.{Pass, model_mark, StandsIn, HasGiven, ReadFails, HasMarked, HasMatched, ReadsMark, ReadsToEnd, StopsAt, ReadsToFault, torn_after, WritesToMark, StopsWithin, WritesToFault, changed_reason, as_changed, BothSoFar}
+use Rattle.pgn_game.specs.Pass.{Pass, model_mark, StandsIn, HasGiven, ReadFails, HasMarked, HasMatched, ReadsSoFar, ReadsToEnd, StopsAt, ReadsToFault, torn_after, WritesToMark, StopsWithin, WritesToFault, changed_reason, as_changed, BothSoFar}
 use Rattle.pgn_game.proofs.EqualReadings.{after_marks, marks_test, after_change, change_test, no_mark}
 use Rattle.pgn_game.proofs.tokens.NextGrows.{next_is}
 use Rattle.pgn_game.proofs.tokens.OneMoreToken.{read-refuses, text_of-snoc}
@@ -59,25 +59,21 @@ decides true l unused u given d consumed (left, none, all) =
     let is : u ++ unused ≡ u = ap (λ (l : List ℕ). u ++ l) none ∙ append-nil u in
     Decides.at_end u (subst (Consumes d.before d.after) is consumed) all (coming l [], left)
 
-given_decides : (q : Profile) (d : Device) (s : Pass) (given : List Token) → HasGiven q d.before d.after s given → Decides d given
-given_decides q d s given h = decides s.has_ended s.lexer s.unused h.bytes given d h.consumed h.stands
+given_decides : (q : Profile) (told : Option CodeMark) (d : Device) (s : Pass) (given : List Token) → HasGiven q told d.before d.after s given → Decides d given
+given_decides q told d s given h = decides s.has_ended s.lexer s.unused h.bytes given d h.consumed h.stands
 
-pub given_first : (q : Profile) (left_old left_now : Option (List ℕ)) (s : Pass) (given : List Token) → HasGiven q left_old left_now s given
-    → IfSome left_old (λ r. (ts : List Token) × (tokens_of r ≡ given ++ ts))
-given_first q left_old left_now s given h = begins s.has_ended s.lexer s.unused h.bytes given left_old left_now h.consumed h.stands
+given_first : (q : Profile) (told : Option CodeMark) (left_old left_now : Option (List ℕ)) (s : Pass) (given : List Token) → HasGiven q told left_old left_now s given
+    → IfSome left_old (Begins given)
+given_first q told left_old left_now s given h = begins s.has_ended s.lexer s.unused h.bytes given left_old left_now h.consumed h.stands
 
-pub both_none : (q : Profile) (first second : Option (List ℕ)) (a b : Pass) (o : Option (List ℕ)) → HasGiven q first first a [] → HasGiven q second second b []
+pub both_none : (q : Profile) (first second : Option (List ℕ)) (a b : Pass) (o : Option (List ℕ)) → HasGiven q None first first a [] → HasGiven q None second second b []
     → BothSoFar q first first second second a b o o
 both_none q first second a b o first_given second_given =
     record {
-      first_tokens = [];
-      second_tokens = [];
       marks = [];
-      first_given = first_given;
-      second_given = second_given;
-      marked = marked_none q;
-      matched = matched_none q;
-      between = refl;
+      reads = record { tokens = []; has_given = first_given; marked = marked_none q };
+      second_tokens = [];
+      writes = record { told = None; has_given = second_given; matched = matched_none q; between = refl };
       written = Appends-nil o;
     }
 
@@ -109,19 +105,15 @@ written_at_token q m ms games t (whole g) takes same =
 
 module _ (q : Profile) (first_old first_now second_old second_now : Option (List ℕ)) (a b : Pass) (before mid : Option (List ℕ))
     (so : BothSoFar q first_old first_now second_old second_now a b before mid) where
-  pub both_more : (m : CodeMark) (new_a new_b : Pass) (first_new second_new after : Option (List ℕ)) → ReadsMark q first_old first_new so.marks m new_a
+  pub both_more : (m : CodeMark) (new_a new_b : Pass) (first_new second_new after : Option (List ℕ)) → ReadsSoFar q first_old first_new (so.marks ++ model_mark m ∷ []) new_a
       → WritesToMark q second_old second_new (so.marks ++ model_mark m ∷ []) so.second_tokens new_b mid after
       → BothSoFar q first_old first_new second_old second_new new_a new_b before after
   both_more m new_a new_b first_new second_new after reads writes =
       record {
-        first_tokens = reads.tokens;
-        second_tokens = writes.tokens;
         marks = so.marks ++ model_mark m ∷ [];
-        first_given = reads.has_given;
-        second_given = writes.has_given;
-        marked = reads.marked;
-        matched = writes.matched;
-        between = writes.between;
+        reads = reads;
+        second_tokens = writes.tokens;
+        writes = writes.stands;
         written = subst (Appends before after) (sym (ap (text_of q) writes.one_game ∙ text_of-snoc q (read q so.second_tokens).progress.games writes.game))
             (Appends-trans before mid after _ _ so.written writes.appended);
       }
@@ -134,14 +126,14 @@ module _ (q : Profile) (first second sink : Device) (first_now : Option (List �
   -- where `first` has no mark more, `second` is read no further
   last_mark : (xs us ts vs ws : List Token) → xs ≡ ts ++ vs → us ≡ so.second_tokens ++ ws → HasMarked q ts so.marks → marks_from q (read q ts).progress vs ≡ [] → compared q xs us ≡ at_mark
   last_mark xs us ts vs ws first second marked none =
-      ap (λ (l : List Token). compared q l us) first ∙ ap (compared q (ts ++ vs)) second ∙ both_read q ts so.second_tokens vs ws so.marks [] marked so.matched
+      ap (λ (l : List Token). compared q l us) first ∙ ap (compared q (ts ++ vs)) second ∙ both_read q ts so.second_tokens vs ws so.marks [] marked so.writes.matched
       ∙ ap (λ (ms : List Mark). compared_from q ms (read q so.second_tokens).progress ws) none ∙ no_mark q (read q so.second_tokens).progress ws
 
   written : HasTaken sink (written_by q at_mark)
   written = subst (HasTaken sink) (sym (append-nil (text_of q (read q so.second_tokens).progress.games))) so.written
 
   second_begins : IfSome second.before (Begins so.second_tokens)
-  second_begins = given_first q second.before second.after b so.second_tokens so.second_given
+  second_begins = given_first q so.writes.told second.before second.after b so.second_tokens so.writes.has_given
 
   converted : (s r : List ℕ) (o : Option Fault) → compared q (tokens_of s) (tokens_of r) ≡ at_mark → (read q (tokens_of s)).fault ≡ o
       → AreConverted q s r (verdict_of (record { progress = (read q so.second_tokens).progress; fault = o })) sink
@@ -155,7 +147,7 @@ module _ (q : Profile) (first second sink : Device) (first_now : Option (List �
       → t.most_probes ≡ max new_a.reading.most_probes b.reading.most_probes → new_a.reading.most_probes ≤ 1040 → b.reading.most_probes ≤ 1040
       → TwoReadingsConvert q first second sink (Ok t)
   both_end new_a t end games plies probes first_bound second_bound =
-      let h = so.second_given.has_read in
+      let h = so.writes.has_given.has_read in
       let c : Progress = (read q so.second_tokens).progress in
       let same : totals (record { games = length c.games; plies = sum (map plies_of c.games) }) ≡ verdict_in t =
       ap (λ n. totals (record { games = n; plies = sum (map plies_of c.games) })) (sym (games ∙ h.games)) ∙ ap (λ n. totals (record { games = t.games; plies = n })) (sym (plies ∙ h.plies)) in
@@ -224,7 +216,7 @@ module _ (q : Profile) (first second sink : Device) (first_now : Option (List �
 
 module _ (q : Profile) (first second sink : Device) (first_now second_now mid : Option (List ℕ)) (a b : Pass)
     (so : BothSoFar q first.before first_now second.before second_now a b sink.before mid) (m : CodeMark) (new_a : Pass)
-    (reads : ReadsMark q first.before first.after so.marks m new_a) (tokens : List Token) (two : HasMatched q (so.marks ++ model_mark m ∷ []) tokens (model_mark m ∷ []))
+    (reads : ReadsSoFar q first.before first.after (so.marks ++ model_mark m ∷ []) new_a) (tokens : List Token) (two : HasMatched q (so.marks ++ model_mark m ∷ []) tokens (model_mark m ∷ []))
     (same_games : (read q tokens).progress.games ≡ (read q so.second_tokens).progress.games) where
   abbrev mark : Mark
   mark = model_mark m
@@ -240,10 +232,10 @@ module _ (q : Profile) (first second sink : Device) (first_now second_now mid : 
   behind vs = marks_from q (read q reads.tokens).progress vs
 
   first_begins : IfSome first.before (Begins reads.tokens)
-  first_begins = given_first q first.before first.after new_a reads.tokens reads.has_given
+  first_begins = given_first q None first.before first.after new_a reads.tokens reads.has_given
 
   first_decides : Decides first reads.tokens
-  first_decides = given_decides q first new_a reads.tokens reads.has_given
+  first_decides = given_decides q None first new_a reads.tokens reads.has_given
 
   goes : (xs us vs ws : List Token) → xs ≡ reads.tokens ++ vs → us ≡ tokens ++ ws → compared q xs us ≡ compared_from q (mark ∷ behind vs) c ws
   goes xs us vs ws first second =
@@ -326,7 +318,7 @@ module _ (q : Profile) (first second sink : Device) (first_now second_now mid : 
 
 pub second_stops : (q : Profile) (first second sink : Device) (first_now second_now mid : Option (List ℕ)) (a b : Pass)
     (so : BothSoFar q first.before first_now second.before second_now a b sink.before mid) (m : CodeMark) (new_a : Pass) (f : Fault)
-    → q.missing_result ≡ takes_the_marker → ReadsMark q first.before first.after so.marks m new_a → (f.reason ≡ ReadFault → FailsOnce second)
+    → q.missing_result ≡ takes_the_marker → ReadsSoFar q first.before first.after (so.marks ++ model_mark m ∷ []) new_a → (f.reason ≡ ReadFault → FailsOnce second)
     → WritesToFault q second.before second.after (so.marks ++ model_mark m ∷ []) m so.second_tokens f mid sink.after → TwoReadingsFail q first second sink f
 second_stops q first second sink first_now second_now mid a b so m new_a f takes reads counts fails =
     second_at q first second sink first_now second_now mid a b so m new_a reads fails.tokens fails.matched fails.no_game takes counts fails.stops

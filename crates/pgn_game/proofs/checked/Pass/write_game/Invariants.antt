@@ -1,12 +1,11 @@
-use Rattle.std.proofs.Common.{◌≡◌, Some}
-use Rattle.pgn_game.specs.Pass.{IsGoing, IsTold, WritesGameSoFar, steps_left}
+use Rattle.std.proofs.Common.{◌≡◌}
+use Rattle.pgn_game.specs.Pass.{IsGoing, WritesGameSoFar, steps_left}
 use Rattle.pgn_game.proofs.checked.Pass.write_game.Given as goal
 
 abbrev pub invariant-loop-fault : goal.invariant-loop-fault
 invariant-loop-fault g l =
     record {
       going : IsGoing l.self;
-      under : IsTold (Some l.fn.mark) l.self.reading;
       mark : l.mark ≡ l.fn.mark;
       source : g.R.Source.failures l.source ≡ g.R.Source.failures l.fn.source;
       sink : g.W.Sink.failures l.out ≡ g.W.Sink.failures l.fn.out;
