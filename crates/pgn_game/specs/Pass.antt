@@ -146,6 +146,12 @@ TakesKind told k at old new result before after =
     (q : Profile) (part : Part) → q.missing_result ≡ takes_the_marker → old.profile ≡ profile_under q told → Agrees old part
     → AfterToken q part told (record { at = at; kind = k }) old new result before after
 
+-- a game that was finished ends by its marker, at this place
+abbrev pub EndsGame : Option (List ℕ) → ℕ → Taken → Type 0
+EndsGame (Some marker) at (GameEnd m) = model_mark m ≡ record { text = marker; at = at }
+EndsGame (Some marker) at _ = ⊥
+EndsGame None at taken = Unit {0}
+
 -- how many games were finished, with this token
 abbrev pub games_with : Taken → ℕ → ℕ
 games_with (GameEnd m) games = games + 1

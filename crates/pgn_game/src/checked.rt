@@ -1,20 +1,20 @@
 //! Converts an input that is read twice, so that a missing Result takes the marker.
 ghost use Rattle.std.specs.Prelude.{◌≡◌, ◌-◌, ◌+◌, ◌≤◌, ◌<◌, ◌^◌, length, max, false, [], ℕ, List};
-ghost use Rattle.std.specs.Prelude.{Option, None, OnOk, IfOk, IfSome, option_map};
+ghost use Rattle.std.specs.Prelude.{Option, None, OnOk, IfOk, IfSome};
 ghost use Rattle.pgn_layout.specs.Device.{device};
 ghost use Rattle.pgn_lexer.specs.Scanned.{kind_of};
 ghost use Rattle.pgn_lexer.specs.Tokens.{HasLength};
 ghost use Rattle.pgn_game.specs.declared.reason.Reason.TheVariants.{Changed};
 ghost use Rattle.pgn_game.specs.Checked.{checked_profile};
 ghost use Rattle.pgn_game.specs.CheckedConversion.{TwoReadingsConvert, TwoReadingsCount};
-ghost use Rattle.pgn_game.specs.Markers.{marker_text};
+ghost use Rattle.pgn_game.specs.FaultTable.{marker_of};
 ghost use Rattle.pgn_game.specs.Pass.{CountsStep, Fills, GoesOn, HasGiven, IsGoing, Keeps};
 ghost use Rattle.pgn_game.specs.Pass.{KeepsGoing, ReadsGame, Steps, TakesKind, TellsEnd};
-ghost use Rattle.pgn_game.specs.Pass.{WritesGame, as_changed, games_with};
-ghost use Rattle.pgn_game.specs.Pass.{marks_differ as do_marks_differ};
+ghost use Rattle.pgn_game.specs.Pass.{EndsGame, WritesGame, as_changed, games_with, marks_differ};
 ghost use Rattle.pgn_game.specs.ReaderState.{whole_plies};
 ghost use Rattle.pgn_game.specs.Size.{HoldsTwice};
 
+use crate::accepted::Accepted;
 use crate::conversion::Totals;
 use crate::converter::{MAX_INPUT_LENGTH, lexical};
 use crate::marker::{Marker, MissingResult};
@@ -324,24 +324,25 @@ fn take_token<const T: usize, const L: usize, W: Sink>(
     ensures end { IfOk result (TellsEnd (kind_of kind.entry)) }
     ensures counted { CountsStep result 0 0 (W.failures out.old) (W.failures out.new) }
 {
-    let marker = Marker::of(kind);
-    if marks_differ(told, marker, at) {
+    if shows_other_mark(told, kind, at) {
         return Err(differs(at));
     }
-    if let Err(reason) = reader.accept(kind, out) {
-        return Err(Fault { at, reason });
+    match reader.accept(kind, out) {
+        Err(reason) => Err(Fault { at, reason }),
+        Ok(Accepted::Finished) => {
+            *games += 1;
+            Ok(game_end(kind, at))
+        }
+        Ok(Accepted::More) => {
+            if !is_end(kind) {
+                return Ok(Taken::More);
+            }
+            if told.is_some() {
+                return Err(differs(at));
+            }
+            Ok(Taken::End)
+        }
     }
-    if let Some(marker) = marker {
-        *games += 1;
-        return Ok(Taken::Game(Mark { marker, at }));
-    }
-    if !is_end(kind) {
-        return Ok(Taken::More);
-    }
-    if told.is_some() {
-        return Err(differs(at));
-    }
-    Ok(Taken::End)
 }
 
 // The fault of a token at which the readings differ.
@@ -354,16 +355,27 @@ fn differs(at: u64) -> Fault
     }
 }
 
-// Whether this marker, or its place, differs from the mark that the other reading has told. False
-// if the token is no marker, or if no mark was told.
+// Whether the token is a marker that differs from the mark that the other reading has told, or is
+// at another place. False if no mark was told.
 #[inline(always)]
-fn marks_differ(told: Option<Mark>, marker: Option<Marker>, at: u64) -> bool
-    ensures { result ≡ do_marks_differ told (option_map marker_text marker) at }
+fn shows_other_mark(told: Option<Mark>, kind: TokenKind<'_>, at: u64) -> bool
+    ensures { result ≡ marks_differ told (marker_of (kind_of kind.entry)) at }
 {
-    let (Some(told), Some(marker)) = (told, marker) else {
+    let (Some(told), Some(marker)) = (told, Marker::of(kind)) else {
         return false;
     };
     marker.text() != told.marker.text() || at != told.at
+}
+
+// The end of a game by a token, which is its marker.
+fn game_end(kind: TokenKind<'_>, at: u64) -> Taken
+    ensures { EndsGame (marker_of (kind_of kind.entry)) at result }
+{
+    match Marker::of(kind) {
+        Some(marker) => Taken::Game(Mark { marker, at }),
+        // Never: only a marker finishes a game.
+        None => Taken::More,
+    }
 }
 
 // How many bytes to ask the source for: as many as fit into both the buffer and the room. If there

@@ -1,17 +1,15 @@
 -- What the reader answers to a token, and what a reading takes.
-use Rattle.std.proofs.Common.{◌≡◌, ℕ, ◌<◌, inl, inr, Bool, true, false, List, [], length, take, drop, Option, None, Some, Err, refl, sym, ap, subst, ◌∙◌, arith, ◌||◌, ◌==◌, bytes_eq, is_some}
+use Rattle.std.proofs.Common.{◌≡◌, ℕ, ◌+◌, ◌<◌, IsTrue, inl, inr, Bool, true, false, List, [], length, take, drop, Option, None, Some, Err, refl, sym, ap, subst, ◌∙◌, arith, ◌||◌, ◌==◌, bytes_eq, is_some}
 use Rattle.std.proofs.lemmas.Bool.{and_parts, not-false}
 use Rattle.std.proofs.lemmas.Slice.Eq.{bytes_eq-Decides}
 use Rattle.std.proofs.Math.Seq.{drop-length}
 use Rattle.std.proofs.KnownBytes.{Appends-nil}
 use Rattle.std.specs.Io.KnownBytes.{Appends}
 use Rattle.pgn_lexer.specs.Tokens as tokens
-use Rattle.pgn_game.specs.declared.accepted.Accepted.{Accepted}
 use Rattle.pgn_game.specs.declared.accepted.Accepted.TheVariants.{More as Continues, Finished}
 use Rattle.pgn_game.specs.declared.checked.Mark.{Mark as CodeMark}
 use Rattle.pgn_game.specs.declared.checked.Taken.{Taken}
 use Rattle.pgn_game.specs.declared.checked.Taken.TheVariants.{More, Game as GameEnd, End}
-use Rattle.pgn_game.specs.declared.marker.Marker.{Marker}
 use Rattle.pgn_game.proofs.Words.{Kind, Token, Reason, Changed, Stage, Between, Profile, takes_the_marker, Pair, Item, Part}
 use Rattle.pgn_game.specs.Markers.{marker_text}
 use Rattle.pgn_game.specs.FaultTable.{refusal, is_end, marker_of}
@@ -22,8 +20,8 @@ use Rattle.pgn_game.specs.ReaderState.{Answers, IsAccepted, Leads, ReaderState, 
 use Rattle.pgn_game.specs.ReaderState as reader_state
 use Rattle.pgn_game.specs.TokenInMovetext.{game_of}
 use Rattle.pgn_game.specs.Checked.{is_other}
-use Rattle.pgn_game.specs.Pass.{LeadsTo, TakesToken, TokenFails, accepted_of, marks_differ, model_mark, other, profile_under, refused, rejects, shows_other, unwritten}
-use Rattle.pgn_game.proofs.tokens.StepsAtEnd.{end_at, is_the_end}
+use Rattle.pgn_game.specs.Pass.{LeadsTo, TakesToken, TokenFails, EndsGame, TellsEnd, accepted_of, games_with, marks_differ, model_mark, other, profile_under, refused, rejects, shows_other, unwritten}
+use Rattle.pgn_game.proofs.tokens.StepsAtEnd.{end_at, is_the_end, marker_or_end}
 use Rattle.pgn_game.proofs.twice.MarkerCounts.{accepted_under, marker_finishes, no_marker_goes, refusal_counting, same_mode}
 
 -- The end adds nothing.
@@ -52,14 +50,16 @@ same_text : (text : List ℕ) (m : CodeMark) (at : ℕ) → marks_differ (Some m
 same_text text m at same =
     (bytes_eq-Decides text (marker_text m.marker)).0 (and_parts (bytes_eq text (marker_text m.marker)) (at == m.at) (not-false _ same)).0
 
-as_finished : (n : Next) (x : Accepted) (t : Token) (m : CodeMark) (new : ReaderState) → LeadsTo n t (GameEnd m) → Leads n x new → x ≡ Finished
-as_finished n Finished t m new leads h = refl
-as_finished (whole g) Continues t m new leads h = absurd h
-as_finished (going to) Continues t m new leads h = absurd leads
+goes_on : (n : Next) (new : ReaderState) → Leads n Continues new → (to : Part) × (n ≡ going to)
+goes_on (going to) new h = (to, refl)
+goes_on (whole g) new h = absurd h
 
-as_going : (n : Next) (x : Accepted) (to : Part) (new : ReaderState) → n ≡ going to → Leads n x new → x ≡ Continues
-as_going n Continues to new is h = refl
-as_going n Finished to new is h = absurd (subst (λ n. Leads n Finished new) is h)
+-- so a marker is answered as the end of a game, and is not the end
+pub one_game : (k : Kind) (o : Option (List ℕ)) (at n : ℕ) (taken : Taken) → marker_of k ≡ o → IsTrue (is_some o) → EndsGame o at taken → (n + 1 ≡ games_with taken n) × TellsEnd k taken
+one_game k (Some marker) at n (GameEnd m) is some h = (refl, marker_or_end k (ap is_some is))
+one_game k (Some marker) at n More is some h = absurd h
+one_game k (Some marker) at n End is some h = absurd h
+one_game k None at n taken is some h = absurd (cc)
 
 module _ (q : Profile) (part : Part) (told : Option CodeMark) (t : Token) (old new : ReaderState) (a c : Option (List ℕ)) (takes : q.missing_result ≡ takes_the_marker)
     (under : old.profile ≡ profile_under q told) where
@@ -84,50 +84,55 @@ module _ (q : Profile) (part : Part) (told : Option CodeMark) (t : Token) (old n
     row = ap (λ p. refusal p part k) under ∙ same_row told (marker_of k) refl differ
 
     -- It was taken.
-    module _ (kept : new.profile ≡ old.profile) (x : Accepted) (h : IsAccepted old part k new x a c) where
-      free : refusal q part k ≡ None
-      free = sym row ∙ h.free
+    takes_token : (taken : Taken) → new.profile ≡ old.profile → IsAccepted old part k new (accepted_of taken) a c → shows_other told (next part k) t ≡ false → LeadsTo (next part k) t taken
+        → TakesToken q part told t old new taken a c
+    takes_token taken kept h same leads =
+        let free : refusal q part k ≡ None = sym row ∙ h.free in
+        record {
+          passes = record {
+            free = free;
+            same = not_rejected free false same;
+            leads = leads;
+            appended = subst (λ p. Appends a c (gain (as_written p) part k)) under h.appended;
+          };
+          kept = kept;
+          accepted = accepted_under q part k old new (accepted_of taken) a c (ap (λ (p : Profile). p.mode) under ∙ same_mode q told) kept row h;
+        }
 
-      takes_token : (taken : Taken) → shows_other told (next part k) t ≡ false → LeadsTo (next part k) t taken → x ≡ accepted_of taken → TakesToken q part told t old new taken a c
-      takes_token taken same leads is =
-          record {
-            passes = record {
-              free = free;
-              same = not_rejected free false same;
-              leads = leads;
-              appended = subst (λ p. Appends a c (gain (as_written p) part k)) under h.appended;
-            };
-            kept = kept;
-            accepted = accepted_under q part k old new (accepted_of taken) a c (ap (λ (p : Profile). p.mode) under ∙ same_mode q told) kept row
-                (subst (λ y. IsAccepted old part k new y a c) is h);
-          }
+    pub taken_game : (taken : Taken) → EndsGame (marker_of k) t.at taken → new.profile ≡ old.profile → IsAccepted old part k new Finished a c → TakesToken q part told t old new taken a c
+    taken_game taken ends kept h = by_marker taken (marker_of k) refl ends
+      where
+        by_marker : (taken : Taken) (o : Option (List ℕ)) → marker_of k ≡ o → EndsGame o t.at taken → TakesToken q part told t old new taken a c
+        by_marker (GameEnd m) (Some text) is ends =
+            let free = sym row ∙ h.free in
+            takes_token (GameEnd m) kept h (finishes text is free ∙ differ) (subst (λ n. LeadsTo n t (GameEnd m)) (sym (marker_finishes q part k text is free)) ends)
+        by_marker More (Some text) is ends = absurd ends
+        by_marker End (Some text) is ends = absurd ends
+        by_marker taken None is ends = absurd (subst (λ n. Leads n Finished new) (no_marker_goes part k is).1 h.leads)
 
-      pub taken_game : (m : Marker) → marker_of k ≡ Some (marker_text m) → TakesToken q part told t old new (GameEnd (record { marker = m; at = t.at })) a c
-      taken_game m is =
-          let leads = subst (λ n. LeadsTo n t (GameEnd (record { marker = m; at = t.at }))) (sym (marker_finishes q part k (marker_text m) is free)) refl in
-          takes_token (GameEnd (record { marker = m; at = t.at })) (finishes (marker_text m) is free ∙ differ) leads (as_finished _ x t _ new leads h.leads)
+    -- a token that goes on differs by being the end alone
+    module _ (kept : new.profile ≡ old.profile) (h : IsAccepted old part k new Continues a c) where
+      to : (p : Part) × (next part k ≡ going p)
+      to = goes_on (next part k) new h.leads
 
-      pub taken_more : marker_of k ≡ None → is_end k ≡ false → TakesToken q part told t old new More a c
-      taken_more none not_end =
-          let to = no_marker_goes part k none in
-          takes_token More (goes told) (subst (λ n. LeadsTo n t More) (sym to.1) tt) (as_going _ x to.0 new to.1 h.leads)
+      differs_by : (x : Option CodeMark) (e : Bool) → is_end k ≡ e → is_some x ≡ true → shows_other x (next part k) t ≡ e
+      differs_by (Some m) e is some = going_differs m _ _ t to.1 ∙ is
+      differs_by None e is some = absurd (cc)
+
+      pub taken_more : is_end k ≡ false → TakesToken q part told t old new More a c
+      taken_more not_end = takes_token More kept h (goes told) (subst (λ n. LeadsTo n t More) (sym to.1) tt)
         where
           goes : (x : Option CodeMark) → shows_other x (next part k) t ≡ false
           goes None = refl
-          goes (Some m) = going_differs m _ _ t (no_marker_goes part k none).1 ∙ not_end
+          goes (Some m) = differs_by (Some m) false not_end refl
 
-      pub taken_end : marker_of k ≡ None → told ≡ None → TakesToken q part told t old new End a c
-      taken_end none is =
-          let to = no_marker_goes part k none in
-          takes_token End (ap (λ o. shows_other o (next part k) t) is) (subst (λ n. LeadsTo n t End) (sym to.1) tt) (as_going _ x to.0 new to.1 h.leads)
+      pub taken_end : told ≡ None → TakesToken q part told t old new End a c
+      taken_end is = takes_token End kept h (ap (λ o. shows_other o (next part k) t) is) (subst (λ n. LeadsTo n t End) (sym to.1) tt)
 
-      pub fails_at_end : marker_of k ≡ None → is_end k ≡ true → is_some told ≡ true → TokenFails q part told t a c (record { at = t.at; reason = Changed })
-      fails_at_end none at_end some =
-          other (not_rejected free true (differs told some)) some (subst (Appends a c) (end_gains_nothing q (as_written old.profile) part k at_end free) h.appended)
-        where
-          differs : (x : Option CodeMark) → is_some x ≡ true → shows_other x (next part k) t ≡ true
-          differs None some = absurd (cc)
-          differs (Some m) some = going_differs m _ _ t (no_marker_goes part k none).1 ∙ at_end
+      pub fails_at_end : is_end k ≡ true → is_some told ≡ true → TokenFails q part told t a c (record { at = t.at; reason = Changed })
+      fails_at_end at_end some =
+          let free = sym row ∙ h.free in
+          other (not_rejected free true (differs_by told true at_end some)) some (subst (Appends a c) (end_gains_nothing q (as_written old.profile) part k at_end free) h.appended)
 
     -- a write failed: so the token is not the end, which adds nothing
     shows_none : refusal q part k ≡ None → (n : ℕ) → n < length (gain (as_written old.profile) part k) → shows_other told (next part k) t ≡ false
