@@ -10,7 +10,8 @@ ghost use Rattle.pgn_game.specs.CheckedConversion.{TwoReadingsConvert, TwoReadin
 ghost use Rattle.pgn_game.specs.FaultTable.{marker_of};
 ghost use Rattle.pgn_game.specs.Pass.{CountsStep, Fills, GoesOn, HasGiven, IsGoing, Keeps};
 ghost use Rattle.pgn_game.specs.Pass.{KeepsGoing, ReadsGame, Steps, TakesKind, TellsEnd};
-ghost use Rattle.pgn_game.specs.Pass.{EndsGame, WritesGame, as_changed, games_with, marks_differ};
+ghost use Rattle.pgn_game.specs.Pass.{EndsGame, WritesGame, as_changed, games_with};
+ghost use Rattle.pgn_game.specs.Pass.{marks_differ as do_marks_differ};
 ghost use Rattle.pgn_game.specs.ReaderState.{whole_plies};
 ghost use Rattle.pgn_game.specs.Size.{HoldsTwice};
 
@@ -324,7 +325,7 @@ fn take_token<const T: usize, const L: usize, W: Sink>(
     ensures end { IfOk result (TellsEnd (kind_of kind.entry)) }
     ensures counted { CountsStep result 0 0 (W.failures out.old) (W.failures out.new) }
 {
-    if shows_other_mark(told, kind, at) {
+    if marks_differ(told, kind, at) {
         return Err(differs(at));
     }
     match reader.accept(kind, out) {
@@ -358,8 +359,8 @@ fn differs(at: u64) -> Fault
 // Whether the token is a marker that differs from the mark that the other reading has told, or is
 // at another place. False if no mark was told.
 #[inline(always)]
-fn shows_other_mark(told: Option<Mark>, kind: TokenKind<'_>, at: u64) -> bool
-    ensures { result ≡ marks_differ told (marker_of (kind_of kind.entry)) at }
+fn marks_differ(told: Option<Mark>, kind: TokenKind<'_>, at: u64) -> bool
+    ensures { result ≡ do_marks_differ told (marker_of (kind_of kind.entry)) at }
 {
     let (Some(told), Some(marker)) = (told, Marker::of(kind)) else {
         return false;

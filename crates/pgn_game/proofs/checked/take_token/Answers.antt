@@ -18,13 +18,13 @@ module _ (g : Over) (c : After-accept g) where
   t = record { at = c.args.at; kind = kind_of c.args.kind }
 
   differ : marks_differ c.args.told (marker_of t.kind) c.args.at ≡ false
-  differ = sym c.shows_other_mark.ensures ∙ c.if-shows_other_mark.false
+  differ = sym c.marks_differ.ensures ∙ c.if-marks_differ.false
 
-pub returns-then-shows_other_mark-clause-takes : goal.returns-then-shows_other_mark-clause-takes
-returns-then-shows_other_mark-clause-takes g c q part takes under agrees =
+pub returns-then-marks_differ-clause-takes : goal.returns-then-marks_differ-clause-takes
+returns-then-marks_differ-clause-takes g c q part takes under agrees =
     rw c.differs.ensures
     (fails_marks q part c.args.told (record { at = c.args.at; kind = kind_of c.args.kind }) c.args.reader.now c.args.reader.now None None takes under _
-    (sym c.shows_other_mark.ensures ∙ c.if-shows_other_mark.true))
+    (sym c.marks_differ.ensures ∙ c.if-marks_differ.true))
 
 pub returns-in-Err-clause-takes : goal.returns-in-Err-clause-takes
 returns-in-Err-clause-takes g c q part takes under agrees =
@@ -80,8 +80,8 @@ returns-then-not-is_end-clause-end g c = sym c.is_end.ensures ∙ c.if-not-is_en
 pub returns-else-is_some-clause-end : goal.returns-else-is_some-clause-end
 returns-else-is_some-clause-end g c = sym c.is_end.ensures ∙ c.if-not-is_end.false
 
-pub returns-then-shows_other_mark-clause-counted : goal.returns-then-shows_other_mark-clause-counted
-returns-then-shows_other_mark-clause-counted g c = rw c.differs.ensures (refl, refl)
+pub returns-then-marks_differ-clause-counted : goal.returns-then-marks_differ-clause-counted
+returns-then-marks_differ-clause-counted g c = rw c.differs.ensures (refl, refl)
 
 pub returns-in-Err-clause-counted : goal.returns-in-Err-clause-counted
 returns-in-Err-clause-counted g c =
