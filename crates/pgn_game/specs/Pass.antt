@@ -243,58 +243,16 @@ abbrev pub CountsStep : {A : Type 0} → Result A Fault → ℕ → ℕ → ℕ 
 CountsStep (Ok x) source_old source_new sink_old sink_new = (source_new ≡ source_old) × (sink_new ≡ sink_old)
 CountsStep (Err f) source_old source_new sink_old sink_new = CountsDevices f.reason source_old source_new sink_old sink_new
 
--- A game of the first reading.
+-- One game.
+
+-- the first tokens of a text, behind which no game is begun
+pub record StandsBetween (q : Profile) (told : Option CodeMark) (left_old left_now : Option (List ℕ)) (given : List Token) (now : Pass) : Type 0 where
+  pub has_given : HasGiven q told left_old left_now now given
+  pub between : part_after q given ≡ no_part
 
 -- these are the marks of the tokens, whatever comes behind them
 abbrev pub HasMarked : Profile → List Token → List Mark → Type 0
 HasMarked q given ms = (ts : List Token) → marks q (given ++ ts) ≡ ms ++ marks_from q (read q given).progress ts
-
--- what was read up to these marks
-pub record ReadsSoFar (q : Profile) (left_old left_now : Option (List ℕ)) (ms : List Mark) (now : Pass) : Type 0 where
-  pub tokens : List Token
-  pub has_given : HasGiven q None left_old left_now now tokens
-  pub marked : HasMarked q tokens ms
-
--- up to the end
-pub record ReadsToEnd (q : Profile) (left_old : Option (List ℕ)) (ms : List Mark) (new : Pass) : Type 0 where
-  pub tokens : List Token
-  pub whole : IfSome left_old (λ s. tokens_of s ≡ tokens)
-  pub has_read : HasRead q (as_converter q new) tokens
-  pub marked : HasMarked q tokens ms
-
--- or up to a fault
-pub data StopsAt (q : Profile) (left_old left_new : Option (List ℕ)) (given : List Token) : Fault → Type 0 where
-  refused : (t : Token) (reason : Reason) → ComesNext left_old given t → refusal q (part_after q given) t.kind ≡ Some reason
-      → StopsAt q left_old left_new given (record { at = t.at; reason = reason })
-  unread : (f : Fault) → ReadFails left_old left_new given f → StopsAt q left_old left_new given f
-
-pub record ReadsToFault (q : Profile) (left_old left_new : Option (List ℕ)) (ms : List Mark) (f : Fault) : Type 0 where
-  pub tokens : List Token
-  pub passes : (read q tokens).fault ≡ None
-  pub marked : HasMarked q tokens ms
-  pub stops : StopsAt q left_old left_new tokens f
-
-abbrev pub AfterRead : Profile → Option (List ℕ) → Option (List ℕ) → List Mark → Pass → Result (Option CodeMark) Fault → Type 0
-AfterRead q left_old left_new ms new (Ok (Some m)) = ReadsSoFar q left_old left_new (ms ++ model_mark m ∷ []) new
-AfterRead q left_old left_new ms new (Ok None) = ReadsToEnd q left_old ms new
-AfterRead q left_old left_new ms new (Err f) = ReadsToFault q left_old left_new ms f
-
-abbrev pub ReadsGame : Option (List ℕ) → Option (List ℕ) → Pass → Pass → Result (Option CodeMark) Fault → Type 0
-ReadsGame left_before left_after old new result =
-    (q : Profile) (left_old : Option (List ℕ)) (ms : List Mark)
-    → ReadsSoFar q left_old left_before ms old → AfterRead q left_old left_after ms new result
-
-abbrev pub ReadsGameSoFar : Option (List ℕ) → Option (List ℕ) → Pass → Pass → Type 0
-ReadsGameSoFar left_before left_now old now =
-    (q : Profile) (left_old : Option (List ℕ)) (ms : List Mark)
-    → ReadsSoFar q left_old left_before ms old → ReadsSoFar q left_old left_now ms now
-
--- it goes on behind a mark, and fewer steps are left
-abbrev pub GoesOn : Pass → Pass → Result (Option CodeMark) Fault → Type 0
-GoesOn old new (Ok (Some m)) = KeepsGoing old new
-GoesOn old new _ = Unit {0}
-
--- A game of the second reading.
 
 -- The tokens show no difference from the marks ms, of which these are left, whatever comes behind
 -- both.
@@ -302,66 +260,57 @@ abbrev pub HasMatched : Profile → List Mark → List Token → List Mark → T
 HasMatched q ms given left =
     (ns : List Mark) (ts : List Token) → compared_from q (ms ++ ns) no_progress (given ++ ts) ≡ compared_from q (left ++ ns) (read q given).progress ts
 
--- what is written of the game that ends with the mark m, when these tokens were taken
-abbrev pub torn_after : Profile → CodeMark → List Token → List ℕ
-torn_after q m given = torn (counting q (marker_text m.marker)) (part_after q given)
-
--- The second reading stands between games, and these tokens show no difference from the marks ms.
--- For the game before a mark may have been told.
-pub record WritesBetween (q : Profile) (left_old left_now : Option (List ℕ)) (ms : List Mark) (given : List Token) (now : Pass) : Type 0 where
-  pub told : Option CodeMark
-  pub has_given : HasGiven q told left_old left_now now given
-  pub matched : HasMatched q ms given []
-  pub between : part_after q given ≡ no_part
-
--- the tokens up to the mark, and the game is written
-pub record WritesToMark (q : Profile) (left_old left_new : Option (List ℕ)) (ms : List Mark) (given : List Token) (new : Pass) (before after : Option (List ℕ)) : Type 0 where
+-- What was read of the game behind these tokens so far: no mark more, and no difference from the
+-- mark that was told. What is written of it was appended.
+pub record GoesSoFar (q : Profile) (told : Option CodeMark) (left_old left_now : Option (List ℕ)) (given : List Token) (now : Pass) (before after : Option (List ℕ)) : Type 0 where
   pub tokens : List Token
-  pub game : Game
-  pub stands : WritesBetween q left_old left_new ms tokens new
-  pub going : IsGoing new
-  pub one_game : (read q tokens).progress.games ≡ (read q given).progress.games ++ game ∷ []
-  pub appended : Appends before after (game_text q game)
-
--- how the second reading stops within a game
-pub data StopsWithin (q : Profile) (left_old left_new : Option (List ℕ)) (m : CodeMark) (given : List Token) (before after : Option (List ℕ)) : Fault → Type 0 where
-  differs : (t : Token) → ComesNext left_old given t → is_changed q (model_mark m) (part_after q given) t ≡ true → Appends before after (torn_after q m given)
-      → StopsWithin q left_old left_new m given before after (record { at = t.at; reason = Changed })
-  unwritten : (t : Token) → ComesNext left_old given t → is_changed q (model_mark m) (part_after q given) t ≡ false
-      → (n : ℕ) → n < length (gain (counting q (marker_text m.marker)) (part_after q given) t.kind)
-      → Appends before after (torn_after q m given ++ take n (gain (counting q (marker_text m.marker)) (part_after q given) t.kind))
-      → StopsWithin q left_old left_new m given before after (record { at = t.at; reason = WriteFault })
-  unread : (f : Fault) → ReadFails left_old left_new given f → Appends before after (torn_after q m given)
-      → StopsWithin q left_old left_new m given before after (as_changed f)
-
-pub record WritesToFault (q : Profile) (left_old left_new : Option (List ℕ)) (ms : List Mark) (m : CodeMark) (given : List Token) (f : Fault) (before after : Option (List ℕ)) : Type 0 where
-  pub tokens : List Token
-  pub passes : (read q tokens).fault ≡ None
-  pub matched : HasMatched q ms tokens (model_mark m ∷ [])
+  pub has_given : HasGiven q told left_old left_now now tokens
+  pub marked : (ms : List Mark) → HasMarked q given ms → HasMarked q tokens ms
+  pub matched : (m : CodeMark) (ms : List Mark) → told ≡ Some m → HasMatched q ms given (model_mark m ∷ []) → HasMatched q ms tokens (model_mark m ∷ [])
   pub no_game : (read q tokens).progress.games ≡ (read q given).progress.games
-  pub stops : StopsWithin q left_old left_new m tokens before after f
+  pub appended : Appends before after (torn (as_written (profile_under q told)) (part_after q tokens))
 
-abbrev pub AfterWrite : Profile → Option (List ℕ) → Option (List ℕ) → List Mark → CodeMark → List Token → Pass → Result Unit Fault → Option (List ℕ) → Option (List ℕ) → Type 0
-AfterWrite q left_old left_new ms m given new (Ok done) before after = WritesToMark q left_old left_new ms given new before after
-AfterWrite q left_old left_new ms m given new (Err f) before after = WritesToFault q left_old left_new ms m given f before after
+-- the game up to the answer of the last step
+pub record ReadsToLast (q : Profile) (told : Option CodeMark) (left_old left_new : Option (List ℕ)) (given : List Token) (answer : Result Taken Fault) (new : Pass)
+    (before after : Option (List ℕ)) : Type 0 where
+  pub left : Option (List ℕ)
+  pub mid : Option (List ℕ)
+  pub now : Pass
+  pub so : GoesSoFar q told left_old left given now before mid
+  pub last : AfterStep q left_old left_new told so.tokens new answer mid after
+
+abbrev pub last_of : Result (Option CodeMark) Fault → Result Taken Fault
+last_of (Ok (Some m)) = Ok (GameEnd m)
+last_of (Ok None) = Ok End
+last_of (Err f) = Err f
+
+abbrev pub ReadsGame : Option (List ℕ) → Option (List ℕ) → Option CodeMark → Pass → Pass → Result (Option CodeMark) Fault → Option (List ℕ) → Option (List ℕ) → Type 0
+ReadsGame left_before left_after told old new result before after =
+    (q : Profile) (left_old : Option (List ℕ)) (given : List Token)
+    → StandsBetween q told left_old left_before given old → ReadsToLast q told left_old left_after given (last_of result) new before after
+
+abbrev pub ReadsGameSoFar : Option (List ℕ) → Option (List ℕ) → Option CodeMark → Pass → Pass → Option (List ℕ) → Option (List ℕ) → Type 0
+ReadsGameSoFar left_before left_now told old now before after =
+    (q : Profile) (left_old : Option (List ℕ)) (given : List Token)
+    → StandsBetween q told left_old left_before given old → GoesSoFar q told left_old left_now given now before after
+
+-- it goes on behind a mark, and fewer steps are left
+abbrev pub GoesOn : Pass → Pass → Result (Option CodeMark) Fault → Type 0
+GoesOn old new (Ok (Some m)) = KeepsGoing old new
+GoesOn old new _ = Unit {0}
+
+-- The second reading has read a game up to its mark, or up to a fault. For the game before it a
+-- mark may have been told.
+abbrev pub AfterWrite : Profile → Option (List ℕ) → Option (List ℕ) → CodeMark → List Token → Pass → Result Unit Fault → Option (List ℕ) → Option (List ℕ) → Type 0
+AfterWrite q left_old left_new m given new (Ok done) before after =
+    (x : CodeMark) × ReadsToLast q (Some m) left_old left_new given (Ok (GameEnd x)) new before after × IsGoing new
+AfterWrite q left_old left_new m given new (Err f) before after =
+    (e : Fault) × ReadsToLast q (Some m) left_old left_new given (Err e) new before after × (f ≡ as_changed e)
 
 abbrev pub WritesGame : Option (List ℕ) → Option (List ℕ) → Pass → CodeMark → Pass → Result Unit Fault → Option (List ℕ) → Option (List ℕ) → Type 0
 WritesGame left_before left_after old m new result before after =
-    (q : Profile) (left_old : Option (List ℕ)) (given : List Token) (ms : List Mark)
-    → WritesBetween q left_old left_before ms given old → AfterWrite q left_old left_after (ms ++ model_mark m ∷ []) m given new result before after
-
--- what was written of the game so far
-pub record WritesSoFar (q : Profile) (left_old left_now : Option (List ℕ)) (ms : List Mark) (m : CodeMark) (given : List Token) (now : Pass) (before after : Option (List ℕ)) : Type 0 where
-  pub tokens : List Token
-  pub has_given : HasGiven q (Some m) left_old left_now now tokens
-  pub matched : HasMatched q ms tokens (model_mark m ∷ [])
-  pub no_game : (read q tokens).progress.games ≡ (read q given).progress.games
-  pub appended : Appends before after (torn_after q m tokens)
-
-abbrev pub WritesGameSoFar : Option (List ℕ) → Option (List ℕ) → Pass → CodeMark → Pass → Option (List ℕ) → Option (List ℕ) → Type 0
-WritesGameSoFar left_before left_now old m now before after =
-    (q : Profile) (left_old : Option (List ℕ)) (given : List Token) (ms : List Mark)
-    → WritesBetween q left_old left_before ms given old → WritesSoFar q left_old left_now (ms ++ model_mark m ∷ []) m given now before after
+    (q : Profile) (told : Option CodeMark) (left_old : Option (List ℕ)) (given : List Token)
+    → StandsBetween q told left_old left_before given old → AfterWrite q left_old left_after m given new result before after
 
 -- Both readings, game by game.
 
@@ -369,7 +318,11 @@ WritesGameSoFar left_before left_now old m now before after =
 -- those of the second are written.
 pub record BothSoFar (q : Profile) (first_old first_now second_old second_now : Option (List ℕ)) (first second : Pass) (before after : Option (List ℕ)) : Type 0 where
   pub marks : List Mark
-  pub reads : ReadsSoFar q first_old first_now marks first
+  pub first_tokens : List Token
+  pub first_stands : StandsBetween q None first_old first_now first_tokens first
+  pub marked : HasMarked q first_tokens marks
+  pub told : Option CodeMark
   pub second_tokens : List Token
-  pub writes : WritesBetween q second_old second_now marks second_tokens second
+  pub second_stands : StandsBetween q told second_old second_now second_tokens second
+  pub matched : HasMatched q marks second_tokens []
   pub written : Appends before after (text_of q (read q second_tokens).progress.games)

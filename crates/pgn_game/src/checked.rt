@@ -82,7 +82,7 @@ pub fn convert_checked<const T: usize, const L: usize, Q: Source, R: Source, W: 
     let mut ahead = Pass::<T, L>::new(mode);
     let mut behind = Pass::<T, L>::new(mode);
     loop {
-        let Some(mark) = ahead.read_game(first)? else {
+        let Some(mark) = ahead.read_game(first, None, &mut Nowhere)? else {
             return Ok(behind.totals(ahead.reader.most_probes()));
         };
         behind.write_game(second, mark, writer)?;
@@ -169,15 +169,23 @@ impl<const T: usize, const L: usize> Pass<T, L> {
 
     // Reads to the end of the next game, and returns its mark. `None` is the end of the input.
     //
-    // Nothing is written. A fault is the input's own, or `Reason::ReadFault`.
-    fn read_game<R: Source>(&mut self, source: &mut R) -> Result<Option<Mark>, Fault>
+    // `told` is the mark that the game has to end with, if the other reading has told it.
+    #[inline(always)]
+    fn read_game<R: Source, W: Sink>(
+        &mut self,
+        source: &mut R,
+        told: Option<Mark>,
+        out: &mut W,
+    ) -> Result<Option<Mark>, Fault>
         requires going { IsGoing self.old }
-        ensures reads { ReadsGame (R.left source.old) (R.left source.new) self.old self.new result }
+        ensures reads { ReadsGame (R.left source.old) (R.left source.new) told self.old self.new
+            result (W.taken out.old) (W.taken out.new) }
         ensures going { GoesOn self.old self.new result }
-        ensures counted { CountsStep result (R.failures source.old) (R.failures source.new) 0 0 }
+        ensures counted { CountsStep result (R.failures source.old) (R.failures source.new)
+            (W.failures out.old) (W.failures out.new) }
     {
         loop {
-            match self.step(source, None, &mut Nowhere)? {
+            match self.step(source, told, out)? {
                 Taken::More => {}
                 Taken::Game(mark) => return Ok(Some(mark)),
                 Taken::End => return Ok(None),
@@ -202,14 +210,10 @@ impl<const T: usize, const L: usize> Pass<T, L> {
     {
         self.reader
             .count_missing_result_as(MissingResult::CountsAs(mark.marker));
-        loop {
-            match self.step(source, Some(mark), out) {
-                Ok(Taken::More) => {}
-                Ok(Taken::Game(_)) => return Ok(()),
-                // Never: the end is a difference.
-                Ok(Taken::End) => return Ok(()),
-                Err(fault) => return Err(changed(fault)),
-            }
+        match self.read_game(source, Some(mark), out) {
+            // It is never `None`: the end is a difference.
+            Ok(_) => Ok(()),
+            Err(fault) => Err(changed(fault)),
         }
     }
 

@@ -38,6 +38,10 @@ with_sink _ s t o h = (h.0, refl)
 pub no_write : (r : Reason) (s t : ℕ) → CountsDevices r s t 0 0 → r ≡ WriteFault → ⊥
 no_write r s t h is = absurd (omega (arith, (subst (λ x. CountsDevices x s t 0 0) is h).1))
 
+-- behind steps that counted none
+pub behind_still : (r : Reason) (s t u o n m : ℕ) → t ≡ s → n ≡ o → CountsDevices r t u n m → CountsDevices r s u o m
+behind_still r s t u o n m source sink h = subst (λ x. CountsDevices r x u o m) source (subst (λ x. CountsDevices r t u x m) sink h)
+
 -- a failed read is counted
 pub source_fails : (r : Reason) (s t o n : ℕ) → CountsDevices r s t o n → r ≡ ReadFault → t ≡ one_more s
 source_fails r s t o n h is = (subst (λ x. CountsDevices x s t o n) is h).0
