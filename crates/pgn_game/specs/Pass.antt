@@ -3,9 +3,9 @@
 -- the reading has given so far, t is a token, m a mark and ms are marks, f is a fault, u are bytes.
 -- `left_old` and `left_now` are the bytes that the source has left, at first and now; `before` and
 -- `after` those that the sink has taken. `told` is the mark that the other reading has told.
-use Rattle.std.specs.Prelude.{◌≡◌, ℕ, ◌+◌, ◌*◌, ◌^◌, ◌<◌, ◌≤◌, ◌⊎◌, ◌-◌, Bool, true, false, not, ◌||◌, ◌&&◌, ◌==◌, bytes_eq, is_some, List, [], ◌∷◌, ◌++◌, length, take, Option, None, Some, Result, Ok, Err, IfSome, OnOk}
+use Rattle.std.specs.Prelude.{◌≡◌, ℕ, ◌+◌, ◌*◌, ◌^◌, ◌<◌, ◌≤◌, ◌⊎◌, ◌-◌, Bool, true, false, not, ◌||◌, ◌&&◌, ◌==◌, bytes_eq, is_some, List, [], ◌∷◌, ◌++◌, length, Option, None, Some, Result, Ok, Err, IfSome}
 use Rattle.std.specs.Io.KnownBytes.{Appends, Consumes}
-use Rattle.pgn_layout.specs.Device.{AppendsFront, one_more}
+use Rattle.pgn_layout.specs.Device.{AppendsFront}
 use Rattle.pgn_lexer.specs.Tokens.{Kind, Token}
 use Rattle.pgn_lexer.specs.TokensOf.{tokens_of}
 use Rattle.pgn_lexer.specs.Decided.{decided}
@@ -16,21 +16,20 @@ use Rattle.pgn_game.specs.declared.reason.Reason.TheVariants.{ReadFault, WriteFa
 use Rattle.pgn_game.specs.declared.reason.Fault.{Fault}
 use Rattle.pgn_game.specs.declared.accepted.Accepted.{Accepted}
 use Rattle.pgn_game.specs.declared.accepted.Accepted.TheVariants.{More as Continues, Finished}
-use Rattle.pgn_game.specs.declared.marker.Marker.{Marker}
 use Rattle.pgn_game.specs.declared.checked.Mark.{Mark as CodeMark}
 use Rattle.pgn_game.specs.declared.checked.Taken.{Taken}
 use Rattle.pgn_game.specs.declared.checked.Taken.TheVariants.{More, Game as GameEnd, End}
 use Rattle.pgn_game.specs.Markers.{marker_text}
-use Rattle.pgn_game.specs.Profile.{Profile, Missing, counting, counts_as, takes_the_marker, with_missing}
-use Rattle.pgn_game.specs.Game.{Game, Part, no_part}
+use Rattle.pgn_game.specs.Profile.{Profile, counting, takes_the_marker}
+use Rattle.pgn_game.specs.Game.{Part, no_part}
 use Rattle.pgn_game.specs.FaultTable.{refusal, is_end}
 use Rattle.pgn_game.specs.Progress.{Next, going, whole, next, no_progress, read}
-use Rattle.pgn_game.specs.Text.{game_text, text_of, torn}
+use Rattle.pgn_game.specs.Text.{text_of, torn}
 use Rattle.pgn_game.specs.Due.{gain}
 use Rattle.pgn_game.specs.Conversion.{CountsDevices}
 use Rattle.pgn_game.specs.ReaderState.{ReaderState, Agrees, IsAccepted, as_written}
 use Rattle.pgn_game.specs.ConverterCalls.{Converter, HasRead}
-use Rattle.pgn_game.specs.Checked.{Mark, marks, marks_from, is_other, is_changed, compared_from}
+use Rattle.pgn_game.specs.Checked.{Mark, marks, marks_from, is_other, compared_from}
 
 -- the lexer, the reader, how many games were finished, the bytes that were read and not used, and
 -- whether the source has ended

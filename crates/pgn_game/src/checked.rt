@@ -170,7 +170,6 @@ impl<const T: usize, const L: usize> Pass<T, L> {
     // Reads to the end of the next game, and returns its mark. `None` is the end of the input.
     //
     // `told` is the mark that the game has to end with, if the other reading has told it.
-    #[inline(always)]
     fn read_game<R: Source, W: Sink>(
         &mut self,
         source: &mut R,

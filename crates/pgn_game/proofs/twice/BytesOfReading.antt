@@ -1,13 +1,12 @@
 -- Bytes that a reading reads, where its buffer is used up.
-use Rattle.std.proofs.Common.{◌≡◌, ℕ, ◌+◌, ◌*◌, ◌<◌, ◌≤◌, Bool, true, false, List, [], ◌++◌, length, Option, None, refl, sym, ap, subst, ◌∙◌, inl, append-nil, ◌^◌}
+use Rattle.std.proofs.Common.{◌≡◌, ℕ, ◌<◌, Bool, true, false, List, [], ◌++◌, length, Option, None, refl, sym, ap, subst, ◌∙◌, inl, append-nil, ◌^◌}
 use Rattle.std.proofs.KnownBytes.{Consumes-kept, Consumes-trans}
 use Rattle.std.specs.Io.KnownBytes.{Consumes, IsAtEnd, Keeps}
 use Rattle.pgn_lexer.specs.TokensOf.{tokens_of}
 use Rattle.pgn_lexer.specs.Decided.{decided}
-use Rattle.pgn_lexer.specs.Standing.{Standing, coming, waiting}
+use Rattle.pgn_lexer.specs.Standing.{Standing}
 use Rattle.pgn_lexer.specs.Stands.{IsDecided, StandsAfter, first}
 use Rattle.pgn_game.proofs.Words.{Token, ReadFault, InputTooLong, Profile}
-use Rattle.pgn_game.specs.ConverterCalls.{HasRead}
 use Rattle.pgn_game.specs.declared.checked.Mark.{Mark as CodeMark}
 use Rattle.pgn_game.specs.Pass.{HasGiven, Pass, ReadFails, StandsIn, too_long, unread}
 use Rattle.pgn_game.proofs.tokens.StepsInPiece.{decided_at_end}

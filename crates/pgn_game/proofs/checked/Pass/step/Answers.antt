@@ -1,20 +1,15 @@
-use Rattle.std.proofs.Common.{rules, ◌≡◌, ◌+◌, ◌-◌, ◌<◌, ℕ, length, drop, inl, inr, refl, sym, ap, subst, ◌∙◌, le_refl, length-drop, Ok, arith}
-use Rattle.std.proofs.Math.ListN.{drop_of_length-le}
+use Rattle.std.proofs.Common.{rules, ◌<◌, ℕ, length, inl, inr, refl, sym, ap, subst, ◌∙◌, length-drop, arith}
 use Rattle.std.proofs.KnownBytes.{Appends-nil}
 use Rattle.std.proofs.lemmas.Result.{err_from_is_err_and}
 use Rattle.pgn_lexer.specs.Scanned.{kind_of}
 use Rattle.pgn_lexer.specs.Tokens.{Token}
-use Rattle.pgn_game.specs.declared.checked.Taken.TheVariants.{More}
-use Rattle.pgn_game.specs.FaultTable.{is_end}
-use Rattle.pgn_game.specs.Pass.{HasGiven, IsGoing, Pass, until_read}
-use Rattle.pgn_game.proofs.refusals.RefusalsInMovetext.{none_around}
+use Rattle.pgn_game.specs.Pass.{HasGiven, IsGoing, Pass}
 use Rattle.pgn_game.proofs.tokens.AcceptedToConverter.{follows_own}
 use Rattle.pgn_game.proofs.tokens.SoundAtStart.{few_waiting}
 use Rattle.pgn_game.proofs.tokens.StepsAtEnd.{Nearer, nearer_by}
 use Rattle.pgn_game.proofs.twice.CountsStaySmall.{keeps, keeps_by, keeps_from, keeps_going, until_most}
 use Rattle.pgn_game.proofs.twice.FailuresOfSteps.{with_sink, with_source}
 use Rattle.pgn_game.proofs.twice.TokensOfReading.{fails_at_end, fails_in_buffer, in_buffer_before, more_in_buffer, token_at_end, token_in_buffer}
-use Rattle.pgn_game.proofs.ReaderFitsInMemory.{pass_alike, pass_fits_reader}
 use Rattle.pgn_game.proofs.checked.Pass.step.Goals as goal
 
 -- Where the source has ended.

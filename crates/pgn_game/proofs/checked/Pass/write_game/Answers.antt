@@ -1,4 +1,4 @@
-use Rattle.std.proofs.Common.{refl, sym, subst}
+use Rattle.std.proofs.Common.{sym, subst}
 use Rattle.pgn_game.specs.Pass.{IsGoing, StandsBetween}
 use Rattle.pgn_game.proofs.twice.StepsToGame.{tell, write_done}
 use Rattle.pgn_game.proofs.ReaderFitsInMemory.{pass_alike, pass_fits_reader}

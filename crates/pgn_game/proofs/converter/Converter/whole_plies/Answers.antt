@@ -1,4 +1,4 @@
-use Rattle.std.proofs.Common.{◌+◌, arith, ap, ◌∙◌}
+use Rattle.std.proofs.Common.{arith, ap, ◌∙◌}
 use Rattle.pgn_game.specs.ReaderState.{whole_plies}
 use Rattle.pgn_game.specs.ConverterCalls.{Converter}
 use Rattle.pgn_game.proofs.ReaderFitsInMemory.{fits_reader}
